@@ -8,7 +8,7 @@ use points_to::{Flow, solve, solve_by_rounds};
 use std::alloc::{AllocError, Global};
 use std::fmt::Write;
 use std::test::Fail;
-use worked_texts::{INTERPRETER, LIFE, QUEENS, SORT, many_delayed};
+use worked_texts::{INTERPRETER, LIFE, QUEENS, SORT, TAKE_TWICE, many_delayed};
 
 /// Programs over lists: with and without delayed calls, waiting functions, global cells, cells that
 /// hold themselves, and numbers.
@@ -35,7 +35,7 @@ static TEXTS: [&str; 23] = [
     "upto i n = case lt n i of { 1 -> Nil; _ -> Cons i (upto (add i 1) n) }; \
      count xs acc = case xs of { Nil -> acc; Cons h t -> case add acc 1 of { a -> count t a } }; \
      main = case count (upto 1 100000) 0 of { 100000 -> Cons 79 Nil };",
-    "take xs = case xs of { Nil -> Nil; Cons h t -> Cons h (take t) }; main = take (take (Cons 65 Nil));",
+    TAKE_TWICE,
     "hd c = case c of { Cons h t -> h }; main = case hd (Cons 65 Nil) of { x -> Cons x Nil };",
     "f x = add x 1; g x = case x of { 0 -> Nil; _ -> f x }; main = case g 64 of { y -> Cons y Nil };",
     "main xs = xs;",

@@ -1,39 +1,13 @@
 // The texts of solutions, worked out by hand.
 
 use crate::solutions::{partial, takes};
-use flow_listing::listed;
+use flow_listing::listing_text;
 use flow_system::system::system;
 use grin_syntax::program::Grin;
 use points_to::{solve, solve_by_rounds};
 use std::alloc::{AllocError, Global};
 use std::test::Fail;
-
-// The printing loop is called with the cell of `main` and with tails of what it gives, all of which
-// are made in `take`: `Cons 65 Nil` itself, and so `main.v1` and `main.v2`, is met by `take` alone.
-const TAKES_LISTED: &str = "\
-global main = (CNil) (CCons {&main.v0} {&take.v4}) (Fmain)
-
-take: (CNil) (CCons {&main.v0} {&take.v4})
-  v0: &take.v4 &main.v1 &main.v2 &main.v3
-  v1: (CNil) (CCons {&main.v0} {&take.v4 &main.v1})
-  v2: &main.v0
-  v3: &take.v4 &main.v1
-  v4 = (CNil) (CCons {&main.v0} {&take.v4}) (Ftake {&take.v4 &main.v1})
-
-main: (CNil) (CCons {&main.v0} {&take.v4})
-  v0 = (CInt {number})
-  v1 = (CNil)
-  v2 = (CCons {&main.v0} {&main.v1})
-  v3 = (CNil) (CCons {&main.v0} {&take.v4}) (Ftake {&main.v2})
-
-@print: (CNil)
-  v0: &main &take.v4
-  v1: (CNil) (CCons {&main.v0} {&take.v4})
-  v2: &main.v0
-  v3: &take.v4
-  v4: (CInt {number})
-  v5: number
-";
+use worked_texts::TAKE_TWICE_POINTS;
 
 // The second parameter of `k` stands for nothing but what `app` applies to; the tag with one
 // argument missing comes to the delayed call by its update alone.
@@ -55,14 +29,14 @@ start: (CNil) (P1k {&start.v0})
 
 fn text(alloc: Global, g: &Grin) -> Result<Vec<u8>, AllocError> {
     let flow = solve(alloc, &system(alloc, g)?)?;
-    listed(alloc, g, &flow)
+    listing_text(alloc, g, &flow)
 }
 
 #[test]
 fn worked_solutions_are_listed(rt: HostRuntime) -> Result<(), Fail> {
     let alloc = rt.alloc();
     let twice = text(alloc, &takes(alloc)?)?;
-    assert_eq!(rt; twice.as_slice(), TAKES_LISTED.as_bytes());
+    assert_eq!(rt; twice.as_slice(), TAKE_TWICE_POINTS.as_bytes());
     let partly = text(alloc, &partial(alloc)?)?;
     assert_eq!(rt; partly.as_slice(), PARTIAL_LISTED.as_bytes());
     Ok(())
@@ -73,7 +47,7 @@ fn the_text_is_that_of_the_solution_by_rounds(rt: HostRuntime) -> Result<(), Fai
     let alloc = rt.alloc();
     let g = takes(alloc)?;
     let rounds = solve_by_rounds(alloc, &system(alloc, &g)?)?;
-    let plain = listed(alloc, &g, &rounds)?;
+    let plain = listing_text(alloc, &g, &rounds)?;
     let waiting = text(alloc, &g)?;
     assert_eq!(rt; plain.as_slice(), waiting.as_slice());
     Ok(())

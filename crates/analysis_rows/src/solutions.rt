@@ -1,62 +1,17 @@
 // Small programs, whose solutions were worked out by hand.
 
 use flow_system::system::system;
-use flow_system::{Place, readers, set_of};
+use flow_system::{Place, readers, set_number_at};
 use grin_syntax::program::{Grin, ProcId, Site, TagId, VarId};
 use grin_text::{ReadError, program};
 use points_to::solve;
 use std::alloc::Global;
 use std::test::Fail;
+use worked_texts::TAKE_TWICE_TRANSLATED;
 
 const NIL: TagId = TagId(1);
 
 const CONS: TagId = TagId(2);
-
-// take xs = case xs of { Nil -> Nil; Cons h t -> Cons h (take t) };
-// main = take (take (Cons 65 Nil))
-//
-// The numbers of the variables are 0 to 4 in `take`, 5 to 8 in `main` and 9 to 14 in `@print`;
-// those of the sites are 0 for the global cell, 1 in `take` and 2 to 5 in `main`.
-const TAKES: &str = "\
-tags CInt/1 CNil/0 CCons/2 Ftake/1 Fmain/0 P1take/0
-global main = (Fmain)
-
-take v0 =
-  v1 <- eval v0
-  case v1 of
-    (CNil) ->
-      unit (CNil)
-    (CCons v2 v3) ->
-      store
-        v4 = (Ftake v3)
-      unit (CCons v2 v4)
-    else ->
-      fail
-
-main =
-  store
-    v0 = (CInt 65)
-    v1 = (CNil)
-    v2 = (CCons v0 v1)
-    v3 = (Ftake v2)
-  call take v3
-
-@print v0 =
-  v1 <- eval v0
-  case v1 of
-    (CNil) ->
-      unit (CNil)
-    (CCons v2 v3) ->
-      v4 <- eval v2
-      case v4 of
-        (CInt v5) ->
-          write v5
-          call @print v3
-        else ->
-          fail
-    else ->
-      fail
-";
 
 // k a b = a; app f x = f x; main = let n = Nil; f = k; g = app f n in app g n
 //
@@ -81,7 +36,10 @@ start =
 ";
 
 pub(crate) fn takes(alloc: Global) -> Result<Grin, ReadError> {
-    program(alloc, TAKES)
+    let text = format!(in alloc;
+        "tags CInt/1 CNil/0 CCons/2 Ftake/1 Fmain/0 P1take/0\n{TAKE_TWICE_TRANSLATED}"
+    )?;
+    program(alloc, text.as_str())
 }
 
 pub(crate) fn partial(alloc: Global) -> Result<Grin, ReadError> {
@@ -146,10 +104,10 @@ fn sets_and_their_readers(rt: HostRuntime) -> Result<(), Fail> {
         (Place::Result(2), 12, &[]),
     ];
     for (place, set, read) in rows {
-        assert_eq!(rt; set_of(&inclusions, place), Some(set));
+        assert_eq!(rt; set_number_at(&inclusions, place), Some(set));
         assert_eq!(rt; readers(&inclusions, set), read);
     }
-    assert!(rt; set_of(&inclusions, Place::Var(1)).is_none());
+    assert!(rt; set_number_at(&inclusions, Place::Var(1)).is_none());
     assert_eq!(rt; readers(&inclusions, 13).len(), 0);
     Ok(())
 }

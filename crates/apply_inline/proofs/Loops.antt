@@ -30,7 +30,7 @@ use Rattle.grin_syntax.proofs.Pieces.{all_before_push}
 use Rattle.flow_system.specs.Solution.{Solution}
 use Rattle.inlining.specs.Evaluations.{fields_at}
 use Rattle.inlining.specs.Applications.{apply_arm, apply_arms, part_tags_of, others_of, else_fail, parts_room, apply_act, apply_code, apply_all, apply_procs, apply_act_room, apply_code_room, apply_arms_room}
-use Rattle.apply_inline.specs.Applied.{has_some, arms_before}
+use Rattle.apply_inline.specs.Applied.{is_nonempty, arms_before}
 use Rattle.inlining.proofs.ApplicationsBind.{procs_room}
 
 pub arms_before-push : (as' : List (Shape × Code)) (a : Shape × Code) (last : Arms) → arms_before (as' ++ a ∷ []) last ≡ arms_before as' (arm a.0 a.1 last)
@@ -209,22 +209,22 @@ module _ (p : Program) (A : Solution) where
 
   -- the case in place of an application
   pub application_done : (a : Word) (x : ℕ) (v : Val) (alts : List Alt) → ((last : Arms) → arms_before (map arm_of alts) last ≡ apply_arms p A a x (part_tags_of p A v) last)
-      → has_some (others_of p A v) ≡ false → act_of (Case v alts) ≡ case v (apply_arms p A a x (part_tags_of p A v) (else_fail p A (others_of p A v)))
+      → is_nonempty (others_of p A v) ≡ false → act_of (Case v alts) ≡ case v (apply_arms p A a x (part_tags_of p A v) (else_fail p A (others_of p A v)))
   application_done a x v alts h e =
       act_of-Case v alts ∙ ap (case v) (arms_of_before (map arm_of alts) ∙ h no_arm ∙ ap (apply_arms p A a x (part_tags_of p A v)) (sym (none (others_of p A v) e)))
     where
-      none : (ts : List ℕ) → has_some ts ≡ false → else_fail p A ts ≡ no_arm
+      none : (ts : List ℕ) → is_nonempty ts ≡ false → else_fail p A ts ≡ no_arm
       none [] e = refl
       none (t ∷ ts) e = cc
 
   pub application_fails : (a : Word) (x : ℕ) (v : Val) (alts : List Alt) (last : Alt) → ((last : Arms) → arms_before (map arm_of alts) last ≡ apply_arms p A a x (part_tags_of p A v) last)
-      → has_some (others_of p A v) ≡ true → last.pattern ≡ Else → code_of last.body ≡ end fail → act_of (Case v (alts ++ last ∷ [])) ≡ case v (apply_arms p A a x (part_tags_of p A v) (else_fail p A (others_of p A v)))
+      → is_nonempty (others_of p A v) ≡ true → last.pattern ≡ Else → code_of last.body ≡ end fail → act_of (Case v (alts ++ last ∷ [])) ≡ case v (apply_arms p A a x (part_tags_of p A v) (else_fail p A (others_of p A v)))
   application_fails a x v alts last h e s b =
       act_of-Case v (alts ++ last ∷ []) ∙ ap (case v) (arms_of_before (map arm_of (alts ++ last ∷ [])) ∙ ap (λ l. arms_before l no_arm) (map_push arm_of alts last) ∙ arms_before-push (map arm_of alts) (arm_of last) no_arm
       ∙ ap (λ q. arms_before (map arm_of alts) (arm q.0 q.1 no_arm)) (arm_of-parts last) ∙ (λ i. arms_before (map arm_of alts) (arm (s i) (b i) no_arm)) ∙ h (arm Else (end fail) no_arm)
       ∙ ap (apply_arms p A a x (part_tags_of p A v)) (sym (some (others_of p A v) e)))
     where
-      some : (ts : List ℕ) → has_some ts ≡ true → else_fail p A ts ≡ arm Else (end fail) no_arm
+      some : (ts : List ℕ) → is_nonempty ts ≡ true → else_fail p A ts ≡ arm Else (end fail) no_arm
       some [] e = cc
       some (t ∷ ts) e = refl
 
@@ -243,11 +243,11 @@ pub kept_no : (g : ℕ → Bool) (ts : List TagId) (i : ℕ) (d : TagId) → i <
 kept_no g ts i d lt e = ap (λ l. filter g (map (λ t. t.0) l)) (take_at ts i d lt) ∙ kept_push g (take i ts) (get_or ts i d) false e ∙ append-nil (filter g (map (λ t. t.0) (take i ts)))
 
 -- one that passes is among those that do
-pub some_kept : (g : ℕ → Bool) (ts : List TagId) (i : ℕ) (d : TagId) → i < length ts → g (get_or ts i d).0 ≡ true → has_some (filter g (map (λ t. t.0) ts)) ≡ true
+pub some_kept : (g : ℕ → Bool) (ts : List TagId) (i : ℕ) (d : TagId) → i < length ts → g (get_or ts i d).0 ≡ true → is_nonempty (filter g (map (λ t. t.0) ts)) ≡ true
 some_kept g [] i d lt e = absurd (omega arith)
 some_kept g (s ∷ ts) zero d lt e = rw e refl
 some_kept g (s ∷ ts) (suc i) d lt e = go (g s.0) refl (some_kept g ts i d (omega arith) e)
   where
-    go : (b : Bool) → g s.0 ≡ b → has_some (filter g (map (λ t. t.0) ts)) ≡ true → has_some (cond b (s.0 ∷ filter g (map (λ t. t.0) ts)) (filter g (map (λ t. t.0) ts))) ≡ true
+    go : (b : Bool) → g s.0 ≡ b → is_nonempty (filter g (map (λ t. t.0) ts)) ≡ true → is_nonempty (cond b (s.0 ∷ filter g (map (λ t. t.0) ts)) (filter g (map (λ t. t.0) ts))) ≡ true
     go true q r = refl
     go false q r = r

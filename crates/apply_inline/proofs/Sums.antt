@@ -21,10 +21,10 @@ use Rattle.inlining.specs.Size.{val_size, target_size, shape_size, cells_size, t
 use Rattle.flow_system.specs.declared.fact.Element.TheVariants.{Tag as tag}
 use Rattle.flow_system.specs.declared.fact.Place.TheVariants.{Site as site}
 use Rattle.flow_system.specs.declared.fact.Part.TheVariants.{Tags as tags}
-use Rattle.inlining.specs.Evaluations.{some_of, sites_of}
-use Rattle.eval_inline.specs.Met.{tags_from}
+use Rattle.inlining.specs.Evaluations.{any_satisfies, sites_of}
+use Rattle.eval_inline.specs.Met.{cell_tags_from}
 use Rattle.apply_inline.specs.Applied.{arms_before}
-use Rattle.inlining.specs.Expanded.{capped, eval_tag_size, eval_tags_size, evaluation_size, part_tag_size, parts_size, application_size, expanded_act, expanded_code, expanded_arms}
+use Rattle.inlining.specs.Expanded.{saturated_at_64_bits, eval_tag_size, eval_tags_size, evaluation_size, part_tag_size, parts_size, application_size, expanded_act, expanded_code, expanded_arms}
 use Rattle.apply_inline.proofs.Loops.{arms_before-push, arms_of_before}
 use Rattle.seq.specs.Lists.{those}
 
@@ -49,40 +49,40 @@ pub total_done : {X : Type 0} (g : X → Procedure) (f : Procedure → ℕ) (xs 
 total_done g f xs i le = ap (λ l. total f (map g l)) (take_all i xs le)
 
 -- sums of capped numbers
-chain : (x n y k c m : ℕ) → capped x ≡ capped (n + y) → capped y ≡ capped (k + c) → m ≡ capped (n + k) → capped x ≡ capped (m + c)
+chain : (x n y k c m : ℕ) → saturated_at_64_bits x ≡ saturated_at_64_bits (n + y) → saturated_at_64_bits y ≡ saturated_at_64_bits (k + c) → m ≡ saturated_at_64_bits (n + k) → saturated_at_64_bits x ≡ saturated_at_64_bits (m + c)
 chain x n y k c m e f g = omega arith
 
 module _ (p : Program) (A : Solution) where
   -- the size of statements
   pub record StmtsSize (ss : List Stmt) (n : ℕ) : Type 0 where
-    pub by : (c : Code) → capped (expanded_code p A (all_before (map before_of ss) c)) ≡ capped (n + expanded_code p A c)
+    pub by : (c : Code) → saturated_at_64_bits (expanded_code p A (all_before (map before_of ss) c)) ≡ saturated_at_64_bits (n + expanded_code p A c)
 
   pub no_stmts : StmtsSize [] 0
-  no_stmts = record { by = λ c. let e : 0 + expanded_code p A c ≡ expanded_code p A c = omega arith in ap capped (sym e) }
+  no_stmts = record { by = λ c. let e : 0 + expanded_code p A c ≡ expanded_code p A c = omega arith in ap saturated_at_64_bits (sym e) }
 
-  pub stmt_more : (ss : List Stmt) (i : ℕ) (s : Stmt) (n k m : ℕ) → i < length ss → s ≡ get_or ss i s → StmtsSize (take i ss) n → ((c : Code) → capped (expanded_code p A (before_of s c)) ≡ capped (k + expanded_code p A c))
-      → m ≡ capped (n + k) → StmtsSize (take (i + 1) ss) m
+  pub stmt_more : (ss : List Stmt) (i : ℕ) (s : Stmt) (n k m : ℕ) → i < length ss → s ≡ get_or ss i s → StmtsSize (take i ss) n → ((c : Code) → saturated_at_64_bits (expanded_code p A (before_of s c)) ≡ saturated_at_64_bits (k + expanded_code p A c))
+      → m ≡ saturated_at_64_bits (n + k) → StmtsSize (take (i + 1) ss) m
   stmt_more ss i s n k m lt is u h e = record {
     by = λ c.
-        ap (λ l. capped (expanded_code p A (all_before (map before_of l) c))) (take_next ss i s lt is) ∙ ap (λ b. capped (expanded_code p A b)) (all_before_push (take i ss) s c)
+        ap (λ l. saturated_at_64_bits (expanded_code p A (all_before (map before_of l) c))) (take_next ss i s lt is) ∙ ap (λ b. saturated_at_64_bits (expanded_code p A b)) (all_before_push (take i ss) s c)
         ∙ chain (expanded_code p A (all_before (map before_of (take i ss)) (before_of s c))) n (expanded_code p A (before_of s c)) k (expanded_code p A c) m (u.by (before_of s c)) (h c) e;
   }
 
-  pub block_sized : (block : Block) (i n k m : ℕ) → length block.stmts ≤ i → StmtsSize (take i block.stmts) n → k ≡ capped (expanded_act p A (act_of block.last.value)) → m ≡ capped (n + k) → m ≡ capped (expanded_code p A (code_of block))
+  pub block_sized : (block : Block) (i n k m : ℕ) → length block.stmts ≤ i → StmtsSize (take i block.stmts) n → k ≡ saturated_at_64_bits (expanded_act p A (act_of block.last.value)) → m ≡ saturated_at_64_bits (n + k) → m ≡ saturated_at_64_bits (expanded_code p A (code_of block))
   unfolding expanded_act
   block_sized block i n k m le u h e =
-      let all : capped (expanded_code p A (all_before (map before_of block.stmts) (end (act_of block.last.value)))) ≡ capped (n + expanded_act p A (act_of block.last.value))
-      = ap (λ l. capped (expanded_code p A (all_before (map before_of l) (end (act_of block.last.value))))) (sym (take_all i block.stmts le)) ∙ u.by (end (act_of block.last.value)) in
-      let f : m ≡ capped (expanded_code p A (all_before (map before_of block.stmts) (end (act_of block.last.value)))) = omega arith in
-      f ∙ ap (λ b. capped (expanded_code p A b)) (sym (code_of-parts block))
+      let all : saturated_at_64_bits (expanded_code p A (all_before (map before_of block.stmts) (end (act_of block.last.value)))) ≡ saturated_at_64_bits (n + expanded_act p A (act_of block.last.value))
+      = ap (λ l. saturated_at_64_bits (expanded_code p A (all_before (map before_of l) (end (act_of block.last.value))))) (sym (take_all i block.stmts le)) ∙ u.by (end (act_of block.last.value)) in
+      let f : m ≡ saturated_at_64_bits (expanded_code p A (all_before (map before_of block.stmts) (end (act_of block.last.value)))) = omega arith in
+      f ∙ ap (λ b. saturated_at_64_bits (expanded_code p A b)) (sym (code_of-parts block))
 
-  pub store_sized : (cs : List Cell) (c : Code) (k : ℕ) → k ≡ capped (cells_size cs) → capped (expanded_code p A (before_of (Store cs) c)) ≡ capped (k + expanded_code p A c)
+  pub store_sized : (cs : List Cell) (c : Code) (k : ℕ) → k ≡ saturated_at_64_bits (cells_size cs) → saturated_at_64_bits (expanded_code p A (before_of (Store cs) c)) ≡ saturated_at_64_bits (k + expanded_code p A c)
   unfolding expanded_act
-  store_sized cs c k e = ap (λ b. capped (expanded_code p A (b c))) (before_of-Store cs) ∙ omega arith
+  store_sized cs c k e = ap (λ b. saturated_at_64_bits (expanded_code p A (b c))) (before_of-Store cs) ∙ omega arith
 
-  pub bind_sized : (t : Target) (o : Op) (c : Code) (j k m : ℕ) → j ≡ target_size t → k ≡ capped (expanded_act p A (act_of o)) → m ≡ capped (j + k) → capped (expanded_code p A (before_of (Bind t o) c)) ≡ capped (m + expanded_code p A c)
+  pub bind_sized : (t : Target) (o : Op) (c : Code) (j k m : ℕ) → j ≡ target_size t → k ≡ saturated_at_64_bits (expanded_act p A (act_of o)) → m ≡ saturated_at_64_bits (j + k) → saturated_at_64_bits (expanded_code p A (before_of (Bind t o) c)) ≡ saturated_at_64_bits (m + expanded_code p A c)
   unfolding expanded_act
-  bind_sized t o c j k m e f g = ap (λ b. capped (expanded_code p A (b c))) (before_of-Bind t o) ∙ omega arith
+  bind_sized t o c j k m e f g = ap (λ b. saturated_at_64_bits (expanded_code p A (b c))) (before_of-Bind t o) ∙ omega arith
 
   pub apply_sized : (o : Op) (v : Val) (a : Word) → o ≡ Apply v a → application_size p A v ≡ expanded_act p A (act_of o)
   unfolding expanded_act
@@ -90,38 +90,38 @@ module _ (p : Program) (A : Solution) where
 
   -- the size of alternatives
   pub record AltsSize (as' : List Alt) (n : ℕ) : Type 0 where
-    pub by : (rest : Arms) → capped (expanded_arms p A (arms_before (map arm_of as') rest)) ≡ capped (n + expanded_arms p A rest)
+    pub by : (rest : Arms) → saturated_at_64_bits (expanded_arms p A (arms_before (map arm_of as') rest)) ≡ saturated_at_64_bits (n + expanded_arms p A rest)
     pub fits : n ≤ 2 ^ 64 - 1
 
   pub no_alts : AltsSize [] 0
-  no_alts = record { by = λ rest. let e : 0 + expanded_arms p A rest ≡ expanded_arms p A rest = omega arith in ap capped (sym e); fits = omega arith }
+  no_alts = record { by = λ rest. let e : 0 + expanded_arms p A rest ≡ expanded_arms p A rest = omega arith in ap saturated_at_64_bits (sym e); fits = omega arith }
 
-  alt_sized : (a : Alt) (rest : Arms) (j b k : ℕ) → j ≡ shape_size a.pattern → b ≡ capped (expanded_code p A (code_of a.body)) → k ≡ capped (j + b) → capped (expanded_arms p A (arm (arm_of a).0 (arm_of a).1 rest)) ≡ capped (k + expanded_arms p A rest)
+  alt_sized : (a : Alt) (rest : Arms) (j b k : ℕ) → j ≡ shape_size a.pattern → b ≡ saturated_at_64_bits (expanded_code p A (code_of a.body)) → k ≡ saturated_at_64_bits (j + b) → saturated_at_64_bits (expanded_arms p A (arm (arm_of a).0 (arm_of a).1 rest)) ≡ saturated_at_64_bits (k + expanded_arms p A rest)
   unfolding expanded_act
-  alt_sized a rest j b k e f g = ap (λ q. capped (expanded_arms p A (arm q.0 q.1 rest))) (arm_of-parts a) ∙ omega arith
+  alt_sized a rest j b k e f g = ap (λ q. saturated_at_64_bits (expanded_arms p A (arm q.0 q.1 rest))) (arm_of-parts a) ∙ omega arith
 
-  pub alt_more : (as' : List Alt) (i : ℕ) (a : Alt) (n j b k m : ℕ) → i < length as' → a ≡ get_or as' i a → AltsSize (take i as') n → j ≡ shape_size a.pattern → b ≡ capped (expanded_code p A (code_of a.body)) → k ≡ capped (j + b)
-      → m ≡ capped (n + k) → AltsSize (take (i + 1) as') m
+  pub alt_more : (as' : List Alt) (i : ℕ) (a : Alt) (n j b k m : ℕ) → i < length as' → a ≡ get_or as' i a → AltsSize (take i as') n → j ≡ shape_size a.pattern → b ≡ saturated_at_64_bits (expanded_code p A (code_of a.body)) → k ≡ saturated_at_64_bits (j + b)
+      → m ≡ saturated_at_64_bits (n + k) → AltsSize (take (i + 1) as') m
   alt_more as' i a n j b k m lt is u e f g h = record {
     by = λ rest.
-        ap (λ l. capped (expanded_arms p A (arms_before (map arm_of l) rest))) (take_next as' i a lt is) ∙ ap (λ l. capped (expanded_arms p A (arms_before l rest))) (map_push arm_of (take i as') a)
-        ∙ ap (λ r. capped (expanded_arms p A r)) (arms_before-push (map arm_of (take i as')) (arm_of a) rest)
+        ap (λ l. saturated_at_64_bits (expanded_arms p A (arms_before (map arm_of l) rest))) (take_next as' i a lt is) ∙ ap (λ l. saturated_at_64_bits (expanded_arms p A (arms_before l rest))) (map_push arm_of (take i as') a)
+        ∙ ap (λ r. saturated_at_64_bits (expanded_arms p A r)) (arms_before-push (map arm_of (take i as')) (arm_of a) rest)
         ∙ chain (expanded_arms p A (arms_before (map arm_of (take i as')) (arm (arm_of a).0 (arm_of a).1 rest))) n (expanded_arms p A (arm (arm_of a).0 (arm_of a).1 rest)) k (expanded_arms p A rest) m
         (u.by (arm (arm_of a).0 (arm_of a).1 rest)) (alt_sized a rest j b k e f g) h;
     fits = omega arith;
   }
 
-  pub alts_sized : (as' : List Alt) (i n : ℕ) → length as' ≤ i → AltsSize (take i as') n → n ≡ capped (expanded_arms p A (arms_of (map arm_of as')))
+  pub alts_sized : (as' : List Alt) (i n : ℕ) → length as' ≤ i → AltsSize (take i as') n → n ≡ saturated_at_64_bits (expanded_arms p A (arms_of (map arm_of as')))
   unfolding expanded_act
   alts_sized as' i n le u =
       let fits = u.fits in
-      let e : capped (expanded_arms p A (arms_before (map arm_of as') no_arm)) ≡ capped (n + 0) = ap (λ l. capped (expanded_arms p A (arms_before (map arm_of l) no_arm))) (sym (take_all i as' le)) ∙ u.by no_arm in
-      let f : n ≡ capped (expanded_arms p A (arms_before (map arm_of as') no_arm)) = omega arith in
-      f ∙ ap (λ r. capped (expanded_arms p A r)) (sym (arms_of_before (map arm_of as')))
+      let e : saturated_at_64_bits (expanded_arms p A (arms_before (map arm_of as') no_arm)) ≡ saturated_at_64_bits (n + 0) = ap (λ l. saturated_at_64_bits (expanded_arms p A (arms_before (map arm_of l) no_arm))) (sym (take_all i as' le)) ∙ u.by no_arm in
+      let f : n ≡ saturated_at_64_bits (expanded_arms p A (arms_before (map arm_of as') no_arm)) = omega arith in
+      f ∙ ap (λ r. saturated_at_64_bits (expanded_arms p A r)) (sym (arms_of_before (map arm_of as')))
 
   -- the size of the alternatives of an evaluation, from those that are left
   pub record TagsSize (a : Word) (n from : ℕ) : Type 0 where
-    pub sum : capped (evaluation_size p A a) ≡ capped (n + eval_tags_size p A (tags_from p A a from))
+    pub sum : saturated_at_64_bits (evaluation_size p A a) ≡ saturated_at_64_bits (n + eval_tags_size p A (cell_tags_from p A a from))
     pub within : from ≤ length p.tags
     pub fits : n ≤ 2 ^ 64 - 1
 
@@ -129,25 +129,25 @@ module _ (p : Program) (A : Solution) where
   no_tags a = record {
     sum =
         let e : length p.tags ≡ length p.tags - 0 = omega arith in
-        ap (λ k. capped (5 + eval_tags_size p A (those (λ t. some_of (λ s. among (tag t) (A (site s) tags)) (sites_of p A a)) 0 k))) e;
+        ap (λ k. saturated_at_64_bits (5 + eval_tags_size p A (those (λ t. any_satisfies (λ s. among (tag t) (A (site s) tags)) (sites_of p A a)) 0 k))) e;
     within = omega arith;
     fits = omega arith;
   }
 
-  pub tag_more : (a : Word) (n from t k m : ℕ) → TagsSize a n from → tags_from p A a from ≡ t ∷ tags_from p A a (suc t) → t < length p.tags → k ≡ capped (eval_tag_size p A (slice_get p.tags t)) → m ≡ capped (n + k) → TagsSize a m (t + 1)
+  pub tag_more : (a : Word) (n from t k m : ℕ) → TagsSize a n from → cell_tags_from p A a from ≡ t ∷ cell_tags_from p A a (suc t) → t < length p.tags → k ≡ saturated_at_64_bits (eval_tag_size p A (slice_get p.tags t)) → m ≡ saturated_at_64_bits (n + k) → TagsSize a m (t + 1)
   tag_more a n from t k m u e lt h f = record {
     sum =
-        let s : eval_tags_size p A (tags_from p A a from) ≡ eval_tag_size p A (slice_get p.tags t) + eval_tags_size p A (tags_from p A a (suc t)) = ap (eval_tags_size p A) e in
+        let s : eval_tags_size p A (cell_tags_from p A a from) ≡ eval_tag_size p A (slice_get p.tags t) + eval_tags_size p A (cell_tags_from p A a (suc t)) = ap (eval_tags_size p A) e in
         let r = u.sum in
-        let g : capped (evaluation_size p A a) ≡ capped (m + eval_tags_size p A (tags_from p A a (suc t))) = omega arith in
+        let g : saturated_at_64_bits (evaluation_size p A a) ≡ saturated_at_64_bits (m + eval_tags_size p A (cell_tags_from p A a (suc t))) = omega arith in
         let z : suc t ≡ t + 1 = omega arith in
-        subst (λ j. capped (evaluation_size p A a) ≡ capped (m + eval_tags_size p A (tags_from p A a j))) z g;
+        subst (λ j. saturated_at_64_bits (evaluation_size p A a) ≡ saturated_at_64_bits (m + eval_tags_size p A (cell_tags_from p A a j))) z g;
     within = omega arith;
     fits = omega arith;
   }
 
-  pub tags_sized : (a : Word) (n from : ℕ) → TagsSize a n from → tags_from p A a from ≡ [] → n ≡ capped (evaluation_size p A a)
-  tags_sized a n from u e = let s : eval_tags_size p A (tags_from p A a from) ≡ 0 = ap (eval_tags_size p A) e in let r = u.sum in let f = u.fits in omega arith
+  pub tags_sized : (a : Word) (n from : ℕ) → TagsSize a n from → cell_tags_from p A a from ≡ [] → n ≡ saturated_at_64_bits (evaluation_size p A a)
+  tags_sized a n from u e = let s : eval_tags_size p A (cell_tags_from p A a from) ≡ 0 = ap (eval_tags_size p A) e in let r = u.sum in let f = u.fits in omega arith
 
   those_low : (test : ℕ → Bool) (i k t : ℕ) (ts : List ℕ) → those test i k ≡ t ∷ ts → i ≤ t
   those_low test i zero t ts e = cc
@@ -157,7 +157,7 @@ module _ (p : Program) (A : Solution) where
       go true e rest = let s : i ≡ t = cc in omega arith
       go false e rest = let h : suc i ≤ t = rest e in omega arith
 
-  pub tags_low : (a : Word) (from t : ℕ) (ts : List ℕ) → tags_from p A a from ≡ t ∷ ts → from ≤ t
+  pub tags_low : (a : Word) (from t : ℕ) (ts : List ℕ) → cell_tags_from p A a from ≡ t ∷ ts → from ≤ t
   tags_low a from t ts e = those_low _ from (length p.tags - from) t ts e
 
   parts_push : (ts : List ℕ) (t : ℕ) → parts_size p A (ts ++ t ∷ []) ≡ parts_size p A ts + part_tag_size p A (slice_get p.tags t)

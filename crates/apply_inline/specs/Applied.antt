@@ -13,9 +13,9 @@ use Rattle.inlining.specs.Applications.{word_has, value_has}
 use Rattle.seq.specs.Lists.{In}
 
 -- whether a list has an item
-abbrev pub has_some : List ℕ → Bool
-has_some [] = false
-has_some (x ∷ xs) = true
+abbrev pub is_nonempty : List ℕ → Bool
+is_nonempty [] = false
+is_nonempty (x ∷ xs) = true
 
 -- alternatives before others
 abbrev pub arms_before : List (Shape × Code) → Arms → Arms

@@ -9,10 +9,10 @@ ghost use Rattle.grin_syntax.specs.Fresh.{variables};
 ghost use Rattle.inlining.specs.Applications.{part_body, apply_body, apply_arm, apply_arms, part_tags_of, others_of, else_fail, parts_room, apply_act, apply_code, apply_all, apply_procs, apply_act_room, apply_code_room, apply_arms_room};
 ghost use Rattle.apply_inline.specs.Known.{program, solution};
 ghost use Rattle.apply_inline.specs.Applied.{arms_before};
-ghost use Rattle.flow_system.specs.Starts.{SearchStarts};
+ghost use Rattle.flow_system.specs.Starts.{NoPartTagBeforeStart};
 
 use crate::known::Known;
-use flow_system::starts::part_tag;
+use flow_system::starts::partial_tag;
 use grin_syntax::fresh::Fresh;
 use grin_syntax::{Alt, Block, Op, Proc, ProcId, Shape, Stmt, Tag, TagId, Val, VarId, Word};
 use seq::Seq;
@@ -20,14 +20,14 @@ use std::alloc::{AllocError, Global};
 
 /// Inlines the applications of a program.
 #[derive(Drop)]
-pub(crate) struct Inlining<'a> {
+pub(crate) struct ApplyInliner<'a> {
     pub known: Known<'a>,
     /// For each procedure where its tags begin that lack arguments: none stands before.
     pub starts: &'a [usize],
-    ghost begin: { SearchStarts known.program.now.tags starts.now 0 },
+    ghost begin: { NoPartTagBeforeStart known.program.now.tags starts.now 0 },
 }
 
-impl Inlining<'_> {
+impl ApplyInliner<'_> {
     /// Procedures with their applications inlined.
     pub(crate) fn procs(
         &self,
@@ -217,7 +217,7 @@ impl Inlining<'_> {
         match missing {
             0 => Ok(Op::Fail),
             1 => Ok(Op::Call(f, words)),
-            _ => match part_tag(
+            _ => match partial_tag(
                 self.known.program.tags.as_slice(),
                 self.start(f),
                 f,

@@ -7,7 +7,7 @@ ghost use Rattle.grin_syntax.specs.Tree.{Code, act_of, before_of, arm_of, arms_o
 ghost use Rattle.inlining.specs.Applications.{part_tags_of};
 ghost use Rattle.inlining.specs.Size.{val_size, target_size, shape_size, cells_size, total};
 ghost use Rattle.apply_inline.specs.Known.{program, solution};
-ghost use Rattle.inlining.specs.Expanded.{capped, eval_body_size, eval_tag_size, evaluation_size, part_body_size, parts_size, application_size, expanded_act, expanded_code, expanded_arms, expanded_procedure};
+ghost use Rattle.inlining.specs.Expanded.{saturated_at_64_bits, eval_body_size, eval_tag_size, evaluation_size, part_body_size, parts_size, application_size, expanded_act, expanded_code, expanded_arms, expanded_procedure};
 
 use crate::known::Known;
 use eval_inline::met::next_tag;
@@ -18,7 +18,7 @@ use grin_syntax::{
 impl Known<'_> {
     /// The size of these procedures once they are inlined.
     pub(crate) fn procs_size(&self, procs: &[Proc]) -> u64
-        ensures { result ≡ capped (total (expanded_procedure (program self.now) (solution self.now))
+        ensures { result ≡ saturated_at_64_bits (total (expanded_procedure (program self.now) (solution self.now))
             (map procedure_of procs.now)) }
     {
         let mut size = 0u64;
@@ -29,7 +29,7 @@ impl Known<'_> {
     }
 
     fn proc_size(&self, proc: &Proc) -> u64
-        ensures { result ≡ capped (expanded_procedure (program self.now) (solution self.now)
+        ensures { result ≡ saturated_at_64_bits (expanded_procedure (program self.now) (solution self.now)
             (procedure_of proc.now)) }
     {
         let params = proc.params.len() as u64;
@@ -38,7 +38,7 @@ impl Known<'_> {
 
     #[cycle(size)]
     fn block_size(&self, block: &Block) -> u64
-        ensures { result ≡ capped (expanded_code (program self.now) (solution self.now)
+        ensures { result ≡ saturated_at_64_bits (expanded_code (program self.now) (solution self.now)
             (code_of block.now)) }
     {
         let mut size = 0u64;
@@ -50,8 +50,8 @@ impl Known<'_> {
 
     #[cycle(size)]
     fn stmt_size(&self, stmt: &Stmt) -> u64
-        ensures { (c : Code) → capped (expanded_code (program self.now) (solution self.now)
-            (before_of stmt.now c)) ≡ capped (result + expanded_code (program self.now)
+        ensures { (c : Code) → saturated_at_64_bits (expanded_code (program self.now) (solution self.now)
+            (before_of stmt.now c)) ≡ saturated_at_64_bits (result + expanded_code (program self.now)
             (solution self.now) c) }
     {
         match stmt {
@@ -62,7 +62,7 @@ impl Known<'_> {
 
     #[cycle(size)]
     fn alts_size(&self, alts: &[Alt]) -> u64
-        ensures { result ≡ capped (expanded_arms (program self.now) (solution self.now)
+        ensures { result ≡ saturated_at_64_bits (expanded_arms (program self.now) (solution self.now)
             (arms_of (map arm_of alts.now))) }
     {
         let mut size = 0u64;
@@ -75,7 +75,7 @@ impl Known<'_> {
 
     #[cycle(size)]
     fn op_size(&self, op: &Op) -> u64
-        ensures { result ≡ capped (expanded_act (program self.now) (solution self.now)
+        ensures { result ≡ saturated_at_64_bits (expanded_act (program self.now) (solution self.now)
             (act_of op.now)) }
     {
         match op {
@@ -100,7 +100,7 @@ impl Known<'_> {
 
     // The fetch that binds a node variable, and the case on it.
     fn evaluation_size(&self, word: &Word) -> u64
-        ensures { result ≡ capped (evaluation_size (program self.now) (solution self.now)
+        ensures { result ≡ saturated_at_64_bits (evaluation_size (program self.now) (solution self.now)
             word.now) }
     {
         let mut size = 5u64;
@@ -114,7 +114,7 @@ impl Known<'_> {
 
     // The alternative of an evaluation for a tag.
     fn eval_tag_size(&self, t: TagId) -> u64
-        ensures { result ≡ capped (eval_tag_size (program self.now) (solution self.now)
+        ensures { result ≡ saturated_at_64_bits (eval_tag_size (program self.now) (solution self.now)
             (slice_get self.now.program.now.tags t.0)) }
     {
         match self.program.tags.get(t.0 as usize) {
@@ -124,7 +124,7 @@ impl Known<'_> {
     }
 
     fn application_size(&self, v: &Val) -> u64
-        ensures { result ≡ capped (application_size (program self.now) (solution self.now) v.now) }
+        ensures { result ≡ saturated_at_64_bits (application_size (program self.now) (solution self.now) v.now) }
     {
         let scrutinee = val_size(v).saturating_add(1);
         let last = u64::from(self.has_other(v));
@@ -135,7 +135,7 @@ impl Known<'_> {
 
     // The alternatives of an application.
     fn parts_size(&self, v: &Val) -> u64
-        ensures { result ≡ capped (parts_size (program self.now) (solution self.now)
+        ensures { result ≡ saturated_at_64_bits (parts_size (program self.now) (solution self.now)
             (part_tags_of (program self.now) (solution self.now) v.now)) }
     {
         let mut size = 0u64;
@@ -209,7 +209,7 @@ fn shape_size(shape: &Shape) -> u64
 }
 
 fn cells_size(cells: &[Cell]) -> u64
-    ensures { result ≡ capped (cells_size cells.now) }
+    ensures { result ≡ saturated_at_64_bits (cells_size cells.now) }
 {
     let mut size = 0u64;
     for cell in cells {

@@ -6,7 +6,7 @@ ghost use Rattle.grin_meaning.specs.Run.{is_part_kind};
 ghost use Rattle.inlining.specs.Applications.{word_has, others_of};
 ghost use Rattle.apply_inline.specs.Known.{program, solution};
 ghost use Rattle.seq.specs.Lists.{In};
-ghost use Rattle.apply_inline.specs.Applied.{words_fit, fits, meets_part, meets_other, has_some, Candidates};
+ghost use Rattle.apply_inline.specs.Applied.{words_fit, fits, meets_part, meets_other, is_nonempty, Candidates};
 
 use flow_system::starts::is_part;
 use grin_syntax::{Grin, Tag, TagId, Val, Word};
@@ -43,7 +43,7 @@ impl Known<'_> {
     /// Whether the solution has a tag for a value that is not one of a function that lacks
     /// arguments.
     pub(crate) fn has_other(&self, v: &Val) -> bool
-        ensures { result ≡ has_some (others_of (program self.now) (solution self.now) v.now) }
+        ensures { result ≡ is_nonempty (others_of (program self.now) (solution self.now) v.now) }
     {
         for t in self.candidates(v) {
             if self.is_other(v, *t) {

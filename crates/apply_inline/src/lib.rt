@@ -16,8 +16,8 @@ mod blocks;
 mod expanded;
 mod known;
 
-use blocks::Inlining;
-use flow_system::starts::part_starts;
+use blocks::ApplyInliner;
+use flow_system::starts::partial_tag_starts;
 use grin_syntax::Grin;
 use grin_syntax::fresh::Fresh;
 use known::Known;
@@ -40,8 +40,8 @@ pub fn inline(alloc: Global, mut g: Grin, flow: &Flow) -> Result<Grin, AllocErro
 {
     let mut fresh = Fresh::past(g.procs.as_slice());
     let procs = mem::replace(&mut g.procs, Seq::new(alloc));
-    let starts = part_starts(alloc, g.tags.as_slice(), procs.len())?;
-    let inlining = Inlining {
+    let starts = partial_tag_starts(alloc, g.tags.as_slice(), procs.len())?;
+    let inlining = ApplyInliner {
         known: Known { program: &g, flow },
         starts: starts.as_slice(),
     };

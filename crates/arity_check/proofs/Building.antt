@@ -11,20 +11,20 @@ use Rattle.arity_check.specs.Scope as scope
 use Rattle.arity_check.specs.Scope.{Scope, Meaning, means, con_number}
 use Rattle.arity_check.specs.Normal as normal
 use Rattle.arity_check.specs.Normal.{bound, itself, append, HasTerm, IsFlat, IsNamed, IsApplied, AreArgs, IsArg, IsGroup}
-use Rattle.arity_check.specs.Builds.{Adds, AddsFlat, AddsArgs, AddsArg, AddsApplied, AddsNamed, AddsGroup}
+use Rattle.arity_check.specs.Builds.{AddsBindings, AddsFlat, AddsArgs, AddsArg, AddsApplied, AddsNamed, AddsGroup}
 use Rattle.arity_check.proofs.Snoc.{args_snoc}
 
-pub adds_nothing : (a : Builder) → Adds a a []
+pub adds_nothing : (a : Builder) → AddsBindings a a []
 adds_nothing a = record { news = sym (append-nil a.news); next = omega arith }
 
-pub adds_both : (a b c : Builder) (xs ys : List Bound) → Adds a b xs → Adds b c ys → Adds a c (xs ++ ys)
+pub adds_both : (a b c : Builder) (xs ys : List Bound) → AddsBindings a b xs → AddsBindings b c ys → AddsBindings a c (xs ++ ys)
 adds_both a b c xs ys f g = record {
   news = g.news ∙ ap (λ t. t ++ ys) f.news ∙ append_assoc a.news xs ys;
   next = g.next ∙ ap (λ n. n + length ys) f.next ∙ omega (arith, length-append xs ys);
 }
 
 module _ (p : Program) (s : Scope) where
-  pub build_applied : (a b c : Builder) (t : ℕ) (inner : Flat) (args : Terms) (xs : List Var) → t ≡ a.next → Adds a b (bound t inner ∷ []) → AddsArgs p s b c args xs → AddsApplied p s a c inner args (flat.Apply (var.Local t) xs)
+  pub build_applied : (a b c : Builder) (t : ℕ) (inner : Flat) (args : Terms) (xs : List Var) → t ≡ a.next → AddsBindings a b (bound t inner ∷ []) → AddsArgs p s b c args xs → AddsApplied p s a c inner args (flat.Apply (var.Local t) xs)
   build_applied a b c t inner args xs e f g =
       let are : AreArgs p s (a.next + 1) args g.added xs = subst (λ n. AreArgs p s n args g.added xs) f.next g.are in
       let is : IsApplied p s a.next inner args (bound a.next inner ∷ g.added) (flat.Apply (var.Local a.next) xs) = normal.Applied are in
@@ -37,7 +37,7 @@ module _ (p : Program) (s : Scope) where
   pub build_itself : (a : Builder) (arg : Term) (x : Var) → itself p s arg ≡ Some x → AddsArg p s a a arg x
   build_itself a arg x e = record { added = []; adds = adds_nothing a; is = normal.Itself e }
 
-  pub build_new : (a b c : Builder) (arg : Term) (form : Flat) (t : ℕ) → itself p s arg ≡ None → AddsFlat p s a b arg NoTerms form → t ≡ b.next → Adds b c (bound t form ∷ []) → AddsArg p s a c arg (var.Local t)
+  pub build_new : (a b c : Builder) (arg : Term) (form : Flat) (t : ℕ) → itself p s arg ≡ None → AddsFlat p s a b arg NoTerms form → t ≡ b.next → AddsBindings b c (bound t form ∷ []) → AddsArg p s a c arg (var.Local t)
   build_new a b c arg form t n f e g = record {
     added = f.added ++ bound t form ∷ [];
     adds = adds_both a b c f.added (bound t form ∷ []) f.adds g;
@@ -103,7 +103,7 @@ group_snoc p s n (a ∷ bs) b bounds news form xs t (normal.AndMember {xs = ys} 
 pub build_no_members : (p : Program) (s : Scope) (a : Builder) → AddsGroup p s a a [] []
 build_no_members p s a = record { added = []; adds = adds_nothing a; is = normal.NoMembers }
 
-pub build_more_members : (p : Program) (s : Scope) (a b c d : Builder) (bs : List Bind) (m : Bind) (xs : List ℕ) (t : ℕ) (form : Flat) → AddsGroup p s a b bs xs → AddsFlat p s b c m.app.head m.app.args form → t ≡ c.next → Adds c d (bound t form ∷ []) → AddsGroup p s a d (bs ++ m ∷ []) (xs ++ t ∷ [])
+pub build_more_members : (p : Program) (s : Scope) (a b c d : Builder) (bs : List Bind) (m : Bind) (xs : List ℕ) (t : ℕ) (form : Flat) → AddsGroup p s a b bs xs → AddsFlat p s b c m.app.head m.app.args form → t ≡ c.next → AddsBindings c d (bound t form ∷ []) → AddsGroup p s a d (bs ++ m ∷ []) (xs ++ t ∷ [])
 build_more_members p s a b c d bs m xs t form f g e h =
     let more : List Bound = g.added ++ bound t form ∷ [] in
     let flat : IsFlat p s (a.next + length f.added) m.app.head m.app.args g.added form = subst (λ n. IsFlat p s n m.app.head m.app.args g.added form) f.adds.next g.is in

@@ -2,7 +2,7 @@
 use Rattle.std.proofs.Common.{◌≡◌, ℕ, Bool, true, false, arith, inl, inr}
 use Rattle.std.specs.Prelude.{nat_le, ◌&&◌, if◌then◌else◌}
 use Rattle.arity_check.specs.Order.{rank, IsBefore}
-use Rattle.arity_check.specs.One.{OneRefusal}
+use Rattle.arity_check.specs.One.{RefusalIsUnique}
 
 -- neither of two is after the other
 record Level (a b : ℕ × ℕ × ℕ) : Type 0 where
@@ -34,6 +34,6 @@ apart false false true b' k at k' at' l = let g = l.group in absurd (omega (arit
 apart false false false true k at k' at' l = let g = l.group in absurd (omega (arith, g))
 apart false false false false k at k' at' l = (l.second, l.first)
 
-pub one_refusal : OneRefusal
+pub one_refusal : RefusalIsUnique
 one_refusal p k at k' at' a b =
     apart (nat_le 31 k) (nat_le 19 k && nat_le k 21) (nat_le 31 k') (nat_le 19 k' && nat_le k' 21) k at k' at' (level (rank k at) (rank k' at') (a.first k' at' b.broken) (b.first k at a.broken))

@@ -23,12 +23,12 @@ use Rattle.arity_check.specs.Scope.{Scope, Meaning, means, con_number, binds, bi
 use Rattle.arity_check.specs.Known.{Known, is_nameless, all_entered}
 use Rattle.core_reader.specs.Readable.{ReadableData, ReadableFunction}
 use Rattle.arity_check.specs.declared.normal.Con as constructors
-use Rattle.arity_check.specs.One.{SomeNormalForm}
+use Rattle.arity_check.specs.One.{NormalFormExists}
 use Rattle.arity_check.specs.Tables.{first_of, second_of}
 use Rattle.arity_check.specs.Whole.{known_of, main_at, fields_at, constructor_at, header_faults, body_faults, functions_faults}
 use Rattle.arity_check.specs.Standing.{count}
 use Rattle.arity_check.specs.Pieces.{names_of, binders_of, bound_by}
-use Rattle.arity_check.specs.Faults.{Seen, also, seen_with, is_none, size_faults, applied_to, meaning_faults, arity_faults, head_faults, args_faults, app_faults, members_faults, binders_faults, pattern_faults, patterns_faults, no_patterns, expr_faults, alts_faults}
+use Rattle.arity_check.specs.Faults.{PatternsSeen, with_member, with_pattern_seen, is_none, size_faults, applied_to, meaning_faults, arity_faults, head_faults, args_faults, app_faults, members_faults, binders_faults, pattern_faults, patterns_faults, no_patterns, expr_faults, alts_faults}
 use Rattle.arity_check.specs.Program as normal
 use Rattle.arity_check.specs.Normal as form
 use Rattle.arity_check.specs.Normal.{Pairwise, IsConstructor, IsFunction, IsNormalForm, append, HasTerm, itself, bound, IsFlat, IsNamed, IsApplied, AreArgs, IsArg, IsGroup, IsNormal, AreBranches}
@@ -259,7 +259,7 @@ module _ (p : Program) where
       record { xs = g.xs; size = size; bounds = h.bounds; is = subst (λ l. IsGroup p second n group h.bounds l) (sym same) h.is }
 
   -- an alternative with its body and those behind it
-  some_branch : (pat : Pattern) (body : Expr) (rest : Alts) (s : Scope) (n : ℕ) (seen : Seen) (b : Bool) → pattern_faults (known_of p) seen b pat ≡ [] → expr_faults (known_of p) (all_entered (known_of p) (bound_by pat) s) body ≡ []
+  some_branch : (pat : Pattern) (body : Expr) (rest : Alts) (s : Scope) (n : ℕ) (seen : PatternsSeen) (b : Bool) → pattern_faults (known_of p) seen b pat ≡ [] → expr_faults (known_of p) (all_entered (known_of p) (bound_by pat) s) body ≡ []
       → ((s : Scope) (n : ℕ) → expr_faults (known_of p) s body ≡ [] → SomeNormal s n body) → ((n : ℕ) → SomeBranches s n rest) → SomeBranches s n (AndAlt pat body rest)
   some_branch (pattern.Con c fields) body rest s n seen b e f g h =
       let names : List ℕ = names_of fields in
@@ -306,16 +306,16 @@ module _ (p : Program) where
         let r = some_branches alts s w.after no_patterns (no_front (patterns_faults k no_patterns alts) (alts_faults k s alts) rest) (no_back (patterns_faults k no_patterns alts) (alts_faults k s alts) rest) in
         record { term = normal.Case w.term r.branches; after = r.after; is = form.Choice w.is r.are }
 
-    some_branches : (alts : Alts) (s : Scope) (n : ℕ) (seen : Seen) → patterns_faults (known_of p) seen alts ≡ [] → alts_faults (known_of p) s alts ≡ [] → SomeBranches s n alts
+    some_branches : (alts : Alts) (s : Scope) (n : ℕ) (seen : PatternsSeen) → patterns_faults (known_of p) seen alts ≡ [] → alts_faults (known_of p) s alts ≡ [] → SomeBranches s n alts
     some_branches NoAlts s n seen e f = record { branches = normal.NoMore; after = n; are = form.NoBranches }
     some_branches (AndAlt pat body rest) s n seen e f =
         let k : Known = known_of p in
         let here = no_front (binders_faults k (λ x. false) (bound_by pat) ++ expr_faults k (all_entered k (bound_by pat) s) body) (alts_faults k s rest) f in
         let behind = no_back (binders_faults k (λ x. false) (bound_by pat) ++ expr_faults k (all_entered k (bound_by pat) s) body) (alts_faults k s rest) f in
-        let known = no_front (pattern_faults k seen (is_none rest) pat) (patterns_faults k (seen_with seen pat) rest) e in
-        let later = no_back (pattern_faults k seen (is_none rest) pat) (patterns_faults k (seen_with seen pat) rest) e in
+        let known = no_front (pattern_faults k seen (is_none rest) pat) (patterns_faults k (with_pattern_seen seen pat) rest) e in
+        let later = no_back (pattern_faults k seen (is_none rest) pat) (patterns_faults k (with_pattern_seen seen pat) rest) e in
         some_branch pat body rest s n seen (is_none rest) known (no_back (binders_faults k (λ x. false) (bound_by pat)) _ here)
-        (λ s n g. some_normal body s n g) (λ n. some_branches rest s n (seen_with seen pat) later behind)
+        (λ s n g. some_normal body s n g) (λ n. some_branches rest s n (with_pattern_seen seen pat) later behind)
 
 -- ---- whole programs
 
@@ -329,7 +329,7 @@ some_all P R f (x ∷ xs) h =
 body_at : (k : Known) (n : ℕ) (seen : ℕ → Bool) (fs : List tree.Function) (i : ℕ) (d : tree.Function) → i < length fs → functions_faults k [] n seen fs ≡ [] → body_faults k [] (get_or fs i d) ≡ []
 body_at k n seen [] i d l e = absurd (omega (arith, l))
 body_at k n seen (f ∷ fs) zero d l e = no_back (header_faults k n seen f) (body_faults k [] f) (no_front (header_faults k n seen f ++ body_faults k [] f) _ e)
-body_at k n seen (f ∷ fs) (suc i) d l e = body_at k (n + 1) (also f.name seen) fs i d (omega (arith, l)) (no_back (header_faults k n seen f ++ body_faults k [] f) _ e)
+body_at k n seen (f ∷ fs) (suc i) d l e = body_at k (n + 1) (with_member f.name seen) fs i d (omega (arith, l)) (no_back (header_faults k n seen f ++ body_faults k [] f) _ e)
 
 module _ (p : Program) where
   some_constructor : (d : tree.Data) → ReadableData p.names d → (c : constructors.Con) × IsConstructor p d c
@@ -344,7 +344,7 @@ module _ (p : Program) where
       let w = some_normal p f.body inner n (expr_behind (known_of p) f.params xs [] inner f.body (length-range_with_len 0 n) (sym (all_named_binds p (names_of f.params) xs [])) none) in
       (record { name = h.0.0.0; params = n; body = w.term }, record { name = h.0.0.1; params = refl; after = w.after; body = w.is })
 
-pub some_normal_form : SomeNormalForm
+pub some_normal_form : NormalFormExists
 some_normal_form p readable unbroken =
     let k : Known = known_of p in
     let faults = functions_sound p k refl unbroken in

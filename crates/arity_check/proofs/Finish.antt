@@ -13,9 +13,9 @@ use Rattle.arity_check.specs.Scope.{is_named}
 use Rattle.arity_check.specs.Known.{Known}
 use Rattle.arity_check.specs.Refusal.{rule, number}
 use Rattle.arity_check.specs.Broken as broken
-use Rattle.arity_check.specs.Whole.{known_of, main_kind, main_at, cons_faults, header_faults, body_faults, functions_faults, whole_faults}
-use Rattle.arity_check.specs.Faults.{also}
-use Rattle.arity_check.specs.Accepted.{IsUnbroken, IsFirstBroken}
+use Rattle.arity_check.specs.Whole.{known_of, main_kind, main_at, cons_faults, header_faults, body_faults, functions_faults, program_faults}
+use Rattle.arity_check.specs.Faults.{with_member}
+use Rattle.arity_check.specs.Accepted.{BreaksNoRule, IsFirstBroken}
 use Rattle.arity_check.specs.First.{IsCause}
 use Rattle.arity_check.specs.Normal.{Pairwise}
 use Rattle.seq.specs.Lists.{In, here}
@@ -46,10 +46,10 @@ nothing_in : (rs : List CheckRefusal) → ((r : CheckRefusal) → In r rs → �
 nothing_in [] h = refl
 nothing_in (r ∷ rs) h = absurd (h r here)
 
-pub no_faults : (p : Program) → IsUnbroken p → whole_faults p ≡ []
-no_faults p u = nothing_in (whole_faults p) (λ r i. u (rule r) (number r) (sound p r i))
+pub no_faults : (p : Program) → BreaksNoRule p → program_faults p ≡ []
+no_faults p u = nothing_in (program_faults p) (λ r i. u (rule r) (number r) (sound p r i))
 
-pub functions_sound : (p : Program) (k : Known) → k ≡ known_of p → IsUnbroken p → functions_faults k [] 0 (λ x. false) p.functions ≡ []
+pub functions_sound : (p : Program) (k : Known) → k ≡ known_of p → BreaksNoRule p → functions_faults k [] 0 (λ x. false) p.functions ≡ []
 functions_sound p k e u =
     ap (λ k. functions_faults k [] 0 (λ x. false) p.functions) e
     ∙ no_front (functions_faults (known_of p) [] 0 (λ x. false) p.functions) _ (no_back (cons_faults (known_of p) 0 (λ x. false) p.constructors) _ (no_faults p u))
@@ -60,7 +60,7 @@ function_sound k n seen (y ∷ ys) zero x l is e =
     ap (λ (f : code-function.Function). body_faults k [] (function f)) is
     ∙ no_back (header_faults k n seen (function y)) (body_faults k [] (function y)) (no_front (header_faults k n seen (function y) ++ body_faults k [] (function y)) _ e)
 function_sound k n seen (y ∷ ys) (suc i) x l is e =
-    function_sound k (n + 1) (also y.name.0 seen) ys i x (omega (arith, l)) is (no_back (header_faults k n seen (function y) ++ body_faults k [] (function y)) _ e)
+    function_sound k (n + 1) (with_member y.name.0 seen) ys i x (omega (arith, l)) is (no_back (header_faults k n seen (function y) ++ body_faults k [] (function y)) _ e)
 
 -- ---- `main`
 
@@ -74,7 +74,7 @@ none_from {X} test n (y ∷ ys) e i x is = go (test y) refl e i is (none_from te
     go false h e zero is rest = let s : y ≡ x = cc in ap test (sym s) ∙ h
     go false h e (suc i) is rest = rest e i x is
 
-pub main_there : (p : Program) (k : Known) → k ≡ known_of p → IsUnbroken p → main_at k p.functions ≡ None → ⊥
+pub main_there : (p : Program) (k : Known) → k ≡ known_of p → BreaksNoRule p → main_at k p.functions ≡ None → ⊥
 main_there p k e u none =
     let at : main_at (known_of p) p.functions ≡ None = ap (λ k. main_at k p.functions) (sym e) ∙ none in
     u 19 0 (broken.NoMain (λ i f is. sym (main_named p f.name) ∙ none_from (λ (f : tree.Function). main_kind ((known_of p).kind f.name)) 0 p.functions at i f is))

@@ -7,11 +7,11 @@ use Rattle.arity_check.specs.declared.refusal.CheckRefusal.{CheckRefusal}
 use Rattle.arity_check.specs.declared.refusal.CheckRefusal.TheVariants.{CoreTooLarge}
 use Rattle.arity_check.specs.declared.order.Order.{Order}
 use Rattle.arity_check.specs.declared.order.First.{First}
-use Rattle.arity_check.specs.Order.{rank, IsBefore, HasRank, IsBeforeIfRanked, counts, ranked}
+use Rattle.arity_check.specs.Order.{rank, IsBefore, HasRank, IsBeforeIfRanked, counts, ranks_of_order}
 use Rattle.arity_check.specs.First.{IsFirstRefusal}
-use Rattle.arity_check.specs.Refusal.{rule, number, rank_of, rank_met, before, precedes, earlier, least}
-use Rattle.arity_check.specs.Faults.{noted}
-use Rattle.arity_check.specs.Whole.{whole_faults}
+use Rattle.arity_check.specs.Refusal.{rule, number, rank_of, rank_of_first, before, precedes, earlier_refusal, least_refusal}
+use Rattle.arity_check.specs.Faults.{refusal_if}
+use Rattle.arity_check.specs.Whole.{program_faults}
 use Rattle.seq.specs.Lists.{In, here, there}
 use Rattle.seq.proofs.Order.{compared}
 use Rattle.seq.proofs.Truth.{two_ways}
@@ -128,20 +128,20 @@ some_same : (a b : CheckRefusal) → Some a ≡ Some b → a ≡ b
 some_same a b e = cc
 
 module _ (order : Order) where
-  earliest : (o r : CheckRefusal) (rs : List CheckRefusal) → HasRank (rank_of order o) → (least (met order o) rs).refusal ≡ Some r → Earliest order o r rs
-  unfolding earlier
+  earliest : (o r : CheckRefusal) (rs : List CheckRefusal) → HasRank (rank_of order o) → (least_refusal (met order o) rs).refusal ≡ Some r → Earliest order o r rs
+  unfolding earlier_refusal
   earliest o r [] h e = record { among = inl (some_same o r e); first = subst (λ r. Le order r o) (some_same o r e) (itself (rank_of order o) h); all = λ q i. elim i [ ] }
   earliest o r (x ∷ rs) h e = elim (two_ways (precedes (rank_of order x) (rank_of order o))) [
     | inl y ↦
         let l = precedes_true (rank_of order x) (rank_of order o) y in
-        let w = earliest x r rs (ranked_left (rank_of order x) (rank_of order o) l) (ap (λ b. (least (if b then met order x else met order o) rs).refusal) (sym y) ∙ e) in
+        let w = earliest x r rs (ranked_left (rank_of order x) (rank_of order o) l) (ap (λ b. (least_refusal (if b then met order x else met order o) rs).refusal) (sym y) ∙ e) in
         record {
           among = elim w.among [ inl s ↦ inr (subst (λ r. In r (x ∷ rs)) s here) | inr i ↦ inr (there i) ];
           first = trans (rank_of order r) (rank_of order x) (rank_of order o) w.first l;
           all = earliest_step order x r rs w.first w.all;
         }
     | inr n ↦
-        let w = earliest o r rs h (ap (λ b. (least (if b then met order x else met order o) rs).refusal) (sym n) ∙ e) in
+        let w = earliest o r rs h (ap (λ b. (least_refusal (if b then met order x else met order o) rs).refusal) (sym n) ∙ e) in
         record {
           among = elim w.among [ inl s ↦ inl s | inr i ↦ inr (there i) ];
           first = w.first;
@@ -149,69 +149,69 @@ module _ (order : Order) where
         }
   ]
 
-  some_least : (o : CheckRefusal) (rs : List CheckRefusal) → (least (met order o) rs).refusal ≡ None → ⊥
-  unfolding earlier
+  some_least : (o : CheckRefusal) (rs : List CheckRefusal) → (least_refusal (met order o) rs).refusal ≡ None → ⊥
+  unfolding earlier_refusal
   some_least o [] e = cc
   some_least o (x ∷ rs) e = elim (two_ways (precedes (rank_of order x) (rank_of order o))) [
-    | inl y ↦ some_least x rs (ap (λ b. (least (if b then met order x else met order o) rs).refusal) (sym y) ∙ e)
-    | inr n ↦ some_least o rs (ap (λ b. (least (if b then met order x else met order o) rs).refusal) (sym n) ∙ e)
+    | inl y ↦ some_least x rs (ap (λ b. (least_refusal (if b then met order x else met order o) rs).refusal) (sym y) ∙ e)
+    | inr n ↦ some_least o rs (ap (λ b. (least_refusal (if b then met order x else met order o) rs).refusal) (sym n) ∙ e)
   ]
 
-  none_least : (rs : List CheckRefusal) → (least (none_met order) rs).refusal ≡ None → (q : CheckRefusal) → In q rs → HasRank (rank_of order q) → ⊥
-  unfolding earlier
+  none_least : (rs : List CheckRefusal) → (least_refusal (none_met order) rs).refusal ≡ None → (q : CheckRefusal) → In q rs → HasRank (rank_of order q) → ⊥
+  unfolding earlier_refusal
   none_least [] e q i h = elim i [ ]
   none_least (x ∷ rs) e q i h = elim (two_ways (precedes (rank_of order x) None)) [
-    | inl y ↦ some_least x rs (ap (λ b. (least (if b then met order x else none_met order) rs).refusal) (sym y) ∙ e)
-    | inr n ↦ go q i h n (none_least rs (ap (λ b. (least (if b then met order x else none_met order) rs).refusal) (sym n) ∙ e))
+    | inl y ↦ some_least x rs (ap (λ b. (least_refusal (if b then met order x else none_met order) rs).refusal) (sym y) ∙ e)
+    | inr n ↦ go q i h n (none_least rs (ap (λ b. (least_refusal (if b then met order x else none_met order) rs).refusal) (sym n) ∙ e))
   ]
     where
       go : (q : CheckRefusal) → In q (x ∷ rs) → HasRank (rank_of order q) → precedes (rank_of order x) None ≡ false → ((q : CheckRefusal) → In q rs → HasRank (rank_of order q) → ⊥) → ⊥
       go q here h n rest = unranked (rank_of order x) n h
       go q (there i) h n rest = rest q i h
 
-  first_met : (rs : List CheckRefusal) (r : CheckRefusal) → (least (none_met order) rs).refusal ≡ Some r → In r rs × HasRank (rank_of order r) × ((q : CheckRefusal) → In q rs → Le order r q)
-  unfolding earlier
+  first_met : (rs : List CheckRefusal) (r : CheckRefusal) → (least_refusal (none_met order) rs).refusal ≡ Some r → In r rs × HasRank (rank_of order r) × ((q : CheckRefusal) → In q rs → Le order r q)
+  unfolding earlier_refusal
   first_met [] r e = absurd cc
   first_met (x ∷ rs) r e = elim (two_ways (precedes (rank_of order x) None)) [
     | inl y ↦
         let h = ranked_left (rank_of order x) None (precedes_true (rank_of order x) None y) in
-        let w = earliest x r rs h (ap (λ b. (least (if b then met order x else none_met order) rs).refusal) (sym y) ∙ e) in
+        let w = earliest x r rs h (ap (λ b. (least_refusal (if b then met order x else none_met order) rs).refusal) (sym y) ∙ e) in
         (elim w.among [ inl s ↦ subst (λ r. In r (x ∷ rs)) s here | inr i ↦ there i ], ranked_left (rank_of order r) (rank_of order x) w.first, earliest_step order x r rs w.first w.all)
     | inr n ↦
-        let w = first_met rs r (ap (λ b. (least (if b then met order x else none_met order) rs).refusal) (sym n) ∙ e) in
+        let w = first_met rs r (ap (λ b. (least_refusal (if b then met order x else none_met order) rs).refusal) (sym n) ∙ e) in
         (there w.0, w.1, earliest_step order x r rs (after_all (rank_of order r) (rank_of order x) w.1 n) w.2)
   ]
 
 -- the order stays
-earlier_order : (f : First) (r : CheckRefusal) → (earlier f r).order ≡ f.order
-unfolding earlier
-earlier_order f r = elim (two_ways (precedes (rank_of f.order r) (rank_met f.order f.refusal))) [
+earlier_order : (f : First) (r : CheckRefusal) → (earlier_refusal f r).order ≡ f.order
+unfolding earlier_refusal
+earlier_order f r = elim (two_ways (precedes (rank_of f.order r) (rank_of_first f.order f.refusal))) [
   | inl y ↦ ap (λ b. (if b then met f.order r else f).order) y
   | inr n ↦ ap (λ b. (if b then met f.order r else f).order) n
 ]
 
-pub least_order : (f : First) (rs : List CheckRefusal) → (least f rs).order ≡ f.order
+pub least_order : (f : First) (rs : List CheckRefusal) → (least_refusal f rs).order ≡ f.order
 least_order f [] = refl
-least_order f (r ∷ rs) = least_order (earlier f r) rs ∙ earlier_order f r
+least_order f (r ∷ rs) = least_order (earlier_refusal f r) rs ∙ earlier_order f r
 
 -- where the rule on the size doesn't count, nothing changes
-pub size_uncounted : (f : First) (b : Bool) (n : ℕ) → counts f.order 35 ≡ false → least f (noted b (CoreTooLarge n)) ≡ f
-unfolding earlier
+pub size_uncounted : (f : First) (b : Bool) (n : ℕ) → counts f.order 35 ≡ false → least_refusal f (refusal_if b (CoreTooLarge n)) ≡ f
+unfolding earlier_refusal
 size_uncounted f false n e = refl
-size_uncounted f true n e = ap (λ c. if precedes (if c then Some (rank 35 n) else None) (rank_met f.order f.refusal) then met f.order (CoreTooLarge n) else f) e
+size_uncounted f true n e = ap (λ c. if precedes (if c then Some (rank 35 n) else None) (rank_of_first f.order f.refusal) then met f.order (CoreTooLarge n) else f) e
 
 -- the earliest refusal that is met of those that count is the first broken rule that counts
-pub right : (order : Order) (p : Program) (o : Option CheckRefusal) → o ≡ (least (none_met order) (whole_faults p)).refusal → IsFirstRefusal (ranked order) p o
+pub right : (order : Order) (p : Program) (o : Option CheckRefusal) → o ≡ (least_refusal (none_met order) (program_faults p)).refusal → IsFirstRefusal (ranks_of_order order) p o
 right order p None e = λ k at b h.
     let w : Listed p k at = complete p b in
-    none_least order (whole_faults p) (sym e) w.refusal w.met (subst (λ n. HasRank (ranked order n (number w.refusal))) (sym w.rule_is) (subst (λ n. HasRank (ranked order k n)) (sym w.number_is) h))
+    none_least order (program_faults p) (sym e) w.refusal w.met (subst (λ n. HasRank (ranks_of_order order n (number w.refusal))) (sym w.rule_is) (subst (λ n. HasRank (ranks_of_order order k n)) (sym w.number_is) h))
 right order p (Some r) e =
-    let w = first_met order (whole_faults p) r (sym e) in
+    let w = first_met order (program_faults p) r (sym e) in
     record {
       broken = sound p r w.0;
       counts = w.1;
       first = λ k at b.
           let l : Listed p k at = complete p b in
           let h : Le order r l.refusal = w.2 l.refusal l.met in
-          subst (λ n. IsBeforeIfRanked (rank_of order r) (ranked order n at)) l.rule_is (subst (λ n. IsBeforeIfRanked (rank_of order r) (ranked order (rule l.refusal) n)) l.number_is h);
+          subst (λ n. IsBeforeIfRanked (rank_of order r) (ranks_of_order order n at)) l.rule_is (subst (λ n. IsBeforeIfRanked (rank_of order r) (ranks_of_order order (rule l.refusal) n)) l.number_is h);
     }

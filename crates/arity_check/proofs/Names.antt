@@ -8,12 +8,12 @@ use Rattle.core_reader.specs.declared.syntax.Binder.{Binder}
 use Rattle.core_reader.specs.Tree.{Data, Program}
 use Rattle.core_reader.specs.Tree as tree
 use Rattle.arity_check.specs.declared.normal.PrimOp.{PrimOp}
-use Rattle.arity_check.specs.declared.globals.Kind.{Kind}
-use Rattle.arity_check.specs.declared.globals.Kind.TheVariants as kind
+use Rattle.arity_check.specs.declared.globals.NameKind.{NameKind}
+use Rattle.arity_check.specs.declared.globals.NameKind.TheVariants as kind
 use Rattle.arity_check.specs.Scope.{Scope, Meaning, Local, Function, Primitive, Unbound, is_named, primitives, primitive_from, function_from, found_in, means, binds, unless_primitive}
-use Rattle.arity_check.specs.Locals.{local_in}
+use Rattle.arity_check.specs.Locals.{innermost_local}
 use Rattle.arity_check.specs.Pieces.{within}
-use Rattle.arity_check.specs.Broken.{first_named}
+use Rattle.arity_check.specs.Broken.{first_constructor_named}
 use Rattle.arity_check.specs.Known.{nameless_kind, reserved_kind, kind_meaning, is_nameless, is_reserved, local_meaning, function_meaning, meaning, all_entered}
 use Rattle.arity_check.specs.Whole.{kinds, kind_from, kind_of, kind_at, known_of, function_at, fields_at, has_fields, main_kind, int_kind, nil_kind, cons_kind}
 
@@ -21,11 +21,11 @@ pub same_bytes : (a b : List ℕ) → bytes_eq a b ≡ true → a ≡ b
 same_bytes a b e = (bytes_eq-Decides a b).0 e
 
 -- each entry of the table passes the test exactly if it has this text
-abbrev Agrees : (Kind → Bool) → List ℕ → List (List ℕ × Kind) → Type 0
+abbrev Agrees : (NameKind → Bool) → List ℕ → List (List ℕ × NameKind) → Type 0
 Agrees test text [] = Unit {0}
 Agrees test text (q ∷ qs) = (test q.1 ≡ bytes_eq q.0 text) × Agrees test text qs
 
-other_text : (test : Kind → Bool) (text b : List ℕ) (table : List (List ℕ × Kind)) → Agrees test text table → test kind.Plain ≡ false → bytes_eq b text ≡ false → test (kind_from table b) ≡ false
+other_text : (test : NameKind → Bool) (text b : List ℕ) (table : List (List ℕ × NameKind)) → Agrees test text table → test kind.Plain ≡ false → bytes_eq b text ≡ false → test (kind_from table b) ≡ false
 other_text test text b [] a none e = none
 other_text test text b (q ∷ qs) a none e = go (other_text test text b qs a.1 none e) (bytes_eq b q.0) refl
   where
@@ -33,7 +33,7 @@ other_text test text b (q ∷ qs) a none e = go (other_text test text b qs a.1 n
     go rest true h = a.0 ∙ ap (λ t. bytes_eq t text) (sym (same_bytes b q.0 h)) ∙ e
     go rest false h = rest
 
-kind_test : (test : Kind → Bool) (text : List ℕ) → Agrees test text kinds → test kind.Plain ≡ false → test (kind_of text) ≡ true → (b : List ℕ) → test (kind_of b) ≡ bytes_eq b text
+kind_test : (test : NameKind → Bool) (text : List ℕ) → Agrees test text kinds → test kind.Plain ≡ false → test (kind_of text) ≡ true → (b : List ℕ) → test (kind_of b) ≡ bytes_eq b text
 kind_test test text a none here b = go (bytes_eq b text) refl
   where
     go : (c : Bool) → bytes_eq b text ≡ c → test (kind_of b) ≡ c
@@ -41,7 +41,7 @@ kind_test test text a none here b = go (bytes_eq b text) refl
     go false h = other_text test text b kinds a none h
 
 module _ (p : Program) where
-  named_test : (test : Kind → Bool) (text : List ℕ) → Agrees test text kinds → test kind.Plain ≡ false → test (kind_of text) ≡ true → (x : ℕ) → test ((known_of p).kind x) ≡ is_named p text x
+  named_test : (test : NameKind → Bool) (text : List ℕ) → Agrees test text kinds → test kind.Plain ≡ false → test (kind_of text) ≡ true → (x : ℕ) → test ((known_of p).kind x) ≡ is_named p text x
   named_test test text a none here x = go (slice_get p.names x)
     where
       go : (o : Option (List ℕ)) → test (kind_at o) ≡ elim o [ Some b ↦ bytes_eq b text | None ↦ false ]
@@ -65,7 +65,7 @@ module _ (p : Program) where
 
   -- ---- primitives
 
-  abbrev prims : List (List ℕ × PrimOp) → List (List ℕ × Kind)
+  abbrev prims : List (List ℕ × PrimOp) → List (List ℕ × NameKind)
   prims [] = (codes "_", kind.Nameless) ∷ ((codes "main", kind.Main) ∷ ((codes "Int", kind.Int) ∷ ((codes "Nil", kind.Nil) ∷ ((codes "Cons", kind.Cons) ∷ []))))
   prims (q ∷ qs) = (q.0, kind.Primitive q.1) ∷ prims qs
 
@@ -73,14 +73,14 @@ module _ (p : Program) where
   chain [] b = Unbound
   chain (q ∷ qs) b = if bytes_eq b q.0 then Primitive q.1 else chain qs b
 
-  abbrev others : List (List ℕ × Kind)
+  abbrev others : List (List ℕ × NameKind)
   others = (codes "_", kind.Nameless) ∷ ((codes "main", kind.Main) ∷ ((codes "Int", kind.Int) ∷ ((codes "Nil", kind.Nil) ∷ ((codes "Cons", kind.Cons) ∷ []))))
 
-  abbrev Plainly : List (List ℕ × Kind) → Type 0
+  abbrev Plainly : List (List ℕ × NameKind) → Type 0
   Plainly [] = Unit {0}
   Plainly (q ∷ qs) = (kind_meaning q.1 ≡ Unbound) × Plainly qs
 
-  no_primitive : (b : List ℕ) (table : List (List ℕ × Kind)) → Plainly table → kind_meaning (kind_from table b) ≡ Unbound
+  no_primitive : (b : List ℕ) (table : List (List ℕ × NameKind)) → Plainly table → kind_meaning (kind_from table b) ≡ Unbound
   no_primitive b [] a = refl
   no_primitive b (q ∷ qs) a = go (no_primitive b qs a.1) (bytes_eq b q.0)
     where
@@ -121,11 +121,11 @@ module _ (p : Program) where
       go rest true = refl
       go rest false = rest
 
-  found_is : (s : Scope) (x : ℕ) → local_meaning (known_of p) x (local_in s x) ≡ found_in p s x
+  found_is : (s : Scope) (x : ℕ) → local_meaning (known_of p) x (innermost_local s x) ≡ found_in p s x
   found_is [] x = function_is x p.functions 0
   found_is (b ∷ s) x = go (found_is s x) (b.0 == x)
     where
-      go : local_meaning (known_of p) x (local_in s x) ≡ found_in p s x → (c : Bool) → local_meaning (known_of p) x (if c then Some b.1 else local_in s x) ≡ (if c then Local b.1 else found_in p s x)
+      go : local_meaning (known_of p) x (innermost_local s x) ≡ found_in p s x → (c : Bool) → local_meaning (known_of p) x (if c then Some b.1 else innermost_local s x) ≡ (if c then Local b.1 else found_in p s x)
       go rest true = refl
       go rest false = rest
 
@@ -138,19 +138,19 @@ module _ (p : Program) where
 
   -- ---- fields
 
-  pub fields_some : (c : ℕ) (ds : List Data) (d : Data) → first_named c ds ≡ Some d → fields_at ds c ≡ Some d.fields
+  pub fields_some : (c : ℕ) (ds : List Data) (d : Data) → first_constructor_named c ds ≡ Some d → fields_at ds c ≡ Some d.fields
   fields_some c [] d e = cc
   fields_some c (a ∷ ds) d e = go (fields_some c ds d) (a.name == c) e
     where
-      go : (first_named c ds ≡ Some d → fields_at ds c ≡ Some d.fields) → (b : Bool) → (if b then Some a else first_named c ds) ≡ Some d → (if b then Some a.fields else fields_at ds c) ≡ Some d.fields
+      go : (first_constructor_named c ds ≡ Some d → fields_at ds c ≡ Some d.fields) → (b : Bool) → (if b then Some a else first_constructor_named c ds) ≡ Some d → (if b then Some a.fields else fields_at ds c) ≡ Some d.fields
       go rest true e = let same : a ≡ d = cc in ap (λ (d : Data). Some d.fields) same
       go rest false e = rest e
 
-  pub fields_none : (c : ℕ) (ds : List Data) → first_named c ds ≡ None → fields_at ds c ≡ None
+  pub fields_none : (c : ℕ) (ds : List Data) → first_constructor_named c ds ≡ None → fields_at ds c ≡ None
   fields_none c [] e = refl
   fields_none c (a ∷ ds) e = go (fields_none c ds) (a.name == c) e
     where
-      go : (first_named c ds ≡ None → fields_at ds c ≡ None) → (b : Bool) → (if b then Some a else first_named c ds) ≡ None → (if b then Some a.fields else fields_at ds c) ≡ None
+      go : (first_constructor_named c ds ≡ None → fields_at ds c ≡ None) → (b : Bool) → (if b then Some a else first_constructor_named c ds) ≡ None → (if b then Some a.fields else fields_at ds c) ≡ None
       go rest true e = absurd cc
       go rest false e = rest e
 
@@ -182,7 +182,7 @@ module _ (p : Program) where
       go rest false i zero e = let same : a ≡ q = cc in absurd (let f : false ≡ true = sym i ∙ ap (λ (a : List ℕ × PrimOp). is_named p a.0 x) same ∙ h in cc)
       go rest false i (suc n) e = rest n e
 
-  kind_reserved : (k : Kind) → reserved_kind k ≡ is_primitive (kind_meaning k)
+  kind_reserved : (k : NameKind) → reserved_kind k ≡ is_primitive (kind_meaning k)
   kind_reserved (kind.Primitive op) = refl
   kind_reserved kind.Nameless = refl
   kind_reserved kind.Main = refl
@@ -207,20 +207,20 @@ module _ (p : Program) where
   to_reserved x n q e h = kind_reserved ((known_of p).kind x) ∙ ap is_primitive (primitive_is x) ∙ reserved_there primitives x n q e h
 
 -- where the first declaration of a constructor stands
-pub first_place : (c : ℕ) (ds : List Data) (d : Data) → first_named c ds ≡ Some d → (i : ℕ) × (slice_get ds i ≡ Some d)
+pub first_place : (c : ℕ) (ds : List Data) (d : Data) → first_constructor_named c ds ≡ Some d → (i : ℕ) × (slice_get ds i ≡ Some d)
 first_place c [] d e = absurd cc
 first_place c (x ∷ xs) d e = go (x.name == c) e (first_place c xs d)
   where
-    go : (b : Bool) → (if b then Some x else first_named c xs) ≡ Some d → (first_named c xs ≡ Some d → (i : ℕ) × (slice_get xs i ≡ Some d)) → (i : ℕ) × (slice_get (x ∷ xs) i ≡ Some d)
+    go : (b : Bool) → (if b then Some x else first_constructor_named c xs) ≡ Some d → (first_constructor_named c xs ≡ Some d → (i : ℕ) × (slice_get xs i ≡ Some d)) → (i : ℕ) × (slice_get (x ∷ xs) i ≡ Some d)
     go true e rest = (zero, e)
     go false e rest = let w = rest e in (suc w.0, w.1)
 
 -- the first declaration of a constructor that has so many fields
-pub first_with : (c n : ℕ) (ds : List Data) → has_fields (fields_at ds c) n ≡ true → (d : Data) × (first_named c ds ≡ Some d) × (d.name ≡ c) × (d.fields ≡ n)
+pub first_with : (c n : ℕ) (ds : List Data) → has_fields (fields_at ds c) n ≡ true → (d : Data) × (first_constructor_named c ds ≡ Some d) × (d.name ≡ c) × (d.fields ≡ n)
 first_with c n [] e = absurd cc
 first_with c n (x ∷ xs) e = go (x.name == c) refl e (first_with c n xs)
   where
-    go : (b : Bool) → (x.name == c) ≡ b → has_fields (if b then Some x.fields else fields_at xs c) n ≡ true → (has_fields (fields_at xs c) n ≡ true → (d : Data) × (first_named c xs ≡ Some d) × (d.name ≡ c) × (d.fields ≡ n))
-        → (d : Data) × ((if b then Some x else first_named c xs) ≡ Some d) × (d.name ≡ c) × (d.fields ≡ n)
+    go : (b : Bool) → (x.name == c) ≡ b → has_fields (if b then Some x.fields else fields_at xs c) n ≡ true → (has_fields (fields_at xs c) n ≡ true → (d : Data) × (first_constructor_named c xs ≡ Some d) × (d.name ≡ c) × (d.fields ≡ n))
+        → (d : Data) × ((if b then Some x else first_constructor_named c xs) ≡ Some d) × (d.name ≡ c) × (d.fields ≡ n)
     go true h e rest = (x, refl, eqb-true x.name c h, eqb-true x.fields n e)
     go false h e rest = rest e

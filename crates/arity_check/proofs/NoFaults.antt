@@ -13,13 +13,13 @@ use Rattle.core_reader.specs.declared.syntax.Pattern.{Pattern}
 use Rattle.core_reader.specs.declared.syntax.Pattern.TheVariants as pattern
 use Rattle.core_reader.specs.Tree.{Term, Terms, AndTerm, Bracket, Let, Case, term, terms_of, application, bind, expr, alternative, alts_of}
 use Rattle.core_reader.proofs.TreeOf.{application_of, alternative_of, expr_of-Let, expr_of-Case}
-use Rattle.arity_check.specs.Forms.{IsKnown}
+use Rattle.arity_check.specs.Forms.{PatternIsDeclared}
 use Rattle.arity_check.specs.declared.refusal.CheckRefusal.{CheckRefusal}
 use Rattle.arity_check.specs.Scope.{Scope}
 use Rattle.arity_check.specs.Known.{Known, all_entered}
 use Rattle.arity_check.specs.Standing.{count}
 use Rattle.arity_check.specs.Pieces.{binders_of, bound_by}
-use Rattle.arity_check.specs.Faults.{Seen, seen_with, is_none, size_faults, applied_to, arity_faults, head_faults, args_faults, app_faults, members_faults, binders_faults, pattern_faults, patterns_faults, no_patterns, expr_faults, alts_faults, alt_faults}
+use Rattle.arity_check.specs.Faults.{PatternsSeen, with_pattern_seen, is_none, size_faults, applied_to, arity_faults, head_faults, args_faults, app_faults, members_faults, binders_faults, pattern_faults, patterns_faults, no_patterns, expr_faults, alts_faults, alt_faults}
 use Rattle.std.proofs.lemmas.List.{length-map}
 use Rattle.arity_check.proofs.Counts.{count_terms}
 use Rattle.arity_check.proofs.Weight.{term_weight, terms_weight, expr_weight, alts_weight}
@@ -128,20 +128,20 @@ declared : (o : Option ℕ) (at n : ℕ) → arity_faults o at n ≡ [] → o �
 declared None at n e f = cc
 declared (Some m) at n e f = cc
 
-known_pattern : (k : Known) (seen : Seen) (b : Bool) (pat : Pattern) → pattern_faults k seen b pat ≡ [] → IsKnown k pat
+known_pattern : (k : Known) (seen : PatternsSeen) (b : Bool) (pat : Pattern) → pattern_faults k seen b pat ≡ [] → PatternIsDeclared k pat
 known_pattern k seen b (pattern.Con c fields) e = declared (k.fields c.name.0) c.at (length fields) (no_front (arity_faults (k.fields c.name.0) c.at (length fields)) _ e)
 known_pattern k seen b (pattern.Int n at) e = tt
 known_pattern k seen b (pattern.Default x) e = tt
 
-front_pattern : (k : Known) (seen : Seen) (y : Alt) (ys : List Alt) → patterns_faults k seen (alts_of (map alternative (y ∷ ys))) ≡ []
-    → pattern_faults k seen (is_none (alts_of (map alternative ys))) y.pattern ++ patterns_faults k (seen_with seen y.pattern) (alts_of (map alternative ys)) ≡ []
+front_pattern : (k : Known) (seen : PatternsSeen) (y : Alt) (ys : List Alt) → patterns_faults k seen (alts_of (map alternative (y ∷ ys))) ≡ []
+    → pattern_faults k seen (is_none (alts_of (map alternative ys))) y.pattern ++ patterns_faults k (with_pattern_seen seen y.pattern) (alts_of (map alternative ys)) ≡ []
 front_pattern k seen y ys e = ap (patterns_faults k seen) (sym (alternative_of y (alts_of (map alternative ys)))) ∙ e
 
-pub pattern_sound : (k : Known) (seen : Seen) (items : List Alt) (i : ℕ) (x : Alt) → i < length items → x ≡ get_or items i x → patterns_faults k seen (alts_of (map alternative items)) ≡ [] → IsKnown k x.pattern
+pub pattern_sound : (k : Known) (seen : PatternsSeen) (items : List Alt) (i : ℕ) (x : Alt) → i < length items → x ≡ get_or items i x → patterns_faults k seen (alts_of (map alternative items)) ≡ [] → PatternIsDeclared k x.pattern
 pattern_sound k seen [] i x l is e = absurd (omega (arith, l))
 pattern_sound k seen (y ∷ ys) zero x l is e =
-    subst (λ (a : Alt). IsKnown k a.pattern) (sym is) (known_pattern k seen (is_none (alts_of (map alternative ys))) y.pattern (no_front (pattern_faults k seen (is_none (alts_of (map alternative ys))) y.pattern) _ (front_pattern k seen y ys e)))
-pattern_sound k seen (y ∷ ys) (suc i) x l is e = pattern_sound k (seen_with seen y.pattern) ys i x (omega (arith, l)) is (no_back (pattern_faults k seen (is_none (alts_of (map alternative ys))) y.pattern) _ (front_pattern k seen y ys e))
+    subst (λ (a : Alt). PatternIsDeclared k a.pattern) (sym is) (known_pattern k seen (is_none (alts_of (map alternative ys))) y.pattern (no_front (pattern_faults k seen (is_none (alts_of (map alternative ys))) y.pattern) _ (front_pattern k seen y ys e)))
+pattern_sound k seen (y ∷ ys) (suc i) x l is e = pattern_sound k (with_pattern_seen seen y.pattern) ys i x (omega (arith, l)) is (no_back (pattern_faults k seen (is_none (alts_of (map alternative ys))) y.pattern) _ (front_pattern k seen y ys e))
 
 -- ---- expressions
 

@@ -19,7 +19,7 @@ use Rattle.arity_check.specs.Pieces.{names_of, binders_of}
 use Rattle.arity_check.specs.Program as normal
 use Rattle.arity_check.specs.Normal.{IsGroup, IsNormal, PlainApp, BoundApp, Group, IsFlat, AreBranches, ConBranch, NamelessBranch, NamedBranch}
 use Rattle.arity_check.specs.Builds.{AddsFlat, AddsGroup}
-use Rattle.arity_check.specs.Forms.{NumbersGroup, EntersGroup}
+use Rattle.arity_check.specs.Forms.{GroupIsNumbered, GroupEntersScope}
 use Rattle.arity_check.proofs.Counted.{Alike, Same, alike_all}
 use Rattle.arity_check.proofs.Unique.{group_locals}
 use Rattle.arity_check.proofs.Scopes.{all_named_binds, named_binds}
@@ -59,7 +59,7 @@ module _ (p : Program) (k : Known) (e : k ≡ known_of p) where
   scope_by xs ys s = ap (λ k. all_named k (names_of xs) ys s) e ∙ all_named_binds p (names_of xs) ys s
 
   -- the locals of the binders are those that were found under other numbers
-  pub group_is : (group : List Bind) (old inner : Locals) (a b : Builder) (xs ys : List ℕ) → NumbersGroup k group old xs → inner.scope ≡ all_named k (names_of (binders_of group)) xs old.scope → inner.next ≡ old.next
+  pub group_is : (group : List Bind) (old inner : Locals) (a b : Builder) (xs ys : List ℕ) → GroupIsNumbered k group old xs → inner.scope ≡ all_named k (names_of (binders_of group)) xs old.scope → inner.next ≡ old.next
       → a.news ≡ [] → a.next ≡ inner.next → AddsGroup p inner.scope a b group ys → IsGroup p inner.scope old.next group b.news xs
   group_is group old inner a b xs ys found scope next none at f =
       let names : List ℕ = names_of (binders_of group) in
@@ -82,7 +82,7 @@ module _ (p : Program) (k : Known) (e : k ≡ known_of p) where
       let news : b.news ≡ f.added = f.adds.news ∙ ap (λ l. l ++ f.added) none in
       f.adds.next ∙ omega (arith, at, next, ap length news)
 
-  pub let_form : (group : List Bind) (body : Expr) (old inner : Locals) (bounds : List Bound) (t : normal.Term) (m : ℕ) → EntersGroup k group old inner bounds → IsNormal p inner.scope inner.next body t m → IsNormal p old.scope old.next (tree.Let group body) (normal.Let bounds t) m
+  pub let_form : (group : List Bind) (body : Expr) (old inner : Locals) (bounds : List Bound) (t : normal.Term) (m : ℕ) → GroupEntersScope k group old inner bounds → IsNormal p inner.scope inner.next body t m → IsNormal p old.scope old.next (tree.Let group body) (normal.Let bounds t) m
   let_form group body old inner bounds t m g f =
       Group inner.scope g.locals bounds (g.scope ∙ scope_by (binders_of group) g.locals old.scope ∙ ap (λ names. binds_all p names g.locals old.scope) (names_are group)) (g.is p e)
       (subst (λ n. IsNormal p inner.scope n body t m) (g.next p e) f)

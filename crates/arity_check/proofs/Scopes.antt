@@ -5,14 +5,14 @@ use Rattle.std.specs.Prelude.{◌==◌, if◌then◌else◌}
 use Rattle.core_reader.specs.declared.syntax.Binder.{Binder}
 use Rattle.core_reader.specs.Tree.{Program, Term, Terms, Name, Con, Int, Bracket, NoTerms, AndTerm, Application, Expr, App, Let, Case, Alts, Bind, NoAlts, AndAlt}
 use Rattle.arity_check.specs.Scope.{Scope, Meaning, Local, Function, Primitive, Unbound, binds, binds_all, unless_primitive}
-use Rattle.arity_check.specs.Locals.{local_in}
+use Rattle.arity_check.specs.Locals.{innermost_local}
 use Rattle.arity_check.specs.Known.{Known, is_nameless, local_meaning, meaning, named, all_named, entered, all_entered, kind_meaning}
 use Rattle.arity_check.specs.Whole.{known_of}
 use Rattle.arity_check.specs.Pieces.{names_of, binders_of, bound_by}
 use Rattle.arity_check.specs.Faults.{meaning_faults, applied_to, size_faults, head_faults, args_faults, app_faults, members_faults, binders_faults, patterns_faults, no_patterns, expr_faults, alts_faults}
 use Rattle.arity_check.proofs.Names.{nameless_named}
 use Rattle.arity_check.proofs.Counts.{left_append}
-use Rattle.seq.specs.Lists.{there_is}
+use Rattle.seq.specs.Lists.{is_present}
 
 -- ---- by the tables and by the program
 
@@ -55,32 +55,32 @@ one_named k xs ys i x y s t r l e is js h f =
 
 -- the same names are locals
 abbrev pub SameLocals : Scope → Scope → Type 0
-SameLocals s s' = (x : ℕ) → there_is (local_in s x) ≡ there_is (local_in s' x)
+SameLocals s s' = (x : ℕ) → is_present (innermost_local s x) ≡ is_present (innermost_local s' x)
 
 module _ (k : Known) where
   meaning_same : (s s' : Scope) → SameLocals s s' → (x at n : ℕ) → meaning_faults (meaning k s x) at n ≡ meaning_faults (meaning k s' x) at n
   meaning_same s s' a x at n = go (is_nameless k x) (kind_meaning (k.kind x))
     where
-      locals : (o o' : Option ℕ) → there_is o ≡ there_is o' → meaning_faults (local_meaning k x o) at n ≡ meaning_faults (local_meaning k x o') at n
+      locals : (o o' : Option ℕ) → is_present o ≡ is_present o' → meaning_faults (local_meaning k x o) at n ≡ meaning_faults (local_meaning k x o') at n
       locals None None e = refl
       locals None (Some y) e = cc
       locals (Some y) None e = cc
       locals (Some y) (Some z) e = refl
 
-      under : (m : Meaning) → meaning_faults (unless_primitive m (local_meaning k x (local_in s x))) at n ≡ meaning_faults (unless_primitive m (local_meaning k x (local_in s' x))) at n
+      under : (m : Meaning) → meaning_faults (unless_primitive m (local_meaning k x (innermost_local s x))) at n ≡ meaning_faults (unless_primitive m (local_meaning k x (innermost_local s' x))) at n
       under (Primitive op) = refl
-      under (Local y) = locals (local_in s x) (local_in s' x) (a x)
-      under (Function f j) = locals (local_in s x) (local_in s' x) (a x)
-      under Unbound = locals (local_in s x) (local_in s' x) (a x)
+      under (Local y) = locals (innermost_local s x) (innermost_local s' x) (a x)
+      under (Function f j) = locals (innermost_local s x) (innermost_local s' x) (a x)
+      under Unbound = locals (innermost_local s x) (innermost_local s' x) (a x)
 
-      go : (b : Bool) (m : Meaning) → meaning_faults (if b then Unbound else unless_primitive m (local_meaning k x (local_in s x))) at n ≡ meaning_faults (if b then Unbound else unless_primitive m (local_meaning k x (local_in s' x))) at n
+      go : (b : Bool) (m : Meaning) → meaning_faults (if b then Unbound else unless_primitive m (local_meaning k x (innermost_local s x))) at n ≡ meaning_faults (if b then Unbound else unless_primitive m (local_meaning k x (innermost_local s' x))) at n
       go true m = refl
       go false m = under m
 
   named_same : (s s' : Scope) (x y y' : ℕ) → SameLocals s s' → SameLocals (named k x y s) (named k x y' s')
   named_same s s' x y y' a = go (is_nameless k x)
     where
-      at : (q : ℕ) (b : Bool) → there_is (if b then Some y else local_in s q) ≡ there_is (if b then Some y' else local_in s' q)
+      at : (q : ℕ) (b : Bool) → is_present (if b then Some y else innermost_local s q) ≡ is_present (if b then Some y' else innermost_local s' q)
       at q true = refl
       at q false = a q
 

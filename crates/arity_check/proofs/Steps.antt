@@ -12,32 +12,32 @@ use Rattle.arity_check.specs.declared.refusal.CheckRefusal.{CheckRefusal}
 use Rattle.arity_check.specs.Scope.{Scope}
 use Rattle.arity_check.specs.Known.{Known, entered, all_entered}
 use Rattle.arity_check.specs.Tables.{kind_or_plain, or_else, first_of, second_of}
-use Rattle.arity_check.specs.Refusal.{least}
+use Rattle.arity_check.specs.Refusal.{least_refusal}
 use Rattle.core_reader.specs.declared.syntax.Binder.{Binder}
-use Rattle.arity_check.specs.Faults.{also, binder_faults, binders_faults}
+use Rattle.arity_check.specs.Faults.{with_member, binder_faults, binders_faults}
 use Rattle.arity_check.specs.Whole.{kind_of, kind_at, con_faults, cons_faults, header_faults, body_faults, functions_faults, fields_at, constructor_at}
 use Rattle.arity_check.proofs.Counts.{two}
 
 pub more_cons : (k : Known) (seen seen' : ℕ → Bool) (items : List code-data.Data) (i : ℕ) (x : code-data.Data) → i < length items → x ≡ get_or items i x
-    → (o o1 o2 : First) → seen' ≡ also x.name.0 seen → o2 ≡ least o1 (con_faults k i (λ y. seen x.name.0) (data_of x))
-    → least o1 (cons_faults k i seen (map data_of (drop i items))) ≡ o → least o2 (cons_faults k (i + 1) seen' (map data_of (drop (i + 1) items))) ≡ o
+    → (o o1 o2 : First) → seen' ≡ with_member x.name.0 seen → o2 ≡ least_refusal o1 (con_faults k i (λ y. seen x.name.0) (data_of x))
+    → least_refusal o1 (cons_faults k i seen (map data_of (drop i items))) ≡ o → least_refusal o2 (cons_faults k (i + 1) seen' (map data_of (drop (i + 1) items))) ≡ o
 more_cons k seen seen' items i x l is o o1 o2 s e h =
     let rest : List Data = map data_of (drop (i + 1) items) in
     let d : drop i items ≡ x ∷ drop (i + 1) items = drop_more items i x l ∙ ap (λ y. y ∷ drop (i + 1) items) (sym is) in
-    ap (λ t. least o2 (cons_faults k (i + 1) t rest)) s
-    ∙ two (con_faults k i seen (data_of x)) (cons_faults k (i + 1) (also x.name.0 seen) rest) o1 o2 _ e refl
-    ∙ ap (λ t. least o1 (cons_faults k i seen (map data_of t))) (sym d) ∙ h
+    ap (λ t. least_refusal o2 (cons_faults k (i + 1) t rest)) s
+    ∙ two (con_faults k i seen (data_of x)) (cons_faults k (i + 1) (with_member x.name.0 seen) rest) o1 o2 _ e refl
+    ∙ ap (λ t. least_refusal o1 (cons_faults k i seen (map data_of t))) (sym d) ∙ h
 
 pub more_functions : (k : Known) (sc : Scope) (seen seen' : ℕ → Bool) (items : List code-function.Function) (i : ℕ) (x : code-function.Function) → i < length items → x ≡ get_or items i x
-    → (o o1 o2 o3 : First) → seen' ≡ also x.name.0 seen → o2 ≡ least o1 (header_faults k i (λ y. seen x.name.0) (function x)) → o3 ≡ least o2 (body_faults k sc (function x))
-    → least o1 (functions_faults k sc i seen (map function (drop i items))) ≡ o → least o3 (functions_faults k sc (i + 1) seen' (map function (drop (i + 1) items))) ≡ o
+    → (o o1 o2 o3 : First) → seen' ≡ with_member x.name.0 seen → o2 ≡ least_refusal o1 (header_faults k i (λ y. seen x.name.0) (function x)) → o3 ≡ least_refusal o2 (body_faults k sc (function x))
+    → least_refusal o1 (functions_faults k sc i seen (map function (drop i items))) ≡ o → least_refusal o3 (functions_faults k sc (i + 1) seen' (map function (drop (i + 1) items))) ≡ o
 more_functions k sc seen seen' items i x l is o o1 o2 o3 s e g h =
     let rest : List Function = map function (drop (i + 1) items) in
     let d : drop i items ≡ x ∷ drop (i + 1) items = drop_more items i x l ∙ ap (λ y. y ∷ drop (i + 1) items) (sym is) in
-    ap (λ t. least o3 (functions_faults k sc (i + 1) t rest)) s
-    ∙ two (header_faults k i seen (function x) ++ body_faults k sc (function x)) (functions_faults k sc (i + 1) (also x.name.0 seen) rest) o1 o3 _
+    ap (λ t. least_refusal o3 (functions_faults k sc (i + 1) t rest)) s
+    ∙ two (header_faults k i seen (function x) ++ body_faults k sc (function x)) (functions_faults k sc (i + 1) (with_member x.name.0 seen) rest) o1 o3 _
     (two (header_faults k i seen (function x)) (body_faults k sc (function x)) o1 o2 o3 e g) refl
-    ∙ ap (λ t. least o1 (functions_faults k sc i seen (map function t))) (sym d) ∙ h
+    ∙ ap (λ t. least_refusal o1 (functions_faults k sc i seen (map function t))) (sym d) ∙ h
 
 pub kinds_at : (names : List (List ℕ)) (x : ℕ) → kind_or_plain (slice_get (map kind_of names) x) ≡ kind_at (slice_get names x)
 kinds_at [] x = refl
@@ -51,8 +51,8 @@ same_item (x ∷ xs) (suc i) d e l = same_item xs i d e (omega (arith, l))
 
 -- the same for an item that is read with a default
 pub more_cons_at : (k : Known) (seen seen' : ℕ → Bool) (items : List code-data.Data) (i : ℕ) (d : code-data.Data) → i < length items
-    → (o o1 o2 : First) → seen' ≡ also (get_or items i d).name.0 seen → o2 ≡ least o1 (con_faults k i (λ y. seen (get_or items i d).name.0) (data_of (get_or items i d)))
-    → least o1 (cons_faults k i seen (map data_of (drop i items))) ≡ o → least o2 (cons_faults k (i + 1) seen' (map data_of (drop (i + 1) items))) ≡ o
+    → (o o1 o2 : First) → seen' ≡ with_member (get_or items i d).name.0 seen → o2 ≡ least_refusal o1 (con_faults k i (λ y. seen (get_or items i d).name.0) (data_of (get_or items i d)))
+    → least_refusal o1 (cons_faults k i seen (map data_of (drop i items))) ≡ o → least_refusal o2 (cons_faults k (i + 1) seen' (map data_of (drop (i + 1) items))) ≡ o
 more_cons_at k seen seen' items i d l o o1 o2 s e h = more_cons k seen seen' items i (get_or items i d) l (same_item items i d (get_or items i d) l) o o1 o2 s e h
 
 pub first_con : (items : List code-data.Data) (i : ℕ) (d : code-data.Data) (o : Option (ℕ × ℕ)) (q : ℕ) (r : Option (ℕ × ℕ)) → i < length items → or_else o (constructor_at (map data_of (drop i items)) i q) ≡ r
@@ -104,13 +104,13 @@ any_here test items i d r l e h =
 
 -- one more binder of a list
 pub more_binders : (k : Known) (seen seen' : ℕ → Bool) (items : List Binder) (i : ℕ) (x : Binder) → i < length items → x ≡ get_or items i x
-    → (o o1 o2 : First) → seen' ≡ also x.name.0 seen → o2 ≡ least o1 (binder_faults k seen x)
-    → least o1 (binders_faults k seen (drop i items)) ≡ o → least o2 (binders_faults k seen' (drop (i + 1) items)) ≡ o
+    → (o o1 o2 : First) → seen' ≡ with_member x.name.0 seen → o2 ≡ least_refusal o1 (binder_faults k seen x)
+    → least_refusal o1 (binders_faults k seen (drop i items)) ≡ o → least_refusal o2 (binders_faults k seen' (drop (i + 1) items)) ≡ o
 more_binders k seen seen' items i x l is o o1 o2 s e h =
     let rest : List Binder = drop (i + 1) items in
     let d : drop i items ≡ x ∷ rest = drop_more items i x l ∙ ap (λ y. y ∷ rest) (sym is) in
-    ap (λ t. least o2 (binders_faults k t rest)) s ∙ two (binder_faults k seen x) (binders_faults k (also x.name.0 seen) rest) o1 o2 _ e refl
-    ∙ ap (λ t. least o1 (binders_faults k seen t)) (sym d) ∙ h
+    ap (λ t. least_refusal o2 (binders_faults k t rest)) s ∙ two (binder_faults k seen x) (binders_faults k (with_member x.name.0 seen) rest) o1 o2 _ e refl
+    ∙ ap (λ t. least_refusal o1 (binders_faults k seen t)) (sym d) ∙ h
 
 pub more_entered : (k : Known) (items : List Binder) (i : ℕ) (x : Binder) → i < length items → x ≡ get_or items i x
     → (s s1 s2 : Scope) → s2 ≡ entered k x s1 → all_entered k (drop i items) s1 ≡ s → all_entered k (drop (i + 1) items) s2 ≡ s

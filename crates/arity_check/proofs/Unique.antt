@@ -6,7 +6,7 @@ use Rattle.arity_check.specs.declared.normal.Bound.{Bound}
 use Rattle.arity_check.specs.Scope.{Scope, binds_all}
 use Rattle.arity_check.specs.Program as normal
 use Rattle.arity_check.specs.declared.normal.Con as constructors
-use Rattle.arity_check.specs.One.{OneNormalForm}
+use Rattle.arity_check.specs.One.{NormalFormIsUnique}
 use Rattle.arity_check.specs.Normal.{IsConstructor, IsFunction, Pairwise, bound, IsFlat, IsGroup, NoMembers, AndMember, IsNormal, PlainApp, BoundApp, Group, Choice, AreBranches, NoBranches, ConBranch, IntBranch, NamelessBranch, NamedBranch}
 use Rattle.arity_check.proofs.Single.{flat_one}
 use Rattle.arity_check.proofs.Counted.{Alike, Same, alike_all, flat_count}
@@ -101,7 +101,7 @@ module _ (p : Program) where
       let r = normal_one a.body b.body in
       λ i. record { name = n i; params = k i; body = r.0 i }
 
-pub one_normal_form : OneNormalForm
+pub one_normal_form : NormalFormIsUnique
 one_normal_form p q q' a b =
     let cs = pairwise_one (IsConstructor p) (constructor_one p) p.constructors q.cons q'.cons a.cons b.cons in
     let fs = pairwise_one (IsFunction p) (function_one p) p.functions q.funs q'.funs a.funs b.funs in

@@ -8,26 +8,26 @@ use Rattle.arity_check.specs.Normal.{IsNormalForm}
 use Rattle.arity_check.specs.Program.{Program}
 
 -- no rule is broken
-abbrev pub IsUnbroken : tree.Program → Type 0
-IsUnbroken p = (k at : ℕ) → Broken p k at → ⊥
+abbrev pub BreaksNoRule : tree.Program → Type 0
+BreaksNoRule p = (k at : ℕ) → Broken p k at → ⊥
 
 -- no rule that counts is broken
-abbrev pub IsUnbrokenBy : Ranks → tree.Program → Type 0
-IsUnbrokenBy ranks p = (k at : ℕ) → Broken p k at → HasRank (ranks k at) → ⊥
+abbrev pub BreaksNoRankedRule : Ranks → tree.Program → Type 0
+BreaksNoRankedRule ranks p = (k at : ℕ) → Broken p k at → HasRank (ranks k at) → ⊥
 
 -- rule k is broken at a place and counts, and no broken rule that counts comes before it
-pub record IsFirstBrokenBy (ranks : Ranks) (p : tree.Program) (k at : ℕ) : Type 0 where
+pub record IsFirstRankedFault (ranks : Ranks) (p : tree.Program) (k at : ℕ) : Type 0 where
   pub broken : Broken p k at
   pub counts : HasRank (ranks k at)
   pub first : (k' at' : ℕ) → Broken p k' at' → IsBeforeIfRanked (ranks k at) (ranks k' at')
 
 -- rule k is broken at a place, and no broken rule comes before it
 abbrev pub IsFirstBroken : tree.Program → (k at : ℕ) → Type 0
-IsFirstBroken = IsFirstBrokenBy all_ranked
+IsFirstBroken = IsFirstRankedFault all_ranked
 
 -- the normal form of a program that reading could give and that breaks no rule
 pub record IsValid (q : Program) : Type 0 where
   pub program : tree.Program
   pub readable : IsReadable program
-  pub unbroken : IsUnbroken program
+  pub unbroken : BreaksNoRule program
   pub normal : IsNormalForm program q

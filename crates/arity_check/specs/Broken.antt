@@ -7,19 +7,19 @@ use Rattle.core_reader.specs.Tree.{Name, Con, Application, Alts, Data, Function,
 use Rattle.core_reader.specs.Size.{program_size}
 use Rattle.arity_check.specs.Scope as scope
 use Rattle.arity_check.specs.Scope.{Scope, means, is_named, primitives}
-pub use Rattle.arity_check.specs.Standing.{count, place, Among, First, Later, Stands, AsName, AsCon, LoneHead, LoneBracket, InHead, InArgument, Contains, Whole, InItsHead, InItsArgs}
-pub use Rattle.arity_check.specs.Pieces.{Piece, AnApp, AGroup, SomeAlts, names_of, binders_of, bound_by, within, Has, TheApp, TheGroup, InMember, InBody, TheAlts, InTested, InAlts, HasAlts, InThis, InLater, InFunction, Used}
-pub use Rattle.arity_check.specs.Patterns.{alt_at, pattern_place, Differs, IsDefault, FirstKind}
+pub use Rattle.arity_check.specs.Standing.{count, place, IsTermAmong, First, Later, HeadIsApplied, AsName, AsCon, LoneHead, LoneBracket, InHead, InArgument, Contains, Whole, InItsHead, InItsArgs}
+pub use Rattle.arity_check.specs.Pieces.{FunctionPart, AnApp, AGroup, SomeAlts, names_of, binders_of, bound_by, within, Has, TheApp, TheGroup, InMember, InBody, TheAlts, InTested, InAlts, HasAlts, InThis, InLater, InFunction, StandsApplied}
+pub use Rattle.arity_check.specs.Patterns.{alt_at, pattern_place, KindsDiffer, IsDefault, IsFirstNonDefault}
 pub use Rattle.arity_check.specs.BinderLists.{Repeats, BinderList, OfFunction, OfGroup, OfPattern}
 
 -- the first declaration of a constructor
-abbrev pub first_named : ℕ → List Data → Option Data
-first_named c [] = None
-first_named c (d ∷ ds) = if d.name == c then Some d else first_named c ds
+abbrev pub first_constructor_named : ℕ → List Data → Option Data
+first_constructor_named c [] = None
+first_constructor_named c (d ∷ ds) = if d.name == c then Some d else first_constructor_named c ds
 
 module _ (p : Program) where
   abbrev pub fields_of : ℕ → Option Data
-  fields_of c = first_named c p.constructors
+  fields_of c = first_constructor_named c p.constructors
 
   -- the first declaration of the constructor of this name has this number of fields
   abbrev pub Declares : List ℕ → ℕ → Type 0
@@ -34,14 +34,14 @@ module _ (p : Program) where
     DuplicateFunction : {i j : ℕ} {f g : Function} → i < j → slice_get p.functions i ≡ Some f
         → slice_get p.functions j ≡ Some g → g.name ≡ f.name → Broken 12 g.at
     DuplicateName : {xs : List Binder} {at : ℕ} → BinderList p xs → Repeats p xs at → Broken 13 at
-    UnknownName : {t : Scope} {x at k : ℕ} → Used p t (Name x at) k
+    UnknownName : {t : Scope} {x at k : ℕ} → StandsApplied p t (Name x at) k
         → means p t x ≡ scope.Unbound → Broken 14 at
-    UnknownConstructor : {t : Scope} {c at k : ℕ} → Used p t (Con c at) k
+    UnknownConstructor : {t : Scope} {c at k : ℕ} → StandsApplied p t (Con c at) k
         → fields_of c ≡ None → Broken 14 at
     UnknownPattern : {t : Scope} {alts : Alts} {c : Binder} {fields : List Binder} (i : ℕ)
         → InFunction p t (SomeAlts alts) → alt_at alts i ≡ Some (pattern.Con c fields)
         → fields_of c.name.0 ≡ None → Broken 14 c.at
-    ConstructorArity : {t : Scope} {c at k : ℕ} {d : Data} → Used p t (Con c at) k
+    ConstructorArity : {t : Scope} {c at k : ℕ} {d : Data} → StandsApplied p t (Con c at) k
         → fields_of c ≡ Some d → k ≢ d.fields → Broken 15 at
     PatternArity : {t : Scope} {alts : Alts} {c : Binder} {fields : List Binder} {d : Data} (i : ℕ)
         → InFunction p t (SomeAlts alts) → alt_at alts i ≡ Some (pattern.Con c fields)
@@ -56,8 +56,9 @@ module _ (p : Program) where
         → InFunction p t (SomeAlts alts) → i < j → alt_at alts i ≡ Some (pattern.Int k at)
         → alt_at alts j ≡ Some (pattern.Int k at') → Broken 17 at'
     MixedAlternatives : {t : Scope} {alts : Alts} {q r : Pattern} (i j : ℕ)
-        → InFunction p t (SomeAlts alts) → FirstKind alts i q → i < j → alt_at alts j ≡ Some r
-        → Differs q r → Broken 18 (pattern_place r)
+        → InFunction p t (SomeAlts alts) → IsFirstNonDefault alts i q
+        → i < j → alt_at alts j ≡ Some r
+        → KindsDiffer q r → Broken 18 (pattern_place r)
     ReservedBinder : {xs : List Binder} {x : Binder} {q : List ℕ × _} (i n : ℕ)
         → BinderList p xs → slice_get xs i ≡ Some x → slice_get primitives n ≡ Some q
         → is_named p q.0 x.name.0 ≡ true → Broken 22 x.at
@@ -66,7 +67,7 @@ module _ (p : Program) where
         → is_named p q.0 f.name ≡ true → Broken 22 f.at
     ReservedConstructor : {d : Data} (i : ℕ) → slice_get p.constructors i ≡ Some d
         → is_named p (codes "Int") d.name ≡ true → Broken 22 d.at
-    PrimitiveArity : {t : Scope} {x at k : ℕ} {op : _} → Used p t (Name x at) k
+    PrimitiveArity : {t : Scope} {x at k : ℕ} {op : _} → StandsApplied p t (Name x at) k
         → means p t x ≡ scope.Primitive op → k ≢ 2 → Broken 23 at
     NoMain : ((i : ℕ) (f : Function) → slice_get p.functions i ≡ Some f
         → is_named p (codes "main") f.name ≡ false) → Broken 19 0

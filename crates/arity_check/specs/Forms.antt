@@ -11,13 +11,13 @@ use Rattle.arity_check.specs.Pieces.{names_of, binders_of}
 use Rattle.arity_check.specs.Normal.{IsGroup}
 
 -- the constructor of a pattern is declared
-abbrev pub IsKnown : Known → Pattern → Type 0
-IsKnown k (pattern.Con c fields) = k.fields c.name.0 ≢ None
-IsKnown k (pattern.Int n at) = Unit {0}
-IsKnown k (pattern.Default x) = Unit {0}
+abbrev pub PatternIsDeclared : Known → Pattern → Type 0
+PatternIsDeclared k (pattern.Con c fields) = k.fields c.name.0 ≢ None
+PatternIsDeclared k (pattern.Int n at) = Unit {0}
+PatternIsDeclared k (pattern.Default x) = Unit {0}
 
 -- the binders of a let group have these locals, under some numbers of them in its scope
-pub record NumbersGroup (k : Known) (group : List Bind) (locals : Locals) (xs : List ℕ)
+pub record GroupIsNumbered (k : Known) (group : List Bind) (locals : Locals) (xs : List ℕ)
     : Type 0 where
   pub others : List ℕ
   pub count : length others ≡ length group
@@ -28,7 +28,7 @@ pub record NumbersGroup (k : Known) (group : List Bind) (locals : Locals) (xs : 
       locals.next group bounds xs
 
 -- the binders of a let group entered the scope, and the members have these bindings
-pub record EntersGroup (k : Known) (group : List Bind) (old new : Locals) (bounds : List Bound)
+pub record GroupEntersScope (k : Known) (group : List Bind) (old new : Locals) (bounds : List Bound)
     : Type 0 where
   pub locals : List ℕ
   pub size : length locals ≡ length group

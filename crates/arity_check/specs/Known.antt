@@ -1,28 +1,28 @@
 -- What is known of the names of a program, outside of its functions.
 use Rattle.std.specs.Prelude.{ℕ, Bool, true, false, List, [], ◌∷◌, Option, Some, None, if◌then◌else◌}
 use Rattle.core_reader.specs.declared.syntax.Binder.{Binder}
-use Rattle.arity_check.specs.declared.globals.Kind.{Kind}
-use Rattle.arity_check.specs.declared.globals.Kind.TheVariants as kind
+use Rattle.arity_check.specs.declared.globals.NameKind.{NameKind}
+use Rattle.arity_check.specs.declared.globals.NameKind.TheVariants as kind
 use Rattle.arity_check.specs.Scope.{Scope, Meaning, Local, Function, Primitive, Unbound, unless_primitive}
-use Rattle.arity_check.specs.Locals.{local_in}
+use Rattle.arity_check.specs.Locals.{innermost_local}
 
 -- the kind of a name, the number of a function and that of its parameters, a constructor's number
 -- of fields and its number
 pub record Known : Type 0 where
-  pub kind : ℕ → Kind
+  pub kind : ℕ → NameKind
   pub function : ℕ → Option (ℕ × ℕ)
   pub fields : ℕ → Option ℕ
   pub number : ℕ → Option ℕ
 
-abbrev pub nameless_kind : Kind → Bool
+abbrev pub nameless_kind : NameKind → Bool
 nameless_kind kind.Nameless = true
 nameless_kind _ = false
 
-abbrev pub reserved_kind : Kind → Bool
+abbrev pub reserved_kind : NameKind → Bool
 reserved_kind (kind.Primitive op) = true
 reserved_kind _ = false
 
-abbrev pub kind_meaning : Kind → Meaning
+abbrev pub kind_meaning : NameKind → Meaning
 kind_meaning (kind.Primitive op) = Primitive op
 kind_meaning _ = Unbound
 
@@ -49,7 +49,7 @@ module _ (k : Known) where
   abbrev pub meaning : Scope → ℕ → Meaning
   meaning s x =
       if is_nameless x then Unbound
-      else unless_primitive (kind_meaning (k.kind x)) (local_meaning x (local_in s x))
+      else unless_primitive (kind_meaning (k.kind x)) (local_meaning x (innermost_local s x))
 
   -- a name stands for a local from here on, but `_` for none
   abbrev pub named : ℕ → ℕ → Scope → Scope

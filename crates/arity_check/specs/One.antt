@@ -7,24 +7,24 @@ use Rattle.arity_check.specs.declared.normal.Bound.{Bound}
 use Rattle.arity_check.specs.Scope.{Scope}
 use Rattle.core_reader.specs.Readable.{IsReadable}
 use Rattle.arity_check.specs.Normal.{IsFlat, IsNormalForm}
-use Rattle.arity_check.specs.Accepted.{IsUnbroken, IsFirstBroken}
+use Rattle.arity_check.specs.Accepted.{BreaksNoRule, IsFirstBroken}
 use Rattle.arity_check.specs.Program as normal
 
-abbrev pub OneFlatForm : Type 0
-OneFlatForm =
+abbrev pub FlatFormIsUnique : Type 0
+FlatFormIsUnique =
     (p : Program) (s : Scope) (n : ℕ) (head : Term) (args : Terms)
     (news news' : List Bound) (form form' : Flat) → IsFlat p s n head args news form
     → IsFlat p s n head args news' form' → (news ≡ news') × (form ≡ form')
 
-abbrev pub OneNormalForm : Type 0
-OneNormalForm =
+abbrev pub NormalFormIsUnique : Type 0
+NormalFormIsUnique =
     (p : Program) (q q' : normal.Program) → IsNormalForm p q → IsNormalForm p q' → q ≡ q'
 
-abbrev pub SomeNormalForm : Type 0
-SomeNormalForm =
-    (p : Program) → IsReadable p → IsUnbroken p → (q : normal.Program) × IsNormalForm p q
+abbrev pub NormalFormExists : Type 0
+NormalFormExists =
+    (p : Program) → IsReadable p → BreaksNoRule p → (q : normal.Program) × IsNormalForm p q
 
-abbrev pub OneRefusal : Type 0
-OneRefusal =
+abbrev pub RefusalIsUnique : Type 0
+RefusalIsUnique =
     (p : Program) (k at k' at' : ℕ) → IsFirstBroken p k at
     → IsFirstBroken p k' at' → (k ≡ k') × (at ≡ at')

@@ -43,5 +43,5 @@ counts Reserved k = k == 22
 counts Doubles k = (k == 11) || (k == 12)
 counts Unknown k = k == 14
 
-abbrev pub ranked : Order → Ranks
-ranked order k at = if counts order k then Some (rank k at) else None
+abbrev pub ranks_of_order : Order → Ranks
+ranks_of_order order k at = if counts order k then Some (rank k at) else None

@@ -16,10 +16,10 @@ pattern_place (pattern.Int k at) = at
 pattern_place (pattern.Default x) = x.at
 
 -- a constructor beside an integer
-abbrev pub Differs : Pattern → Pattern → Type 0
-Differs (pattern.Con c xs) (pattern.Int k at) = Unit {0}
-Differs (pattern.Int k at) (pattern.Con c xs) = Unit {0}
-Differs _ _ = ⊥
+abbrev pub KindsDiffer : Pattern → Pattern → Type 0
+KindsDiffer (pattern.Con c xs) (pattern.Int k at) = Unit {0}
+KindsDiffer (pattern.Int k at) (pattern.Con c xs) = Unit {0}
+KindsDiffer _ _ = ⊥
 
 abbrev pub IsDefault : Pattern → Type 0
 IsDefault (pattern.Con c xs) = ⊥
@@ -27,7 +27,7 @@ IsDefault (pattern.Int k at) = ⊥
 IsDefault (pattern.Default x) = Unit {0}
 
 -- pattern i is the first that is no default
-pub record FirstKind (alts : Alts) (i : ℕ) (q : Pattern) : Type 0 where
+pub record IsFirstNonDefault (alts : Alts) (i : ℕ) (q : Pattern) : Type 0 where
   pub here : alt_at alts i ≡ Some q
   pub plain : IsDefault q → ⊥
   pub before : (j : ℕ) (r : Pattern) → j < i → alt_at alts j ≡ Some r → IsDefault r

@@ -4,7 +4,7 @@ use Rattle.arity_check.specs.declared.refusal.CheckRefusal.{CheckRefusal}
 use Rattle.arity_check.specs.declared.refusal.CheckRefusal.TheVariants.{DuplicateConstructor, DuplicateFunction, DuplicateName, UnknownName, ConstructorArity, DefaultNotLast, DuplicateAlternative, MixedAlternatives, ReservedName, PrimitiveArity, NoMain, MainHasParameters, NoListConstructors, TooManyFunctions, TooManyConstructors, TooManyParameters, TooManyFields, CoreTooLarge, Memory}
 use Rattle.arity_check.specs.declared.order.Order.{Order}
 use Rattle.arity_check.specs.declared.order.First.{First}
-use Rattle.arity_check.specs.Order.{ranked}
+use Rattle.arity_check.specs.Order.{ranks_of_order}
 
 -- the number of the broken rule
 abbrev pub rule : CheckRefusal → ℕ
@@ -52,7 +52,7 @@ number (Memory e) = 0
 
 -- the rank of a refusal that counts
 abbrev pub rank_of : Order → CheckRefusal → Option (ℕ × ℕ × ℕ)
-rank_of order r = ranked order (rule r) (number r)
+rank_of order r = ranks_of_order order (rule r) (number r)
 
 abbrev pub before : ℕ × ℕ × ℕ → ℕ × ℕ × ℕ → Bool
 before a b =
@@ -64,18 +64,18 @@ precedes None b = false
 precedes (Some a) None = true
 precedes (Some a) (Some b) = before a b
 
-abbrev pub rank_met : Order → Option CheckRefusal → Option (ℕ × ℕ × ℕ)
-rank_met order None = None
-rank_met order (Some r) = rank_of order r
+abbrev pub rank_of_first : Order → Option CheckRefusal → Option (ℕ × ℕ × ℕ)
+rank_of_first order None = None
+rank_of_first order (Some r) = rank_of order r
 
 -- the first that was met, and one more
-unfoldable pub earlier : First → CheckRefusal → First
-earlier f r =
-    if precedes (rank_of f.order r) (rank_met f.order f.refusal)
+unfoldable pub earlier_refusal : First → CheckRefusal → First
+earlier_refusal f r =
+    if precedes (rank_of f.order r) (rank_of_first f.order f.refusal)
     then record { order = f.order; refusal = Some r }
     else f
 
 -- the first that was met, and then these
-abbrev pub least : First → List CheckRefusal → First
-least f [] = f
-least f (r ∷ rs) = least (earlier f r) rs
+abbrev pub least_refusal : First → List CheckRefusal → First
+least_refusal f [] = f
+least_refusal f (r ∷ rs) = least_refusal (earlier_refusal f r) rs

@@ -13,23 +13,23 @@ place (Int k at) = at
 place (Bracket head args at) = at
 
 -- a is one of these
-pub data Among (a : Term) : Terms → Type 0 where
-  First : {as' : Terms} → Among a (AndTerm a as')
-  Later : {b : Term} {as' : Terms} → Among a as' → Among a (AndTerm b as')
+pub data IsTermAmong (a : Term) : Terms → Type 0 where
+  First : {as' : Terms} → IsTermAmong a (AndTerm a as')
+  Later : {b : Term} {as' : Terms} → IsTermAmong a as' → IsTermAmong a (AndTerm b as')
 
 -- the head h stands with k arguments in the application of a term to arguments. A bracket round a
 -- lone head is that head, and a bracket without arguments is the application in it
-pub data Stands : Term → Terms → (h : Term) (k : ℕ) → Type 0 where
-  AsName : {x at : ℕ} {args : Terms} → Stands (Name x at) args (Name x at) (count args)
-  AsCon : {c at : ℕ} {args : Terms} → Stands (Con c at) args (Con c at) (count args)
-  LoneHead : {head h : Term} {args : Terms} {at k : ℕ} → Stands head args h k
-      → Stands (Bracket head NoTerms at) args h k
-  LoneBracket : {head a h : Term} {as' : Terms} {at k : ℕ} → Stands head (AndTerm a as') h k
-      → Stands (Bracket head (AndTerm a as') at) NoTerms h k
-  InHead : {head a b h : Term} {as' bs : Terms} {at k : ℕ} → Stands head (AndTerm a as') h k
-      → Stands (Bracket head (AndTerm a as') at) (AndTerm b bs) h k
-  InArgument : {head a h : Term} {args : Terms} {k : ℕ} → Among a args
-      → Stands a NoTerms h k → Stands head args h k
+pub data HeadIsApplied : Term → Terms → (h : Term) (k : ℕ) → Type 0 where
+  AsName : {x at : ℕ} {args : Terms} → HeadIsApplied (Name x at) args (Name x at) (count args)
+  AsCon : {c at : ℕ} {args : Terms} → HeadIsApplied (Con c at) args (Con c at) (count args)
+  LoneHead : {head h : Term} {args : Terms} {at k : ℕ} → HeadIsApplied head args h k
+      → HeadIsApplied (Bracket head NoTerms at) args h k
+  LoneBracket : {head a h : Term} {as' : Terms} {at k : ℕ} → HeadIsApplied head (AndTerm a as') h k
+      → HeadIsApplied (Bracket head (AndTerm a as') at) NoTerms h k
+  InHead : {head a b h : Term} {as' bs : Terms} {at k : ℕ} → HeadIsApplied head (AndTerm a as') h k
+      → HeadIsApplied (Bracket head (AndTerm a as') at) (AndTerm b bs) h k
+  InArgument : {head a h : Term} {args : Terms} {k : ℕ} → IsTermAmong a args
+      → HeadIsApplied a NoTerms h k → HeadIsApplied head args h k
 
 -- an application and those in its brackets
 pub data Contains : Application → Application → Type 0 where
@@ -38,5 +38,6 @@ pub data Contains : Application → Application → Type 0 where
       → app.head ≡ Bracket head args at → Contains (record { head = head; args = args }) inner
       → Contains app inner
   InItsArgs : {app inner : Application} {head : Term} {args : Terms} {at : ℕ}
-      → Among (Bracket head args at) app.args → Contains (record { head = head; args = args }) inner
+      → IsTermAmong (Bracket head args at) app.args
+      → Contains (record { head = head; args = args }) inner
       → Contains app inner

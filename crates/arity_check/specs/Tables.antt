@@ -2,12 +2,12 @@
 use Rattle.std.specs.Prelude.{ℕ, Option, Some, None, slice_get}
 use Rattle.std.specs.Ordering.{nat_cmp}
 use Rattle.std.specs.BTreeMap as tree
-use Rattle.arity_check.specs.declared.globals.Kind.{Kind}
-use Rattle.arity_check.specs.declared.globals.Kind.TheVariants.{Plain}
+use Rattle.arity_check.specs.declared.globals.NameKind.{NameKind}
+use Rattle.arity_check.specs.declared.globals.NameKind.TheVariants.{Plain}
 use Rattle.arity_check.specs.declared.globals.Globals.{Globals}
 use Rattle.arity_check.specs.Known.{Known}
 
-abbrev pub kind_or_plain : Option Kind → Kind
+abbrev pub kind_or_plain : Option NameKind → NameKind
 kind_or_plain None = Plain
 kind_or_plain (Some k) = k
 

@@ -5,31 +5,31 @@ use Rattle.std.specs.Str.{bytes_eq}
 use Rattle.core_reader.specs.Tree.{Data, Function, Program}
 use Rattle.core_reader.specs.Size.{program_size}
 use Rattle.arity_check.specs.declared.normal.PrimOp.TheVariants.{Add, Sub, Mul, Quot, Rem, Eq, Lt}
-use Rattle.arity_check.specs.declared.globals.Kind.{Kind}
-use Rattle.arity_check.specs.declared.globals.Kind.TheVariants.{Nameless, Primitive, Main, Int, Nil, Cons, Plain}
+use Rattle.arity_check.specs.declared.globals.NameKind.{NameKind}
+use Rattle.arity_check.specs.declared.globals.NameKind.TheVariants.{Nameless, Primitive, Main, Int, Nil, Cons, Plain}
 use Rattle.arity_check.specs.declared.refusal.CheckRefusal.{CheckRefusal}
 use Rattle.arity_check.specs.declared.refusal.CheckRefusal.TheVariants.{DuplicateConstructor, DuplicateFunction, ReservedName, NoMain, MainHasParameters, NoListConstructors, TooManyFunctions, TooManyConstructors, TooManyParameters, TooManyFields, CoreTooLarge}
 use Rattle.arity_check.specs.Scope.{Scope, con_number}
 use Rattle.arity_check.specs.Known.{Known, is_reserved, all_entered}
-use Rattle.arity_check.specs.Faults.{noted, also, binders_faults, expr_faults}
+use Rattle.arity_check.specs.Faults.{refusal_if, with_member, binders_faults, expr_faults}
 
 -- ---- what is known of a program's names
 
-abbrev pub kinds : List (List ℕ × Kind)
+abbrev pub kinds : List (List ℕ × NameKind)
 kinds =
     (codes "add", Primitive Add) ∷ ((codes "sub", Primitive Sub) ∷ ((codes "mul", Primitive Mul)
     ∷ ((codes "quot", Primitive Quot) ∷ ((codes "rem", Primitive Rem) ∷ ((codes "eq", Primitive Eq)
     ∷ ((codes "lt", Primitive Lt) ∷ ((codes "_", Nameless) ∷ ((codes "main", Main)
     ∷ ((codes "Int", Int) ∷ ((codes "Nil", Nil) ∷ ((codes "Cons", Cons) ∷ [])))))))))))
 
-abbrev pub kind_from : List (List ℕ × Kind) → List ℕ → Kind
+abbrev pub kind_from : List (List ℕ × NameKind) → List ℕ → NameKind
 kind_from [] text = Plain
 kind_from (q ∷ qs) text = if bytes_eq text q.0 then q.1 else kind_from qs text
 
-abbrev pub kind_of : List ℕ → Kind
+abbrev pub kind_of : List ℕ → NameKind
 kind_of text = kind_from kinds text
 
-abbrev pub kind_at : Option (List ℕ) → Kind
+abbrev pub kind_at : Option (List ℕ) → NameKind
 kind_at None = Plain
 kind_at (Some text) = kind_of text
 
@@ -60,19 +60,19 @@ known_of p = record {
 
 -- ---- the faults
 
-abbrev pub main_kind : Kind → Bool
+abbrev pub main_kind : NameKind → Bool
 main_kind Main = true
 main_kind _ = false
 
-abbrev pub int_kind : Kind → Bool
+abbrev pub int_kind : NameKind → Bool
 int_kind Int = true
 int_kind _ = false
 
-abbrev pub nil_kind : Kind → Bool
+abbrev pub nil_kind : NameKind → Bool
 nil_kind Nil = true
 nil_kind _ = false
 
-abbrev pub cons_kind : Kind → Bool
+abbrev pub cons_kind : NameKind → Bool
 cons_kind Cons = true
 cons_kind _ = false
 
@@ -85,22 +85,24 @@ module _ (k : Known) where
   -- of constructor number i, where these names were declared before it
   abbrev pub con_faults : ℕ → (ℕ → Bool) → Data → List CheckRefusal
   con_faults i seen d =
-      noted (i == 1024) (TooManyConstructors d.at)
-      ++ (noted (seen d.name) (DuplicateConstructor d.at)
-      ++ (noted (nat_lt 12 d.fields) (TooManyFields d.at)
-      ++ noted (int_kind (k.kind d.name)) (ReservedName d.at)))
+      refusal_if (i == 1024) (TooManyConstructors d.at)
+      ++ (refusal_if (seen d.name) (DuplicateConstructor d.at)
+      ++ (refusal_if (nat_lt 12 d.fields) (TooManyFields d.at)
+      ++ refusal_if (int_kind (k.kind d.name)) (ReservedName d.at)))
 
   abbrev pub cons_faults : ℕ → (ℕ → Bool) → List Data → List CheckRefusal
   cons_faults i seen [] = []
-  cons_faults i seen (d ∷ ds) = con_faults i seen d ++ cons_faults (i + 1) (also d.name seen) ds
+  cons_faults i seen (d ∷ ds) =
+      con_faults i seen d ++ cons_faults (i + 1) (with_member d.name seen) ds
 
   abbrev pub header_faults : ℕ → (ℕ → Bool) → Function → List CheckRefusal
   header_faults i seen f =
-      noted (i == 4096) (TooManyFunctions f.at)
-      ++ (noted (seen f.name) (DuplicateFunction f.at)
-      ++ (noted (nat_lt 12 (length f.params)) (TooManyParameters f.at)
-      ++ (noted (is_reserved k f.name) (ReservedName f.at)
-      ++ noted (main_kind (k.kind f.name) && nat_lt 1 (length f.params)) (MainHasParameters f.at))))
+      refusal_if (i == 4096) (TooManyFunctions f.at)
+      ++ (refusal_if (seen f.name) (DuplicateFunction f.at)
+      ++ (refusal_if (nat_lt 12 (length f.params)) (TooManyParameters f.at)
+      ++ (refusal_if (is_reserved k f.name) (ReservedName f.at)
+      ++ refusal_if (main_kind (k.kind f.name) && nat_lt 1 (length f.params))
+      (MainHasParameters f.at))))
 
   abbrev pub body_faults : Scope → Function → List CheckRefusal
   body_faults s f =
@@ -110,7 +112,7 @@ module _ (k : Known) where
   functions_faults s i seen [] = []
   functions_faults s i seen (f ∷ fs) =
       (header_faults i seen f ++ body_faults s f)
-      ++ functions_faults s (i + 1) (also f.name seen) fs
+      ++ functions_faults s (i + 1) (with_member f.name seen) fs
 
   -- the number of the first function named `main`
   abbrev pub main_at : List Function → Option ℕ
@@ -129,11 +131,12 @@ module _ (k : Known) where
 
   abbrev pub lacks_faults : List Data → List Function → List CheckRefusal
   lacks_faults ds fs =
-      noted (not (has_main fs)) NoMain ++ noted (not (has_nil ds && has_cons ds)) NoListConstructors
+      refusal_if (not (has_main fs)) NoMain
+      ++ refusal_if (not (has_nil ds && has_cons ds)) NoListConstructors
 
-abbrev pub whole_faults : Program → List CheckRefusal
-whole_faults p =
+abbrev pub program_faults : Program → List CheckRefusal
+program_faults p =
     cons_faults (known_of p) 0 (λ x. false) p.constructors
     ++ (functions_faults (known_of p) [] 0 (λ x. false) p.functions
     ++ (lacks_faults (known_of p) p.constructors p.functions
-    ++ noted (nat_lt 16384 (program_size p)) (CoreTooLarge (program_size p))))
+    ++ refusal_if (nat_lt 16384 (program_size p)) (CoreTooLarge (program_size p))))

@@ -6,7 +6,7 @@ ghost use Rattle.core_reader.specs.Tree.{program};
 ghost use Rattle.core_reader.specs.Readable.{IsReadable, ReadableData, ReadableFunction};
 ghost use Rattle.arity_check.specs.Tables.{known};
 ghost use Rattle.arity_check.specs.Whole.{known_of, functions_faults};
-ghost use Rattle.arity_check.specs.Accepted.{IsUnbroken};
+ghost use Rattle.arity_check.specs.Accepted.{BreaksNoRule};
 ghost use Rattle.arity_check.specs.First.{IsCause};
 ghost use Rattle.arity_check.specs.Normal.{Pairwise, IsConstructor, IsFunction, IsNormalForm};
 ghost use Rattle.arity_check.specs.Program.{function as fun_of, program as program_of};
@@ -59,7 +59,7 @@ fn functions(alloc: Global, globals: &Globals, core: &Core) -> Result<Seq<Fun>, 
 /// functions or constructors counts as want of memory.
 pub fn normal_form(alloc: Global, globals: &Globals, core: &Core) -> Result<Checked, AllocError>
     requires readable { IsReadable (program core.now) }
-    requires unbroken { IsUnbroken (program core.now) }
+    requires unbroken { BreaksNoRule (program core.now) }
     requires tables { known globals.now ≡ known_of (program core.now) }
     ensures { IfOk result (λ q. IsNormalForm (program core.now) (program_of q)) }
 {
@@ -78,7 +78,7 @@ pub fn normal_form(alloc: Global, globals: &Globals, core: &Core) -> Result<Chec
 /// functions or constructors counts as want of memory.
 pub fn check(alloc: Global, core: Core) -> Result<Checked, CheckRefusal>
     requires { IsReadable (program core) }
-    ensures unbroken { IfOk result (λ q. IsUnbroken (program core)) }
+    ensures unbroken { IfOk result (λ q. BreaksNoRule (program core)) }
     ensures normal { IfOk result (λ q. IsNormalForm (program core) (program_of q)) }
     ensures refused { IfErr result (λ r. IsCause (program core) r) }
 {

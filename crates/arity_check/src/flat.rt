@@ -7,10 +7,10 @@ ghost use Rattle.arity_check.specs.Whole.{known_of};
 ghost use Rattle.arity_check.specs.Tables.{known};
 ghost use Rattle.arity_check.specs.Faults.{meaning_faults, head_faults, args_faults, members_faults};
 ghost use Rattle.arity_check.specs.Normal.{bound, itself, itself_as};
-ghost use Rattle.arity_check.specs.Builds.{Adds, AddsFlat, AddsArgs, AddsArg, AddsApplied, AddsNamed, AddsGroup};
+ghost use Rattle.arity_check.specs.Builds.{AddsBindings, AddsFlat, AddsArgs, AddsArg, AddsApplied, AddsNamed, AddsGroup};
 
 use crate::globals::Globals;
-use crate::meaning::{Meaning, stands_for};
+use crate::meaning::{Meaning, meaning_of_name};
 use crate::normal::{Bound, Flat, Var};
 use crate::scope::Scope;
 use core_reader::{Atom, Bind};
@@ -48,7 +48,7 @@ fn find_itself(globals: &Globals, scope: &Scope, atom: &Atom) -> Option<Var>
         ≡ itself p scope.now (term atom.now) }
 {
     match atom {
-        Atom::Name(name, _) => variable(stands_for(globals, scope, *name)),
+        Atom::Name(name, _) => variable(meaning_of_name(globals, scope, *name)),
         Atom::Bracket(app, _) => {
             if app.args.is_empty() {
                 find_itself(globals, scope, &app.head)
@@ -75,7 +75,7 @@ impl Builder {
     /// A new binding of a form, with its local.
     fn bind(&mut self, flat: Flat) -> Result<u32, AllocError>
         ensures local { IfOk result (λ t. t ≡ self.old.next) }
-        ensures adds { IfOk result (λ t. Adds self.old self.new (bound t flat ∷ [])) }
+        ensures adds { IfOk result (λ t. AddsBindings self.old self.new (bound t flat ∷ [])) }
     {
         let local = self.next;
         let Some(next) = local.checked_add(1) else {
@@ -181,7 +181,7 @@ impl Builder {
                 Ok(Flat::Con(number, vars))
             }
             Atom::Name(name, _) => {
-                let stands = stands_for(globals, scope, *name);
+                let stands = meaning_of_name(globals, scope, *name);
                 self.named(alloc, globals, scope, stands, args)
             }
             Atom::Bracket(app, _) => {

@@ -10,7 +10,7 @@ ghost use Rattle.arity_check.specs.Tables.{known};
 ghost use Rattle.arity_check.specs.Pieces.{names_of, binders_of};
 ghost use Rattle.arity_check.specs.Faults.{app_faults, members_faults, expr_faults, alt_faults};
 ghost use Rattle.arity_check.specs.Normal.{IsNormal, AreBranches, IsFunction};
-ghost use Rattle.arity_check.specs.Forms.{IsKnown, EntersGroup, NumbersGroup};
+ghost use Rattle.arity_check.specs.Forms.{PatternIsDeclared, GroupEntersScope, GroupIsNumbered};
 
 use crate::flat::Builder;
 use crate::globals::Globals;
@@ -157,7 +157,7 @@ impl Locals {
         ensures scope { IfOk result (λ _. self.new.scope ≡ self.old.scope) }
         ensures next { IfOk result (λ _. self.new.next ≡ self.old.next) }
         ensures locals { IfOk result (λ xs.
-            NumbersGroup (known globals.now) (map bind group.now) self.old xs) }
+            GroupIsNumbered (known globals.now) (map bind group.now) self.old xs) }
     {
         let depth = self.scope.len();
         let provisional = numbers_from(alloc, self.next, binders.len())?;
@@ -179,7 +179,7 @@ impl Locals {
             (all_entered (known globals.now) (binders_of (map bind group.now)) self.old.scope)
             (map bind group.now) ≡ [] }
         ensures { IfOk result (λ bounds.
-            EntersGroup (known globals.now) (map bind group.now) self.old self.new bounds) }
+            GroupEntersScope (known globals.now) (map bind group.now) self.old self.new bounds) }
     {
         let binders = binders(alloc, group)?;
         let locals = self.group_locals(alloc, globals, binders.as_slice(), group)?;
@@ -229,7 +229,7 @@ impl Locals {
     /// The branch of an alternative.
     #[cycle(body)]
     fn branch(&mut self, alloc: Global, globals: &Globals, alt: &Alt) -> Result<Branch, AllocError>
-        requires pattern { IsKnown (known globals.now) alt.now.pattern }
+        requires pattern { PatternIsDeclared (known globals.now) alt.now.pattern }
         requires alt { alt_faults (known globals.now) self.old.scope alt.now.pattern
             (expr_of alt.now.body) ≡ [] }
         ensures scope { IfOk result (λ _. self.new.scope ≡ self.old.scope) }

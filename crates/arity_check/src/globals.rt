@@ -17,7 +17,7 @@ use std::collections::BTreeMap;
 
 /// What is special about the text of a name.
 #[derive(Clone, Copy, Debug)]
-pub enum Kind {
+pub enum NameKind {
     Nameless,
     Primitive(PrimOp),
     Main,
@@ -31,19 +31,19 @@ pub enum Kind {
 /// constructor its number and its number of fields.
 #[derive(Drop)]
 pub struct Globals {
-    pub kinds: Vec<Kind>,
+    pub kinds: Vec<NameKind>,
     pub functions: BTreeMap<u32, (u32, usize)>,
     pub constructors: BTreeMap<u32, (u32, u32)>,
 }
 
 impl Globals {
     /// The kind of a name.
-    pub fn kind(&self, name: NameId) -> Kind
+    pub fn kind(&self, name: NameId) -> NameKind
         ensures { result ≡ (known self.now).kind name.0 }
     {
         match self.kinds.get(name.0 as usize) {
             Some(kind) => *kind,
-            None => Kind::Plain,
+            None => NameKind::Plain,
         }
     }
 
@@ -52,7 +52,7 @@ impl Globals {
         ensures { result ≡ is_nameless (known self.now) name.0 }
     {
         match self.kind(name) {
-            Kind::Nameless => true,
+            NameKind::Nameless => true,
             _ => false,
         }
     }
@@ -62,7 +62,7 @@ impl Globals {
         ensures { result ≡ is_reserved (known self.now) name.0 }
     {
         match self.kind(name) {
-            Kind::Primitive(_) => true,
+            NameKind::Primitive(_) => true,
             _ => false,
         }
     }
@@ -98,7 +98,7 @@ impl Globals {
         ensures { result ≡ main_kind ((known self.now).kind name.0) }
     {
         match self.kind(name) {
-            Kind::Main => true,
+            NameKind::Main => true,
             _ => false,
         }
     }
@@ -108,7 +108,7 @@ impl Globals {
         ensures { result ≡ int_kind ((known self.now).kind name.0) }
     {
         match self.kind(name) {
-            Kind::Int => true,
+            NameKind::Int => true,
             _ => false,
         }
     }
@@ -118,7 +118,7 @@ impl Globals {
         ensures { result ≡ nil_kind ((known self.now).kind name.0) }
     {
         match self.kind(name) {
-            Kind::Nil => true,
+            NameKind::Nil => true,
             _ => false,
         }
     }
@@ -128,7 +128,7 @@ impl Globals {
         ensures { result ≡ cons_kind ((known self.now).kind name.0) }
     {
         match self.kind(name) {
-            Kind::Cons => true,
+            NameKind::Cons => true,
             _ => false,
         }
     }
@@ -146,28 +146,28 @@ impl Globals {
 }
 
 /// The kind of a text.
-fn kind_of(text: &[u8]) -> Kind
+fn kind_of(text: &[u8]) -> NameKind
     ensures { result ≡ kind_of text.now }
 {
     match text {
-        b"add" => Kind::Primitive(PrimOp::Add),
-        b"sub" => Kind::Primitive(PrimOp::Sub),
-        b"mul" => Kind::Primitive(PrimOp::Mul),
-        b"quot" => Kind::Primitive(PrimOp::Quot),
-        b"rem" => Kind::Primitive(PrimOp::Rem),
-        b"eq" => Kind::Primitive(PrimOp::Eq),
-        b"lt" => Kind::Primitive(PrimOp::Lt),
-        b"_" => Kind::Nameless,
-        b"main" => Kind::Main,
-        b"Int" => Kind::Int,
-        b"Nil" => Kind::Nil,
-        b"Cons" => Kind::Cons,
-        _ => Kind::Plain,
+        b"add" => NameKind::Primitive(PrimOp::Add),
+        b"sub" => NameKind::Primitive(PrimOp::Sub),
+        b"mul" => NameKind::Primitive(PrimOp::Mul),
+        b"quot" => NameKind::Primitive(PrimOp::Quot),
+        b"rem" => NameKind::Primitive(PrimOp::Rem),
+        b"eq" => NameKind::Primitive(PrimOp::Eq),
+        b"lt" => NameKind::Primitive(PrimOp::Lt),
+        b"_" => NameKind::Nameless,
+        b"main" => NameKind::Main,
+        b"Int" => NameKind::Int,
+        b"Nil" => NameKind::Nil,
+        b"Cons" => NameKind::Cons,
+        _ => NameKind::Plain,
     }
 }
 
 /// The kind of each name.
-fn kinds(alloc: Global, names: &[Seq<u8>]) -> Result<Vec<Kind>, AllocError>
+fn kinds(alloc: Global, names: &[Seq<u8>]) -> Result<Vec<NameKind>, AllocError>
     ensures { IfOk result (λ v. v.items ≡ map kind_of names.now) }
 {
     let mut kinds = Vec::new(alloc);

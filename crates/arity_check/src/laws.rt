@@ -1,7 +1,7 @@
 //! Laws of the normal form.
 
 ghost use Rattle.arity_check.specs.Numbered.{NewBindingsAreNumbered};
-ghost use Rattle.arity_check.specs.One.{OneFlatForm, OneNormalForm, SomeNormalForm, OneRefusal};
+ghost use Rattle.arity_check.specs.One.{FlatFormIsUnique, NormalFormIsUnique, NormalFormExists, RefusalIsUnique};
 
 /// The new bindings of an application are numbered in order.
 pub fn new_bindings_are_numbered()
@@ -9,21 +9,21 @@ pub fn new_bindings_are_numbered()
 {}
 
 /// An application has one flat form.
-pub fn one_flat_form()
-    ensures { OneFlatForm }
+pub fn flat_form_is_unique()
+    ensures { FlatFormIsUnique }
 {}
 
 /// A program that breaks no rule has a normal form.
-pub fn some_normal_form()
-    ensures { SomeNormalForm }
+pub fn normal_form_exists()
+    ensures { NormalFormExists }
 {}
 
 /// A program has one normal form at most.
-pub fn one_normal_form()
-    ensures { OneNormalForm }
+pub fn normal_form_is_unique()
+    ensures { NormalFormIsUnique }
 {}
 
 /// One broken rule at one place is the first, and so refusals exclude one another.
-pub fn one_refusal()
-    ensures { OneRefusal }
+pub fn refusal_is_unique()
+    ensures { RefusalIsUnique }
 {}

@@ -2,10 +2,10 @@
 
 ghost use Rattle.std.specs.Prelude.{◌≡◌};
 ghost use Rattle.arity_check.specs.Known.{meaning, local_meaning};
-ghost use Rattle.arity_check.specs.Locals.{local_in};
+ghost use Rattle.arity_check.specs.Locals.{innermost_local};
 ghost use Rattle.arity_check.specs.Tables.{known};
 
-use crate::globals::{Globals, Kind};
+use crate::globals::{Globals, NameKind};
 use crate::normal::PrimOp;
 use crate::scope::Scope;
 use core_reader::NameId;
@@ -22,12 +22,12 @@ pub enum Meaning {
 
 /// What a name stands for where these locals are in scope. A primitive's name stands for the
 /// primitive everywhere, and `_` for nothing.
-pub fn stands_for(globals: &Globals, scope: &Scope, name: NameId) -> Meaning
+pub fn meaning_of_name(globals: &Globals, scope: &Scope, name: NameId) -> Meaning
     ensures { result ≡ meaning (known globals.now) scope.now name.0 }
 {
     match globals.kind(name) {
-        Kind::Nameless => Meaning::Unbound,
-        Kind::Primitive(op) => Meaning::Primitive(op),
+        NameKind::Nameless => Meaning::Unbound,
+        NameKind::Primitive(op) => Meaning::Primitive(op),
         _ => local_or_global(globals, scope, name),
     }
 }
@@ -35,7 +35,7 @@ pub fn stands_for(globals: &Globals, scope: &Scope, name: NameId) -> Meaning
 /// What a name other than `_` and those of the primitives stands for: the innermost local, and else
 /// a function.
 fn local_or_global(globals: &Globals, scope: &Scope, name: NameId) -> Meaning
-    ensures { result ≡ local_meaning (known globals.now) name.0 (local_in scope.now name.0) }
+    ensures { result ≡ local_meaning (known globals.now) name.0 (innermost_local scope.now name.0) }
 {
     match scope.find(name.0) {
         Some(local) => Meaning::Local(local),

@@ -2,7 +2,7 @@
 
 ghost use Rattle.std.specs.Prelude.{◌≡◌};
 ghost use Rattle.arity_check.specs.Order.{counts};
-ghost use Rattle.arity_check.specs.Refusal.{rank_of, rank_met, before, precedes, earlier};
+ghost use Rattle.arity_check.specs.Refusal.{rank_of, rank_of_first, before, precedes, earlier_refusal};
 
 use crate::refusal::CheckRefusal;
 
@@ -83,7 +83,7 @@ pub struct First {
 impl First {
     /// The rank of the refusal.
     fn rank(&self) -> Option<(u64, u64, u64)>
-        ensures { result ≡ rank_met self.now.order self.now.refusal }
+        ensures { result ≡ rank_of_first self.now.order self.now.refusal }
     {
         match &self.refusal {
             None => None,
@@ -92,9 +92,9 @@ impl First {
     }
 
     /// Notes a refusal.
-    #[tactic(auto, unfolding(crate::specs::Refusal::earlier))]
+    #[tactic(auto, unfolding(crate::specs::Refusal::earlier_refusal))]
     pub fn note(&mut self, refusal: CheckRefusal)
-        ensures { self.new ≡ earlier self.old refusal }
+        ensures { self.new ≡ earlier_refusal self.old refusal }
     {
         if precedes(self.order.rank(&refusal), self.rank()) {
             self.refusal = Some(refusal);

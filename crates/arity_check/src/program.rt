@@ -7,9 +7,9 @@ ghost use Rattle.core_reader.specs.Tree.{data_of, function as function_of, progr
 ghost use Rattle.core_reader.specs.Size.{program_size};
 ghost use Rattle.arity_check.specs.Tables.{known};
 ghost use Rattle.arity_check.specs.declared.refusal.CheckRefusal.TheVariants.{CoreTooLarge};
-ghost use Rattle.arity_check.specs.Order.{counts, ranked};
-ghost use Rattle.arity_check.specs.Refusal.{least};
-ghost use Rattle.arity_check.specs.Faults.{noted};
+ghost use Rattle.arity_check.specs.Order.{counts, ranks_of_order};
+ghost use Rattle.arity_check.specs.Refusal.{least_refusal};
+ghost use Rattle.arity_check.specs.Faults.{refusal_if};
 ghost use Rattle.arity_check.specs.First.{IsFirstRefusal};
 ghost use Rattle.arity_check.specs.Whole.{known_of, con_faults, cons_faults, header_faults, body_faults, functions_faults, main_at, has_main, has_fields, has_nil, has_cons, lacks_faults};
 
@@ -17,7 +17,7 @@ use crate::globals::Globals;
 use crate::order::{First, Order};
 use crate::refusal::CheckRefusal;
 use crate::scope::Scope;
-use crate::walk::{Walk, see};
+use crate::walk::{Walk, add_seen};
 use core_reader::{Core, Data, Function, NameId, size};
 use std::alloc::{AllocError, Global};
 use std::collections::BTreeSet;
@@ -26,7 +26,7 @@ use std::collections::BTreeSet;
 fn check_constructor(walk: &mut Walk, globals: &Globals, number: usize, is_again: bool, con: &Data)
     ensures scope { walk.new.scope ≡ walk.old.scope }
     ensures first { walk.new.first
-        ≡ least walk.old.first
+        ≡ least_refusal walk.old.first
         (con_faults (known globals.now) number (λ x. is_again) (data_of con.now)) }
 {
     walk.note_where(number == 1024, CheckRefusal::TooManyConstructors(con.at));
@@ -44,12 +44,12 @@ fn check_constructors(
 ) -> Result<(), AllocError>
     ensures scope { IfOk result (λ _. walk.new.scope ≡ walk.old.scope) }
     ensures first { IfOk result (λ _. walk.new.first
-        ≡ least walk.old.first
+        ≡ least_refusal walk.old.first
         (cons_faults (known globals.now) 0 (λ x. false) (map data_of constructors.now))) }
 {
     let mut seen = BTreeSet::new(alloc);
     for (i, con) in constructors.iter().enumerate() {
-        let is_new = see(&mut seen, con.name.0)?;
+        let is_new = add_seen(&mut seen, con.name.0)?;
         check_constructor(walk, globals, i, !is_new, con);
     }
     Ok(())
@@ -65,7 +65,7 @@ fn check_header(
 )
     ensures scope { walk.new.scope ≡ walk.old.scope }
     ensures first { walk.new.first
-        ≡ least walk.old.first
+        ≡ least_refusal walk.old.first
         (header_faults (known globals.now) number (λ x. is_again) (function_of function.now)) }
 {
     let params = function.params.as_slice().len();
@@ -92,7 +92,7 @@ fn check_body(
 ) -> Result<(), AllocError>
     ensures scope { IfOk result (λ _. walk.new.scope ≡ walk.old.scope) }
     ensures first { IfOk result (λ _. walk.new.first
-        ≡ least walk.old.first
+        ≡ least_refusal walk.old.first
         (body_faults (known globals.now) walk.old.scope (function_of function.now))) }
 {
     let depth = walk.scope.len();
@@ -111,13 +111,13 @@ fn check_functions(
 ) -> Result<(), AllocError>
     ensures scope { IfOk result (λ _. walk.new.scope ≡ walk.old.scope) }
     ensures first { IfOk result (λ _. walk.new.first
-        ≡ least walk.old.first
+        ≡ least_refusal walk.old.first
         (functions_faults (known globals.now) walk.old.scope 0 (λ x. false)
         (map function_of functions.now))) }
 {
     let mut seen = BTreeSet::new(alloc);
     for (i, function) in functions.iter().enumerate() {
-        let is_new = see(&mut seen, function.name.0)?;
+        let is_new = add_seen(&mut seen, function.name.0)?;
         check_header(walk, globals, i, !is_new, function);
         check_body(walk, alloc, globals, function)?;
     }
@@ -181,7 +181,7 @@ fn has_cons(globals: &Globals, constructors: &[Data]) -> bool
 fn check_declared(walk: &mut Walk, globals: &Globals, core: &Core)
     ensures scope { walk.new.scope ≡ walk.old.scope }
     ensures first { walk.new.first
-        ≡ least walk.old.first
+        ≡ least_refusal walk.old.first
         (lacks_faults (known globals.now) (program core.now).constructors
         (program core.now).functions) }
 {
@@ -196,8 +196,8 @@ fn check_declared(walk: &mut Walk, globals: &Globals, core: &Core)
 fn check_size(walk: &mut Walk, core: &Core)
     requires { counts walk.now.first.order 35 ≡ true → program_size (program core.now) < 2 ^ 64 }
     ensures { walk.new.first
-        ≡ least walk.old.first
-        (noted (nat_lt 16384 (program_size (program core.now)))
+        ≡ least_refusal walk.old.first
+        (refusal_if (nat_lt 16384 (program_size (program core.now)))
         (CoreTooLarge (program_size (program core.now)))) }
 {
     if walk.first.order.counts(35) {
@@ -215,7 +215,7 @@ pub fn first_refusal(
 ) -> Result<Option<CheckRefusal>, AllocError>
     requires size { counts order 35 ≡ true → program_size (program core.now) < 2 ^ 64 }
     requires tables { known globals.now ≡ known_of (program core.now) }
-    ensures { IfOk result (λ first. IsFirstRefusal (ranked order) (program core.now) first) }
+    ensures { IfOk result (λ first. IsFirstRefusal (ranks_of_order order) (program core.now) first) }
 {
     let mut walk = Walk {
         scope: Scope::new(alloc),

@@ -8,12 +8,12 @@ ghost use Rattle.arity_check.specs.Standing.{place};
 ghost use Rattle.arity_check.specs.Pieces.{binders_of, bound_by};
 ghost use Rattle.arity_check.specs.Known.{meaning, entered, all_entered};
 ghost use Rattle.arity_check.specs.Tables.{known};
-ghost use Rattle.arity_check.specs.SeenOf.{seen_of};
-ghost use Rattle.arity_check.specs.Refusal.{earlier, least};
-ghost use Rattle.arity_check.specs.Faults.{noted, meaning_faults, arity_faults, head_faults, app_faults, also, binder_faults, binders_faults, members_faults, mixed, first_kind, seen_with, no_patterns, int_faults, pattern_faults, patterns_faults, expr_faults, alt_faults};
+ghost use Rattle.arity_check.specs.SeenOf.{patterns_seen_of};
+ghost use Rattle.arity_check.specs.Refusal.{earlier_refusal, least_refusal};
+ghost use Rattle.arity_check.specs.Faults.{refusal_if, meaning_faults, arity_faults, head_faults, app_faults, with_member, binder_faults, binders_faults, members_faults, mixes_kinds, first_kind, with_pattern_seen, no_patterns, int_faults, pattern_faults, patterns_faults, expr_faults, alt_faults};
 
 use crate::globals::Globals;
-use crate::meaning::{Meaning, stands_for};
+use crate::meaning::{Meaning, meaning_of_name};
 use crate::order::First;
 use crate::refusal::CheckRefusal;
 use crate::scope::Scope;
@@ -40,7 +40,7 @@ struct SeenPatterns {
 
 /// Whether a pattern's kind differs from that of the first one.
 fn is_mixed(first: Option<bool>, is_con: bool) -> bool
-    ensures { result ≡ mixed first is_con }
+    ensures { result ≡ mixes_kinds first is_con }
 {
     match first {
         None => false,
@@ -67,10 +67,10 @@ fn applied_to(own: usize, outer: usize) -> usize
 }
 
 /// Adds a name to those that were seen, and says whether it is new.
-pub fn see(seen: &mut BTreeSet<u32>, name: u32) -> Result<bool, AllocError>
+pub fn add_seen(seen: &mut BTreeSet<u32>, name: u32) -> Result<bool, AllocError>
     ensures added { IfOk result (λ is_new. is_new ≡ not (contains nat_cmp seen.old name)) }
     ensures seen { IfOk result (λ _. contains nat_cmp seen.new
-        ≡ also name (contains nat_cmp seen.old)) }
+        ≡ with_member name (contains nat_cmp seen.old)) }
 {
     Ok(seen.insert(name)?)
 }
@@ -88,7 +88,7 @@ impl Walk {
     /// Notes a refusal.
     fn note(&mut self, refusal: CheckRefusal)
         ensures scope { self.new.scope ≡ self.old.scope }
-        ensures first { self.new.first ≡ earlier self.old.first refusal }
+        ensures first { self.new.first ≡ earlier_refusal self.old.first refusal }
     {
         self.first.note(refusal);
     }
@@ -96,7 +96,7 @@ impl Walk {
     /// Notes a refusal where a rule is broken.
     pub fn note_where(&mut self, is_broken: bool, refusal: CheckRefusal)
         ensures scope { self.new.scope ≡ self.old.scope }
-        ensures first { self.new.first ≡ least self.old.first (noted is_broken refusal) }
+        ensures first { self.new.first ≡ least_refusal self.old.first (refusal_if is_broken refusal) }
     {
         if is_broken {
             self.note(refusal);
@@ -107,10 +107,10 @@ impl Walk {
     fn name(&mut self, globals: &Globals, name: NameId, at: u32, count: usize)
         ensures scope { self.new.scope ≡ self.old.scope }
         ensures first { self.new.first
-            ≡ least self.old.first
+            ≡ least_refusal self.old.first
             (meaning_faults (meaning (known globals.now) self.old.scope name.0) at count) }
     {
-        match stands_for(globals, &self.scope, name) {
+        match meaning_of_name(globals, &self.scope, name) {
             Meaning::Local(_) | Meaning::Function(_, _) => {}
             Meaning::Primitive(_) => self.note_where(count != 2, CheckRefusal::PrimitiveArity(at)),
             Meaning::Unbound => self.note(CheckRefusal::UnknownName(at)),
@@ -121,7 +121,7 @@ impl Walk {
     fn constructor(&mut self, globals: &Globals, name: NameId, at: u32, count: usize)
         ensures scope { self.new.scope ≡ self.old.scope }
         ensures first { self.new.first
-            ≡ least self.old.first (arity_faults ((known globals.now).fields name.0) at count) }
+            ≡ least_refusal self.old.first (arity_faults ((known globals.now).fields name.0) at count) }
     {
         match globals.fields(name) {
             Some(fields) => {
@@ -136,7 +136,7 @@ impl Walk {
     fn head(&mut self, globals: &Globals, atom: &Atom, count: usize)
         ensures scope { self.new.scope ≡ self.old.scope }
         ensures first { self.new.first
-            ≡ least self.old.first
+            ≡ least_refusal self.old.first
             (head_faults (known globals.now) self.old.scope count (term atom.now)) }
     {
         match atom {
@@ -153,7 +153,7 @@ impl Walk {
     fn app(&mut self, globals: &Globals, app: &App, count: usize)
         ensures scope { self.new.scope ≡ self.old.scope }
         ensures first { self.new.first
-            ≡ least self.old.first
+            ≡ least_refusal self.old.first
             (app_faults (known globals.now) self.old.scope count (application app.now)) }
     {
         let own = app.args.as_slice().len();
@@ -172,16 +172,16 @@ impl Walk {
         binder: &Binder,
     ) -> Result<(), AllocError>
         ensures seen { IfOk result (λ _. contains nat_cmp seen.new
-            ≡ also binder.now.name.0 (contains nat_cmp seen.old)) }
+            ≡ with_member binder.now.name.0 (contains nat_cmp seen.old)) }
         ensures scope { IfOk result (λ _. self.new.scope
             ≡ entered (known globals.now) binder.now self.old.scope) }
         ensures first { IfOk result (λ _. self.new.first
-            ≡ least self.old.first
+            ≡ least_refusal self.old.first
             (binder_faults (known globals.now) (contains nat_cmp seen.old) binder.now)) }
     {
         let name = binder.name;
         let is_nameless = globals.is_nameless(name);
-        let is_new = see(seen, name.0)?;
+        let is_new = add_seen(seen, name.0)?;
         self.note_where(
             globals.is_reserved(name),
             CheckRefusal::ReservedName(binder.at),
@@ -207,7 +207,7 @@ impl Walk {
         ensures scope { IfOk result (λ _. self.new.scope
             ≡ all_entered (known globals.now) binders.now self.old.scope) }
         ensures first { IfOk result (λ _. self.new.first
-            ≡ least self.old.first (binders_faults (known globals.now) (λ x. false) binders.now)) }
+            ≡ least_refusal self.old.first (binders_faults (known globals.now) (λ x. false) binders.now)) }
     {
         let mut seen = BTreeSet::new(alloc);
         for binder in binders {
@@ -222,7 +222,7 @@ impl Walk {
         ensures scope { IfOk result (λ _. self.new.scope
             ≡ all_entered (known globals.now) (binders_of (map bind group.now)) self.old.scope) }
         ensures first { IfOk result (λ _. self.new.first
-            ≡ least self.old.first
+            ≡ least_refusal self.old.first
             (binders_faults (known globals.now) (λ x. false) (binders_of (map bind group.now)))) }
     {
         let mut seen = BTreeSet::new(alloc);
@@ -237,7 +237,7 @@ impl Walk {
     fn members(&mut self, globals: &Globals, group: &[Bind])
         ensures scope { self.new.scope ≡ self.old.scope }
         ensures first { self.new.first
-            ≡ least self.old.first
+            ≡ least_refusal self.old.first
             (members_faults (known globals.now) self.old.scope (map bind group.now)) }
     {
         for member in group {
@@ -253,12 +253,12 @@ impl Walk {
         con: &Binder,
         fields: &[Binder],
     ) -> Result<(), AllocError>
-        ensures seen { IfOk result (λ _. seen_of seen.new
-            ≡ seen_with (seen_of seen.old) (Pattern.Con con.now fields.now)) }
+        ensures seen { IfOk result (λ _. patterns_seen_of seen.new
+            ≡ with_pattern_seen (patterns_seen_of seen.old) (Pattern.Con con.now fields.now)) }
         ensures scope { IfOk result (λ _. self.new.scope ≡ self.old.scope) }
         ensures first { IfOk result (λ _. self.new.first
-            ≡ least self.old.first
-            (pattern_faults (known globals.now) (seen_of seen.old) true
+            ≡ least_refusal self.old.first
+            (pattern_faults (known globals.now) (patterns_seen_of seen.old) true
             (Pattern.Con con.now fields.now))) }
     {
         let at = con.at;
@@ -280,11 +280,11 @@ impl Walk {
         number: i32,
         at: u32,
     ) -> Result<(), AllocError>
-        ensures seen { IfOk result (λ _. seen_of seen.new
-            ≡ seen_with (seen_of seen.old) (Pattern.Int number at)) }
+        ensures seen { IfOk result (λ _. patterns_seen_of seen.new
+            ≡ with_pattern_seen (patterns_seen_of seen.old) (Pattern.Int number at)) }
         ensures scope { IfOk result (λ _. self.new.scope ≡ self.old.scope) }
         ensures first { IfOk result (λ _. self.new.first
-            ≡ least self.old.first (int_faults (seen_of seen.old) number at)) }
+            ≡ least_refusal self.old.first (int_faults (patterns_seen_of seen.old) number at)) }
     {
         let is_new = seen.ints.insert(number)?;
         self.note_where(!is_new, CheckRefusal::DuplicateAlternative(at));
@@ -304,12 +304,12 @@ impl Walk {
         is_last: bool,
         pattern: &Pattern,
     ) -> Result<(), AllocError>
-        ensures seen { IfOk result (λ _. seen_of seen.new
-            ≡ seen_with (seen_of seen.old) pattern.now) }
+        ensures seen { IfOk result (λ _. patterns_seen_of seen.new
+            ≡ with_pattern_seen (patterns_seen_of seen.old) pattern.now) }
         ensures scope { IfOk result (λ _. self.new.scope ≡ self.old.scope) }
         ensures first { IfOk result (λ _. self.new.first
-            ≡ least self.old.first
-            (pattern_faults (known globals.now) (seen_of seen.old) is_last pattern.now)) }
+            ≡ least_refusal self.old.first
+            (pattern_faults (known globals.now) (patterns_seen_of seen.old) is_last pattern.now)) }
     {
         match pattern {
             Pattern::Con(con, fields) => self.con_pattern(globals, seen, con, fields.as_slice()),
@@ -325,7 +325,7 @@ impl Walk {
     fn patterns(&mut self, alloc: Global, globals: &Globals, alts: &[Alt]) -> Result<(), AllocError>
         ensures scope { IfOk result (λ _. self.new.scope ≡ self.old.scope) }
         ensures first { IfOk result (λ _. self.new.first
-            ≡ least self.old.first
+            ≡ least_refusal self.old.first
             (patterns_faults (known globals.now) no_patterns
             (alts_of (map alternative alts.now)))) }
     {
@@ -350,7 +350,7 @@ impl Walk {
         ensures scope { IfOk result (λ _. self.new.scope
             ≡ all_entered (known globals.now) (bound_by pattern.now) self.old.scope) }
         ensures first { IfOk result (λ _. self.new.first
-            ≡ least self.old.first
+            ≡ least_refusal self.old.first
             (binders_faults (known globals.now) (λ x. false) (bound_by pattern.now))) }
     {
         match pattern {
@@ -368,7 +368,7 @@ impl Walk {
     pub fn expr(&mut self, alloc: Global, globals: &Globals, expr: &Expr) -> Result<(), AllocError>
         ensures scope { IfOk result (λ _. self.new.scope ≡ self.old.scope) }
         ensures first { IfOk result (λ _. self.new.first
-            ≡ least self.old.first
+            ≡ least_refusal self.old.first
             (expr_faults (known globals.now) self.old.scope (expr_of expr.now))) }
     {
         match expr {
@@ -400,7 +400,7 @@ impl Walk {
     fn alt(&mut self, alloc: Global, globals: &Globals, alt: &Alt) -> Result<(), AllocError>
         ensures scope { IfOk result (λ _. self.new.scope ≡ self.old.scope) }
         ensures first { IfOk result (λ _. self.new.first
-            ≡ least self.old.first
+            ≡ least_refusal self.old.first
             (alt_faults (known globals.now) self.old.scope alt.now.pattern
             (expr_of alt.now.body))) }
     {

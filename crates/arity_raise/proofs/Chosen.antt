@@ -7,11 +7,12 @@ use Rattle.grin_syntax.specs.declared.program.Proc.{Proc}
 use Rattle.grin_syntax.specs.Fresh.{variable, variables, past_procs}
 use Rattle.grin_syntax.specs.Tree.{Procedure, Program, procedure_of}
 use Rattle.flow_system.specs.Solution.{Solution}
-use Rattle.arity_raise.specs.Raisable.{Raisable}
-use Rattle.arity_raise.specs.Raising.{Raising, Decisions, fields_of}
-use Rattle.arity_raise.specs.Decided.{AllStay, Decided, ProcedureDecided, AllDecided, new_params, all_new_params, IsDecided}
+use Rattle.raising.specs.Raisable.{Raisable}
+use Rattle.raising.specs.declared.raising.Raising.{Raising}
+use Rattle.raising.specs.Raising.{Decisions, fields_of}
+use Rattle.raising.specs.Decided.{AllStay, Decided, ProcedureDecided, AllDecided, new_params, all_new_params, IsDecided}
 use Rattle.arity_raise.specs.Fixed.{Fixed}
-use Rattle.arity_raise.specs.Deciding.{count_after, DecidedOf, InRow, NoneRaised}
+use Rattle.arity_raise.specs.Deciding.{parameter_count_after, DecidedOf, AreConsecutive, NoneRaised}
 
 -- ---- variables in a row
 
@@ -25,7 +26,7 @@ variables_two (suc a) n m b e =
     let s : suc (a + b) ≡ suc a + b = omega arith in
     ap (λ l. variable n ∷ l) (variables_two a (suc n) m b m') ∙ ap (variables n) s
 
-rows_join : (xs ys : List VarId) (n m k : ℕ) → InRow xs n m → InRow ys m k → InRow (xs ++ ys) n k
+rows_join : (xs ys : List VarId) (n m k : ℕ) → AreConsecutive xs n m → AreConsecutive ys m k → AreConsecutive (xs ++ ys) n k
 rows_join xs ys n m k u v = record {
   count = u.count + v.count;
   are = (λ i. u.are i ++ v.are i) ∙ variables_two u.count n m v.count u.next;
@@ -76,17 +77,17 @@ module _ (A : Solution) (g : Program) where
 
   -- ---- the parameters of a procedure
 
-  turn_first : (q : Procedure) (x : VarId) (count : ℕ) (d : Option Raising) (xs : List VarId) (ds : Decisions) → DecidedOf A g q x count d → Decided A g q (count_after count d) xs ds → Decided A g q count (x ∷ xs) (d ∷ ds)
+  turn_first : (q : Procedure) (x : VarId) (count : ℕ) (d : Option Raising) (xs : List VarId) (ds : Decisions) → DecidedOf A g q x count d → Decided A g q (parameter_count_after count d) xs ds → Decided A g q count (x ∷ xs) (d ∷ ds)
   turn_first q x count None xs ds t h = (t, h)
   turn_first q x count (Some r) xs ds t h = (t.0, t.1, h)
 
   -- the turns before this place, and the new parameters from n to m
   pub record TurnsSoFar (q : Procedure) (xs : List VarId) (start count : ℕ) (ds : Decisions) (n m : ℕ) : Type 0 where
     pub by : (ys : List VarId) (es : Decisions) → Decided A g q count ys es → Decided A g q start (xs ++ ys) (ds ++ es)
-    pub row : InRow (new_params ds) n m
+    pub row : AreConsecutive (new_params ds) n m
 
   pub one_turn_more : (q : Procedure) (xs : List VarId) (i : ℕ) (x0 : VarId) (start count after : ℕ) (ds more : Decisions) (d : Option Raising) (n m k : ℕ) → i < length xs
-      → TurnsSoFar q (take i xs) start count ds n m → DecidedOf A g q (get_or xs i x0) count d → InRow (new_params (d ∷ [])) m k → more ≡ ds ++ d ∷ [] → after ≡ count_after count d → TurnsSoFar q (take (i + 1) xs) start after more n k
+      → TurnsSoFar q (take i xs) start count ds n m → DecidedOf A g q (get_or xs i x0) count d → AreConsecutive (new_params (d ∷ [])) m k → more ≡ ds ++ d ∷ [] → after ≡ parameter_count_after count d → TurnsSoFar q (take (i + 1) xs) start after more n k
   one_turn_more q xs i x0 start count after ds more d n m k lt u t r e f =
       let x : VarId = get_or xs i x0 in
       let taken : take (i + 1) xs ≡ take i xs ++ x ∷ [] = take_more xs i x0 lt in
@@ -96,7 +97,7 @@ module _ (A : Solution) (g : Program) where
             let params : take i xs ++ (x ∷ ys) ≡ take (i + 1) xs ++ ys = sym (append_assoc (take i xs) (x ∷ []) ys) ∙ ap (λ l. l ++ ys) (sym taken) in
             let made : ds ++ (d ∷ es) ≡ more ++ es = sym (append_assoc ds (d ∷ []) es) ∙ ap (λ l. l ++ es) (sym e) in
             subst (λ l. Decided A g q start l (more ++ es)) params (subst (Decided A g q start (take i xs ++ (x ∷ ys))) made before);
-        row = subst (λ l. InRow l n k) (sym (ap new_params e ∙ new_params_push ds d)) (rows_join (new_params ds) (new_params (d ∷ [])) n m k u.row r);
+        row = subst (λ l. AreConsecutive l n k) (sym (ap new_params e ∙ new_params_push ds d)) (rows_join (new_params ds) (new_params (d ∷ [])) n m k u.row r);
       }
 
   pub turns_done : (q : Procedure) (xs : List VarId) (i start count : ℕ) (ds : Decisions) (n m : ℕ) → length xs ≤ i → TurnsSoFar q (take i xs) start count ds n m → Decided A g q start xs ds
@@ -109,10 +110,10 @@ module _ (A : Solution) (g : Program) where
 
   pub record PlanSoFar (ps : List Proc) (f : ℕ) (dss : List Decisions) (n m : ℕ) : Type 0 where
     pub by : (qs : List Procedure) (ess : List Decisions) → AllDecided A g f qs ess → AllDecided A g 0 (map procedure_of ps ++ qs) (dss ++ ess)
-    pub row : InRow (all_new_params dss) n m
+    pub row : AreConsecutive (all_new_params dss) n m
 
   pub one_proc_more : (ps : List Proc) (f : ℕ) (p : Proc) (ds : Decisions) (dss more : List Decisions) (n m k : ℕ) → f < length ps → p ≡ get_or ps f p → PlanSoFar (take f ps) f dss n m
-      → ProcedureDecided A g f (procedure_of p) ds → InRow (new_params ds) m k → more ≡ dss ++ ds ∷ [] → PlanSoFar (take (f + 1) ps) (f + 1) more n k
+      → ProcedureDecided A g f (procedure_of p) ds → AreConsecutive (new_params ds) m k → more ≡ dss ++ ds ∷ [] → PlanSoFar (take (f + 1) ps) (f + 1) more n k
   one_proc_more ps f p ds dss more n m k lt here u d r e =
       let next : f + 1 ≡ suc f = omega arith in
       let taken : map procedure_of (take (f + 1) ps) ≡ map procedure_of (take f ps) ++ procedure_of p ∷ [] = ap (map procedure_of) (take_next ps f p lt here) ∙ map_push procedure_of (take f ps) p in
@@ -122,7 +123,7 @@ module _ (A : Solution) (g : Program) where
             let procs : map procedure_of (take f ps) ++ (procedure_of p ∷ qs) ≡ map procedure_of (take (f + 1) ps) ++ qs = sym (append_assoc (map procedure_of (take f ps)) (procedure_of p ∷ []) qs) ∙ ap (λ l. l ++ qs) (sym taken) in
             let made : dss ++ (ds ∷ ess) ≡ more ++ ess = sym (append_assoc dss (ds ∷ []) ess) ∙ ap (λ l. l ++ ess) (sym e) in
             subst (λ l. AllDecided A g 0 l (more ++ ess)) procs (subst (AllDecided A g 0 (map procedure_of (take f ps) ++ (procedure_of p ∷ qs))) made before);
-        row = subst (λ l. InRow l n k) (sym (ap all_new_params e ∙ all_new_push dss ds)) (rows_join (all_new_params dss) (new_params ds) n m k u.row r);
+        row = subst (λ l. AreConsecutive l n k) (sym (ap all_new_params e ∙ all_new_push dss ds)) (rows_join (all_new_params dss) (new_params ds) n m k u.row r);
       }
 
   pub plan_done : (ps : List Proc) (i f : ℕ) (dss : List Decisions) (n m : ℕ) → length ps ≤ i → map procedure_of ps ≡ g.procs → n ≡ past_procs g.procs → PlanSoFar (take i ps) f dss n m → IsDecided A g dss m

@@ -14,7 +14,8 @@ use Rattle.grin_syntax.specs.Fresh.{variable, variables}
 use Rattle.grin_syntax.proofs.TreeOf.{before_of-Bind, act_of-FetchWord}
 use Rattle.grin_syntax.proofs.Pieces.{all_before_push}
 use Rattle.grin_syntax.proofs.Past.{variables_push}
-use Rattle.arity_raise.specs.Raising.{Raising, Decisions, decided, raised_param, raised_params, field_fetches, fetches_for, argument_for, arguments_for, new_of, new_for}
+use Rattle.raising.specs.declared.raising.Raising.{Raising}
+use Rattle.raising.specs.Raising.{Decisions, decided, raised_param, raised_params, field_fetches, fetches_for, argument_for, arguments_for, new_variables_of, new_variables_for}
 use Rattle.arity_raise.specs.Decision.{decision_at}
 
 -- ---- one field
@@ -65,20 +66,20 @@ one_field_more a x y z k i old new newer given args more u i' h e f =
 -- ---- the arguments of a call, place by place
 
 fetch_one : (at : ℕ) (ds : Decisions) (n : ℕ) (w : W.Word) (ws : List W.Word) (c : Code)
-    → fetches_for n (drop at ds) (w ∷ ws) c ≡ field_fetches w n 0 (new_of (decision_at ds at)) (fetches_for (n + new_of (decision_at ds at)) (drop (suc at) ds) ws c)
+    → fetches_for n (drop at ds) (w ∷ ws) c ≡ field_fetches w n 0 (new_variables_of (decision_at ds at)) (fetches_for (n + new_variables_of (decision_at ds at)) (drop (suc at) ds) ws c)
 fetch_one zero [] n w ws c = refl
 fetch_one zero (d ∷ ds) n w ws c = refl
 fetch_one (suc at) [] n w ws c = refl
 fetch_one (suc at) (d ∷ ds) n w ws c = fetch_one at ds n w ws c
 
 argument_one : (at : ℕ) (ds : Decisions) (n : ℕ) (w : W.Word) (ws : List W.Word)
-    → arguments_for n (drop at ds) (w ∷ ws) ≡ argument_for n (decision_at ds at) w ++ arguments_for (n + new_of (decision_at ds at)) (drop (suc at) ds) ws
+    → arguments_for n (drop at ds) (w ∷ ws) ≡ argument_for n (decision_at ds at) w ++ arguments_for (n + new_variables_of (decision_at ds at)) (drop (suc at) ds) ws
 argument_one zero [] n w ws = refl
 argument_one zero (d ∷ ds) n w ws = refl
 argument_one (suc at) [] n w ws = refl
 argument_one (suc at) (d ∷ ds) n w ws = argument_one at ds n w ws
 
-new_one : (at : ℕ) (ds : Decisions) (w : W.Word) (ws : List W.Word) → new_for (drop at ds) (w ∷ ws) ≡ new_of (decision_at ds at) + new_for (drop (suc at) ds) ws
+new_one : (at : ℕ) (ds : Decisions) (w : W.Word) (ws : List W.Word) → new_variables_for (drop at ds) (w ∷ ws) ≡ new_variables_of (decision_at ds at) + new_variables_for (drop (suc at) ds) ws
 new_one zero [] w ws = refl
 new_one zero (d ∷ ds) w ws = refl
 new_one (suc at) [] w ws = refl
@@ -92,7 +93,7 @@ argument_none : (n : ℕ) (ds : Decisions) → arguments_for n ds [] ≡ []
 argument_none n [] = refl
 argument_none n (d ∷ ds) = refl
 
-new_none : (ds : Decisions) → new_for ds [] ≡ 0
+new_none : (ds : Decisions) → new_variables_for ds [] ≡ 0
 new_none [] = refl
 new_none (d ∷ ds) = refl
 
@@ -100,35 +101,35 @@ new_none (d ∷ ds) = refl
 pub record ArgumentsSoFar (ds : Decisions) (ws : List W.Word) (at x y : ℕ) (old new : List Stmt) (args : List W.Word) : Type 0 where
   pub stmts : (c : Code) → all_before (map before_of new) (fetches_for y (drop at ds) (drop at ws) c) ≡ all_before (map before_of old) (fetches_for x ds ws c)
   pub words : args ++ arguments_for y (drop at ds) (drop at ws) ≡ arguments_for x ds ws
-  pub next : y + new_for (drop at ds) (drop at ws) ≡ x + new_for ds ws
+  pub next : y + new_variables_for (drop at ds) (drop at ws) ≡ x + new_variables_for ds ws
 
 pub no_arguments : (ds : Decisions) (ws : List W.Word) (x : ℕ) (old : List Stmt) → ArgumentsSoFar ds ws 0 x x old old []
 no_arguments ds ws x old = record { stmts = λ c. refl; words = refl; next = refl }
 
 pub one_argument_more : (ds : Decisions) (ws : List W.Word) (at x y z : ℕ) (d : Option Raising) (u0 : W.Word) (old new newer : List Stmt) (args more : List W.Word) → at < length ws → d ≡ decision_at ds at
-    → ArgumentsSoFar ds ws at x y old new args → ((c : Code) → all_before (map before_of newer) c ≡ all_before (map before_of new) (field_fetches (get_or ws at u0) y 0 (new_of d) c)) → more ≡ args ++ argument_for y d (get_or ws at u0) → z ≡ y + new_of d
+    → ArgumentsSoFar ds ws at x y old new args → ((c : Code) → all_before (map before_of newer) c ≡ all_before (map before_of new) (field_fetches (get_or ws at u0) y 0 (new_variables_of d) c)) → more ≡ args ++ argument_for y d (get_or ws at u0) → z ≡ y + new_variables_of d
     → ArgumentsSoFar ds ws (at + 1) x z old newer more
 one_argument_more ds ws at x y z d u0 old new newer args more lt e u h f g =
     let w : W.Word = get_or ws at u0 in
     let next : suc at ≡ at + 1 = omega arith in
     let rest : drop at ws ≡ w ∷ drop (at + 1) ws = drop_more ws at u0 lt in
-    let z' : z ≡ y + new_of (decision_at ds at) = g ∙ ap (λ d. y + new_of d) e in
+    let z' : z ≡ y + new_variables_of (decision_at ds at) = g ∙ ap (λ d. y + new_variables_of d) e in
     record {
       stmts = λ c.
           (λ i. all_before (map before_of newer) (fetches_for (z' i) (drop (sym next i) ds) (drop (at + 1) ws) c))
-          ∙ h (fetches_for (y + new_of (decision_at ds at)) (drop (suc at) ds) (drop (at + 1) ws) c)
-          ∙ ap (λ d. all_before (map before_of new) (field_fetches w y 0 (new_of d) (fetches_for (y + new_of (decision_at ds at)) (drop (suc at) ds) (drop (at + 1) ws) c))) e
+          ∙ h (fetches_for (y + new_variables_of (decision_at ds at)) (drop (suc at) ds) (drop (at + 1) ws) c)
+          ∙ ap (λ d. all_before (map before_of new) (field_fetches w y 0 (new_variables_of d) (fetches_for (y + new_variables_of (decision_at ds at)) (drop (suc at) ds) (drop (at + 1) ws) c))) e
           ∙ ap (all_before (map before_of new)) (sym (fetch_one at ds y w (drop (at + 1) ws) c))
           ∙ ap (λ l. all_before (map before_of new) (fetches_for y (drop at ds) l c)) (sym rest) ∙ u.stmts c;
       words =
           (λ i. f i ++ arguments_for (z' i) (drop (sym next i) ds) (drop (at + 1) ws))
-          ∙ append_assoc args (argument_for y d w) (arguments_for (y + new_of (decision_at ds at)) (drop (suc at) ds) (drop (at + 1) ws))
-          ∙ ap (λ d. args ++ (argument_for y d w ++ arguments_for (y + new_of (decision_at ds at)) (drop (suc at) ds) (drop (at + 1) ws))) e
+          ∙ append_assoc args (argument_for y d w) (arguments_for (y + new_variables_of (decision_at ds at)) (drop (suc at) ds) (drop (at + 1) ws))
+          ∙ ap (λ d. args ++ (argument_for y d w ++ arguments_for (y + new_variables_of (decision_at ds at)) (drop (suc at) ds) (drop (at + 1) ws))) e
           ∙ ap (λ l. args ++ l) (sym (argument_one at ds y w (drop (at + 1) ws)) ∙ ap (arguments_for y (drop at ds)) (sym rest)) ∙ u.words;
       next =
-          let count : new_for (drop at ds) (drop at ws) ≡ new_of (decision_at ds at) + new_for (drop (suc at) ds) (drop (at + 1) ws) = ap (new_for (drop at ds)) rest ∙ new_one at ds w (drop (at + 1) ws) in
-          let same : new_for (drop (at + 1) ds) (drop (at + 1) ws) ≡ new_for (drop (suc at) ds) (drop (at + 1) ws) = ap (λ k. new_for (drop k ds) (drop (at + 1) ws)) (sym next) in
-          let before : y + new_for (drop at ds) (drop at ws) ≡ x + new_for ds ws = u.next in
+          let count : new_variables_for (drop at ds) (drop at ws) ≡ new_variables_of (decision_at ds at) + new_variables_for (drop (suc at) ds) (drop (at + 1) ws) = ap (new_variables_for (drop at ds)) rest ∙ new_one at ds w (drop (at + 1) ws) in
+          let same : new_variables_for (drop (at + 1) ds) (drop (at + 1) ws) ≡ new_variables_for (drop (suc at) ds) (drop (at + 1) ws) = ap (λ k. new_variables_for (drop k ds) (drop (at + 1) ws)) (sym next) in
+          let before : y + new_variables_for (drop at ds) (drop at ws) ≡ x + new_variables_for ds ws = u.next in
           omega (arith, count, same, before, z');
     }
 
@@ -136,7 +137,7 @@ one_argument_more ds ws at x y z d u0 old new newer args more lt e u h f g =
 pub record AllArguments (ds : Decisions) (ws : List W.Word) (x y : ℕ) (old new : List Stmt) (args : List W.Word) : Type 0 where
   pub stmts : (c : Code) → all_before (map before_of new) c ≡ all_before (map before_of old) (fetches_for x ds ws c)
   pub words : args ≡ arguments_for x ds ws
-  pub next : y ≡ x + new_for ds ws
+  pub next : y ≡ x + new_variables_for ds ws
 
 pub arguments_done : (ds : Decisions) (ws : List W.Word) (at x y : ℕ) (old new : List Stmt) (args : List W.Word) → length ws ≤ at → ArgumentsSoFar ds ws at x y old new args → AllArguments ds ws x y old new args
 arguments_done ds ws at x y old new args le u =
@@ -145,8 +146,8 @@ arguments_done ds ws at x y old new args le u =
       stmts = λ c. ap (all_before (map before_of new)) (sym (fetch_none y (drop at ds) c) ∙ ap (λ l. fetches_for y (drop at ds) l c) (sym end')) ∙ u.stmts c;
       words = sym (append-nil args) ∙ ap (λ l. args ++ l) (sym (argument_none y (drop at ds)) ∙ ap (arguments_for y (drop at ds)) (sym end')) ∙ u.words;
       next =
-          let none : new_for (drop at ds) (drop at ws) ≡ 0 = ap (new_for (drop at ds)) end' ∙ new_none (drop at ds) in
-          let all : y + new_for (drop at ds) (drop at ws) ≡ x + new_for ds ws = u.next in
+          let none : new_variables_for (drop at ds) (drop at ws) ≡ 0 = ap (new_variables_for (drop at ds)) end' ∙ new_none (drop at ds) in
+          let all : y + new_variables_for (drop at ds) (drop at ws) ≡ x + new_variables_for ds ws = u.next in
           omega (arith, none, all);
     }
 

@@ -1,29 +1,21 @@
--- The sites of the cells that updates may go to, and words that the walks over updates collect.
-use Rattle.std.proofs.Common.{◌≡◌, ℕ, ◌+◌, ◌<◌, ◌≤◌, Bool, true, ◌||◌, List, [], ◌∷◌, ◌++◌, map, take, length, get_or, Some, slice_get, refl, sym, ap, ◌∙◌, subst, inl, inr, ⊎_elim, append_assoc, arith}
+-- The sites of the cells that updates may go to, and the words that the walk over procedures collects.
+use Rattle.std.proofs.Common.{◌≡◌, ℕ, ◌+◌, ◌<◌, ◌≤◌, Bool, true, ◌||◌, List, [], ◌∷◌, ◌++◌, map, take, length, get_or, Some, slice_get, refl, sym, ap, ◌∙◌, subst, inl, inr, ⊎_elim, arith}
 use Rattle.std.specs.BTreeSet.{BTreeSet}
 use Rattle.std.specs.BTreeMap.{is_at}
 use Rattle.std.specs.List.{list_any}
 use Rattle.std.specs.Ordering.{nat_cmp, is_eq}
 use Rattle.std.specs.declared.cmp.Ordering.{Ordering}
 use Rattle.std.specs.declared.cmp.Ordering.TheVariants.{Less, Equal, Greater}
-use Rattle.std.proofs.lemmas.List.{take_more, take_all, append-nil}
+use Rattle.std.proofs.lemmas.List.{take_more, take_all}
 use Rattle.std.proofs.lemmas.Bool.Decides.{nat_tests}
 use Rattle.grin_syntax.specs.declared.program.VarId.{VarId}
 use Rattle.grin_syntax.specs.declared.program.Site.{Site}
 use Rattle.grin_syntax.specs.declared.program.GlobalCell.{GlobalCell}
 use Rattle.grin_syntax.specs.declared.program.Word as W
 use Rattle.grin_syntax.specs.declared.program.Word.TheVariants.{Var, Global}
-use Rattle.grin_syntax.specs.declared.program.Alt.{Alt}
-use Rattle.grin_syntax.specs.declared.program.Stmt.{Stmt}
-use Rattle.grin_syntax.specs.declared.program.Stmt.TheVariants.{Bind}
-use Rattle.grin_syntax.specs.declared.program.Op.{Op}
-use Rattle.grin_syntax.specs.declared.program.Target.{Target}
-use Rattle.grin_syntax.specs.declared.program.Block.{Block}
 use Rattle.grin_syntax.specs.declared.program.Proc.{Proc}
 use Rattle.grin_syntax.specs.Formed.{AllOf}
-use Rattle.grin_syntax.specs.Tree.{Code, end, Arms, no_arm, arm, act_of, before_of, arm_of, code_of, all_before, arms_of, Procedure, Program, procedure_of}
-use Rattle.grin_syntax.proofs.TreeOf.{code_of-parts, before_of-Bind}
-use Rattle.grin_syntax.proofs.Pieces.{all_arms, all_arms_none, all_arms_push, all_before_push}
+use Rattle.grin_syntax.specs.Tree.{code_of, Procedure, Program, procedure_of}
 use Rattle.flow_system.specs.declared.fact.Element.TheVariants.{Cell as cell_of}
 use Rattle.flow_system.specs.declared.fact.Place.TheVariants.{Var as var}
 use Rattle.flow_system.specs.declared.fact.Part.TheVariants.{Word as word}
@@ -33,61 +25,24 @@ use Rattle.points_to.specs.Held.{In, here, there}
 use Rattle.points_to.specs.Joined.{Joined}
 use Rattle.seq.proofs.Member.{none_in, cons_in, one_in, in_split, in_left, in_right}
 use Rattle.seq.proofs.Truth.{or_true}
-use Rattle.seq.proofs.Lists.{take_next, map_push}
-use Rattle.arity_raise.specs.UpdatedCells.{act_updated, code_updated, arms_updated, updated_of}
-use Rattle.arity_raise.specs.Raisable.{NeverUpdated}
+use Rattle.seq.proofs.Lists.{map_push}
+use Rattle.pass_ground.specs.Updated.{code_updated, updated_of}
+use Rattle.pass_ground.proofs.Collected.{updated}
+use Rattle.pass_ground.proofs.Walked.{all, procs_next}
+use Rattle.raising.specs.Raisable.{NeverUpdated}
 use Rattle.arity_raise.specs.Fixed.{SitesJoin, UpdatedSites}
 use Rattle.flow_system.proofs.Numbered.{nat_equal}
 
--- ---- words that pieces update, from those that were there
+-- ---- words that procedures update
 
-pub record WordsSoFar (old new : List W.Word) (ss : List Stmt) : Type 0 where
-  pub by : (c : Code) → old ++ code_updated (all_before (map before_of ss) c) ≡ new ++ code_updated c
-
-pub record ArmWordsSoFar (old new : List W.Word) (as' : List Alt) : Type 0 where
-  pub by : (r : Arms) → old ++ arms_updated (all_arms (map arm_of as') r) ≡ new ++ arms_updated r
-
-pub no_words : (old : List W.Word) → WordsSoFar old old []
-no_words old = record { by = λ c. refl }
-
-pub words_next : (old new newer : List W.Word) (ss : List Stmt) (i : ℕ) (s : Stmt) → i < length ss → s ≡ get_or ss i s → WordsSoFar old new (take i ss)
-    → ((c : Code) → new ++ code_updated (before_of s c) ≡ newer ++ code_updated c) → WordsSoFar old newer (take (i + 1) ss)
-words_next old new newer ss i s lt e u h = subst (WordsSoFar old newer) (sym (take_next ss i s lt e))
-    (record { by = λ c. ap (λ b. old ++ code_updated b) (all_before_push (take i ss) s c) ∙ u.by (before_of s c) ∙ h c })
-
-pub bind_words : (old new : List W.Word) (s : Stmt) (t : Target) (o : Op) (c : Code) → s ≡ Bind t o → new ≡ old ++ act_updated (act_of o) → old ++ code_updated (before_of s c) ≡ new ++ code_updated c
-unfolding act_updated
-bind_words old new s t o c e h =
-    ap (λ s. old ++ code_updated (before_of s c)) e ∙ ap (λ f. old ++ code_updated (f c)) (before_of-Bind t o) ∙ sym (append_assoc old (act_updated (act_of o)) (code_updated c)) ∙ ap (λ l. l ++ code_updated c) (sym h)
-
-pub block_words : (old new last : List W.Word) (b : Block) (i : ℕ) → length b.stmts ≤ i → WordsSoFar old new (take i b.stmts) → last ≡ new ++ act_updated (act_of b.last.value) → last ≡ old ++ code_updated (code_of b)
-unfolding act_updated
-block_words old new last b i le u h =
-    let v : WordsSoFar old new b.stmts = subst (WordsSoFar old new) (take_all i b.stmts le) u in
-    h ∙ sym (v.by (end (act_of b.last.value))) ∙ ap (λ c. old ++ code_updated c) (sym (code_of-parts b))
-
-pub arm_words_next : (old new newer : List W.Word) (as' : List Alt) (i : ℕ) (a : Alt) → i < length as' → a ≡ get_or as' i a → ArmWordsSoFar old new (take i as') → newer ≡ new ++ code_updated (code_of a.body)
-    → ArmWordsSoFar old newer (take (i + 1) as')
-unfolding act_updated
-arm_words_next old new newer as' i a lt e u h = subst (ArmWordsSoFar old newer) (sym (take_next as' i a lt e)) (record {
-  by = λ r. ap (λ b. old ++ arms_updated b) (all_arms_push (take i as') a r) ∙ u.by (arm a.pattern (code_of a.body) r) ∙ sym (append_assoc new (code_updated (code_of a.body)) (arms_updated r)) ∙ ap (λ l. l ++ arms_updated r) (sym h);
-})
-
-pub arm_words_done : (old new : List W.Word) (as' : List Alt) (i : ℕ) → length as' ≤ i → ArmWordsSoFar old new (take i as') → new ≡ old ++ arms_updated (arms_of (map arm_of as'))
-unfolding act_updated
-arm_words_done old new as' i le u =
-    let v : ArmWordsSoFar old new as' = subst (ArmWordsSoFar old new) (take_all i as' le) u in
-    sym (append-nil new) ∙ sym (v.by no_arm) ∙ ap (λ r. old ++ arms_updated r) (all_arms_none (map arm_of as'))
-
-updated_push : (qs : List Procedure) (q : Procedure) → updated_of (qs ++ q ∷ []) ≡ updated_of qs ++ code_updated q.body
-updated_push [] q = append-nil (code_updated q.body)
-updated_push (r ∷ qs) q = ap (λ l. code_updated r.body ++ l) (updated_push qs q) ∙ sym (append_assoc (code_updated r.body) (updated_of qs) (code_updated q.body))
+all_updated : (qs : List Procedure) → all updated qs ≡ updated_of qs
+all_updated [] = refl
+all_updated (q ∷ qs) = ap (λ l. code_updated q.body ++ l) (all_updated qs)
 
 pub proc_words_next : (ps : List Proc) (i : ℕ) (p : Proc) (old new : List W.Word) → i < length ps → p ≡ get_or ps i p → new ≡ old ++ code_updated (code_of p.body) → old ≡ updated_of (map procedure_of (take i ps))
     → new ≡ updated_of (map procedure_of (take (i + 1) ps))
 proc_words_next ps i p old new lt e n o =
-    n ∙ ap (λ l. l ++ code_updated (code_of p.body)) o ∙ sym (updated_push (map procedure_of (take i ps)) (procedure_of p))
-    ∙ ap updated_of (sym (ap (map procedure_of) (take_next ps i p lt e) ∙ map_push procedure_of (take i ps) p))
+    procs_next updated ps i p old new lt e n (o ∙ sym (all_updated (map procedure_of (take i ps)))) ∙ all_updated (map procedure_of (take (i + 1) ps))
 
 -- ---- numbers in a set
 

@@ -10,8 +10,8 @@ use Rattle.flow_system.specs.declared.fact.Part.TheVariants.{Tags as tags, Word 
 use Rattle.flow_system.specs.Tables.{tables}
 use Rattle.flow_system.specs.Solution.{Solution, At, StandsFor}
 use Rattle.points_to.specs.Held.{In}
-use Rattle.arity_raise.specs.UpdatedCells.{updated_of}
-use Rattle.arity_raise.specs.Raisable.{IsCell, NeverUpdated, IsValueTag}
+use Rattle.pass_ground.specs.Updated.{updated_of}
+use Rattle.raising.specs.Raisable.{IsCell, NeverUpdated, IsValueTag}
 
 module _ (A : Solution) where
   abbrev pub CellsAlone : (x : ℕ) → Type 0

@@ -6,12 +6,12 @@ ghost use Rattle.grin_syntax.specs.declared.program.Word.TheVariants.{Var};
 ghost use Rattle.grin_syntax.specs.declared.program.Target.TheVariants.{One};
 ghost use Rattle.grin_syntax.specs.Tree.{Code, bind, fetch_word, before_of, all_before};
 ghost use Rattle.grin_syntax.specs.Fresh.{variable, variables};
-ghost use Rattle.arity_raise.specs.Raising.{field_fetches, argument_for, arguments_for, fetches_for, new_of, new_for};
+ghost use Rattle.raising.specs.Raising.{field_fetches, argument_for, arguments_for, fetches_for, new_variables_of, new_variables_for};
 
 use crate::params::decision_at;
-use crate::raising::Raising;
 use grin_syntax::fresh::Fresh;
 use grin_syntax::{Op, Stmt, Target, Word};
+use raising::Raising;
 use seq::Seq;
 use std::alloc::{AllocError, Global};
 
@@ -64,9 +64,9 @@ fn put_argument(
 ) -> Result<(), AllocError>
     ensures stmts { OnOk result ((c : Code) → all_before (map before_of made.new) c
         ≡ all_before (map before_of made.old)
-        (field_fetches word fresh.old.next 0 (new_of decision) c)) }
+        (field_fetches word fresh.old.next 0 (new_variables_of decision) c)) }
     ensures args { OnOk result (args.new ≡ args.old ++ argument_for fresh.old.next decision word) }
-    ensures next { OnOk result (fresh.new.next ≡ fresh.old.next + new_of decision) }
+    ensures next { OnOk result (fresh.new.next ≡ fresh.old.next + new_variables_of decision) }
 {
     match decision {
         Some(raising) => put_fields(fresh, word, raising.fields, made, args)?,
@@ -88,7 +88,7 @@ pub(crate) fn arguments(
         ≡ all_before (map before_of made.old)
         (fetches_for fresh.old.next decisions.now words.now c)) }
     ensures args { IfOk result (λ ws. ws ≡ arguments_for fresh.old.next decisions.now words.now) }
-    ensures next { OnOk result (fresh.new.next ≡ fresh.old.next + new_for decisions.now words.now) }
+    ensures next { OnOk result (fresh.new.next ≡ fresh.old.next + new_variables_for decisions.now words.now) }
 {
     let mut args = Seq::new(alloc);
     for at in 0..words.len() {

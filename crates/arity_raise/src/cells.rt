@@ -5,7 +5,7 @@ ghost use Rattle.std.specs.Prelude.{◌≡◌, ◌↔◌, ℕ, map, IsTrue, Matc
 ghost use Rattle.grin_syntax.specs.Tree.{program_of};
 ghost use Rattle.points_to.specs.Held.{In};
 ghost use Rattle.points_to.specs.Found.{found};
-ghost use Rattle.arity_raise.specs.Raisable.{IsValueTag};
+ghost use Rattle.raising.specs.Raisable.{IsValueTag};
 ghost use Rattle.arity_raise.specs.Fixed.{CellsAlone, HasTag, SiteHasOnly, HasOnly, Unchanged, Fixed, UpdatedSites};
 
 use grin_syntax::{Grin, Site, TagId, TagKind, VarId};
@@ -21,7 +21,7 @@ pub(crate) struct Node {
 
 /// What is known of a program.
 #[derive(Drop)]
-pub(crate) struct Known<'a> {
+pub(crate) struct ProgramFacts<'a> {
     pub g: &'a Grin,
     pub flow: &'a Flow,
     /// The sites of the cells that may be updated.
@@ -39,7 +39,7 @@ fn first_tag(tags: &[TagId]) -> Option<TagId>
     Some(tags[0])
 }
 
-impl Known<'_> {
+impl ProgramFacts<'_> {
     // The variable stands for cells alone.
     fn has_cells_alone(&self, x: VarId) -> bool
         ensures { IsTrue result ↔ CellsAlone (found self.now.flow.now) x.0 }

@@ -4,17 +4,17 @@
 ghost use Rattle.std.specs.Prelude.{◌≡◌, ◌≤◌, ◌+◌, ℕ, nat_le, length, map, IfOk, IfSome, OnOk, MatchOption, [], ◌∷◌};
 ghost use Rattle.grin_syntax.specs.Tree.{procedure_of, program_of};
 ghost use Rattle.points_to.specs.Found.{found};
-ghost use Rattle.arity_raise.specs.Raisable.{Raisable};
-ghost use Rattle.arity_raise.specs.Decided.{IsRoom, Decided, ProcedureDecided, IsDecided, new_params};
-ghost use Rattle.arity_raise.specs.Deciding.{count_after, DecidedOf, InRow, NoneRaised};
+ghost use Rattle.raising.specs.Raisable.{Raisable};
+ghost use Rattle.raising.specs.Decided.{FitsParameterLimit, Decided, ProcedureDecided, IsDecided, new_params};
+ghost use Rattle.arity_raise.specs.Deciding.{parameter_count_after, DecidedOf, AreConsecutive, NoneRaised};
 
-use crate::cells::{Known, Node};
-use crate::raising::Raising;
+use crate::cells::{Node, ProgramFacts};
 use crate::updated::updated_sites;
 use grin_syntax::fresh::Fresh;
 use grin_syntax::{Grin, Proc, VarId};
-use pass_ground::uses::block_takes;
+use pass_ground::uses::block_uses_as_value;
 use points_to::Flow;
+use raising::Raising;
 use seq::Seq;
 use std::alloc::{AllocError, Global};
 
@@ -55,9 +55,9 @@ fn in_a_row(fresh: &mut Fresh, fields: u32) -> Result<VarId, AllocError>
 }
 
 // How many parameters there are at the next turn.
-fn count_after(count: u64, decision: Option<Raising>) -> u64
-    requires { IfSome decision (λ r. IsRoom count r.fields) }
-    ensures { result ≡ count_after count decision }
+fn parameter_count_after(count: u64, decision: Option<Raising>) -> u64
+    requires { IfSome decision (λ r. FitsParameterLimit count r.fields) }
+    ensures { result ≡ parameter_count_after count decision }
 {
     match decision {
         Some(raising) => {
@@ -82,7 +82,7 @@ fn all_stay(alloc: Global, params: &[VarId]) -> Result<Decisions, AllocError>
     Ok(made)
 }
 
-impl Known<'_> {
+impl ProgramFacts<'_> {
     // The fields that can stand in place of a parameter.
     fn raisable(&self, proc: &Proc, x: VarId) -> Option<Node>
         ensures { MatchOption result ((t k : ℕ)
@@ -90,7 +90,7 @@ impl Known<'_> {
             x.0 t k → ⊥) (λ n. Raisable (found self.now.flow.now) (program_of self.now.g.now)
             (procedure_of proc.now) x.0 n.tag.0 n.fields) }
     {
-        if block_takes(x, &proc.body) {
+        if block_uses_as_value(x, &proc.body) {
             return None;
         }
         match self.node_of(x) {
@@ -110,7 +110,7 @@ impl Known<'_> {
         ensures turn { IfOk result (λ d.
             DecidedOf (found self.now.flow.now) (program_of self.now.g.now) (procedure_of proc.now)
             x count d) }
-        ensures row { IfOk result (λ d. InRow (new_params (d ∷ [])) fresh.old.next fresh.new.next) }
+        ensures row { IfOk result (λ d. AreConsecutive (new_params (d ∷ [])) fresh.old.next fresh.new.next) }
     {
         match self.raisable(proc, x) {
             Some(node) => {
@@ -133,14 +133,14 @@ impl Known<'_> {
         ensures decided { IfOk result (λ ds.
             Decided (found self.now.flow.now) (program_of self.now.g.now) (procedure_of proc.now)
             (length proc.now.params) proc.now.params ds) }
-        ensures row { IfOk result (λ ds. InRow (new_params ds) fresh.old.next fresh.new.next) }
+        ensures row { IfOk result (λ ds. AreConsecutive (new_params ds) fresh.old.next fresh.new.next) }
     {
         let mut count = proc.params.len() as u64;
         let mut made = Seq::new(alloc);
         for x in proc.params.as_slice() {
             let decision = self.turn(fresh, proc, *x, count)?;
             made.push(decision)?;
-            count = count_after(count, decision);
+            count = parameter_count_after(count, decision);
         }
         Ok(made)
     }
@@ -156,7 +156,7 @@ impl Known<'_> {
         ensures decided { IfOk result (λ ds.
             ProcedureDecided (found self.now.flow.now) (program_of self.now.g.now) f
             (procedure_of proc.now) ds) }
-        ensures row { IfOk result (λ ds. InRow (new_params ds) fresh.old.next fresh.new.next) }
+        ensures row { IfOk result (λ ds. AreConsecutive (new_params ds) fresh.old.next fresh.new.next) }
     {
         if f == self.g.start.0 {
             let stay = all_stay(alloc, proc.params.as_slice())?;
@@ -181,7 +181,7 @@ pub(crate) fn plan(alloc: Global, g: &Grin, flow: &Flow) -> Result<Planned, Allo
     ensures as_many { IfOk result (λ p. length p.procs ≡ length g.now.procs) }
 {
     let updated = updated_sites(alloc, g, flow)?;
-    let known = Known { g, flow, updated };
+    let known = ProgramFacts { g, flow, updated };
     let mut fresh = Fresh::past(g.procs.as_slice());
     let mut procs = Seq::new(alloc);
     let mut f: u32 = 0;

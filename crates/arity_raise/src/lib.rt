@@ -8,7 +8,6 @@ mod cells;
 mod decide;
 mod params;
 mod pass;
-mod raising;
 mod updated;
 
 pub use pass::{Raise, with_raised_params};

@@ -3,12 +3,12 @@
 
 ghost use Rattle.std.specs.Prelude.{◌≡◌, ◌++◌, nat_eq, IfOk, OnOk};
 ghost use Rattle.grin_syntax.specs.Tree.{act_of};
-ghost use Rattle.arity_raise.specs.Raising.{raised_param, raised_params, decided, word_at, fetched_of};
+ghost use Rattle.raising.specs.Raising.{raised_param, raised_params, decided, word_at, raised_fetch_of};
 ghost use Rattle.arity_raise.specs.Decision.{decision_at};
 
-use crate::raising::Raising;
 use grin_syntax::fresh::Fresh;
 use grin_syntax::{Op, Val, VarId, Word};
+use raising::Raising;
 use seq::Seq;
 use std::alloc::{AllocError, Global};
 
@@ -92,7 +92,7 @@ fn word_at(raising: Raising, i: u32) -> Result<Word, AllocError>
 /// The fetch of word i of a cell, where this is decided of the variable that stands for it.
 #[tactic(auto, using(grin_syntax::proofs::TreeOf::tree_of))]
 pub(crate) fn fetched(decision: Option<Raising>, cell: Word, i: u32) -> Result<Op, AllocError>
-    ensures { IfOk result (λ o. act_of o ≡ fetched_of decision cell i) }
+    ensures { IfOk result (λ o. act_of o ≡ raised_fetch_of decision cell i) }
 {
     match decision {
         Some(raising) => Ok(Op::Unit(Val::One(word_at(raising, i)?))),

@@ -4,18 +4,18 @@
 ghost use Rattle.std.specs.Prelude.{◌≡◌, ◌+◌, length, IfOk, OnOk};
 ghost use Rattle.grin_syntax.specs.Tree.{code_of, procedure_of, program_of};
 ghost use Rattle.grin_meaning.specs.Ready.{IsFetchedByWords};
-ghost use Rattle.pass_ground.specs.Vectors.{OfVectors};
-ghost use Rattle.arity_raise.specs.Raising.{new_code, raised_procedure, raised};
-ghost use Rattle.arity_raise.specs.Raised.{Raised, ByLeast};
+ghost use Rattle.pass_ground.specs.Vectors.{IsVectorForm};
+ghost use Rattle.raising.specs.Raising.{new_code, raised_procedure, raised};
+ghost use Rattle.raising.specs.Raised.{Raised, MadeByLeastSolution};
 
 use crate::blocks::Within;
 use crate::decide::{Decisions, Planned, plan};
 use crate::params::raised_params;
-use crate::raising::Raising;
 use grin_meaning::Pass;
 use grin_syntax::fresh::Fresh;
 use grin_syntax::{Grin, Proc};
 use least_flow::least;
+use raising::Raising;
 use seq::Seq;
 use std::alloc::{AllocError, Global};
 
@@ -27,7 +27,7 @@ use std::alloc::{AllocError, Global};
 pub struct Raise;
 
 impl Pass for Raise {
-    ghost takes = { λ g. OfVectors (program_of g) × IsFetchedByWords (program_of g) };
+    ghost takes = { λ g. IsVectorForm (program_of g) × IsFetchedByWords (program_of g) };
 
     ghost gives = { λ g h. Raised (program_of g) (program_of h) };
 
@@ -39,7 +39,7 @@ impl Pass for Raise {
 
 /// What the pass makes of any program, whatever its runs do.
 pub fn with_raised_params(alloc: Global, g: Grin) -> Result<Grin, AllocError>
-    ensures { IfOk result (λ h. ByLeast (program_of g) (program_of h)) }
+    ensures { IfOk result (λ h. MadeByLeastSolution (program_of g) (program_of h)) }
 {
     let flow = least(alloc, &g)?;
     let plan = plan(alloc, &g, &flow)?;

@@ -4,7 +4,7 @@ use Rattle.grin_syntax.specs.declared.program.Target.{Target}
 use Rattle.grin_syntax.specs.declared.program.Val.{Val}
 use Rattle.grin_syntax.specs.Tree.{Code, bind, Act, unit}
 use Rattle.grin_meaning.specs.Values.{Value, Env, HeapCell, World, missing, Answer, gives, stops, need, Binding, value_of, bindings_of}
-use Rattle.grin_meaning.specs.Run.{act_by, looking}
+use Rattle.grin_meaning.specs.Run.{act_by, require_if_checked}
 use Rattle.grin_meaning.specs.Checks.{fills, is_bound_well}
 use Rattle.grin_meaning.specs.Follows.{Same}
 use Rattle.grin_meaning.proofs.Beside.{beside, Likewise, free, gives_too, stops_too, Seen}
@@ -25,7 +25,7 @@ module _ (s : Setting) where
   never_gives : {A : Type 0} {z : Value} {w w' : World} → stops missing w ≡ gives z w' → A
   never_gives e = cc
 
-  looked_gives : (looks b : Bool) (y z : Value) (w w' : World) → looking looks b w (gives y w) ≡ gives z w' → y ≡ z
+  looked_gives : (looks b : Bool) (y z : Value) (w w' : World) → require_if_checked looks b w (gives y w) ≡ gives z w' → y ≡ z
   looked_gives false b y z w w' e = value_is e
   looked_gives true true y z w w' e = value_is e
   looked_gives true false y z w w' e = never_gives e
@@ -34,7 +34,7 @@ module _ (s : Setting) where
   unfolding act_by
   unit_gave env d u w w' v e = go (value_of (h s) env u) refl e
     where
-      go : (o : Option Value) → value_of (h s) env u ≡ o → need o w (λ y. looking looks (fills (h s) env u) w (gives y w)) ≡ gives v w' → value_of (h s) env u ≡ Some v
+      go : (o : Option Value) → value_of (h s) env u ≡ o → need o w (λ y. require_if_checked looks (fills (h s) env u) w (gives y w)) ≡ gives v w' → value_of (h s) env u ≡ Some v
       go None q e = never_gives e
       go (Some y) q e = q ∙ ap Some (looked_gives looks (fills (h s) env u) y v w w' e)
 

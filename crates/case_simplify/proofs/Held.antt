@@ -21,7 +21,7 @@ use Rattle.grin_syntax.specs.Binders.{numbers_of, target_vars, shape_vars, cell_
 use Rattle.grin_meaning.specs.Values.{Datum, number, tag, cell, Node, Value, node, words, Env, and_then, Binding, with_vars, one_each, only_word, fits, fits_not, unclear, node_fit, number_fit, int_fit, fields_of, made_node, as_node, word_of, words_of, value_of, bindings_of, fit_of}
 use Rattle.grin_meaning.specs.Run.{places}
 use Rattle.numbers.specs.Numbers.{same_number}
-use Rattle.case_simplify.specs.Known.{Known, Tag, Number, Facts, note, told, first_word, second_word, told_first, told_second, note_word, noted}
+use Rattle.case_simplify.specs.Known.{Known, Tag, Number, Facts, note, told, first_word, second_word, known_first_word, known_second_word, note_word, facts_in_alternative}
 use Rattle.case_simplify.specs.Choice.{Takes, Passes, Open, number_verdict, verdict}
 use Rattle.seq.specs.Lists.{times}
 use Rattle.numbers.proofs.Same.{same_itself}
@@ -308,7 +308,7 @@ module _ (g : Program) where
   no_vars x xs h = cc
 
   module _ (env : Env) (v : V.Val) (y : Value) (at : value_of g env v ≡ Some y) where
-    pub noted_holds : (facts : Facts) (s : Shape) (bs : List Binding) → Holds facts env → shape_vars s ≡ [] → fit_of g s y ≡ fits bs → (bs ≡ []) × Holds (noted v s facts) env
+    pub noted_holds : (facts : Facts) (s : Shape) (bs : List Binding) → Holds facts env → shape_vars s ≡ [] → fit_of g s y ≡ fits bs → (bs ≡ []) × Holds (facts_in_alternative v s facts) env
     noted_holds facts (shape.Node t (x ∷ xs)) bs h b e = no_vars x xs b
     noted_holds facts (shape.Node t []) bs h b e =
         let f : NodeFits t.0 y bs = node_fits t y bs e in
@@ -325,13 +325,13 @@ module _ (g : Program) where
 
     -- ---- a known tag
 
-    module _ (facts : Facts) (h : Holds facts env) (t : TagId) (known : told_first facts v ≡ Some (Tag t)) where
+    module _ (facts : Facts) (h : Holds facts env) (t : TagId) (known : known_first_word facts v ≡ Some (Tag t)) where
       tag_known : (n : Node) → as_node g y ≡ Some n → n.tag ≡ t.0
       tag_known n m =
           let z : (w : W.Word) × (first_word v ≡ Some w) × (told facts w ≡ Some (Tag t)) = some_and (first_word v) (told facts) (Tag t) known in
           tag_is (some_is (sym ((reads env v y n at m).first z.0 z.1) ∙ told_holds facts env h z.0 (Tag t) z.2))
 
-      number_known : (n : Node) (i j : ℤ) (ds : List Datum) → as_node g y ≡ Some n → told_second facts v ≡ Some (Number i) → n.fields ≡ number j ∷ ds → j ≡ i
+      number_known : (n : Node) (i j : ℤ) (ds : List Datum) → as_node g y ≡ Some n → known_second_word facts v ≡ Some (Number i) → n.fields ≡ number j ∷ ds → j ≡ i
       number_known n i j ds m k f =
           let z : (w : W.Word) × (second_word v ≡ Some w) × (told facts w ≡ Some (Number i)) = some_and (second_word v) (told facts) (Number i) k in
           number_is (some_is (sym ((reads env v y n at m).second z.0 (number j) ds z.1 f) ∙ told_holds facts env h z.0 (Number i) z.2))
@@ -346,7 +346,7 @@ module _ (g : Program) where
       open_takes e = cc
 
       -- what passes does not fit
-      pub passes_by : (s : Shape) (bs : List Binding) → shape_vars s ≡ [] → verdict t (told_second facts v) s ≡ Passes → fit_of g s y ≡ fits bs → ⊥
+      pub passes_by : (s : Shape) (bs : List Binding) → shape_vars s ≡ [] → verdict t (known_second_word facts v) s ≡ Passes → fit_of g s y ≡ fits bs → ⊥
       passes_by (shape.Node u (x ∷ xs)) bs b p e = no_vars x xs b
       passes_by (shape.Node u []) bs b p e =
           let f : NodeFits u.0 y bs = node_fits u y bs e in
@@ -355,23 +355,23 @@ module _ (g : Program) where
       passes_by (shape.Int k) bs b p e =
           let f : IntFits k y bs = int_fits k y bs e in
           let zero_tag : t.0 ≡ 0 = sym (tag_known f.n f.is) ∙ f.tagged in
-          go f (told_second facts v) refl (sym (ap (λ i. cond (nat_eq i 0) (number_verdict k (told_second facts v)) Passes) zero_tag) ∙ p)
+          go f (known_second_word facts v) refl (sym (ap (λ i. cond (nat_eq i 0) (number_verdict k (known_second_word facts v)) Passes) zero_tag) ∙ p)
         where
-          go : IntFits k y bs → (o : Option Known) → told_second facts v ≡ o → number_verdict k o ≡ Passes → ⊥
+          go : IntFits k y bs → (o : Option Known) → known_second_word facts v ≡ o → number_verdict k o ≡ Passes → ⊥
           go f None q p = open_passes p
           go f (Some (Tag u)) q p = open_passes p
           go f (Some (Number i)) q p = takes_passes (sym (ap (λ c. cond c Takes Passes) (ap (λ j. same_number j i) (number_known f.n i k f.ds f.is q f.held) ∙ same_itself i)) ∙ p)
       passes_by shape.Else bs b p e = takes_passes p
 
       -- what takes never fails to fit
-      pub takes_it : (s : Shape) → shape_vars s ≡ [] → verdict t (told_second facts v) s ≡ Takes → fit_of g s y ≡ fits_not → ⊥
+      pub takes_it : (s : Shape) → shape_vars s ≡ [] → verdict t (known_second_word facts v) s ≡ Takes → fit_of g s y ≡ fits_not → ⊥
       takes_it (shape.Node u (x ∷ xs)) b p e = no_vars x xs b
       takes_it (shape.Node u []) b p e =
           let f : (n : Node) × (as_node g y ≡ Some n) × (nat_eq n.tag u.0 ≡ false) = node_fits_not u y e in
           takes_passes (sym p ∙ ap (λ c. cond c Takes Passes) (ap (λ k. nat_eq k u.0) (sym (tag_known f.0 f.1)) ∙ f.2))
       takes_it (shape.Int k) b p e = go (int_fits_not k y e) (nat_eq t.0 0) refl p
         where
-          number_case : (f : IntNot k y) → t.0 ≡ 0 → (o : Option Known) → told_second facts v ≡ o → number_verdict k o ≡ Takes → ⊥
+          number_case : (f : IntNot k y) → t.0 ≡ 0 → (o : Option Known) → known_second_word facts v ≡ o → number_verdict k o ≡ Takes → ⊥
           number_case f z None q p = open_takes p
           number_case f z (Some (Tag u)) q p = open_takes p
           number_case f z (Some (Number i)) q p =
@@ -379,7 +379,7 @@ module _ (g : Program) where
               let same : r.0 ≡ i = number_known f.n i r.0 r.1.0 f.is q r.1.1 in
               takes_passes (sym p ∙ ap (λ c. cond c Takes Passes) (ap (same_number k) (sym same) ∙ r.1.2))
 
-          go : IntNot k y → (c : Bool) → nat_eq t.0 0 ≡ c → cond c (number_verdict k (told_second facts v)) Passes ≡ Takes → ⊥
-          go f true q p = number_case f (grind (arith, nat_tests)) (told_second facts v) refl p
+          go : IntNot k y → (c : Bool) → nat_eq t.0 0 ≡ c → cond c (number_verdict k (known_second_word facts v)) Passes ≡ Takes → ⊥
+          go f true q p = number_case f (grind (arith, nat_tests)) (known_second_word facts v) refl p
           go f false q p = takes_passes (sym p)
       takes_it shape.Else b p e = fits_unlike e

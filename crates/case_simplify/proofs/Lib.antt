@@ -8,5 +8,5 @@ pub mod Steps
 pub mod Simulated
 pub mod Cases
 pub mod Standing
-pub mod Shape
-pub mod PassContract
+pub mod Gives
+pub mod Contract

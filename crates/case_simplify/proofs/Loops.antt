@@ -19,13 +19,13 @@ use Rattle.grin_syntax.proofs.Pieces.{all_before_push}
 use Rattle.grin_meaning.specs.Checks.{is_some_and}
 use Rattle.grin_meaning.specs.Values.{and_then}
 use Rattle.case_simplify.specs.declared.known.Fact.{Fact}
-use Rattle.case_simplify.specs.Known.{Known, Facts, facts_of, told, noted, note_known, note_copies, known_after}
-use Rattle.case_simplify.specs.Table.{Adds}
+use Rattle.case_simplify.specs.Known.{Known, Facts, facts_of, told, facts_in_alternative, note_known, note_copies, known_after}
+use Rattle.case_simplify.specs.Table.{AppendsFacts}
 use Rattle.case_simplify.proofs.Tables.{adds_none, adds_again}
-use Rattle.case_simplify.specs.Choice.{Verdict, Takes, Passes, Open, verdict, by_verdict, taken}
+use Rattle.case_simplify.specs.Choice.{Verdict, Takes, Passes, Open, verdict, by_verdict, selected_block}
 use Rattle.case_simplify.specs.declared.choice.Choice.TheVariants as chosen
-use Rattle.case_simplify.specs.Chosen.{body_at}
-use Rattle.case_simplify.specs.Simple.{same_word, is_front, is_front_val, value_given, gives_val, all_give, gives_back, simple_case, simple_act, simple_code, simple_arms, simple_arm}
+use Rattle.case_simplify.specs.Chosen.{chosen_body}
+use Rattle.case_simplify.specs.Simple.{same_word, is_prefix, is_prefix_val, returned_value, returns_val, all_arms_return, returns_scrutinee, simple_case, simple_act, simple_code, simple_arms, simple_arm}
 
 -- ---- lists from a place on
 
@@ -45,81 +45,81 @@ drop_get (x ∷ xs) (suc i) = drop_get xs i
 
 -- ---- fronts
 
-front_step : (a : W.Word) (as' ws : List W.Word) → is_front (a ∷ as') ws ≡ is_some_and (slice_get ws 0) (same_word a) && is_front as' (drop 1 ws)
+front_step : (a : W.Word) (as' ws : List W.Word) → is_prefix (a ∷ as') ws ≡ is_some_and (slice_get ws 0) (same_word a) && is_prefix as' (drop 1 ws)
 front_step a as' [] = refl
 front_step a as' (w ∷ ws) = refl
 
-front_at : (as' ws : List W.Word) (i : ℕ) (d : W.Word) → i < length as' → is_front (drop i as') (drop i ws) ≡ is_some_and (slice_get ws i) (same_word (get_or as' i d)) && is_front (drop (suc i) as') (drop (suc i) ws)
+front_at : (as' ws : List W.Word) (i : ℕ) (d : W.Word) → i < length as' → is_prefix (drop i as') (drop i ws) ≡ is_some_and (slice_get ws i) (same_word (get_or as' i d)) && is_prefix (drop (suc i) as') (drop (suc i) ws)
 front_at as' ws i d lt = let a : W.Word = get_or as' i d in
-    ap (λ l. is_front l (drop i ws)) (drop_at as' i d lt) ∙ front_step a (drop (suc i) as') (drop i ws)
-    ∙ (λ j. is_some_and (sym (drop_get ws i) j) (same_word a) && is_front (drop (suc i) as') (drop_again ws i j))
+    ap (λ l. is_prefix l (drop i ws)) (drop_at as' i d lt) ∙ front_step a (drop (suc i) as') (drop i ws)
+    ∙ (λ j. is_some_and (sym (drop_get ws i) j) (same_word a) && is_prefix (drop (suc i) as') (drop_again ws i j))
 
-pub front_next : (as' ws : List W.Word) (i k : ℕ) (d : W.Word) (b : Bool) → i < length as' → k ≡ i → b ≡ is_some_and (slice_get ws k) (same_word (get_or as' i d)) → b ≡ true → is_front as' ws ≡ is_front (drop i as') (drop i ws) → is_front as' ws ≡ is_front (drop (i + 1) as') (drop (i + 1) ws)
-front_next as' ws i k d b lt p f t h = let a : W.Word = get_or as' i d in after (λ j. is_front as' ws ≡ is_front (drop j as') (drop j ws)) i
-    (h ∙ front_at as' ws i d lt ∙ ap (λ c. c && is_front (drop (suc i) as') (drop (suc i) ws)) (ap (λ j. is_some_and (slice_get ws j) (same_word a)) (sym p) ∙ sym f ∙ t))
+pub front_next : (as' ws : List W.Word) (i k : ℕ) (d : W.Word) (b : Bool) → i < length as' → k ≡ i → b ≡ is_some_and (slice_get ws k) (same_word (get_or as' i d)) → b ≡ true → is_prefix as' ws ≡ is_prefix (drop i as') (drop i ws) → is_prefix as' ws ≡ is_prefix (drop (i + 1) as') (drop (i + 1) ws)
+front_next as' ws i k d b lt p f t h = let a : W.Word = get_or as' i d in after (λ j. is_prefix as' ws ≡ is_prefix (drop j as') (drop j ws)) i
+    (h ∙ front_at as' ws i d lt ∙ ap (λ c. c && is_prefix (drop (suc i) as') (drop (suc i) ws)) (ap (λ j. is_some_and (slice_get ws j) (same_word a)) (sym p) ∙ sym f ∙ t))
 
-pub front_stops : (as' ws : List W.Word) (i k : ℕ) (d : W.Word) (b : Bool) → i < length as' → k ≡ i → b ≡ is_some_and (slice_get ws k) (same_word (get_or as' i d)) → b ≡ false → is_front as' ws ≡ is_front (drop i as') (drop i ws) → false ≡ is_front as' ws
+pub front_stops : (as' ws : List W.Word) (i k : ℕ) (d : W.Word) (b : Bool) → i < length as' → k ≡ i → b ≡ is_some_and (slice_get ws k) (same_word (get_or as' i d)) → b ≡ false → is_prefix as' ws ≡ is_prefix (drop i as') (drop i ws) → false ≡ is_prefix as' ws
 front_stops as' ws i k d b lt p f t h = let a : W.Word = get_or as' i d in
-    sym (h ∙ front_at as' ws i d lt ∙ ap (λ c. c && is_front (drop (suc i) as') (drop (suc i) ws)) (ap (λ j. is_some_and (slice_get ws j) (same_word a)) (sym p) ∙ sym f ∙ t))
+    sym (h ∙ front_at as' ws i d lt ∙ ap (λ c. c && is_prefix (drop (suc i) as') (drop (suc i) ws)) (ap (λ j. is_some_and (slice_get ws j) (same_word a)) (sym p) ∙ sym f ∙ t))
 
-pub front_ends : (as' ws : List W.Word) (i : ℕ) → length as' ≤ i → is_front as' ws ≡ is_front (drop i as') (drop i ws) → true ≡ is_front as' ws
-front_ends as' ws i le h = sym (h ∙ ap (λ l. is_front l (drop i ws)) (drop_past as' i le))
+pub front_ends : (as' ws : List W.Word) (i : ℕ) → length as' ≤ i → is_prefix as' ws ≡ is_prefix (drop i as') (drop i ws) → true ≡ is_prefix as' ws
+front_ends as' ws i le h = sym (h ∙ ap (λ l. is_prefix l (drop i ws)) (drop_past as' i le))
 
 -- ---- alternatives
 
 abbrev pub rest_of : List Alt → ℕ → Arms
 rest_of alts i = arms_of (map arm_of (drop i alts))
 
-taken_step : (t : TagId) (second : Option Known) (a : Alt) (as' : List Alt) → taken t second (arms_of (map arm_of (a ∷ as'))) ≡ by_verdict (verdict t second a.pattern) (code_of a.body) (taken t second (arms_of (map arm_of as')))
-taken_step t second a as' = ap (λ p. by_verdict (verdict t second p.0) p.1 (taken t second (arms_of (map arm_of as')))) (arm_of-parts a)
+taken_step : (t : TagId) (second : Option Known) (a : Alt) (as' : List Alt) → selected_block t second (arms_of (map arm_of (a ∷ as'))) ≡ by_verdict (verdict t second a.pattern) (code_of a.body) (selected_block t second (arms_of (map arm_of as')))
+taken_step t second a as' = ap (λ p. by_verdict (verdict t second p.0) p.1 (selected_block t second (arms_of (map arm_of as')))) (arm_of-parts a)
 
-taken_at : (t : TagId) (second : Option Known) (alts : List Alt) (i : ℕ) (a : Alt) → i < length alts → a ≡ get_or alts i a → taken t second (rest_of alts i) ≡ by_verdict (verdict t second a.pattern) (code_of a.body) (taken t second (rest_of alts (suc i)))
-taken_at t second alts i a lt at = ap (λ l. taken t second (arms_of (map arm_of l))) (drop_next alts i a lt at) ∙ taken_step t second a (drop (suc i) alts)
+taken_at : (t : TagId) (second : Option Known) (alts : List Alt) (i : ℕ) (a : Alt) → i < length alts → a ≡ get_or alts i a → selected_block t second (rest_of alts i) ≡ by_verdict (verdict t second a.pattern) (code_of a.body) (selected_block t second (rest_of alts (suc i)))
+taken_at t second alts i a lt at = ap (λ l. selected_block t second (arms_of (map arm_of l))) (drop_next alts i a lt at) ∙ taken_step t second a (drop (suc i) alts)
 
 pub taken_next : (t : TagId) (second : Option Known) (alts : List Alt) (i : ℕ) (a : Alt) (v : Verdict) → i < length alts → a ≡ get_or alts i a → v ≡ verdict t second a.pattern → v ≡ Passes
-    → taken t second (arms_of (map arm_of alts)) ≡ taken t second (rest_of alts i) → taken t second (arms_of (map arm_of alts)) ≡ taken t second (rest_of alts (i + 1))
-taken_next t second alts i a v lt at e p h = after (λ j. taken t second (arms_of (map arm_of alts)) ≡ taken t second (rest_of alts j)) i
-    (h ∙ taken_at t second alts i a lt at ∙ ap (λ q. by_verdict q (code_of a.body) (taken t second (rest_of alts (suc i)))) (sym e ∙ p))
+    → selected_block t second (arms_of (map arm_of alts)) ≡ selected_block t second (rest_of alts i) → selected_block t second (arms_of (map arm_of alts)) ≡ selected_block t second (rest_of alts (i + 1))
+taken_next t second alts i a v lt at e p h = after (λ j. selected_block t second (arms_of (map arm_of alts)) ≡ selected_block t second (rest_of alts j)) i
+    (h ∙ taken_at t second alts i a lt at ∙ ap (λ q. by_verdict q (code_of a.body) (selected_block t second (rest_of alts (suc i)))) (sym e ∙ p))
 
 pub taken_here : (t : TagId) (second : Option Known) (alts : List Alt) (i k : ℕ) (a : Alt) (v : Verdict) → i < length alts → a ≡ get_or alts i a → k ≡ i → v ≡ verdict t second a.pattern → v ≡ Takes
-    → taken t second (arms_of (map arm_of alts)) ≡ taken t second (rest_of alts i) → body_at (chosen.Takes k) alts ≡ taken t second (arms_of (map arm_of alts))
+    → selected_block t second (arms_of (map arm_of alts)) ≡ selected_block t second (rest_of alts i) → chosen_body (chosen.Takes k) alts ≡ selected_block t second (arms_of (map arm_of alts))
 taken_here t second alts i k a v lt at n e p h =
     ap (λ j. and_then (slice_get alts j) (λ b. Some (code_of b.body))) n ∙ ap (λ o. and_then o (λ b. Some (code_of b.body))) (get_is alts i a lt at)
-    ∙ sym (h ∙ taken_at t second alts i a lt at ∙ ap (λ q. by_verdict q (code_of a.body) (taken t second (rest_of alts (suc i)))) (sym e ∙ p))
+    ∙ sym (h ∙ taken_at t second alts i a lt at ∙ ap (λ q. by_verdict q (code_of a.body) (selected_block t second (rest_of alts (suc i)))) (sym e ∙ p))
 
 pub taken_open : (t : TagId) (second : Option Known) (alts : List Alt) (i : ℕ) (a : Alt) (v : Verdict) → i < length alts → a ≡ get_or alts i a → v ≡ verdict t second a.pattern → v ≡ Open
-    → taken t second (arms_of (map arm_of alts)) ≡ taken t second (rest_of alts i) → None ≡ taken t second (arms_of (map arm_of alts))
-taken_open t second alts i a v lt at e p h = sym (h ∙ taken_at t second alts i a lt at ∙ ap (λ q. by_verdict q (code_of a.body) (taken t second (rest_of alts (suc i)))) (sym e ∙ p))
+    → selected_block t second (arms_of (map arm_of alts)) ≡ selected_block t second (rest_of alts i) → None ≡ selected_block t second (arms_of (map arm_of alts))
+taken_open t second alts i a v lt at e p h = sym (h ∙ taken_at t second alts i a lt at ∙ ap (λ q. by_verdict q (code_of a.body) (selected_block t second (rest_of alts (suc i)))) (sym e ∙ p))
 
-pub taken_ends : (t : TagId) (second : Option Known) (alts : List Alt) (i : ℕ) → length alts ≤ i → taken t second (arms_of (map arm_of alts)) ≡ taken t second (rest_of alts i) → Some (end fail) ≡ taken t second (arms_of (map arm_of alts))
-taken_ends t second alts i le h = sym (h ∙ ap (λ l. taken t second (arms_of (map arm_of l))) (drop_past alts i le))
+pub taken_ends : (t : TagId) (second : Option Known) (alts : List Alt) (i : ℕ) → length alts ≤ i → selected_block t second (arms_of (map arm_of alts)) ≡ selected_block t second (rest_of alts i) → Some (end fail) ≡ selected_block t second (arms_of (map arm_of alts))
+taken_ends t second alts i le h = sym (h ∙ ap (λ l. selected_block t second (arms_of (map arm_of l))) (drop_past alts i le))
 
-all_at : (u : Val) (alts : List Alt) (i : ℕ) (a : Alt) → i < length alts → a ≡ get_or alts i a → all_give u (rest_of alts i) ≡ gives_val u (code_of a.body) && all_give u (rest_of alts (suc i))
-all_at u alts i a lt at = ap (λ l. all_give u (arms_of (map arm_of l))) (drop_next alts i a lt at) ∙ ap (λ p. gives_val u p.1 && all_give u (rest_of alts (suc i))) (arm_of-parts a)
+all_at : (u : Val) (alts : List Alt) (i : ℕ) (a : Alt) → i < length alts → a ≡ get_or alts i a → all_arms_return u (rest_of alts i) ≡ returns_val u (code_of a.body) && all_arms_return u (rest_of alts (suc i))
+all_at u alts i a lt at = ap (λ l. all_arms_return u (arms_of (map arm_of l))) (drop_next alts i a lt at) ∙ ap (λ p. returns_val u p.1 && all_arms_return u (rest_of alts (suc i))) (arm_of-parts a)
 
-pub all_next : (u : Val) (alts : List Alt) (i : ℕ) (a : Alt) (b : Bool) → i < length alts → a ≡ get_or alts i a → b ≡ gives_val u (code_of a.body) → b ≡ true
-    → all_give u (arms_of (map arm_of alts)) ≡ all_give u (rest_of alts i) → all_give u (arms_of (map arm_of alts)) ≡ all_give u (rest_of alts (i + 1))
-all_next u alts i a b lt at e p h = after (λ j. all_give u (arms_of (map arm_of alts)) ≡ all_give u (rest_of alts j)) i
-    (h ∙ all_at u alts i a lt at ∙ ap (λ q. q && all_give u (rest_of alts (suc i))) (sym e ∙ p))
+pub all_next : (u : Val) (alts : List Alt) (i : ℕ) (a : Alt) (b : Bool) → i < length alts → a ≡ get_or alts i a → b ≡ returns_val u (code_of a.body) → b ≡ true
+    → all_arms_return u (arms_of (map arm_of alts)) ≡ all_arms_return u (rest_of alts i) → all_arms_return u (arms_of (map arm_of alts)) ≡ all_arms_return u (rest_of alts (i + 1))
+all_next u alts i a b lt at e p h = after (λ j. all_arms_return u (arms_of (map arm_of alts)) ≡ all_arms_return u (rest_of alts j)) i
+    (h ∙ all_at u alts i a lt at ∙ ap (λ q. q && all_arms_return u (rest_of alts (suc i))) (sym e ∙ p))
 
-pub all_stops : (u : Val) (alts : List Alt) (i : ℕ) (a : Alt) (b : Bool) → i < length alts → a ≡ get_or alts i a → b ≡ gives_val u (code_of a.body) → b ≡ false
-    → all_give u (arms_of (map arm_of alts)) ≡ all_give u (rest_of alts i) → false ≡ all_give u (arms_of (map arm_of alts))
-all_stops u alts i a b lt at e p h = sym (h ∙ all_at u alts i a lt at ∙ ap (λ q. q && all_give u (rest_of alts (suc i))) (sym e ∙ p))
+pub all_stops : (u : Val) (alts : List Alt) (i : ℕ) (a : Alt) (b : Bool) → i < length alts → a ≡ get_or alts i a → b ≡ returns_val u (code_of a.body) → b ≡ false
+    → all_arms_return u (arms_of (map arm_of alts)) ≡ all_arms_return u (rest_of alts i) → false ≡ all_arms_return u (arms_of (map arm_of alts))
+all_stops u alts i a b lt at e p h = sym (h ∙ all_at u alts i a lt at ∙ ap (λ q. q && all_arms_return u (rest_of alts (suc i))) (sym e ∙ p))
 
-pub all_ends : (u : Val) (alts : List Alt) (i : ℕ) → length alts ≤ i → all_give u (arms_of (map arm_of alts)) ≡ all_give u (rest_of alts i) → true ≡ all_give u (arms_of (map arm_of alts))
-all_ends u alts i le h = sym (h ∙ ap (λ l. all_give u (arms_of (map arm_of l))) (drop_past alts i le))
+pub all_ends : (u : Val) (alts : List Alt) (i : ℕ) → length alts ≤ i → all_arms_return u (arms_of (map arm_of alts)) ≡ all_arms_return u (rest_of alts i) → true ≡ all_arms_return u (arms_of (map arm_of alts))
+all_ends u alts i le h = sym (h ∙ ap (λ l. all_arms_return u (arms_of (map arm_of l))) (drop_past alts i le))
 
 -- ---- blocks
 
 -- these statements are what becomes of those, and what is known after them was added
 pub record Simplifies (old now : List Fact) (made from : List Stmt) : Type 0 where
   pub by : (c : Code) → all_before (map before_of made) (simple_code (facts_of now) c) ≡ simple_code (facts_of old) (all_before (map before_of from) c)
-  pub adds : Adds old now
+  pub adds : AppendsFacts old now
 
 pub none_simplify : (old : List Fact) → Simplifies old old [] []
 none_simplify old = record { by = λ c. refl; adds = adds_none old }
 
-pub one_more_simplifies : (old now new : List Fact) (made from : List Stmt) (m s : Stmt) → Simplifies old now made from → ((c : Code) → before_of m (simple_code (facts_of new) c) ≡ simple_code (facts_of now) (before_of s c)) → Adds now new
+pub one_more_simplifies : (old now new : List Fact) (made from : List Stmt) (m s : Stmt) → Simplifies old now made from → ((c : Code) → before_of m (simple_code (facts_of new) c) ≡ simple_code (facts_of now) (before_of s c)) → AppendsFacts now new
     → Simplifies old new (made ++ m ∷ []) (from ++ s ∷ [])
 one_more_simplifies old now new made from m s u h k = record {
   by = λ c. all_before_push made m (simple_code (facts_of new) c) ∙ ap (all_before (map before_of made)) (h c) ∙ u.by (before_of s c) ∙ ap (simple_code (facts_of old)) (sym (all_before_push from s c));
@@ -175,7 +175,7 @@ copies_end xs ws i facts now le h = sym (h ∙ ap (λ l. note_copies l (drop i w
 arms_simplify : (facts : Facts) (v : Val) (as' : List (Shape × Code)) → arms_of (map (simple_arm facts v) as') ≡ simple_arms facts v (arms_of as')
 unfolding simple_act
 arms_simplify facts v [] = refl
-arms_simplify facts v (a ∷ as') = ap (arm a.0 (simple_code (noted v a.0 facts) a.1)) (arms_simplify facts v as')
+arms_simplify facts v (a ∷ as') = ap (arm a.0 (simple_code (facts_in_alternative v a.0 facts) a.1)) (arms_simplify facts v as')
 
 pub case_simplifies : (facts : Facts) (v : Val) (made alts : List Alt) (o : Act) → map arm_of made ≡ map (simple_arm facts v) (map arm_of alts) → o ≡ simple_case facts v (arms_of (map arm_of made)) → o ≡ simple_act facts (act_of (Case v alts))
 unfolding simple_act
@@ -194,30 +194,30 @@ all_nested (s ∷ ss) c h = before_nested s (all_before (map before_of ss) c)
 pub block_nested : (b : Block) → (b.stmts ≡ [] → ⊥) → as_act (code_of b) ≡ nested (code_of b)
 block_nested b h = rw code_of-parts (all_nested b.stmts (end (act_of b.last.value)) h)
 
-before_given : (s : Stmt) (c : Code) → value_given (before_of s c) ≡ None
+before_given : (s : Stmt) (c : Code) → returned_value (before_of s c) ≡ None
 before_given (Store cells) c = rw before_of-Store refl
 before_given (Bind t o) c = rw before_of-Bind refl
 
-all_given : (ss : List Stmt) (c : Code) → (ss ≡ [] → ⊥) → value_given (all_before (map before_of ss) c) ≡ None
+all_given : (ss : List Stmt) (c : Code) → (ss ≡ [] → ⊥) → returned_value (all_before (map before_of ss) c) ≡ None
 all_given [] c h = absurd (h refl)
 all_given (s ∷ ss) c h = before_given s (all_before (map before_of ss) c)
 
 -- a block with statements does more than give a value
-pub none_given : (b : Block) → (b.stmts ≡ [] → ⊥) → value_given (code_of b) ≡ None
+pub none_given : (b : Block) → (b.stmts ≡ [] → ⊥) → returned_value (code_of b) ≡ None
 none_given b h = rw code_of-parts (all_given b.stmts (end (act_of b.last.value)) h)
 
 -- the first alternative says whether all of them give back the value
-pub gives_first : (v : Val) (alts : List Alt) (a : Alt) → slice_get alts 0 ≡ Some a → gives_back v (arms_of (map arm_of alts)) ≡ is_some_and (value_given (code_of a.body)) (λ u. is_front_val u v && all_give u (arms_of (map arm_of alts)))
+pub gives_first : (v : Val) (alts : List Alt) (a : Alt) → slice_get alts 0 ≡ Some a → returns_scrutinee v (arms_of (map arm_of alts)) ≡ is_some_and (returned_value (code_of a.body)) (λ u. is_prefix_val u v && all_arms_return u (arms_of (map arm_of alts)))
 gives_first v [] a e = no_first e
   where
     no_first : {A : Type 0} → ◌≡◌ {A = Option Alt} None (Some a) → A
     no_first h = cc
-gives_first v (b ∷ alts) a e = ap (λ p. is_some_and (value_given p) (λ u. is_front_val u v && all_give u (arms_of (map arm_of (b ∷ alts))))) (ap (λ q. q.1) (arm_of-parts b) ∙ ap (λ c. code_of c.body) (first_is e))
+gives_first v (b ∷ alts) a e = ap (λ p. is_some_and (returned_value p) (λ u. is_prefix_val u v && all_arms_return u (arms_of (map arm_of (b ∷ alts))))) (ap (λ q. q.1) (arm_of-parts b) ∙ ap (λ c. code_of c.body) (first_is e))
   where
     first_is : ◌≡◌ {A = Option Alt} (Some b) (Some a) → b ≡ a
     first_is h = cc
 
-pub gives_none : (v : Val) (alts : List Alt) → slice_get alts 0 ≡ None → gives_back v (arms_of (map arm_of alts)) ≡ false
+pub gives_none : (v : Val) (alts : List Alt) → slice_get alts 0 ≡ None → returns_scrutinee v (arms_of (map arm_of alts)) ≡ false
 gives_none v [] e = refl
 gives_none v (a ∷ alts) e = some_first e
   where

@@ -13,8 +13,8 @@ use Rattle.grin_syntax.specs.declared.program.Val as V
 use Rattle.grin_syntax.specs.declared.program.Val.TheVariants.{NodeVar, Node, Vector, One}
 use Rattle.grin_syntax.specs.Tree.{Act, unit, fetch, fetch_word, update, eval, apply, call, prim, read, write, case, nested, fail, Program}
 use Rattle.grin_syntax.specs.Binders.{numbers_of, target_vars}
-use Rattle.grin_syntax.specs.Formed.{AllOf, Scope, InScope, with_words, with_target, WordFormed, ValFormed}
-use Rattle.case_simplify.specs.Known.{Known, Facts, note, told, first_word, second_word, note_word, note_known, note_copies, words_in, word_vars, known_after, noted}
+use Rattle.grin_syntax.specs.Formed.{AllOf, Scope, InScope, with_word_variables, with_target, WordFormed, ValFormed}
+use Rattle.case_simplify.specs.Known.{Known, Facts, note, told, first_word, second_word, note_word, note_known, note_copies, words_in, word_vars, known_after, facts_in_alternative}
 use Rattle.seq.specs.Lists.{times}
 use Rattle.grin_meaning.proofs.Scopes.{Once, target_adds, scope_left}
 use Rattle.seq.proofs.Order.{eq_self}
@@ -38,10 +38,10 @@ once_target t scope bs once y =
 
 -- ---- what is known
 
-pub in_words : (xs : List ℕ) (scope : Scope) (y : ℕ) → InScope scope.words y → InScope (with_words xs scope).words y
+pub in_words : (xs : List ℕ) (scope : Scope) (y : ℕ) → InScope scope.words y → InScope (with_word_variables xs scope).words y
 in_words xs scope y i = let e : times y (xs ++ scope.words) ≡ times y xs + times y scope.words = times_append y xs scope.words in omega (arith, e, i)
 
-pub inside_words : (facts : Facts) (xs : List ℕ) (scope : Scope) → Inside facts scope → Inside facts (with_words xs scope)
+pub inside_words : (facts : Facts) (xs : List ℕ) (scope : Scope) → Inside facts scope → Inside facts (with_word_variables xs scope)
 inside_words facts xs scope i y k e = in_words xs scope y (i y k e)
 
 pub inside_target : (facts : Facts) (t : Target) (scope : Scope) → Inside facts scope → Inside facts (with_target t scope)
@@ -81,7 +81,7 @@ module _ (g : Program) (scope : Scope) where
   second_formed (Vector ws) f w e = all_get (WordFormed g scope) ws 1 w f e
   second_formed (One a) f w e = none_is_some e
 
-  pub noted_inside : (facts : Facts) (v : V.Val) (s : Shape) → ValFormed g scope v → Inside facts scope → Inside (noted v s facts) scope
+  pub noted_inside : (facts : Facts) (v : V.Val) (s : Shape) → ValFormed g scope v → Inside facts scope → Inside (facts_in_alternative v s facts) scope
   noted_inside facts v (shape.Node t xs) f i = note_word_inside facts (first_word v) _ (first_formed v f) i
   noted_inside facts v (shape.Int k) f i = note_word_inside _ (second_word v) _ (second_formed v f) (note_word_inside facts (first_word v) _ (first_formed v f) i)
   noted_inside facts v shape.Else f i = i

@@ -8,14 +8,14 @@ use Rattle.grin_syntax.specs.declared.program.Target.TheVariants as to
 use Rattle.grin_syntax.specs.declared.program.Val.{Val}
 use Rattle.grin_syntax.specs.Tree.{Code, end, store, bind, Act, unit, fetch, fetch_word, update, eval, apply, call, prim, read, write, case, nested, fail, Arms, no_arm, arm, Procedure, Program}
 use Rattle.grin_syntax.specs.Binders.{numbers_of, target_vars, shape_vars, cell_vars, act_vars, code_vars, arms_vars, procs_vars}
-use Rattle.grin_syntax.specs.Formed.{AllOf, Scope, with_words, with_target, params_scope, ValFormed, ActFormed, CodeFormed, ArmsFormed, ProcedureFormed, Formed}
+use Rattle.grin_syntax.specs.Formed.{AllOf, Scope, with_word_variables, with_target, params_scope, ValFormed, ActFormed, CodeFormed, ArmsFormed, ProcedureFormed, Formed}
 use Rattle.grin_meaning.specs.Values.{Datum, Value, Env, HeapCell, and_then, Binding, with_vars, one_each, only_word, value_of, bindings_of}
 use Rattle.grin_meaning.specs.Run.{Calls, places, cells_of}
 use Rattle.grin_meaning.specs.Checks.{has_block, is_fetch, is_node_target, not_delayed, is_given, all_fill, is_bound_well}
-use Rattle.grin_meaning.specs.Ready.{EachAct, EachCode, EachArms, NoNodeTarget, IsVectorised, EachBody, vectorised_kind}
+use Rattle.grin_meaning.specs.Ready.{EachAct, EachCode, EachArms, NoNodeTarget, IsVectorised, EveryBodyIsOfKind, vectorised_kind}
 use Rattle.grin_meaning.specs.Rewritten.{rewritten_procedure}
 use Rattle.grin_meaning.specs.Keeps.{Keeps}
-use Rattle.grin_meaning.specs.Looking.{look, LooksNeverMissing}
+use Rattle.grin_meaning.specs.Looking.{checked_run, CheckedRunsNeverMissing}
 use Rattle.grin_meaning.specs.Follows.{Same, same}
 use Rattle.grin_meaning.proofs.Names.{Any, any_act, any_cells}
 use Rattle.grin_meaning.proofs.Back.{CallsBack}
@@ -25,7 +25,7 @@ use Rattle.grin_meaning.proofs.Procedures.{BodyFollows, BodiesFollow, no_more, o
 use Rattle.grin_meaning.proofs.Plain.{Has, IsLeaf, IsPlain, vars_have, having, leaf_follows, cells_have, all_fill_too, same_is}
 use Rattle.grin_meaning.proofs.KeptBy.{likewise_kept, looking_kept}
 use Rattle.grin_meaning.proofs.Bodies.{AnyState, every_any}
-use Rattle.case_simplify.specs.Known.{Known, Facts, nothing_known, note_copies, words_in, word_vars, known_after, noted}
+use Rattle.case_simplify.specs.Known.{Known, Facts, nothing_known, note_copies, words_in, word_vars, known_after, facts_in_alternative}
 use Rattle.case_simplify.specs.Simple.{simple_act, simple_code, simplified}
 use Rattle.case_simplify.proofs.Held.{some_and, places_keys, bindings_keys, datum_of, Holds, holds_on}
 use Rattle.case_simplify.proofs.Copied.{value_agrees, after_holds}
@@ -202,7 +202,7 @@ module _ (g : Program) (vectorised : IsVectorised g) (procs : List Procedure) wh
       code_goes (end o) facts scope q = end_follows st o (simple_act facts o)
           (act_goes o facts scope (record { inside_act = q.inside_code; formed_act = q.formed_code; vector_act = q.vector_code; once_act = q.once_code }))
       code_goes (store cs b) facts scope q = store_follows st {R = Knowing g facts} {R' = Knowing g facts} cs cs b (simple_code facts b)
-          (code_goes b facts (with_words (cell_vars cs) scope) (record {
+          (code_goes b facts (with_word_variables (cell_vars cs) scope) (record {
             inside_code = inside_words facts (cell_vars cs) scope q.inside_code;
             formed_code = q.formed_code.1;
             vector_code = q.vector_code.1;
@@ -228,11 +228,11 @@ module _ (g : Program) (vectorised : IsVectorised g) (procs : List Procedure) wh
       arms_go v no_arm facts scope q = tt
       arms_go v (arm s b as') facts scope q = (
         q.vector_arms.0,
-        code_goes b (noted v s facts) (with_words (shape_vars s) scope) (record {
-          inside_code = inside_words (noted v s facts) (shape_vars s) scope (noted_inside g scope facts v s q.formed_val q.inside_arms);
+        code_goes b (facts_in_alternative v s facts) (with_word_variables (shape_vars s) scope) (record {
+          inside_code = inside_words (facts_in_alternative v s facts) (shape_vars s) scope (noted_inside g scope facts v s q.formed_val q.inside_arms);
           formed_code = q.formed_arms.1;
           vector_code = q.vector_arms.1;
-          once_code = once_left (with_words (shape_vars s) scope) (code_vars b) (arms_vars as') (once_words scope (shape_vars s) (code_vars b ++ arms_vars as') q.once_arms);
+          once_code = once_left (with_word_variables (shape_vars s) scope) (code_vars b) (arms_vars as') (once_words scope (shape_vars s) (code_vars b ++ arms_vars as') q.once_arms);
         }),
         arms_go v as' facts scope (record {
           inside_arms = q.inside_arms;
@@ -268,7 +268,7 @@ module _ (g : Program) (vectorised : IsVectorised g) (procs : List Procedure) wh
         given_too : {v v' : Value} → Same v v' → Seen true (is_given g v) → Seen true (is_given g v') × Same v v'
         given_too same seen = (seen, same)
 
-    bodies_go : (f : ℕ) (qs : List Procedure) → AllOf (ProcedureFormed g) qs → EachBody vectorised_kind qs → ((y : ℕ) → times y (procs_vars qs) ≤ 1) → BodiesFollow st f qs (map (rewritten_procedure (simple_code nothing_known)) qs)
+    bodies_go : (f : ℕ) (qs : List Procedure) → AllOf (ProcedureFormed g) qs → EveryBodyIsOfKind vectorised_kind qs → ((y : ℕ) → times y (procs_vars qs) ≤ 1) → BodiesFollow st f qs (map (rewritten_procedure (simple_code nothing_known)) qs)
     bodies_go f [] fq vq once = no_more
     bodies_go f (q ∷ qs) fq vq once = one_more {f = f} {q = q} {r = rewritten_procedure (simple_code nothing_known) q} (body_goes f q fq.0 vq.0 (λ y. (first y (once y)))) (bodies_go (suc f) qs fq.1 vq.1 (λ y. later y (once y)))
       where
@@ -280,12 +280,12 @@ module _ (g : Program) (vectorised : IsVectorised g) (procs : List Procedure) wh
 
 -- ---- the whole program
 
-module _ (g : Program) (formed : Formed g) (vectorised : IsVectorised g) (never : LooksNeverMissing g) where
+module _ (g : Program) (formed : Formed g) (vectorised : IsVectorised g) (never : CheckedRunsNeverMissing g) where
   abbrev bodies : List Procedure
   bodies = map (rewritten_procedure (simple_code nothing_known)) g.procs
 
-  goes_likewise : (i : List ℕ) (n : ℕ) → Likewise no_deeper Same (look g i n) (look (simplified g) i n)
+  goes_likewise : (i : List ℕ) (n : ℕ) → Likewise no_deeper Same (checked_run g i n) (checked_run (simplified g) i n)
   goes_likewise i n = run_follows (looked g bodies) (λ c c' cb cf. bodies_go g vectorised bodies c c' cb cf 0 g.procs formed.procedures vectorised formed.variables_once) i n same same (every_any _)
 
-  pub simplified_kept : LooksNeverMissing (simplified g) × Keeps g (simplified g)
-  simplified_kept = looking_kept g (simplified g) never (λ i n. likewise_kept no_deeper Same (look g i n) (look (simplified g) i n) (goes_likewise i n))
+  pub simplified_kept : CheckedRunsNeverMissing (simplified g) × Keeps g (simplified g)
+  simplified_kept = looking_kept g (simplified g) never (λ i n. likewise_kept no_deeper Same (checked_run g i n) (checked_run (simplified g) i n) (goes_likewise i n))

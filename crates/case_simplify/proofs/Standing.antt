@@ -4,12 +4,12 @@ use Rattle.grin_syntax.specs.declared.program.Shape.{Shape}
 use Rattle.grin_syntax.specs.declared.program.Val.{Val}
 use Rattle.grin_syntax.specs.Tree.{Code, end, store, bind, Act, unit, fetch, fetch_word, update, eval, apply, call, prim, read, write, case, nested, fail, Arms, no_arm, arm, Procedure, Program, as_act}
 use Rattle.grin_syntax.specs.Binders.{numbers_of, target_vars, shape_vars, cell_vars, act_vars, code_vars, arms_vars, procs_vars, act_sites, code_sites, arms_sites, procs_sites}
-use Rattle.grin_syntax.specs.Formed.{AllOf, Scope, with_words, with_target, params_scope, ActFormed, CodeFormed, ArmsFormed, ProcedureFormed}
+use Rattle.grin_syntax.specs.Formed.{AllOf, Scope, with_word_variables, with_target, params_scope, ActFormed, CodeFormed, ArmsFormed, ProcedureFormed}
 use Rattle.grin_syntax.specs.SameOutside.{names_of}
 use Rattle.grin_syntax.proofs.Scopes.{with_procs, known_again}
-use Rattle.grin_meaning.specs.Ready.{EachAct, EachCode, EachArms, NarrowAct, NarrowCode, NarrowArms, Kind, EachBody, vectorised_kind}
+use Rattle.grin_meaning.specs.Ready.{EachAct, EachCode, EachArms, NarrowAct, NarrowCode, NarrowArms, PieceKind, EveryBodyIsOfKind, vectorised_kind}
 use Rattle.grin_meaning.specs.Rewritten.{rewritten_procedure}
-use Rattle.case_simplify.specs.Known.{Facts, nothing_known, known_after, noted}
+use Rattle.case_simplify.specs.Known.{Facts, nothing_known, known_after, facts_in_alternative}
 use Rattle.case_simplify.specs.Simple.{simple_act, simple_code, simple_arms}
 use Rattle.case_simplify.proofs.Cases.{case_has}
 use Rattle.seq.specs.Lists.{times}
@@ -74,8 +74,8 @@ module _ (y : ℕ) where
 
     arms_vars_fewer : (v : Val) (as' : Arms) (facts : Facts) → times y (arms_vars (simple_arms facts v as')) ≤ times y (arms_vars as')
     arms_vars_fewer v no_arm facts = omega arith
-    arms_vars_fewer v (arm s b as') facts = times_fewer y (shape_vars s) (code_vars (simple_code (noted v s facts) b) ++ arms_vars (simple_arms facts v as')) (shape_vars s) (code_vars b ++ arms_vars as') (same_times y (shape_vars s))
-        (times_fewer y (code_vars (simple_code (noted v s facts) b)) (arms_vars (simple_arms facts v as')) (code_vars b) (arms_vars as') (code_vars_fewer b (noted v s facts)) (arms_vars_fewer v as' facts))
+    arms_vars_fewer v (arm s b as') facts = times_fewer y (shape_vars s) (code_vars (simple_code (facts_in_alternative v s facts) b) ++ arms_vars (simple_arms facts v as')) (shape_vars s) (code_vars b ++ arms_vars as') (same_times y (shape_vars s))
+        (times_fewer y (code_vars (simple_code (facts_in_alternative v s facts) b)) (arms_vars (simple_arms facts v as')) (code_vars b) (arms_vars as') (code_vars_fewer b (facts_in_alternative v s facts)) (arms_vars_fewer v as' facts))
 
   pub procs_vars_fewer : (qs : List Procedure) → times y (procs_vars (map simple_procedure qs)) ≤ times y (procs_vars qs)
   procs_vars_fewer [] = omega arith
@@ -123,7 +123,7 @@ module _ (y : ℕ) where
 
     arms_sites_fewer : (v : Val) (as' : Arms) (facts : Facts) → times y (arms_sites (simple_arms facts v as')) ≤ times y (arms_sites as')
     arms_sites_fewer v no_arm facts = omega arith
-    arms_sites_fewer v (arm s b as') facts = times_fewer y (code_sites (simple_code (noted v s facts) b)) (arms_sites (simple_arms facts v as')) (code_sites b) (arms_sites as') (code_sites_fewer b (noted v s facts)) (arms_sites_fewer v as' facts)
+    arms_sites_fewer v (arm s b as') facts = times_fewer y (code_sites (simple_code (facts_in_alternative v s facts) b)) (arms_sites (simple_arms facts v as')) (code_sites b) (arms_sites as') (code_sites_fewer b (facts_in_alternative v s facts)) (arms_sites_fewer v as' facts)
 
   pub procs_sites_fewer : (qs : List Procedure) → times y (procs_sites (map simple_procedure qs)) ≤ times y (procs_sites qs)
   procs_sites_fewer [] = omega arith
@@ -131,7 +131,7 @@ module _ (y : ℕ) where
 
 -- ---- each operation
 
-module _ (K : Kind)
+module _ (K : PieceKind)
     (of_nested : (b : Code) → K.operation (nested b)) (of_case : (v : Val) (as' : Arms) → K.operation (case v as')) (of_fail : K.operation fail) where
   each_block : (b : Code) → EachCode K b → EachAct K (as_act b)
   unfolding EachAct
@@ -174,9 +174,9 @@ module _ (K : Kind)
 
     pub arms_each : (v : Val) (as' : Arms) (facts : Facts) → EachArms K as' → EachArms K (simple_arms facts v as')
     arms_each v no_arm facts h = tt
-    arms_each v (arm s b as') facts h = (h.0, code_each b (noted v s facts) h.1, arms_each v as' facts h.2)
+    arms_each v (arm s b as') facts h = (h.0, code_each b (facts_in_alternative v s facts) h.1, arms_each v as' facts h.2)
 
-  pub procs_each : (qs : List Procedure) → EachBody K qs → EachBody K (map simple_procedure qs)
+  pub procs_each : (qs : List Procedure) → EveryBodyIsOfKind K qs → EveryBodyIsOfKind K (map simple_procedure qs)
   procs_each [] h = tt
   procs_each (q ∷ qs) h = (code_each q.body nothing_known h.0, procs_each qs h.1)
 
@@ -222,7 +222,7 @@ module _ (node_width most : ℕ) where
 
     arms_narrow : (v : Val) (as' : Arms) (facts : Facts) → NarrowArms node_width most as' → NarrowArms node_width most (simple_arms facts v as')
     arms_narrow v no_arm facts h = tt
-    arms_narrow v (arm s b as') facts h = (code_narrow b (noted v s facts) h.0, arms_narrow v as' facts h.1)
+    arms_narrow v (arm s b as') facts h = (code_narrow b (facts_in_alternative v s facts) h.0, arms_narrow v as' facts h.1)
 
   pub procs_narrow : (qs : List Procedure) → AllOf (λ q. NarrowCode node_width most q.body) qs → AllOf (λ q. NarrowCode node_width most q.body) (map simple_procedure qs)
   procs_narrow [] h = tt
@@ -264,7 +264,7 @@ module _ (p : Program) (procs : List Procedure) (same_count : length procs ≡ l
   -- patterns bind nothing, so an alternative is well formed where its case stands
   formed_split : (scope : Scope) (s : Shape) (b : Code) (as' : Arms) → ArmsFormed after scope (arm s b as') × VectorArms (arm s b as') → CodeFormed after scope b × (ArmsFormed after scope as' × VectorArms as')
   unfolding ActFormed EachAct
-  formed_split scope s b as' h = (subst (λ xs. CodeFormed after (with_words xs scope) b) h.1.0 h.0.1, (h.0.2, h.1.2))
+  formed_split scope s b as' h = (subst (λ xs. CodeFormed after (with_word_variables xs scope) b) h.1.0 h.0.1, (h.0.2, h.1.2))
 
   mutual
     unfolding simple_act ActFormed EachAct
@@ -289,12 +289,12 @@ module _ (p : Program) (procs : List Procedure) (same_count : length procs ≡ l
 
     code_formed : (b : Code) (facts : Facts) (scope : Scope) → VectorCode b → CodeFormed p scope b → CodeFormed after scope (simple_code facts b)
     code_formed (end o) facts scope n h = act_formed o facts scope n h
-    code_formed (store cs b) facts scope n h = (h.0, code_formed b facts (with_words (cell_vars cs) scope) n.1 h.1)
+    code_formed (store cs b) facts scope n h = (h.0, code_formed b facts (with_word_variables (cell_vars cs) scope) n.1 h.1)
     code_formed (bind t o b) facts scope n h = (act_formed o facts scope n.1 h.0, code_formed b (known_after t (simple_act facts o) facts) (with_target t scope) n.2 h.1)
 
     arms_formed : (v : Val) (as' : Arms) (facts : Facts) (scope : Scope) → VectorArms as' → ArmsFormed p scope as' → ArmsFormed after scope (simple_arms facts v as')
     arms_formed v no_arm facts scope n h = tt
-    arms_formed v (arm s b as') facts scope n h = (h.0, code_formed b (noted v s facts) (with_words (shape_vars s) scope) n.1 h.1, arms_formed v as' facts scope n.2 h.2)
+    arms_formed v (arm s b as') facts scope n h = (h.0, code_formed b (facts_in_alternative v s facts) (with_word_variables (shape_vars s) scope) n.1 h.1, arms_formed v as' facts scope n.2 h.2)
 
   pub bodies_formed : (qs : List Procedure) → AllOf (λ q. VectorCode q.body) qs → AllOf (ProcedureFormed p) qs → AllOf (ProcedureFormed after) (map simple_procedure qs)
   bodies_formed [] n h = tt

@@ -7,29 +7,29 @@ use Rattle.seq.proofs.Order.{eq_from, eq_self}
 use Rattle.seq.proofs.Truth.{not_both}
 use Rattle.grin_syntax.specs.declared.program.VarId.{VarId}
 use Rattle.case_simplify.specs.declared.known.Fact.{Fact}
-use Rattle.case_simplify.specs.Known.{Known, Facts, nothing_known, note, and_facts, facts_of}
-use Rattle.case_simplify.specs.Table.{EachBefore, TableOf, Adds}
+use Rattle.case_simplify.specs.Known.{Known, Facts, nothing_known, note, extended_by_facts, facts_of}
+use Rattle.case_simplify.specs.Table.{PreviousFactsAreSaved, TableMatchesFacts, AppendsFacts}
 
 -- ---- one fact more
 
-and_push : (fs : List Fact) (f : Fact) (facts : Facts) → and_facts facts (fs ++ f ∷ []) ≡ note f.var f.known (and_facts facts fs)
+and_push : (fs : List Fact) (f : Fact) (facts : Facts) → extended_by_facts facts (fs ++ f ∷ []) ≡ note f.var f.known (extended_by_facts facts fs)
 and_push [] f facts = refl
 and_push (e ∷ fs) f facts = and_push fs f _
 
 pub facts_push : (fs more : List Fact) (f : Fact) → more ≡ fs ++ f ∷ [] → facts_of more ≡ note f.var f.known (facts_of fs)
 facts_push fs more f e = ap facts_of e ∙ and_push fs f _
 
-before_push : (fs : List Fact) (f : Fact) (facts : Facts) → EachBefore facts fs → f.before ≡ and_facts facts fs f.var.0 → EachBefore facts (fs ++ f ∷ [])
+before_push : (fs : List Fact) (f : Fact) (facts : Facts) → PreviousFactsAreSaved facts fs → f.before ≡ extended_by_facts facts fs f.var.0 → PreviousFactsAreSaved facts (fs ++ f ∷ [])
 before_push [] f facts h e = (e, tt)
 before_push (g ∷ fs) f facts h e = (h.0, before_push fs f _ h.1 e)
 
-before_front : (fs : List Fact) (f : Fact) (facts : Facts) → EachBefore facts (fs ++ f ∷ []) → EachBefore facts fs × (f.before ≡ and_facts facts fs f.var.0)
+before_front : (fs : List Fact) (f : Fact) (facts : Facts) → PreviousFactsAreSaved facts (fs ++ f ∷ []) → PreviousFactsAreSaved facts fs × (f.before ≡ extended_by_facts facts fs f.var.0)
 before_front [] f facts h = (tt, h.0)
-before_front (g ∷ fs) f facts h = let z : EachBefore (note g.var g.known facts) fs × (f.before ≡ and_facts (note g.var g.known facts) fs f.var.0) = before_front fs f _ h.1 in ((h.0, z.0), z.1)
+before_front (g ∷ fs) f facts h = let z : PreviousFactsAreSaved (note g.var g.known facts) fs × (f.before ≡ extended_by_facts (note g.var g.known facts) fs f.var.0) = before_front fs f _ h.1 in ((h.0, z.0), z.1)
 
 -- ---- the table
 
-pub table_none : TableOf [] []
+pub table_none : TableMatchesFacts [] []
 table_none = record { by = λ x. refl; before = tt }
 
 none_past : (table : List (Option Known)) (x : ℕ) → get_or (table ++ None ∷ []) x None ≡ get_or table x None
@@ -38,15 +38,15 @@ none_past [] (suc x) = refl
 none_past (o ∷ table) zero = refl
 none_past (o ∷ table) (suc x) = none_past table x
 
-pub table_longer : (fs : List Fact) (table : List (Option Known)) → TableOf fs table → TableOf fs (table ++ None ∷ [])
+pub table_longer : (fs : List Fact) (table : List (Option Known)) → TableMatchesFacts fs table → TableMatchesFacts fs (table ++ None ∷ [])
 table_longer fs table h = record { by = λ x. none_past table x ∙ h.by x; before = h.before }
 
 other_entry : (x y : ℕ) → nat_eq y x ≡ false → y ≡ x → ⊥
 other_entry x y q s = let t : nat_eq y x ≡ true = grind (arith, nat_tests) in not_both (nat_eq y x) t q
 
-pub table_next : (fs more : List Fact) (table : List (Option Known)) (x : VarId) (k : Known) (before : Option Known) → TableOf fs table → x.0 < length table → before ≡ facts_of fs x.0
-    → more ≡ fs ++ record { var = x; known = k; before = before } ∷ [] → TableOf more (slice_set table x.0 (Some k))
-table_next fs more table x k before h lt e n = subst (λ l. TableOf l (slice_set table x.0 (Some k))) (sym n) (record {
+pub table_next : (fs more : List Fact) (table : List (Option Known)) (x : VarId) (k : Known) (before : Option Known) → TableMatchesFacts fs table → x.0 < length table → before ≡ facts_of fs x.0
+    → more ≡ fs ++ record { var = x; known = k; before = before } ∷ [] → TableMatchesFacts more (slice_set table x.0 (Some k))
+table_next fs more table x k before h lt e n = subst (λ l. TableMatchesFacts l (slice_set table x.0 (Some k))) (sym n) (record {
   by = λ y. go y (nat_eq y x.0) refl ∙ ap (λ f. f y) (sym (and_push fs (record { var = x; known = k; before = before }) nothing_known));
   before = before_push fs (record { var = x; known = k; before = before }) nothing_known h.before e;
 })
@@ -55,7 +55,7 @@ table_next fs more table x k before h lt e n = subst (λ l. TableOf l (slice_set
     go y true q = ap (λ z. get_or (slice_set table x.0 (Some k)) z None) (eq_from y x.0 q) ∙ get_or-set_same table x.0 (Some k) None lt
     go y false q = get_or-set_other table x.0 y (Some k) None (other_entry x.0 y q) ∙ h.by y
 
-pub adds_one : (fs more : List Fact) (f : Fact) → more ≡ fs ++ f ∷ [] → Adds fs more
+pub adds_one : (fs more : List Fact) (f : Fact) → more ≡ fs ++ f ∷ [] → AppendsFacts fs more
 adds_one fs more f e = record { more = f ∷ []; is = e }
 
 some_within : (table : List (Option Known)) (x : ℕ) (k : Known) → get_or table x None ≡ Some k → x < length table
@@ -63,12 +63,12 @@ some_within [] x k e = none_is_some e
 some_within (o ∷ table) zero k e = omega arith
 some_within (o ∷ table) (suc x) k e = let h : x < length table = some_within table x k e in omega (arith, h)
 
-pop_within : (fs : List Fact) (f : Fact) (table : List (Option Known)) → TableOf (fs ++ f ∷ []) table → f.var.0 < length table
+pop_within : (fs : List Fact) (f : Fact) (table : List (Option Known)) → TableMatchesFacts (fs ++ f ∷ []) table → f.var.0 < length table
 pop_within fs f table h = some_within table f.var.0 f.known (h.by f.var.0 ∙ ap (λ g. g f.var.0) (and_push fs f nothing_known) ∙ ap (λ b. cond b (Some f.known) (facts_of fs f.var.0)) (eq_self f.var.0))
 
-table_popped : (fs : List Fact) (f : Fact) (table : List (Option Known)) → TableOf (fs ++ f ∷ []) table → TableOf fs (slice_set table f.var.0 f.before)
+table_popped : (fs : List Fact) (f : Fact) (table : List (Option Known)) → TableMatchesFacts (fs ++ f ∷ []) table → TableMatchesFacts fs (slice_set table f.var.0 f.before)
 table_popped fs f table h =
-    let z : EachBefore nothing_known fs × (f.before ≡ facts_of fs f.var.0) = before_front fs f nothing_known h.before in
+    let z : PreviousFactsAreSaved nothing_known fs × (f.before ≡ facts_of fs f.var.0) = before_front fs f nothing_known h.before in
     record { by = λ y. go z.1 y (nat_eq y f.var.0) refl; before = z.0 }
   where
     go : f.before ≡ facts_of fs f.var.0 → (y : ℕ) (b : Bool) → nat_eq y f.var.0 ≡ b → get_or (slice_set table f.var.0 f.before) y None ≡ facts_of fs y
@@ -83,9 +83,9 @@ table_popped fs f table h =
 pub record Keeping (init : List Fact) (count counter : ℕ) (fs : List Fact) (table : List (Option Known)) : Type 0 where
   pub many : length fs + counter ≡ length init + count
   pub same : take count fs ≡ take count init
-  pub table_is : TableOf fs table
+  pub table_is : TableMatchesFacts fs table
 
-pub keeping : (init : List Fact) (count : ℕ) (table : List (Option Known)) → TableOf init table → Keeping init count count init table
+pub keeping : (init : List Fact) (count : ℕ) (table : List (Option Known)) → TableMatchesFacts init table → Keeping init count count init table
 keeping init count table h = record { many = refl; same = refl; table_is = h }
 
 longer : (fs : List Fact) (f : Fact) → length (fs ++ f ∷ []) ≡ length fs + 1
@@ -99,7 +99,7 @@ take_front (suc count) [] f h = absurd (omega (arith, h))
 take_front (suc count) (g ∷ fs) f h = ap (λ l. g ∷ l) (take_front count fs f (omega (arith, h)))
 
 pub keep_within : (init fs rest : List Fact) (f : Fact) (count counter : ℕ) (table : List (Option Known)) → fs ≡ rest ++ f ∷ [] → Keeping init count counter fs table → f.var.0 < length table
-keep_within init fs rest f count counter table e h = pop_within rest f table (subst (λ l. TableOf l table) e h.table_is)
+keep_within init fs rest f count counter table e h = pop_within rest f table (subst (λ l. TableMatchesFacts l table) e h.table_is)
 
 pub keep_next : (init fs rest : List Fact) (f : Fact) (count counter : ℕ) (table : List (Option Known)) → counter < length init → fs ≡ rest ++ f ∷ [] → Keeping init count counter fs table
     → Keeping init count (counter + 1) rest (slice_set table f.var.0 f.before)
@@ -108,7 +108,7 @@ keep_next init fs rest f count counter table lt e h =
     record {
       many = (let m : length fs + counter ≡ length init + count = h.many in omega (arith, l, m));
       same = sym (ap (take count) e ∙ take_front count rest f (let m : length fs + counter ≡ length init + count = h.many in omega (arith, l, m, lt))) ∙ h.same;
-      table_is = table_popped rest f table (subst (λ l. TableOf l table) e h.table_is);
+      table_is = table_popped rest f table (subst (λ l. TableMatchesFacts l table) e h.table_is);
     }
 
 pub keep_none : {A : Type 0} (init fs : List Fact) (count counter : ℕ) (table : List (Option Known)) → counter < length init → fs ≡ [] → Keeping init count counter fs table → A
@@ -125,10 +125,10 @@ keep_done init fs count counter table le h = sym (take_all_of count fs (let m : 
 
 -- ---- facts that were added
 
-pub adds_none : (fs : List Fact) → Adds fs fs
+pub adds_none : (fs : List Fact) → AppendsFacts fs fs
 adds_none fs = record { more = []; is = sym (append_nil fs) }
 
-pub adds_again : (a b c : List Fact) → Adds a b → Adds b c → Adds a c
+pub adds_again : (a b c : List Fact) → AppendsFacts a b → AppendsFacts b c → AppendsFacts a c
 adds_again a b c h k = record { more = h.more ++ k.more; is = k.is ∙ ap (λ l. l ++ k.more) h.is ∙ append_again a h.more k.more }
 
 take_first : (fs more : List Fact) → take (length fs) (fs ++ more) ≡ fs
@@ -137,5 +137,5 @@ take_first [] (f ∷ more) = refl
 take_first (f ∷ fs) more = ap (λ l. f ∷ l) (take_first fs more)
 
 -- they go again
-pub adds_back : (old now new : List Fact) (count : ℕ) → Adds old now → count ≡ length old → new ≡ take count now → new ≡ old
+pub adds_back : (old now new : List Fact) (count : ℕ) → AppendsFacts old now → count ≡ length old → new ≡ take count now → new ≡ old
 adds_back old now new count h n e = e ∙ (λ i. take (n i) (h.is i)) ∙ take_first old h.more

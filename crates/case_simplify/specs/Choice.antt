@@ -8,7 +8,7 @@ use Rattle.grin_syntax.specs.Tree.{Code, end, fail, Arms, no_arm, arm}
 use Rattle.numbers.specs.Numbers.{same_number}
 pub use Rattle.case_simplify.specs.declared.choice.Verdict.{Verdict}
 pub use Rattle.case_simplify.specs.declared.choice.Verdict.TheVariants.{Takes, Passes, Open}
-use Rattle.case_simplify.specs.Known.{Known, Tag, Number, Facts, told_first, told_second}
+use Rattle.case_simplify.specs.Known.{Known, Tag, Number, Facts, known_first_word, known_second_word}
 
 -- an integer pattern, where the tag is that of a number
 abbrev pub number_verdict : ℤ → Option Known → Verdict
@@ -28,14 +28,16 @@ by_verdict Open b later = None
 
 -- The block of the alternative that is taken. It is None where an integer pattern leaves that
 -- open; a case of which no alternative is taken never runs.
-abbrev pub taken : TagId → Option Known → Arms → Option Code
-taken t second no_arm = Some (end fail)
-taken t second (arm s b as') = by_verdict (verdict t second s) b (taken t second as')
+abbrev pub selected_block : TagId → Option Known → Arms → Option Code
+selected_block t second no_arm = Some (end fail)
+selected_block t second (arm s b as') =
+    by_verdict (verdict t second s) b (selected_block t second as')
 
-abbrev pub taken_by : Option Known → Option Known → Arms → Option Code
-taken_by (Some (Tag t)) second as' = taken t second as'
-taken_by _ second as' = None
+abbrev pub selected_block_by_tag : Option Known → Option Known → Arms → Option Code
+selected_block_by_tag (Some (Tag t)) second as' = selected_block t second as'
+selected_block_by_tag _ second as' = None
 
 -- by what is known of the value of a case
-abbrev pub taken_of : Facts → V.Val → Arms → Option Code
-taken_of facts v as' = taken_by (told_first facts v) (told_second facts v) as'
+abbrev pub selected_block_for_value : Facts → V.Val → Arms → Option Code
+selected_block_for_value facts v as' =
+    selected_block_by_tag (known_first_word facts v) (known_second_word facts v) as'

@@ -7,12 +7,12 @@ use Rattle.case_simplify.specs.declared.choice.Choice as chosen
 use Rattle.case_simplify.specs.declared.choice.Choice.TheVariants.{Takes, Nothing, Open}
 
 -- the block that a case becomes
-abbrev pub body_at : chosen.Choice → List Alt → Option Code
-body_at (Takes i) alts = and_then (slice_get alts i) (λ a. Some (code_of a.body))
-body_at Nothing alts = Some (end fail)
-body_at Open alts = None
+abbrev pub chosen_body : chosen.Choice → List Alt → Option Code
+chosen_body (Takes i) alts = and_then (slice_get alts i) (λ a. Some (code_of a.body))
+chosen_body Nothing alts = Some (end fail)
+chosen_body Open alts = None
 
 -- the alternative is there
-abbrev pub Within : chosen.Choice → ℕ → Type 0
-Within (Takes i) count = i < count
-Within _ count = Unit {0}
+abbrev pub IsInRange : chosen.Choice → ℕ → Type 0
+IsInRange (Takes i) count = i < count
+IsInRange _ count = Unit {0}

@@ -27,12 +27,12 @@ abbrev pub note : VarId → Known → Facts → Facts
 note x k facts = λ y. cond (nat_eq y x.0) (Some k) (facts y)
 
 -- what a list of facts says, where the last one counts
-abbrev pub and_facts : Facts → List Fact → Facts
-and_facts facts [] = facts
-and_facts facts (f ∷ fs) = and_facts (note f.var f.known facts) fs
+abbrev pub extended_by_facts : Facts → List Fact → Facts
+extended_by_facts facts [] = facts
+extended_by_facts facts (f ∷ fs) = extended_by_facts (note f.var f.known facts) fs
 
 abbrev pub facts_of : List Fact → Facts
-facts_of fs = and_facts nothing_known fs
+facts_of fs = extended_by_facts nothing_known fs
 
 -- what is known of a word
 abbrev pub told : Facts → W.Word → Option Known
@@ -54,11 +54,11 @@ second_word (Node t ws) = slice_get ws 0
 second_word (Vector ws) = slice_get ws 1
 second_word (One w) = None
 
-abbrev pub told_first : Facts → V.Val → Option Known
-told_first facts v = and_then (first_word v) (told facts)
+abbrev pub known_first_word : Facts → V.Val → Option Known
+known_first_word facts v = and_then (first_word v) (told facts)
 
-abbrev pub told_second : Facts → V.Val → Option Known
-told_second facts v = and_then (second_word v) (told facts)
+abbrev pub known_second_word : Facts → V.Val → Option Known
+known_second_word facts v = and_then (second_word v) (told facts)
 
 -- where the word is a variable
 abbrev pub note_word : Option W.Word → Known → Facts → Facts
@@ -102,8 +102,8 @@ known_after t _ facts = facts
 
 -- What is known in an alternative of a case on v: a pattern tells the tag, and that of an integer
 -- the number too.
-abbrev pub noted : V.Val → Shape → Facts → Facts
-noted v (shape.Node t xs) facts = note_word (first_word v) (Tag t) facts
-noted v (shape.Int k) facts =
+abbrev pub facts_in_alternative : V.Val → Shape → Facts → Facts
+facts_in_alternative v (shape.Node t xs) facts = note_word (first_word v) (Tag t) facts
+facts_in_alternative v (shape.Int k) facts =
     note_word (second_word v) (Number k) (note_word (first_word v) (Tag (tag_id 0)) facts)
-noted v shape.Else facts = facts
+facts_in_alternative v shape.Else facts = facts

@@ -10,8 +10,8 @@ use Rattle.grin_syntax.specs.Tree.{Code, end, store, bind, Act, unit, fetch, fet
 use Rattle.grin_meaning.specs.Checks.{is_some_and}
 use Rattle.grin_meaning.specs.Rewritten.{rewritten}
 use Rattle.numbers.specs.Numbers.{same_number}
-use Rattle.case_simplify.specs.Known.{Facts, nothing_known, known_after, noted}
-use Rattle.case_simplify.specs.Choice.{taken_of}
+use Rattle.case_simplify.specs.Known.{Facts, nothing_known, known_after, facts_in_alternative}
+use Rattle.case_simplify.specs.Choice.{selected_block_for_value}
 
 -- ---- what a case gives back
 
@@ -23,13 +23,13 @@ same_word (TagWord t) (TagWord u) = nat_eq t.0 u.0
 same_word _ _ = false
 
 -- the first words are the front of the second ones
-abbrev pub is_front : List W.Word → List W.Word → Bool
-is_front [] ws = true
-is_front (a ∷ as') [] = false
-is_front (a ∷ as') (w ∷ ws) = same_word a w && is_front as' ws
+abbrev pub is_prefix : List W.Word → List W.Word → Bool
+is_prefix [] ws = true
+is_prefix (a ∷ as') [] = false
+is_prefix (a ∷ as') (w ∷ ws) = same_word a w && is_prefix as' ws
 
 abbrev pub same_words : List W.Word → List W.Word → Bool
-same_words ws us = is_front ws us && is_front us ws
+same_words ws us = is_prefix ws us && is_prefix us ws
 
 abbrev pub same_val : V.Val → V.Val → Bool
 same_val (NodeVar x) (NodeVar y) = nat_eq x.0 y.0
@@ -39,27 +39,27 @@ same_val (One a) (One b) = same_word a b
 same_val _ _ = false
 
 -- a value, or of a vector the first words
-abbrev pub is_front_val : V.Val → V.Val → Bool
-is_front_val (Vector us) (Vector ws) = is_front us ws
-is_front_val u v = same_val u v
+abbrev pub is_prefix_val : V.Val → V.Val → Bool
+is_prefix_val (Vector us) (Vector ws) = is_prefix us ws
+is_prefix_val u v = same_val u v
 
 -- the value that a block only gives
-abbrev pub value_given : Code → Option V.Val
-value_given (end (unit u)) = Some u
-value_given _ = None
+abbrev pub returned_value : Code → Option V.Val
+returned_value (end (unit u)) = Some u
+returned_value _ = None
 
-abbrev pub gives_val : V.Val → Code → Bool
-gives_val u b = is_some_and (value_given b) (same_val u)
+abbrev pub returns_val : V.Val → Code → Bool
+returns_val u b = is_some_and (returned_value b) (same_val u)
 
-abbrev pub all_give : V.Val → Arms → Bool
-all_give u no_arm = true
-all_give u (arm s b as') = gives_val u b && all_give u as'
+abbrev pub all_arms_return : V.Val → Arms → Bool
+all_arms_return u no_arm = true
+all_arms_return u (arm s b as') = returns_val u b && all_arms_return u as'
 
 -- whether all alternatives of a case on v only give v back, or the same first words of it
-abbrev pub gives_back : V.Val → Arms → Bool
-gives_back v no_arm = false
-gives_back v (arm s b as') =
-    is_some_and (value_given b) (λ u. is_front_val u v && all_give u (arm s b as'))
+abbrev pub returns_scrutinee : V.Val → Arms → Bool
+returns_scrutinee v no_arm = false
+returns_scrutinee v (arm s b as') =
+    is_some_and (returned_value b) (λ u. is_prefix_val u v && all_arms_return u (arm s b as'))
 
 -- ---- the pass
 
@@ -68,7 +68,7 @@ first_act no_arm = fail
 first_act (arm s b as') = as_act b
 
 abbrev pub unit_or_case : V.Val → Arms → Act
-unit_or_case v as' = cond (gives_back v as') (first_act as') (case v as')
+unit_or_case v as' = cond (returns_scrutinee v as') (first_act as') (case v as')
 
 abbrev pub block_or_case : V.Val → Arms → Option Code → Act
 block_or_case v as' (Some b) = as_act b
@@ -76,7 +76,7 @@ block_or_case v as' None = unit_or_case v as'
 
 -- what a case becomes, whose alternatives are simple
 abbrev pub simple_case : Facts → V.Val → Arms → Act
-simple_case facts v as' = block_or_case v as' (taken_of facts v as')
+simple_case facts v as' = block_or_case v as' (selected_block_for_value facts v as')
 
 unfoldable mutual
   pub simple_act : Facts → Act → Act
@@ -104,10 +104,10 @@ unfoldable mutual
   pub simple_arms : Facts → V.Val → Arms → Arms
   simple_arms facts v no_arm = no_arm
   simple_arms facts v (arm s b as') =
-      arm s (simple_code (noted v s facts) b) (simple_arms facts v as')
+      arm s (simple_code (facts_in_alternative v s facts) b) (simple_arms facts v as')
 
 abbrev pub simple_arm : Facts → V.Val → Shape × Code → Shape × Code
-simple_arm facts v a = (a.0, simple_code (noted v a.0 facts) a.1)
+simple_arm facts v a = (a.0, simple_code (facts_in_alternative v a.0 facts) a.1)
 
 abbrev pub simplified : Program → Program
 simplified g = rewritten (simple_code nothing_known) g

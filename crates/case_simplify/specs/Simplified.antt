@@ -7,49 +7,50 @@ use Rattle.grin_syntax.specs.declared.program.Val as V
 use Rattle.grin_syntax.specs.declared.program.Val.TheVariants.{Vector}
 use Rattle.grin_syntax.specs.Tree.{Code, end, store, bind, Act, unit, case, nested, Arms, no_arm, arm, Program}
 use Rattle.grin_syntax.specs.Formed.{AllOf}
-use Rattle.pass_ground.specs.Vectors.{StaysOfVectors}
-use Rattle.case_simplify.specs.Known.{Known, Tag, Facts, nothing_known, told_first, told_second, known_after, noted}
+use Rattle.pass_ground.specs.Vectors.{StaysVectorForm}
+use Rattle.case_simplify.specs.Known.{Known, Tag, Facts, nothing_known, known_first_word, known_second_word, known_after, facts_in_alternative}
 use Rattle.case_simplify.specs.Choice.{Verdict, Takes, Passes, Open, verdict}
 
 -- ---- cases on a known tag
 
 -- An integer pattern leaves open which alternative is taken, by a number that is not known.
-abbrev pub OpenAt : Verdict → Type 0 → Type 0
-OpenAt Takes later = ⊥
-OpenAt Passes later = later
-OpenAt Open later = Unit {0}
+abbrev pub IsUndecidedAt : Verdict → Type 0 → Type 0
+IsUndecidedAt Takes later = ⊥
+IsUndecidedAt Passes later = later
+IsUndecidedAt Open later = Unit {0}
 
-abbrev pub IsOpen : TagId → Option Known → Arms → Type 0
-IsOpen t second no_arm = ⊥
-IsOpen t second (arm s b as') = OpenAt (verdict t second s) (IsOpen t second as')
+abbrev pub IsUndecided : TagId → Option Known → Arms → Type 0
+IsUndecided t second no_arm = ⊥
+IsUndecided t second (arm s b as') = IsUndecidedAt (verdict t second s) (IsUndecided t second as')
 
 -- where the tag of a case is known, the case is open
-abbrev pub OpenIfKnown : Facts → V.Val → Arms → Type 0
-OpenIfKnown facts v as' =
-    (t : TagId) → told_first facts v ≡ Some (Tag t) → IsOpen t (told_second facts v) as'
+abbrev pub UndecidedIfTagKnown : Facts → V.Val → Arms → Type 0
+UndecidedIfTagKnown facts v as' =
+    (t : TagId) → known_first_word facts v ≡ Some (Tag t)
+    → IsUndecided t (known_second_word facts v) as'
 
 -- ---- cases that give back their value
 
 -- a value, or of a vector the first words
-abbrev pub FrontOf : V.Val → V.Val → Type 0
-FrontOf (Vector us) (Vector ws) = (rest : List W.Word) × (ws ≡ us ++ rest)
-FrontOf u v = u ≡ v
+abbrev pub IsPrefixOf : V.Val → V.Val → Type 0
+IsPrefixOf (Vector us) (Vector ws) = (rest : List W.Word) × (ws ≡ us ++ rest)
+IsPrefixOf u v = u ≡ v
 
-abbrev pub EachGives : V.Val → Arms → Type 0
-EachGives u no_arm = Unit {0}
-EachGives u (arm s b as') = (b ≡ end (unit u)) × EachGives u as'
+abbrev pub EachArmReturns : V.Val → Arms → Type 0
+EachArmReturns u no_arm = Unit {0}
+EachArmReturns u (arm s b as') = (b ≡ end (unit u)) × EachArmReturns u as'
 
 -- there is an alternative, and each one gives back v or the same first words of it
 abbrev pub IsIdentity : V.Val → Arms → Type 0
 IsIdentity v no_arm = ⊥
-IsIdentity v (arm s b as') = (u : V.Val) × FrontOf u v × EachGives u (arm s b as')
+IsIdentity v (arm s b as') = (u : V.Val) × IsPrefixOf u v × EachArmReturns u (arm s b as')
 
 -- ---- the shape
 
 unfoldable mutual
   pub SimpleAct : Facts → Act → Type 0
   SimpleAct facts (case v as') =
-      OpenIfKnown facts v as' × (IsIdentity v as' → ⊥) × SimpleArms facts v as'
+      UndecidedIfTagKnown facts v as' × (IsIdentity v as' → ⊥) × SimpleArms facts v as'
   SimpleAct facts (nested b) = SimpleCode facts b
   SimpleAct facts _ = Unit {0}
 
@@ -62,9 +63,10 @@ unfoldable mutual
   -- in the alternatives of a case on v more is known
   pub SimpleArms : Facts → V.Val → Arms → Type 0
   SimpleArms facts v no_arm = Unit {0}
-  SimpleArms facts v (arm s b as') = SimpleCode (noted v s facts) b × SimpleArms facts v as'
+  SimpleArms facts v (arm s b as') =
+      SimpleCode (facts_in_alternative v s facts) b × SimpleArms facts v as'
 
 -- what simplifying makes of g
 pub record Simplified (g h : Program) : Type 0 where
-  pub stays : StaysOfVectors g h
+  pub stays : StaysVectorForm g h
   pub simple : AllOf (λ q. SimpleCode nothing_known q.body) h.procs

@@ -4,16 +4,17 @@ use Rattle.case_simplify.specs.declared.known.Fact.{Fact}
 use Rattle.case_simplify.specs.Known.{Known, Facts, nothing_known, note, facts_of}
 
 -- each fact has what was known of its variable before
-abbrev pub EachBefore : Facts → List Fact → Type 0
-EachBefore facts [] = Unit {0}
-EachBefore facts (f ∷ fs) = (f.before ≡ facts f.var.0) × EachBefore (note f.var f.known facts) fs
+abbrev pub PreviousFactsAreSaved : Facts → List Fact → Type 0
+PreviousFactsAreSaved facts [] = Unit {0}
+PreviousFactsAreSaved facts (f ∷ fs) =
+    (f.before ≡ facts f.var.0) × PreviousFactsAreSaved (note f.var f.known facts) fs
 
 -- entry x is what the facts say of variable x
-pub record TableOf (fs : List Fact) (table : List (Option Known)) : Type 0 where
+pub record TableMatchesFacts (fs : List Fact) (table : List (Option Known)) : Type 0 where
   pub by : (x : ℕ) → get_or table x None ≡ facts_of fs x
-  pub before : EachBefore nothing_known fs
+  pub before : PreviousFactsAreSaved nothing_known fs
 
 -- facts were added
-pub record Adds (old new : List Fact) : Type 0 where
+pub record AppendsFacts (old new : List Fact) : Type 0 where
   pub more : List Fact
   pub is : new ≡ old ++ more

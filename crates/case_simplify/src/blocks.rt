@@ -4,11 +4,11 @@
 ghost use Rattle.std.specs.Prelude.{◌≡◌, map, IfOk, OnOk};
 ghost use Rattle.grin_syntax.specs.Tree.{Code, act_of, before_of, arm_of, arms_of, code_of, as_act};
 ghost use Rattle.case_simplify.specs.Known.{facts_of};
-ghost use Rattle.case_simplify.specs.Table.{Adds};
+ghost use Rattle.case_simplify.specs.Table.{AppendsFacts};
 ghost use Rattle.case_simplify.specs.Simple.{unit_or_case, simple_case, simple_act, simple_code, simple_arm};
 
-use crate::choice::{Choice, choose, gives_back};
-use crate::known::{FactTable, note_pattern, note_statement, told_first, told_second};
+use crate::choice::{Choice, choose, returns_scrutinee};
+use crate::known::{FactTable, known_first_word, known_second_word, note_pattern, note_statement};
 use grin_syntax::{Alt, Block, Op, Stmt, Val};
 use seq::Seq;
 use std::alloc::{AllocError, Global};
@@ -82,7 +82,7 @@ fn simple_alt(alloc: Global, facts: &mut FactTable, v: &Val, alt: Alt) -> Result
 fn simple_stmt(alloc: Global, facts: &mut FactTable, stmt: Stmt) -> Result<Stmt, AllocError>
     ensures tree { IfOk result (λ s. (c : Code) → before_of s (simple_code (facts_of facts.new) c)
         ≡ simple_code (facts_of facts.old) (before_of stmt c)) }
-    ensures adds { OnOk result (Adds facts.old facts.new) }
+    ensures adds { OnOk result (AppendsFacts facts.old facts.new) }
 {
     match stmt {
         Stmt::Store(cells) => Ok(Stmt::Store(cells)),
@@ -122,8 +122,8 @@ fn simple_case(alloc: Global, facts: &FactTable, v: Val, alts: Seq<Alt>) -> Resu
     ensures { IfOk result (λ o. act_of o
         ≡ simple_case (facts_of facts.now) v (arms_of (map arm_of alts))) }
 {
-    let first = told_first(facts, &v);
-    let second = told_second(facts, &v);
+    let first = known_first_word(facts, &v);
+    let second = known_second_word(facts, &v);
     let mut alts = alts;
     match choose(first, second, alts.as_slice()) {
         Choice::Takes(at) => nested(alloc, alts.remove(at).body),
@@ -137,7 +137,7 @@ fn unit_or_case(alloc: Global, v: Val, alts: Seq<Alt>) -> Result<Op, AllocError>
     ensures { IfOk result (λ o. act_of o ≡ unit_or_case v (arms_of (map arm_of alts))) }
 {
     let mut alts = alts;
-    if gives_back(&v, alts.as_slice()) {
+    if returns_scrutinee(&v, alts.as_slice()) {
         nested(alloc, alts.remove(0).body)
     } else {
         Ok(Op::Case(v, alts))

@@ -3,13 +3,13 @@
 
 ghost use Rattle.std.specs.Prelude.{◌≡◌, ◌&&◌, map, cond, length, Some, None, MatchOption};
 ghost use Rattle.grin_syntax.specs.Tree.{end, act_of, arm_of, arms_of, code_of};
-ghost use Rattle.case_simplify.specs.Choice.{Takes, Passes, number_verdict, verdict, taken, taken_by};
+ghost use Rattle.case_simplify.specs.Choice.{Takes, Passes, number_verdict, verdict, selected_block, selected_block_by_tag};
 ghost use Rattle.grin_meaning.specs.Checks.{is_some_and};
-ghost use Rattle.case_simplify.specs.Simple.{is_front_val, value_given, gives_val, all_give, gives_back};
-ghost use Rattle.case_simplify.specs.Chosen.{body_at, Within};
+ghost use Rattle.case_simplify.specs.Simple.{is_prefix_val, returned_value, returns_val, all_arms_return, returns_scrutinee};
+ghost use Rattle.case_simplify.specs.Chosen.{chosen_body, IsInRange};
 
 use crate::known::Known;
-use crate::words::{is_front_val, same_val};
+use crate::words::{is_prefix_val, same_val};
 use grin_syntax::{Alt, Block, Op, Shape, TagId, Val};
 
 /// What a pattern does with a value.
@@ -69,8 +69,8 @@ fn verdict_of(tag: TagId, second: Option<Known>, pattern: &Shape) -> Verdict
 }
 
 fn choose_for(tag: TagId, second: Option<Known>, alts: &[Alt]) -> Choice
-    ensures within { Within result (length alts.now) }
-    ensures body { body_at result alts.now ≡ taken tag second (arms_of (map arm_of alts.now)) }
+    ensures within { IsInRange result (length alts.now) }
+    ensures body { chosen_body result alts.now ≡ selected_block tag second (arms_of (map arm_of alts.now)) }
 {
     let mut at = 0;
     'alts: for alt in alts {
@@ -86,8 +86,8 @@ fn choose_for(tag: TagId, second: Option<Known>, alts: &[Alt]) -> Choice
 
 /// What a case does, by what is known of the first words of its value.
 pub(crate) fn choose(first: Option<Known>, second: Option<Known>, alts: &[Alt]) -> Choice
-    ensures within { Within result (length alts.now) }
-    ensures body { body_at result alts.now ≡ taken_by first second (arms_of (map arm_of alts.now)) }
+    ensures within { IsInRange result (length alts.now) }
+    ensures body { chosen_body result alts.now ≡ selected_block_by_tag first second (arms_of (map arm_of alts.now)) }
 {
     match first {
         Some(Known::Tag(tag)) => choose_for(tag, second, alts),
@@ -98,9 +98,9 @@ pub(crate) fn choose(first: Option<Known>, second: Option<Known>, alts: &[Alt]) 
 
 // The value that a block only gives.
 #[tactic(auto, using(grin_syntax::proofs::TreeOf::tree_of, crate::proofs::Loops::none_given))]
-fn value_given(block: &Block) -> Option<&Val>
-    ensures { MatchOption result (value_given (code_of block.now)
-        ≡ None) (λ u. value_given (code_of block.now) ≡ Some u.now) }
+fn returned_value(block: &Block) -> Option<&Val>
+    ensures { MatchOption result (returned_value (code_of block.now)
+        ≡ None) (λ u. returned_value (code_of block.now) ≡ Some u.now) }
 {
     if block.stmts.is_empty() {
         unit_of(&block.last)
@@ -110,8 +110,8 @@ fn value_given(block: &Block) -> Option<&Val>
 }
 
 fn unit_of(op: &Op) -> Option<&Val>
-    ensures { MatchOption result (value_given (end (act_of op.now))
-        ≡ None) (λ u. value_given (end (act_of op.now)) ≡ Some u.now) }
+    ensures { MatchOption result (returned_value (end (act_of op.now))
+        ≡ None) (λ u. returned_value (end (act_of op.now)) ≡ Some u.now) }
 {
     match op {
         Op::Unit(u) => Some(u),
@@ -130,20 +130,20 @@ fn unit_of(op: &Op) -> Option<&Val>
     }
 }
 
-fn gives_val(u: &Val, block: &Block) -> bool
-    ensures { result ≡ gives_val u.now (code_of block.now) }
+fn returns_val(u: &Val, block: &Block) -> bool
+    ensures { result ≡ returns_val u.now (code_of block.now) }
 {
-    match value_given(block) {
+    match returned_value(block) {
         Some(own) => same_val(u, own),
         None => false,
     }
 }
 
-fn all_give(u: &Val, alts: &[Alt]) -> bool
-    ensures { result ≡ all_give u.now (arms_of (map arm_of alts.now)) }
+fn all_arms_return(u: &Val, alts: &[Alt]) -> bool
+    ensures { result ≡ all_arms_return u.now (arms_of (map arm_of alts.now)) }
 {
     'alts: for alt in alts {
-        if !gives_val(u, &alt.body) {
+        if !returns_val(u, &alt.body) {
             return false;
         }
     }
@@ -153,11 +153,11 @@ fn all_give(u: &Val, alts: &[Alt]) -> bool
 // Whether this block gives back the value of a case, or its first words, and all alternatives the
 // same.
 fn all_like(v: &Val, block: &Block, alts: &[Alt]) -> bool
-    ensures { result ≡ is_some_and (value_given (code_of block.now)) (λ u.
-        is_front_val u v.now && all_give u (arms_of (map arm_of alts.now))) }
+    ensures { result ≡ is_some_and (returned_value (code_of block.now)) (λ u.
+        is_prefix_val u v.now && all_arms_return u (arms_of (map arm_of alts.now))) }
 {
-    match value_given(block) {
-        Some(u) => is_front_val(u, v) && all_give(u, alts),
+    match returned_value(block) {
+        Some(u) => is_prefix_val(u, v) && all_arms_return(u, alts),
         None => false,
     }
 }
@@ -165,8 +165,8 @@ fn all_like(v: &Val, block: &Block, alts: &[Alt]) -> bool
 /// Whether each alternative only gives back the value `v` of its case, or the same first words of
 /// it.
 #[tactic(auto, using(crate::proofs::Loops::gives_first, crate::proofs::Loops::gives_none))]
-pub(crate) fn gives_back(v: &Val, alts: &[Alt]) -> bool
-    ensures { result ≡ gives_back v.now (arms_of (map arm_of alts.now)) }
+pub(crate) fn returns_scrutinee(v: &Val, alts: &[Alt]) -> bool
+    ensures { result ≡ returns_scrutinee v.now (arms_of (map arm_of alts.now)) }
 {
     match alts.get(0) {
         Some(alt) => all_like(v, &alt.body, alts),

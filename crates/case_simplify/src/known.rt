@@ -3,8 +3,8 @@
 
 ghost use Rattle.std.specs.Prelude.{◌≡◌, [], take, length, slice_get, OnOk};
 ghost use Rattle.grin_syntax.specs.Tree.{act_of};
-ghost use Rattle.case_simplify.specs.Known.{facts_of, note, told, first_word, second_word, told_first, told_second, note_word, noted, note_known, note_copies, words_in, word_vars, known_after};
-ghost use Rattle.case_simplify.specs.Table.{Adds};
+ghost use Rattle.case_simplify.specs.Known.{facts_of, note, told, first_word, second_word, known_first_word, known_second_word, note_word, facts_in_alternative, note_known, note_copies, words_in, word_vars, known_after};
+ghost use Rattle.case_simplify.specs.Table.{AppendsFacts};
 
 use grin_syntax::{Op, Shape, TagId, Target, Val, VarId, Word};
 use std::alloc::{AllocError, Global};
@@ -36,13 +36,13 @@ pub struct FactTable {
 impl Model for FactTable {
     ghost use Rattle.std.specs.Prelude.{List};
     ghost use Rattle.case_simplify.specs.declared.known.Fact.{Fact};
-    ghost use Rattle.case_simplify.specs.Table.{TableOf};
+    ghost use Rattle.case_simplify.specs.Table.{TableMatchesFacts};
 
     ghost Value = { List Fact };
 
     ghost view = { λ t. t.facts.items };
 
-    ghost invariant = { λ t. TableOf t.facts.items t.table.items };
+    ghost invariant = { λ t. TableMatchesFacts t.facts.items t.table.items };
 }
 
 impl FactTable {
@@ -76,7 +76,7 @@ impl FactTable {
 
     fn note(&mut self, var: VarId, known: Known) -> Result<(), AllocError>
         ensures facts { OnOk result (facts_of self.new ≡ note var known (facts_of self.old)) }
-        ensures adds { OnOk result (Adds self.old self.new) }
+        ensures adds { OnOk result (AppendsFacts self.old self.new) }
     {
         let before = self.told_var(var);
         let at = var.0 as usize;
@@ -135,8 +135,8 @@ fn second_word(v: &Val) -> Option<Word>
 }
 
 /// What is known of the word of `v` that holds its tag.
-pub fn told_first(facts: &FactTable, v: &Val) -> Option<Known>
-    ensures { result ≡ told_first (facts_of facts.now) v.now }
+pub fn known_first_word(facts: &FactTable, v: &Val) -> Option<Known>
+    ensures { result ≡ known_first_word (facts_of facts.now) v.now }
 {
     match first_word(v) {
         Some(word) => told(facts, word),
@@ -145,8 +145,8 @@ pub fn told_first(facts: &FactTable, v: &Val) -> Option<Known>
 }
 
 /// What is known of the word after it.
-pub fn told_second(facts: &FactTable, v: &Val) -> Option<Known>
-    ensures { result ≡ told_second (facts_of facts.now) v.now }
+pub fn known_second_word(facts: &FactTable, v: &Val) -> Option<Known>
+    ensures { result ≡ known_second_word (facts_of facts.now) v.now }
 {
     match second_word(v) {
         Some(word) => told(facts, word),
@@ -158,7 +158,7 @@ pub fn told_second(facts: &FactTable, v: &Val) -> Option<Known>
 #[tactic(auto, using(crate::proofs::Tables::adds_none))]
 fn note_word(facts: &mut FactTable, word: Option<Word>, known: Known) -> Result<(), AllocError>
     ensures facts { OnOk result (facts_of facts.new ≡ note_word word known (facts_of facts.old)) }
-    ensures adds { OnOk result (Adds facts.old facts.new) }
+    ensures adds { OnOk result (AppendsFacts facts.old facts.new) }
 {
     match word {
         Some(Word::Var(var)) => facts.note(var, known),
@@ -173,8 +173,8 @@ fn note_word(facts: &mut FactTable, word: Option<Word>, known: Known) -> Result<
 #[tactic(auto, using(crate::proofs::Tables::adds_none, crate::proofs::Tables::adds_again))]
 pub fn note_pattern(facts: &mut FactTable, v: &Val, pattern: &Shape) -> Result<(), AllocError>
     ensures facts { OnOk result (facts_of facts.new
-        ≡ noted v.now pattern.now (facts_of facts.old)) }
-    ensures adds { OnOk result (Adds facts.old facts.new) }
+        ≡ facts_in_alternative v.now pattern.now (facts_of facts.old)) }
+    ensures adds { OnOk result (AppendsFacts facts.old facts.new) }
 {
     match pattern {
         Shape::Node(tag, _) => note_word(facts, first_word(v), Known::Tag(*tag)),
@@ -208,7 +208,7 @@ fn word_at(v: &Val, at: usize) -> Option<Word>
 fn note_copy(facts: &mut FactTable, x: VarId, word: Word) -> Result<(), AllocError>
     ensures facts { OnOk result (facts_of facts.new
         ≡ note_known x (told (facts_of facts.old) word) (facts_of facts.old)) }
-    ensures adds { OnOk result (Adds facts.old facts.new) }
+    ensures adds { OnOk result (AppendsFacts facts.old facts.new) }
 {
     match told(facts, word) {
         Some(known) => facts.note(x, known),
@@ -221,7 +221,7 @@ fn note_copy(facts: &mut FactTable, x: VarId, word: Word) -> Result<(), AllocErr
 fn note_copies(facts: &mut FactTable, vars: &[VarId], v: &Val) -> Result<(), AllocError>
     ensures facts { OnOk result (facts_of facts.new
         ≡ note_copies vars.now (words_in v.now) (facts_of facts.old)) }
-    ensures adds { OnOk result (Adds facts.old facts.new) }
+    ensures adds { OnOk result (AppendsFacts facts.old facts.new) }
 {
     let mut at = 0;
     'vars: for x in vars {
@@ -237,7 +237,7 @@ fn note_copies(facts: &mut FactTable, vars: &[VarId], v: &Val) -> Result<(), All
 fn note_unit(facts: &mut FactTable, target: &Target, v: &Val) -> Result<(), AllocError>
     ensures facts { OnOk result (facts_of facts.new
         ≡ note_copies (word_vars target.now) (words_in v.now) (facts_of facts.old)) }
-    ensures adds { OnOk result (Adds facts.old facts.new) }
+    ensures adds { OnOk result (AppendsFacts facts.old facts.new) }
 {
     match target {
         Target::Nothing => note_copies(facts, &[], v),
@@ -253,7 +253,7 @@ fn note_unit(facts: &mut FactTable, target: &Target, v: &Val) -> Result<(), Allo
 pub fn note_statement(facts: &mut FactTable, target: &Target, op: &Op) -> Result<(), AllocError>
     ensures facts { OnOk result (facts_of facts.new
         ≡ known_after target.now (act_of op.now) (facts_of facts.old)) }
-    ensures adds { OnOk result (Adds facts.old facts.new) }
+    ensures adds { OnOk result (AppendsFacts facts.old facts.new) }
 {
     match op {
         Op::Unit(v) => note_unit(facts, target, v),

@@ -3,7 +3,7 @@
 
 ghost use Rattle.std.specs.Prelude.{◌≡◌, IfOk};
 ghost use Rattle.grin_syntax.specs.Tree.{program_of};
-ghost use Rattle.pass_ground.specs.Vectors.{OfVectors};
+ghost use Rattle.pass_ground.specs.Vectors.{IsVectorForm};
 ghost use Rattle.case_simplify.specs.Simple.{simplified};
 ghost use Rattle.case_simplify.specs.Simplified.{Simplified};
 
@@ -21,7 +21,7 @@ use std::alloc::{AllocError, Global};
 pub struct Simplify;
 
 impl Pass for Simplify {
-    ghost takes = { λ g. OfVectors (program_of g) };
+    ghost takes = { λ g. IsVectorForm (program_of g) };
 
     ghost gives = { λ g h. Simplified (program_of g) (program_of h) };
 

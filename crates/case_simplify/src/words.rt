@@ -2,7 +2,7 @@
 
 ghost use Rattle.std.specs.Prelude.{◌≡◌, slice_get};
 ghost use Rattle.grin_meaning.specs.Checks.{is_some_and};
-ghost use Rattle.case_simplify.specs.Simple.{same_word, is_front, same_words, same_val, is_front_val};
+ghost use Rattle.case_simplify.specs.Simple.{same_word, is_prefix, same_words, same_val, is_prefix_val};
 
 use grin_syntax::{Val, Word};
 
@@ -48,8 +48,8 @@ fn stands_at(word: &Word, words: &[Word], at: usize) -> bool
 }
 
 // Whether the first words are the front of the second ones.
-fn is_front(front: &[Word], words: &[Word]) -> bool
-    ensures { result ≡ is_front front.now words.now }
+fn is_prefix(front: &[Word], words: &[Word]) -> bool
+    ensures { result ≡ is_prefix front.now words.now }
 {
     let mut at = 0;
     'front: for word in front {
@@ -64,7 +64,7 @@ fn is_front(front: &[Word], words: &[Word]) -> bool
 fn same_words(a: &[Word], b: &[Word]) -> bool
     ensures { result ≡ same_words a.now b.now }
 {
-    is_front(a, b) && is_front(b, a)
+    is_prefix(a, b) && is_prefix(b, a)
 }
 
 /// Whether two values are written alike.
@@ -100,12 +100,12 @@ pub(crate) fn same_val(a: &Val, b: &Val) -> bool
 }
 
 /// Whether `u` is `v`, or the first words of a vector `v`.
-pub(crate) fn is_front_val(u: &Val, v: &Val) -> bool
-    ensures { result ≡ is_front_val u.now v.now }
+pub(crate) fn is_prefix_val(u: &Val, v: &Val) -> bool
+    ensures { result ≡ is_prefix_val u.now v.now }
 {
     match u {
         Val::Vector(us) => match v {
-            Val::Vector(ws) => is_front(us.as_slice(), ws.as_slice()),
+            Val::Vector(ws) => is_prefix(us.as_slice(), ws.as_slice()),
             Val::NodeVar(_) => false,
             Val::Node(_, _) => false,
             Val::One(_) => false,

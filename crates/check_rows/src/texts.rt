@@ -1,6 +1,6 @@
 //! Texts with their answers.
 
-use core_print::laws::reread;
+use core_print::laws::printing_round_trips;
 use core_print::print;
 use core_reader::{Core, Names, ReadRefusal, read};
 use std::alloc::{AllocError, Global};
@@ -162,7 +162,7 @@ fn prints(rt: &impl Abort, alloc: Global, core: &Core, want: &[u8]) -> Result<()
 fn is_printed(rt: &impl Abort, alloc: Global, text: &[u8], want: &[u8]) -> Result<(), Fail> {
     let core = read(alloc, text)?;
     prints(rt, alloc, &core, want)?;
-    let again = reread(alloc, &core)?;
+    let again = printing_round_trips(alloc, &core)?;
     prints(rt, alloc, &again, want)
 }
 

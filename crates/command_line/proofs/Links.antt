@@ -2,23 +2,23 @@
 use Rattle.std.proofs.Common.{◌≡◌, ℕ, Bool, true, false, List, [], ◌∷◌, ◌++◌, map, codes, Option, Some, None, if◌then◌else◌, refl, sym, ap, ◌∙◌, append_assoc, append-nil}
 use Rattle.std.specs.Option.{option_map, option_and_then}
 use Rattle.std.specs.Str.{bytes_eq}
-use Rattle.command_line.specs.Parts.{Part, Setting, Operand, Word, Plain, Joined, Flag, Named, End, Unknown, begins_with_dash, word_of, with_part, parts_of, parts_from_value}
+use Rattle.command_line.specs.Parts.{OptionOrOperand, Setting, Operand, WordKind, Plain, Joined, Flag, Named, End, Unknown, begins_with_dash, word_of, with_part, parts_of, parts_from_value}
 use Rattle.command_line.specs.Commands.{operands, takes_only, operands_alone, command_from}
-use Rattle.command_line.specs.Walk.{nothing_said, gathered, chosen}
+use Rattle.command_line.specs.Walk.{no_options, gathered, chosen}
 use Rattle.command_line.proofs.Walks.{parts_from}
 use Rattle.command_line.proofs.Said.{IsWord, ItsOperand, word_is}
 use Rattle.command_line.proofs.Table.{chosen_from_parts}
 
 -- ---- by the name
 
-pub other_command : (name : List ℕ) (parts : Option (List Part)) → bytes_eq name (codes "link") ≡ false
-    → option_and_then (chosen name) (option_and_then (gathered nothing_said) parts) ≡ option_and_then (command_from name) parts
+pub other_command : (name : List ℕ) (parts : Option (List OptionOrOperand)) → bytes_eq name (codes "link") ≡ false
+    → option_and_then (chosen name) (option_and_then (gathered no_options) parts) ≡ option_and_then (command_from name) parts
 other_command name None other = refl
 other_command name (Some parts) other = rw other (chosen_from_parts name (Some parts))
 
 -- ---- operands alone
 
-one_operand : (text : List ℕ) (o : Option (List Part))
+one_operand : (text : List ℕ) (o : Option (List OptionOrOperand))
     → option_and_then operands_alone (with_part (Operand text) o) ≡ option_map (λ texts. text ∷ texts) (option_and_then operands_alone o)
 one_operand text None = refl
 one_operand text (Some parts) = by_options (takes_only [] parts) where
@@ -26,7 +26,7 @@ one_operand text (Some parts) = by_options (takes_only [] parts) where
   by_options true = refl
   by_options false = refl
 
-no_setting : (name value : List ℕ) (o : Option (List Part)) → option_and_then operands_alone (with_part (Setting name value) o) ≡ None
+no_setting : (name value : List ℕ) (o : Option (List OptionOrOperand)) → option_and_then operands_alone (with_part (Setting name value) o) ≡ None
 no_setting name value None = refl
 no_setting name value (Some parts) = refl
 
@@ -67,7 +67,7 @@ pub files_are : (words front : List (List ℕ))
     → files_from front words ≡ option_map (λ texts. front ++ texts) (option_and_then operands_alone (parts_of words))
 files_are [] front = ap Some (sym (append-nil front))
 files_are (text ∷ words) front = by_word (word_of text) (word_is text) (λ more. files_are words more) where
-  by_word : (word : Word) → IsWord text word
+  by_word : (word : WordKind) → IsWord text word
       → ((more : List (List ℕ)) → files_from more words ≡ option_map (λ texts. more ++ texts) (option_and_then operands_alone (parts_of words)))
       → elim word [
         | Plain operand ↦ files_from (front ++ (text ∷ [])) words
@@ -100,12 +100,12 @@ files_of_words words = files_are words [] ∙ same_map (option_and_then operands
 -- ---- an option among the words
 
 -- an option in any place
-pub not_alone : (front : List Part) (name value : List ℕ) (back : List Part) → takes_only [] (front ++ (Setting name value ∷ back)) ≡ false
+pub not_alone : (front : List OptionOrOperand) (name value : List ℕ) (back : List OptionOrOperand) → takes_only [] (front ++ (Setting name value ∷ back)) ≡ false
 not_alone [] name value back = refl
 not_alone (Operand text ∷ front) name value back = not_alone front name value back
 not_alone (Setting name' value' ∷ front) name value back = refl
 
 -- or one part later
-pub not_alone_later : (front : List Part) (part : Part) (name value : List ℕ) (back : List Part) → takes_only [] (front ++ (part ∷ Setting name value ∷ back)) ≡ false
+pub not_alone_later : (front : List OptionOrOperand) (part : OptionOrOperand) (name value : List ℕ) (back : List OptionOrOperand) → takes_only [] (front ++ (part ∷ Setting name value ∷ back)) ≡ false
 not_alone_later front part name value back =
     ap (takes_only []) (sym (append_assoc front (part ∷ []) (Setting name value ∷ back))) ∙ not_alone (front ++ (part ∷ [])) name value back

@@ -2,7 +2,7 @@
 use Rattle.std.proofs.Common.{◌≡◌, ℕ, Bool, true, false, List, [], ◌∷◌, map, Option, Some, None, if◌then◌else◌, refl, sym, ◌∙◌}
 use Rattle.std.specs.Option.{option_map, option_and_then}
 use Rattle.command_line.specs.Parts as parts
-use Rattle.command_line.specs.Parts.{Part, Setting, Operand, Word, Plain, Joined, Flag, Named, End, Unknown, begins_with_dash, word_of, parts_of, parts_from_value}
+use Rattle.command_line.specs.Parts.{OptionOrOperand, Setting, Operand, WordKind, Plain, Joined, Flag, Named, End, Unknown, begins_with_dash, word_of, parts_of, parts_from_value}
 use Rattle.command_line.specs.Walk.{Said, with_setting, with_part, gathered, Next, Any, Value, Rest, Place, before, begun, walked}
 
 -- what is said at the end of a line
@@ -15,7 +15,7 @@ finished p [] = ended p
 finished p (text ∷ words) = option_and_then (λ q. finished q words) (walked p text)
 
 -- a part and what stands behind it
-gathered_after : (s : Said) (part : Part) (rest : Option (List Part))
+gathered_after : (s : Said) (part : OptionOrOperand) (rest : Option (List OptionOrOperand))
     → option_and_then (gathered s) (parts.with_part part rest) ≡ option_and_then (λ t. option_and_then (gathered t) rest) (with_part s part)
 gathered_after s part (Some rest) = refl
 gathered_after s part None = by_part (with_part s part) where
@@ -24,7 +24,7 @@ gathered_after s part None = by_part (with_part s part) where
   by_part None = refl
 
 -- a walk that takes a part with one word
-walk_after : (s : Said) (part : Part) (next : Next) (words : List (List ℕ)) (rest : Option (List Part))
+walk_after : (s : Said) (part : OptionOrOperand) (next : Next) (words : List (List ℕ)) (rest : Option (List OptionOrOperand))
     → ((t : Said) → finished (before next t) words ≡ option_and_then (gathered t) rest)
     → option_and_then (λ q. finished q words) (option_map (before next) (with_part s part)) ≡ option_and_then (gathered s) (parts.with_part part rest)
 walk_after s part next words rest later = by_part (with_part s part) ∙ sym (gathered_after s part rest) where
@@ -33,7 +33,7 @@ walk_after s part next words rest later = by_part (with_part s part) ∙ sym (ga
   by_part None = refl
 
 -- one that takes the value of an option
-walk_after_value : (dash : Bool) (s : Said) (name value : List ℕ) (words : List (List ℕ)) (rest : Option (List Part))
+walk_after_value : (dash : Bool) (s : Said) (name value : List ℕ) (words : List (List ℕ)) (rest : Option (List OptionOrOperand))
     → ((t : Said) → finished (before Any t) words ≡ option_and_then (gathered t) rest)
     → option_and_then (λ q. finished q words) (if dash then None else option_map (before Any) (with_setting s name value))
     ≡ option_and_then (gathered s) (elim dash [ true ↦ None | false ↦ parts.with_part (Setting name value) rest ])
@@ -46,7 +46,7 @@ rest_gathers [] s = refl
 rest_gathers (text ∷ words) s = walk_after s (Operand text) Rest words (Some (map Operand words)) (λ t. rest_gathers words t)
 
 -- the parts that begin with a word
-abbrev pub parts_from : Word → List (List ℕ) → Option (List Part)
+abbrev pub parts_from : WordKind → List (List ℕ) → Option (List OptionOrOperand)
 parts_from w words = elim w [
   | Plain operand ↦ parts.with_part (Operand operand) (parts_of words)
   | Joined name value ↦ parts.with_part (Setting name value) (parts_of words)

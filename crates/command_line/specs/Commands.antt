@@ -3,13 +3,15 @@ use Rattle.std.specs.Prelude.{ℕ, ◌&&◌, ◌==◌, Bool, true, false, List, 
 use Rattle.std.specs.List.{list_any}
 use Rattle.std.specs.Option.{option_map, option_and_then}
 use Rattle.std.specs.Str.{bytes_eq}
+use Rattle.stage_names.specs.Words.{stage_named}
 use Rattle.command_line.specs.Numbers.{number_within}
-use Rattle.command_line.specs.Parts.{Part, Setting, Operand, parts_of}
+use Rattle.command_line.specs.Parts.{OptionOrOperand, Setting, Operand, parts_of}
 use Rattle.command_line.specs.declared.command.Listing.{Listing}
-use Rattle.command_line.specs.declared.command.Listing.TheVariants.{Read, Translate, Eval, Apply, Vectorise, Simplify, Fetch, Copy, Update, Unbox, Raise, Flat, Known, Cells, Dead, Code}
-use Rattle.command_line.specs.declared.files.Files.{Files}
+use Rattle.command_line.specs.declared.command.Listing.TheVariants.{Read, Stage, Code}
+use Rattle.command_line.specs.declared.files.FileOperands.{FileOperands}
 use Rattle.command_line.specs.declared.command.Command.{Command}
 use Rattle.command_line.specs.declared.command.Command.TheVariants.{Run, Check, List as Listed, Build, Exec, Gen, Link, Lift, Match, Types, Sides, Points}
+use Rattle.limits.specs.Limits.{default_cells, most_cells, default_stack, least_stack, most_stack, default_steps, most_steps}
 
 -- what a command line asks for
 pub data CommandLine : Type 0 where
@@ -27,7 +29,7 @@ pub data CommandLine : Type 0 where
   PointsFile : (file : List ℕ) → CommandLine
 
 -- the names of files, in their order
-abbrev pub names_of : Files → List (List ℕ)
+abbrev pub names_of : FileOperands → List (List ℕ)
 names_of f = map string_bytes f.plain.now ++ map string_bytes f.rest.now
 
 -- what a command asks for
@@ -45,49 +47,34 @@ asked_by (Types file) = TypesFile file.now
 asked_by (Sides file) = SidesFile file.now
 asked_by (Points file) = PointsFile file.now
 
--- the passes that a listing can follow
+-- the listing that a word of `--after` names
 abbrev pub listing_of : List ℕ → Option Listing
 listing_of word =
     if bytes_eq word (codes "read") then Some Read
-    else (if bytes_eq word (codes "translate") then Some Translate
-    else (if bytes_eq word (codes "eval") then Some Eval
-    else (if bytes_eq word (codes "apply") then Some Apply
-    else (if bytes_eq word (codes "vectorise") then Some Vectorise
-    else (if bytes_eq word (codes "simplify") then Some Simplify
-    else (if bytes_eq word (codes "fetch") then Some Fetch
-    else (if bytes_eq word (codes "copy") then Some Copy
-    else (if bytes_eq word (codes "update") then Some Update
-    else (if bytes_eq word (codes "unbox") then Some Unbox
-    else (if bytes_eq word (codes "raise") then Some Raise
-    else (if bytes_eq word (codes "flat") then Some Flat
-    else (if bytes_eq word (codes "known") then Some Known
-    else (if bytes_eq word (codes "cells") then Some Cells
-    else (if bytes_eq word (codes "dead") then Some Dead
-    else (if bytes_eq word (codes "code") then Some Code
-    else None)))))))))))))))
+    else (if bytes_eq word (codes "code") then Some Code else option_map Stage (stage_named word))
 
 -- the operands of the parts, in order
-abbrev pub operands : List Part → List (List ℕ)
+abbrev pub operands : List OptionOrOperand → List (List ℕ)
 operands [] = []
 operands (Setting name value ∷ parts) = operands parts
 operands (Operand text ∷ parts) = text ∷ operands parts
 
 -- the values that the parts give an option, in order
-abbrev pub values : (option : List ℕ) → List Part → List (List ℕ)
+abbrev pub values : (option : List ℕ) → List OptionOrOperand → List (List ℕ)
 values option [] = []
 values option (Setting name value ∷ parts) =
     if bytes_eq name option then value ∷ values option parts else values option parts
 values option (Operand text ∷ parts) = values option parts
 
 -- every option of the parts is among these
-abbrev pub takes_only : (options : List (List ℕ)) → List Part → Bool
+abbrev pub takes_only : (options : List (List ℕ)) → List OptionOrOperand → Bool
 takes_only options [] = true
 takes_only options (Setting name value ∷ parts) =
     list_any (bytes_eq name) options && takes_only options parts
 takes_only options (Operand text ∷ parts) = takes_only options parts
 
 -- the operands of parts that have no option
-abbrev pub operands_alone : List Part → Option (List (List ℕ))
+abbrev pub operands_alone : List OptionOrOperand → Option (List (List ℕ))
 operands_alone parts = if takes_only [] parts then Some (operands parts) else None
 
 -- the one item of a list that has exactly one
@@ -114,15 +101,15 @@ Given = (option : List ℕ) → List (List ℕ)
 
 -- the cells of the heap, by `--heap`
 abbrev pub cells_of : Given → Option ℕ
-cells_of given = option_number 1000000 1 8000000 (given (codes "heap"))
+cells_of given = option_number default_cells 1 most_cells (given (codes "heap"))
 
 -- the bytes of the stack, by `--stack`, a multiple of four or not
 abbrev pub stack_of : Given → Option ℕ
-stack_of given = option_number 1048576 1024 67108864 (given (codes "stack"))
+stack_of given = option_number default_stack least_stack most_stack (given (codes "stack"))
 
 -- the number of instructions, by `--steps`
 abbrev pub steps_of : Given → Option ℕ
-steps_of given = option_number 1000000000 1 1000000000000 (given (codes "steps"))
+steps_of given = option_number default_steps 1 most_steps (given (codes "steps"))
 
 -- whether the cost is asked for, by `--stats`
 abbrev pub stats_of : Given → Option Bool
@@ -250,13 +237,13 @@ by_name ask name =
     else None))))))))))
 
 -- what parts with options of the form alone ask for
-abbrev pub asked : List Part → Form → Option CommandLine
+abbrev pub asked : List OptionOrOperand → Form → Option CommandLine
 asked parts form =
     if takes_only form.options parts then form.asks (λ option. values option parts) (operands parts)
     else None
 
 -- the command of this name with these parts
-abbrev pub command_from : (name : List ℕ) → List Part → Option CommandLine
+abbrev pub command_from : (name : List ℕ) → List OptionOrOperand → Option CommandLine
 command_from name parts =
     if bytes_eq name (codes "link") then asked parts link_form else by_name (asked parts) name
 

@@ -5,24 +5,24 @@ use Rattle.std.specs.Option.{option_map}
 use Rattle.std.specs.Str.{bytes_eq}
 
 -- an option with its value, which is empty where it takes none, or an operand
-pub data Part : Type 0 where
-  Setting : (name value : List ℕ) → Part
-  Operand : (text : List ℕ) → Part
+pub data OptionOrOperand : Type 0 where
+  Setting : (name value : List ℕ) → OptionOrOperand
+  Operand : (text : List ℕ) → OptionOrOperand
 
 -- what a word is while no `--` stands before it
-pub data Word : Type 0 where
+pub data WordKind : Type 0 where
   -- an operand
-  Plain : (text : List ℕ) → Word
+  Plain : (text : List ℕ) → WordKind
   -- `--name=value`
-  Joined : (name value : List ℕ) → Word
+  Joined : (name value : List ℕ) → WordKind
   -- `--name`, of an option that takes no value
-  Flag : (name : List ℕ) → Word
+  Flag : (name : List ℕ) → WordKind
   -- `--name`, whose value is the next word
-  Named : (name : List ℕ) → Word
+  Named : (name : List ℕ) → WordKind
   -- `--`, behind which every word is an operand
-  End : Word
+  End : WordKind
   -- a dash with more behind it, which no command has
-  Unknown : Word
+  Unknown : WordKind
 
 -- the byte `-`
 abbrev pub is_dash : ℕ → Bool
@@ -42,15 +42,15 @@ abbrev pub is_flag : List ℕ → Bool
 is_flag name = bytes_eq name (codes "stats")
 
 -- an option with a value in the same word
-abbrev pub joined : (name value : List ℕ) → Word
+abbrev pub joined : (name value : List ℕ) → WordKind
 joined name value = if is_flag name then Unknown else Joined name value
 
 -- an option without one in its word
-abbrev pub named : (name : List ℕ) → Word
+abbrev pub named : (name : List ℕ) → WordKind
 named name = if is_flag name then Flag name else Named name
 
 -- the word that is two dashes and then this text; a name ends at the first `=`
-abbrev pub option_of : List ℕ → Word
+abbrev pub option_of : List ℕ → WordKind
 option_of [] = End
 option_of (b ∷ bs) =
     if nat_lt (position_or_len is_equals (b ∷ bs)) (length (b ∷ bs))
@@ -58,19 +58,20 @@ option_of (b ∷ bs) =
     else named (b ∷ bs)
 
 -- what a word is
-abbrev pub word_of : List ℕ → Word
+abbrev pub word_of : List ℕ → WordKind
 word_of [] = Plain []
 word_of (b ∷ []) = Plain (b ∷ [])
 word_of (b ∷ c ∷ bs) =
     if is_dash b then (if is_dash c then option_of bs else Unknown) else Plain (b ∷ c ∷ bs)
 
 -- the parts with one more before them
-abbrev pub with_part : Part → Option (List Part) → Option (List Part)
+abbrev pub with_part : OptionOrOperand → Option (List OptionOrOperand)
+    → Option (List OptionOrOperand)
 with_part part parts = option_map (λ rest. part ∷ rest) parts
 
 abbrev mutual
   -- the parts that words stand for, if they stand for any
-  pub parts_of : List (List ℕ) → Option (List Part)
+  pub parts_of : List (List ℕ) → Option (List OptionOrOperand)
   parts_of [] = Some []
   parts_of (text ∷ words) = elim (word_of text) [
     | Plain operand ↦ with_part (Operand operand) (parts_of words)
@@ -82,7 +83,7 @@ abbrev mutual
   ]
 
   -- the same where the first word is the value of an option
-  pub parts_from_value : (name : List ℕ) → List (List ℕ) → Option (List Part)
+  pub parts_from_value : (name : List ℕ) → List (List ℕ) → Option (List OptionOrOperand)
   parts_from_value name [] = None
   parts_from_value name (value ∷ words) = elim (begins_with_dash value) [
     | true ↦ None

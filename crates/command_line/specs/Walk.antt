@@ -4,17 +4,17 @@ use Rattle.std.specs.Prelude.{ℕ, ◌&&◌, ◌||◌, Bool, true, List, [], ◌
 use Rattle.std.specs.List.{list_any}
 use Rattle.std.specs.Option.{option_map, option_and_then, option_copied}
 use Rattle.std.specs.Str.{bytes_eq}
-use Rattle.command_line.specs.Parts.{Part, Setting, Operand, Word, Plain, Joined, Flag, Named, End, Unknown, begins_with_dash, word_of}
+use Rattle.command_line.specs.Parts.{OptionOrOperand, Setting, Operand, WordKind, Plain, Joined, Flag, Named, End, Unknown, begins_with_dash, word_of}
 use Rattle.command_line.specs.Commands.{CommandLine, Form, by_name}
-use Rattle.command_line.specs.declared.word.Word as code
-use Rattle.command_line.specs.declared.word.Word.TheVariants as word
+use Rattle.command_line.specs.declared.word.WordKind as code
+use Rattle.command_line.specs.declared.word.WordKind.TheVariants as word
 use Rattle.command_line.specs.declared.arguments.Arguments.{Arguments}
 use Rattle.command_line.specs.declared.arguments.Walk as walk
 use Rattle.command_line.specs.declared.arguments.Expected as expected
 use Rattle.command_line.specs.declared.arguments.Expected.TheVariants as expects
 
 -- a word of the code
-abbrev pub word_seen : code.Word → Word
+abbrev pub word_seen : code.WordKind → WordKind
 word_seen (word.Plain text) = Plain text.now
 word_seen (word.Joined name value) = Joined name.now value.now
 word_seen (word.Flag name) = Flag name.now
@@ -42,8 +42,8 @@ option_names =
     codes "after" ∷ codes "heap" ∷ codes "stack" ∷ codes "steps" ∷ codes "seed" ∷ codes "size"
     ∷ codes "stats" ∷ []
 
-abbrev pub nothing_said : Said
-nothing_said = record { operand = None; entries = map unset option_names }
+abbrev pub no_options : Said
+no_options = record { operand = None; entries = map unset option_names }
 
 abbrev pub said : Arguments → Said
 said a = record {
@@ -81,12 +81,12 @@ with_setting s name value =
     }) (with_value s.entries name value)
 
 -- with one part more
-abbrev pub with_part : Said → Part → Option Said
+abbrev pub with_part : Said → OptionOrOperand → Option Said
 with_part s (Setting name value) = with_setting s name value
 with_part s (Operand text) = with_operand s text
 
 -- with all parts
-abbrev pub gathered : Said → List Part → Option Said
+abbrev pub gathered : Said → List OptionOrOperand → Option Said
 gathered s [] = Some s
 gathered s (part ∷ parts) = option_and_then (λ t. gathered t parts) (with_part s part)
 
@@ -114,7 +114,7 @@ abbrev pub before : Next → Said → Place
 before next s = record { arguments = s; next = next }
 
 -- with one word more, behind a whole part
-abbrev pub begun : Said → Word → Option Place
+abbrev pub begun : Said → WordKind → Option Place
 begun s (Plain text) = option_map (before Any) (with_operand s text)
 begun s (Joined name value) = option_map (before Any) (with_setting s name value)
 begun s (Flag name) = option_map (before Any) (with_setting s name [])

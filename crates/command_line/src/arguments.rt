@@ -3,9 +3,9 @@
 ghost use Rattle.std.specs.Prelude.{◌≡◌, map, string_bytes};
 ghost use Rattle.std.specs.Option.{option_map, option_and_then};
 ghost use Rattle.command_line.specs.Parts.{parts_of};
-ghost use Rattle.command_line.specs.Walk.{said, nothing_said, with_operand, with_setting, gathered, begun, walked, walk_seen, word_seen};
+ghost use Rattle.command_line.specs.Walk.{said, no_options, with_operand, with_setting, gathered, begun, walked, walk_seen, word_seen};
 
-use crate::word::Word;
+use crate::word::WordKind;
 
 /// The operand and the values of the options, each at most once.
 #[derive(Clone, Copy, Debug)]
@@ -32,7 +32,7 @@ impl<'a> Arguments<'a> {
     /// command's, or one of them or the operand stands twice.
     pub(crate) fn read(words: &'a [String]) -> Option<Arguments<'a>>
         ensures { option_map said result
-            ≡ option_and_then (gathered nothing_said) (parts_of (map string_bytes words.now)) }
+            ≡ option_and_then (gathered no_options) (parts_of (map string_bytes words.now)) }
     {
         let mut walk = Walk {
             arguments: Arguments {
@@ -131,7 +131,7 @@ impl<'a> Walk<'a> {
         ensures { option_map walk_seen result ≡ walked (walk_seen self.entry) text.now }
     {
         match self.expected {
-            Expected::Any => self.begin(Word::of(text)),
+            Expected::Any => self.begin(WordKind::of(text)),
             Expected::Value(name) => {
                 if text.starts_with('-') {
                     return None;
@@ -149,33 +149,33 @@ impl<'a> Walk<'a> {
     }
 
     /// With one word more, where no option waits for its value and no `--` has stood.
-    fn begin(self, word: Word<'a>) -> Option<Walk<'a>>
+    fn begin(self, word: WordKind<'a>) -> Option<Walk<'a>>
         ensures { option_map walk_seen result
             ≡ begun (said self.entry.arguments) (word_seen word.entry) }
     {
         let arguments = self.arguments;
         match word {
-            Word::Plain(text) => Some(Walk {
+            WordKind::Plain(text) => Some(Walk {
                 arguments: arguments.with_operand(text)?,
                 expected: Expected::Any,
             }),
-            Word::Joined { name, value } => Some(Walk {
+            WordKind::Joined { name, value } => Some(Walk {
                 arguments: arguments.with_setting(name, value)?,
                 expected: Expected::Any,
             }),
-            Word::Flag(name) => Some(Walk {
+            WordKind::Flag(name) => Some(Walk {
                 arguments: arguments.with_setting(name, "")?,
                 expected: Expected::Any,
             }),
-            Word::Named(name) => Some(Walk {
+            WordKind::Named(name) => Some(Walk {
                 arguments,
                 expected: Expected::Value(name),
             }),
-            Word::End => Some(Walk {
+            WordKind::End => Some(Walk {
                 arguments,
                 expected: Expected::Operand,
             }),
-            Word::Unknown => None,
+            WordKind::Unknown => None,
         }
     }
 }

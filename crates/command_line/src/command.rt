@@ -7,42 +7,17 @@ ghost use Rattle.command_line.specs.Parts.{parts_of};
 ghost use Rattle.command_line.specs.Walk.{said, asked_said, chosen};
 
 use crate::arguments::Arguments;
-use crate::files::Files;
+use crate::files::FileOperands;
 use crate::number::{CELLS, STACK, STEPS, seed_within, size_within};
+use stage_names::PassName;
 
-/// The pass after which a program is listed.
+/// What a program is listed as.
 #[derive(Clone, Copy, Debug, PartialEq, Eq)]
 pub enum Listing {
     /// The text as it was read.
     Read,
-    /// The translation to GRIN.
-    Translate,
-    /// The program in which every `eval` is inlined.
-    Eval,
-    /// The program in which every `apply` is inlined too.
-    Apply,
-    /// The program with vectors of words in place of its node variables.
-    Vectorise,
-    /// The program without cases on known tags.
-    Simplify,
-    /// The program that fetches words in place of nodes.
-    Fetch,
-    /// The program without copies.
-    Copy,
-    /// The program whose updates have known tags.
-    Update,
-    /// The program whose procedures give numbers without their tag.
-    Unbox,
-    /// The program whose procedures take words in place of the node in which they stand.
-    Raise,
-    /// The program without nested blocks.
-    Flat,
-    /// The program with literals in place of words that are known.
-    Known,
-    /// The program without fetches of words that are known of the procedure's own cells.
-    Cells,
-    /// The program without cells that nothing reads.
-    Dead,
+    /// The program at a stage.
+    Stage(PassName),
     /// The code of its image.
     Code,
 }
@@ -91,7 +66,7 @@ pub enum Command<'a> {
     },
     /// `link FILE..`: write the one text that 1 to 64 files of modules are together.
     Link {
-        files: Files<'a>,
+        files: FileOperands<'a>,
     },
     /// `lift FILE`: write the text of Core that a text with lambdas and local functions stands for.
     Lift {
@@ -119,28 +94,14 @@ pub enum Command<'a> {
 const MOST_FILES: usize = 64;
 
 impl Listing {
-    /// The pass that a word of `--after` names.
+    /// The listing that a word of `--after` names.
     fn named(word: &str) -> Option<Listing>
         ensures { result ≡ listing_of word.now }
     {
         match word {
             "read" => Some(Listing::Read),
-            "translate" => Some(Listing::Translate),
-            "eval" => Some(Listing::Eval),
-            "apply" => Some(Listing::Apply),
-            "vectorise" => Some(Listing::Vectorise),
-            "simplify" => Some(Listing::Simplify),
-            "fetch" => Some(Listing::Fetch),
-            "copy" => Some(Listing::Copy),
-            "update" => Some(Listing::Update),
-            "unbox" => Some(Listing::Unbox),
-            "raise" => Some(Listing::Raise),
-            "flat" => Some(Listing::Flat),
-            "known" => Some(Listing::Known),
-            "cells" => Some(Listing::Cells),
-            "dead" => Some(Listing::Dead),
             "code" => Some(Listing::Code),
-            _ => None,
+            _ => Some(Listing::Stage(PassName::named(word)?)),
         }
     }
 }
@@ -371,7 +332,7 @@ impl<'a> Command<'a> {
             ≡ option_and_then (λ parts. asked parts link_form)
             (parts_of (map string_bytes words.now)) }
     {
-        let files = Files::read(words)?;
+        let files = FileOperands::read(words)?;
         if files.plain.len() > MOST_FILES || files.rest.len() > MOST_FILES {
             return None;
         }

@@ -10,5 +10,5 @@ mod number;
 mod word;
 
 pub use command::{Command, Listing};
-pub use files::Files;
+pub use files::FileOperands;
 pub use line::Line;

@@ -5,25 +5,29 @@ ghost use Rattle.std.specs.Option.{option_copied};
 ghost use Rattle.command_line.specs.Commands.{option_number};
 ghost use Rattle.command_line.specs.Numbers.{number_within};
 
+use limits::{
+    DEFAULT_CELLS, DEFAULT_STACK, DEFAULT_STEPS, LEAST_STACK, MOST_CELLS, MOST_STACK, MOST_STEPS,
+};
+
 /// The cells of the heap, by `--heap`.
 pub(crate) const CELLS: Numbers = Numbers {
-    default: 1_000_000,
+    default: DEFAULT_CELLS as u64,
     least: 1,
-    most: 8_000_000,
+    most: MOST_CELLS as u64,
 };
 
 /// The bytes of the stack, by `--stack`.
 pub(crate) const STACK: Numbers = Numbers {
-    default: 1_048_576,
-    least: 1_024,
-    most: 67_108_864,
+    default: DEFAULT_STACK as u64,
+    least: LEAST_STACK as u64,
+    most: MOST_STACK as u64,
 };
 
 /// The number of instructions, by `--steps`.
 pub(crate) const STEPS: Numbers = Numbers {
-    default: 1_000_000_000,
+    default: DEFAULT_STEPS,
     least: 1,
-    most: 1_000_000_000_000,
+    most: MOST_STEPS,
 };
 
 /// The numbers that an option can be given.

@@ -6,7 +6,7 @@ ghost use Rattle.command_line.specs.Walk.{word_seen};
 
 /// What a word is while no `--` stands before it.
 #[derive(Clone, Copy, Debug)]
-pub(crate) enum Word<'a> {
+pub(crate) enum WordKind<'a> {
     /// An operand.
     Plain(&'a str),
     /// `--name=value`.
@@ -21,48 +21,48 @@ pub(crate) enum Word<'a> {
     Unknown,
 }
 
-impl<'a> Word<'a> {
+impl<'a> WordKind<'a> {
     /// What a text is.
-    pub(crate) fn of(text: &'a str) -> Word<'a>
+    pub(crate) fn of(text: &'a str) -> WordKind<'a>
         ensures { word_seen result ≡ word_of text.now }
     {
         let Some(dashed) = text.strip_prefix('-') else {
-            return Word::Plain(text);
+            return WordKind::Plain(text);
         };
         if dashed.is_empty() {
-            return Word::Plain(text);
+            return WordKind::Plain(text);
         }
         let Some(option) = dashed.strip_prefix('-') else {
-            return Word::Unknown;
+            return WordKind::Unknown;
         };
         if option.is_empty() {
-            return Word::End;
+            return WordKind::End;
         }
         match option.split_once('=') {
-            Some((name, value)) => Word::joined(name, value),
-            None => Word::named(option),
+            Some((name, value)) => WordKind::joined(name, value),
+            None => WordKind::named(option),
         }
     }
 
     /// An option with a value in the same word.
-    fn joined(name: &'a str, value: &'a str) -> Word<'a>
+    fn joined(name: &'a str, value: &'a str) -> WordKind<'a>
         ensures { word_seen result ≡ joined name.now value.now }
     {
         if is_flag(name) {
-            Word::Unknown
+            WordKind::Unknown
         } else {
-            Word::Joined { name, value }
+            WordKind::Joined { name, value }
         }
     }
 
     /// An option without one in its word.
-    fn named(name: &'a str) -> Word<'a>
+    fn named(name: &'a str) -> WordKind<'a>
         ensures { word_seen result ≡ named name.now }
     {
         if is_flag(name) {
-            Word::Flag(name)
+            WordKind::Flag(name)
         } else {
-            Word::Named(name)
+            WordKind::Named(name)
         }
     }
 }

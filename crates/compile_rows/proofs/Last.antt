@@ -4,13 +4,13 @@ use Rattle.arity_check.specs.Accepted.{IsValid}
 use Rattle.arity_check.specs.Program as core
 use Rattle.grin_syntax.specs.Tree.{Program}
 use Rattle.grin_meaning.specs.Slim.{Slim}
-use Rattle.pass_ground.specs.Vectors.{OfVectors, NarrowTargets, StaysOfVectors}
+use Rattle.pass_ground.specs.Vectors.{IsVectorForm, NarrowTargets, StaysVectorForm}
 use Rattle.vectorised_form.specs.Laws.{VectoriseTakesInlined}
 use Rattle.flow_system.specs.Solution.{Solution}
 use Rattle.inlining.specs.Applications.{inlined}
 use Rattle.grin_translate.specs.Translation.{tr}
-use Rattle.grin_opt.specs.declared.pass.PassName.TheVariants.{Vectorise, Simplify, Fetch, Copy, Update, Unbox, Raise, Flat, Known, Cells, Dead}
-use Rattle.grin_stages.specs.Stage.{Analyses, IsStage}
+use Rattle.stage_names.specs.declared.PassName.TheVariants.{Vectorise, Simplify, Fetch, Copy, Update, Unbox, Raise, Flat, Known, Cells, Dead}
+use Rattle.grin_stages.specs.Stage.{IsLeastOfTranslation, IsStage}
 use Rattle.grin_stages.proofs.Stages.{from_pass}
 use Rattle.grin_compile.specs.Lowerable.{IsLowerable}
 use Rattle.grin_compile.proofs.Narrow.{narrow}
@@ -19,19 +19,19 @@ use Rattle.grin_compile.proofs.Staged.{taken_by}
 -- the solution by which a stage is inlined
 record InlinedBy (p : core.Program) (a : Program) : Type 0 where
   pub solution : Solution
-  pub least : Analyses p solution
+  pub least : IsLeastOfTranslation p solution
   pub is : a ≡ inlined solution (tr p)
 
 -- what the layers below ask of a stage, but for its size
 record CanBeLowered (h : Program) : Type 0 where
-  pub of_vectors : OfVectors h
+  pub of_vectors : IsVectorForm h
   pub narrow : NarrowTargets 14 h
 
-next_one : (g h : Program) → CanBeLowered g → StaysOfVectors g h → CanBeLowered h
+next_one : (g h : Program) → CanBeLowered g → StaysVectorForm g h → CanBeLowered h
 next_one g h can stays = record { of_vectors = stays.of_vectors; narrow = stays.narrow 14 can.narrow }
 
 -- a pass that makes targets of one variable
-splitting_one : (g h : Program) → CanBeLowered g → OfVectors h → ((most : ℕ) → 1 ≤ most → NarrowTargets most g → NarrowTargets most h) → CanBeLowered h
+splitting_one : (g h : Program) → CanBeLowered g → IsVectorForm h → ((most : ℕ) → 1 ≤ most → NarrowTargets most g → NarrowTargets most h) → CanBeLowered h
 splitting_one g h can vectors narrow = record { of_vectors = vectors; narrow = narrow 14 (omega arith) can.narrow }
 
 module _ (taken : VectoriseTakesInlined) (p : core.Program) (valid : IsValid p) where

@@ -12,15 +12,12 @@ use grin_compile::{Compiled, Options, compile};
 use low_code::Low;
 use std::alloc::Global;
 use std::test::Fail;
+use worked_texts::TAKE_TWICE;
 
 /// `Nil` and `Cons`, 25 bytes.
 const LISTS: &str = "data Nil 0; data Cons 2; ";
 
-/// A program that takes a list twice, behind the prelude. It applies no unknown function.
-const TAKES: &str =
-    "take xs = case xs of { Nil -> Nil; Cons h t -> Cons h (take t) }; main = take (take (Cons 65 Nil));";
-
-// Its last stage, of which the code is made:
+// The last stage of the program that takes a list twice, of which its code is made:
 //
 //     global main = (Fmain)
 //
@@ -264,7 +261,7 @@ fn cells_are_as_wide_as_the_largest_node(rt: HostRuntime) -> Result<(), Fail> {
 #[test]
 fn low_code_by_hand(rt: HostRuntime) -> Result<(), Fail> {
     let alloc = rt.alloc();
-    let text = format!(in alloc; "{LISTS}{TAKES}")?;
+    let text = format!(in alloc; "{LISTS}{TAKE_TWICE}")?;
     let made = compiled(alloc, text.as_str())?;
     let low = &made.low;
     let listing = listed(alloc, low)?;

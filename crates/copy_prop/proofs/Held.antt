@@ -11,7 +11,7 @@ use Rattle.grin_syntax.specs.declared.program.Word.TheVariants.{Lit, Var, Global
 use Rattle.grin_syntax.specs.declared.program.Val.TheVariants.{NodeVar, Node, Vector, One}
 use Rattle.grin_syntax.specs.Tree.{Code, end, store, bind, Act, unit, fetch, fetch_word, update, eval, apply, call, prim, read, write, case, nested, fail, Arms, no_arm, arm, Program}
 use Rattle.grin_syntax.specs.Binders.{target_vars, shape_vars, cell_vars, act_vars, code_vars, arms_vars}
-use Rattle.grin_syntax.specs.Formed.{Scope, InScope, with_words, with_target, WordFormed}
+use Rattle.grin_syntax.specs.Formed.{Scope, InScope, with_word_variables, with_target, WordFormed}
 use Rattle.grin_meaning.specs.Ready.{NoNodeTarget}
 use Rattle.copy_prop.specs.Copies.{Alias, copies_of}
 use Rattle.copy_prop.specs.Resolved.{Table, put, entry, word_for, as_word, put_all, noted_copies, noted_act, noted_code, noted_arms}
@@ -94,7 +94,7 @@ mutual
 abbrev pub as_scope : List ℕ → Scope
 as_scope xs = record { nodes = []; words = xs }
 
-pub target_scope : (t : Target) (scope : Scope) → NoNodeTarget t → with_target t scope ≡ with_words (target_vars t) scope
+pub target_scope : (t : Target) (scope : Scope) → NoNodeTarget t → with_target t scope ≡ with_word_variables (target_vars t) scope
 target_scope to.Nothing scope h = refl
 target_scope (to.Node x) scope h = absurd h
 target_scope (to.One x) scope h = refl
@@ -129,7 +129,7 @@ module _ (g : Program) where
   }
 
   -- once ts are bound, as in the first program
-  pub held_more : (k : Table) (scope : Scope) (scope' ts ys : List ℕ) → Held k scope scope' (ts ++ ys) → Held k (with_words ts scope) (ts ++ scope') ys
+  pub held_more : (k : Table) (scope : Scope) (scope' ts ys : List ℕ) → Held k scope scope' (ts ++ ys) → Held k (with_word_variables ts scope) (ts ++ scope') ys
   held_more k scope scope' ts ys h = record {
     range = λ x i. go x i (times x.0 ts) refl;
     below = λ u. (let e : times u (ts ++ scope') ≡ times u ts + times u scope' = times_append u ts scope' in let f : times u (ts ++ scope.words) ≡ times u ts + times u scope.words = times_append u ts scope.words in let b : times u scope' ≤ times u scope.words = h.below u in omega (arith, e, f, b));
@@ -168,13 +168,13 @@ module _ (g : Program) where
     once = λ y. (let e : times y other.words ≡ times y scope.words = same y in let o : times y scope.words + times y ys ≤ 1 = h.once y in omega (arith, e, o));
   }
 
-  word_later : (us : List ℕ) (scope : Scope) (w : W.Word) → WordFormed g scope w → WordFormed g (with_words us scope) w
+  word_later : (us : List ℕ) (scope : Scope) (w : W.Word) → WordFormed g scope w → WordFormed g (with_word_variables us scope) w
   word_later us scope (Lit k) h = h
   word_later us scope (Var x) h = let e : times x.0 (us ++ scope.words) ≡ times x.0 us + times x.0 scope.words = times_append x.0 us scope.words in omega (arith, e, h)
   word_later us scope (Global i) h = h
   word_later us scope (TagWord t) h = h
 
-  pub words_later : (us : List ℕ) (scope : Scope) (as' : List Alias) → WordsFormed g scope as' → WordsFormed g (with_words us scope) as'
+  pub words_later : (us : List ℕ) (scope : Scope) (as' : List Alias) → WordsFormed g scope as' → WordsFormed g (with_word_variables us scope) as'
   words_later us scope [] f = tt
   words_later us scope (a ∷ as') f = (word_later us scope a.word f.0, words_later us scope as' f.1)
 
@@ -185,7 +185,7 @@ module _ (g : Program) where
       omega (arith, e, f)
 
   -- once a word of a copy is in the table
-  held_alias : (k : Table) (scope : Scope) (scope' ys : List ℕ) (a : Alias) → WordFormed g scope a.word → Held k scope scope' (a.var.0 ∷ ys) → Held (put k a.var.0 (as_word k a.word)) (with_words (a.var.0 ∷ []) scope) scope' ys
+  held_alias : (k : Table) (scope : Scope) (scope' ys : List ℕ) (a : Alias) → WordFormed g scope a.word → Held k scope scope' (a.var.0 ∷ ys) → Held (put k a.var.0 (as_word k a.word)) (with_word_variables (a.var.0 ∷ []) scope) scope' ys
   held_alias k scope scope' ys a f h = record {
     range = λ x i. go x i (nat_eq x.0 a.var.0) refl;
     below = λ u. (let b : times u scope' ≤ times u scope.words = h.below u in omega (arith, b));
@@ -203,9 +203,9 @@ module _ (g : Program) where
           subst (λ o. WordFormed g (as_scope scope') (word_for x o)) (sym (entry_other k a.var.0 x.0 (as_word k a.word) (λ s. (let t : nat_eq x.0 a.var.0 ≡ true = grind (arith, nat_tests) in not_both (nat_eq x.0 a.var.0) t e)))) (h.range x (omega (arith, i, c)))
 
   -- once all are
-  pub held_copies : (as' : List Alias) (k : Table) (scope : Scope) (scope' ys : List ℕ) → WordsFormed g scope as' → Held k scope scope' (alias_vars as' ++ ys) → Held (put_all as' k) (with_words (alias_vars as') scope) scope' ys
+  pub held_copies : (as' : List Alias) (k : Table) (scope : Scope) (scope' ys : List ℕ) → WordsFormed g scope as' → Held k scope scope' (alias_vars as' ++ ys) → Held (put_all as' k) (with_word_variables (alias_vars as') scope) scope' ys
   held_copies [] k scope scope' ys f h = h
   held_copies (a ∷ as') k scope scope' ys f h =
-      let one : Scope = with_words (a.var.0 ∷ []) scope in
-      held_scope (put_all as' (put k a.var.0 (as_word k a.word))) (with_words (alias_vars as') one) (with_words (alias_vars (a ∷ as')) scope) scope' ys (turned_in a.var.0 (alias_vars as') scope.words)
+      let one : Scope = with_word_variables (a.var.0 ∷ []) scope in
+      held_scope (put_all as' (put k a.var.0 (as_word k a.word))) (with_word_variables (alias_vars as') one) (with_word_variables (alias_vars (a ∷ as')) scope) scope' ys (turned_in a.var.0 (alias_vars as') scope.words)
       (held_copies as' (put k a.var.0 (as_word k a.word)) one scope' ys (words_later (a.var.0 ∷ []) scope as' f.1) (held_alias k scope scope' (alias_vars as' ++ ys) a f.0 h))

@@ -14,35 +14,35 @@ use Rattle.grin_syntax.specs.declared.program.Val as V
 use Rattle.grin_syntax.specs.declared.program.Val.TheVariants.{NodeVar, Node, Vector, One}
 use Rattle.grin_syntax.specs.Tree.{Code, end, store, bind, Act, unit, fetch, fetch_word, update, eval, apply, call, prim, read, write, case, nested, fail, Arms, no_arm, arm, Procedure, Program}
 use Rattle.grin_syntax.specs.Binders.{numbers_of, target_vars, shape_vars, cell_vars, act_vars, code_vars, arms_vars, procs_vars, act_sites, code_sites, arms_sites, procs_sites}
-use Rattle.grin_syntax.specs.Formed.{AllOf, Scope, InScope, with_words, with_target, params_scope, WordFormed, ValFormed, CellFormed, ActFormed, CodeFormed, ArmsFormed, ProcedureFormed, Formed}
-use Rattle.grin_syntax.specs.SameOutside.{names_of, SameOutside}
+use Rattle.grin_syntax.specs.Formed.{AllOf, Scope, InScope, with_word_variables, with_target, params_scope, WordFormed, ValFormed, CellFormed, ActFormed, CodeFormed, ArmsFormed, ProcedureFormed, Formed}
+use Rattle.grin_syntax.specs.SameOutside.{names_of, DifferOnlyInBodies}
 use Rattle.grin_syntax.proofs.Scopes.{with_procs, known_again, shape_stays, same_sites, formed_with}
 use Rattle.grin_meaning.specs.Names.{WordOk, WordsOk, ValOk, CellsOk, ActOk, CodeOk, ArmsOk}
-use Rattle.grin_meaning.specs.Ready.{Inlined, ByWords, NoNodeTarget, NoNodeVar, EachAct, EachCode, EachArms, NarrowAct, NarrowCode, NarrowArms, Kind, EachBody, vectorised_kind}
+use Rattle.grin_meaning.specs.Ready.{Inlined, IsNotNodeFetch, NoNodeTarget, NoNodeVar, EachAct, EachCode, EachArms, NarrowAct, NarrowCode, NarrowArms, PieceKind, EveryBodyIsOfKind, vectorised_kind}
 use Rattle.grin_meaning.specs.Rewritten.{rewritten_procedure}
-use Rattle.copy_prop.specs.Lean.{used_in_word, used_in_words, used_in_val, used_in_cells, used_in_act, used_in_code, used_in_arms, none_stands, is_still, is_idle, unless, lean_act, lean_code, lean_arms, lean}
+use Rattle.copy_prop.specs.Lean.{used_in_word, used_in_words, used_in_val, used_in_cells, used_in_act, used_in_code, used_in_arms, are_disjoint, has_no_effect, is_idle, unless, without_idle_act, without_idle_code, without_idle_arms, lean}
 use Rattle.copy_prop.specs.Copied.{IsCopy, Unused, IsNeeded, BoundAct, BoundCode, BoundArms}
 use Rattle.copy_prop.proofs.Used.{none_absent}
 use Rattle.copy_prop.proofs.Held.{as_scope, target_scope}
-use Rattle.copy_prop.proofs.LeanSame.{Covers, covers_left, covers_right}
+use Rattle.copy_prop.proofs.LeanSimulated.{Covers, covers_left, covers_right}
 use Rattle.copy_prop.proofs.ResolvedFormed.{NoCopy}
 use Rattle.seq.specs.Lists.{times, is_among}
-use Rattle.grin_meaning.specs.Pieces.{IsStill}
+use Rattle.grin_meaning.specs.Pieces.{HasNoEffect}
 use Rattle.seq.proofs.Counted.{times_fewer, times_append, among_first, among_append}
 use Rattle.grin_meaning.proofs.Scopes.{among_in}
 
 -- ---- what a piece has of its kind
 
-module _ (K : Kind) (op_stays : (o : Act) → K.operation o → K.operation (lean_act o)) where
+module _ (K : PieceKind) (op_stays : (o : Act) → K.operation o → K.operation (without_idle_act o)) where
   bind_stays : (t : Target) (o' : Act) (c : Code) (q : Bool) → K.target t → EachAct K o' → EachCode K c → EachCode K (unless q (bind t o') c)
   unfolding EachAct
   bind_stays t o' c false h k l = (h, k, l)
   bind_stays t o' c true h k l = l
 
   mutual
-    unfolding lean_act EachAct
+    unfolding without_idle_act EachAct
 
-    act_each : (o : Act) → EachAct K o → EachAct K (lean_act o)
+    act_each : (o : Act) → EachAct K o → EachAct K (without_idle_act o)
     act_each (case v as') h = (op_stays (case v as') h.0, h.1, arms_each as' h.2)
     act_each (nested b) h = (op_stays (nested b) h.0, code_each b h.1)
     act_each (unit v) h = h
@@ -57,21 +57,21 @@ module _ (K : Kind) (op_stays : (o : Act) → K.operation o → K.operation (lea
     act_each (write a) h = h
     act_each fail h = h
 
-    code_each : (b : Code) → EachCode K b → EachCode K (lean_code b)
+    code_each : (b : Code) → EachCode K b → EachCode K (without_idle_code b)
     code_each (end o) h = act_each o h
     code_each (store cs b) h = (h.0, code_each b h.1)
-    code_each (bind t o b) h = bind_stays t (lean_act o) (lean_code b) (is_idle t o (used_in_code (lean_code b))) h.0 (act_each o h.1) (code_each b h.2)
+    code_each (bind t o b) h = bind_stays t (without_idle_act o) (without_idle_code b) (is_idle t o (used_in_code (without_idle_code b))) h.0 (act_each o h.1) (code_each b h.2)
 
-    arms_each : (as' : Arms) → EachArms K as' → EachArms K (lean_arms as')
+    arms_each : (as' : Arms) → EachArms K as' → EachArms K (without_idle_arms as')
     arms_each no_arm h = tt
     arms_each (arm s b as') h = (h.0, code_each b h.1, arms_each as' h.2)
 
-  pub procs_each : (qs : List Procedure) → EachBody K qs → EachBody K (map (rewritten_procedure lean_code) qs)
+  pub procs_each : (qs : List Procedure) → EveryBodyIsOfKind K qs → EveryBodyIsOfKind K (map (rewritten_procedure without_idle_code) qs)
   procs_each [] h = tt
   procs_each (q ∷ qs) h = (code_each q.body h.0, procs_each qs h.1)
 
-pub inlined_stays : (o : Act) → Inlined o → Inlined (lean_act o)
-unfolding lean_act
+pub inlined_stays : (o : Act) → Inlined o → Inlined (without_idle_act o)
+unfolding without_idle_act
 inlined_stays (eval a) h = h
 inlined_stays (apply v a) h = h
 inlined_stays (unit v) h = tt
@@ -86,8 +86,8 @@ inlined_stays (case v as') h = tt
 inlined_stays (nested b) h = tt
 inlined_stays fail h = tt
 
-pub by_words_stays : (o : Act) → ByWords o → ByWords (lean_act o)
-unfolding lean_act
+pub by_words_stays : (o : Act) → IsNotNodeFetch o → IsNotNodeFetch (without_idle_act o)
+unfolding without_idle_act
 by_words_stays (fetch a) h = h
 by_words_stays (unit v) h = tt
 by_words_stays (fetch_word a i) h = tt
@@ -109,9 +109,9 @@ module _ (w most : ℕ) where
   bind_narrow t o' c true h = h
 
   mutual
-    unfolding lean_act NarrowAct
+    unfolding without_idle_act NarrowAct
 
-    act_narrow : (o : Act) → NarrowAct w most o → NarrowAct w most (lean_act o)
+    act_narrow : (o : Act) → NarrowAct w most o → NarrowAct w most (without_idle_act o)
     act_narrow (case v as') h = arms_narrow as' h
     act_narrow (nested b) h = code_narrow b h
     act_narrow (unit v) h = h
@@ -126,20 +126,20 @@ module _ (w most : ℕ) where
     act_narrow (write a) h = h
     act_narrow fail h = h
 
-    code_narrow : (b : Code) → NarrowCode w most b → NarrowCode w most (lean_code b)
+    code_narrow : (b : Code) → NarrowCode w most b → NarrowCode w most (without_idle_code b)
     code_narrow (end o) h = act_narrow o h
     code_narrow (store cs b) h = code_narrow b h
-    code_narrow (bind t o b) h = bind_narrow t (lean_act o) (lean_code b) (is_idle t o (used_in_code (lean_code b))) (code_narrow b h)
+    code_narrow (bind t o b) h = bind_narrow t (without_idle_act o) (without_idle_code b) (is_idle t o (used_in_code (without_idle_code b))) (code_narrow b h)
 
-    arms_narrow : (as' : Arms) → NarrowArms w most as' → NarrowArms w most (lean_arms as')
+    arms_narrow : (as' : Arms) → NarrowArms w most as' → NarrowArms w most (without_idle_arms as')
     arms_narrow no_arm h = tt
     arms_narrow (arm s b as') h = (code_narrow b h.0, arms_narrow as' h.1)
 
-  pub procs_narrow : (qs : List Procedure) → AllOf (λ q. NarrowCode w most q.body) qs → AllOf (λ q. NarrowCode w most q.body) (map (rewritten_procedure lean_code) qs)
+  pub procs_narrow : (qs : List Procedure) → AllOf (λ q. NarrowCode w most q.body) qs → AllOf (λ q. NarrowCode w most q.body) (map (rewritten_procedure without_idle_code) qs)
   procs_narrow [] h = tt
   procs_narrow (q ∷ qs) h = (code_narrow q.body h.0, procs_narrow qs h.1)
 
-pub procs_params : (most : ℕ) (qs : List Procedure) → AllOf (λ q. length q.params ≤ most) qs → AllOf (λ q. length q.params ≤ most) (map (rewritten_procedure lean_code) qs)
+pub procs_params : (most : ℕ) (qs : List Procedure) → AllOf (λ q. length q.params ≤ most) qs → AllOf (λ q. length q.params ≤ most) (map (rewritten_procedure without_idle_code) qs)
 procs_params most [] h = tt
 procs_params most (q ∷ qs) h = (h.0, procs_params most qs h.1)
 
@@ -207,12 +207,12 @@ module _ (x : ℕ) where
     arms_absent no_arm h = refl
     arms_absent (arm s b as') h = absent_both x (used_in_code b) (used_in_arms as') (code_absent b h.0) (arms_absent as' h.1)
 
-none_used : (b : Code) (xs : List ℕ) → AllOf (Unused b) xs → none_stands xs (used_in_code b) ≡ true
+none_used : (b : Code) (xs : List ℕ) → AllOf (Unused b) xs → are_disjoint xs (used_in_code b) ≡ true
 none_used b [] h = refl
 none_used b (x ∷ xs) h = λ i. not (code_absent x b h.0 i) && none_used b xs h.1 i
 
-was_copy : (t : Target) (o : Act) → IsCopy t (lean_act o) → IsCopy t o
-unfolding lean_act
+was_copy : (t : Target) (o : Act) → IsCopy t (without_idle_act o) → IsCopy t o
+unfolding without_idle_act
 was_copy t (unit v) h = h
 was_copy t (fetch a) h = h
 was_copy t (fetch_word a i) h = h
@@ -227,8 +227,8 @@ was_copy t (case v as') h = h
 was_copy t (nested b) h = h
 was_copy t fail h = h
 
-was_still : (o : Act) → IsStill (lean_act o) → is_still o ≡ true
-unfolding lean_act
+was_still : (o : Act) → HasNoEffect (without_idle_act o) → has_no_effect o ≡ true
+unfolding without_idle_act
 was_still (unit v) h = refl
 was_still (fetch a) h = refl
 was_still (fetch_word a i) h = refl
@@ -243,7 +243,7 @@ was_still (case v as') h = absurd h
 was_still (nested b) h = absurd h
 was_still fail h = absurd h
 
-bind_needed : (t : Target) (o : Act) (c : Code) (q : Bool) → is_idle t o (used_in_code c) ≡ q → (IsCopy t o → ⊥) → BoundAct IsNeeded (lean_act o) → BoundCode IsNeeded c → BoundCode IsNeeded (unless q (bind t (lean_act o)) c)
+bind_needed : (t : Target) (o : Act) (c : Code) (q : Bool) → is_idle t o (used_in_code c) ≡ q → (IsCopy t o → ⊥) → BoundAct IsNeeded (without_idle_act o) → BoundCode IsNeeded c → BoundCode IsNeeded (unless q (bind t (without_idle_act o)) c)
 unfolding BoundAct
 bind_needed t o c true e n f h = h
 bind_needed t o c false e n f h = (
@@ -256,9 +256,9 @@ bind_needed t o c false e n f h = (
 )
 
 mutual
-  unfolding lean_act BoundAct
+  unfolding without_idle_act BoundAct
 
-  act_needed : (o : Act) → BoundAct NoCopy o → BoundAct IsNeeded (lean_act o)
+  act_needed : (o : Act) → BoundAct NoCopy o → BoundAct IsNeeded (without_idle_act o)
   act_needed (case v as') h = arms_needed as' h
   act_needed (nested b) h = code_needed b h
   act_needed (unit v) h = tt
@@ -273,16 +273,16 @@ mutual
   act_needed (write a) h = tt
   act_needed fail h = tt
 
-  code_needed : (b : Code) → BoundCode NoCopy b → BoundCode IsNeeded (lean_code b)
+  code_needed : (b : Code) → BoundCode NoCopy b → BoundCode IsNeeded (without_idle_code b)
   code_needed (end o) h = act_needed o h
   code_needed (store cs b) h = code_needed b h
-  code_needed (bind t o b) h = bind_needed t o (lean_code b) (is_idle t o (used_in_code (lean_code b))) refl h.0 (act_needed o h.1) (code_needed b h.2)
+  code_needed (bind t o b) h = bind_needed t o (without_idle_code b) (is_idle t o (used_in_code (without_idle_code b))) refl h.0 (act_needed o h.1) (code_needed b h.2)
 
-  arms_needed : (as' : Arms) → BoundArms NoCopy as' → BoundArms IsNeeded (lean_arms as')
+  arms_needed : (as' : Arms) → BoundArms NoCopy as' → BoundArms IsNeeded (without_idle_arms as')
   arms_needed no_arm h = tt
   arms_needed (arm s b as') h = (code_needed b h.0, arms_needed as' h.1)
 
-pub procs_needed : (qs : List Procedure) → AllOf (λ q. BoundCode NoCopy q.body) qs → AllOf (λ q. BoundCode IsNeeded q.body) (map (rewritten_procedure lean_code) qs)
+pub procs_needed : (qs : List Procedure) → AllOf (λ q. BoundCode NoCopy q.body) qs → AllOf (λ q. BoundCode IsNeeded q.body) (map (rewritten_procedure without_idle_code) qs)
 procs_needed [] h = tt
 procs_needed (q ∷ qs) h = (code_needed q.body h.0, procs_needed qs h.1)
 
@@ -294,9 +294,9 @@ bind_counts y t o o' b c false h k = times_fewer y (target_vars t) (act_vars o' 
 bind_counts y t o o' b c true h k = times_fewer y [] (code_vars c) (target_vars t) (act_vars o ++ code_vars b) (omega arith) (times_fewer y [] (code_vars c) (act_vars o) (code_vars b) (omega arith) k)
 
 mutual
-  unfolding lean_act act_vars
+  unfolding without_idle_act act_vars
 
-  act_counts : (y : ℕ) (o : Act) → times y (act_vars (lean_act o)) ≤ times y (act_vars o)
+  act_counts : (y : ℕ) (o : Act) → times y (act_vars (without_idle_act o)) ≤ times y (act_vars o)
   act_counts y (case v as') = arms_counts y as'
   act_counts y (nested b) = code_counts y b
   act_counts y (unit v) = omega arith
@@ -311,22 +311,22 @@ mutual
   act_counts y (write a) = omega arith
   act_counts y fail = omega arith
 
-  code_counts : (y : ℕ) (b : Code) → times y (code_vars (lean_code b)) ≤ times y (code_vars b)
+  code_counts : (y : ℕ) (b : Code) → times y (code_vars (without_idle_code b)) ≤ times y (code_vars b)
   code_counts y (end o) = act_counts y o
-  code_counts y (store cs b) = times_fewer y (cell_vars cs) (code_vars (lean_code b)) (cell_vars cs) (code_vars b) (omega arith) (code_counts y b)
-  code_counts y (bind t o b) = bind_counts y t o (lean_act o) b (lean_code b) (is_idle t o (used_in_code (lean_code b))) (act_counts y o) (code_counts y b)
+  code_counts y (store cs b) = times_fewer y (cell_vars cs) (code_vars (without_idle_code b)) (cell_vars cs) (code_vars b) (omega arith) (code_counts y b)
+  code_counts y (bind t o b) = bind_counts y t o (without_idle_act o) b (without_idle_code b) (is_idle t o (used_in_code (without_idle_code b))) (act_counts y o) (code_counts y b)
 
-  arms_counts : (y : ℕ) (as' : Arms) → times y (arms_vars (lean_arms as')) ≤ times y (arms_vars as')
+  arms_counts : (y : ℕ) (as' : Arms) → times y (arms_vars (without_idle_arms as')) ≤ times y (arms_vars as')
   arms_counts y no_arm = omega arith
-  arms_counts y (arm s b as') = times_fewer y (shape_vars s) (code_vars (lean_code b) ++ arms_vars (lean_arms as')) (shape_vars s) (code_vars b ++ arms_vars as') (omega arith)
-      (times_fewer y (code_vars (lean_code b)) (arms_vars (lean_arms as')) (code_vars b) (arms_vars as') (code_counts y b) (arms_counts y as'))
+  arms_counts y (arm s b as') = times_fewer y (shape_vars s) (code_vars (without_idle_code b) ++ arms_vars (without_idle_arms as')) (shape_vars s) (code_vars b ++ arms_vars as') (omega arith)
+      (times_fewer y (code_vars (without_idle_code b)) (arms_vars (without_idle_arms as')) (code_vars b) (arms_vars as') (code_counts y b) (arms_counts y as'))
 
-procs_counts : (y : ℕ) (qs : List Procedure) → times y (procs_vars (map (rewritten_procedure lean_code) qs)) ≤ times y (procs_vars qs)
+procs_counts : (y : ℕ) (qs : List Procedure) → times y (procs_vars (map (rewritten_procedure without_idle_code) qs)) ≤ times y (procs_vars qs)
 procs_counts y [] = omega arith
-procs_counts y (q ∷ qs) = times_fewer y (numbers_of q.params ++ code_vars (lean_code q.body)) (procs_vars (map (rewritten_procedure lean_code) qs)) (numbers_of q.params ++ code_vars q.body) (procs_vars qs)
-    (times_fewer y (numbers_of q.params) (code_vars (lean_code q.body)) (numbers_of q.params) (code_vars q.body) (omega arith) (code_counts y q.body)) (procs_counts y qs)
+procs_counts y (q ∷ qs) = times_fewer y (numbers_of q.params ++ code_vars (without_idle_code q.body)) (procs_vars (map (rewritten_procedure without_idle_code) qs)) (numbers_of q.params ++ code_vars q.body) (procs_vars qs)
+    (times_fewer y (numbers_of q.params) (code_vars (without_idle_code q.body)) (numbers_of q.params) (code_vars q.body) (omega arith) (code_counts y q.body)) (procs_counts y qs)
 
-still_sites : (o : Act) → is_still o ≡ true → act_sites o ≡ []
+still_sites : (o : Act) → has_no_effect o ≡ true → act_sites o ≡ []
 unfolding act_sites
 still_sites (unit v) h = refl
 still_sites (fetch a) h = refl
@@ -345,12 +345,12 @@ still_sites fail h = refl
 bind_sites : (t : Target) (o o' : Act) (b c : Code) (used : List ℕ) (q : Bool) → is_idle t o used ≡ q → act_sites o' ≡ act_sites o → code_sites c ≡ code_sites b → code_sites (unless q (bind t o') c) ≡ code_sites (bind t o b)
 unfolding act_sites
 bind_sites t o o' b c used false e h k = λ i. h i ++ k i
-bind_sites t o o' b c used true e h k = k ∙ ap (λ l. l ++ code_sites b) (sym (still_sites o (and_left (is_still o) (none_stands (target_vars t) used) e)))
+bind_sites t o o' b c used true e h k = k ∙ ap (λ l. l ++ code_sites b) (sym (still_sites o (and_left (has_no_effect o) (are_disjoint (target_vars t) used) e)))
 
 mutual
-  unfolding lean_act act_sites
+  unfolding without_idle_act act_sites
 
-  act_sites_stay : (o : Act) → act_sites (lean_act o) ≡ act_sites o
+  act_sites_stay : (o : Act) → act_sites (without_idle_act o) ≡ act_sites o
   act_sites_stay (case v as') = arms_sites_stay as'
   act_sites_stay (nested b) = code_sites_stay b
   act_sites_stay (unit v) = refl
@@ -365,24 +365,24 @@ mutual
   act_sites_stay (write a) = refl
   act_sites_stay fail = refl
 
-  code_sites_stay : (b : Code) → code_sites (lean_code b) ≡ code_sites b
+  code_sites_stay : (b : Code) → code_sites (without_idle_code b) ≡ code_sites b
   code_sites_stay (end o) = act_sites_stay o
   code_sites_stay (store cs b) = ap (λ l. map (λ c. c.site.0) cs ++ l) (code_sites_stay b)
-  code_sites_stay (bind t o b) = bind_sites t o (lean_act o) b (lean_code b) (used_in_code (lean_code b)) (is_idle t o (used_in_code (lean_code b))) refl (act_sites_stay o) (code_sites_stay b)
+  code_sites_stay (bind t o b) = bind_sites t o (without_idle_act o) b (without_idle_code b) (used_in_code (without_idle_code b)) (is_idle t o (used_in_code (without_idle_code b))) refl (act_sites_stay o) (code_sites_stay b)
 
-  arms_sites_stay : (as' : Arms) → arms_sites (lean_arms as') ≡ arms_sites as'
+  arms_sites_stay : (as' : Arms) → arms_sites (without_idle_arms as') ≡ arms_sites as'
   arms_sites_stay no_arm = refl
   arms_sites_stay (arm s b as') = λ i. code_sites_stay b i ++ arms_sites_stay as' i
 
-sites_stay : (qs : List Procedure) → procs_sites (map (rewritten_procedure lean_code) qs) ≡ procs_sites qs
+sites_stay : (qs : List Procedure) → procs_sites (map (rewritten_procedure without_idle_code) qs) ≡ procs_sites qs
 sites_stay [] = refl
 sites_stay (q ∷ qs) = λ i. code_sites_stay q.body i ++ sites_stay qs i
 
-names_stay : (qs : List Procedure) → names_of (map (rewritten_procedure lean_code) qs) ≡ names_of qs
+names_stay : (qs : List Procedure) → names_of (map (rewritten_procedure without_idle_code) qs) ≡ names_of qs
 names_stay [] = refl
 names_stay (q ∷ qs) = ap (λ ns. q.name ∷ ns) (names_stay qs)
 
-pub lean_outside : (g : Program) → SameOutside g (lean g)
+pub lean_outside : (g : Program) → DifferOnlyInBodies g (lean g)
 lean_outside g = record { same_tags = refl; same_globals = refl; same_start = refl; same_argument = refl; same_names = names_stay g.procs }
 
 -- ---- scopes
@@ -391,7 +391,7 @@ lean_outside g = record { same_tags = refl; same_globals = refl; same_start = re
 abbrev pub Carried : Scope → List ℕ → ℕ → Type 0
 Carried scope scope' x = InScope scope.words x → InScope scope' x
 
-pub carried_more : (ts : List ℕ) (scope : Scope) (scope' : List ℕ) (x : ℕ) → Carried scope scope' x → Carried (with_words ts scope) (ts ++ scope') x
+pub carried_more : (ts : List ℕ) (scope : Scope) (scope' : List ℕ) (x : ℕ) → Carried scope scope' x → Carried (with_word_variables ts scope) (ts ++ scope') x
 carried_more ts scope scope' x c i = go (times x ts) refl
   where
     go : (n : ℕ) → times x ts ≡ n → InScope (ts ++ scope') x
@@ -403,7 +403,7 @@ carried_more ts scope scope' x c i = go (times x ts) refl
     go (suc n) e = let b : times x (ts ++ scope') ≡ times x ts + times x scope' = times_append x ts scope' in omega (arith, e, b)
 
 -- what is left out is not used
-carried_past : (ts used : List ℕ) (scope : Scope) (scope' : List ℕ) → none_stands ts used ≡ true → Covers (Carried scope scope') used → Covers (Carried (with_words ts scope) scope') used
+carried_past : (ts used : List ℕ) (scope : Scope) (scope' : List ℕ) → are_disjoint ts used ≡ true → Covers (Carried scope scope') used → Covers (Carried (with_word_variables ts scope) scope') used
 carried_past ts used scope scope' none cov x h i = go (times x ts) refl
   where
     go : (n : ℕ) → times x ts ≡ n → InScope scope' x
@@ -439,23 +439,23 @@ module _ (g : Program) (procs : List Procedure) (same_count : length procs ≡ l
     cells_formed (x ∷ cs) n c f = (val_formed x.val n.0 (covers_left (Carried scope scope') (used_in_val x.val) (used_in_cells cs) c) f.0, cells_formed cs n.1 (covers_right (Carried scope scope') (used_in_val x.val) (used_in_cells cs) c) f.1)
 
   bind_formed : (scope : Scope) (scope' : List ℕ) (t : Target) (o : Act) (b : Code) → NoNodeTarget t → CodeFormed g (with_target t scope) b
-      → (Covers (Carried scope scope') (used_in_act (lean_act o)) → ActFormed there (as_scope scope') (lean_act o))
-      → ((s : Scope) (s' : List ℕ) → Covers (Carried s s') (used_in_code (lean_code b)) → CodeFormed g s b → CodeFormed there (as_scope s') (lean_code b))
-      → (q : Bool) → is_idle t o (used_in_code (lean_code b)) ≡ q → Covers (Carried scope scope') (used_in_code (unless q (bind t (lean_act o)) (lean_code b))) → CodeFormed there (as_scope scope') (unless q (bind t (lean_act o)) (lean_code b))
+      → (Covers (Carried scope scope') (used_in_act (without_idle_act o)) → ActFormed there (as_scope scope') (without_idle_act o))
+      → ((s : Scope) (s' : List ℕ) → Covers (Carried s s') (used_in_code (without_idle_code b)) → CodeFormed g s b → CodeFormed there (as_scope s') (without_idle_code b))
+      → (q : Bool) → is_idle t o (used_in_code (without_idle_code b)) ≡ q → Covers (Carried scope scope') (used_in_code (unless q (bind t (without_idle_act o)) (without_idle_code b))) → CodeFormed there (as_scope scope') (unless q (bind t (without_idle_act o)) (without_idle_code b))
   unfolding used_in_act ActFormed
   bind_formed scope scope' t o b nt fb f kk false e cov = (
-    f (covers_right (Carried scope scope') (used_in_code (lean_code b)) (used_in_act (lean_act o)) cov),
-    subst (λ s. CodeFormed there s (lean_code b)) (sym (target_scope t (as_scope scope') nt))
-        (kk (with_words (target_vars t) scope) (target_vars t ++ scope') (λ x h. carried_more (target_vars t) scope scope' x (covers_left (Carried scope scope') (used_in_code (lean_code b)) (used_in_act (lean_act o)) cov x h)) (subst (λ s. CodeFormed g s b) (target_scope t scope nt) fb)),
+    f (covers_right (Carried scope scope') (used_in_code (without_idle_code b)) (used_in_act (without_idle_act o)) cov),
+    subst (λ s. CodeFormed there s (without_idle_code b)) (sym (target_scope t (as_scope scope') nt))
+        (kk (with_word_variables (target_vars t) scope) (target_vars t ++ scope') (λ x h. carried_more (target_vars t) scope scope' x (covers_left (Carried scope scope') (used_in_code (without_idle_code b)) (used_in_act (without_idle_act o)) cov x h)) (subst (λ s. CodeFormed g s b) (target_scope t scope nt) fb)),
   )
   bind_formed scope scope' t o b nt fb f kk true e cov =
-      kk (with_words (target_vars t) scope) scope' (carried_past (target_vars t) (used_in_code (lean_code b)) scope scope' (and_right (is_still o) (none_stands (target_vars t) (used_in_code (lean_code b))) e) cov) (subst (λ s. CodeFormed g s b) (target_scope t scope nt) fb)
+      kk (with_word_variables (target_vars t) scope) scope' (carried_past (target_vars t) (used_in_code (without_idle_code b)) scope scope' (and_right (has_no_effect o) (are_disjoint (target_vars t) (used_in_code (without_idle_code b))) e) cov) (subst (λ s. CodeFormed g s b) (target_scope t scope nt) fb)
 
   mutual
-    unfolding lean_act used_in_act ActFormed EachAct
+    unfolding without_idle_act used_in_act ActFormed EachAct
 
-    act_formed : (o : Act) (scope : Scope) (scope' : List ℕ) → Covers (Carried scope scope') (used_in_act (lean_act o)) → ActFormed g scope o → EachAct vectorised_kind o → ActFormed there (as_scope scope') (lean_act o)
-    act_formed (case v as') scope scope' c f n = (val_formed scope scope' v n.1 (covers_left (Carried scope scope') (used_in_val v) (used_in_arms (lean_arms as')) c) f.0, arms_formed as' scope scope' (covers_right (Carried scope scope') (used_in_val v) (used_in_arms (lean_arms as')) c) f.1 n.2)
+    act_formed : (o : Act) (scope : Scope) (scope' : List ℕ) → Covers (Carried scope scope') (used_in_act (without_idle_act o)) → ActFormed g scope o → EachAct vectorised_kind o → ActFormed there (as_scope scope') (without_idle_act o)
+    act_formed (case v as') scope scope' c f n = (val_formed scope scope' v n.1 (covers_left (Carried scope scope') (used_in_val v) (used_in_arms (without_idle_arms as')) c) f.0, arms_formed as' scope scope' (covers_right (Carried scope scope') (used_in_val v) (used_in_arms (without_idle_arms as')) c) f.1 n.2)
     act_formed (nested b) scope scope' c f n = code_formed b scope scope' c f n.1
     act_formed (unit v) scope scope' c f n = val_formed scope scope' v n.1 c f
     act_formed (fetch a) scope scope' c f n = word_formed scope scope' a c f
@@ -469,32 +469,32 @@ module _ (g : Program) (procs : List Procedure) (same_count : length procs ≡ l
     act_formed (write a) scope scope' c f n = word_formed scope scope' a c f
     act_formed fail scope scope' c f n = tt
 
-    code_formed : (b : Code) (scope : Scope) (scope' : List ℕ) → Covers (Carried scope scope') (used_in_code (lean_code b)) → CodeFormed g scope b → EachCode vectorised_kind b → CodeFormed there (as_scope scope') (lean_code b)
+    code_formed : (b : Code) (scope : Scope) (scope' : List ℕ) → Covers (Carried scope scope') (used_in_code (without_idle_code b)) → CodeFormed g scope b → EachCode vectorised_kind b → CodeFormed there (as_scope scope') (without_idle_code b)
     code_formed (end o) scope scope' c f n = act_formed o scope scope' c f n
     code_formed (store cs b) scope scope' c f n = (
-      cells_formed (with_words (cell_vars cs) scope) (cell_vars cs ++ scope') cs n.0 (λ x h. carried_more (cell_vars cs) scope scope' x (covers_right (Carried scope scope') (used_in_code (lean_code b)) (used_in_cells cs) c x h)) f.0,
-      code_formed b (with_words (cell_vars cs) scope) (cell_vars cs ++ scope') (λ x h. carried_more (cell_vars cs) scope scope' x (covers_left (Carried scope scope') (used_in_code (lean_code b)) (used_in_cells cs) c x h)) f.1 n.1,
+      cells_formed (with_word_variables (cell_vars cs) scope) (cell_vars cs ++ scope') cs n.0 (λ x h. carried_more (cell_vars cs) scope scope' x (covers_right (Carried scope scope') (used_in_code (without_idle_code b)) (used_in_cells cs) c x h)) f.0,
+      code_formed b (with_word_variables (cell_vars cs) scope) (cell_vars cs ++ scope') (λ x h. carried_more (cell_vars cs) scope scope' x (covers_left (Carried scope scope') (used_in_code (without_idle_code b)) (used_in_cells cs) c x h)) f.1 n.1,
     )
-    code_formed (bind t o b) scope scope' c f n = bind_formed scope scope' t o b n.0 f.1 (λ d. act_formed o scope scope' d f.0 n.1) (λ s s' d fb. code_formed b s s' d fb n.2) (is_idle t o (used_in_code (lean_code b))) refl c
+    code_formed (bind t o b) scope scope' c f n = bind_formed scope scope' t o b n.0 f.1 (λ d. act_formed o scope scope' d f.0 n.1) (λ s s' d fb. code_formed b s s' d fb n.2) (is_idle t o (used_in_code (without_idle_code b))) refl c
 
-    arms_formed : (as' : Arms) (scope : Scope) (scope' : List ℕ) → Covers (Carried scope scope') (used_in_arms (lean_arms as')) → ArmsFormed g scope as' → EachArms vectorised_kind as' → ArmsFormed there (as_scope scope') (lean_arms as')
+    arms_formed : (as' : Arms) (scope : Scope) (scope' : List ℕ) → Covers (Carried scope scope') (used_in_arms (without_idle_arms as')) → ArmsFormed g scope as' → EachArms vectorised_kind as' → ArmsFormed there (as_scope scope') (without_idle_arms as')
     arms_formed no_arm scope scope' c f n = tt
     arms_formed (arm s b as') scope scope' c f n = (
       shape_stays g procs same_count s f.0,
-      code_formed b (with_words (shape_vars s) scope) (shape_vars s ++ scope') (λ x h. carried_more (shape_vars s) scope scope' x (covers_left (Carried scope scope') (used_in_code (lean_code b)) (used_in_arms (lean_arms as')) c x h)) f.1 n.1,
-      arms_formed as' scope scope' (covers_right (Carried scope scope') (used_in_code (lean_code b)) (used_in_arms (lean_arms as')) c) f.2 n.2,
+      code_formed b (with_word_variables (shape_vars s) scope) (shape_vars s ++ scope') (λ x h. carried_more (shape_vars s) scope scope' x (covers_left (Carried scope scope') (used_in_code (without_idle_code b)) (used_in_arms (without_idle_arms as')) c x h)) f.1 n.1,
+      arms_formed as' scope scope' (covers_right (Carried scope scope') (used_in_code (without_idle_code b)) (used_in_arms (without_idle_arms as')) c) f.2 n.2,
     )
 
-  bodies_formed : (qs : List Procedure) → AllOf (ProcedureFormed g) qs → EachBody vectorised_kind qs → AllOf (ProcedureFormed there) (map (rewritten_procedure lean_code) qs)
+  bodies_formed : (qs : List Procedure) → AllOf (ProcedureFormed g) qs → EveryBodyIsOfKind vectorised_kind qs → AllOf (ProcedureFormed there) (map (rewritten_procedure without_idle_code) qs)
   bodies_formed [] f n = tt
   bodies_formed (q ∷ qs) f n = (code_formed q.body (params_scope q) (numbers_of q.params) (λ x h i. i) f.0 n.0, bodies_formed qs f.1 n.1)
 
-pub lean_formed : (g : Program) → Formed g → EachBody vectorised_kind g.procs → Formed (lean g)
+pub lean_formed : (g : Program) → Formed g → EveryBodyIsOfKind vectorised_kind g.procs → Formed (lean g)
 lean_formed g f n =
-    let procs : List Procedure = map (rewritten_procedure lean_code) g.procs in
-    let many : length procs ≡ length g.procs = length-map g.procs (rewritten_procedure lean_code) in
+    let procs : List Procedure = map (rewritten_procedure without_idle_code) g.procs in
+    let many : length procs ≡ length g.procs = length-map g.procs (rewritten_procedure without_idle_code) in
     formed_with g procs many f (λ y. (let c : times y (procs_vars procs) ≤ times y (procs_vars g.procs) = procs_counts y g.procs in let o : times y (procs_vars g.procs) ≤ 1 = f.variables_once y in omega (arith, c, o)))
     (same_sites g procs many (sites_stay g.procs) f.sites_once) (bodies_formed g procs many g.procs f.procedures n) (
-      rewritten_procedure lean_code f.start.0,
-      (slice_get-map (rewritten_procedure lean_code) g.procs g.start.0 ∙ ap (option_map (rewritten_procedure lean_code)) f.start.1, f.start.2),
+      rewritten_procedure without_idle_code f.start.0,
+      (slice_get-map (rewritten_procedure without_idle_code) g.procs g.start.0 ∙ ap (option_map (rewritten_procedure without_idle_code)) f.start.1, f.start.2),
     )

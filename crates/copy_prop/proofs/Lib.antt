@@ -1,12 +1,12 @@
 pub mod Taken
 pub mod Used
 pub mod Bound
-pub mod LeanSame
+pub mod LeanSimulated
 pub mod Held
 pub mod Via
-pub mod ResolvedSame
+pub mod ResolvedSimulated
 pub mod ResolvedFormed
 pub mod LeanFormed
-pub mod PassContract
+pub mod Contract
 pub mod Loops
 pub mod Backward

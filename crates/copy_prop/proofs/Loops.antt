@@ -17,7 +17,7 @@ use Rattle.grin_syntax.specs.Tree.{Code, Arms, no_arm, arm, case, act_of, before
 use Rattle.grin_syntax.proofs.TreeOf.{act_of-Case, before_of-Bind}
 use Rattle.grin_syntax.proofs.Pieces.{all_arms, all_arms_none, all_before_push, arms_push}
 use Rattle.copy_prop.specs.Copies.{Alias, copies_of}
-use Rattle.copy_prop.specs.Resolved.{Table, put, as_word, as_val, put_all, noted_copies, kept, noted_act, noted_code, noted_arms, resolved_act, resolved_code, resolved_arms, resolved_procs, resolved}
+use Rattle.copy_prop.specs.Resolved.{Table, put, as_word, as_val, put_all, noted_copies, optional_statement, noted_act, noted_code, noted_arms, resolved_act, resolved_code, resolved_arms, resolved_procs, resolved}
 use Rattle.copy_prop.proofs.Taken.{copy_is}
 
 -- ---- the table
@@ -53,16 +53,16 @@ pub no_stmts : (k : Table) → StmtsResolve k k [] []
 no_stmts k = record { by = λ c. refl; noted = λ c. refl }
 
 pub stmt_stays : (k0 k k' : Table) (made from : List Stmt) (m s : Stmt) (o : Option Stmt) → o ≡ Some m → StmtsResolve k0 k made from
-    → ((c : Code) → kept o (resolved_code k' c) ≡ resolved_code k (before_of s c)) → ((c : Code) → noted_code c k' ≡ noted_code (before_of s c) k) → StmtsResolve k0 k' (made ++ m ∷ []) (from ++ s ∷ [])
+    → ((c : Code) → optional_statement o (resolved_code k' c) ≡ resolved_code k (before_of s c)) → ((c : Code) → noted_code c k' ≡ noted_code (before_of s c) k) → StmtsResolve k0 k' (made ++ m ∷ []) (from ++ s ∷ [])
 stmt_stays k0 k k' made from m s o e u h n = record {
-  by = λ c. all_before_push made m (resolved_code k' c) ∙ ap (λ q. all_before (map before_of made) (kept q (resolved_code k' c))) (sym e) ∙ ap (all_before (map before_of made)) (h c) ∙ u.by (before_of s c) ∙ ap (resolved_code k0) (sym (all_before_push from s c));
+  by = λ c. all_before_push made m (resolved_code k' c) ∙ ap (λ q. all_before (map before_of made) (optional_statement q (resolved_code k' c))) (sym e) ∙ ap (all_before (map before_of made)) (h c) ∙ u.by (before_of s c) ∙ ap (resolved_code k0) (sym (all_before_push from s c));
   noted = λ c. n c ∙ u.noted (before_of s c) ∙ ap (λ b. noted_code b k0) (sym (all_before_push from s c));
 }
 
 pub stmt_goes : (k0 k k' : Table) (made from : List Stmt) (s : Stmt) (o : Option Stmt) → o ≡ None → StmtsResolve k0 k made from
-    → ((c : Code) → kept o (resolved_code k' c) ≡ resolved_code k (before_of s c)) → ((c : Code) → noted_code c k' ≡ noted_code (before_of s c) k) → StmtsResolve k0 k' made (from ++ s ∷ [])
+    → ((c : Code) → optional_statement o (resolved_code k' c) ≡ resolved_code k (before_of s c)) → ((c : Code) → noted_code c k' ≡ noted_code (before_of s c) k) → StmtsResolve k0 k' made (from ++ s ∷ [])
 stmt_goes k0 k k' made from s o e u h n = record {
-  by = λ c. ap (λ q. all_before (map before_of made) (kept q (resolved_code k' c))) (sym e) ∙ ap (all_before (map before_of made)) (h c) ∙ u.by (before_of s c) ∙ ap (resolved_code k0) (sym (all_before_push from s c));
+  by = λ c. ap (λ q. all_before (map before_of made) (optional_statement q (resolved_code k' c))) (sym e) ∙ ap (all_before (map before_of made)) (h c) ∙ u.by (before_of s c) ∙ ap (resolved_code k0) (sym (all_before_push from s c));
   noted = λ c. n c ∙ u.noted (before_of s c) ∙ ap (λ b. noted_code b k0) (sym (all_before_push from s c));
 }
 

@@ -9,22 +9,22 @@ use Rattle.grin_syntax.specs.declared.program.Val as V
 use Rattle.grin_syntax.specs.declared.program.Val.TheVariants.{NodeVar, Node, Vector, One}
 use Rattle.grin_syntax.specs.Tree.{Code, end, store, bind, Act, unit, fetch, fetch_word, update, eval, apply, call, prim, read, write, case, nested, fail, Arms, no_arm, arm, Procedure, Program}
 use Rattle.grin_syntax.specs.Binders.{numbers_of, target_vars, shape_vars, cell_vars, act_vars, code_vars, arms_vars, procs_vars, act_sites, code_sites, arms_sites, procs_sites}
-use Rattle.grin_syntax.specs.Formed.{AllOf, Scope, with_words, with_target, params_scope, WordFormed, ValFormed, CellFormed, ActFormed, CodeFormed, ArmsFormed, ProcedureFormed, Formed}
-use Rattle.grin_syntax.specs.SameOutside.{names_of, SameOutside}
+use Rattle.grin_syntax.specs.Formed.{AllOf, Scope, with_word_variables, with_target, params_scope, WordFormed, ValFormed, CellFormed, ActFormed, CodeFormed, ArmsFormed, ProcedureFormed, Formed}
+use Rattle.grin_syntax.specs.SameOutside.{names_of, DifferOnlyInBodies}
 use Rattle.grin_syntax.proofs.Scopes.{with_procs, known_again, shape_stays, same_sites, formed_with}
-use Rattle.grin_meaning.specs.Ready.{Inlined, ByWords, NoNodeTarget, NoNodeVar, EachAct, EachCode, EachArms, val_width, NarrowAct, NarrowCode, NarrowArms, Kind, EachBody, vectorised_kind}
+use Rattle.grin_meaning.specs.Ready.{Inlined, IsNotNodeFetch, NoNodeTarget, NoNodeVar, EachAct, EachCode, EachArms, val_width, NarrowAct, NarrowCode, NarrowArms, PieceKind, EveryBodyIsOfKind, vectorised_kind}
 use Rattle.copy_prop.specs.Copies.{Alias, copies_of_val, copies_of}
 use Rattle.copy_prop.specs.Resolved.{Table, as_word, as_words, as_val, as_cells, put_all, noted_copies, unless_copy, noted_act, noted_code, resolved_act, resolved_code, resolved_arms, resolved_procs, resolved}
 use Rattle.copy_prop.specs.Copied.{IsTaken, IsCopy, BoundAct, BoundCode, BoundArms}
 use Rattle.copy_prop.proofs.Held.{as_scope, target_scope, Held, word_held, held_more}
 use Rattle.copy_prop.proofs.Taken.{copy_found, copy_is}
-use Rattle.copy_prop.proofs.ResolvedSame.{held_bound, held_after, held_arms, held_middle, params_held, Fresh, fresh_here, fresh_next, once_here, once_next}
+use Rattle.copy_prop.proofs.ResolvedSimulated.{held_bound, held_after, held_arms, held_middle, params_held, Fresh, fresh_here, fresh_next, once_here, once_next}
 use Rattle.seq.specs.Lists.{times}
 use Rattle.seq.proofs.Counted.{times_fewer}
 
 -- ---- what a piece has of its kind
 
-module _ (K : Kind)
+module _ (K : PieceKind)
     (op_stays : (k : Table) (o : Act) → K.operation o → K.operation (resolved_act k o)) (val_stays : (k : Table) (v : V.Val) → K.value v → K.value (as_val k v)) where
   cells_stay : (k : Table) (cs : List Cell) → AllOf (λ c. K.value c.val) cs → AllOf (λ c. K.value c.val) (as_cells k cs)
   cells_stay k [] h = tt
@@ -62,7 +62,7 @@ module _ (K : Kind)
     arms_each k no_arm h = tt
     arms_each k (arm s b as') h = (h.0, code_each k b h.1, arms_each (noted_code b k) as' h.2)
 
-  pub procs_each : (k : Table) (qs : List Procedure) → EachBody K qs → EachBody K (resolved_procs k qs)
+  pub procs_each : (k : Table) (qs : List Procedure) → EveryBodyIsOfKind K qs → EveryBodyIsOfKind K (resolved_procs k qs)
   procs_each k [] h = tt
   procs_each k (q ∷ qs) h = (code_each k q.body h.0, procs_each (noted_code q.body k) qs h.1)
 
@@ -82,7 +82,7 @@ inlined_stays k (case v as') h = tt
 inlined_stays k (nested b) h = tt
 inlined_stays k fail h = tt
 
-pub by_words_stays : (k : Table) (o : Act) → ByWords o → ByWords (resolved_act k o)
+pub by_words_stays : (k : Table) (o : Act) → IsNotNodeFetch o → IsNotNodeFetch (resolved_act k o)
 unfolding resolved_act
 by_words_stays k (fetch a) h = h
 by_words_stays k (unit v) h = tt
@@ -322,7 +322,7 @@ found_too k (p ∷ qs) zero q e = (record { name = p.name; params = p.params; bo
     some_is h = cc
 found_too k (p ∷ qs) (suc i) q e = found_too (noted_code p.body k) qs i q e
 
-pub resolved_outside : (g : Program) → SameOutside g (resolved g)
+pub resolved_outside : (g : Program) → DifferOnlyInBodies g (resolved g)
 resolved_outside g = record { same_tags = refl; same_globals = refl; same_start = refl; same_argument = refl; same_names = names_stay [] g.procs }
 
 -- ---- scopes
@@ -353,7 +353,7 @@ module _ (g : Program) (procs : List Procedure) (same_count : length procs ≡ l
   bind_formed k scope scope' t o b held nt fo fb f kk None e = (
     f,
     subst (λ s. CodeFormed there s (resolved_code (noted_act o k) b)) (sym (target_scope t (as_scope scope') nt))
-        (kk (noted_act o k) (with_words (target_vars t) scope) (target_vars t ++ scope') (held_more g (noted_act o k) scope scope' (target_vars t) (code_vars b) (held_bound g k scope scope' (target_vars t) o (code_vars b) held))
+        (kk (noted_act o k) (with_word_variables (target_vars t) scope) (target_vars t ++ scope') (held_more g (noted_act o k) scope scope' (target_vars t) (code_vars b) (held_bound g k scope scope' (target_vars t) o (code_vars b) held))
         (subst (λ s. CodeFormed g s b) (target_scope t scope nt) fb)),
   )
   bind_formed k scope scope' t o b held nt fo fb f kk (Some as') e =
@@ -362,7 +362,7 @@ module _ (g : Program) (procs : List Procedure) (same_count : length procs ≡ l
     where
       at : (v : V.Val) → copies_of_val t v ≡ Some as' → (o : Act) → o ≡ unit v → Held g k scope scope' (target_vars t ++ (act_vars o ++ code_vars b)) → ActFormed g scope o → CodeFormed there (as_scope scope') (resolved_code (put_all as' (noted_act o k)) b)
       at v e o q = subst (λ o. Held g k scope scope' (target_vars t ++ (act_vars o ++ code_vars b)) → ActFormed g scope o → CodeFormed there (as_scope scope') (resolved_code (put_all as' (noted_act o k)) b)) (sym q)
-          (λ h f. kk (put_all as' k) (with_words (target_vars t) scope) scope' (held_after g k scope scope' t v as' (code_vars b) e f h) (subst (λ s. CodeFormed g s b) (target_scope t scope nt) fb))
+          (λ h f. kk (put_all as' k) (with_word_variables (target_vars t) scope) scope' (held_after g k scope scope' t v as' (code_vars b) e f h) (subst (λ s. CodeFormed g s b) (target_scope t scope nt) fb))
 
   mutual
     unfolding resolved_act noted_act act_vars ActFormed EachAct
@@ -385,9 +385,9 @@ module _ (g : Program) (procs : List Procedure) (same_count : length procs ≡ l
     pub code_formed : (b : Code) (k : Table) (scope : Scope) (scope' : List ℕ) → Held g k scope scope' (code_vars b) → CodeFormed g scope b → EachCode vectorised_kind b → CodeFormed there (as_scope scope') (resolved_code k b)
     code_formed (end o) k scope scope' held f n = act_formed o k scope scope' held f n
     code_formed (store cs b) k scope scope' held f n =
-        let h : Held g k (with_words (cell_vars cs) scope) (cell_vars cs ++ scope') (code_vars b) = held_more g k scope scope' (cell_vars cs) (code_vars b) held in
+        let h : Held g k (with_word_variables (cell_vars cs) scope) (cell_vars cs ++ scope') (code_vars b) = held_more g k scope scope' (cell_vars cs) (code_vars b) held in
         subst (λ xs. AllOf (CellFormed there (as_scope (xs ++ scope'))) (as_cells k cs) × CodeFormed there (as_scope (xs ++ scope')) (resolved_code k b)) (sym (cell_vars_stay k cs))
-        (cells_formed k (with_words (cell_vars cs) scope) (cell_vars cs ++ scope') (code_vars b) h cs n.0 f.0, code_formed b k (with_words (cell_vars cs) scope) (cell_vars cs ++ scope') h f.1 n.1)
+        (cells_formed k (with_word_variables (cell_vars cs) scope) (cell_vars cs ++ scope') (code_vars b) h cs n.0 f.0, code_formed b k (with_word_variables (cell_vars cs) scope) (cell_vars cs ++ scope') h f.1 n.1)
     code_formed (bind t o b) k scope scope' held f n = bind_formed k scope scope' t o b held n.0 f.0 f.1 (act_formed o k scope scope' (held_middle g k scope scope' (target_vars t) (act_vars o) (code_vars b) held) f.0 n.1)
         (λ k' s s' h fb. code_formed b k' s s' h fb n.2) (copies_of t o) refl
 
@@ -395,12 +395,12 @@ module _ (g : Program) (procs : List Procedure) (same_count : length procs ≡ l
     arms_formed no_arm k scope scope' held f n = tt
     arms_formed (arm s b as') k scope scope' held f n = (
       shape_stays g procs same_count s f.0,
-      subst (λ xs. CodeFormed there (with_words xs (as_scope scope')) (resolved_code k b)) (sym n.0)
-          (code_formed b k scope scope' (held_middle g k scope scope' (shape_vars s) (code_vars b) (arms_vars as') held) (subst (λ xs. CodeFormed g (with_words xs scope) b) n.0 f.1) n.1),
+      subst (λ xs. CodeFormed there (with_word_variables xs (as_scope scope')) (resolved_code k b)) (sym n.0)
+          (code_formed b k scope scope' (held_middle g k scope scope' (shape_vars s) (code_vars b) (arms_vars as') held) (subst (λ xs. CodeFormed g (with_word_variables xs scope) b) n.0 f.1) n.1),
       arms_formed as' (noted_code b k) scope scope' (held_arms g k scope scope' (shape_vars s) b (arms_vars as') held) f.2 n.2,
     )
 
-  bodies_formed : (k : Table) (qs : List Procedure) → AllOf (ProcedureFormed g) qs → EachBody vectorised_kind qs → ((y : ℕ) → times y (procs_vars qs) ≤ 1) → Fresh k (procs_vars qs)
+  bodies_formed : (k : Table) (qs : List Procedure) → AllOf (ProcedureFormed g) qs → EveryBodyIsOfKind vectorised_kind qs → ((y : ℕ) → times y (procs_vars qs) ≤ 1) → Fresh k (procs_vars qs)
       → AllOf (ProcedureFormed there) (resolved_procs k qs)
   bodies_formed k [] f n once fresh = tt
   bodies_formed k (q ∷ qs) f n once fresh = (
@@ -408,7 +408,7 @@ module _ (g : Program) (procs : List Procedure) (same_count : length procs ≡ l
     bodies_formed (noted_code q.body k) qs f.1 n.1 (once_next q qs once) (fresh_next k q qs once fresh),
   )
 
-pub resolved_formed : (g : Program) → Formed g → EachBody vectorised_kind g.procs → Formed (resolved g)
+pub resolved_formed : (g : Program) → Formed g → EveryBodyIsOfKind vectorised_kind g.procs → Formed (resolved g)
 resolved_formed g f n =
     let procs : List Procedure = resolved_procs [] g.procs in
     let many : length procs ≡ length g.procs = as_many [] g.procs in

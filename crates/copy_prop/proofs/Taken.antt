@@ -15,7 +15,7 @@ use Rattle.grin_syntax.specs.Binders.{numbers_of, target_vars}
 use Rattle.grin_syntax.specs.Formed.{AllOf, Scope, WordFormed, ValFormed}
 use Rattle.grin_meaning.specs.Values as value
 use Rattle.grin_meaning.specs.Values.{Datum, number, tag, Value, words, Env, and_then, Binding, one_each, padded, fields_of, made_node, word_of, words_of, value_of, bindings_of}
-use Rattle.copy_prop.specs.Copies.{Alias, paired, zeros_after, of_words, of_node_or_words, copies_of_val, copies_of}
+use Rattle.copy_prop.specs.Copies.{Alias, zipped_aliases, zeros_after, of_words, copies_of_node_or_words, copies_of_val, copies_of}
 use Rattle.copy_prop.specs.Copied.{IsTaken, IsCopy}
 
 some_and : {A B : Type 0} (o : Option A) (f : A → Option B) (b : B) → and_then o f ≡ Some b → (a : A) × (o ≡ Some a) × (f a ≡ Some b)
@@ -24,17 +24,17 @@ some_and (Some a) f b e = (a, refl, e)
 
 -- ---- the loops
 
-pub paired_next : (xs : List VarId) (ws : List W.Word) (i : ℕ) (x : VarId) (w : W.Word) (made : List Alias) → i < length xs → length xs ≡ length ws → paired (take i xs) (take i ws) ≡ Some made
-    → paired (take (i + 1) xs) (take (i + 1) ws) ≡ Some (made ++ record { var = get_or xs i x; word = get_or ws i w } ∷ [])
+pub paired_next : (xs : List VarId) (ws : List W.Word) (i : ℕ) (x : VarId) (w : W.Word) (made : List Alias) → i < length xs → length xs ≡ length ws → zipped_aliases (take i xs) (take i ws) ≡ Some made
+    → zipped_aliases (take (i + 1) xs) (take (i + 1) ws) ≡ Some (made ++ record { var = get_or xs i x; word = get_or ws i w } ∷ [])
 paired_next xs ws i x w made lt same e =
-    (λ j. paired (take_more xs i x lt j) (take_more ws i w (omega (arith, lt, same)) j)) ∙ push (take i xs) (take i ws) made e
+    (λ j. zipped_aliases (take_more xs i x lt j) (take_more ws i w (omega (arith, lt, same)) j)) ∙ push (take i xs) (take i ws) made e
   where
-    push : (us : List VarId) (vs : List W.Word) (done : List Alias) → paired us vs ≡ Some done → paired (us ++ get_or xs i x ∷ []) (vs ++ get_or ws i w ∷ []) ≡ Some (done ++ record { var = get_or xs i x; word = get_or ws i w } ∷ [])
+    push : (us : List VarId) (vs : List W.Word) (done : List Alias) → zipped_aliases us vs ≡ Some done → zipped_aliases (us ++ get_or xs i x ∷ []) (vs ++ get_or ws i w ∷ []) ≡ Some (done ++ record { var = get_or xs i x; word = get_or ws i w } ∷ [])
     push [] [] done e = ap (λ l. Some (l ++ record { var = get_or xs i x; word = get_or ws i w } ∷ [])) (some_is e)
     push [] (v ∷ vs) done e = none_is_some e
     push (u ∷ us) [] done e = none_is_some e
     push (u ∷ us) (v ∷ vs) done e =
-        let z : (r : List Alias) × (paired us vs ≡ Some r) × (Some (record { var = u; word = v } ∷ r) ≡ Some done) = some_and (paired us vs) (λ r. Some (record { var = u; word = v } ∷ r)) done e in
+        let z : (r : List Alias) × (zipped_aliases us vs ≡ Some r) × (Some (record { var = u; word = v } ∷ r) ≡ Some done) = some_and (zipped_aliases us vs) (λ r. Some (record { var = u; word = v } ∷ r)) done e in
         ap (λ o. and_then o (λ r. Some (record { var = u; word = v } ∷ r))) (push us vs z.0 z.1) ∙ ap (λ l. Some (l ++ record { var = get_or xs i x; word = get_or ws i w } ∷ [])) (some_is z.2)
 
 take_whole : {X : Type 0} (xs : List X) (i : ℕ) → length xs ≤ i → take i xs ≡ xs
@@ -43,10 +43,10 @@ take_whole [] (suc i) h = refl
 take_whole (x ∷ xs) zero h = absurd (omega (arith, h))
 take_whole (x ∷ xs) (suc i) h = ap (λ l. x ∷ l) (take_whole xs i (omega (arith, h)))
 
-pub paired_done : (xs : List VarId) (ws : List W.Word) (i : ℕ) (made : List Alias) → length xs ≤ i → length xs ≡ length ws → paired (take i xs) (take i ws) ≡ Some made → Some made ≡ paired xs ws
-paired_done xs ws i made le same e = sym e ∙ (λ j. paired (take_whole xs i le j) (take_whole ws i (omega (arith, le, same)) j))
+pub paired_done : (xs : List VarId) (ws : List W.Word) (i : ℕ) (made : List Alias) → length xs ≤ i → length xs ≡ length ws → zipped_aliases (take i xs) (take i ws) ≡ Some made → Some made ≡ zipped_aliases xs ws
+paired_done xs ws i made le same e = sym e ∙ (λ j. zipped_aliases (take_whole xs i le j) (take_whole ws i (omega (arith, le, same)) j))
 
-pub paired_not : (xs : List VarId) (ws : List W.Word) → (length xs ≡ length ws → ⊥) → None ≡ paired xs ws
+pub paired_not : (xs : List VarId) (ws : List W.Word) → (length xs ≡ length ws → ⊥) → None ≡ zipped_aliases xs ws
 paired_not [] [] h = absurd (h refl)
 paired_not [] (w ∷ ws) h = refl
 paired_not (x ∷ xs) [] h = refl
@@ -73,13 +73,13 @@ zeros_done (suc n) (w ∷ ws) h = ap (λ l. w ∷ l) (zeros_done n ws (omega (ar
 
 -- ---- what is a copy
 
-paired_there : (xs : List VarId) (ws : List W.Word) → length xs ≡ length ws → paired xs ws ≡ None → ⊥
+paired_there : (xs : List VarId) (ws : List W.Word) → length xs ≡ length ws → zipped_aliases xs ws ≡ None → ⊥
 paired_there [] [] h e = cc
 paired_there [] (w ∷ ws) h e = cc
 paired_there (x ∷ xs) [] h e = cc
-paired_there (x ∷ xs) (w ∷ ws) h e = go (paired xs ws) refl e (paired_there xs ws (omega (arith, h)))
+paired_there (x ∷ xs) (w ∷ ws) h e = go (zipped_aliases xs ws) refl e (paired_there xs ws (omega (arith, h)))
   where
-    go : (o : Option (List Alias)) → paired xs ws ≡ o → and_then o (λ r. Some (record { var = x; word = w } ∷ r)) ≡ None → (paired xs ws ≡ None → ⊥) → ⊥
+    go : (o : Option (List Alias)) → zipped_aliases xs ws ≡ o → and_then o (λ r. Some (record { var = x; word = w } ∷ r)) ≡ None → (zipped_aliases xs ws ≡ None → ⊥) → ⊥
     go None q e k = k q
     go (Some r) q e k = cc
 
@@ -136,12 +136,12 @@ abbrev pub alias_vars : List Alias → List ℕ
 alias_vars [] = []
 alias_vars (a ∷ as') = a.var.0 ∷ alias_vars as'
 
-paired_vars : (xs : List VarId) (ws : List W.Word) (as' : List Alias) → paired xs ws ≡ Some as' → alias_vars as' ≡ numbers_of xs
+paired_vars : (xs : List VarId) (ws : List W.Word) (as' : List Alias) → zipped_aliases xs ws ≡ Some as' → alias_vars as' ≡ numbers_of xs
 paired_vars [] [] as' e = ap alias_vars (sym (some_is e))
 paired_vars [] (w ∷ ws) as' e = none_is_some e
 paired_vars (x ∷ xs) [] as' e = none_is_some e
 paired_vars (x ∷ xs) (w ∷ ws) as' e =
-    let z : (r : List Alias) × (paired xs ws ≡ Some r) × (Some (record { var = x; word = w } ∷ r) ≡ Some as') = some_and (paired xs ws) (λ r. Some (record { var = x; word = w } ∷ r)) as' e in
+    let z : (r : List Alias) × (zipped_aliases xs ws ≡ Some r) × (Some (record { var = x; word = w } ∷ r) ≡ Some as') = some_and (zipped_aliases xs ws) (λ r. Some (record { var = x; word = w } ∷ r)) as' e in
     ap alias_vars (sym (some_is z.2)) ∙ ap (λ l. x.0 ∷ l) (paired_vars xs ws z.0 z.1)
 
 val_vars : (t : Target) (v : V.Val) (as' : List Alias) → copies_of_val t v ≡ Some as' → alias_vars as' ≡ target_vars t
@@ -162,12 +162,12 @@ copy_vars t o as' e = let z : (v : V.Val) × (o ≡ unit v) × (copies_of_val t 
 -- ---- the words
 
 module _ (F : W.Word → Type 0) where
-  paired_all : (xs : List VarId) (ws : List W.Word) (as' : List Alias) → paired xs ws ≡ Some as' → AllOf F ws → AllOf (λ a. F a.word) as'
+  paired_all : (xs : List VarId) (ws : List W.Word) (as' : List Alias) → zipped_aliases xs ws ≡ Some as' → AllOf F ws → AllOf (λ a. F a.word) as'
   paired_all [] [] as' e f = subst (AllOf (λ a. F a.word)) (some_is e) tt
   paired_all [] (w ∷ ws) as' e f = none_is_some e
   paired_all (x ∷ xs) [] as' e f = none_is_some e
   paired_all (x ∷ xs) (w ∷ ws) as' e f =
-      let z : (r : List Alias) × (paired xs ws ≡ Some r) × (Some (record { var = x; word = w } ∷ r) ≡ Some as') = some_and (paired xs ws) (λ r. Some (record { var = x; word = w } ∷ r)) as' e in
+      let z : (r : List Alias) × (zipped_aliases xs ws ≡ Some r) × (Some (record { var = x; word = w } ∷ r) ≡ Some as') = some_and (zipped_aliases xs ws) (λ r. Some (record { var = x; word = w } ∷ r)) as' e in
       subst (AllOf (λ a. F a.word)) (some_is z.2) (f.0, paired_all xs ws z.0 z.1 f.1)
 
   zeros_all : ((i : Rattle.std.specs.Prelude.ℤ) → F (Lit i)) → (n : ℕ) (ws : List W.Word) → AllOf F ws → AllOf F (zeros_after n ws)
@@ -216,14 +216,14 @@ module _ (g : Program) (env : Env) where
       let y : (es : List Datum) × (words_of g env ws ≡ Some es) × (Some (z.0 ∷ es) ≡ Some ds) = some_and (words_of g env ws) (λ es. Some (z.0 ∷ es)) ds z.2 in
       record { d = z.0; es = y.0; first = z.1; others = y.1; are = some_is y.2 }
 
-  paired_given : (xs : List VarId) (ws : List W.Word) (as' : List Alias) (ds : List Datum) (bs : List Binding) → paired xs ws ≡ Some as' → words_of g env ws ≡ Some ds → one_each xs ds ≡ Some bs → Given as' bs
+  paired_given : (xs : List VarId) (ws : List W.Word) (as' : List Alias) (ds : List Datum) (bs : List Binding) → zipped_aliases xs ws ≡ Some as' → words_of g env ws ≡ Some ds → one_each xs ds ≡ Some bs → Given as' bs
   paired_given [] [] as' ds bs e f h =
       let k : ◌≡◌ {A = Option (List Binding)} (Some []) (Some bs) = subst (λ l. one_each [] l ≡ Some bs) (sym (some_is f)) h in
       subst (λ l. Given l bs) (some_is e) (subst (Given []) (some_is k) tt)
   paired_given [] (w ∷ ws) as' ds bs e f h = none_is_some e
   paired_given (x ∷ xs) [] as' ds bs e f h = none_is_some e
   paired_given (x ∷ xs) (w ∷ ws) as' ds bs e f h =
-      let z : (r : List Alias) × (paired xs ws ≡ Some r) × (Some (record { var = x; word = w } ∷ r) ≡ Some as') = some_and (paired xs ws) (λ r. Some (record { var = x; word = w } ∷ r)) as' e in
+      let z : (r : List Alias) × (zipped_aliases xs ws ≡ Some r) × (Some (record { var = x; word = w } ∷ r) ≡ Some as') = some_and (zipped_aliases xs ws) (λ r. Some (record { var = x; word = w } ∷ r)) as' e in
       let y : Front w ws ds = front w ws ds f in
       let k : one_each (x ∷ xs) (y.d ∷ y.es) ≡ Some bs = subst (λ l. one_each (x ∷ xs) l ≡ Some bs) (sym y.are) h in
       let u : (cs : List Binding) × (one_each xs y.es ≡ Some cs) × (Some ((x.0, words (y.d ∷ [])) ∷ cs) ≡ Some bs) = some_and (one_each xs y.es) (λ cs. Some ((x.0, words (y.d ∷ [])) ∷ cs)) bs k in

@@ -10,7 +10,7 @@ use Rattle.grin_syntax.specs.declared.program.Cell.{Cell}
 use Rattle.grin_syntax.specs.declared.program.Word as W
 use Rattle.grin_syntax.specs.Binders.{numbers_of}
 use Rattle.grin_syntax.specs.Formed.{InScope}
-use Rattle.copy_prop.specs.Lean.{none_stands, used_in_word, used_in_words, used_in_val, used_in_cells}
+use Rattle.copy_prop.specs.Lean.{are_disjoint, used_in_word, used_in_words, used_in_val, used_in_cells}
 use Rattle.copy_prop.specs.Latest.{Latest}
 use Rattle.seq.specs.Lists.{times, is_among}
 use Rattle.seq.proofs.Counted.{counts, among_append}
@@ -26,23 +26,23 @@ stands_in x (y ∷ ys) h = go (nat_eq x y) h (stands_in x ys)
     go false h k = let i : InScope ys x = k h in omega (arith, i)
 
 -- where none of the first stands in the second
-pub none_absent : (x : ℕ) (xs ys : List ℕ) → none_stands xs ys ≡ true → is_among x xs ≡ true → is_among x ys ≡ false
+pub none_absent : (x : ℕ) (xs ys : List ℕ) → are_disjoint xs ys ≡ true → is_among x xs ≡ true → is_among x ys ≡ false
 none_absent x [] ys h s = cc
-none_absent x (y ∷ xs) ys h s = go (nat_eq x y) refl s (none_absent x xs ys (and_right (not (is_among y ys)) (none_stands xs ys) h))
+none_absent x (y ∷ xs) ys h s = go (nat_eq x y) refl s (none_absent x xs ys (and_right (not (is_among y ys)) (are_disjoint xs ys) h))
   where
     go : (b : Bool) → nat_eq x y ≡ b → (b || is_among x xs) ≡ true → (is_among x xs ≡ true → is_among x ys ≡ false) → is_among x ys ≡ false
-    go true q s k = ap (λ z. is_among z ys) (eq_from x y q) ∙ not_true (is_among y ys) (and_left (not (is_among y ys)) (none_stands xs ys) h)
+    go true q s k = ap (λ z. is_among z ys) (eq_from x y q) ∙ not_true (is_among y ys) (and_left (not (is_among y ys)) (are_disjoint xs ys) h)
     go false q s k = k s
 
 -- ---- loops
 
-pub none_push : (xs : List VarId) (x : VarId) (ys : List ℕ) → none_stands (numbers_of (xs ++ x ∷ [])) ys ≡ (none_stands (numbers_of xs) ys && not (is_among x.0 ys))
+pub none_push : (xs : List VarId) (x : VarId) (ys : List ℕ) → are_disjoint (numbers_of (xs ++ x ∷ [])) ys ≡ (are_disjoint (numbers_of xs) ys && not (is_among x.0 ys))
 none_push [] x ys = go (not (is_among x.0 ys))
   where
     go : (b : Bool) → (b && true) ≡ b
     go true = refl
     go false = refl
-none_push (y ∷ xs) x ys = ap (λ b. not (is_among y.0 ys) && b) (none_push xs x ys) ∙ go (not (is_among y.0 ys)) (none_stands (numbers_of xs) ys) (not (is_among x.0 ys))
+none_push (y ∷ xs) x ys = ap (λ b. not (is_among y.0 ys) && b) (none_push xs x ys) ∙ go (not (is_among y.0 ys)) (are_disjoint (numbers_of xs) ys) (not (is_among x.0 ys))
   where
     go : (a b c : Bool) → (a && (b && c)) ≡ ((a && b) && c)
     go true b c = refl
@@ -72,11 +72,11 @@ cells_next cs i c d old0 old new lt e o n =
     n ∙ (λ j. o j ++ used_in_val (e j).val) ∙ append_again old0 (used_in_cells (take i cs)) (used_in_val (get_or cs i d).val) ∙ ap (λ l. old0 ++ l) (sym (cells_push (take i cs) (get_or cs i d)))
     ∙ ap (λ l. old0 ++ used_in_cells l) (sym (take_more cs i d lt))
 
-pub none_next : (xs : List VarId) (i : ℕ) (x d : VarId) (ys : List ℕ) (old new used : Bool) → i < length xs → x ≡ get_or xs i d → old ≡ none_stands (numbers_of (take i xs)) ys → used ≡ is_among x.0 ys → new ≡ (old && not used)
-    → new ≡ none_stands (numbers_of (take (i + 1) xs)) ys
+pub none_next : (xs : List VarId) (i : ℕ) (x d : VarId) (ys : List ℕ) (old new used : Bool) → i < length xs → x ≡ get_or xs i d → old ≡ are_disjoint (numbers_of (take i xs)) ys → used ≡ is_among x.0 ys → new ≡ (old && not used)
+    → new ≡ are_disjoint (numbers_of (take (i + 1) xs)) ys
 none_next xs i x d ys old new used lt e o u n =
-    n ∙ (λ j. o j && not (u j)) ∙ ap (λ z. none_stands (numbers_of (take i xs)) ys && not (is_among z.0 ys)) e ∙ sym (none_push (take i xs) (get_or xs i d) ys)
-    ∙ ap (λ l. none_stands (numbers_of l) ys) (sym (take_more xs i d lt))
+    n ∙ (λ j. o j && not (u j)) ∙ ap (λ z. are_disjoint (numbers_of (take i xs)) ys && not (is_among z.0 ys)) e ∙ sym (none_push (take i xs) (get_or xs i d) ys)
+    ∙ ap (λ l. are_disjoint (numbers_of l) ys) (sym (take_more xs i d lt))
 
 -- ---- the table of latest uses
 

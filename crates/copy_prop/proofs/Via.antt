@@ -6,7 +6,7 @@ use Rattle.grin_syntax.specs.declared.program.Word.TheVariants.{Lit, Var, Global
 use Rattle.grin_syntax.specs.declared.program.Val as V
 use Rattle.grin_syntax.specs.declared.program.Val.TheVariants.{NodeVar, Node, Vector, One}
 use Rattle.grin_syntax.specs.Tree.{Program}
-use Rattle.grin_syntax.specs.Formed.{AllOf, Scope, InScope, with_words, WordFormed, ValFormed, CellFormed}
+use Rattle.grin_syntax.specs.Formed.{AllOf, Scope, InScope, with_word_variables, WordFormed, ValFormed, CellFormed}
 use Rattle.grin_meaning.specs.Values as value
 use Rattle.grin_meaning.specs.Values.{Datum, Value, words, Env, and_then, only_word, Binding, with_vars, made_node, as_node, word_of, words_of, value_of, node_of}
 use Rattle.grin_meaning.specs.Run.{cells_of}
@@ -120,7 +120,7 @@ module _ (g : Program) where
   word_stays bs env' scope' (TagWord t) out f = refl
 
   -- both bind the same new variables
-  pub st_more : (k : Table) (scope : Scope) (scope' ts ys : List ℕ) (bs : List Binding) (env env' : Env) → Held g k scope scope' (ts ++ ys) → keys bs ≡ ts → St k scope env env' → St k (with_words ts scope) (with_vars bs env) (with_vars bs env')
+  pub st_more : (k : Table) (scope : Scope) (scope' ts ys : List ℕ) (bs : List Binding) (env env' : Env) → Held g k scope scope' (ts ++ ys) → keys bs ≡ ts → St k scope env env' → St k (with_word_variables ts scope) (with_vars bs env) (with_vars bs env')
   st_more k scope scope' ts ys bs env env' h n st x v i e = go (is_among x (keys bs)) refl
     where
       new : (y : ℕ) → InScope scope' y → (b : Bool) → is_among y (keys bs) ≡ b → b ≡ false
@@ -155,7 +155,7 @@ module _ (g : Program) where
 
   -- once a word of a copy is in the table
   copy_holds : (k : Table) (scope : Scope) (a : Alias) (d : Datum) (env env' : Env) → WordFormed g scope a.word → word_of g env a.word ≡ Some d → St k scope env env'
-      → St (put k a.var.0 (as_word k a.word)) (with_words (a.var.0 ∷ []) scope) (one_more a.var.0 (words (d ∷ [])) env) env'
+      → St (put k a.var.0 (as_word k a.word)) (with_word_variables (a.var.0 ∷ []) scope) (one_more a.var.0 (words (d ∷ [])) env) env'
   copy_holds k scope a d env env' f e st z v i h = go (nat_eq z a.var.0) refl h
     where
       word_too : word_of g env' (as_word k a.word) ≡ Some d
@@ -192,17 +192,17 @@ module _ (g : Program) where
 
   -- once all are
   pub copies_hold : (as' : List Alias) (bs : List Binding) (k : Table) (scope : Scope) (env env' : Env) → WordsFormed g scope as' → ((y : ℕ) → times y scope.words + times y (alias_vars as') ≤ 1) → Given g env as' bs → St k scope env env'
-      → St (put_all as' k) (with_words (alias_vars as') scope) (with_vars bs env) env'
+      → St (put_all as' k) (with_word_variables (alias_vars as') scope) (with_vars bs env) env'
   copies_hold [] [] k scope env env' f once h st = st
   copies_hold [] (b ∷ bs) k scope env env' f once h st = absurd h
   copies_hold (a ∷ as') [] k scope env env' f once h st = absurd h
   copies_hold (a ∷ as') (b ∷ bs) k scope env env' f once h st =
-      let one : Scope = with_words (a.var.0 ∷ []) scope in
+      let one : Scope = with_word_variables (a.var.0 ∷ []) scope in
       let more : Env = one_more a.var.0 (words (h.0.0 ∷ [])) env in
       let new : times a.var.0 scope.words ≡ 0 = (let o : times a.var.0 scope.words + times a.var.0 (a.var.0 ∷ alias_vars as') ≤ 1 = once a.var.0 in let c : counts (nat_eq a.var.0 a.var.0) ≡ 1 = one_at a.var.0 in omega (arith, o, c)) in
-      let rest : St (put_all (a ∷ as') k) (with_words (alias_vars as') one) (with_vars bs more) env'
+      let rest : St (put_all (a ∷ as') k) (with_word_variables (alias_vars as') one) (with_vars bs more) env'
       = copies_hold as' bs (put k a.var.0 (as_word k a.word)) one more env' (words_later g (a.var.0 ∷ []) scope as' f.1)
       (λ y. (let o : times y scope.words + times y (a.var.0 ∷ alias_vars as') ≤ 1 = once y in omega (arith, o)))
       (given_past a.var.0 (words (h.0.0 ∷ [])) env scope as' bs new f.1 h.1) (copy_holds k scope a h.0.0 env env' f.0 h.0.1 st) in
-      subst (λ c. St (put_all (a ∷ as') k) (with_words (alias_vars (a ∷ as')) scope) (with_vars (c ∷ bs) env) env') (sym h.0.2) (λ x v i. rest x v
+      subst (λ c. St (put_all (a ∷ as') k) (with_word_variables (alias_vars (a ∷ as')) scope) (with_vars (c ∷ bs) env) env') (sym h.0.2) (λ x v i. rest x v
       (let t : times x (a.var.0 ∷ (alias_vars as' ++ scope.words)) ≡ times x (alias_vars as' ++ a.var.0 ∷ scope.words) = turned_in g a.var.0 (alias_vars as') scope.words x in omega (arith, i, t)))

@@ -8,8 +8,8 @@ use Rattle.grin_syntax.specs.Binders.{target_vars}
 use Rattle.grin_syntax.specs.Tree.{Code, end, store, bind, Act, unit, case, nested, Arms, no_arm, arm, Program}
 use Rattle.grin_syntax.specs.Formed.{AllOf}
 use Rattle.grin_meaning.specs.Names.{CodeOk}
-use Rattle.pass_ground.specs.Vectors.{StaysOfVectors}
-use Rattle.grin_meaning.specs.Pieces.{IsStill}
+use Rattle.pass_ground.specs.Vectors.{StaysVectorForm}
+use Rattle.grin_meaning.specs.Pieces.{HasNoEffect}
 
 -- A value has a word for each variable of a target. A vector takes a node too: its tag, its fields
 -- and then zeros. Where the words are too many or too few, a run of the statement is missing.
@@ -34,7 +34,7 @@ Unused b x = CodeOk (λ y. y ≢ x) b
 -- binds
 pub record IsNeeded (t : Target) (o : Act) (b : Code) : Type 0 where
   pub no_copy : IsCopy t o → ⊥
-  pub not_idle : IsStill o → AllOf (Unused b) (target_vars t) → ⊥
+  pub not_idle : HasNoEffect o → AllOf (Unused b) (target_vars t) → ⊥
 
 -- each bound operation of a piece, with its target and the block after it, is of some kind
 module _ (Ok : Target → Act → Code → Type 0) where
@@ -55,5 +55,5 @@ module _ (Ok : Target → Act → Code → Type 0) where
 
 -- each statement of h is needed, and h is as good an input for a pass as g
 pub record Copied (g h : Program) : Type 0 where
-  pub stays : StaysOfVectors g h
+  pub stays : StaysVectorForm g h
   pub needed : AllOf (λ q. BoundCode IsNeeded q.body) h.procs

@@ -64,41 +64,42 @@ unfoldable mutual
 
 -- ---- idle statements
 
-abbrev pub none_stands : List ℕ → List ℕ → Bool
-none_stands [] ys = true
-none_stands (x ∷ xs) ys = not (is_among x ys) && none_stands xs ys
+abbrev pub are_disjoint : List ℕ → List ℕ → Bool
+are_disjoint [] ys = true
+are_disjoint (x ∷ xs) ys = not (is_among x ys) && are_disjoint xs ys
 
 -- an operation that changes nothing: a unit, a fetch or a primitive
-abbrev pub is_still : Act → Bool
-is_still (unit v) = true
-is_still (fetch a) = true
-is_still (fetch_word a i) = true
-is_still (prim p a b) = true
-is_still _ = false
+abbrev pub has_no_effect : Act → Bool
+has_no_effect (unit v) = true
+has_no_effect (fetch a) = true
+has_no_effect (fetch_word a i) = true
+has_no_effect (prim p a b) = true
+has_no_effect _ = false
 
 -- before a block that uses these variables
 abbrev pub is_idle : Target → Act → List ℕ → Bool
-is_idle t o used = is_still o && none_stands (target_vars t) used
+is_idle t o used = has_no_effect o && are_disjoint (target_vars t) used
 
 abbrev pub unless : Bool → (Code → Code) → Code → Code
 unless true s c = c
 unless false s c = s c
 
 unfoldable mutual
-  pub lean_act : Act → Act
-  lean_act (case v as') = case v (lean_arms as')
-  lean_act (nested b) = nested (lean_code b)
-  lean_act o = o
+  pub without_idle_act : Act → Act
+  without_idle_act (case v as') = case v (without_idle_arms as')
+  without_idle_act (nested b) = nested (without_idle_code b)
+  without_idle_act o = o
 
-  pub lean_code : Code → Code
-  lean_code (end o) = end (lean_act o)
-  lean_code (store cs b) = store cs (lean_code b)
-  lean_code (bind t o b) =
-      unless (is_idle t o (used_in_code (lean_code b))) (bind t (lean_act o)) (lean_code b)
+  pub without_idle_code : Code → Code
+  without_idle_code (end o) = end (without_idle_act o)
+  without_idle_code (store cs b) = store cs (without_idle_code b)
+  without_idle_code (bind t o b) =
+      unless (is_idle t o (used_in_code (without_idle_code b)))
+      (bind t (without_idle_act o)) (without_idle_code b)
 
-  pub lean_arms : Arms → Arms
-  lean_arms no_arm = no_arm
-  lean_arms (arm s b as') = arm s (lean_code b) (lean_arms as')
+  pub without_idle_arms : Arms → Arms
+  without_idle_arms no_arm = no_arm
+  without_idle_arms (arm s b as') = arm s (without_idle_code b) (without_idle_arms as')
 
 abbrev pub lean : Program → Program
-lean g = rewritten lean_code g
+lean g = rewritten without_idle_code g

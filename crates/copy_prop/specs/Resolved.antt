@@ -66,9 +66,9 @@ unless_copy None s c = s c
 unless_copy (Some as') s c = c
 
 -- a statement that is there, before a block
-abbrev pub kept : Option Stmt → Code → Code
-kept None c = c
-kept (Some s) c = before_of s c
+abbrev pub optional_statement : Option Stmt → Code → Code
+optional_statement None c = c
+optional_statement (Some s) c = before_of s c
 
 unfoldable mutual
   -- with the copies of a piece

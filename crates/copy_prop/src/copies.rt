@@ -4,7 +4,7 @@
 ghost use Rattle.std.specs.Prelude.{◌≡◌, [], ◌∷◌, length, Some, IfOk};
 ghost use Rattle.grin_syntax.specs.Tree.{act_of};
 ghost use Rattle.grin_syntax.specs.declared.program.Word.TheVariants.{TagWord};
-ghost use Rattle.copy_prop.specs.Copies.{paired, zeros_after, of_words, of_node_or_words, copies_of_val, copies_of};
+ghost use Rattle.copy_prop.specs.Copies.{zipped_aliases, zeros_after, of_words, copies_of_node_or_words, copies_of_val, copies_of};
 
 use grin_syntax::{Op, TagId, Target, Val, VarId, Word};
 use seq::Seq;
@@ -47,7 +47,7 @@ fn copies_of_val(alloc: Global, target: &Target, v: &Val) -> Result<Option<Seq<A
 {
     match target {
         Target::One(x) => of_words(alloc, &[*x], v),
-        Target::Vector(vars) => of_node_or_words(alloc, vars.as_slice(), v),
+        Target::Vector(vars) => copies_of_node_or_words(alloc, vars.as_slice(), v),
         Target::Nothing => Ok(None),
         Target::Node(_) => Ok(None),
     }
@@ -58,25 +58,25 @@ fn of_words(alloc: Global, vars: &[VarId], v: &Val) -> Result<Option<Seq<Alias>>
     ensures { IfOk result (λ made. made ≡ of_words vars.now v.now) }
 {
     match v {
-        Val::One(word) => paired(alloc, vars, &[*word]),
-        Val::Vector(words) => paired(alloc, vars, words.as_slice()),
+        Val::One(word) => zipped_aliases(alloc, vars, &[*word]),
+        Val::Vector(words) => zipped_aliases(alloc, vars, words.as_slice()),
         Val::Node(_, _) => Ok(None),
         Val::NodeVar(_) => Ok(None),
     }
 }
 
 // The same, where a node is given by its tag, its fields and then zeros.
-fn of_node_or_words(
+fn copies_of_node_or_words(
     alloc: Global,
     vars: &[VarId],
     v: &Val,
 ) -> Result<Option<Seq<Alias>>, AllocError>
-    ensures { IfOk result (λ made. made ≡ of_node_or_words vars.now v.now) }
+    ensures { IfOk result (λ made. made ≡ copies_of_node_or_words vars.now v.now) }
 {
     match v {
         Val::Node(tag, fields) => {
             let words = node_words(alloc, vars.len(), *tag, fields.as_slice())?;
-            paired(alloc, vars, words.as_slice())
+            zipped_aliases(alloc, vars, words.as_slice())
         }
         Val::One(_) => of_words(alloc, vars, v),
         Val::Vector(_) => of_words(alloc, vars, v),
@@ -104,8 +104,12 @@ fn node_words(
 
 // A word for each variable, where there are as many.
 #[tactic(auto, using(crate::proofs::Taken::paired_next))]
-fn paired(alloc: Global, vars: &[VarId], words: &[Word]) -> Result<Option<Seq<Alias>>, AllocError>
-    ensures { IfOk result (λ made. made ≡ paired vars.now words.now) }
+fn zipped_aliases(
+    alloc: Global,
+    vars: &[VarId],
+    words: &[Word],
+) -> Result<Option<Seq<Alias>>, AllocError>
+    ensures { IfOk result (λ made. made ≡ zipped_aliases vars.now words.now) }
 {
     if vars.len() != words.len() {
         return Ok(None);

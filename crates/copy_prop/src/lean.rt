@@ -1,10 +1,10 @@
 // Blocks without idle statements.
-#![tactic(auto, using(grin_syntax::proofs::TreeOf::tree_of), unfolding(crate::specs::Lean::lean_act, crate::specs::Lean::used_in_act))]
+#![tactic(auto, using(grin_syntax::proofs::TreeOf::tree_of), unfolding(crate::specs::Lean::without_idle_act, crate::specs::Lean::used_in_act))]
 
 ghost use Rattle.std.specs.Prelude.{◌≡◌, ◌++◌, List, length, drop, ℕ, IfOk, OnOk};
 ghost use Rattle.grin_syntax.specs.Tree.{Code, act_of, before_of, arm_of, code_of};
-ghost use Rattle.copy_prop.specs.Resolved.{kept};
-ghost use Rattle.copy_prop.specs.Lean.{used_in_act, used_in_code, is_still, is_idle, lean_act, lean_code};
+ghost use Rattle.copy_prop.specs.Resolved.{optional_statement};
+ghost use Rattle.copy_prop.specs.Lean.{used_in_act, used_in_code, has_no_effect, is_idle, without_idle_act, without_idle_code};
 
 use crate::uses::Uses;
 use grin_syntax::{Alt, Block, Op, Stmt, Target};
@@ -12,10 +12,10 @@ use seq::Seq;
 use std::alloc::{AllocError, Global};
 
 #[cycle(lean)]
-#[tactic(auto, using(grin_syntax::proofs::TreeOf::tree_of, crate::proofs::Backward::case_leans, crate::proofs::Backward::case_used, seq::proofs::Lists::append_again, seq::proofs::Lists::append_nil), unfolding(crate::specs::Lean::lean_act, crate::specs::Lean::used_in_act))]
+#[tactic(auto, using(grin_syntax::proofs::TreeOf::tree_of, crate::proofs::Backward::case_leans, crate::proofs::Backward::case_used, seq::proofs::Lists::append_again, seq::proofs::Lists::append_nil), unfolding(crate::specs::Lean::without_idle_act, crate::specs::Lean::used_in_act))]
 fn lean_op(uses: &mut Uses, alloc: Global, op: Op) -> Result<Op, AllocError>
-    ensures tree { IfOk result (λ o. act_of o ≡ lean_act (act_of op)) }
-    ensures uses { OnOk result (uses.new ≡ uses.old ++ used_in_act (lean_act (act_of op))) }
+    ensures tree { IfOk result (λ o. act_of o ≡ without_idle_act (act_of op)) }
+    ensures uses { OnOk result (uses.new ≡ uses.old ++ used_in_act (without_idle_act (act_of op))) }
 {
     uses.note_op(&op)?;
     match op {
@@ -27,7 +27,7 @@ fn lean_op(uses: &mut Uses, alloc: Global, op: Op) -> Result<Op, AllocError>
             Ok(Op::Case(v, made))
         }
         Op::Nested(block) => {
-            let block = lean_block(uses, alloc, Box::into_inner(block))?;
+            let block = without_idle_block(uses, alloc, Box::into_inner(block))?;
             Ok(Op::Nested(Box::new(alloc, block)?))
         }
         Op::Unit(v) => Ok(Op::Unit(v)),
@@ -46,18 +46,18 @@ fn lean_op(uses: &mut Uses, alloc: Global, op: Op) -> Result<Op, AllocError>
 
 #[cycle(lean)]
 fn lean_alt(uses: &mut Uses, alloc: Global, alt: Alt) -> Result<Alt, AllocError>
-    ensures tree { IfOk result (λ a. arm_of a ≡ ((arm_of alt).0, lean_code (arm_of alt).1)) }
-    ensures uses { OnOk result (uses.new ≡ uses.old ++ used_in_code (lean_code (arm_of alt).1)) }
+    ensures tree { IfOk result (λ a. arm_of a ≡ ((arm_of alt).0, without_idle_code (arm_of alt).1)) }
+    ensures uses { OnOk result (uses.new ≡ uses.old ++ used_in_code (without_idle_code (arm_of alt).1)) }
 {
     Ok(Alt {
         pattern: alt.pattern,
-        body: lean_block(uses, alloc, alt.body)?,
+        body: without_idle_block(uses, alloc, alt.body)?,
     })
 }
 
 // A statement, or none where it is idle. What comes after it was used after the first `from` uses.
 #[cycle(lean)]
-#[tactic(auto, using(grin_syntax::proofs::TreeOf::tree_of, crate::proofs::Backward::stored_used), unfolding(crate::specs::Lean::lean_act, crate::specs::Lean::used_in_act))]
+#[tactic(auto, using(grin_syntax::proofs::TreeOf::tree_of, crate::proofs::Backward::stored_used), unfolding(crate::specs::Lean::without_idle_act, crate::specs::Lean::used_in_act))]
 fn lean_stmt(
     uses: &mut Uses,
     alloc: Global,
@@ -65,9 +65,9 @@ fn lean_stmt(
     stmt: Stmt,
 ) -> Result<Option<Stmt>, AllocError>
     ensures tree { IfOk result (λ s. (c : Code) (m : List ℕ) → length m ≡ from → uses.old ≡ m
-        ++ used_in_code (lean_code c) → kept s (lean_code c) ≡ lean_code (before_of stmt c)) }
+        ++ used_in_code (without_idle_code c) → optional_statement s (without_idle_code c) ≡ without_idle_code (before_of stmt c)) }
     ensures uses { IfOk result (λ s. (c : Code) (m : List ℕ) → uses.old ≡ m ++ used_in_code c
-        → uses.new ≡ m ++ used_in_code (kept s c)) }
+        → uses.new ≡ m ++ used_in_code (optional_statement s c)) }
 {
     match stmt {
         Stmt::Store(cells) => {
@@ -87,9 +87,13 @@ fn lean_stmt(
 /// A block without its idle statements. It is walked from its end, so that what comes after a
 /// statement is known.
 #[cycle(lean)]
-pub(crate) fn lean_block(uses: &mut Uses, alloc: Global, block: Block) -> Result<Block, AllocError>
-    ensures tree { IfOk result (λ b. code_of b ≡ lean_code (code_of block)) }
-    ensures uses { OnOk result (uses.new ≡ uses.old ++ used_in_code (lean_code (code_of block))) }
+pub(crate) fn without_idle_block(
+    uses: &mut Uses,
+    alloc: Global,
+    block: Block,
+) -> Result<Block, AllocError>
+    ensures tree { IfOk result (λ b. code_of b ≡ without_idle_code (code_of block)) }
+    ensures uses { OnOk result (uses.new ≡ uses.old ++ used_in_code (without_idle_code (code_of block))) }
 {
     let from = uses.count();
     let last = lean_op(uses, alloc, Box::into_inner(block.last))?;
@@ -123,7 +127,7 @@ fn idle(uses: &Uses, from: u64, target: &Target, op: &Op) -> bool
 
 // Whether an operation changes nothing.
 fn still(op: &Op) -> bool
-    ensures { result ≡ is_still (act_of op.now) }
+    ensures { result ≡ has_no_effect (act_of op.now) }
 {
     match op {
         Op::Unit(_) => true,

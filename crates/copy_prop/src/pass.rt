@@ -3,12 +3,12 @@
 
 ghost use Rattle.std.specs.Prelude.{◌≡◌, map, IfOk};
 ghost use Rattle.grin_syntax.specs.Tree.{program_of};
-ghost use Rattle.pass_ground.specs.Vectors.{OfVectors};
+ghost use Rattle.pass_ground.specs.Vectors.{IsVectorForm};
 ghost use Rattle.copy_prop.specs.Resolved.{resolved};
 ghost use Rattle.copy_prop.specs.Lean.{lean};
 ghost use Rattle.copy_prop.specs.Copied.{Copied};
 
-use crate::lean::lean_block;
+use crate::lean::without_idle_block;
 use crate::resolve::Aliases;
 use crate::uses::Uses;
 use grin_meaning::Pass;
@@ -23,7 +23,7 @@ use std::alloc::{AllocError, Global};
 pub struct Copies;
 
 impl Pass for Copies {
-    ghost takes = { λ g. OfVectors (program_of g) };
+    ghost takes = { λ g. IsVectorForm (program_of g) };
 
     ghost gives = { λ g h. Copied (program_of g) (program_of h) };
 
@@ -54,7 +54,7 @@ pub fn without_idle(alloc: Global, g: Grin) -> Result<Grin, AllocError>
     let mut uses = Uses::new(alloc);
     let mut procs = Seq::new(alloc);
     for proc in g.procs.into_vec() {
-        let body = lean_block(&mut uses, alloc, proc.body)?;
+        let body = without_idle_block(&mut uses, alloc, proc.body)?;
         procs.push(Proc { body, ..proc })?;
     }
     Ok(Grin { procs, ..g })

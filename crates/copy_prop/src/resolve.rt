@@ -3,7 +3,7 @@
 
 ghost use Rattle.std.specs.Prelude.{◌≡◌, [], IfOk, OnOk};
 ghost use Rattle.grin_syntax.specs.Tree.{Code, act_of, before_of, arm_of, code_of};
-ghost use Rattle.copy_prop.specs.Resolved.{put, as_word, as_words, as_val, as_cells, put_all, noted_copies, noted_act, noted_code, kept, resolved_act, resolved_code};
+ghost use Rattle.copy_prop.specs.Resolved.{put, as_word, as_words, as_val, as_cells, put_all, noted_copies, noted_act, noted_code, optional_statement, resolved_act, resolved_code};
 
 use crate::copies::{Alias, copies_of};
 use grin_syntax::{Alt, Block, Cell, Op, Stmt, Val, VarId, Word};
@@ -154,7 +154,7 @@ impl Aliases {
     // A statement, or none where it is a copy.
     #[cycle(resolve)]
     fn stmt(&mut self, alloc: Global, stmt: Stmt) -> Result<Option<Stmt>, AllocError>
-        ensures tree { IfOk result (λ s. (c : Code) → kept s (resolved_code self.new.table c)
+        ensures tree { IfOk result (λ s. (c : Code) → optional_statement s (resolved_code self.new.table c)
             ≡ resolved_code self.old.table (before_of stmt c)) }
         ensures table { OnOk result ((c : Code) → noted_code c self.new.table
             ≡ noted_code (before_of stmt c) self.old.table) }

@@ -4,7 +4,7 @@
 ghost use Rattle.std.specs.Prelude.{◌≡◌, [], ◌∷◌, ◌++◌, not, ◌&&◌, length, drop, OnOk};
 ghost use Rattle.grin_syntax.specs.Binders.{target_vars, numbers_of};
 ghost use Rattle.grin_syntax.specs.Tree.{act_of};
-ghost use Rattle.copy_prop.specs.Lean.{none_stands, used_beside_blocks, used_in_word, used_in_words, used_in_val, used_in_cells};
+ghost use Rattle.copy_prop.specs.Lean.{are_disjoint, used_beside_blocks, used_in_word, used_in_words, used_in_val, used_in_cells};
 ghost use Rattle.seq.specs.Lists.{is_among as stands};
 
 use grin_syntax::{Cell, Op, Target, Val, VarId, Word};
@@ -73,7 +73,7 @@ impl Uses {
 
     /// Whether none of a target's variables was used after the first so many uses.
     pub fn spare(&self, from: u64, target: &Target) -> bool
-        ensures { result ≡ none_stands (target_vars target.now) (drop from self.now) }
+        ensures { result ≡ are_disjoint (target_vars target.now) (drop from self.now) }
     {
         match target {
             Target::Nothing => true,
@@ -84,7 +84,7 @@ impl Uses {
     }
 
     fn all_spare(&self, from: u64, xs: &[VarId]) -> bool
-        ensures { result ≡ none_stands (numbers_of xs.now) (drop from self.now) }
+        ensures { result ≡ are_disjoint (numbers_of xs.now) (drop from self.now) }
     {
         let mut spare = true;
         for x in xs {

@@ -10,7 +10,7 @@ use Rattle.core_reader.specs.declared.syntax.Pattern.TheVariants as pattern
 use Rattle.core_reader.specs.declared.token.Token.{Token}
 use Rattle.core_reader.specs.declared.token.Token.TheVariants as word
 use Rattle.core_reader.specs.declared.token.Lexeme.{Lexeme}
-use Rattle.core_reader.specs.Grammar.{Room, lexeme, name_id, IsSign, SpellsTerm, SpellsTerms, SpellsApp, binders, IsOptional, SpellsBind, AfterBind, SpellsBinds, IsGroup, IsSomeAlts, AfterAlt, SpellsPattern, SpellsExpr, SpellsAlts, Decl, Declares, Defines, SpellsDecl, SpellsDecls, constructors_of, functions_of}
+use Rattle.core_reader.specs.Grammar.{NestingLimit, lexeme, name_id, IsSign, SpellsTerm, SpellsTerms, SpellsApp, binders, IsOptional, SpellsBind, AfterBind, SpellsBinds, IsGroup, IsNonemptyAlts, AfterAlt, SpellsPattern, SpellsExpr, SpellsAlts, Decl, Declares, Defines, SpellsDecl, SpellsDecls, constructors_of, functions_of}
 use Rattle.core_reader.specs.Tree as tree
 use Rattle.core_reader.specs.Tree.{Term, Terms, NoTerms, AndTerm, Application, Bind, Expr, App, Let, Case, Alts, NoAlts, AndAlt, Data, Function}
 use Rattle.core_print.specs.Same.{SameName, SameBinder, SameTerm, SameTerms, SameApp, SameBind, SamePattern, SameExpr, SameAlts, SameData, SameFunction}
@@ -62,7 +62,7 @@ module _ (names others : List (List ℕ)) where
   -- ---- terms
 
   mutual
-    term_again : (room : Room) (d : ℕ) (a : Term) (us ts : List Lexeme) → SpellsTerm room d a us → AreLike us ts → (b : Term) × SpellsTerm room d b ts × SameTerm names others a b
+    term_again : (room : NestingLimit) (d : ℕ) (a : Term) (us ts : List Lexeme) → SpellsTerm room d a us → AreLike us ts → (b : Term) × SpellsTerm room d b ts × SameTerm names others a b
     term_again room d (tree.Name n at) us ts h z =
         let w = only (lexeme at (word.Name (name_id n))) ts (subst (λ v. AreLike v ts) h z) in
         (tree.Name w.2.0.0 w.0.at, w.1 ∙ ap (λ y. y ∷ []) (token_is w.0 (word.Name w.2.0) w.2.1), w.2.2)
@@ -83,7 +83,7 @@ module _ (names others : List (List ℕ)) where
         o.whole ∙ (λ i. token_is o.item word.Open o.like i ∷ a.whole i) ∙ ap (λ r. lexeme o.item.at word.Open ∷ (a.front ++ r)) (b.whole ∙ ap (λ r. b.front ++ r) (c.1 ∙ ap (λ y. y ∷ []) (token_is c.0 word.Close c.2))) in
         (tree.Bracket g.0 ys.0 o.item.at, (a.front, b.front, c.0.at, h.3, g.1, ys.1, whole), (g.2, ys.2))
 
-    terms_again : (room : Room) (d : ℕ) (xs : Terms) (us ts : List Lexeme) → SpellsTerms room d xs us → AreLike us ts → (ys : Terms) × SpellsTerms room d ys ts × SameTerms names others xs ys
+    terms_again : (room : NestingLimit) (d : ℕ) (xs : Terms) (us ts : List Lexeme) → SpellsTerms room d xs us → AreLike us ts → (ys : Terms) × SpellsTerms room d ys ts × SameTerms names others xs ys
     terms_again room d NoTerms us ts h z = (NoTerms, none ts (subst (λ v. AreLike v ts) h z), tt)
     terms_again room d (AndTerm a xs) us ts h z =
         let c = cut h.0 h.1 ts (subst (λ v. AreLike v ts) h.4 z) in
@@ -91,7 +91,7 @@ module _ (names others : List (List ℕ)) where
         let ys = terms_again room d xs h.1 c.behind h.3 c.second in
         (AndTerm b.0 ys.0, (c.front, c.behind, b.1, ys.1, c.whole), (b.2, ys.2))
 
-  app_again : (room : Room) (d : ℕ) (a : Application) (us ts : List Lexeme) → SpellsApp room d a us → AreLike us ts → (b : Application) × SpellsApp room d b ts × SameApp names others a b
+  app_again : (room : NestingLimit) (d : ℕ) (a : Application) (us ts : List Lexeme) → SpellsApp room d a us → AreLike us ts → (b : Application) × SpellsApp room d b ts × SameApp names others a b
   app_again room d a us ts h z =
       let c = cut h.0 h.1 ts (subst (λ v. AreLike v ts) h.4 z) in
       let b = term_again room d a.head h.0 c.front h.2 c.first in
@@ -114,7 +114,7 @@ module _ (names others : List (List ℕ)) where
   optional_again us ts (inl e) z = inl (none ts (subst (λ v. AreLike v ts) e z))
   optional_again us ts (inr h) z = inr (sign_again word.Semicolon (λ u e. e) us ts h z)
 
-  bind_again : (room : Room) (d : ℕ) (b : Bind) (us ts : List Lexeme) → SpellsBind room d b us → AreLike us ts → (c : Bind) × SpellsBind room d c ts × SameBind names others b c
+  bind_again : (room : NestingLimit) (d : ℕ) (b : Bind) (us ts : List Lexeme) → SpellsBind room d b us → AreLike us ts → (c : Bind) × SpellsBind room d c ts × SameBind names others b c
   bind_again room d b us ts h z =
       let n = first (lexeme b.binder.at (word.Name b.binder.name)) (lexeme h.0 word.Equals ∷ h.1) ts (subst (λ v. AreLike v ts) h.3 z) in
       let e = first (lexeme h.0 word.Equals) h.1 n.rest n.likes in
@@ -130,7 +130,7 @@ module _ (names others : List (List ℕ)) where
   after_bind (b ∷ bs) [] r us ts h z = absurd r
   after_bind (b ∷ bs) (c ∷ cs) r us ts h z = sign_again word.Semicolon (λ u e. e) us ts h z
 
-  binds_again : (room : Room) (d : ℕ) (bs : List Bind) (us ts : List Lexeme) → SpellsBinds room d bs us → AreLike us ts → (cs : List Bind) × SpellsBinds room d cs ts × AllZip (SameBind names others) bs cs
+  binds_again : (room : NestingLimit) (d : ℕ) (bs : List Bind) (us ts : List Lexeme) → SpellsBinds room d bs us → AreLike us ts → (cs : List Bind) × SpellsBinds room d cs ts × AllZip (SameBind names others) bs cs
   binds_again room d [] us ts h z = ([], none ts (subst (λ v. AreLike v ts) h z), tt)
   binds_again room d (b ∷ bs) us ts h z =
       let x = cut h.0 (h.1 ++ h.2) ts (subst (λ v. AreLike v ts) h.6 z) in
@@ -164,13 +164,13 @@ module _ (names others : List (List ℕ)) where
   after_alt (AndAlt p e xs) (AndAlt q d ys) r us ts h z = sign_again word.Semicolon (λ u e. e) us ts h z
   after_alt (AndAlt p e xs) ys r us ts h z = absurd r
 
-  some_again : (xs ys : Alts) → SameAlts names others xs ys → IsSomeAlts xs → IsSomeAlts ys
+  some_again : (xs ys : Alts) → SameAlts names others xs ys → IsNonemptyAlts xs → IsNonemptyAlts ys
   some_again NoAlts ys r h = absurd h
   some_again (AndAlt p e xs) NoAlts r h = absurd r
   some_again (AndAlt p e xs) (AndAlt q d ys) r h = tt
 
   mutual
-    expr_again : (room : Room) (d : ℕ) (e : Expr) (us ts : List Lexeme) → SpellsExpr room d e us → AreLike us ts → (f : Expr) × SpellsExpr room d f ts × SameExpr names others e f
+    expr_again : (room : NestingLimit) (d : ℕ) (e : Expr) (us ts : List Lexeme) → SpellsExpr room d e us → AreLike us ts → (f : Expr) × SpellsExpr room d f ts × SameExpr names others e f
     expr_again room d (App a) us ts h z = let w = app_again room d a us ts h z in (App w.0, w.1, w.2)
     expr_again room d (Let group e) us ts h z =
         let l = first (lexeme h.0 word.Let) (h.2 ++ (lexeme h.1 word.In ∷ h.3)) ts (subst (λ v. AreLike v ts) h.8 z) in
@@ -200,7 +200,7 @@ module _ (names others : List (List ℕ)) where
         l.whole ∙ (λ j. token_is l.item word.Case l.like j ∷ c.whole j) ∙ ap (λ r. lexeme l.item.at word.Case ∷ (c.front ++ r)) middle in
         (Case f.0 ys.0, (l.item.at, o.item.at, b.item.at, s.0.at, c.front, k.front, h.6, some_again alts ys.0 ys.2 h.7, f.1, ys.1, whole), (f.2, ys.2))
 
-    alts_again : (room : Room) (d : ℕ) (xs : Alts) (us ts : List Lexeme) → SpellsAlts room d xs us → AreLike us ts → (ys : Alts) × SpellsAlts room d ys ts × SameAlts names others xs ys
+    alts_again : (room : NestingLimit) (d : ℕ) (xs : Alts) (us ts : List Lexeme) → SpellsAlts room d xs us → AreLike us ts → (ys : Alts) × SpellsAlts room d ys ts × SameAlts names others xs ys
     alts_again room d NoAlts us ts h z = (NoAlts, none ts (subst (λ v. AreLike v ts) h z), tt)
     alts_again room d (AndAlt p e xs) us ts h z =
         let a = cut h.0 (lexeme h.4 word.Arrow ∷ (h.1 ++ (h.2 ++ h.3))) ts (subst (λ v. AreLike v ts) h.9 z) in
@@ -221,7 +221,7 @@ module _ (names others : List (List ℕ)) where
   SameDecl (Defines f) (Defines g) = SameFunction names others f g
   SameDecl d e = ⊥
 
-  decl_again : (room : Room) (d : Decl) (us ts : List Lexeme) → SpellsDecl room d us → AreLike us ts → (e : Decl) × SpellsDecl room e ts × SameDecl d e
+  decl_again : (room : NestingLimit) (d : Decl) (us ts : List Lexeme) → SpellsDecl room d us → AreLike us ts → (e : Decl) × SpellsDecl room e ts × SameDecl d e
   decl_again room (Declares d) us ts h z =
       let n = lexeme h.1 (word.Number false (pos d.fields)) in
       let s = lexeme h.2 word.Semicolon in
@@ -250,19 +250,19 @@ module _ (names others : List (List ℕ)) where
       let behind : n.rest ≡ binders g.params ++ (lexeme q.item.at word.Equals ∷ (c.front ++ lexeme l.0.at word.Semicolon ∷ [])) = b.whole ∙ (λ j. params.1 j ++ middle j) in
       (Defines g, (q.item.at, l.0.at, c.front, e.1, n.whole ∙ (λ j. token_is n.item (word.Name n.like.0) n.like.1 j ∷ behind j)), (n.like.2, params.2, e.2))
 
-  pub record SpellsAgain (room : Room) (ds : List Decl) (ts : List Lexeme) : Type 0 where
+  pub record SpellsAgain (room : NestingLimit) (ds : List Decl) (ts : List Lexeme) : Type 0 where
     pub decls : List Decl
     pub spelled : SpellsDecls room decls ts
     pub constructors : AllZip (SameData names others) (constructors_of ds) (constructors_of decls)
     pub functions : AllZip (SameFunction names others) (functions_of ds) (functions_of decls)
 
-  one_more : (room : Room) (d e : Decl) (ds : List Decl) (us vs ts : List Lexeme) → SameDecl d e → SpellsDecl room e us → ts ≡ us ++ vs → SpellsAgain room ds vs → SpellsAgain room (d ∷ ds) ts
+  one_more : (room : NestingLimit) (d e : Decl) (ds : List Decl) (us vs ts : List Lexeme) → SameDecl d e → SpellsDecl room e us → ts ≡ us ++ vs → SpellsAgain room ds vs → SpellsAgain room (d ∷ ds) ts
   one_more room (Declares d) (Declares e) ds us vs ts r h w m = record { decls = Declares e ∷ m.decls; spelled = (us, vs, h, m.spelled, w); constructors = (r, m.constructors); functions = m.functions }
   one_more room (Declares d) (Defines g) ds us vs ts r h w m = absurd r
   one_more room (Defines f) (Declares e) ds us vs ts r h w m = absurd r
   one_more room (Defines f) (Defines g) ds us vs ts r h w m = record { decls = Defines g ∷ m.decls; spelled = (us, vs, h, m.spelled, w); constructors = m.constructors; functions = (r, m.functions) }
 
-  pub decls_again : (room : Room) (ds : List Decl) (us ts : List Lexeme) → SpellsDecls room ds us → AreLike us ts → SpellsAgain room ds ts
+  pub decls_again : (room : NestingLimit) (ds : List Decl) (us ts : List Lexeme) → SpellsDecls room ds us → AreLike us ts → SpellsAgain room ds ts
   decls_again room [] us ts h z = record { decls = []; spelled = none ts (subst (λ v. AreLike v ts) h z); constructors = tt; functions = tt }
   decls_again room (d ∷ ds) us ts h z =
       let c = cut h.0 h.1 ts (subst (λ v. AreLike v ts) h.4 z) in

@@ -12,7 +12,7 @@ use Rattle.core_reader.specs.Readable.{IsReadable, ReadableData, ReadableFunctio
 use Rattle.core_reader.specs.Tree.{Data, Program}
 use Rattle.core_reader.specs.Tree as tree
 use Rattle.arity_check.specs.declared.normal.PrimOp.{PrimOp}
-use Rattle.arity_check.specs.Broken.{first_named}
+use Rattle.arity_check.specs.Broken.{first_constructor_named}
 use Rattle.arity_check.specs.declared.meaning.Meaning.{Meaning}
 use Rattle.arity_check.specs.declared.meaning.Meaning.TheVariants.{Local, Function, Primitive, Unbound}
 use Rattle.arity_check.specs.Scope.{Scope, is_named, primitives, function_from, means}
@@ -20,7 +20,7 @@ use Rattle.arity_check.proofs.Names.{first_place}
 use Rattle.core_meaning.proofs.Valid.{different_places}
 use Rattle.core_link.specs.Module.{Module, text_in, name_of, seen, imported, imported_functions, imported_constructors, is_constructor, as_function, as_constructor, begins_upper}
 use Rattle.core_link.specs.Rules.{IsDeclared, AsFunction, AsConstructor}
-use Rattle.core_link.specs.Union.{global_text, local_text, home, import_home, meaning_text, use_text, IsUnion}
+use Rattle.core_link.specs.Union.{global_text, local_text, home_module, import_home, meaning_text, use_text, IsUnion}
 use Rattle.core_link.proofs.Beside.{in_place}
 use Rattle.core_link.proofs.Different.{IsPlain, local_not_global}
 use Rattle.core_link.proofs.Clear.{Means, IsPlainly, plainly_means, nameless_means, primitive_means, meant, clear_means, global_clear, local_clear, named_at, same_primitive}
@@ -61,19 +61,19 @@ module _ (p : Program) where
       go false m zero e u rest = let same : g ≡ h = cc in not_both (g.name == x) (eq-eqb g.name x (ap (λ (k : tree.Function). k.name) same ∙ n)) m
       go false m (suc i) e u rest = rest i e u
 
-pub named_is : (c : ℕ) (ds : List Data) (d : Data) → first_named c ds ≡ Some d → d.name ≡ c
+pub named_is : (c : ℕ) (ds : List Data) (d : Data) → first_constructor_named c ds ≡ Some d → d.name ≡ c
 named_is c [] d e = absurd cc
 named_is c (x ∷ xs) d e = go (x.name == c) refl e (named_is c xs d)
   where
-    go : (b : Bool) → (x.name == c) ≡ b → (if b then Some x else first_named c xs) ≡ Some d → (first_named c xs ≡ Some d → d.name ≡ c) → d.name ≡ c
+    go : (b : Bool) → (x.name == c) ≡ b → (if b then Some x else first_constructor_named c xs) ≡ Some d → (first_constructor_named c xs ≡ Some d → d.name ≡ c) → d.name ≡ c
     go true h e rest = let same : x ≡ d = cc in ap (λ (y : Data). y.name) (sym same) ∙ eqb-true x.name c h
     go false h e rest = rest e
 
-pub constructor_bound : (c : ℕ) (ds : List Data) (i : ℕ) (d : Data) → slice_get ds i ≡ Some d → d.name ≡ c → first_named c ds ≡ None → ⊥
+pub constructor_bound : (c : ℕ) (ds : List Data) (i : ℕ) (d : Data) → slice_get ds i ≡ Some d → d.name ≡ c → first_constructor_named c ds ≡ None → ⊥
 constructor_bound c [] i d e n u = none_is_some e
 constructor_bound c (x ∷ xs) i d e n u = go (x.name == c) refl i e u (λ i e u. constructor_bound c xs i d e n u)
   where
-    go : (b : Bool) → (x.name == c) ≡ b → (i : ℕ) → slice_get (x ∷ xs) i ≡ Some d → (if b then Some x else first_named c xs) ≡ None → ((i : ℕ) → slice_get xs i ≡ Some d → first_named c xs ≡ None → ⊥) → ⊥
+    go : (b : Bool) → (x.name == c) ≡ b → (i : ℕ) → slice_get (x ∷ xs) i ≡ Some d → (if b then Some x else first_constructor_named c xs) ≡ None → ((i : ℕ) → slice_get xs i ≡ Some d → first_constructor_named c xs ≡ None → ⊥) → ⊥
     go true m i e u rest = absurd cc
     go false m zero e u rest = let same : x ≡ d = cc in not_both (x.name == c) (eq-eqb x.name c (ap (λ (y : Data). y.name) same ∙ n)) m
     go false m (suc i) e u rest = rest i e u
@@ -98,19 +98,19 @@ module _ (ms : List Module) (c : Program) (u : IsUnion ms c) (sound : IsSound ms
 
   -- where the function comes from that a name stands for
   record Comes (x g : ℕ) (w : List ℕ) : Type 0 where
-    plain : IsPlain (home m g)
-    some : home m g ≢ []
-    there : (k : ℕ) → slice_get c.names k ≡ Some (global_text w (home m g)) → function_from c c.functions 0 k ≡ Unbound → ⊥
+    plain : IsPlain (home_module m g)
+    some : home_module m g ≢ []
+    there : (k : ℕ) → slice_get c.names k ≡ Some (global_text w (home_module m g)) → function_from c c.functions 0 k ≡ Unbound → ⊥
 
   bound_there : (k : ℕ) (w : List ℕ) (o : Module) → In o ms → (f : tree.Function) → In f o.functions → text_in o f.name ≡ w → slice_get c.names k ≡ Some (global_text w (name_of o)) → function_from c c.functions 0 k ≡ Unbound → ⊥
   bound_there k w o h f i e named none =
       let t = function_there ms c u o h f i in
       function_bound c c.functions 0 k t.0 t.1 t.2 (one_number t.1.name k (global_text w (name_of o)) (t.3.0 ∙ ap (λ v. Some (global_text v (name_of o))) e) named) none
 
-  pub own_home : (g : ℕ) → g < length m.functions → home m g ≡ name_of m
+  pub own_home : (g : ℕ) → g < length m.functions → home_module m g ≡ name_of m
   own_home g l = ap (λ b. if b then name_of m else import_home m (slice_get (imported_functions m) (g - length m.functions))) (lt_true g (length m.functions) l)
 
-  other_home : (g k : ℕ) (i : Binder × Binder) → g ≡ length m.functions + k → slice_get (imported_functions m) k ≡ Some i → home m g ≡ text_in m i.0.name.0
+  other_home : (g k : ℕ) (i : Binder × Binder) → g ≡ length m.functions + k → slice_get (imported_functions m) k ≡ Some i → home_module m g ≡ text_in m i.0.name.0
   other_home g k i e f =
       ap (λ b. if b then name_of m else import_home m (slice_get (imported_functions m) (g - length m.functions))) (lt_false g (length m.functions) (omega (arith, e)))
       ∙ ap (λ j. import_home m (slice_get (imported_functions m) j)) (omega (arith, e)) ∙ ap (import_home m) f
@@ -166,7 +166,7 @@ module _ (ms : List Module) (c : Program) (u : IsUnion ms c) (sound : IsSound ms
     -- A name of the module in one scope, and its name in the program in another.
     pub data Agrees (s t : Scope) (x k : ℕ) : Type 0 where
       Locals : (z i : ℕ) → means (seen m) s x ≡ Local z → means c t k ≡ Local i → OfNumber z i → Agrees s t x k
-      Functions : (g params : ℕ) → means (seen m) s x ≡ Function g params → function_from (seen m) (seen m).functions 0 x ≡ Function g params → (w : List ℕ) → slice_get m.names x ≡ Some w → slice_get c.names k ≡ Some (global_text w (home m g))
+      Functions : (g params : ℕ) → means (seen m) s x ≡ Function g params → function_from (seen m) (seen m).functions 0 x ≡ Function g params → (w : List ℕ) → slice_get m.names x ≡ Some w → slice_get c.names k ≡ Some (global_text w (home_module m g))
           → means c t k ≡ function_from c c.functions 0 k → (means c t k ≡ Unbound → ⊥) → Agrees s t x k
       Primitives : (op : PrimOp) → means (seen m) s x ≡ Primitive op → means c t k ≡ Primitive op → Agrees s t x k
       Neither : means (seen m) s x ≡ Unbound → Agrees s t x k
@@ -186,12 +186,12 @@ module _ (ms : List Module) (c : Program) (u : IsUnion ms c) (sound : IsSound ms
           Locals z i (plainly_means (seen m) s x (Local z) (h.0, h.1, f)) (clear_means c t k (local_text w) named (local_clear w (not_nameless h.0)) ∙ beyond k named) o
       agrees_local y h named (Outside e f beyond) = absurd (function_no_local (seen m) (seen m).functions 0 x y (sym e ∙ h.2))
 
-      agrees_function : (g params : ℕ) → IsPlainly (seen m) r x (Function g params) → slice_get c.names k ≡ Some (global_text w (home m g)) → Found → Agrees s t x k
+      agrees_function : (g params : ℕ) → IsPlainly (seen m) r x (Function g params) → slice_get c.names k ≡ Some (global_text w (home_module m g)) → Found → Agrees s t x k
       agrees_function g params h named (Inside y z i e f o beyond) = absurd (let l : Local y ≡ Function g params = sym e ∙ h.2 in cc)
       agrees_function g params h named (Outside e f beyond) =
           let from = comes x g params w is (sym e ∙ h.2) in
-          let v = global_text w (home m g) in
-          let means_there : means c t k ≡ function_from c c.functions 0 k = clear_means c t k v named (global_clear w (home m g)) ∙ beyond k v named (λ y l. local_not_global y w (home m g) from.plain from.some (sym l)) in
+          let v = global_text w (home_module m g) in
+          let means_there : means c t k ≡ function_from c c.functions 0 k = clear_means c t k v named (global_clear w (home_module m g)) ∙ beyond k v named (λ y l. local_not_global y w (home_module m g) from.plain from.some (sym l)) in
           Functions g params (plainly_means (seen m) s x (Function g params) (h.0, h.1, f ∙ sym e ∙ h.2)) (sym e ∙ h.2) w is named means_there (λ z. from.there k named (sym means_there ∙ z))
 
       agrees_unbound : Found → IsPlainly (seen m) r x Unbound → Agrees s t x k
@@ -212,12 +212,12 @@ module _ (ms : List Module) (c : Program) (u : IsUnion ms c) (sound : IsSound ms
 
   -- ---- constructors
 
-  known_there : (k : ℕ) (w : List ℕ) (o : Module) → In o ms → (d : Data) → In d o.constructors → text_in o d.name ≡ w → slice_get c.names k ≡ Some w → first_named k c.constructors ≡ None → ⊥
+  known_there : (k : ℕ) (w : List ℕ) (o : Module) → In o ms → (d : Data) → In d o.constructors → text_in o d.name ≡ w → slice_get c.names k ≡ Some w → first_constructor_named k c.constructors ≡ None → ⊥
   known_there k w o h d i e named none =
       let t = constructor_there ms c u o h d i in
       constructor_bound k c.constructors t.0 t.1 t.2 (one_number t.1.name k w (t.3.0 ∙ ap (λ v. Some v) e) named) none
 
-  known_other : (x k : ℕ) (w : List ℕ) → slice_get m.names x ≡ Some w → slice_get c.names k ≡ Some w → first_named k c.constructors ≡ None → (j : ℕ) (i : Binder × Binder) → slice_get (imported_constructors m) j ≡ Some i → i.1.name.0 ≡ x → ⊥
+  known_other : (x k : ℕ) (w : List ℕ) → slice_get m.names x ≡ Some w → slice_get c.names k ≡ Some w → first_constructor_named k c.constructors ≡ None → (j : ℕ) (i : Binder × Binder) → slice_get (imported_constructors m) j ≡ Some i → i.1.name.0 ≡ x → ⊥
   known_other x k w e named none j i f named_x =
       let inside = in_filter (λ i. is_constructor m i.1) (imported m) j i f in
       let o : HasSource ms sound m i = has_source ms sound n m i is_module inside.0 in
@@ -232,15 +232,15 @@ module _ (ms : List Module) (c : Program) (u : IsUnion ms c) (sound : IsSound ms
           not_both (is_constructor m i.1) upper (ap begins_upper (sym text) ∙ name_lower r.0 r.2)
 
   -- a constructor that is unknown in the program is unknown in the module
-  pub unknown_back : (x k : ℕ) (w : List ℕ) → slice_get m.names x ≡ Some w → slice_get c.names k ≡ Some w → first_named k c.constructors ≡ None → first_named x (seen m).constructors ≡ None
-  unknown_back x k w e named none = go (first_named x (seen m).constructors) refl
+  pub unknown_back : (x k : ℕ) (w : List ℕ) → slice_get m.names x ≡ Some w → slice_get c.names k ≡ Some w → first_constructor_named k c.constructors ≡ None → first_constructor_named x (seen m).constructors ≡ None
+  unknown_back x k w e named none = go (first_constructor_named x (seen m).constructors) refl
     where
-      bad : (d : Data) → first_named x (seen m).constructors ≡ Some d → (i : ℕ) → (slice_get m.constructors i ≡ Some d) ⊎ ((j : ℕ) × (i ≡ length m.constructors + j) × (slice_get (map as_constructor (imported_constructors m)) j ≡ Some d)) → ⊥
+      bad : (d : Data) → first_constructor_named x (seen m).constructors ≡ Some d → (i : ℕ) → (slice_get m.constructors i ≡ Some d) ⊎ ((j : ℕ) × (i ≡ length m.constructors + j) × (slice_get (map as_constructor (imported_constructors m)) j ≡ Some d)) → ⊥
       bad d f i (inl at) = known_there k w m (in_place ms n is_module) d (in_place m.constructors i at) (ap (text_in m) (named_is x (seen m).constructors d f) ∙ text_is m x w e) named none
       bad d f i (inr at) =
           let y = map_at as_constructor (imported_constructors m) at.0 d at.2 in
           known_other x k w e named none at.0 y.0 y.1 (ap (λ (z : Data). z.name) y.2 ∙ named_is x (seen m).constructors d f)
 
-      go : (o : Option Data) → first_named x (seen m).constructors ≡ o → first_named x (seen m).constructors ≡ None
+      go : (o : Option Data) → first_constructor_named x (seen m).constructors ≡ o → first_constructor_named x (seen m).constructors ≡ None
       go None f = f
       go (Some d) f = let i = first_place x (seen m).constructors d f in absurd (bad d f i.0 (get_split m.constructors (map as_constructor (imported_constructors m)) i.0 d i.1))

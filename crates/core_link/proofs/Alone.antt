@@ -18,7 +18,7 @@ use Rattle.arity_check.specs.Scope.{Scope, is_named, means, con_number, function
 use Rattle.arity_check.specs.Pieces.{names_of}
 use Rattle.core_meaning.proofs.Valid.{different_places}
 use Rattle.core_link.specs.Module.{Module, Import, IsModuleText, text_in, name_of, body, seen}
-use Rattle.core_link.specs.Union.{LocalBecomes, ConBecomes, UseBecomes, GlobalBecomes, ConstructorBecomes, FunctionBecomes, enter, local_text, global_text, home, meaning_text, with_module, IsUnion, IsRising}
+use Rattle.core_link.specs.Union.{LocalBecomes, ConBecomes, UseBecomes, GlobalBecomes, ConstructorBecomes, FunctionBecomes, enter, local_text, global_text, home_module, meaning_text, with_module, IsUnion, IsStrictlySorted}
 use Rattle.core_link.proofs.Agrees.{Agrees, Locals, Functions, Primitives, Neither, agrees, own_home, function_is}
 use Rattle.core_link.proofs.Aligned.{zip_map, same_test, AlikeFor, functions_aligned, positions_aligned, same_named}
 use Rattle.core_link.proofs.Carried.{MeansTheSame}
@@ -43,7 +43,7 @@ only_module text m [] is z = absurd z
 only_module text m (x ∷ []) is z = ap (λ y. y ∷ []) (one_module text x m z.0 is)
 only_module text m (x ∷ y ∷ ms) is z = absurd z.1
 
-one_rising : (k : List ℕ) → IsRising (k ∷ [])
+one_rising : (k : List ℕ) → IsStrictlySorted (k ∷ [])
 unfolding IsStrictlySortedBy
 one_rising k = (tt, tt)
 
@@ -129,7 +129,7 @@ module _ (m : Module) (c : Program) (u : IsUnion (m ∷ []) c) (sound : IsSound 
 
       by : (o : Meaning) → slice_get c.names k ≡ Some (meaning_text m b.0.0 o) → Means c t k (Primitive op) → means (body m) s n ≡ Primitive op
       by (Local y) f g = absurd (let z : Unbound ≡ Primitive op = sym (none_primitive c k (local_text b.0.0) f primitives (local_none b.0.0)) ∙ g.1 in cc)
-      by (Function h params) f g = absurd (let z : Unbound ≡ Primitive op = sym (none_primitive c k (global_text b.0.0 (home m h)) f primitives (global_clear b.0.0 (home m h)).primitive) ∙ g.1 in cc)
+      by (Function h params) f g = absurd (let z : Unbound ≡ Primitive op = sym (none_primitive c k (global_text b.0.0 (home_module m h)) f primitives (global_clear b.0.0 (home_module m h)).primitive) ∙ g.1 in cc)
       by (Primitive op') f g = as_here f g
       by Unbound f g = as_here f g
 

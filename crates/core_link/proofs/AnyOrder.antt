@@ -8,7 +8,7 @@ use Rattle.seq.proofs.Order.{compared}
 use Rattle.seq.proofs.Truth.{not_both}
 use Rattle.core_reader.specs.declared.syntax.Binder.{Binder}
 use Rattle.core_link.specs.Module.{Module, IsModuleText, text_in, name_of}
-use Rattle.core_link.specs.Rules.{IsUnbroken, InFile, NoMainModule, OfFiles, Between, DuplicateModule, UnknownModule, NotExported, DuplicateImport, UnknownName, AgainElsewhere, LacksMain, source}
+use Rattle.core_link.specs.Rules.{IsUnbroken, InFile, NoMainModule, OfFiles, BreaksInterModuleRule, DuplicateModule, UnknownModule, NotExported, DuplicateImport, UnknownName, AgainElsewhere, LacksMain, source}
 use Rattle.core_link.proofs.Moved.{Moved, moved, moved_back}
 use Rattle.core_link.proofs.Beside.{one_item, beside, beside_back, chosen, found, none_passes}
 use Rattle.core_link.proofs.InText.{one_module}
@@ -31,14 +31,14 @@ pub modules_of : (texts others : List (List ℕ)) (ms : List Module) → Moved o
 modules_of texts others ms m z = chosen IsModuleText others (λ i t e. let x = beside IsModuleText texts ms z (m.to i) t (m.there i t e) in (x.0, x.2))
 
 -- a module is known by its name
-pub one_named : (ns : List Module) → ((k file at : ℕ) → Between ns k file at → ⊥) → (i j : ℕ) (m o : Module) → slice_get ns i ≡ Some m → slice_get ns j ≡ Some o → name_of m ≡ name_of o → m ≡ o
+pub one_named : (ns : List Module) → ((k file at : ℕ) → BreaksInterModuleRule ns k file at → ⊥) → (i j : ℕ) (m o : Module) → slice_get ns i ≡ Some m → slice_get ns j ≡ Some o → name_of m ≡ name_of o → m ≡ o
 one_named ns none i j m o e f s = elim (compared i j) [
   | inl l ↦ absurd (none 52 j o.name.at (DuplicateModule f e l s))
   | inr h ↦ elim h [ inl same ↦ one_item (slice_get ns j) m o (sym (ap (slice_get ns) same) ∙ e) f | inr l ↦ absurd (none 52 i m.name.at (DuplicateModule e f l (sym s))) ]
 ]
 
 -- modules in two orders, of which the second breaks no rule
-module _ (ms ns : List Module) (there : Moved ms ns) (back : Moved ns ms) (none : (k file at : ℕ) → Between ns k file at → ⊥) where
+module _ (ms ns : List Module) (there : Moved ms ns) (back : Moved ns ms) (none : (k file at : ℕ) → BreaksInterModuleRule ns k file at → ⊥) where
   still_none : (m : Module) (from : Binder) → source ms m from ≡ None → (o : Option Module) → source ns m from ≡ o → source ns m from ≡ None
   still_none m from e None f = f
   still_none m from e (Some x) f =
@@ -55,7 +55,7 @@ module _ (ms ns : List Module) (there : Moved ms ns) (back : Moved ns ms) (none 
           let w = found (λ m'. bytes_eq (name_of m') (text_in m from.name.0)) ns x f in
           f ∙ ap (λ y. Some y) (one_named ns none w.0 (there.to i) x other w.1 (there.there i other g) (same_name x (text_in m from.name.0) w.2 ∙ sym (same_name other (text_in m from.name.0) h)))
 
-  pub none_between : (k file at : ℕ) → Between ms k file at → ⊥
+  pub none_between : (k file at : ℕ) → BreaksInterModuleRule ms k file at → ⊥
   none_between k file at (DuplicateModule {m = m} {other = other} {i = i} {j = j} e f l s) = elim (compared (there.to j) (there.to i)) [
     | inl g ↦ none 52 (there.to i) m.name.at (DuplicateModule (there.there i m e) (there.there j other f) g s)
     | inr h ↦ elim h [

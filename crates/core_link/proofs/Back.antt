@@ -8,9 +8,9 @@ use Rattle.core_reader.specs.Tree as tree
 use Rattle.core_reader.specs.Tree.{Program, Term, Terms, NoTerms, AndTerm, Application, Bind, Expr, App, Let, Case, Alts, NoAlts, AndAlt}
 use Rattle.core_print.specs.Renamed.{RenamedBinder, RenamedTerm, RenamedTerms, RenamedApp, RenamedBind, RenamedPattern, RenamedExpr, RenamedAlts, behind}
 use Rattle.arity_check.specs.Scope.{Scope}
-use Rattle.arity_check.specs.Standing.{count, Among, First, Later, Stands, AsName, AsCon, LoneHead, LoneBracket, InHead, InArgument, Contains, Whole, InItsHead, InItsArgs}
+use Rattle.arity_check.specs.Standing.{count, IsTermAmong, First, Later, HeadIsApplied, AsName, AsCon, LoneHead, LoneBracket, InHead, InArgument, Contains, Whole, InItsHead, InItsArgs}
 use Rattle.arity_check.specs.Patterns.{alt_at}
-use Rattle.arity_check.specs.Pieces.{Piece, AnApp, AGroup, SomeAlts, binders_of, bound_by, within, Has, TheApp, TheGroup, InMember, InBody, TheAlts, InTested, InAlts, HasAlts, InThis, InLater}
+use Rattle.arity_check.specs.Pieces.{FunctionPart, AnApp, AGroup, SomeAlts, binders_of, bound_by, within, Has, TheApp, TheGroup, InMember, InBody, TheAlts, InTested, InAlts, HasAlts, InThis, InLater}
 use Rattle.core_link.proofs.Beside.{beside_back}
 
 -- two programs, how their names go together (Renamed), and which scopes of theirs that relation's
@@ -51,10 +51,10 @@ module _ (p q : Program) {S : Type 0} (enter : List Binder → List Binder → S
 
     record LikeAmong (xs : Terms) (b : Term) : Type 0 where
       term : Term
-      among : Among term xs
+      among : IsTermAmong term xs
       like : RTerm c term b
 
-    among_back : (b : Term) (ys : Terms) → Among b ys → (xs : Terms) → RTerms c xs ys → LikeAmong xs b
+    among_back : (b : Term) (ys : Terms) → IsTermAmong b ys → (xs : Terms) → RTerms c xs ys → LikeAmong xs b
     among_back b ys First NoTerms r = absurd r
     among_back b ys First (AndTerm a xs) r = record { term = a; among = First; like = r.0 }
     among_back b ys (Later h) NoTerms r = absurd r
@@ -62,13 +62,13 @@ module _ (p q : Program) {S : Type 0} (enter : List Binder → List Binder → S
 
     pub record StandsLike (a : Term) (xs : Terms) (h : Term) (k : ℕ) : Type 0 where
       pub head : Term
-      pub stands : Stands a xs head k
+      pub stands : HeadIsApplied a xs head k
       pub like : RTerm c head h
 
-    stands_back : (b h : Term) (ys : Terms) (k : ℕ) → Stands b ys h k → (a : Term) (xs : Terms) → RTerm c a b → RTerms c xs ys → StandsLike a xs h k
-    stands_back b h ys k (AsName {x = x} {at = to}) (tree.Name n at) xs r rs = record { head = tree.Name n at; stands = subst (Stands (tree.Name n at) xs (tree.Name n at)) (count_like xs ys rs) AsName; like = r }
+    stands_back : (b h : Term) (ys : Terms) (k : ℕ) → HeadIsApplied b ys h k → (a : Term) (xs : Terms) → RTerm c a b → RTerms c xs ys → StandsLike a xs h k
+    stands_back b h ys k (AsName {x = x} {at = to}) (tree.Name n at) xs r rs = record { head = tree.Name n at; stands = subst (HeadIsApplied (tree.Name n at) xs (tree.Name n at)) (count_like xs ys rs) AsName; like = r }
     stands_back b h ys k (AsName {x = x} {at = to}) a xs r rs = absurd r
-    stands_back b h ys k (AsCon {c = d} {at = to}) (tree.Con n at) xs r rs = record { head = tree.Con n at; stands = subst (Stands (tree.Con n at) xs (tree.Con n at)) (count_like xs ys rs) AsCon; like = r }
+    stands_back b h ys k (AsCon {c = d} {at = to}) (tree.Con n at) xs r rs = record { head = tree.Con n at; stands = subst (HeadIsApplied (tree.Con n at) xs (tree.Con n at)) (count_like xs ys rs) AsCon; like = r }
     stands_back b h ys k (AsCon {c = d} {at = to}) a xs r rs = absurd r
     stands_back b h ys k (LoneHead {head = g} s) (tree.Bracket f NoTerms at) xs r rs = let w = stands_back g h ys k s f xs r.0 rs in record { head = w.head; stands = LoneHead w.stands; like = w.like }
     stands_back b h ys k (LoneHead {head = g} s) (tree.Bracket f (AndTerm z zs) at) xs r rs = absurd r.1
@@ -113,9 +113,9 @@ module _ (p q : Program) {S : Type 0} (enter : List Binder → List Binder → S
         let u = among_back (tree.Bracket g ys to) there.args i app.args r.1 in
         let v = bracket_before u.term g ys to u.like in
         let w = contains_back (record { head = g; args = ys }) inner h (record { head = v.head; args = v.args }) (v.like, v.likes) in
-        record { part = w.part; contains = InItsArgs (subst (λ a. Among a app.args) v.is u.among) w.contains; like = w.like }
+        record { part = w.part; contains = InItsArgs (subst (λ a. IsTermAmong a app.args) v.is u.among) w.contains; like = w.like }
 
-    pub stands_like : (app there : Application) (h : Term) (k : ℕ) → RApp c app there → Stands there.head there.args h k → StandsLike app.head app.args h k
+    pub stands_like : (app there : Application) (h : Term) (k : ℕ) → RApp c app there → HeadIsApplied there.head there.args h k → StandsLike app.head app.args h k
     stands_like app there h k r s = stands_back there.head h there.args k s app.head app.args r.0 r.1
 
     -- ---- alternatives
@@ -134,24 +134,24 @@ module _ (p q : Program) {S : Type 0} (enter : List Binder → List Binder → S
 
   -- ---- pieces of a function
 
-  abbrev pub LikePiece : S → Piece → Piece → Type 0
+  abbrev pub LikePiece : S → FunctionPart → FunctionPart → Type 0
   LikePiece c (AnApp a) (AnApp b) = RApp c a b
   LikePiece c (AGroup group) (AGroup others) = AllZip (RBind (enter (binders_of group) (binders_of others) c)) group others
   LikePiece c (SomeAlts xs) (SomeAlts ys) = RAlts c xs ys
   LikePiece c a b = ⊥
 
-  pub record HasLike (s : Scope) (e : Expr) (t : Scope) (there : Piece) : Type 0 where
+  pub record HasLike (s : Scope) (e : Expr) (t : Scope) (there : FunctionPart) : Type 0 where
     pub context : S
     pub scope : Scope
-    pub piece : Piece
+    pub piece : FunctionPart
     pub has : Has p s e scope piece
     pub fits : Fits context scope t
     pub like : LikePiece context piece there
 
-  record HasAltsLike (s : Scope) (alts : Alts) (t : Scope) (there : Piece) : Type 0 where
+  record HasAltsLike (s : Scope) (alts : Alts) (t : Scope) (there : FunctionPart) : Type 0 where
     context : S
     scope : Scope
-    piece : Piece
+    piece : FunctionPart
     has : HasAlts p s alts scope piece
     fits : Fits context scope t
     like : LikePiece context piece there
@@ -188,7 +188,7 @@ module _ (p q : Program) {S : Type 0} (enter : List Binder → List Binder → S
     group_fits c s t group others r fits = entered c s t (binders_of group) (binders_of others) (group_binders (enter (binders_of group) (binders_of others) c) group others r) fits
 
     mutual
-      pub has_back : {t out : Scope} {d : Expr} {there : Piece} → Has q t d out there → (c : S) (s : Scope) (e : Expr) → Fits c s t → RExpr c e d → HasLike s e out there
+      pub has_back : {t out : Scope} {d : Expr} {there : FunctionPart} → Has q t d out there → (c : S) (s : Scope) (e : Expr) → Fits c s t → RExpr c e d → HasLike s e out there
       has_back TheApp c s (App a) fits r = record { context = c; scope = s; piece = AnApp a; has = TheApp; fits = fits; like = r }
       has_back TheApp c s e fits r = absurd r
       has_back TheGroup c s (Let group e) fits r = record { context = c; scope = s; piece = AGroup group; has = TheGroup; fits = fits; like = r.0 }
@@ -209,7 +209,7 @@ module _ (p q : Program) {S : Type 0} (enter : List Binder → List Binder → S
       has_back (InAlts h) c s (Case e alts) fits r = let w = alts_back h c s alts fits r.1 in record { context = w.context; scope = w.scope; piece = w.piece; has = InAlts w.has; fits = w.fits; like = w.like }
       has_back (InAlts h) c s e fits r = absurd r
 
-      alts_back : {t out : Scope} {others : Alts} {there : Piece} → HasAlts q t others out there → (c : S) (s : Scope) (alts : Alts) → Fits c s t → RAlts c alts others → HasAltsLike s alts out there
+      alts_back : {t out : Scope} {others : Alts} {there : FunctionPart} → HasAlts q t others out there → (c : S) (s : Scope) (alts : Alts) → Fits c s t → RAlts c alts others → HasAltsLike s alts out there
       alts_back (InThis h) c s NoAlts fits r = absurd r
       alts_back {t = t} (InThis {pat = b} h) c s (AndAlt a e rest) fits r =
           let w = has_back h (behind enter OfBinder OfCon OfUse a b c) (within p (bound_by a) s) e (behind_fits c s t a b r.0 fits) r.1 in

@@ -6,15 +6,15 @@ use Rattle.std.specs.List.{AllZip}
 use Rattle.std.specs.Str.{bytes_eq}
 use Rattle.std.proofs.lemmas.List.{append-nil}
 use Rattle.core_reader.specs.declared.dialect.Dialect.TheVariants.{Core, Modules}
-use Rattle.core_reader.specs.declared.look.Kind.{Kind}
-use Rattle.core_reader.specs.declared.look.Kind.TheVariants.{Lower, Upper, Digits, Sign}
+use Rattle.core_reader.specs.declared.look.TokenKind.{TokenKind}
+use Rattle.core_reader.specs.declared.look.TokenKind.TheVariants.{Lower, Upper, Digits, Sign}
 use Rattle.core_reader.specs.declared.look.Sign as sign
 use Rattle.core_reader.specs.declared.look.Sign.TheVariants as signs
 use Rattle.core_reader.specs.declared.token.Token.TheVariants as word
 use Rattle.core_reader.specs.declared.token.Further.TheVariants as further
-use Rattle.core_reader.specs.Grammar.{anywhere, name_id, constructors_of, functions_of}
+use Rattle.core_reader.specs.Grammar.{unlimited_nesting, name_id, constructors_of, functions_of}
 use Rattle.core_reader.specs.TokensOf.{Piece, Reads, Stops, Passes, Takes, Longest, IsTokens, kind_of}
-use Rattle.core_reader.specs.WordsOf.{said, said_by, said_by_letters, sign_token, number_in}
+use Rattle.core_reader.specs.WordsOf.{said, said_by, keyword_or_name, sign_token, number_in}
 use Rattle.core_reader.specs.NamesOf.{names_of, is_numbered_by}
 use Rattle.core_reader.specs.Programs.{IsText}
 use Rattle.core_reader.specs.Tree.{Program}
@@ -23,7 +23,7 @@ use Rattle.core_reader.proofs.OnlyOne.{one_program, one_tokens}
 use Rattle.core_reader.proofs.Readability.{at_number}
 use Rattle.core_reader.proofs.Unique.{goes_on, stuck, join}
 use Rattle.core_print.specs.Same.{SameData, SameFunction, SameProgram}
-use Rattle.core_link.specs.Laws.{IsHeaded}
+use Rattle.core_link.specs.Laws.{SplitsAtHeader}
 use Rattle.core_link.specs.Module.{Module, IsModuleText, body}
 use Rattle.core_link.proofs.Again.{Like, AreLike, decls_again}
 
@@ -34,7 +34,7 @@ same_kind [] = refl
 same_kind (b ∷ []) = refl
 same_kind (b ∷ c ∷ bs) = refl
 
-longest_in_core : (n : ℕ) (bytes : List ℕ) (kind : Kind) → Longest Modules n bytes kind → Longest Core n bytes kind
+longest_in_core : (n : ℕ) (bytes : List ℕ) (kind : TokenKind) → Longest Modules n bytes kind → Longest Core n bytes kind
 longest_in_core n bytes kind l = record {
   within = l.within;
   is_token = sym (same_kind (take n bytes)) ∙ l.is_token;
@@ -71,8 +71,8 @@ module _ (names others : Texts) where
     words_like : (b1 b2 b3 b4 b5 b6 b7 b8 : Bool)
         → (is_none (cond b1 (Some word.Data) (cond b2 (Some word.Let) (cond b3 (Some word.In) (cond b4 (Some word.Case) (cond b5 (Some word.Of) (cond b6 (Some (word.Further further.Module)) (cond b7 (Some (word.Further further.Export)) (cond b8 (Some (word.Further further.Import)) None)))))))) ≡ true → has names w ≡ true)
         → (is_none (cond b1 (Some word.Data) (cond b2 (Some word.Let) (cond b3 (Some word.In) (cond b4 (Some word.Case) (cond b5 (Some word.Of) None))))) ≡ true → has others w ≡ true)
-        → Like names others (said_by_letters names w (cond b1 (Some word.Data) (cond b2 (Some word.Let) (cond b3 (Some word.In) (cond b4 (Some word.Case) (cond b5 (Some word.Of) (cond b6 (Some (word.Further further.Module)) (cond b7 (Some (word.Further further.Export)) (cond b8 (Some (word.Further further.Import)) None)))))))))
-        (said_by_letters others w (cond b1 (Some word.Data) (cond b2 (Some word.Let) (cond b3 (Some word.In) (cond b4 (Some word.Case) (cond b5 (Some word.Of) None))))))
+        → Like names others (keyword_or_name names w (cond b1 (Some word.Data) (cond b2 (Some word.Let) (cond b3 (Some word.In) (cond b4 (Some word.Case) (cond b5 (Some word.Of) (cond b6 (Some (word.Further further.Module)) (cond b7 (Some (word.Further further.Export)) (cond b8 (Some (word.Further further.Import)) None)))))))))
+        (keyword_or_name others w (cond b1 (Some word.Data) (cond b2 (Some word.Let) (cond b3 (Some word.In) (cond b4 (Some word.Case) (cond b5 (Some word.Of) None))))))
     words_like true b2 b3 b4 b5 b6 b7 b8 h g = refl
     words_like false true b3 b4 b5 b6 b7 b8 h g = refl
     words_like false false true b4 b5 b6 b7 b8 h g = refl
@@ -95,7 +95,7 @@ module _ (names others : Texts) where
     sign_like signs.Bar = tt
     sign_like signs.Colon = tt
 
-    kind_like : (k : Option Kind) → (is_numbered_by Modules w k ≡ true → has names w ≡ true) → (is_numbered_by Core w k ≡ true → has others w ≡ true) → Like names others (said_by Modules names w k) (said_by Core others w k)
+    kind_like : (k : Option TokenKind) → (is_numbered_by Modules w k ≡ true → has names w ≡ true) → (is_numbered_by Core w k ≡ true → has others w ≡ true) → Like names others (said_by Modules names w k) (said_by Core others w k)
     kind_like None h g = refl
     kind_like (Some Lower) h g =
         words_like (bytes_eq w (codes "data")) (bytes_eq w (codes "let")) (bytes_eq w (codes "in")) (bytes_eq w (codes "case")) (bytes_eq w (codes "of")) (bytes_eq w (codes "module")) (bytes_eq w (codes "export")) (bytes_eq w (codes "import")) h g
@@ -123,14 +123,14 @@ held_behind names (u ∷ us) vs h = held_behind names us vs h.1
 
 -- ---- the program
 
-pub same_behind : (text rest : List ℕ) (m : Module) (p : Program) → IsModuleText text m → IsHeaded text rest m → IsText rest p → SameProgram (body m) p
+pub same_behind : (text rest : List ℕ) (m : Module) (p : Program) → IsModuleText text m → SplitsAtHeader text rest m → IsText rest p → SameProgram (body m) p
 same_behind text rest m p is split stands =
     let all : is.pieces ≡ split.header ++ split.behind = one_tokens text is.pieces (split.header ++ split.behind) is.tokens (join split.header_reads split.behind_reads) in
     let named : m.names ≡ names_of Modules (split.header ++ split.behind) = is.program.spelled.names ∙ ap (names_of Modules) all in
     let held : EachHeld Modules m.names split.behind = held_behind m.names split.header split.behind (subst (λ v. EachHeld Modules v (split.header ++ split.behind)) (sym named) (each_held Modules [] (split.header ++ split.behind))) in
     let there : EachHeld Core p.names stands.pieces = subst (λ v. EachHeld Core v stands.pieces) (sym stands.program.names) (each_held Core [] stands.pieces) in
     let like : AreLike m.names p.names (map (said Modules m.names) split.behind) (map (said Core p.names) stands.pieces) = pieces_like m.names p.names split.behind stands.pieces (core_pieces split.behind_reads stands.pieces stands.tokens) held there in
-    let again = decls_again m.names p.names anywhere split.decls (map (said Modules m.names) split.behind) (map (said Core p.names) stands.pieces) split.spelled like in
+    let again = decls_again m.names p.names unlimited_nesting split.decls (map (said Modules m.names) split.behind) (map (said Core p.names) stands.pieces) split.spelled like in
     let q : Program = record { names = p.names; constructors = constructors_of again.decls; functions = functions_of again.decls } in
     let is_q : IsText rest q = record { pieces = stands.pieces; tokens = stands.tokens; program = record { names = stands.program.names; decls = again.decls; constructors = refl; functions = refl; spelled = again.spelled } } in
     subst (SameProgram (body m)) (one_program rest q p is_q stands) (record {

@@ -5,12 +5,12 @@ use Rattle.seq.proofs.Lists.{some_is}
 use Rattle.core_reader.specs.declared.syntax.Binder.{Binder}
 use Rattle.core_reader.specs.Tree.{Data}
 use Rattle.arity_check.specs.Broken as program
-use Rattle.core_link.specs.declared.imports.Taking.{Taking}
+use Rattle.core_link.specs.declared.imports.ImportFaults.{ImportFaults}
 use Rattle.core_link.specs.Module.{Module, Import, text_in, name_of, imported, seen}
-use Rattle.core_link.specs.Rules.{Between, IsExported, module_named, source}
+use Rattle.core_link.specs.Rules.{BreaksInterModuleRule, IsExported, module_named, source}
 use Rattle.core_link.specs.Rules as rules
-use Rattle.core_link.specs.Found.{IsFirstAt, IsFirstOf, sooner, earlier_if, earliest}
-use Rattle.core_link.specs.Shared.{Retakes, IsTaking, has, exports_text, constructor_texts, declares}
+use Rattle.core_link.specs.Found.{IsFirstPlaceWhere, NamesFirstBrokenRule, sooner, earlier_place_if, earliest}
+use Rattle.core_link.specs.Shared.{ImportsTakenName, AreImportFaults, has, exports_text, constructor_texts, declares}
 use Rattle.core_link.proofs.Firsts.{And, sooner_first, same_of, PassedAt, first_passed}
 use Rattle.core_link.proofs.Places.{any_at, at_any, taken_at, at_taken, has_at, at_has}
 
@@ -38,7 +38,7 @@ module _ (ms : List Module) (file : ℕ) (m : Module) (is : slice_get ms file �
   earlier = take file ms
 
   abbrev Found : (k at : ℕ) → Type 0
-  Found k at = Between ms k file at
+  Found k at = BreaksInterModuleRule ms k file at
 
   -- the file is this one
   one_module_at : (q : Module) → slice_get ms file ≡ Some q → q ≡ m
@@ -64,7 +64,7 @@ module _ (ms : List Module) (file : ℕ) (m : Module) (is : slice_get ms file �
       let same : q ≡ m = one_module_at q e in
       record { again = at_has name_of earlier (name_of m) j other (at_taken file ms j other l f) (s ∙ ap name_of same); place = ap (λ (w : Module). w.name.at) (sym same) }
 
-  first_by : (b : Bool) → named_again ≡ b → IsFirstAt NamedAgain (earlier_if b None m.name.at)
+  first_by : (b : Bool) → named_again ≡ b → IsFirstPlaceWhere NamedAgain (earlier_place_if b None m.name.at)
   first_by true e = (record { again = e; place = refl }, λ at w. let p = w.place in omega (arith, p))
   first_by false e = λ at w. never (sym e ∙ w.again)
     where
@@ -123,13 +123,13 @@ module _ (ms : List Module) (file : ℕ) (m : Module) (is : slice_get ms file �
 
   -- ---- 56 and 57
 
-  to_56 : (at : ℕ) → Retakes m at → Found 56 at
+  to_56 : (at : ℕ) → ImportsTakenName m at → Found 56 at
   to_56 at w = subst (Found 56) w.place (rules.DuplicateImport w.number is w.is w.taken)
 
-  from_56 : (q : Module) (n : ℕ) (x : Binder × Binder) → slice_get ms file ≡ Some q → rules.IsImported q n x → rules.IsTaken q n x.1 → Retakes m x.1.at
+  from_56 : (q : Module) (n : ℕ) (x : Binder × Binder) → slice_get ms file ≡ Some q → rules.IsImported q n x → rules.NameIsTaken q n x.1 → ImportsTakenName m x.1.at
   from_56 q n x e i t =
       let same : q ≡ m = one_module_at q e in
-      subst (λ (w : Module). Retakes w x.1.at) same (record { number = n; name = x; is = i; taken = t; place = refl })
+      subst (λ (w : Module). ImportsTakenName w x.1.at) same (record { number = n; name = x; is = i; taken = t; place = refl })
 
   -- ---- 58
 
@@ -170,7 +170,7 @@ module _ (ms : List Module) (file : ℕ) (m : Module) (is : slice_get ms file �
   Third = And Second 54 (PassedAt is_lacking name_place (imported m))
 
   abbrev Fourth : ℕ → ℕ → Type 0
-  Fourth = And Third 56 (Retakes m)
+  Fourth = And Third 56 (ImportsTakenName m)
 
   abbrev Fifth : ℕ → ℕ → Type 0
   Fifth = And Fourth 57 (program.Broken (seen m) 14)
@@ -224,29 +224,29 @@ module _ (ms : List Module) (file : ℕ) (m : Module) (is : slice_get ms file �
   unfolding nowhere
   never k at h = absurd h
 
-  none_of : IsFirstOf nowhere None
+  none_of : NamesFirstBrokenRule nowhere None
   unfolding nowhere
   none_of = λ k at h. h
 
   -- what the code finds in the file
-  abbrev pub found_in : Taking → Option (ℕ × ℕ)
+  abbrev pub found_in : ImportFaults → Option (ℕ × ℕ)
   found_in t =
-      sooner (sooner (sooner (sooner (sooner (sooner None 52 (earlier_if named_again None m.name.at))
+      sooner (sooner (sooner (sooner (sooner (sooner None 52 (earlier_place_if named_again None m.name.at))
       53 (earliest is_unknown import_place None m.imports))
       54 (earliest is_lacking name_place None (imported m)))
       56 t.again) 57 t.unknown) 58 (earliest is_again data_place None m.constructors)
 
-  pub between_first : (t : Taking) → IsTaking m t → IsFirstOf Found (found_in t)
+  pub between_first : (t : ImportFaults) → AreImportFaults m t → NamesFirstBrokenRule Found (found_in t)
   between_first t h =
-      let o1 : Option (ℕ × ℕ) = sooner None 52 (earlier_if named_again None m.name.at) in
+      let o1 : Option (ℕ × ℕ) = sooner None 52 (earlier_place_if named_again None m.name.at) in
       let o2 : Option (ℕ × ℕ) = sooner o1 53 (earliest is_unknown import_place None m.imports) in
       let o3 : Option (ℕ × ℕ) = sooner o2 54 (earliest is_lacking name_place None (imported m)) in
       let o4 : Option (ℕ × ℕ) = sooner o3 56 t.again in
       let o5 : Option (ℕ × ℕ) = sooner o4 57 t.unknown in
-      let h1 : IsFirstOf First o1 = sooner_first nowhere 52 NamedAgain None (earlier_if named_again None m.name.at) never none_of (first_by named_again refl) in
-      let h2 : IsFirstOf Second o2 = sooner_first First 53 (PassedAt is_unknown import_place m.imports) o1 (earliest is_unknown import_place None m.imports) (λ k at p. let l = below_first k at p in omega (arith, l)) h1 (first_passed is_unknown import_place m.imports) in
-      let h3 : IsFirstOf Third o3 = sooner_first Second 54 (PassedAt is_lacking name_place (imported m)) o2 (earliest is_lacking name_place None (imported m)) (λ k at p. let l = below_second k at p in omega (arith, l)) h2 (first_passed is_lacking name_place (imported m)) in
-      let h4 : IsFirstOf Fourth o4 = sooner_first Third 56 (Retakes m) o3 t.again (λ k at p. let l = below_third k at p in omega (arith, l)) h3 h.again in
-      let h5 : IsFirstOf Fifth o5 = sooner_first Fourth 57 (program.Broken (seen m) 14) o4 t.unknown (λ k at p. let l = below_fourth k at p in omega (arith, l)) h4 h.unknown in
+      let h1 : NamesFirstBrokenRule First o1 = sooner_first nowhere 52 NamedAgain None (earlier_place_if named_again None m.name.at) never none_of (first_by named_again refl) in
+      let h2 : NamesFirstBrokenRule Second o2 = sooner_first First 53 (PassedAt is_unknown import_place m.imports) o1 (earliest is_unknown import_place None m.imports) (λ k at p. let l = below_first k at p in omega (arith, l)) h1 (first_passed is_unknown import_place m.imports) in
+      let h3 : NamesFirstBrokenRule Third o3 = sooner_first Second 54 (PassedAt is_lacking name_place (imported m)) o2 (earliest is_lacking name_place None (imported m)) (λ k at p. let l = below_second k at p in omega (arith, l)) h2 (first_passed is_lacking name_place (imported m)) in
+      let h4 : NamesFirstBrokenRule Fourth o4 = sooner_first Third 56 (ImportsTakenName m) o3 t.again (λ k at p. let l = below_third k at p in omega (arith, l)) h3 h.again in
+      let h5 : NamesFirstBrokenRule Fifth o5 = sooner_first Fourth 57 (program.Broken (seen m) 14) o4 t.unknown (λ k at p. let l = below_fourth k at p in omega (arith, l)) h4 h.unknown in
       same_of Sixth Found to_all from_all (found_in t)
       (sooner_first Fifth 58 (PassedAt is_again data_place m.constructors) o5 (earliest is_again data_place None m.constructors) (λ k at p. let l = below_fifth k at p in omega (arith, l)) h5 (first_passed is_again data_place m.constructors))

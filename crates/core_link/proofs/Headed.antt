@@ -6,7 +6,7 @@ use Rattle.core_reader.specs.declared.token.Token.TheVariants as word
 use Rattle.core_reader.specs.declared.token.Lexeme.{Lexeme}
 use Rattle.core_reader.specs.declared.refusal.ReadRefusal.{ReadRefusal}
 use Rattle.core_reader.specs.declared.refusal.ReadRefusal.TheVariants as refusal
-use Rattle.core_reader.specs.Grammar.{anywhere, at_most_200, lexeme, Decl, SpellsDecls, constructors_of, functions_of}
+use Rattle.core_reader.specs.Grammar.{unlimited_nesting, at_most_200, lexeme, Decl, SpellsDecls, constructors_of, functions_of}
 use Rattle.core_reader.specs.TokensOf.{Piece, Reads, IsTokens, kind_of}
 use Rattle.core_reader.specs.WordsOf.{said, written_number, IsInRange}
 use Rattle.core_reader.specs.NamesOf.{names_of}
@@ -26,8 +26,8 @@ use Rattle.core_reader.proofs.OnlyOne.{one_tokens}
 use Rattle.core_reader.proofs.Unique.{goes_on, join, split, ends_at}
 use Rattle.core_reader.proofs.Answers.{few, found_by, refused_by}
 use Rattle.core_reader.proofs.Readability.{readable}
-use Rattle.core_link.specs.Laws.{IsHeaded, HasProgram, EachHasProgram}
-use Rattle.core_link.specs.Module.{Module, IsModuleText, IsNamedPlainly, IsRead, IsReadCause, SpellsHead, head_of}
+use Rattle.core_link.specs.Laws.{SplitsAtHeader, HasProgram, ModuleTextHasProgram}
+use Rattle.core_link.specs.Module.{Module, IsModuleText, IsNamedPlainly, BreaksNoReadingRule, IsReadCause, SpellsHead, module_header_of}
 use Rattle.core_link.specs.Heading.{Start, run}
 use Rattle.core_link.proofs.LittleRoom.{are_tokens, in_little}
 use Rattle.core_link.proofs.Reading.{module_laws, with_head, header_runs, begins_declaring}
@@ -79,20 +79,20 @@ range_alike (v ∷ vs) (w ∷ ws) z h = (
   range_alike vs ws z.1 h.1,
 )
 
-module _ (text : List ℕ) (m : Module) (read : IsRead text) where
+module _ (text : List ℕ) (m : Module) (read : BreaksNoReadingRule text) where
   short_text : length text ≤ 1048576
   short_text = short text read _ refl
 
-  short_behind : (rest : List ℕ) → IsHeaded text rest m → length rest ≤ 1048576
+  short_behind : (rest : List ℕ) → SplitsAtHeader text rest m → length rest ≤ 1048576
   short_behind rest h = let e = ends_at h.header_reads in omega (arith, e, short_text)
 
-  behind_in_range : (rest : List ℕ) (h : IsHeaded text rest m) → AreInRange Modules h.behind
+  behind_in_range : (rest : List ℕ) (h : SplitsAtHeader text rest m) → AreInRange Modules h.behind
   behind_in_range rest h = all_in_range text read h.header h.behind (join h.header_reads h.behind_reads)
 
   -- a program behind the header is readable
-  pub readable_behind : (rest : List ℕ) (p : Program) → IsHeaded text rest m → IsText rest p → IsReadable p
+  pub readable_behind : (rest : List ℕ) (p : Program) → SplitsAtHeader text rest m → IsText rest p → IsReadable p
   readable_behind rest p h stands =
-      readable anywhere p stands.pieces stands.program (range_alike h.behind stands.pieces (core_pieces h.behind_reads stands.pieces stands.tokens) (behind_in_range rest h))
+      readable unlimited_nesting p stands.pieces stands.program (range_alike h.behind stands.pieces (core_pieces h.behind_reads stands.pieces stands.tokens) (behind_in_range rest h))
       (few rest stands.pieces (length rest) [] (short_behind rest h) stands.tokens)
 
   module _ (is : IsModuleText text m) where
@@ -135,7 +135,7 @@ module _ (text : List ℕ) (m : Module) (read : IsRead text) where
 
     record Beheaded : Type 0 where
       rest : List ℕ
-      headed : IsHeaded text rest m
+      headed : SplitsAtHeader text rest m
       -- with little room
       shallow : SpellsDecls at_most_200 headed.decls (map (said Modules m.names) headed.behind)
 
@@ -146,10 +146,10 @@ module _ (text : List ℕ) (m : Module) (read : IsRead text) where
         let cut = split w.front w.behind (subst (λ v. Reads Modules 0 text v (length text) []) w.whole is.tokens) in
         let names = m.names in
         let decls = is.program.spelled.decls in
-        let spelled : SpellsDecls anywhere decls (map (said Modules names) w.behind) = subst (SpellsDecls anywhere decls) (sym w.second) s.3 in
+        let spelled : SpellsDecls unlimited_nesting decls (map (said Modules names) w.behind) = subst (SpellsDecls unlimited_nesting decls) (sym w.second) s.3 in
         let tail = map (said Modules names) w.behind ++ last ∷ [] in
         let split_up : lexemes ≡ s.0 ++ tail = ap (λ v. v ++ last ∷ []) s.4 ∙ append_assoc s.0 s.1 (last ∷ []) ∙ ap (λ v. s.0 ++ (v ++ last ∷ [])) (sym w.second) in
-        let runs : run Start lexemes ≡ with_head (head_of m) (core.run at_most_200 (core.top []) tail) = ap (run Start) split_up ∙ header_runs at_most_200 (head_of m) s.0 tail s.2 (begins_declaring anywhere decls (map (said Modules names) w.behind) (length text) [] spelled) in
+        let runs : run Start lexemes ≡ with_head (module_header_of m) (core.run at_most_200 (core.top []) tail) = ap (run Start) split_up ∙ header_runs at_most_200 (module_header_of m) s.0 tail s.2 (begins_declaring unlimited_nesting decls (map (said Modules names) w.behind) (length text) [] spelled) in
         record {
           rest = cut.between;
           headed = record {
@@ -161,10 +161,10 @@ module _ (text : List ℕ) (m : Module) (read : IsRead text) where
             decls = decls;
             constructors = is.program.spelled.constructors;
             functions = is.program.spelled.functions;
-            head = subst (SpellsHead (head_of m)) (sym w.first) s.2;
+            head = subst (SpellsHead (module_header_of m)) (sym w.first) s.2;
             spelled = spelled;
           };
-          shallow = in_little declared_read m.names (length text) w.behind decls cut.after spelled (core.run at_most_200 (core.top []) tail) refl (λ e f. goes_well {A = ⊥} e (runs ∙ ap (with_head (head_of m)) f));
+          shallow = in_little declared_read m.names (length text) w.behind decls cut.after spelled (core.run at_most_200 (core.top []) tail) refl (λ e f. goes_well {A = ⊥} e (runs ∙ ap (with_head (module_header_of m)) f));
         }
 
     -- ---- the program
@@ -181,10 +181,10 @@ module _ (text : List ℕ) (m : Module) (read : IsRead text) where
         let named : m.names ≡ names_of Modules (h.header ++ h.behind) = is.program.spelled.names ∙ ap (names_of Modules) all in
         let held : EachHeld Modules m.names h.behind = held_behind m.names h.header h.behind (subst (λ v. EachHeld Modules v (h.header ++ h.behind)) (sym named) (each_held Modules [] (h.header ++ h.behind))) in
         let like : AreLike m.names names (map (said Modules m.names) h.behind) (map (said Core names) there.pieces) = pieces_like m.names names h.behind there.pieces there.alike held (each_held Core [] there.pieces) in
-        let loose = decls_again m.names names anywhere h.decls (map (said Modules m.names) h.behind) (map (said Core names) there.pieces) h.spelled like in
+        let loose = decls_again m.names names unlimited_nesting h.decls (map (said Modules m.names) h.behind) (map (said Core names) there.pieces) h.spelled like in
         let tight = decls_again m.names names at_most_200 h.decls (map (said Modules m.names) h.behind) (map (said Core names) there.pieces) b.shallow like in
         let p : Program = record { names = names; constructors = constructors_of loose.decls; functions = functions_of loose.decls } in
-        let program : IsProgram anywhere p there.pieces = record { names = refl; decls = loose.decls; constructors = refl; functions = refl; spelled = loose.spelled } in
+        let program : IsProgram unlimited_nesting p there.pieces = record { names = refl; decls = loose.decls; constructors = refl; functions = refl; spelled = loose.spelled } in
         let end_token = lexeme (length b.rest) word.End in
         let lexed : IsLexed Core b.rest (map (said Core names) there.pieces ++ end_token ∷ []) names = record {
           pieces = there.pieces;
@@ -208,5 +208,5 @@ module _ (text : List ℕ) (m : Module) (read : IsRead text) where
           same = same_behind text b.rest m p is h found.is_text;
         }
 
-pub each_has_program : EachHasProgram
+pub each_has_program : ModuleTextHasProgram
 each_has_program text m read is = program_behind text m read is

@@ -10,7 +10,7 @@ use Rattle.arity_check.specs.declared.meaning.Meaning.{Meaning}
 use Rattle.arity_check.specs.declared.meaning.Meaning.TheVariants as stands
 use Rattle.arity_check.specs.Scope.{Scope, means, is_named, primitives, primitive_from, function_from, found_in, unless_primitive}
 use Rattle.core_link.specs.Module.{Module, text_in, name_of, seen, imported_functions, as_function}
-use Rattle.core_link.specs.Union.{global_text, home, import_home}
+use Rattle.core_link.specs.Union.{global_text, home_module, import_home}
 use Rattle.core_link.specs.Renaming.{declared_texts, imported_text, function_texts}
 
 -- ---- parts of lists
@@ -85,10 +85,10 @@ module _ (p : Program) where
 -- ---- its text
 
 module _ (m : Module) where
-  declared_home : (g : ℕ) → g < length m.functions → home m g ≡ name_of m
+  declared_home : (g : ℕ) → g < length m.functions → home_module m g ≡ name_of m
   declared_home g h = ap (λ b. if b then name_of m else import_home m (slice_get (imported_functions m) (g - length m.functions))) (lt-ltb g (length m.functions) h)
 
-  imported_home : (g j : ℕ) (i : Binder × Binder) → g ≡ length m.functions + j → slice_get (imported_functions m) j ≡ Some i → home m g ≡ text_in m i.0.name.0
+  imported_home : (g j : ℕ) (i : Binder × Binder) → g ≡ length m.functions + j → slice_get (imported_functions m) j ≡ Some i → home_module m g ≡ text_in m i.0.name.0
   imported_home g j i e is = elim (two_ways (nat_lt g (length m.functions))) [
     | inl y ↦ absurd (omega (arith, e, ltb-true g (length m.functions) y))
     | inr n ↦
@@ -108,7 +108,7 @@ module _ (m : Module) where
       let at = get_right (declared_texts m) (map (imported_text m) (imported_functions m)) j (imported_text m i) (map_get (imported_text m) (imported_functions m) j i is) in
       ap (slice_get (function_texts m)) (e ∙ ap (λ n. n + j) (sym (length_map (λ (f : Function). global_text (text_in m f.name) (name_of m)) m.functions))) ∙ at
 
-  by_part : (x g : ℕ) (f : Function) → f.name ≡ x → (slice_get m.functions g ≡ Some f) ⊎ GetRight m.functions (map as_function (imported_functions m)) g f → slice_get (function_texts m) g ≡ Some (global_text (text_in m x) (home m g))
+  by_part : (x g : ℕ) (f : Function) → f.name ≡ x → (slice_get m.functions g ≡ Some f) ⊎ GetRight m.functions (map as_function (imported_functions m)) g f → slice_get (function_texts m) g ≡ Some (global_text (text_in m x) (home_module m g))
   by_part x g f n (inl e) =
       declared_text g f e ∙ ap Some (ap (λ v. global_text (text_in m v) (name_of m)) n ∙ ap (global_text (text_in m x)) (sym (declared_home g (get_within m.functions g f e))))
   by_part x g f n (inr r) =
@@ -117,7 +117,7 @@ module _ (m : Module) where
       imported_at g r.place b.0 r.sum b.1 ∙ ap Some (ap (λ v. global_text (text_in m v) (text_in m b.0.0.name.0)) named ∙ ap (global_text (text_in m x)) (sym (imported_home g r.place b.0 r.sum b.1)))
 
   -- what a name stands for at a place has this text
-  pub function_text : (s : Scope) (x g params : ℕ) → means (seen m) s x ≡ stands.Function g params → slice_get (function_texts m) g ≡ Some (global_text (text_in m x) (home m g))
+  pub function_text : (s : Scope) (x g params : ℕ) → means (seen m) s x ≡ stands.Function g params → slice_get (function_texts m) g ≡ Some (global_text (text_in m x) (home_module m g))
   function_text s x g params e =
       let r = means_at (seen m) s x g params e in
       let at : slice_get (seen m).functions g ≡ Some r.function = ap (slice_get (seen m).functions) (r.sum ∙ zero_plus r.place) ∙ r.is in

@@ -9,9 +9,9 @@ use Rattle.arity_check.proofs.Names.{same_bytes}
 use Rattle.core_reader.proofs.NamingOf.{itself}
 use Rattle.core_reader.specs.Tree.{Function}
 use Rattle.core_link.specs.Module.{Module, IsModuleText, name_of, text_in}
-use Rattle.core_link.specs.Rules.{Group, Main, Files, BrokenIn, Broken, InFile, NoMainModule, OfFiles, Between, LacksMain, DeclaresMain, rank, rank_in, IsBefore, IsFirstBroken, IsSound, IsUnbroken}
+use Rattle.core_link.specs.Rules.{RuleGroup, Main, Files, BrokenIn, Broken, InFile, NoMainModule, OfFiles, BreaksInterModuleRule, LacksMain, DeclaresMain, rank, rank_in, IsBefore, IsFirstBroken, IsSound, IsUnbroken}
 use Rattle.core_link.specs.Rules as rules
-use Rattle.core_link.specs.Found.{IsFirstOf}
+use Rattle.core_link.specs.Found.{NamesFirstBrokenRule}
 use Rattle.core_link.specs.Shared.{declares_main, IsFirstBetween, IsNoLater}
 use Rattle.core_link.proofs.InText.{one_module}
 use Rattle.core_link.proofs.Places.{any_at, at_any}
@@ -61,7 +61,7 @@ module _ (texts : List (List ℕ)) (ms : List Module) (read : AllZip IsModuleTex
   pub main_first : LacksMain ms → IsFirstBroken texts 59 0 0
   main_first lacks = record { group = Main; broken = NoMainModule ms read lacks; first = first }
     where
-      first : (g : Group) (k file at : ℕ) → Broken texts g k file at → IsBefore (1 ∷ []) (rank g k file at)
+      first : (g : RuleGroup) (k file at : ℕ) → Broken texts g k file at → IsBefore (1 ∷ []) (rank g k file at)
       first g k file at (InFile {text = t} e b) = absurd (sound file t e g k at b)
       first g k file at (NoMainModule ns z l) = inr (refl, tt)
       first g k file at (OfFiles ns z c) = inl (omega arith)
@@ -81,20 +81,20 @@ module _ (texts : List (List ℕ)) (ms : List Module) (read : AllZip IsModuleTex
     pub between_first_broken : (f : ℕ × (ℕ × ℕ)) → IsFirstBetween ms (Some f) → IsFirstBroken texts f.1.0 f.0 f.1.1
     between_first_broken f h = record { group = Files; broken = OfFiles ms read h.0; first = first }
       where
-        first : (g : Group) (k file at : ℕ) → Broken texts g k file at → IsBefore (2 ∷ f.0 ∷ f.1.1 ∷ f.1.0 ∷ []) (rank g k file at)
+        first : (g : RuleGroup) (k file at : ℕ) → Broken texts g k file at → IsBefore (2 ∷ f.0 ∷ f.1.1 ∷ f.1.0 ∷ []) (rank g k file at)
         first g k file at (InFile {text = t} e b) = absurd (sound file t e g k at b)
         first g k file at (NoMainModule ns z l) = absurd (same_main ns z l)
-        first g k file at (OfFiles ns z c) = ordered f k file at (h.1 k file at (subst (λ w. Between w k file at) (one_list texts ns ms z read) c))
+        first g k file at (OfFiles ns z c) = ordered f k file at (h.1 k file at (subst (λ w. BreaksInterModuleRule w k file at) (one_list texts ns ms z read) c))
 
     pub all_unbroken : IsFirstBetween ms None → IsUnbroken texts
     all_unbroken h g k file at (InFile {text = t} e b) = sound file t e g k at b
     all_unbroken h g k file at (NoMainModule ns z l) = same_main ns z l
-    all_unbroken h g k file at (OfFiles ns z c) = h k file at (subst (λ w. Between w k file at) (one_list texts ns ms z read) c)
+    all_unbroken h g k file at (OfFiles ns z c) = h k file at (subst (λ w. BreaksInterModuleRule w k file at) (one_list texts ns ms z read) c)
 
 -- ---- the first file with a broken rule
 
 module _ (ms : List Module) where
-  file_within : (k file at : ℕ) → Between ms k file at → file < length ms
+  file_within : (k file at : ℕ) → BreaksInterModuleRule ms k file at → file < length ms
   file_within k file at (rules.DuplicateModule {m = m} e f l s) = get_within ms file m e
   file_within k file at (rules.UnknownModule {m = m} n e i s) = get_within ms file m e
   file_within k file at (rules.NotExported {m = m} n e i s h) = get_within ms file m e
@@ -103,28 +103,28 @@ module _ (ms : List Module) where
   file_within k file at (rules.AgainElsewhere {m = m} n i e f l g h s) = get_within ms file m e
 
   abbrev pub NoneBefore : ℕ → Type 0
-  NoneBefore n = (k file at : ℕ) → file < n → Between ms k file at → ⊥
+  NoneBefore n = (k file at : ℕ) → file < n → BreaksInterModuleRule ms k file at → ⊥
 
-  pub none_next : (n : ℕ) → NoneBefore n → IsFirstOf (λ k at. Between ms k n at) None → NoneBefore (n + 1)
+  pub none_next : (n : ℕ) → NoneBefore n → NamesFirstBrokenRule (λ k at. BreaksInterModuleRule ms k n at) None → NoneBefore (n + 1)
   none_next n h g k file at l b = elim (compared file n) [
     | inl m ↦ h k file at m b
-    | inr m ↦ elim m [ inl e ↦ g k at (subst (λ f. Between ms k f at) e b) | inr o ↦ omega (arith, l, o) ]
+    | inr m ↦ elim m [ inl e ↦ g k at (subst (λ f. BreaksInterModuleRule ms k f at) e b) | inr o ↦ omega (arith, l, o) ]
   ]
 
   pub none_all : (n : ℕ) → length ms ≤ n → NoneBefore n → IsFirstBetween ms None
   none_all n l h k file at b = let m = file_within k file at b in h k file at (omega (arith, l, m)) b
 
-  pub first_at : (n : ℕ) (f : ℕ × ℕ) → NoneBefore n → IsFirstOf (λ k at. Between ms k n at) (Some f) → IsFirstBetween ms (Some (n, f))
+  pub first_at : (n : ℕ) (f : ℕ × ℕ) → NoneBefore n → NamesFirstBrokenRule (λ k at. BreaksInterModuleRule ms k n at) (Some f) → IsFirstBetween ms (Some (n, f))
   first_at n f h g = (g.0, first)
     where
-      first : (k file at : ℕ) → Between ms k file at → IsNoLater (n, f) k file at
+      first : (k file at : ℕ) → BreaksInterModuleRule ms k file at → IsNoLater (n, f) k file at
       first k file at b = elim (compared n file) [
         | inl l ↦ inl l
-        | inr m ↦ elim m [ inl e ↦ inr (e, g.1 k at (subst (λ i. Between ms k i at) (sym e) b)) | inr o ↦ absurd (h k file at o b) ]
+        | inr m ↦ elim m [ inl e ↦ inr (e, g.1 k at (subst (λ i. BreaksInterModuleRule ms k i at) (sym e) b)) | inr o ↦ absurd (h k file at o b) ]
       ]
 
   -- the rules between modules are six
-  pub between_rule : (k file at : ℕ) → Between ms k file at → (k ≡ 52) ⊎ ((k ≡ 53) ⊎ ((k ≡ 54) ⊎ ((k ≡ 56) ⊎ ((k ≡ 57) ⊎ (k ≡ 58)))))
+  pub between_rule : (k file at : ℕ) → BreaksInterModuleRule ms k file at → (k ≡ 52) ⊎ ((k ≡ 53) ⊎ ((k ≡ 54) ⊎ ((k ≡ 56) ⊎ ((k ≡ 57) ⊎ (k ≡ 58)))))
   between_rule k file at (rules.DuplicateModule e f l s) = inl refl
   between_rule k file at (rules.UnknownModule n e i s) = inr (inl refl)
   between_rule k file at (rules.NotExported n e i s h) = inr (inr (inl refl))

@@ -9,7 +9,7 @@ use Rattle.core_reader.specs.Readable.{IsNamed, IsReadable, ReadableFunction}
 use Rattle.core_reader.specs.Tree.{Function, Program}
 use Rattle.core_print.specs.Renamed.{RenamedBinder, RenamedFunction}
 use Rattle.arity_check.specs.Scope.{Scope}
-use Rattle.arity_check.specs.Pieces.{Piece, names_of, within, InFunction}
+use Rattle.arity_check.specs.Pieces.{FunctionPart, names_of, within, InFunction}
 use Rattle.core_link.specs.Module.{Module, seen, imported_functions, as_function}
 use Rattle.core_link.specs.Union.{LocalBecomes, ConBecomes, UseBecomes, GlobalBecomes, enter, IsUnion}
 use Rattle.core_link.proofs.Back.{LikePiece, HasLike, has_back}
@@ -63,18 +63,18 @@ module _ (ms : List Module) (c : Program) (u : IsUnion ms c) (sound : IsSound ms
       (all_at (ReadableFunction w.owner.names) w.owner.functions (sound.good w.file w.owner w.is_module).readable.functions w.number w.function w.is) w.becomes
 
   -- a piece of the program, and the piece of a module that it comes from
-  pub record ComesFrom (t : Scope) (there : Piece) : Type 0 where
+  pub record ComesFrom (t : Scope) (there : FunctionPart) : Type 0 where
     pub file : ℕ
     pub owner : Module
     pub is_module : slice_get ms file ≡ Some owner
     pub context : Scope
     pub scope : Scope
-    pub piece : Piece
+    pub piece : FunctionPart
     pub inside : InFunction (seen owner) scope piece
     pub fits : FitsAny file owner is_module context scope t
     pub like : LikePiece (seen owner) c (enter c.names owner) (OfBinder c.names owner) (OfCon c.names owner) (OfUse c.names owner) (FitsAny file owner is_module) context piece there
 
-  pub comes_from : (t : Scope) (there : Piece) → InFunction c t there → ComesFrom t there
+  pub comes_from : (t : Scope) (there : FunctionPart) → InFunction c t there → ComesFrom t there
   comes_from t there h =
       let w = of_module ms c u h.number h.function h.is in
       let m = w.owner in

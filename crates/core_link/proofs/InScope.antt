@@ -6,7 +6,7 @@ use Rattle.std.specs.Str.{bytes_eq}
 use Rattle.std.proofs.lemmas.Bool.{eqb-true, eq-eqb}
 use Rattle.seq.proofs.Lists.{some_is}
 use Rattle.core_reader.specs.declared.syntax.Binder.{Binder}
-use Rattle.core_reader.specs.Readable.{IsNamed, AreDifferent}
+use Rattle.core_reader.specs.Readable.{IsNamed, AreDistinct}
 use Rattle.core_reader.specs.Tree.{Program}
 use Rattle.arity_check.specs.declared.meaning.Meaning.TheVariants.{Local}
 use Rattle.arity_check.specs.Scope.{Scope, is_named, function_from, found_in, binds, binds_all}
@@ -28,7 +28,7 @@ local_nameless w = go (local_is w)
     go (Quoted e) = other_bytes w (codes "_") (λ f. nameless_quote w [] (sym (ap local_text f) ∙ e)) ∙ sym (other_bytes (local_text w) (codes "_") (λ f. nameless_quote w [] (sym f ∙ e)))
 
 -- a module, a program with names that are different, and how the numbers of locals go together
-module _ (m : Module) (c : Program) (own : AreDifferent m.names) (differ : AreDifferent c.names) (OfNumber : ℕ → ℕ → Type 0) where
+module _ (m : Module) (c : Program) (own : AreDistinct m.names) (differ : AreDistinct c.names) (OfNumber : ℕ → ℕ → Type 0) where
   abbrev Entry : ℕ × ℕ → ℕ × ℕ → ℕ × ℕ → Type 0
   Entry a b d = (a.0 ≡ b.0) × IsNamed m.names b.0 × LocalBecomes c.names m b.0 d.0 × OfNumber b.1 d.1
 

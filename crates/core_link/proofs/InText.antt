@@ -3,14 +3,14 @@ use Rattle.std.proofs.Common.{◌≡◌, ℕ, ◌<◌, ◌≤◌, true, false, L
 use Rattle.std.specs.Prelude.{◌==◌, if◌then◌else◌}
 use Rattle.std.proofs.lemmas.Bool.{eqb-true, eq-eqb}
 use Rattle.seq.proofs.Truth.{two_ways}
-use Rattle.core_reader.specs.RulesOf.{NoLater}
+use Rattle.core_reader.specs.RulesOf.{IsNoLaterFault}
 use Rattle.core_reader.proofs.OnlyOne.{at_five, one_thing}
-use Rattle.core_link.specs.Module.{Module, IsModuleText, IsUnread, IsFirstUnread, IsRead, IsReadCause}
-use Rattle.core_link.specs.Rules.{Own, Group, Reading, OwnRule, BrokenIn, Unread, OfModule, rank_in, IsBefore, IsFirstIn, IsSound, IsCauseIn}
+use Rattle.core_link.specs.Module.{Module, IsModuleText, IsReadingFault, IsFirstReadingFault, BreaksNoReadingRule, IsReadCause}
+use Rattle.core_link.specs.Rules.{BreaksOwnRule, RuleGroup, Reading, OwnRule, BrokenIn, Unread, OfModule, rank_in, IsBefore, IsFirstIn, IsSound, IsCauseIn}
 use Rattle.core_link.specs.Rules as rules
 use Rattle.core_reader.specs.declared.refusal.ReadRefusal.{ReadRefusal}
 use Rattle.core_reader.specs.declared.refusal.ReadRefusal.TheVariants as unread
-use Rattle.core_link.specs.Found.{IsFirstOf, unread_of}
+use Rattle.core_link.specs.Found.{NamesFirstBrokenRule, read_refusal_in}
 use Rattle.core_link.proofs.Reading.{module_laws}
 
 -- a text stands for one module
@@ -45,7 +45,7 @@ either_five k = elim (two_ways (k == 5)) [ inl y ↦ inl (eqb-true k 5 y) | inr 
     true_false : true ≡ false → ⊥
     true_false e = cc
 
-no_later : (text : List ℕ) (k at k' at' : ℕ) → IsUnread text k at → IsUnread text k' at' → NoLater k at k' at' → IsBefore (rank_in Reading k at) (rank_in Reading k' at')
+no_later : (text : List ℕ) (k at k' at' : ℕ) → IsReadingFault text k at → IsReadingFault text k' at' → IsNoLaterFault k at k' at' → IsBefore (rank_in Reading k at) (rank_in Reading k' at')
 no_later text k at k' at' b b' (inl e) = elim (either_five k') [
   | inl f ↦
       let same : at ≡ at' = at_five text k at b e ∙ sym (at_five text k' at' b' f) in
@@ -58,33 +58,33 @@ no_later text k at k' at' b b' (inr h) = elim (either_five k) [
   | inr n ↦ inr (other_rank k n ∙ sym (other_rank k' h.0), by_place at k at' k' h.1)
 ]
 
-pub read_first : (text : List ℕ) (k at : ℕ) → IsFirstUnread text k at → IsFirstIn text k at
+pub read_first : (text : List ℕ) (k at : ℕ) → IsFirstReadingFault text k at → IsFirstIn text k at
 read_first text k at f = record { group = Reading; broken = Unread f.broken; first = first }
   where
-    first : (g : Group) (k' at' : ℕ) → BrokenIn text g k' at' → IsBefore (rank_in Reading k at) (rank_in g k' at')
+    first : (g : RuleGroup) (k' at' : ℕ) → BrokenIn text g k' at' → IsBefore (rank_in Reading k at) (rank_in g k' at')
     first g k' at' (Unread b) = no_later text k at k' at' f.broken b (f.first k' at' b)
     first g k' at' (OfModule m t o) = inl (at_most_one k)
 
-pub own_first_in : (text : List ℕ) (m : Module) (k at : ℕ) → IsRead text → IsModuleText text m → IsFirstOf (Own m) (Some (k, at)) → IsFirstIn text k at
+pub own_first_in : (text : List ℕ) (m : Module) (k at : ℕ) → BreaksNoReadingRule text → IsModuleText text m → NamesFirstBrokenRule (BreaksOwnRule m) (Some (k, at)) → IsFirstIn text k at
 own_first_in text m k at read t h = record { group = OwnRule; broken = OfModule m t h.0; first = first }
   where
-    first : (g : Group) (k' at' : ℕ) → BrokenIn text g k' at' → IsBefore (rank_in OwnRule k at) (rank_in g k' at')
+    first : (g : RuleGroup) (k' at' : ℕ) → BrokenIn text g k' at' → IsBefore (rank_in OwnRule k at) (rank_in g k' at')
     first g k' at' (Unread b) = absurd (read k' at' b)
-    first g k' at' (OfModule q s o) = inr (refl, by_place at k at' k' (h.1 k' at' (subst (λ w. Own w k' at') (one_module text q m s t) o)))
+    first g k' at' (OfModule q s o) = inr (refl, by_place at k at' k' (h.1 k' at' (subst (λ w. BreaksOwnRule w k' at') (one_module text q m s t) o)))
 
-pub sound_text : (text : List ℕ) (m : Module) → IsRead text → IsModuleText text m → IsFirstOf (Own m) None → IsSound text
+pub sound_text : (text : List ℕ) (m : Module) → BreaksNoReadingRule text → IsModuleText text m → NamesFirstBrokenRule (BreaksOwnRule m) None → IsSound text
 sound_text text m read t h g k at (Unread b) = read k at b
-sound_text text m read t h g k at (OfModule q s o) = h k at (subst (λ w. Own w k at) (one_module text q m s t) o)
+sound_text text m read t h g k at (OfModule q s o) = h k at (subst (λ w. BreaksOwnRule w k at) (one_module text q m s t) o)
 
 -- the rules that a module breaks by itself are three
-pub own_rule : (m : Module) (k at : ℕ) → Own m k at → (k ≡ 22) ⊎ ((k ≡ 55) ⊎ (k ≡ 58))
+pub own_rule : (m : Module) (k at : ℕ) → BreaksOwnRule m k at → (k ≡ 22) ⊎ ((k ≡ 55) ⊎ (k ≡ 58))
 own_rule m k at (rules.ReservedName b) = inl refl
 own_rule m k at (rules.ExportUnknown i e u) = inr (inl refl)
 own_rule m k at (rules.AgainConstructor b) = inr (inr refl)
 own_rule m k at (rules.AgainFunction b) = inr (inr refl)
 
 -- the first rule on reading that is broken is the first of the text
-pub unread_cause : (text : List ℕ) (file : ℕ) (r : ReadRefusal) → IsReadCause text r → IsCauseIn text file (unread_of file r)
+pub unread_cause : (text : List ℕ) (file : ℕ) (r : ReadRefusal) → IsReadCause text r → IsCauseIn text file (read_refusal_in file r)
 unread_cause text file (unread.BadByte at) h = (refl, read_first text 1 at h)
 unread_cause text file (unread.Syntax at) h = (refl, read_first text 2 at h)
 unread_cause text file (unread.NumberRange at) h = (refl, read_first text 3 at h)

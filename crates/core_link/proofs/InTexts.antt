@@ -8,14 +8,14 @@ use Rattle.seq.proofs.Order.{compared}
 use Rattle.seq.proofs.Lists.{all_get, all_push}
 use Rattle.core_reader.specs.Readable.{IsReadable}
 use Rattle.core_link.specs.declared.refusal.LinkRefusal.{LinkRefusal}
-use Rattle.core_link.specs.declared.imports.Taking.{Taking}
+use Rattle.core_link.specs.declared.imports.ImportFaults.{ImportFaults}
 use Rattle.core_link.specs.Module.{Module, IsModuleText, body}
-use Rattle.core_link.specs.Rules.{Group, BrokenIn, Unread, OfModule, Broken, InFile, NoMainModule, OfFiles, rank, rank_in, IsBefore, IsFirstIn, IsFirstBroken, IsSound, IsNamed, IsCause, IsCauseIn, rule_of}
-use Rattle.core_link.specs.Shared.{AreRead, IsKept, IsTaking}
+use Rattle.core_link.specs.Rules.{RuleGroup, BrokenIn, Unread, OfModule, Broken, InFile, NoMainModule, OfFiles, rank, rank_in, IsBefore, IsFirstIn, IsFirstBroken, IsSound, IsNamed, IsCause, IsCauseIn, rule_of}
+use Rattle.core_link.specs.Shared.{AreRead, ModuleIsAppended, AreImportFaults}
 use Rattle.core_link.proofs.Places.{at_taken}
 use Rattle.core_link.proofs.Tables.{take_at}
 
-ranked_in : (text : List ℕ) (g : Group) (k file at : ℕ) → BrokenIn text g k at → rank g k file at ≡ 0 ∷ file ∷ rank_in g k at
+ranked_in : (text : List ℕ) (g : RuleGroup) (k file at : ℕ) → BrokenIn text g k at → rank g k file at ≡ 0 ∷ file ∷ rank_in g k at
 ranked_in text g k file at (Unread b) = refl
 ranked_in text g k file at (OfModule m t o) = refl
 
@@ -23,10 +23,10 @@ same_text : (texts : List (List ℕ)) (i j : ℕ) (t u : List ℕ) → i ≡ j �
 same_text texts i j t u s e f = let h : Some t ≡ Some u = sym e ∙ ap (slice_get texts) s ∙ f in cc
 
 module _ (texts : List (List ℕ)) (file : ℕ) (text : List ℕ) (is : slice_get texts file ≡ Some text) (sound : (i : ℕ) (t : List ℕ) → i < file → slice_get texts i ≡ Some t → IsSound t) where
-  abbrev FirstOfText : Group → (k at : ℕ) → Type 0
-  FirstOfText g k at = (g' : Group) (k' at' : ℕ) → BrokenIn text g' k' at' → IsBefore (rank_in g k at) (rank_in g' k' at')
+  abbrev FirstOfText : RuleGroup → (k at : ℕ) → Type 0
+  FirstOfText g k at = (g' : RuleGroup) (k' at' : ℕ) → BrokenIn text g' k' at' → IsBefore (rank_in g k at) (rank_in g' k' at')
 
-  by_file : (g : Group) (k at : ℕ) → FirstOfText g k at → (t : List ℕ) (g' : Group) (k' file' at' : ℕ) → slice_get texts file' ≡ Some t → BrokenIn t g' k' at' → IsBefore (file ∷ rank_in g k at) (file' ∷ rank_in g' k' at')
+  by_file : (g : RuleGroup) (k at : ℕ) → FirstOfText g k at → (t : List ℕ) (g' : RuleGroup) (k' file' at' : ℕ) → slice_get texts file' ≡ Some t → BrokenIn t g' k' at' → IsBefore (file ∷ rank_in g k at) (file' ∷ rank_in g' k' at')
   by_file g k at f t g' k' file' at' e b = elim (compared file file') [
     | inl l ↦ inl l
     | inr m ↦ elim m [
@@ -35,7 +35,7 @@ module _ (texts : List (List ℕ)) (file : ℕ) (text : List ℕ) (is : slice_ge
     ]
   ]
 
-  in_texts : (g : Group) (k at : ℕ) → BrokenIn text g k at → FirstOfText g k at → (g' : Group) (k' file' at' : ℕ) → Broken texts g' k' file' at' → IsBefore (rank g k file at) (rank g' k' file' at')
+  in_texts : (g : RuleGroup) (k at : ℕ) → BrokenIn text g k at → FirstOfText g k at → (g' : RuleGroup) (k' file' at' : ℕ) → Broken texts g' k' file' at' → IsBefore (rank g k file at) (rank g' k' file' at')
   in_texts g k at b f g' k' file' at' (InFile {text = t} e b') =
       subst (λ r. IsBefore r (rank g' k' file' at')) (sym (ranked_in text g k file at b))
       (subst (IsBefore (0 ∷ file ∷ rank_in g k at)) (sym (ranked_in t g' k' file' at' b')) (inr (refl, by_file g k at f t g' k' file' at' e b')))
@@ -71,12 +71,12 @@ zip_push P (a ∷ xs) (b ∷ ys) x y h p = (h.0, zip_push P xs ys x y h.1 p)
 pub none_read : AreRead [] [] []
 none_read = record { modules = tt; readable = tt; takings = tt }
 
-pub read_next : (texts : List (List ℕ)) (file : ℕ) (text : List ℕ) (ms : List Module) (m : Module) (ts : List Taking) (t : Taking) → slice_get texts file ≡ Some text → AreRead (take file texts) ms ts
-    → IsModuleText text m → IsReadable (body m) → IsTaking m t → AreRead (take (file + 1) texts) (ms ++ m ∷ []) (ts ++ t ∷ [])
+pub read_next : (texts : List (List ℕ)) (file : ℕ) (text : List ℕ) (ms : List Module) (m : Module) (ts : List ImportFaults) (t : ImportFaults) → slice_get texts file ≡ Some text → AreRead (take file texts) ms ts
+    → IsModuleText text m → IsReadable (body m) → AreImportFaults m t → AreRead (take (file + 1) texts) (ms ++ m ∷ []) (ts ++ t ∷ [])
 read_next texts file text ms m ts t is h found readable taking = record {
   modules = subst (λ us. AllZip IsModuleText us (ms ++ m ∷ [])) (sym (take_at texts file text is)) (zip_push IsModuleText (take file texts) ms text m h.modules found);
   readable = all_push (λ q. IsReadable (body q)) ms m h.readable readable;
-  takings = zip_push IsTaking ms ts m t h.takings taking;
+  takings = zip_push AreImportFaults ms ts m t h.takings taking;
 }
 
 pub sound_next : (texts : List (List ℕ)) (file : ℕ) (text : List ℕ) → slice_get texts file ≡ Some text → AllOf IsSound (take file texts) → IsSound text → AllOf IsSound (take (file + 1) texts)
@@ -89,13 +89,13 @@ zip_length P (x ∷ xs) [] h = absurd h
 zip_length P (x ∷ xs) (y ∷ ys) h = ap suc (zip_length P xs ys h.1)
 
 -- the module of one more text was read and kept
-pub kept_next : (texts : List (List ℕ)) (file : ℕ) (text : List ℕ) (old new : List Module) (m : Module) (ts us : List Taking) → slice_get texts file ≡ Some text → AreRead (take file texts) old ts
-    → IsModuleText text m → IsReadable (body m) → IsKept m old new ts us → AreRead (take (file + 1) texts) new us
+pub kept_next : (texts : List (List ℕ)) (file : ℕ) (text : List ℕ) (old new : List Module) (m : Module) (ts us : List ImportFaults) → slice_get texts file ≡ Some text → AreRead (take file texts) old ts
+    → IsModuleText text m → IsReadable (body m) → ModuleIsAppended m old new ts us → AreRead (take (file + 1) texts) new us
 kept_next texts file text old new m ts us is h found readable kept =
     subst (λ qs. AreRead (take (file + 1) texts) qs us) (sym kept.modules)
     (subst (AreRead (take (file + 1) texts) (old ++ m ∷ [])) (sym kept.takings) (read_next texts file text old m ts kept.taking is h found readable kept.is))
 
-pub all_read : (texts : List (List ℕ)) (n : ℕ) (ms : List Module) (ts : List Taking) → length texts ≤ n → AreRead (take n texts) ms ts → AreRead texts ms ts
+pub all_read : (texts : List (List ℕ)) (n : ℕ) (ms : List Module) (ts : List ImportFaults) → length texts ≤ n → AreRead (take n texts) ms ts → AreRead texts ms ts
 all_read texts n ms ts l h = subst (λ us. AreRead us ms ts) (take_all n texts l) h
 
 pub all_sound : (texts : List (List ℕ)) (n : ℕ) → length texts ≤ n → AllOf IsSound (take n texts) → AllOf IsSound texts

@@ -9,7 +9,7 @@ use Rattle.std.proofs.lemmas.List.Elements.{All-nil, All-push}
 use Rattle.std.proofs.lemmas.Slice.Eq.{bytes_eq-Decides}
 use Rattle.seq.proofs.Lists.{get_left, map_get, append_again}
 use Rattle.core_reader.specs.declared.syntax.Binder.{Binder}
-use Rattle.core_reader.specs.Different.{AreDifferent}
+use Rattle.core_reader.specs.Different.{AreDistinct}
 use Rattle.core_reader.specs.LexedOf.{texts_of}
 use Rattle.core_link.specs.declared.rename.Renaming.{Renaming}
 use Rattle.core_link.specs.declared.module.Module as code
@@ -18,7 +18,7 @@ use Rattle.core_link.specs.declared.naming.Named.{Named}
 use Rattle.core_link.specs.Module.{Module, Import, is_constructor}
 use Rattle.core_link.specs.ModuleOf.{module_of, import_of}
 use Rattle.core_link.specs.Union.{local_text}
-use Rattle.core_link.specs.Renaming.{AreAt, Grows, AreNumbered, function_texts, imported_text}
+use Rattle.core_link.specs.Renaming.{TextsAreAtNumbers, NamesAreExtended, AreNumbered, function_texts, imported_text}
 
 abbrev Texts : Type 0
 Texts = List (List ℕ)
@@ -27,19 +27,19 @@ pub mapped_last : {A B : Type 0} (f : A → B) (xs : List A) (x : A) → map f (
 mapped_last f [] x = refl
 mapped_last f (y ∷ xs) x = ap (λ ys. f y ∷ ys) (mapped_last f xs x)
 
-pub grows_none : (ws : Texts) → Grows ws ws
+pub grows_none : (ws : Texts) → NamesAreExtended ws ws
 grows_none ws = record { kept = λ n w e. e; different = λ d. d }
 
-pub grows_twice : (us vs ws : Texts) → Grows us vs → Grows vs ws → Grows us ws
+pub grows_twice : (us vs ws : Texts) → NamesAreExtended us vs → NamesAreExtended vs ws → NamesAreExtended us ws
 grows_twice us vs ws g h = record { kept = λ n w e. h.kept n w (g.kept n w e); different = λ d. h.different (g.different d) }
 
-pub at_grows : (us vs texts : Texts) (numbers : List ℕ) → Grows us vs → AreAt us texts numbers → AreAt vs texts numbers
+pub at_grows : (us vs texts : Texts) (numbers : List ℕ) → NamesAreExtended us vs → TextsAreAtNumbers us texts numbers → TextsAreAtNumbers vs texts numbers
 at_grows us vs [] [] g h = tt
 at_grows us vs [] (n ∷ ns) g h = absurd h
 at_grows us vs (t ∷ ts) [] g h = absurd h
 at_grows us vs (t ∷ ts) (n ∷ ns) g h = (g.kept n t h.0, at_grows us vs ts ns g h.1)
 
-pub numbered_grows : (us vs : Texts) (m : Module) (r : Renaming) → Grows us vs → AreNumbered us m r → AreNumbered vs m r
+pub numbered_grows : (us vs : Texts) (m : Module) (r : Renaming) → NamesAreExtended us vs → AreNumbered us m r → AreNumbered vs m r
 numbered_grows us vs m r g h = record {
   local = at_grows us vs (map local_text m.names) r.local.items g h.local;
   itself = at_grows us vs m.names r.itself.items g h.itself;
@@ -62,7 +62,7 @@ zip_more R (a ∷ xs) (b ∷ ys) (suc i) x y lt e h r = (h.0, zip_more R xs ys i
 
 -- ---- a new text
 
-longer_different : (w : List ℕ) (ws : Texts) → list_any (bytes_eq w) ws ≡ false → AreDifferent ws → AreDifferent (ws ++ w ∷ [])
+longer_different : (w : List ℕ) (ws : Texts) → list_any (bytes_eq w) ws ≡ false → AreDistinct ws → AreDistinct (ws ++ w ∷ [])
 longer_different w [] n d = (All-nil (λ v. v ≢ w), tt)
 longer_different w (v ∷ ws) n d = (All-push (λ u. u ≢ v) ws w d.0 (differs (bytes_eq w v) (list_any (bytes_eq w) ws) refl n), longer_different w ws (later (bytes_eq w v) (list_any (bytes_eq w) ws) n) d.1)
   where
@@ -84,29 +84,29 @@ texts_last : (keys : List (Bor (List ℕ))) (w : Bor (List ℕ)) → texts_of (k
 texts_last [] w = refl
 texts_last (k ∷ keys) w = ap (λ ws. k.now ∷ ws) (texts_last keys w)
 
-grows_by : (b : Bool) (w : Bor (List ℕ)) (keys : List (Bor (List ℕ))) → list_any (bytes_eq w.now) (texts_of keys) ≡ b → Grows (texts_of keys) (texts_of (cond b keys (keys ++ w ∷ [])))
+grows_by : (b : Bool) (w : Bor (List ℕ)) (keys : List (Bor (List ℕ))) → list_any (bytes_eq w.now) (texts_of keys) ≡ b → NamesAreExtended (texts_of keys) (texts_of (cond b keys (keys ++ w ∷ [])))
 grows_by true w keys n = grows_none (texts_of keys)
-grows_by false w keys n = subst (Grows (texts_of keys)) (sym (texts_last keys w)) (record {
+grows_by false w keys n = subst (NamesAreExtended (texts_of keys)) (sym (texts_last keys w)) (record {
   kept = λ i v e. get_left (texts_of keys) (w.now ∷ []) i v e;
   different = λ d. longer_different w.now (texts_of keys) n d;
 })
 
-pub grows_one : (eq : Bor (List ℕ) → Bor (List ℕ) → Bool) → ((a b : Bor (List ℕ)) → eq a b ≡ bytes_eq a.now b.now) → (w : Bor (List ℕ)) (keys new : List (Bor (List ℕ))) → new ≡ cond (list_any (eq w) keys) keys (keys ++ w ∷ []) → Grows (texts_of keys) (texts_of new)
-grows_one eq h w keys new e = subst (λ v. Grows (texts_of keys) (texts_of v)) (sym e) (grows_by (list_any (eq w) keys) w keys (sym (any_same w eq h keys)))
+pub grows_one : (eq : Bor (List ℕ) → Bor (List ℕ) → Bool) → ((a b : Bor (List ℕ)) → eq a b ≡ bytes_eq a.now b.now) → (w : Bor (List ℕ)) (keys new : List (Bor (List ℕ))) → new ≡ cond (list_any (eq w) keys) keys (keys ++ w ∷ []) → NamesAreExtended (texts_of keys) (texts_of new)
+grows_one eq h w keys new e = subst (λ v. NamesAreExtended (texts_of keys) (texts_of v)) (sym e) (grows_by (list_any (eq w) keys) w keys (sym (any_same w eq h keys)))
 
 -- the text stands where it was put
 pub stands_at : (eq : Bor (List ℕ) → Bor (List ℕ) → Bool) → ((a b : Bor (List ℕ)) → eq a b ≡ bytes_eq a.now b.now) → (w k : Bor (List ℕ)) (keys : List (Bor (List ℕ))) (i : ℕ) → slice_get keys i ≡ Some k → eq w k ≡ true → slice_get (texts_of keys) i ≡ Some w.now
 stands_at eq h w k keys i e s = map_get (λ (k : Bor (List ℕ)). k.now) keys i k e ∙ ap Some (sym ((bytes_eq-Decides w.now k.now).0 (sym (h w k) ∙ s)))
 
-pub more_numbers : (old new texts : Texts) (numbers longer : List ℕ) (i : ℕ) (w : List ℕ) (n : ℕ) → i < length texts → w ≡ get_or texts i w → Grows old new → AreAt old (take i texts) numbers → slice_get new n ≡ Some w → longer ≡ numbers ++ n ∷ [] → AreAt new (take (i + 1) texts) longer
+pub more_numbers : (old new texts : Texts) (numbers longer : List ℕ) (i : ℕ) (w : List ℕ) (n : ℕ) → i < length texts → w ≡ get_or texts i w → NamesAreExtended old new → TextsAreAtNumbers old (take i texts) numbers → slice_get new n ≡ Some w → longer ≡ numbers ++ n ∷ [] → TextsAreAtNumbers new (take (i + 1) texts) longer
 more_numbers old new texts numbers longer i w n lt e g h at l =
     let s : suc i ≡ i + 1 = omega arith in
-    subst (AreAt new (take (i + 1) texts)) (sym l) (subst (λ k. AreAt new (take k texts) (numbers ++ n ∷ [])) s (zip_more (λ (w : List ℕ) (n : ℕ). slice_get new n ≡ Some w) texts numbers i w n lt e (at_grows old new (take i texts) numbers g h) at))
+    subst (TextsAreAtNumbers new (take (i + 1) texts)) (sym l) (subst (λ k. TextsAreAtNumbers new (take k texts) (numbers ++ n ∷ [])) s (zip_more (λ (w : List ℕ) (n : ℕ). slice_get new n ≡ Some w) texts numbers i w n lt e (at_grows old new (take i texts) numbers g h) at))
 
 abbrev pub NumberedIn : Texts → Named → Renaming → Type 0
 NumberedIn names n r = AreNumbered names (module_of n.part) r
 
-pub more_modules : (old new : Texts) (ms : List Named) (rs longer : List Renaming) (i : ℕ) (m : Named) (r : Renaming) → i < length ms → m ≡ get_or ms i m → Grows old new → AllZip (NumberedIn old) (take i ms) rs → AreNumbered new (module_of m.part) r → longer ≡ rs ++ r ∷ [] → AllZip (NumberedIn new) (take (i + 1) ms) longer
+pub more_modules : (old new : Texts) (ms : List Named) (rs longer : List Renaming) (i : ℕ) (m : Named) (r : Renaming) → i < length ms → m ≡ get_or ms i m → NamesAreExtended old new → AllZip (NumberedIn old) (take i ms) rs → AreNumbered new (module_of m.part) r → longer ≡ rs ++ r ∷ [] → AllZip (NumberedIn new) (take (i + 1) ms) longer
 more_modules old new ms rs longer i m r lt e g h a l =
     let s : suc i ≡ i + 1 = omega arith in
     subst (AllZip (NumberedIn new) (take (i + 1) ms)) (sym l) (subst (λ k. AllZip (NumberedIn new) (take k ms) (rs ++ r ∷ [])) s (zip_more (NumberedIn new) ms rs i m r lt e (zip_maps (NumberedIn old) (NumberedIn new) (λ n o. numbered_grows old new (module_of n.part) o g) (take i ms) rs h) a))

@@ -8,7 +8,7 @@ use Rattle.seq.specs.Lists.{In}
 use Rattle.seq.proofs.Lists.{get_within, none_is_some}
 use Rattle.seq.proofs.Member.{in_flat, in_map}
 use Rattle.core_link.specs.Module.{Module}
-use Rattle.core_link.specs.Union.{with_module, IsRising}
+use Rattle.core_link.specs.Union.{with_module, IsStrictlySorted}
 use Rattle.core_link.proofs.Beside.{in_place, place_in}
 use Rattle.core_link.proofs.OneOrder.{Below, not_both, below_all}
 
@@ -27,7 +27,7 @@ map_at f (x ∷ xs) zero y e = (x, refl, cc)
 map_at f (x ∷ xs) (suc i) y e = map_at f xs i y e
 
 -- of two places in a list with rising keys, the keys differ
-pub rising_apart : {X : Type 0} (key : X → List ℕ) (xs : List X) → IsRising (map key xs) → (i j : ℕ) (x y : X) → i < j → slice_get xs i ≡ Some x → slice_get xs j ≡ Some y → key x ≢ key y
+pub rising_apart : {X : Type 0} (key : X → List ℕ) (xs : List X) → IsStrictlySorted (map key xs) → (i j : ℕ) (x y : X) → i < j → slice_get xs i ≡ Some x → slice_get xs j ≡ Some y → key x ≢ key y
 rising_apart key [] r i j x y l e f s = none_is_some e
 rising_apart key (a ∷ xs) r zero zero x y l e f s = omega (arith, l)
 rising_apart key (a ∷ xs) r zero (suc j) x y l e f s =

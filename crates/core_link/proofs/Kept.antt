@@ -18,13 +18,13 @@ use Rattle.arity_check.specs.Accepted as accepted
 use Rattle.arity_check.specs.Broken as program
 use Rattle.arity_check.specs.declared.normal.Con as con
 use Rattle.arity_check.specs.Normal.{IsNormalForm, IsFunction, IsConstructor, Pairwise}
-use Rattle.arity_check.specs.One.{OneNormalForm, SomeNormalForm}
+use Rattle.arity_check.specs.One.{NormalFormIsUnique, NormalFormExists}
 use Rattle.arity_check.specs.Program as normal
 use Rattle.arity_check.specs.Scope.{Scope, is_named}
 use Rattle.core_meaning.specs.Printing.{printed}
 use Rattle.core_meaning.specs.Evaluation.{NoAlternative}
-use Rattle.core_link.specs.Laws.{IsHeaded, Keeps, OneModuleKeeps, IsRuleOfNames}
-use Rattle.core_link.specs.Module.{Module, IsModuleText, IsRead, text_in, name_of, body}
+use Rattle.core_link.specs.Laws.{SplitsAtHeader, KeepsMeaning, SingleModuleKeepsMeaning, IsRuleOfNames}
+use Rattle.core_link.specs.Module.{Module, IsModuleText, BreaksNoReadingRule, text_in, name_of, body}
 use Rattle.core_link.specs.Rules.{LacksMain, DeclaresMain, NoMainModule, UnknownName, ReservedName, AgainConstructor, AgainFunction, Main, Reading, InFile, Unread}
 use Rattle.core_link.specs.Union.{IsUnion, enter}
 use Rattle.core_link.proofs.Beside.{one_item}
@@ -117,11 +117,11 @@ module _ (p q : Program) {S : Type 0} (enter : List Binder → List Binder → S
         funs = w.2;
       }
 
-  carried_printed : OneNormalForm → (r : normal.Program) → Carries r → (d : normal.Program) → IsNormalForm q d → (i : List ℕ) (n : ℕ) → printed r i n ≡ printed d i n
+  carried_printed : NormalFormIsUnique → (r : normal.Program) → Carries r → (d : normal.Program) → IsNormalForm q d → (i : List ℕ) (n : ℕ) → printed r i n ≡ printed d i n
   carried_printed one r w d is i n = same_printed 0 NoAlternative r w.form w.cons w.main w.funs i n ∙ ap (λ x. printed x i n) (one q w.form d w.is is)
 
 -- Programs that are the same, the places and the numbers of the names aside, put out the same.
-pub same_programs_print_the_same : OneNormalForm → (p q : Program) → SameProgram p q → IsReadable p → IsReadable q → (r d : normal.Program) → IsNormalForm p r → IsNormalForm q d
+pub same_programs_print_the_same : NormalFormIsUnique → (p q : Program) → SameProgram p q → IsReadable p → IsReadable q → (r d : normal.Program) → IsNormalForm p r → IsNormalForm q d
     → (i : List ℕ) (n : ℕ) → printed r i n ≡ printed d i n
 same_programs_print_the_same one p q same_program here own r d is_r is_d i n =
     let E = same.NoScope p q same_program here own in
@@ -136,8 +136,8 @@ same_programs_print_the_same one p q same_program here own r d is_r is_d i n =
 
 -- ---- the module, its declarations by themselves, and the program
 
-module _ (one : OneNormalForm) (some : SomeNormalForm) (m : Module) (p c : Program) (u : IsUnion (m ∷ []) c) (sound : IsSound (m ∷ [])) (main : LacksMain (m ∷ []) → ⊥) (named : name_of m ≡ codes "Main") (no_imports : m.imports ≡ [])
-    (same_program : SameProgram (body m) p) (own : IsReadable p) (ok : accepted.IsUnbroken p) (readable : IsReadable c) where
+module _ (one : NormalFormIsUnique) (some : NormalFormExists) (m : Module) (p c : Program) (u : IsUnion (m ∷ []) c) (sound : IsSound (m ∷ [])) (main : LacksMain (m ∷ []) → ⊥) (named : name_of m ≡ codes "Main") (no_imports : m.imports ≡ [])
+    (same_program : SameProgram (body m) p) (own : IsReadable p) (ok : accepted.BreaksNoRule p) (readable : IsReadable c) where
   here : IsReadable (body m)
   here = (sound.good 0 m refl).readable
 
@@ -163,14 +163,14 @@ module _ (one : OneNormalForm) (some : SomeNormalForm) (m : Module) (p c : Progr
   no_name_rule k at (inr (inr (inr (inl e)))) b = main (lacks (lacks_main (body m) k at b e))
   no_name_rule k at (inr (inr (inr (inr e)))) b = sound.own 0 m refl 22 at (ReservedName (subst (λ k. program.Broken (body m) k at) e b))
 
-  body_unbroken : accepted.IsUnbroken (body m)
+  body_unbroken : accepted.BreaksNoRule (body m)
   body_unbroken k at b =
       elim (no_other p (body m) (same.NoScope p (body m) turned own here) (same.OfBinder p (body m) turned own here) (same.OfCon p (body m) turned own here) (same.OfUse p (body m) turned own here) (same.OfFunction p (body m) turned own here) tt (same.go_together p (body m) turned own here) ok k at b) [
         | inl h ↦ no_name_rule k at h b
         | inr h ↦ h
       ]
 
-  pub program_unbroken : accepted.IsUnbroken c
+  pub program_unbroken : accepted.BreaksNoRule c
   program_unbroken k at b =
       elim (no_other (body m) c (enter c.names m) (OfBinder c.names m) (OfCon c.names m) (OfUse c.names m) (OfFunction c.names m) [] (alone.go_together m c u sound readable named no_imports) body_unbroken k at b) [
         | inl h ↦ unbroken (m ∷ []) c u sound readable main k at h b
@@ -205,13 +205,13 @@ named_main m main (inl n) = absurd (main lacks_it)
     lacks_it zero x e d = n (ap name_of (one_item (Some m) m x refl e) ∙ d.named)
     lacks_it (suc i) x e d = none_is_some e
 
-pub one_module_keeps : OneNormalForm → SomeNormalForm → OneModuleKeeps
+pub one_module_keeps : NormalFormIsUnique → NormalFormExists → SingleModuleKeepsMeaning
 one_module_keeps one some text m c broken is no_imports linked readable = (each_has_program text m read is, keeps)
   where
-    read : IsRead text
+    read : BreaksNoReadingRule text
     read k at b = broken Reading k 0 at (InFile refl (Unread b))
 
-    keeps : (rest : List ℕ) (p : Program) → IsHeaded text rest m → IsText rest p → Keeps p c
+    keeps : (rest : List ℕ) (p : Program) → SplitsAtHeader text rest m → IsText rest p → KeepsMeaning p c
     keeps rest p split stands ok =
         let ms : linked.modules ≡ m ∷ [] = only_module text m linked.modules is linked.read in
         let z : AllZip IsModuleText (text ∷ []) (m ∷ []) = (is, tt) in

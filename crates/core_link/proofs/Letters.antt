@@ -5,15 +5,15 @@ use Rattle.std.proofs.lemmas.Bool.{eqb-true}
 use Rattle.seq.proofs.Truth.{and_parts, or_cases, two_ways}
 use Rattle.seq.proofs.Order.{lt_from}
 use Rattle.core_reader.specs.declared.dialect.Dialect.TheVariants.{Core}
-use Rattle.core_reader.specs.declared.look.Kind.{Kind}
-use Rattle.core_reader.specs.declared.look.Kind.TheVariants.{Lower, Upper, Digits, Sign}
+use Rattle.core_reader.specs.declared.look.TokenKind.{TokenKind}
+use Rattle.core_reader.specs.declared.look.TokenKind.TheVariants.{Lower, Upper, Digits, Sign}
 use Rattle.core_reader.specs.declared.look.Sign.TheVariants.{Semicolon, Equals, OpenBrace, CloseBrace, Open, Close, Arrow}
 use Rattle.core_reader.specs.Bytes.{is_lower, is_upper, is_digit, is_inner}
 use Rattle.core_reader.specs.TokensOf.{every, after_minus, of_one}
 use Rattle.core_reader.specs.Readable.{IsName, IsConstructor}
 use Rattle.core_link.specs.Module.{begins_upper}
 
-NoLetters : Option Kind → Type 0
+NoLetters : Option TokenKind → Type 0
 NoLetters (Some Lower) = ⊥
 NoLetters (Some Upper) = ⊥
 NoLetters (Some Digits) = Unit {0}
@@ -32,7 +32,7 @@ none : NoLetters None
 unfolding NoLetters
 none = tt
 
-one_sign : (b : Bool) (s : _) (more : Option Kind) → NoLetters more → NoLetters (cond b (Some (Sign s)) more)
+one_sign : (b : Bool) (s : _) (more : Option TokenKind) → NoLetters more → NoLetters (cond b (Some (Sign s)) more)
 unfolding NoLetters
 one_sign true s more h = tt
 one_sign false s more h = h
@@ -42,7 +42,7 @@ unfolding NoLetters
 digits true = tt
 digits false = tt
 
-nothing : (b : Bool) (more : Option Kind) → NoLetters more → NoLetters (cond b None more)
+nothing : (b : Bool) (more : Option TokenKind) → NoLetters more → NoLetters (cond b None more)
 unfolding NoLetters
 nothing true more h = tt
 nothing false more h = h
@@ -56,7 +56,7 @@ of_one_none : (b : ℕ) (bs : List ℕ) → NoLetters (of_one Core b bs)
 of_one_none b [] = one_sign _ Semicolon _ (one_sign _ Equals _ (one_sign _ OpenBrace _ (one_sign _ CloseBrace _ (one_sign _ Open _ (one_sign _ Close _ none)))))
 of_one_none b (c ∷ bs) = none
 
-upper_by : (b1 b2 b3 b4 i j k : Bool) (u v : Option Kind) → NoLetters u → NoLetters v
+upper_by : (b1 b2 b3 b4 i j k : Bool) (u v : Option TokenKind) → NoLetters u → NoLetters v
     → cond b1 (cond i (Some Lower) None) (cond b2 (cond j (Some Upper) None) (cond b3 (cond k (Some Digits) None) (cond b4 u v))) ≡ Some Upper → b2 ≡ true
 upper_by true b2 b3 b4 true j k u v h g e = absurd cc
 upper_by true b2 b3 b4 false j k u v h g e = absurd cc
@@ -66,7 +66,7 @@ upper_by false false true b4 i j false u v h g e = absurd cc
 upper_by false false false true i j k u v h g e = absurd (no_upper (subst NoLetters e h))
 upper_by false false false false i j k u v h g e = absurd (no_upper (subst NoLetters e g))
 
-lower_by : (b1 b2 b3 b4 i j k : Bool) (u v : Option Kind) → NoLetters u → NoLetters v
+lower_by : (b1 b2 b3 b4 i j k : Bool) (u v : Option TokenKind) → NoLetters u → NoLetters v
     → cond b1 (cond i (Some Lower) None) (cond b2 (cond j (Some Upper) None) (cond b3 (cond k (Some Digits) None) (cond b4 u v))) ≡ Some Lower → b1 ≡ true
 lower_by true b2 b3 b4 i j k u v h g e = refl
 lower_by false true b3 b4 i true k u v h g e = absurd cc

@@ -10,7 +10,7 @@ use Rattle.seq.proofs.Member.{flat_in, map_in}
 use Rattle.core_reader.specs.declared.syntax.Binder.{Binder}
 use Rattle.core_reader.specs.Tree.{Data, Function, Program}
 use Rattle.core_link.specs.Module.{Module, Import, IsModuleText, text_in, name_of, imported}
-use Rattle.core_link.specs.Rules.{IsUnbroken, Own, InFile, Unread, OfModule, OfFiles, Between, UnknownModule, NotExported, ExportUnknown, IsDeclared, source, Reading, OwnRule, Files}
+use Rattle.core_link.specs.Rules.{IsUnbroken, BreaksOwnRule, InFile, Unread, OfModule, OfFiles, BreaksInterModuleRule, UnknownModule, NotExported, ExportUnknown, IsDeclared, source, Reading, OwnRule, Files}
 use Rattle.core_link.specs.Union.{ConstructorBecomes, FunctionBecomes, with_module, IsUnion}
 use Rattle.core_link.proofs.Beside.{beside, beside_back, found, place_in, in_place}
 use Rattle.core_link.proofs.OfModules.{IsGood, of_text}
@@ -29,8 +29,8 @@ text_is m x w e = cc
 -- modules that break no rule
 pub record IsSound (ms : List Module) : Type 0 where
   pub good : (i : ℕ) (m : Module) → slice_get ms i ≡ Some m → IsGood m
-  pub own : (i : ℕ) (m : Module) → slice_get ms i ≡ Some m → (k at : ℕ) → Own m k at → ⊥
-  pub between : (k file at : ℕ) → Between ms k file at → ⊥
+  pub own : (i : ℕ) (m : Module) → slice_get ms i ≡ Some m → (k at : ℕ) → BreaksOwnRule m k at → ⊥
+  pub between : (k file at : ℕ) → BreaksInterModuleRule ms k file at → ⊥
 
 pub sound_of : (texts : List (List ℕ)) (ms : List Module) → IsUnbroken texts → AllZip IsModuleText texts ms → IsSound ms
 sound_of texts ms u z = record {

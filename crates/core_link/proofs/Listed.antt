@@ -11,13 +11,13 @@ use Rattle.arity_check.specs.Broken.{Broken}
 use Rattle.arity_check.specs.BinderLists.{BinderList, OfFunction, OfGroup, OfPattern}
 use Rattle.arity_check.specs.Known.{is_reserved}
 use Rattle.arity_check.specs.Patterns.{alt_at}
-use Rattle.arity_check.specs.Pieces.{Piece, AnApp, AGroup, SomeAlts, binders_of, bound_by, within, Has, TheApp, TheGroup, InMember, InBody, TheAlts, InTested, InAlts, HasAlts, InThis, InLater, InFunction}
+use Rattle.arity_check.specs.Pieces.{FunctionPart, AnApp, AGroup, SomeAlts, binders_of, bound_by, within, Has, TheApp, TheGroup, InMember, InBody, TheAlts, InTested, InAlts, HasAlts, InThis, InLater, InFunction}
 use Rattle.arity_check.specs.Scope.{Scope}
 use Rattle.arity_check.specs.Tables.{first_of}
 use Rattle.arity_check.specs.Whole.{known_of, int_kind}
 use Rattle.arity_check.proofs.Names.{int_named, from_reserved, to_reserved}
-use Rattle.core_link.specs.Bound.{bound_in, bound_in_alts, bound_in_function, bound_in_functions, is_later, numbered}
-use Rattle.core_link.specs.Found.{IsFirstAt, earliest, binder_place}
+use Rattle.core_link.specs.Bound.{bound_in, bound_in_alts, bound_in_function, bound_in_functions, is_redeclaration, numbered}
+use Rattle.core_link.specs.Found.{IsFirstPlaceWhere, earliest, binder_place}
 use Rattle.core_link.proofs.Firsts.{Passed, PassedAt, passed_at, at_passed, same_first, first_passed, earliest_first}
 use Rattle.core_link.proofs.Owned.{Doubled}
 use Rattle.core_link.proofs.Repeated.{Twice, twice, of_twice, function_placed}
@@ -47,20 +47,20 @@ module _ (p : Program) where
   Among = Passed reserved binder_place
 
   -- what stands in a piece by itself
-  abbrev Direct : Piece → ℕ → Type 0
+  abbrev Direct : FunctionPart → ℕ → Type 0
   Direct (AnApp app) at = ⊥
   Direct (AGroup group) at = Among (binders_of group) at
   Direct (SomeAlts alts) at = (i : ℕ) × (pat : Pattern) × (alt_at alts i ≡ Some pat) × Among (bound_by pat) at
 
   record Piecewise (s : Scope) (e : Expr) (at : ℕ) : Type 0 where
     scope : Scope
-    piece : Piece
+    piece : FunctionPart
     has : Has p s e scope piece
     direct : Direct piece at
 
   record PiecewiseAlts (s : Scope) (alts : Alts) (at : ℕ) : Type 0 where
     scope : Scope
-    piece : Piece
+    piece : FunctionPart
     has : HasAlts p s alts scope piece
     direct : Direct piece at
 
@@ -94,13 +94,13 @@ module _ (p : Program) where
 
   -- ---- and back
 
-  abbrev binders_in : Piece → List Binder
+  abbrev binders_in : FunctionPart → List Binder
   binders_in (AnApp app) = []
   binders_in (AGroup group) = binders_of group
   binders_in (SomeAlts alts) = bound_in_alts alts
 
   mutual
-    in_expr : (s : Scope) (e : Expr) (t : Scope) (piece : Piece) (at : ℕ) → Has p s e t piece → Among (binders_in piece) at → Among (bound_in e) at
+    in_expr : (s : Scope) (e : Expr) (t : Scope) (piece : FunctionPart) (at : ℕ) → Has p s e t piece → Among (binders_in piece) at → Among (bound_in e) at
     in_expr s (App app) t piece at TheApp h = h
     in_expr s (Let group e) t piece at TheGroup h = left reserved binder_place (binders_of group) (bound_in e) at h
     in_expr s (Let group e) t piece at (InMember i is) h = absurd h
@@ -109,7 +109,7 @@ module _ (p : Program) where
     in_expr s (Case e alts) t piece at (InTested w) h = left reserved binder_place (bound_in e) (bound_in_alts alts) at (in_expr s e t piece at w h)
     in_expr s (Case e alts) t piece at (InAlts w) h = right reserved binder_place (bound_in e) (bound_in_alts alts) at (in_alts s alts t piece at w h)
 
-    in_alts : (s : Scope) (alts : Alts) (t : Scope) (piece : Piece) (at : ℕ) → HasAlts p s alts t piece → Among (binders_in piece) at → Among (bound_in_alts alts) at
+    in_alts : (s : Scope) (alts : Alts) (t : Scope) (piece : FunctionPart) (at : ℕ) → HasAlts p s alts t piece → Among (binders_in piece) at → Among (bound_in_alts alts) at
     in_alts s NoAlts t piece at w h = elim w [ ]
     in_alts s (AndAlt pat e alts) t piece at (InThis w) h =
         left reserved binder_place (bound_by pat ++ bound_in e) (bound_in_alts alts) at (right reserved binder_place (bound_by pat) (bound_in e) at (in_expr (within p (bound_by pat) s) e t piece at w h))
@@ -162,7 +162,7 @@ module _ (p : Program) where
       let v = from_reserved p w.item.name.0 w.passes in
       subst (Broken p 22) w.there (program.ReservedBinder w.number v.0 list w.is v.1.1 v.1.2)
 
-  of_piece : (t : Scope) (piece : Piece) (at : ℕ) → InFunction p t piece → Direct piece at → Broken p 22 at
+  of_piece : (t : Scope) (piece : FunctionPart) (at : ℕ) → InFunction p t piece → Direct piece at → Broken p 22 at
   of_piece t (AnApp app) at inside h = absurd h
   of_piece t (AGroup group) at inside h = of_list (binders_of group) at (OfGroup inside) h
   of_piece t (SomeAlts alts) at inside h = of_list (bound_by h.1) at (OfPattern h.0 inside h.2) h.3
@@ -238,7 +238,7 @@ module _ (p : Program) where
   causes k at (program.TooManyFields i e f) = of_none 34 _ refl
   causes k at (program.CoreTooLarge e) = of_none 35 _ refl
 
-  pub reserved_first : IsFirstAt (Broken p 22) (earliest reserved binder_place (earliest int_named_data data_place None p.constructors) (bound_in_functions p.functions))
+  pub reserved_first : IsFirstPlaceWhere (Broken p 22) (earliest reserved binder_place (earliest int_named_data data_place None p.constructors) (bound_in_functions p.functions))
   reserved_first =
       let first = earliest int_named_data data_place None p.constructors in
       let all = bound_in_functions p.functions in
@@ -263,10 +263,10 @@ module _ (p : Program) where
   con_placed x = position_from-zero (λ (d : Data). d.name == x) p.constructors
 
   abbrev later_con : ℕ × Data → Bool
-  later_con q = is_later (con_first q.1.name) q.0
+  later_con q = is_redeclaration (con_first q.1.name) q.0
 
   abbrev later_function : ℕ × Function → Bool
-  later_function q = is_later (function_first q.1.name) q.0
+  later_function q = is_redeclaration (function_first q.1.name) q.0
 
   abbrev con_at : ℕ × Data → ℕ
   con_at q = q.1.at
@@ -291,7 +291,7 @@ module _ (p : Program) where
       let w = of_twice function_name function_place p.functions function_first (function_placed p.functions 0) at ((causes 12 at b).1 refl) in
       inr (subst (Passed later_function function_at_place (numbered 0 p.functions)) w.there (at_passed later_function function_at_place (numbered 0 p.functions) w.number w.item w.is w.passes))
 
-  pub doubles_first : IsFirstAt (Doubled p) (earliest later_function function_at_place (earliest later_con con_at None (numbered 0 p.constructors)) (numbered 0 p.functions))
+  pub doubles_first : IsFirstPlaceWhere (Doubled p) (earliest later_function function_at_place (earliest later_con con_at None (numbered 0 p.constructors)) (numbered 0 p.functions))
   doubles_first =
       let first = earliest later_con con_at None (numbered 0 p.constructors) in
       same_first Again (Doubled p) of_again is_again (earliest later_function function_at_place first (numbered 0 p.functions))

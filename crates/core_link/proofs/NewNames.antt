@@ -5,8 +5,8 @@ use Rattle.std.specs.List.{list_any, list_all}
 use Rattle.std.specs.Str.{bytes_eq}
 use Rattle.seq.proofs.Truth.{two_ways, and_left, and_from, and_parts}
 use Rattle.core_reader.specs.declared.dialect.Dialect.TheVariants.{Core}
-use Rattle.core_reader.specs.declared.look.Kind.{Kind}
-use Rattle.core_reader.specs.declared.look.Kind.TheVariants.{Lower, Upper, Digits, Sign}
+use Rattle.core_reader.specs.declared.look.TokenKind.{TokenKind}
+use Rattle.core_reader.specs.declared.look.TokenKind.TheVariants.{Lower, Upper, Digits, Sign}
 use Rattle.core_reader.specs.declared.look.Sign.TheVariants.{Semicolon, Equals, OpenBrace, CloseBrace, Open, Close}
 use Rattle.core_reader.specs.Bytes.{is_lower, is_upper, is_digit, is_inner}
 use Rattle.core_reader.specs.TokensOf.{every, after_minus, arrow, of_one}
@@ -21,7 +21,7 @@ use Rattle.core_link.proofs.Different.{GlobalIs, Kept, Cut, global_is, LocalIs, 
 
 -- ---- the bytes of a name
 
-abbrev NotLower : Option Kind → Type 0
+abbrev NotLower : Option TokenKind → Type 0
 NotLower (Some Lower) = ⊥
 NotLower o = Unit {0}
 
@@ -46,7 +46,7 @@ arrow_not : (bs : List ℕ) → NotLower (arrow bs)
 arrow_not [] = tt
 arrow_not (b ∷ bs) = tt
 
-either_not : (b : Bool) (o p : Option Kind) → NotLower o → NotLower p → NotLower (cond b o p)
+either_not : (b : Bool) (o p : Option TokenKind) → NotLower o → NotLower p → NotLower (cond b o p)
 either_not true o p h k = h
 either_not false o p h k = k
 
@@ -54,7 +54,7 @@ minus_not : (bs : List ℕ) → NotLower (after_minus bs)
 minus_not [] = tt
 minus_not (c ∷ bs) = either_not (c == 62) (arrow bs) (cond (is_digit c && every is_digit bs) (Some Digits) None) (arrow_not bs) (digits_not (is_digit c && every is_digit bs))
 
-lower_by : (l u g m e d : Bool) (a o : Option Kind) → NotLower a → NotLower o → cond l (cond e (Some Lower) None) (cond u (cond e (Some Upper) None) (cond g (cond d (Some Digits) None) (cond m a o))) ≡ Some Lower → (l ≡ true) × (e ≡ true)
+lower_by : (l u g m e d : Bool) (a o : Option TokenKind) → NotLower a → NotLower o → cond l (cond e (Some Lower) None) (cond u (cond e (Some Upper) None) (cond g (cond d (Some Digits) None) (cond m a o))) ≡ Some Lower → (l ≡ true) × (e ≡ true)
 lower_by true u g m true d a o h k q = (refl, refl)
 lower_by true u g m false d a o h k q = absurd cc
 lower_by false true g m true d a o h k q = absurd cc

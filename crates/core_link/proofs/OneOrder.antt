@@ -7,7 +7,7 @@ use Rattle.std.specs.List.{AllByRecursion}
 use Rattle.std.proofs.lemmas.Map.Keys.{sorted_head, sorted_tail}
 use Rattle.seq.specs.Lists.{In, here, there}
 use Rattle.seq.proofs.Member.{cons_in, none_in}
-use Rattle.core_link.specs.Union.{IsRising}
+use Rattle.core_link.specs.Union.{IsStrictlySorted}
 
 module _ {X : Type 0} (key : X → List ℕ) where
   abbrev pub Below : List ℕ → List ℕ → Type 0
@@ -25,7 +25,7 @@ module _ {X : Type 0} (key : X → List ℕ) where
   abbrev Includes : List X → List X → Type 0
   Includes xs ys = (z : X) → In z xs → In z ys
 
-  module _ (x : X) (xs : List X) (y : X) (ys : List X) (rising : IsRising (map key (x ∷ xs))) (others : IsRising (map key (y ∷ ys))) where
+  module _ (x : X) (xs : List X) (y : X) (ys : List X) (rising : IsStrictlySorted (map key (x ∷ xs))) (others : IsStrictlySorted (map key (y ∷ ys))) where
     heads_by : In x (y ∷ ys) → In y (x ∷ xs) → x ≡ y
     heads_by i j = elim (cons_in y ys i) [
       | inl e ↦ e
@@ -45,7 +45,7 @@ module _ {X : Type 0} (key : X → List ℕ) where
       | inr j ↦ j
     ]
 
-  pub one_order : (xs ys : List X) → IsRising (map key xs) → IsRising (map key ys) → Includes xs ys → Includes ys xs → xs ≡ ys
+  pub one_order : (xs ys : List X) → IsStrictlySorted (map key xs) → IsStrictlySorted (map key ys) → Includes xs ys → Includes ys xs → xs ≡ ys
   one_order [] [] r o h g = refl
   one_order [] (y ∷ ys) r o h g = none_in (g y here)
   one_order (x ∷ xs) [] r o h g = none_in (h x here)

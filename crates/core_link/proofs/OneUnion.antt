@@ -10,7 +10,7 @@ use Rattle.arity_check.specs.Scope.{Scope}
 use Rattle.arity_check.specs.Pieces.{within}
 use Rattle.core_link.specs.Module.{Module, name_of, seen}
 use Rattle.core_link.specs.Union.{LocalBecomes, ConBecomes, UseBecomes, GlobalBecomes, ConstructorBecomes, FunctionBecomes, enter, use_text, with_module, IsUnion, IsLinked}
-use Rattle.core_link.specs.Laws.{OrderIsFree}
+use Rattle.core_link.specs.Laws.{TextOrderIsIrrelevant}
 use Rattle.core_link.proofs.Moved.{Moved, moved, moved_back}
 use Rattle.core_link.proofs.Beside.{in_place, place_in}
 use Rattle.core_link.proofs.OneOrder.{one_order}
@@ -63,7 +63,7 @@ one_union ms ns c d there back u v =
           (subst (λ w. AllZip (λ x e. FunctionBecomes d.names x.0 x.1 e) (with_module (λ m. m.functions) w) d.functions) same v.functions);
     }
 
-pub order_is_free : OrderIsFree
+pub order_is_free : TextOrderIsIrrelevant
 order_is_free texts others p unbroken = (still_unbroken texts others p unbroken, by)
   where
     by : (c d : Program) → IsLinked texts c → IsLinked others d → SameProgram c d × (canonical c ≡ canonical d)

@@ -8,14 +8,14 @@ use Rattle.core_reader.specs.Tree.{Program, Data, Function}
 use Rattle.arity_check.specs.declared.refusal.CheckRefusal.{CheckRefusal}
 use Rattle.arity_check.specs.declared.refusal.CheckRefusal.TheVariants as refusal
 use Rattle.arity_check.specs.declared.order.Order.TheVariants as order
-use Rattle.arity_check.specs.Order.{ranked, IsBefore}
+use Rattle.arity_check.specs.Order.{ranks_of_order, IsBefore}
 use Rattle.arity_check.specs.First.{IsFirstRefusal}
 use Rattle.arity_check.specs.Broken.{Broken}
 use Rattle.arity_check.specs.Whole.{known_of, function_at, fields_at}
 use Rattle.core_link.specs.Module.{Module, body}
-use Rattle.core_link.specs.Rules.{IsDeclared, AsFunction, AsConstructor, Own}
+use Rattle.core_link.specs.Rules.{IsDeclared, AsFunction, AsConstructor, BreaksOwnRule}
 use Rattle.core_link.specs.Rules as rules
-use Rattle.core_link.specs.Found.{IsFirstAt, IsFirstOf, sooner, earliest, binder_place, place_of, declared_by, is_declared}
+use Rattle.core_link.specs.Found.{IsFirstPlaceWhere, NamesFirstBrokenRule, sooner, earliest, binder_place, place_of, declared_by, is_declared}
 use Rattle.core_link.proofs.Firsts.{And, sooner_first, same_first, same_of, PassedAt, first_passed}
 
 -- ---- the refusals of the check
@@ -25,7 +25,7 @@ not_later g k k' at at' (inl l) = absurd (omega (arith, l))
 not_later g k k' at at' (inr (e, inl l)) = omega (arith, l)
 not_later g k k' at at' (inr (e, inr m)) = let s = m.0 in omega (arith, s)
 
-pub unknown_first : (p : Program) (r : Option CheckRefusal) → IsFirstRefusal (ranked order.Unknown) p r → IsFirstAt (Broken p 14) (place_of r)
+pub unknown_first : (p : Program) (r : Option CheckRefusal) → IsFirstRefusal (ranks_of_order order.Unknown) p r → IsFirstPlaceWhere (Broken p 14) (place_of r)
 unknown_first p None h = λ at b. h 14 at b tt
 unknown_first p (Some (refusal.UnknownName at)) h = (h.broken, λ at' b. not_later 1 14 14 at at' (h.first 14 at' b))
 unknown_first p (Some (refusal.DuplicateConstructor at)) h = absurd h.counts
@@ -152,7 +152,7 @@ module _ (m : Module) where
   from_unknown : (at : ℕ) → UnknownExport at → Passes at
   from_unknown at u = record { number = u.i; item = u.export; is = u.is; passes = not_is (is_declared (known_of (body m)) u.export.name.0) (λ e. u.unknown (declared_in u.export.name.0 e)); there = u.place }
 
-  pub exports_first : IsFirstAt UnknownExport (earliest is_unknown binder_place None m.exports)
+  pub exports_first : IsFirstPlaceWhere UnknownExport (earliest is_unknown binder_place None m.exports)
   exports_first = same_first Passes UnknownExport to_unknown from_unknown (earliest is_unknown binder_place None m.exports) (first_passed is_unknown binder_place m.exports)
 
   -- ---- all rules of a module by itself
@@ -178,18 +178,18 @@ module _ (m : Module) where
   below_second k at (inl h) = let e = below_first k at h in omega (arith, e)
   below_second k at (inr h) = let e = h.0 in omega (arith, e)
 
-  doubled_own : (at : ℕ) → Doubled (body m) at → Own m 58 at
+  doubled_own : (at : ℕ) → Doubled (body m) at → BreaksOwnRule m 58 at
   doubled_own at (inl b) = rules.AgainConstructor b
   doubled_own at (inr b) = rules.AgainFunction b
 
-  to_own : (k at : ℕ) → Third k at → Own m k at
+  to_own : (k at : ℕ) → Third k at → BreaksOwnRule m k at
   unfolding nowhere
   to_own k at (inl (inl (inl h))) = absurd h
-  to_own k at (inl (inl (inr h))) = subst (λ n. Own m n at) (sym h.0) (rules.ReservedName h.1)
-  to_own k at (inl (inr h)) = subst (λ n. Own m n at) (sym h.0) (subst (Own m 55) h.1.place (rules.ExportUnknown h.1.i h.1.is h.1.unknown))
-  to_own k at (inr h) = subst (λ n. Own m n at) (sym h.0) (doubled_own at h.1)
+  to_own k at (inl (inl (inr h))) = subst (λ n. BreaksOwnRule m n at) (sym h.0) (rules.ReservedName h.1)
+  to_own k at (inl (inr h)) = subst (λ n. BreaksOwnRule m n at) (sym h.0) (subst (BreaksOwnRule m 55) h.1.place (rules.ExportUnknown h.1.i h.1.is h.1.unknown))
+  to_own k at (inr h) = subst (λ n. BreaksOwnRule m n at) (sym h.0) (doubled_own at h.1)
 
-  from_own : (k at : ℕ) → Own m k at → Third k at
+  from_own : (k at : ℕ) → BreaksOwnRule m k at → Third k at
   from_own k at (rules.ReservedName b) = inl (inl (inr (refl, b)))
   from_own k at (rules.ExportUnknown {b = b} i e u) = inl (inr (refl, record { i = i; export = b; is = e; unknown = u; place = refl }))
   from_own k at (rules.AgainConstructor b) = inr (refl, inl b)
@@ -199,12 +199,12 @@ module _ (m : Module) where
   unfolding nowhere
   never k at h = absurd h
 
-  none_of : IsFirstOf nowhere None
+  none_of : NamesFirstBrokenRule nowhere None
   unfolding nowhere
   none_of = λ k at h. h
 
-  pub own_first : (reserved export double : Option ℕ) → IsFirstAt (Broken (body m) 22) reserved → IsFirstAt UnknownExport export → IsFirstAt (Doubled (body m)) double → IsFirstOf (Own m) (sooner (sooner (sooner None 22 reserved) 55 export) 58 double)
+  pub own_first : (reserved export double : Option ℕ) → IsFirstPlaceWhere (Broken (body m) 22) reserved → IsFirstPlaceWhere UnknownExport export → IsFirstPlaceWhere (Doubled (body m)) double → NamesFirstBrokenRule (BreaksOwnRule m) (sooner (sooner (sooner None 22 reserved) 55 export) 58 double)
   own_first reserved export double r e d =
-      same_of Third (Own m) to_own from_own (sooner (sooner (sooner None 22 reserved) 55 export) 58 double)
+      same_of Third (BreaksOwnRule m) to_own from_own (sooner (sooner (sooner None 22 reserved) 55 export) 58 double)
       (sooner_first Second 58 (Doubled (body m)) (sooner (sooner None 22 reserved) 55 export) double below_second
       (sooner_first First 55 UnknownExport (sooner None 22 reserved) export below_first (sooner_first nowhere 22 (Broken (body m) 22) None reserved never none_of r) e) d)

@@ -3,11 +3,11 @@ use Rattle.std.proofs.Common.{◌≡◌, ℕ, List, [], ◌∷◌, ◌++◌, sym
 use Rattle.std.specs.Prelude.{slice_get}
 use Rattle.seq.specs.Lists.{or_empty}
 use Rattle.core_reader.specs.declared.dialect.Dialect.TheVariants.{Modules}
-use Rattle.core_reader.specs.declared.look.Kind.TheVariants.{Upper}
+use Rattle.core_reader.specs.declared.look.TokenKind.TheVariants.{Upper}
 use Rattle.core_reader.specs.declared.syntax.NameId.{NameId}
 use Rattle.core_reader.specs.declared.token.Token.TheVariants as word
 use Rattle.core_reader.specs.declared.token.Lexeme.{Lexeme}
-use Rattle.core_reader.specs.Grammar.{anywhere, lexeme, name_id}
+use Rattle.core_reader.specs.Grammar.{unlimited_nesting, lexeme, name_id}
 use Rattle.core_reader.specs.TokensOf.{Piece, kind_of}
 use Rattle.core_reader.specs.WordsOf.{said, said_by, number_in}
 use Rattle.core_link.specs.Module.{Module, IsModule, IsModuleText, name_of}
@@ -20,7 +20,7 @@ second_same a b c d us vs e = cc
 con_same : (a b : NameId) → word.Con a ≡ word.Con b → a ≡ b
 con_same a b e = cc
 
-plain_by : (m : Module) (pieces : List Piece) → IsModule anywhere m pieces → IsPlain (name_of m)
+plain_by : (m : Module) (pieces : List Piece) → IsModule unlimited_nesting m pieces → IsPlain (name_of m)
 plain_by m [] h = absurd h.named
 plain_by m (k ∷ []) h = absurd h.named
 plain_by m (k ∷ c ∷ ps) h =

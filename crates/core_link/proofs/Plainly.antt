@@ -7,10 +7,10 @@ use Rattle.std.specs.Str.{bytes_eq}
 use Rattle.std.proofs.lemmas.List.{append-nil}
 use Rattle.seq.specs.Lists.{or_empty}
 use Rattle.core_reader.specs.declared.dialect.Dialect.TheVariants.{Modules}
-use Rattle.core_reader.specs.declared.look.Kind.{Kind}
+use Rattle.core_reader.specs.declared.look.TokenKind.{TokenKind}
 use Rattle.core_reader.specs.declared.look.Sign.TheVariants as signs
 use Rattle.core_reader.specs.declared.syntax.Binder.{Binder}
-use Rattle.core_reader.specs.declared.look.Kind.TheVariants.{Lower, Upper, Digits, Sign}
+use Rattle.core_reader.specs.declared.look.TokenKind.TheVariants.{Lower, Upper, Digits, Sign}
 use Rattle.core_reader.specs.declared.syntax.NameId.{NameId}
 use Rattle.core_reader.specs.declared.token.Token.{Token}
 use Rattle.core_reader.specs.declared.token.Token.TheVariants as word
@@ -18,9 +18,9 @@ use Rattle.core_reader.specs.declared.token.Further.TheVariants as further
 use Rattle.core_reader.specs.declared.token.Lexeme.{Lexeme}
 use Rattle.core_reader.specs.declared.refusal.ReadRefusal.{ReadRefusal}
 use Rattle.core_reader.specs.declared.refusal.ReadRefusal.TheVariants as refusal
-use Rattle.core_reader.specs.Grammar.{Room, anywhere, at_most_200, lexeme, name_id}
+use Rattle.core_reader.specs.Grammar.{NestingLimit, unlimited_nesting, at_most_200, lexeme, name_id}
 use Rattle.core_reader.specs.TokensOf.{Piece, Reads, IsTokens, kind_of}
-use Rattle.core_reader.specs.WordsOf.{said, said_by, said_by_letters, keyword_of, sign_token, number_in}
+use Rattle.core_reader.specs.WordsOf.{said, said_by, keyword_or_name, keyword_of, sign_token, number_in}
 use Rattle.core_reader.specs.NamesOf.{names_of, is_numbered, is_numbered_by, with_name, with_piece}
 use Rattle.core_reader.specs.ProgramsOf.{Viable}
 use Rattle.core_reader.specs.RulesOf as rules
@@ -30,7 +30,7 @@ use Rattle.core_reader.proofs.Readability.{at_number}
 use Rattle.core_reader.proofs.ReadingOf.{IsLast}
 use Rattle.core_reader.proofs.FirstBroken.{ReadText, Clear, large_piece, syntax_first}
 use Rattle.core_reader.proofs.Unique.{Reading, reading, goes_on, stuck}
-use Rattle.core_link.specs.Heading.{misnamed, is_module, is_misname}
+use Rattle.core_link.specs.Heading.{misnamed, is_module, is_bad_module_name}
 use Rattle.core_link.specs.Module.{Module, IsSpelled, IsModule, is_alphanumeric}
 
 -- ---- the first two tokens of a module
@@ -38,7 +38,7 @@ use Rattle.core_link.specs.Module.{Module, IsSpelled, IsModule, is_alphanumeric}
 abbrev module_word : Token
 module_word = word.Further further.Module
 
-said_module : (names names' : List (List ℕ)) (w : List ℕ) (o : Option Token) → said_by_letters names w o ≡ module_word → (said_by_letters names' w o ≡ module_word) × (is_none o ≡ false)
+said_module : (names names' : List (List ℕ)) (w : List ℕ) (o : Option Token) → keyword_or_name names w o ≡ module_word → (keyword_or_name names' w o ≡ module_word) × (is_none o ≡ false)
 said_module names names' w (Some t) e = (e, refl)
 said_module names names' w None e = absurd cc
 
@@ -47,7 +47,7 @@ pub record SaysModule (k : Piece) : Type 0 where
   pub says : (names : List (List ℕ)) → (said Modules names k).token ≡ module_word
   pub unnumbered : is_numbered Modules k ≡ false
 
-says_module_by : (names : List (List ℕ)) (w : List ℕ) (kind : Option Kind) → said_by Modules names w kind ≡ module_word → ((names' : List (List ℕ)) → said_by Modules names' w kind ≡ module_word) × (is_numbered_by Modules w kind ≡ false)
+says_module_by : (names : List (List ℕ)) (w : List ℕ) (kind : Option TokenKind) → said_by Modules names w kind ≡ module_word → ((names' : List (List ℕ)) → said_by Modules names' w kind ≡ module_word) × (is_numbered_by Modules w kind ≡ false)
 says_module_by names w None e = absurd cc
 says_module_by names w (Some Lower) e =
     (λ names'. (said_module names names' w (keyword_of Modules w) e).0, (said_module names names w (keyword_of Modules w) e).1)
@@ -60,11 +60,11 @@ says_module names k e =
     let w = says_module_by names k.bytes (kind_of Modules k.bytes) e in
     record { says = w.0; unnumbered = w.1 }
 
-no_module_letters : (names : List (List ℕ)) (w : List ℕ) (o : Option Token) (n : NameId) → said_by_letters names w o ≡ word.Con n → o ≡ Some (word.Con n)
+no_module_letters : (names : List (List ℕ)) (w : List ℕ) (o : Option Token) (n : NameId) → keyword_or_name names w o ≡ word.Con n → o ≡ Some (word.Con n)
 no_module_letters names w (Some token) n e = ap Some e
 no_module_letters names w None n e = absurd cc
 
-con_kind : (names : List (List ℕ)) (w : List ℕ) (kind : Option Kind) (n : NameId) → (keyword_of Modules w ≡ Some (word.Con n) → ⊥) → said_by Modules names w kind ≡ word.Con n → kind ≡ Some Upper
+con_kind : (names : List (List ℕ)) (w : List ℕ) (kind : Option TokenKind) (n : NameId) → (keyword_of Modules w ≡ Some (word.Con n) → ⊥) → said_by Modules names w kind ≡ word.Con n → kind ≡ Some Upper
 con_kind names w None n none e = absurd cc
 con_kind names w (Some Lower) n none e = absurd (none (no_module_letters names w (keyword_of Modules w) n e))
 con_kind names w (Some Upper) n none e = refl
@@ -123,14 +123,14 @@ unfoldable pub second_token : List Lexeme → Token
 second_token [] = word.Bad
 second_token (t ∷ ts) = first_token ts
 
-pub spelled_first : (l : Room) (m : Module) (ps : List Piece) → IsSpelled l m ps → (first_token (map (said Modules m.names) ps) ≡ module_word) × (second_token (map (said Modules m.names) ps) ≡ word.Con m.name.name)
+pub spelled_first : (l : NestingLimit) (m : Module) (ps : List Piece) → IsSpelled l m ps → (first_token (map (said Modules m.names) ps) ≡ module_word) × (second_token (map (said Modules m.names) ps) ≡ word.Con m.name.name)
 unfolding first_token second_token
 spelled_first l m ps s =
     let h = s.spelled.2 in
     let e = s.spelled.4 ∙ ap (λ w. w ++ s.spelled.1) h.6 in
     (ap first_token e, ap second_token e)
 
-begins_with : (l : Room) (m : Module) (k c : Piece) (more : List Piece) → IsSpelled l m (k ∷ c ∷ more) → BeginsModule k c
+begins_with : (l : NestingLimit) (m : Module) (k c : Piece) (more : List Piece) → IsSpelled l m (k ∷ c ∷ more) → BeginsModule k c
 unfolding first_token second_token
 begins_with l m k c more s =
     let e = spelled_first l m (k ∷ c ∷ more) s in
@@ -144,7 +144,7 @@ piece w = record { bytes = w; at = 0 }
 abbrev smallest : Binder → Module
 smallest b = record { names = codes "A" ∷ []; name = b; exports = []; imports = []; constructors = []; functions = [] }
 
-none_viable : (l : Room) → Viable IsModule l []
+none_viable : (l : NestingLimit) → Viable IsModule l []
 none_viable l = record {
   rest = piece (codes "module") ∷ piece (codes "A") ∷ piece (codes ";") ∷ [];
   whole = smallest (record { name = name_id 0; at = 0 });
@@ -154,7 +154,7 @@ none_viable l = record {
   };
 }
 
-one_viable : (l : Room) (k : Piece) → SaysModule k → Viable IsModule l (k ∷ [])
+one_viable : (l : NestingLimit) (k : Piece) → SaysModule k → Viable IsModule l (k ∷ [])
 one_viable l k s =
     let rest = piece (codes "A") ∷ piece (codes ";") ∷ [] in
     let names : codes "A" ∷ [] ≡ names_of Modules (k ∷ rest) = ap (λ b. fold (with_piece Modules) (if b then with_name [] k.bytes else []) rest) (sym s.unnumbered) in
@@ -173,17 +173,17 @@ one_viable l k s =
       };
     }
 
-plainly : (text : List ℕ) → IsPlain text → (l : Room) (us vs : List Piece) (end : ℕ) (rest : List ℕ) → Reads Modules 0 text (us ++ vs) end rest → Viable IsSpelled l us → Viable IsModule l us
+plainly : (text : List ℕ) → IsPlain text → (l : NestingLimit) (us vs : List Piece) (end : ℕ) (rest : List ℕ) → Reads Modules 0 text (us ++ vs) end rest → Viable IsSpelled l us → Viable IsModule l us
 unfolding first_token second_token
 plainly text plain l [] vs end rest r v = none_viable l
 plainly text plain l (k ∷ []) vs end rest r v = one_viable l k (says_module v.whole.names k (spelled_first l v.whole (k ∷ v.rest) v.is_program).0)
 plainly text plain l (k ∷ c ∷ us) vs end rest r v =
     record { rest = v.rest; whole = v.whole; is_program = record { spelled = v.is_program; named = plain k c (us ++ vs) end rest r (begins_with l v.whole k c (us ++ v.rest) v.is_program) } }
 
-loosely : (l : Room) (us : List Piece) → Viable IsModule l us → Viable IsSpelled l us
+loosely : (l : NestingLimit) (us : List Piece) → Viable IsModule l us → Viable IsSpelled l us
 loosely l us v = record { rest = v.rest; whole = v.whole; is_program = v.is_program.spelled }
 
-pub derived : (text : List ℕ) → IsPlain text → (l : Room) (m : Module) (ps : List Piece) (end : ℕ) (rest : List ℕ) → Reads Modules 0 text ps end rest → IsSpelled l m ps → IsModule l m ps
+pub derived : (text : List ℕ) → IsPlain text → (l : NestingLimit) (m : Module) (ps : List Piece) (end : ℕ) (rest : List ℕ) → Reads Modules 0 text ps end rest → IsSpelled l m ps → IsModule l m ps
 unfolding first_token second_token
 derived text plain l m [] end rest r s = absurd (bad_module (spelled_first l m [] s).0)
   where
@@ -198,22 +198,22 @@ derived text plain l m (k ∷ c ∷ ps) end rest r s = record { spelled = s; nam
 -- ---- the rules with and without it
 
 module _ (text : List ℕ) (plain : IsPlain text) where
-  viable_here : (l : Room) (before : List Piece) (here : Piece) (at : ℕ) → rules.BeginsWith Modules text before here at → Viable IsSpelled l (before ++ here ∷ []) → Viable IsModule l (before ++ here ∷ [])
+  viable_here : (l : NestingLimit) (before : List Piece) (here : Piece) (at : ℕ) → rules.BeginsWith Modules text before here at → Viable IsSpelled l (before ++ here ∷ []) → Viable IsModule l (before ++ here ∷ [])
   viable_here l before here at b v = plainly text plain l (before ++ here ∷ []) [] b.end b.rest (subst (λ w. Reads Modules 0 text w b.end b.rest) (sym (append-nil (before ++ here ∷ []))) b.reads) v
 
-  viable_before : (l : Room) (before : List Piece) (here : Piece) (at : ℕ) → rules.BeginsWith Modules text before here at → Viable IsSpelled l before → Viable IsModule l before
+  viable_before : (l : NestingLimit) (before : List Piece) (here : Piece) (at : ℕ) → rules.BeginsWith Modules text before here at → Viable IsSpelled l before → Viable IsModule l before
   viable_before l before here at b v = plainly text plain l before (here ∷ []) b.end b.rest b.reads v
 
-  viable_all : (pieces : List Piece) → IsTokens Modules text pieces → Viable IsSpelled anywhere pieces → Viable IsModule anywhere pieces
-  viable_all pieces t v = plainly text plain anywhere pieces [] (length text) [] (subst (λ w. Reads Modules 0 text w (length text) []) (sym (append-nil pieces)) t) v
+  viable_all : (pieces : List Piece) → IsTokens Modules text pieces → Viable IsSpelled unlimited_nesting pieces → Viable IsModule unlimited_nesting pieces
+  viable_all pieces t v = plainly text plain unlimited_nesting pieces [] (length text) [] (subst (λ w. Reads Modules 0 text w (length text) []) (sym (append-nil pieces)) t) v
 
   named_fault : (at : ℕ) → rules.IsSyntaxFault Modules IsSpelled text at → rules.IsSyntaxFault Modules IsModule text at
-  named_fault at (rules.AtToken a before here b v none) = rules.AtToken a before here b (viable_before anywhere before here a b v) (λ w. none (loosely anywhere (before ++ here ∷ []) w))
+  named_fault at (rules.AtToken a before here b v none) = rules.AtToken a before here b (viable_before unlimited_nesting before here a b v) (λ w. none (loosely unlimited_nesting (before ++ here ∷ []) w))
   named_fault at (rules.AtEnd pieces t v none) = rules.AtEnd pieces t (viable_all pieces t v) (λ p d. none p d.spelled)
 
   loose_fault : (at : ℕ) → rules.IsSyntaxFault Modules IsModule text at → rules.IsSyntaxFault Modules IsSpelled text at
-  loose_fault at (rules.AtToken a before here b v none) = rules.AtToken a before here b (loosely anywhere before v) (λ w. none (viable_here anywhere before here a b w))
-  loose_fault at (rules.AtEnd pieces t v none) = rules.AtEnd pieces t (loosely anywhere pieces v) (λ p d. none p (derived text plain anywhere p pieces (length text) [] t d))
+  loose_fault at (rules.AtToken a before here b v none) = rules.AtToken a before here b (loosely unlimited_nesting before v) (λ w. none (viable_here unlimited_nesting before here a b w))
+  loose_fault at (rules.AtEnd pieces t v none) = rules.AtEnd pieces t (loosely unlimited_nesting pieces v) (λ p d. none p (derived text plain unlimited_nesting p pieces (length text) [] t d))
 
   named_deep : (at : ℕ) → rules.IsTooDeep Modules IsSpelled text at → rules.IsTooDeep Modules IsModule text at
   named_deep at d = record {
@@ -221,7 +221,7 @@ module _ (text : List ℕ) (plain : IsPlain text) where
     here = d.here;
     begins = d.begins;
     fits = viable_before at_most_200 d.before d.here at d.begins d.fits;
-    goes_on = viable_here anywhere d.before d.here at d.begins d.goes_on;
+    goes_on = viable_here unlimited_nesting d.before d.here at d.begins d.goes_on;
     too_many = λ w. d.too_many (loosely at_most_200 (d.before ++ d.here ∷ []) w);
   }
 
@@ -231,7 +231,7 @@ module _ (text : List ℕ) (plain : IsPlain text) where
     here = d.here;
     begins = d.begins;
     fits = loosely at_most_200 d.before d.fits;
-    goes_on = loosely anywhere (d.before ++ d.here ∷ []) d.goes_on;
+    goes_on = loosely unlimited_nesting (d.before ++ d.here ∷ []) d.goes_on;
     too_many = λ w. d.too_many (viable_here at_most_200 d.before d.here at d.begins w);
   }
 
@@ -338,10 +338,10 @@ second_name k c ps u =
 abbrev plain_name : List ℕ → Bool
 plain_name w = list_all is_alphanumeric w
 
-misname_is : (names : List (List ℕ)) (k c : Piece) (ps : List Piece) → names ≡ names_of Modules (k ∷ c ∷ ps) → kind_of Modules c.bytes ≡ Some Upper → is_misname names (said Modules names c).token ≡ not (plain_name c.bytes)
+misname_is : (names : List (List ℕ)) (k c : Piece) (ps : List Piece) → names ≡ names_of Modules (k ∷ c ∷ ps) → kind_of Modules c.bytes ≡ Some Upper → is_bad_module_name names (said Modules names c).token ≡ not (plain_name c.bytes)
 misname_is names k c ps e u =
     let at : slice_get names (number_in names c.bytes) ≡ Some c.bytes = subst (λ v. slice_get v (number_in v c.bytes) ≡ Some c.bytes) (sym e) (second_name k c ps u) in
-    ap (λ o. is_misname names (said_by Modules names c.bytes o)) u ∙ ap (λ o. not (plain_name (or_empty o))) at
+    ap (λ o. is_bad_module_name names (said_by Modules names c.bytes o)) u ∙ ap (λ o. not (plain_name (or_empty o))) at
 
 no_refusal : (a b : Bool) (at : ℕ) (o : Option ℕ) → o ≡ (if a && b then Some at else None) → o ≡ None → a ≡ true → b ≡ false
 no_refusal true true at o e f h = absurd (some_none (sym e ∙ f))
@@ -361,7 +361,7 @@ module_token t e = ap is_module e
 plain_from : (names : List (List ℕ)) (k c : Piece) (ps : List Piece) (last : Lexeme) → names ≡ names_of Modules (k ∷ c ∷ ps) → BeginsModule k c → misnamed names (map (said Modules names) (k ∷ c ∷ ps) ++ last ∷ []) ≡ None → plain_name c.bytes ≡ true
 plain_from names k c ps last e b m =
     let y = said Modules names c in
-    let f = no_refusal (is_module (said Modules names k).token) (is_misname names y.token) y.at (misnamed names (map (said Modules names) (k ∷ c ∷ ps) ++ last ∷ [])) refl m (module_token (said Modules names k).token (b.keyword.says names)) in
+    let f = no_refusal (is_module (said Modules names k).token) (is_bad_module_name names y.token) y.at (misnamed names (map (said Modules names) (k ∷ c ∷ ps) ++ last ∷ [])) refl m (module_token (said Modules names k).token (b.keyword.says names)) in
     not_false (plain_name c.bytes) (sym (misname_is names k c ps e b.name) ∙ f)
 
 same_two : (k c k' c' : Piece) (us ps : List Piece) → k ∷ c ∷ us ≡ k' ∷ c' ∷ ps → (k ≡ k') × (c ≡ c')
@@ -385,7 +385,7 @@ is_con_token : Token → Bool
 is_con_token (word.Con n) = true
 is_con_token token = false
 
-misname_con : (names : List (List ℕ)) (t : Token) → is_misname names t ≡ true → (n : NameId) × (t ≡ word.Con n)
+misname_con : (names : List (List ℕ)) (t : Token) → is_bad_module_name names t ≡ true → (n : NameId) × (t ≡ word.Con n)
 misname_con names (word.Con n) e = (n, refl)
 misname_con names (word.Name n) e = absurd cc
 misname_con names (word.Number m v) e = absurd cc
@@ -453,17 +453,17 @@ misnamed_two : (text : List ℕ) (names : List (List ℕ)) (at end : ℕ) (rest 
     → rules.IsFirstUnread Modules IsModule text 2 at
 misnamed_two text names at end rest last [] t h m = absurd cc
 misnamed_two text names at end rest last (k ∷ []) t h m =
-    let r = refused_at (is_module (said Modules names k).token) (is_misname names last.token) last.at at m in
+    let r = refused_at (is_module (said Modules names k).token) (is_bad_module_name names last.token) last.at at m in
     let c = misname_con names last.token r.1 in
     absurd (last_no_con last c.0 h c.1)
 misnamed_two text names at end rest last (k ∷ c ∷ ps) t h m =
     let y = said Modules names c in
-    let r = refused_at (is_module (said Modules names k).token) (is_misname names y.token) y.at at m in
+    let r = refused_at (is_module (said Modules names k).token) (is_bad_module_name names y.token) y.at at m in
     let s = says_module names k (module_is (said Modules names k).token r.0) in
     let n = misname_con names y.token r.1 in
     let u = con_is names c n.0 n.1 in
     let bad : not (plain_name c.bytes) ≡ true = sym (misname_is names k c ps t.named u) ∙ r.1 in
-    let clear : Clear Modules IsModule (k ∷ []) = record { some = one_viable anywhere k s; shallow = one_viable at_most_200 k s; small = (t.in_range.0, tt) } in
+    let clear : Clear Modules IsModule (k ∷ []) = record { some = one_viable unlimited_nesting k s; shallow = one_viable at_most_200 k s; small = (t.in_range.0, tt) } in
     subst (rules.IsFirstUnread Modules IsModule text 2) r.2 (syntax_first text (k ∷ c ∷ ps) end rest names (k ∷ []) c ps t refl clear (λ v. not_true (plain_name c.bytes) bad v.is_program.named))
 
 -- Where the code finds another name, rule 2 is broken there, and none before.

@@ -10,7 +10,7 @@ use Rattle.core_reader.specs.declared.syntax.Pattern.{Pattern}
 use Rattle.core_reader.specs.declared.syntax.Pattern.TheVariants as pattern
 use Rattle.core_reader.specs.Tree as tree
 use Rattle.core_reader.specs.Tree.{Term, Terms, NoTerms, AndTerm, Application, Bind, Expr, App, Let, Case, Alts, NoAlts, AndAlt, Data, Function}
-use Rattle.core_reader.specs.Grammar.{IsGroup, IsSomeAlts}
+use Rattle.core_reader.specs.Grammar.{IsGroup, IsNonemptyAlts}
 use Rattle.core_reader.specs.Readable.{IsName, IsConstructor, IsTextAt, IsNamed, IsBound, ReadableTerm, ReadableTerms, ReadableBind, ReadablePattern, ReadableExpr, ReadableAlts, ReadableData, ReadableFunction}
 use Rattle.arity_check.specs.declared.meaning.Meaning.{Meaning}
 use Rattle.arity_check.specs.declared.meaning.Meaning.TheVariants as stands
@@ -20,7 +20,7 @@ use Rattle.arity_check.specs.Pieces.{binders_of, bound_by}
 use Rattle.arity_check.specs.Whole.{known_of}
 use Rattle.arity_check.proofs.Names.{meaning_means}
 use Rattle.core_link.specs.Module.{Module, Import, text_in, name_of, seen, imported, imported_functions, is_constructor}
-use Rattle.core_link.specs.Union.{global_text, local_text, home, import_home}
+use Rattle.core_link.specs.Union.{global_text, local_text, home_module, import_home}
 use Rattle.core_link.specs.Joinable.{IsPlain, NamesPlainly}
 use Rattle.core_link.specs.Renaming.{Numbers, number_for, renamed_binder, renamed_term, renamed_terms, renamed_bind, renamed_pattern, renamed_expr, renamed_alts, renamed_data, renamed_function}
 use Rattle.core_link.proofs.Homes.{function_text, declared_text}
@@ -57,7 +57,7 @@ module _ (m : Module) (plain : IsPlain (name_of m)) (sources : AllOf (NamesPlain
   import_plain j None e = refl
   import_plain j (Some i) e = all_get FromPlain (imported_functions m) j i (all_filter FromPlain (λ (i : Binder × Binder). not (is_constructor m i.1)) (imported m) (from_each m.imports sources)) e
 
-  home_plain : (g : ℕ) → IsPlain (home m g)
+  home_plain : (g : ℕ) → IsPlain (home_module m g)
   home_plain g = by (nat_lt g (length m.functions))
     where
       by : (b : Bool) → IsPlain (if b then name_of m else import_home m (slice_get (imported_functions m) (g - length m.functions)))
@@ -84,7 +84,7 @@ module _ (m : Module) (plain : IsPlain (name_of m)) (sources : AllOf (NamesPlain
     used_by s x h (stands.Local y) e = (local_text h.0, are.locals x h.0 h.1, local_name h.0 h.2)
     used_by s x h (stands.Function g params) e =
         let text : text_in m x ≡ h.0 = ap or_empty h.1 in
-        (global_text (text_in m x) (home m g), are.functions g (global_text (text_in m x) (home m g)) (function_text m s x g params e), global_name (text_in m x) (home m g) (subst IsName (sym text) h.2) (home_plain g))
+        (global_text (text_in m x) (home_module m g), are.functions g (global_text (text_in m x) (home_module m g)) (function_text m s x g params e), global_name (text_in m x) (home_module m g) (subst IsName (sym text) h.2) (home_plain g))
     used_by s x h (stands.Primitive op) e = (h.0, are.itself x h.0 h.1, h.2)
     used_by s x h stands.Unbound e = (h.0, are.itself x h.0 h.1, h.2)
 
@@ -117,7 +117,7 @@ module _ (m : Module) (plain : IsPlain (name_of m)) (sources : AllOf (NamesPlain
     group_stays s [] h = h
     group_stays s (b ∷ bs) h = h
 
-    alts_stay : (s : Scope) (alts : Alts) → IsSomeAlts alts → IsSomeAlts (renamed_alts n k s alts)
+    alts_stay : (s : Scope) (alts : Alts) → IsNonemptyAlts alts → IsNonemptyAlts (renamed_alts n k s alts)
     alts_stay s NoAlts h = h
     alts_stay s (AndAlt p e alts) h = h
 

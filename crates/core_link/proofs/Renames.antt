@@ -19,7 +19,7 @@ use Rattle.arity_check.specs.Pieces.{binders_of, bound_by, within}
 use Rattle.arity_check.specs.Whole.{known_of}
 use Rattle.arity_check.proofs.Names.{meaning_means, entered_within}
 use Rattle.core_link.specs.Module.{Module, text_in, name_of, seen}
-use Rattle.core_link.specs.Union.{global_text, local_text, home, meaning_text, Becomes, LocalBecomes, ConBecomes, UseBecomes, ConstructorBecomes, FunctionBecomes, enter}
+use Rattle.core_link.specs.Union.{global_text, local_text, home_module, meaning_text, Becomes, LocalBecomes, ConBecomes, UseBecomes, ConstructorBecomes, FunctionBecomes, enter}
 use Rattle.core_link.specs.Renaming.{Numbers, number_for, renamed_binder, renamed_term, renamed_terms, renamed_bind, renamed_pattern, renamed_expr, renamed_alts, renamed_data, renamed_function, function_texts}
 use Rattle.core_link.proofs.Homes.{function_text, declared_text}
 
@@ -70,7 +70,7 @@ module _ (names : List (List ℕ)) (m : Module) (n : Numbers) where
 
     use_by : (s : Scope) (x : ℕ) (w : List ℕ) → slice_get m.names x ≡ Some w → (o : Meaning) → means (seen m) s x ≡ o → Becomes names m (meaning_text m (text_in m x) o) (number_for n x o)
     use_by s x w e (stands.Local y) f = local_becomes x w e
-    use_by s x w e (stands.Function g params) f = are.functions g (global_text (text_in m x) (home m g)) (function_text m s x g params f)
+    use_by s x w e (stands.Function g params) f = are.functions g (global_text (text_in m x) (home_module m g)) (function_text m s x g params f)
     use_by s x w e (stands.Primitive op) f = con_becomes x w e
     use_by s x w e stands.Unbound f = con_becomes x w e
 

@@ -6,7 +6,7 @@ use Rattle.std.proofs.lemmas.Bool.{eqb-true, eq-eqb}
 use Rattle.core_reader.specs.Tree.{Function}
 use Rattle.arity_check.specs.Tables.{first_of}
 use Rattle.arity_check.specs.Whole.{function_at}
-use Rattle.core_link.specs.Bound.{is_later, numbered}
+use Rattle.core_link.specs.Bound.{is_redeclaration, numbered}
 use Rattle.core_link.proofs.Firsts.{PassedAt}
 
 -- ---- items with their numbers
@@ -92,12 +92,12 @@ module _ {X : Type 0} (name place : X → ℕ) (xs : List X) where
 
   module _ (number : ℕ → Option ℕ) (first : (x : ℕ) → number x ≡ position_from (λ y. name y == x) 0 xs) where
     abbrev Later : ℕ × X → Bool
-    Later q = is_later (number (name q.1)) q.0
+    Later q = is_redeclaration (number (name q.1)) q.0
 
     pub twice : (at : ℕ) → PassedAt Later (λ q. place q.1) (numbered 0 xs) at → Twice at
     twice at w = go (number (name w.item.1)) refl w.passes
       where
-        go : (o : Option ℕ) → number (name w.item.1) ≡ o → is_later o w.item.0 ≡ true → Twice at
+        go : (o : Option ℕ) → number (name w.item.1) ≡ o → is_redeclaration o w.item.0 ≡ true → Twice at
         go None e h = absurd cc
         go (Some n) e h =
             let q = w.item in
@@ -115,4 +115,4 @@ module _ {X : Type 0} (name place : X → ℕ) (xs : List X) where
         let b = t.before in
         let lt : f.number < 0 + t.j = omega (arith, a, b) in
         let later : nat_lt f.number (0 + t.j) ≡ true = grind (arith, lt) in
-        record { number = t.j; item = (0 + t.j, t.other); is = at_numbered 0 xs t.j t.other t.is_other; passes = ap (λ o. is_later o (0 + t.j)) (first (name t.other) ∙ f.is) ∙ later; there = t.there }
+        record { number = t.j; item = (0 + t.j, t.other); is = at_numbered 0 xs t.j t.other t.is_other; passes = ap (λ o. is_redeclaration o (0 + t.j)) (first (name t.other) ∙ f.is) ∙ later; there = t.there }

@@ -14,8 +14,8 @@ use Rattle.std.proofs.lemmas.List.Sums.{sum_by-cons}
 use Rattle.std.proofs.lemmas.Map.Lookups.{exact_bytes}
 use Rattle.std.proofs.lemmas.Slice.Eq.{bytes_eq-Decides}
 use Rattle.seq.proofs.Truth.{two_ways}
-use Rattle.core_reader.specs.Different.{AreDifferent}
-use Rattle.core_link.specs.Union.{IsRising}
+use Rattle.core_reader.specs.Different.{AreDistinct}
+use Rattle.core_link.specs.Union.{IsStrictlySorted}
 
 abbrev Texts : Type 0
 Texts = List (List ℕ)
@@ -43,7 +43,7 @@ never w (v ∷ ws) h = elim (two_ways (bytes_eq w v)) [
   | inr n ↦ (λ i. one_if (n i) + never w ws (All-tail (λ v. v ≢ w) v ws h) i)
 ]
 
-once : (w : List ℕ) (ws : Texts) → AreDifferent ws → times w ws ≤ 1
+once : (w : List ℕ) (ws : Texts) → AreDistinct ws → times w ws ≤ 1
 unfolding times one_if
 once w [] h = omega arith
 once w (v ∷ ws) h = elim (two_ways (bytes_eq w v)) [
@@ -66,7 +66,7 @@ module _ {X : Type 0} (key : X → List ℕ) where
   times_sum w (x ∷ xs) = ap (λ n. one_if (bytes_eq w (key x)) + n) (times_sum w xs) ∙ sym (sum_by-cons (λ x. one_if (bytes_eq w (key x))) x xs)
 
   -- in another order each text stands as often
-  still_once : (xs ys : List X) → IsPermutation xs ys → AreDifferent (map key xs) → (w : List ℕ) → times w (map key ys) ≤ 1
+  still_once : (xs ys : List X) → IsPermutation xs ys → AreDistinct (map key xs) → (w : List ℕ) → times w (map key ys) ≤ 1
   still_once xs ys p d w =
       let e = sum_by-IsPermutation (λ x. one_if (bytes_eq w (key x))) xs ys p in
       omega (arith, e, times_sum w xs, times_sum w ys, once w (map key xs) d)
@@ -96,7 +96,7 @@ module _ {X : Type 0} (key : X → List ℕ) where
         below v ys (λ k d l. h (suc k) d (omega (arith, l))) (omega (arith, z)),
       )
 
-  rising_by : (xs : List X) → ((w : List ℕ) → times w (map key xs) ≤ 1) → IsSortedByKey key order xs → IsRising (map key xs)
+  rising_by : (xs : List X) → ((w : List ℕ) → times w (map key xs) ≤ 1) → IsSortedByKey key order xs → IsStrictlySorted (map key xs)
   unfolding IsStrictlySortedBy times one_if
   rising_by [] o s = tt
   rising_by (x ∷ xs) o s =
@@ -107,5 +107,5 @@ module _ {X : Type 0} (key : X → List ℕ) where
         rising_by xs (λ w. omega (arith, o w)) (λ k d l h. let e : suc k + 1 ≡ suc (k + 1) = omega arith in subst (λ j. is_lt (order (key (get_or (x ∷ xs) j d)) (key (get_or xs k d))) ≡ false) e (s (suc k) d (omega arith) (omega (arith, h)))),
       )
 
-  pub rising : (xs ys : List X) → IsPermutation xs ys → AreDifferent (map key xs) → IsSortedByKey key order ys → IsRising (map key ys)
+  pub rising : (xs ys : List X) → IsPermutation xs ys → AreDistinct (map key xs) → IsSortedByKey key order ys → IsStrictlySorted (map key ys)
   rising xs ys p d s = rising_by ys (still_once xs ys p d) s

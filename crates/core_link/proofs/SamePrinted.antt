@@ -11,8 +11,8 @@ use Rattle.arity_check.specs.declared.normal.Flat.TheVariants as flat
 use Rattle.arity_check.specs.Program.{Program, Function, Term, App, Let, Case, Branches, NoMore, OnCon, OnInt, OnAny}
 use Rattle.core_meaning.specs.Heap.{Value, Int, Con, Part, Delayed, Call, Apply, Prim, Global, Input, Binding, Known, Waiting, Env, with_local, with_locals}
 use Rattle.core_meaning.specs.ByNeed as by_need
-use Rattle.core_meaning.specs.ByNeed.{State, Answer, Onward, OutOfBound, Gives, NoAlternative, and_then, with_number, is_con, fields_of, is_int, spend, append, taken, con_named, with_group, global, params_of, globals, Printed, on_value, on_list, on_byte, stops, Going}
-use Rattle.core_meaning.specs.Numbers.{operate}
+use Rattle.core_meaning.specs.ByNeed.{State, Answer, DelayedEvaluator, OutOfBound, Gives, NoAlternative, and_then, with_number, is_con, fields_of, is_int, spend, append, taken, con_named, with_group, global, params_of, globals, PrintedRun, on_value, on_list, on_byte, stops, Going}
+use Rattle.core_meaning.specs.Numbers.{primitive_result}
 
 abbrev pub SameBody : Function → Function → Type 0
 SameBody f g = (f.params ≡ g.params) × (f.body ≡ g.body)
@@ -92,7 +92,7 @@ module _ (nowhere : ℕ) (lost : State → Answer) (p q : Program) (same_cons : 
   same_cons_number = ap (con_named (codes "Cons")) same_cons
 
   -- where what follows a delayed form is the same
-  module _ (on on' : Onward) (same : on ≡ on') where
+  module _ (on on' : DelayedEvaluator) (same : on ≡ on') where
     give_by : (v : Value) (b d : ℕ) (s : State) → by_need.give p on v b d s ≡ by_need.give q on' v b d s
     give_by (Part f given) b d s = λ i. if nat_lt (suc (length given)) (same_params i f) then Gives (Part f (given ++ b ∷ [])) s else same i (Call f (given ++ b ∷ [])) d s
     give_by (Int k) b d s = refl
@@ -124,7 +124,7 @@ module _ (nowhere : ℕ) (lost : State → Answer) (p q : Program) (same_cons : 
 
     same_prim : by_need.prim nowhere lost p on ≡ by_need.prim nowhere lost q on'
     same_prim = λ i op a b d s.
-        and_then (same_force i a (suc d) s) (λ v s. with_number v s (λ k. and_then (same_force i b (suc d) s) (λ w s. with_number w s (λ j. Gives (Int (operate op k j)) s))))
+        and_then (same_force i a (suc d) s) (λ v s. with_number v s (λ k. and_then (same_force i b (suc d) s) (λ w s. with_number w s (λ j. Gives (Int (primitive_result op k j)) s))))
 
     form_by : (env : Env) (f : Flat) (d : ℕ) (s : State) → by_need.form nowhere lost p on env f d s ≡ by_need.form nowhere lost q on' env f d s
     form_by env (flat.Int k) d s = refl

@@ -8,7 +8,7 @@ use Rattle.core_reader.specs.Tree as tree
 use Rattle.core_reader.specs.Tree.{Term, Application, Alts, Bind, Program}
 use Rattle.core_print.specs.Renamed.{RenamedBinder, RenamedTerm, RenamedApp, RenamedBind, RenamedPattern, RenamedAlts}
 use Rattle.arity_check.specs.Scope.{Scope}
-use Rattle.arity_check.specs.Pieces.{Piece, AnApp, AGroup, SomeAlts, binders_of}
+use Rattle.arity_check.specs.Pieces.{FunctionPart, AnApp, AGroup, SomeAlts, binders_of}
 use Rattle.core_link.proofs.Back.{LikePiece}
 
 module _ (p q : Program) {S : Type 0} (enter : List Binder → List Binder → S → S) (OfBinder OfCon : ℕ → ℕ → Type 0) (OfUse : S → ℕ → ℕ → Type 0) (Fits : S → Scope → Scope → Type 0) where
@@ -21,16 +21,16 @@ module _ (p q : Program) {S : Type 0} (enter : List Binder → List Binder → S
     con_before (tree.Con n to) x at r = (n, to, refl, r)
     con_before a x at r = absurd r
 
-    pub app_before : (piece : Piece) (app : Application) → LikePiece p q enter OfBinder OfCon OfUse Fits c piece (AnApp app) → (a : Application) × (piece ≡ AnApp a) × RenamedApp enter OfBinder OfCon OfUse c a app
+    pub app_before : (piece : FunctionPart) (app : Application) → LikePiece p q enter OfBinder OfCon OfUse Fits c piece (AnApp app) → (a : Application) × (piece ≡ AnApp a) × RenamedApp enter OfBinder OfCon OfUse c a app
     app_before (AnApp a) app r = (a, refl, r)
     app_before piece app r = absurd r
 
-    pub group_before : (piece : Piece) (others : List Bind) → LikePiece p q enter OfBinder OfCon OfUse Fits c piece (AGroup others)
+    pub group_before : (piece : FunctionPart) (others : List Bind) → LikePiece p q enter OfBinder OfCon OfUse Fits c piece (AGroup others)
         → (group : List Bind) × (piece ≡ AGroup group) × AllZip (RenamedBind enter OfBinder OfCon OfUse (enter (binders_of group) (binders_of others) c)) group others
     group_before (AGroup group) others r = (group, refl, r)
     group_before piece others r = absurd r
 
-    pub alts_before : (piece : Piece) (others : Alts) → LikePiece p q enter OfBinder OfCon OfUse Fits c piece (SomeAlts others) → (alts : Alts) × (piece ≡ SomeAlts alts) × RenamedAlts enter OfBinder OfCon OfUse c alts others
+    pub alts_before : (piece : FunctionPart) (others : Alts) → LikePiece p q enter OfBinder OfCon OfUse Fits c piece (SomeAlts others) → (alts : Alts) × (piece ≡ SomeAlts alts) × RenamedAlts enter OfBinder OfCon OfUse c alts others
     alts_before (SomeAlts alts) others r = (alts, refl, r)
     alts_before piece others r = absurd r
 

@@ -13,9 +13,9 @@ use denote.Ref.{Bor}
 use Rattle.seq.proofs.Lists.{drop_next, map_append}
 use Rattle.core_reader.specs.declared.syntax.Binder.{Binder}
 use Rattle.core_reader.specs.LexedOf.{texts_of}
-use Rattle.arity_check.specs.Faults.{also}
+use Rattle.arity_check.specs.Faults.{with_member}
 use Rattle.core_link.specs.Module.{Module, Import, text_in}
-use Rattle.core_link.specs.Found.{earlier_if, earliest, earliest_again, seen_with}
+use Rattle.core_link.specs.Found.{earlier_place_if, earliest, first_repeated_name, with_names_seen}
 use Rattle.core_link.specs.Shared.{has, found_at, lacks}
 use Rattle.core_link.proofs.Takings.{pairs, names_of}
 use Rattle.core_link.proofs.Tables.{or_again, not_not}
@@ -36,20 +36,20 @@ put_next keys new word rest next all e put h w =
 -- ---- first places
 
 pub earliest_next : {X Y : Type 0} (g : X → Y) (test : Y → Bool) (place : Y → ℕ) (items : List X) (i : ℕ) (d : X) (b : Bool) (at : ℕ) (first now all : Option ℕ) → i < length items → b ≡ test (g (get_or items i d)) → at ≡ place (g (get_or items i d))
-    → now ≡ earlier_if b first at → earliest test place first (map g (drop i items)) ≡ all → earliest test place now (map g (drop (i + 1) items)) ≡ all
+    → now ≡ earlier_place_if b first at → earliest test place first (map g (drop i items)) ≡ all → earliest test place now (map g (drop (i + 1) items)) ≡ all
 earliest_next g test place items i d b at first now all l t p n h =
-    ap (λ o. earliest test place o (map g (drop (i + 1) items))) (n ∙ ap (λ c. earlier_if c first at) t ∙ ap (earlier_if (test (g (get_or items i d))) first) p)
+    ap (λ o. earliest test place o (map g (drop (i + 1) items))) (n ∙ ap (λ c. earlier_place_if c first at) t ∙ ap (earlier_place_if (test (g (get_or items i d))) first) p)
     ∙ ap (λ xs. earliest test place first (map g xs)) (sym (drop_next items i d l)) ∙ h
 
 pub earliest_item : {X : Type 0} (test : X → Bool) (place : X → ℕ) (items : List X) (i : ℕ) (d : X) (b : Bool) (at : ℕ) (first now all : Option ℕ) → i < length items → b ≡ test (get_or items i d) → at ≡ place (get_or items i d)
-    → now ≡ earlier_if b first at → earliest test place first (drop i items) ≡ all → earliest test place now (drop (i + 1) items) ≡ all
+    → now ≡ earlier_place_if b first at → earliest test place first (drop i items) ≡ all → earliest test place now (drop (i + 1) items) ≡ all
 earliest_item test place items i d b at first now all l t p n h =
-    ap (λ o. earliest test place o (drop (i + 1) items)) (n ∙ ap (λ c. earlier_if c first at) t ∙ ap (earlier_if (test (get_or items i d)) first) p)
+    ap (λ o. earliest test place o (drop (i + 1) items)) (n ∙ ap (λ c. earlier_place_if c first at) t ∙ ap (earlier_place_if (test (get_or items i d)) first) p)
     ∙ ap (λ xs. earliest test place first xs) (sym (drop_next items i d l)) ∙ h
 
 pub earliest_append : {X : Type 0} (test : X → Bool) (place : X → ℕ) (first : Option ℕ) (xs ys : List X) → earliest test place first (xs ++ ys) ≡ earliest test place (earliest test place first xs) ys
 earliest_append test place first [] ys = refl
-earliest_append test place first (x ∷ xs) ys = earliest_append test place (earlier_if (test x) first (place x)) xs ys
+earliest_append test place first (x ∷ xs) ys = earliest_append test place (earlier_place_if (test x) first (place x)) xs ys
 
 -- the items that one more thing of a list has
 pub items_next : {T X : Type 0} (all : List T → List X) (one : T → List X) → ((t : T) (ts : List T) → all (t ∷ ts) ≡ one t ++ all ts) → (test : X → Bool) (place : X → ℕ) (items : List T) (i : ℕ) (t : T) → i < length items → t ≡ get_or items i t
@@ -67,7 +67,7 @@ items_done all none test place items i l first whole h = ap (earliest test place
 
 earliest_map : {X Y : Type 0} (g : X → Y) (test : Y → Bool) (place : Y → ℕ) (first : Option ℕ) (xs : List X) → earliest test place first (map g xs) ≡ earliest (λ x. test (g x)) (λ x. place (g x)) first xs
 earliest_map g test place first [] = refl
-earliest_map g test place first (x ∷ xs) = earliest_map g test place (earlier_if (test (g x)) first (place (g x))) xs
+earliest_map g test place first (x ∷ xs) = earliest_map g test place (earlier_place_if (test (g x)) first (place (g x))) xs
 
 pub never_found : {X : Type 0} (place : X → ℕ) (first : Option ℕ) (xs : List X) → earliest (λ x. false) place first xs ≡ first
 never_found place first [] = refl
@@ -97,9 +97,9 @@ module _ {S : Type 0} (m : Module) (entries : List (Bor (List ℕ) × HashSet (B
 
 -- ---- names that are taken
 
-again_append : (declared seen : ℕ → Bool) (first : Option ℕ) (xs ys : List Binder) → earliest_again declared seen first (xs ++ ys) ≡ earliest_again declared (seen_with seen xs) (earliest_again declared seen first xs) ys
+again_append : (declared seen : ℕ → Bool) (first : Option ℕ) (xs ys : List Binder) → first_repeated_name declared seen first (xs ++ ys) ≡ first_repeated_name declared (with_names_seen seen xs) (first_repeated_name declared seen first xs) ys
 again_append declared seen first [] ys = refl
-again_append declared seen first (b ∷ xs) ys = again_append declared (also b.name.0 seen) (earlier_if (seen b.name.0 || declared b.name.0) first b.at) xs ys
+again_append declared seen first (b ∷ xs) ys = again_append declared (with_member b.name.0 seen) (earlier_place_if (seen b.name.0 || declared b.name.0) first b.at) xs ys
 
 without_source : (from : Binder) (bs : List Binder) → map (λ (i : Binder × Binder). i.1) (map (λ b. (from, b)) bs) ≡ bs
 without_source from [] = refl
@@ -108,11 +108,11 @@ without_source from (b ∷ bs) = ap (λ cs. b ∷ cs) (without_source from bs)
 names_next : (x : Import) (rest : List Import) → names_of (x ∷ rest) ≡ x.names ++ names_of rest
 names_next x rest = map_append (λ (i : Binder × Binder). i.1) (pairs x) (flat_map pairs rest) ∙ ap (λ bs. bs ++ names_of rest) (without_source x.from x.names)
 
-pub imported_next : (declared seen next : ℕ → Bool) (x : Import) (rest : List Import) (first now all : Option ℕ) → next ≡ seen_with seen x.names → now ≡ earliest_again declared seen first x.names
-    → earliest_again declared seen first (names_of (x ∷ rest)) ≡ all → earliest_again declared next now (names_of rest) ≡ all
+pub imported_next : (declared seen next : ℕ → Bool) (x : Import) (rest : List Import) (first now all : Option ℕ) → next ≡ with_names_seen seen x.names → now ≡ first_repeated_name declared seen first x.names
+    → first_repeated_name declared seen first (names_of (x ∷ rest)) ≡ all → first_repeated_name declared next now (names_of rest) ≡ all
 imported_next declared seen next x rest first now all s n h =
-    ap (λ t. earliest_again declared t now (names_of rest)) s ∙ ap (λ o. earliest_again declared (seen_with seen x.names) o (names_of rest)) n
-    ∙ sym (again_append declared seen first x.names (names_of rest)) ∙ ap (earliest_again declared seen first) (sym (names_next x rest)) ∙ h
+    ap (λ t. first_repeated_name declared t now (names_of rest)) s ∙ ap (λ o. first_repeated_name declared (with_names_seen seen x.names) o (names_of rest)) n
+    ∙ sym (again_append declared seen first x.names (names_of rest)) ∙ ap (first_repeated_name declared seen first) (sym (names_next x rest)) ∙ h
 
 at_is : (n k : ℕ) → is_at (nat_cmp n) k ≡ (n == k)
 at_is n k = grind (arith, nat_tests)
@@ -121,23 +121,23 @@ cond_or : (b c : Bool) → cond b true c ≡ (b || c)
 cond_or true c = refl
 cond_or false c = refl
 
-pub seen_also : (old new : BTreeSet ℕ) (k : ℕ) → ((q : ℕ) → contains nat_cmp new q ≡ cond (is_at (nat_cmp k) q) true (contains nat_cmp old q)) → contains nat_cmp new ≡ also k (contains nat_cmp old)
+pub seen_also : (old new : BTreeSet ℕ) (k : ℕ) → ((q : ℕ) → contains nat_cmp new q ≡ cond (is_at (nat_cmp k) q) true (contains nat_cmp old q)) → contains nat_cmp new ≡ with_member k (contains nat_cmp old)
 seen_also old new k h = λ i q. (h q ∙ ap (λ b. cond b true (contains nat_cmp old q)) (at_is k q) ∙ cond_or (k == q) (contains nat_cmp old q)) i
 
-pub again_next : (declared : ℕ → Bool) (old new : BTreeSet ℕ) (names : List Binder) (i : ℕ) (d : Binder) (is_new b : Bool) (x at : ℕ) (first now all : Option ℕ) → i < length names → contains nat_cmp new ≡ also x (contains nat_cmp old) → x ≡ (get_or names i d).name.0 → at ≡ (get_or names i d).at
-    → is_new ≡ not (contains nat_cmp old x) → b ≡ (not is_new || declared x) → now ≡ earlier_if b first at
-    → earliest_again declared (contains nat_cmp old) first (drop i names) ≡ all → earliest_again declared (contains nat_cmp new) now (drop (i + 1) names) ≡ all
+pub again_next : (declared : ℕ → Bool) (old new : BTreeSet ℕ) (names : List Binder) (i : ℕ) (d : Binder) (is_new b : Bool) (x at : ℕ) (first now all : Option ℕ) → i < length names → contains nat_cmp new ≡ with_member x (contains nat_cmp old) → x ≡ (get_or names i d).name.0 → at ≡ (get_or names i d).at
+    → is_new ≡ not (contains nat_cmp old x) → b ≡ (not is_new || declared x) → now ≡ earlier_place_if b first at
+    → first_repeated_name declared (contains nat_cmp old) first (drop i names) ≡ all → first_repeated_name declared (contains nat_cmp new) now (drop (i + 1) names) ≡ all
 again_next declared old new names i d is_new b x at first now all l s e p f t n h =
     let y : ℕ = (get_or names i d).name.0 in
     let taken : b ≡ (contains nat_cmp old y || declared y) = t ∙ ap (λ c. not c || declared x) f ∙ ap (λ c. c || declared x) (not_not (contains nat_cmp old x)) ∙ ap (λ z. contains nat_cmp old z || declared z) e in
-    ap (λ u. earliest_again declared u now (drop (i + 1) names)) (s ∙ ap (λ z. also z (contains nat_cmp old)) e)
-    ∙ ap (λ o. earliest_again declared (also y (contains nat_cmp old)) o (drop (i + 1) names)) (n ∙ ap (λ c. earlier_if c first at) taken ∙ ap (earlier_if (contains nat_cmp old y || declared y) first) p)
-    ∙ ap (earliest_again declared (contains nat_cmp old) first) (sym (drop_next names i d l)) ∙ h
+    ap (λ u. first_repeated_name declared u now (drop (i + 1) names)) (s ∙ ap (λ z. with_member z (contains nat_cmp old)) e)
+    ∙ ap (λ o. first_repeated_name declared (with_member y (contains nat_cmp old)) o (drop (i + 1) names)) (n ∙ ap (λ c. earlier_place_if c first at) taken ∙ ap (earlier_place_if (contains nat_cmp old y || declared y) first) p)
+    ∙ ap (first_repeated_name declared (contains nat_cmp old) first) (sym (drop_next names i d l)) ∙ h
 
-pub seen_next : (old new : BTreeSet ℕ) (names : List Binder) (i : ℕ) (d : Binder) (x : ℕ) (all : ℕ → Bool) → i < length names → x ≡ (get_or names i d).name.0 → contains nat_cmp new ≡ also x (contains nat_cmp old)
-    → seen_with (contains nat_cmp old) (drop i names) ≡ all → seen_with (contains nat_cmp new) (drop (i + 1) names) ≡ all
+pub seen_next : (old new : BTreeSet ℕ) (names : List Binder) (i : ℕ) (d : Binder) (x : ℕ) (all : ℕ → Bool) → i < length names → x ≡ (get_or names i d).name.0 → contains nat_cmp new ≡ with_member x (contains nat_cmp old)
+    → with_names_seen (contains nat_cmp old) (drop i names) ≡ all → with_names_seen (contains nat_cmp new) (drop (i + 1) names) ≡ all
 seen_next old new names i d x all l e s h =
-    ap (λ u. seen_with u (drop (i + 1) names)) (s ∙ ap (λ z. also z (contains nat_cmp old)) e) ∙ ap (seen_with (contains nat_cmp old)) (sym (drop_next names i d l)) ∙ h
+    ap (λ u. with_names_seen u (drop (i + 1) names)) (s ∙ ap (λ z. with_member z (contains nat_cmp old)) e) ∙ ap (with_names_seen (contains nat_cmp old)) (sym (drop_next names i d l)) ∙ h
 
 -- ---- the first declarations
 

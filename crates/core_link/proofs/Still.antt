@@ -13,16 +13,16 @@ use Rattle.core_reader.specs.Tree as tree
 use Rattle.core_reader.specs.Tree.{Data, Function, Program}
 use Rattle.arity_check.specs.declared.normal.PrimOp.{PrimOp}
 use Rattle.arity_check.specs.Broken as program
-use Rattle.arity_check.specs.Broken.{first_named}
-use Rattle.arity_check.specs.Pieces.{Used, AnApp, AGroup, SomeAlts, binders_of, bound_by, InFunction}
+use Rattle.arity_check.specs.Broken.{first_constructor_named}
+use Rattle.arity_check.specs.Pieces.{StandsApplied, AnApp, AGroup, SomeAlts, binders_of, bound_by, InFunction}
 use Rattle.arity_check.specs.BinderLists.{BinderList, OfFunction, OfGroup, OfPattern}
-use Rattle.arity_check.specs.Standing.{Stands}
+use Rattle.arity_check.specs.Standing.{HeadIsApplied}
 use Rattle.arity_check.specs.Patterns.{alt_at}
 use Rattle.arity_check.specs.declared.meaning.Meaning.TheVariants.{Local, Primitive, Unbound}
 use Rattle.arity_check.specs.Scope.{Scope, means, is_named, primitives}
 use Rattle.core_meaning.proofs.Valid.{different_places}
 use Rattle.core_link.specs.Module.{Module, text_in, name_of, body, seen}
-use Rattle.core_link.specs.Laws.{IsRuleOfNames, StillUnbroken}
+use Rattle.core_link.specs.Laws.{IsRuleOfNames, LinkingKeepsNameRules}
 use Rattle.core_link.specs.Rules.{LacksMain, NoMainModule, AgainElsewhere, UnknownName, ReservedName, AgainConstructor, AgainFunction, Main}
 use Rattle.core_link.specs.Union.{ConBecomes, enter, local_text, global_text, IsUnion, with_module, ConstructorBecomes, FunctionBecomes}
 use Rattle.core_link.proofs.Agrees.{Agrees, Locals, Functions, Primitives, Neither, agrees, unknown_back}
@@ -46,7 +46,7 @@ con_text names m y x w e h = h ∙ ap (λ v. Some v) (text_is m y w e)
 module _ (ms : List Module) (c : Program) (u : IsUnion ms c) (sound : IsSound ms) (readable : IsReadable c) where
   -- ---- names and constructors that are unknown
 
-  unknown_name : (t : Scope) (x at k : ℕ) → Used c t (tree.Name x at) k → means c t x ≡ Unbound → ⊥
+  unknown_name : (t : Scope) (x at k : ℕ) → StandsApplied c t (tree.Name x at) k → means c t x ≡ Unbound → ⊥
   unknown_name t x at k used none =
       let w = comes_from ms c u sound readable t (AnApp used.0) used.1 in
       let m = w.owner in
@@ -57,15 +57,15 @@ module _ (ms : List Module) (c : Program) (u : IsUnion ms c) (sound : IsSound ms
       let v = name_before (seen m) c (enter n m) (OfBinder n m) (OfCon n m) (OfUse n m) fits w.context h.head x at h.like in
       let inside : InFunction (seen m) w.scope (AnApp a.0) = subst (InFunction (seen m) w.scope) a.1 w.inside in
       by w.file m w.is_module w.scope v.0 (agrees ms c u sound readable w.file m w.is_module AnyNumber w.context w.scope t w.fits v.0 x v.3.0.0 v.3.0.1 v.3.1)
-      (v.1, (a.0, inside, subst (λ y. Stands a.0.head a.0.args y k) v.2 h.stands))
+      (v.1, (a.0, inside, subst (λ y. HeadIsApplied a.0.head a.0.args y k) v.2 h.stands))
     where
-      by : (i : ℕ) (m : Module) (e : slice_get ms i ≡ Some m) (s : Scope) (y : ℕ) → Agrees ms c u sound readable i m e AnyNumber s t y x → (to : ℕ) × Used (seen m) s (tree.Name y to) k → ⊥
+      by : (i : ℕ) (m : Module) (e : slice_get ms i ≡ Some m) (s : Scope) (y : ℕ) → Agrees ms c u sound readable i m e AnyNumber s t y x → (to : ℕ) × StandsApplied (seen m) s (tree.Name y to) k → ⊥
       by i m e s y (Locals z l f g o) h = let d : Local l ≡ Unbound = sym g ∙ none in cc
       by i m e s y (Functions g params f o v is named there bound) h = bound none
       by i m e s y (Primitives op f g) h = let d : Primitive op ≡ Unbound = sym g ∙ none in cc
       by i m e s y (Neither f) h = sound.between 57 i h.0 (UnknownName e (program.UnknownName h.1 f))
 
-  unknown_constructor : (t : Scope) (x at k : ℕ) → Used c t (tree.Con x at) k → first_named x c.constructors ≡ None → ⊥
+  unknown_constructor : (t : Scope) (x at k : ℕ) → StandsApplied c t (tree.Con x at) k → first_constructor_named x c.constructors ≡ None → ⊥
   unknown_constructor t x at k used none =
       let w = comes_from ms c u sound readable t (AnApp used.0) used.1 in
       let m = w.owner in
@@ -75,13 +75,13 @@ module _ (ms : List Module) (c : Program) (u : IsUnion ms c) (sound : IsSound ms
       let h = stands_like (seen m) c (enter n m) (OfBinder n m) (OfCon n m) (OfUse n m) fits w.context a.0 used.0 (tree.Con x at) k a.2 used.2 in
       let v = con_before (seen m) c (enter n m) (OfBinder n m) (OfCon n m) (OfUse n m) fits w.context h.head x at h.like in
       let inside : InFunction (seen m) w.scope (AnApp a.0) = subst (InFunction (seen m) w.scope) a.1 w.inside in
-      let stands = subst (λ y. Stands a.0.head a.0.args y k) v.2 h.stands in
+      let stands = subst (λ y. HeadIsApplied a.0.head a.0.args y k) v.2 h.stands in
       sound.between 57 w.file v.1 (UnknownName w.is_module (program.UnknownConstructor (a.0, inside, stands) (known w.file m w.is_module v.0 v.3)))
     where
-      known : (i : ℕ) (m : Module) (e : slice_get ms i ≡ Some m) (y : ℕ) → OfCon c.names m y x → first_named y (seen m).constructors ≡ None
+      known : (i : ℕ) (m : Module) (e : slice_get ms i ≡ Some m) (y : ℕ) → OfCon c.names m y x → first_constructor_named y (seen m).constructors ≡ None
       known i m e y h = unknown_back ms c u sound readable i m e y x h.0.0 h.0.1 (con_text c.names m y x h.0.0 h.0.1 h.1) none
 
-  unknown_pattern : (t : Scope) (alts : tree.Alts) (d : Binder) (fields : List Binder) (i : ℕ) → InFunction c t (SomeAlts alts) → alt_at alts i ≡ Some (pattern.Con d fields) → first_named d.name.0 c.constructors ≡ None → ⊥
+  unknown_pattern : (t : Scope) (alts : tree.Alts) (d : Binder) (fields : List Binder) (i : ℕ) → InFunction c t (SomeAlts alts) → alt_at alts i ≡ Some (pattern.Con d fields) → first_constructor_named d.name.0 c.constructors ≡ None → ⊥
   unknown_pattern t alts d fields i infn at none =
       let w = comes_from ms c u sound readable t (SomeAlts alts) infn in
       let m = w.owner in
@@ -254,7 +254,7 @@ module _ (ms : List Module) (c : Program) (u : IsUnion ms c) (sound : IsSound ms
   unbroken main k at h (program.TooManyFields i e f) = other_rule 34 h refl
   unbroken main k at h (program.CoreTooLarge e) = other_rule 35 h refl
 
-pub still_unbroken : StillUnbroken
+pub still_unbroken : LinkingKeepsNameRules
 still_unbroken texts c u l r k at h b =
     let sound = sound_of texts l.modules u l.read in
     unbroken l.modules c l.union sound r (λ lacks. u Main 59 0 0 (NoMainModule l.modules l.read lacks)) k at h b

@@ -16,7 +16,7 @@ use Rattle.core_reader.proofs.Lexing.{numbered}
 use Rattle.arity_check.proofs.Names.{same_bytes}
 use Rattle.core_link.specs.Module.{Module, name_of}
 use Rattle.core_link.specs.Rules.{module_named}
-use Rattle.core_link.specs.Shared.{has, exports_text, constructor_texts, declares, found_at, lacks, HasExports, IsIndex, Holds}
+use Rattle.core_link.specs.Shared.{has, exports_text, constructor_texts, declares, found_at, lacks, HasExports, IsIndex, TablesMatchModules}
 use Rattle.core_link.proofs.Betweens.{unexported_by}
 
 -- ---- texts
@@ -182,12 +182,12 @@ take_at {X = X} xs i x e = rw add-one (by xs i e)
     by (y ∷ xs) zero e = let same : y ≡ x = cc in ap (λ z. z ∷ []) same
     by (y ∷ xs) (suc i) e = ap (λ zs. y ∷ zs) (by xs i e)
 
-pub none_held : (ms : List Module) → Holds ms 0 [] []
+pub none_held : (ms : List Module) → TablesMatchModules ms 0 [] []
 none_held ms = record { names = λ w. refl; constructors = λ w. refl }
 
-pub holds_next : (ms : List Module) (file : ℕ) (m : Module) (named declared named' declared' : List (Bor (List ℕ))) → slice_get ms file ≡ Some m → Holds ms file named declared
+pub holds_next : (ms : List Module) (file : ℕ) (m : Module) (named declared named' declared' : List (Bor (List ℕ))) → slice_get ms file ≡ Some m → TablesMatchModules ms file named declared
     → ((w : List ℕ) → has (texts_of named') w ≡ (has (texts_of named) w || bytes_eq w (name_of m))) → ((w : List ℕ) → has (texts_of declared') w ≡ (has (texts_of declared) w || has (constructor_texts m) w))
-    → Holds ms (file + 1) named' declared'
+    → TablesMatchModules ms (file + 1) named' declared'
 holds_next ms file m named declared named' declared' is h names constructors = record {
   names = λ w. names w ∙ ap (λ b. b || bytes_eq w (name_of m)) (h.names w) ∙ sym (any_push (bytes_eq w) (map name_of (take file ms)) (name_of m)) ∙ ap (λ ws. has ws w) (sym (map_append name_of (take file ms) (m ∷ []))) ∙ ap (λ qs. has (map name_of qs) w) (sym (take_at ms file m is));
   constructors = λ w. constructors w ∙ ap (λ b. b || has (constructor_texts m) w) (h.constructors w) ∙ sym (any_push (λ q. has (constructor_texts q) w) (take file ms) m) ∙ ap (λ qs. declares qs w) (sym (take_at ms file m is));

@@ -12,8 +12,8 @@ use Rattle.core_reader.specs.ReadingOf.{go, stop, follow, run_of}
 use Rattle.core_reader.specs.Machine.{front, behind, refused, Fails, Goes}
 use Rattle.core_reader.specs.Machine as expression
 use Rattle.core_reader.specs.Declaring as core
-use Rattle.core_link.specs.Module.{Head, Import}
-use Rattle.core_link.specs.Heading.{State, Start, ModuleName, NameEnd, Exports, ExportWords, Imports, ImportName, ImportWords, Declares, Parts, step, run, head, importing, import_from, IsNoWord, KeepsWords}
+use Rattle.core_link.specs.Module.{ModuleHeader, Import}
+use Rattle.core_link.specs.Heading.{State, Start, ModuleName, NameEnd, Exports, ExportWords, Imports, ImportName, ImportWords, Declares, ModuleParts, step, run, head, importing, import_from, IsNoWord, KeepsWords}
 
 -- where no token is left, the reading stops
 abbrev StopsAtBad : State → Type 0
@@ -31,7 +31,7 @@ takes s next ts x token after h front_is token_is after_is e =
     ∙ ap (λ st. follow st (λ s. run s (behind ts))) e
     ∙ ap (run next) (sym after_is)
 
-refused_fails : (at : ℕ) (token : Token) (read : Result Parts ReadRefusal) → read ≡ Err (refused at token) → Fails (refused at token) read
+refused_fails : (at : ℕ) (token : Token) (read : Result ModuleParts ReadRefusal) → read ≡ Err (refused at token) → Fails (refused at token) read
 refused_fails at word.Bad read e = e
 refused_fails at token read e = e
 
@@ -40,10 +40,10 @@ refuses s ts er h er_is e =
     subst (λ w. Fails w (run s ts)) (sym er_is)
     (refused_fails (front ts).at (front ts).token (run s ts) (turns s ts h ∙ ap (λ st. follow st (λ s. run s (behind ts))) e))
 
-pub fails_from : (er : ReadRefusal) (r s : Result Parts ReadRefusal) → r ≡ s → Fails er s → Fails er r
+pub fails_from : (er : ReadRefusal) (r s : Result ModuleParts ReadRefusal) → r ≡ s → Fails er s → Fails er r
 fails_from er r s e h = subst (Fails er) (sym e) h
 
-pub goes_from : {X : Type 0} (result : Result X ReadRefusal) (r s : Result Parts ReadRefusal) (on : X → Result Parts ReadRefusal) → r ≡ s → Goes result s on → Goes result r on
+pub goes_from : {X : Type 0} (result : Result X ReadRefusal) (r s : Result ModuleParts ReadRefusal) (on : X → Result ModuleParts ReadRefusal) → r ≡ s → Goes result s on → Goes result r on
 goes_from result r s on e h = subst (λ w. Goes result w on) (sym e) h
 
 pub token_of : (x y : Lexeme) (token : Token) → x ≡ y → x.token ≡ token → y.token ≡ token
@@ -59,7 +59,7 @@ export_words name = record { name = λ bs n at. refl; con = λ bs n at. refl; en
     other bs at word.Semicolon h = absurd h
     other bs at token h = refl
 
-pub import_words : (h : Head) (b : Binder) → KeepsWords (ImportWords h b) (λ bs. Imports (importing h (import_from b bs)))
+pub import_words : (h : ModuleHeader) (b : Binder) → KeepsWords (ImportWords h b) (λ bs. Imports (importing h (import_from b bs)))
 import_words h b = record { name = λ bs n at. refl; con = λ bs n at. refl; end = λ bs at. refl; other = other }
   where
     other : (bs : List Binder) (at : ℕ) (token : Token) → IsNoWord token → step at_most_200 (ImportWords h b bs) at token ≡ stop (refused at token)
@@ -78,7 +78,7 @@ pub no_name : (token : Token) (at : ℕ) → ((n : _) → token ≡ word.Con n �
 no_name (word.Con n) at h = absurd (h n refl)
 no_name token at h = refl
 
-pub no_source : (h : Head) (token : Token) (at : ℕ) → ((n : _) → token ≡ word.Con n → ⊥) → step at_most_200 (ImportName h) at token ≡ stop (refused at token)
+pub no_source : (h : ModuleHeader) (token : Token) (at : ℕ) → ((n : _) → token ≡ word.Con n → ⊥) → step at_most_200 (ImportName h) at token ≡ stop (refused at token)
 no_source h (word.Con n) at f = absurd (f n refl)
 no_source h token at f = refl
 
@@ -91,12 +91,12 @@ no_end b word.Semicolon at h = absurd (h refl)
 no_end b token at h = refl
 
 -- where neither exports nor imports stand, the declarations begin
-now : (h : Head) (at : ℕ) (token : Token) → (token ≡ word.Further further.Export → ⊥) → (token ≡ word.Further further.Import → ⊥) → step at_most_200 (Exports h) at token ≡ step at_most_200 (Declares h (core.top [])) at token
+now : (h : ModuleHeader) (at : ℕ) (token : Token) → (token ≡ word.Further further.Export → ⊥) → (token ≡ word.Further further.Import → ⊥) → step at_most_200 (Exports h) at token ≡ step at_most_200 (Declares h (core.top [])) at token
 now h at (word.Further further.Export) a b = absurd (a refl)
 now h at (word.Further further.Import) a b = absurd (b refl)
 now h at token a b = refl
 
-now_imports : (h : Head) (at : ℕ) (token : Token) → (token ≡ word.Further further.Import → ⊥) → step at_most_200 (Imports h) at token ≡ step at_most_200 (Declares h (core.top [])) at token
+now_imports : (h : ModuleHeader) (at : ℕ) (token : Token) → (token ≡ word.Further further.Import → ⊥) → step at_most_200 (Imports h) at token ≡ step at_most_200 (Declares h (core.top [])) at token
 now_imports h at (word.Further further.Import) b = absurd (b refl)
 now_imports h at token b = refl
 

@@ -7,12 +7,12 @@ use Rattle.seq.specs.Lists.{or_empty}
 use Rattle.seq.proofs.Lists.{map_get, append_nil, append_again}
 use Rattle.core_reader.specs.declared.syntax.Binder.{Binder}
 use Rattle.core_reader.specs.Tree.{Program}
-use Rattle.arity_check.specs.Faults.{also}
+use Rattle.arity_check.specs.Faults.{with_member}
 use Rattle.arity_check.specs.Whole.{known_of}
 use Rattle.core_link.specs.Module.{Module, Import, body, seen, imported, begins_upper, as_function, as_constructor}
-use Rattle.core_link.specs.Rules.{IsTaken, Before, Declared}
-use Rattle.core_link.specs.Found.{IsFirstAt, earlier_if, earliest_again, is_declared}
-use Rattle.core_link.specs.Shared.{declare_as, declare, declare_all, Retakes}
+use Rattle.core_link.specs.Rules.{NameIsTaken, Before, Declared}
+use Rattle.core_link.specs.Found.{IsFirstPlaceWhere, earlier_place_if, first_repeated_name, is_declared}
+use Rattle.core_link.specs.Shared.{declare_as, declare, declare_all, ImportsTakenName}
 use Rattle.core_link.proofs.Firsts.{Here, here_first, same_first, regroup, regroup_back}
 use Rattle.core_link.proofs.Places.{mapped_at}
 use Rattle.core_link.proofs.Owned.{declared_in, in_declared}
@@ -34,20 +34,20 @@ right false c e = e
 module _ (declared : ℕ → Bool) where
   abbrev Again : (ℕ → Bool) → List Binder → ℕ → Type 0
   Again seen [] at = ⊥
-  Again seen (b ∷ bs) at = Here (seen b.name.0 || declared b.name.0) b.at at ⊎ Again (also b.name.0 seen) bs at
+  Again seen (b ∷ bs) at = Here (seen b.name.0 || declared b.name.0) b.at at ⊎ Again (with_member b.name.0 seen) bs at
 
   only_left : (seen : ℕ → Bool) (P : ℕ → Type 0) (at : ℕ) → P at ⊎ Again seen [] at → P at
   only_left seen P at (inl p) = p
   only_left seen P at (inr q) = absurd q
 
-  again_from : (bs : List Binder) (seen : ℕ → Bool) (P : ℕ → Type 0) (o : Option ℕ) → IsFirstAt P o → IsFirstAt (λ at. P at ⊎ Again seen bs at) (earliest_again declared seen o bs)
+  again_from : (bs : List Binder) (seen : ℕ → Bool) (P : ℕ → Type 0) (o : Option ℕ) → IsFirstPlaceWhere P o → IsFirstPlaceWhere (λ at. P at ⊎ Again seen bs at) (first_repeated_name declared seen o bs)
   again_from [] seen P o h = same_first P (λ at. P at ⊎ Again seen [] at) (λ at p. inl p) (only_left seen P) o h
   again_from (b ∷ bs) seen P o h =
       let test : Bool = seen b.name.0 || declared b.name.0 in
       let next : ℕ → Type 0 = λ at. P at ⊎ Here test b.at at in
-      same_first (λ at. next at ⊎ Again (also b.name.0 seen) bs at) (λ at. P at ⊎ Again seen (b ∷ bs) at)
-      (λ at. regroup (P at) (Here test b.at at) (Again (also b.name.0 seen) bs at)) (λ at. regroup_back (P at) (Here test b.at at) (Again (also b.name.0 seen) bs at))
-      (earliest_again declared (also b.name.0 seen) (earlier_if test o b.at) bs) (again_from bs (also b.name.0 seen) next (earlier_if test o b.at) (here_first test b.at P o h))
+      same_first (λ at. next at ⊎ Again (with_member b.name.0 seen) bs at) (λ at. P at ⊎ Again seen (b ∷ bs) at)
+      (λ at. regroup (P at) (Here test b.at at) (Again (with_member b.name.0 seen) bs at)) (λ at. regroup_back (P at) (Here test b.at at) (Again (with_member b.name.0 seen) bs at))
+      (first_repeated_name declared (with_member b.name.0 seen) (earlier_place_if test o b.at) bs) (again_from bs (with_member b.name.0 seen) next (earlier_place_if test o b.at) (here_first test b.at P o h))
 
   -- a name is taken at this place of a list, where some were seen before
   data TakenAt (seen : ℕ → Bool) (bs : List Binder) (n : ℕ) (b : Binder) : Type 0 where
@@ -62,7 +62,7 @@ module _ (declared : ℕ → Bool) where
     taken : TakenAt seen bs number name
     place : name.at ≡ at
 
-  next_taken : (seen : ℕ → Bool) (b : Binder) (bs : List Binder) (n : ℕ) (c : Binder) → TakenAt (also b.name.0 seen) bs n c → TakenAt seen (b ∷ bs) (suc n) c
+  next_taken : (seen : ℕ → Bool) (b : Binder) (bs : List Binder) (n : ℕ) (c : Binder) → TakenAt (with_member b.name.0 seen) bs n c → TakenAt seen (b ∷ bs) (suc n) c
   next_taken seen b bs n c (Seen e) = elim (either (b.name.0 == c.name.0) (seen c.name.0) e) [
     | inl y ↦ Earlier zero (omega arith) refl (eqb-true b.name.0 c.name.0 y)
     | inr s ↦ Seen s
@@ -77,10 +77,10 @@ module _ (declared : ℕ → Bool) where
       here_taken : (seen b.name.0 || declared b.name.0) ≡ true → TakenAt seen (b ∷ bs) zero b
       here_taken e = elim (either (seen b.name.0) (declared b.name.0) e) [ inl s ↦ Seen s | inr k ↦ Known k ]
   again_at (b ∷ bs) seen at (inr h) =
-      let w = again_at bs (also b.name.0 seen) at h in
+      let w = again_at bs (with_member b.name.0 seen) at h in
       record { number = suc w.number; name = w.name; is = w.is; taken = next_taken seen b bs w.number w.name w.taken; place = w.place }
 
-  later_taken : (seen : ℕ → Bool) (b : Binder) (bs : List Binder) (n : ℕ) (c : Binder) → TakenAt seen (b ∷ bs) (suc n) c → TakenAt (also b.name.0 seen) bs n c
+  later_taken : (seen : ℕ → Bool) (b : Binder) (bs : List Binder) (n : ℕ) (c : Binder) → TakenAt seen (b ∷ bs) (suc n) c → TakenAt (with_member b.name.0 seen) bs n c
   later_taken seen b bs n c (Seen e) = Seen (right (b.name.0 == c.name.0) (seen c.name.0) e)
   later_taken seen b bs n c (Earlier {c = d} zero l e s) = let same : b ≡ d = cc in Seen (left (b.name.0 == c.name.0) (seen c.name.0) (eq-eqb b.name.0 c.name.0 (ap (λ (w : Binder). w.name.0) same ∙ s)))
   later_taken seen b bs n c (Earlier (suc j) l e s) = Earlier j (omega (arith, l)) e s
@@ -96,7 +96,7 @@ module _ (declared : ℕ → Bool) where
   at_again (b ∷ bs) seen zero c e t =
       let same : b ≡ c = cc in
       inl (subst (λ (w : Binder). (seen w.name.0 || declared w.name.0) ≡ true) (sym same) (first_taken seen (b ∷ bs) c t), ap (λ (w : Binder). w.at) same)
-  at_again (b ∷ bs) seen (suc n) c e t = inr (at_again bs (also b.name.0 seen) n c e (later_taken seen b bs n c t))
+  at_again (b ∷ bs) seen (suc n) c e t = inr (at_again bs (with_member b.name.0 seen) n c e (later_taken seen b bs n c t))
 
   nothing : ℕ → Type 0
   nothing at = ⊥
@@ -109,12 +109,12 @@ module _ (declared : ℕ → Bool) where
   from_again : (bs : List Binder) (seen : ℕ → Bool) (at : ℕ) → AgainAt seen bs at → nothing at ⊎ Again seen bs at
   from_again bs seen at w = inr (subst (Again seen bs) w.place (at_again bs seen w.number w.name w.is w.taken))
 
-  none_first : IsFirstAt nothing None
+  none_first : IsFirstPlaceWhere nothing None
   unfolding nothing
   none_first = λ at h. h
 
-  again_first : (bs : List Binder) (seen : ℕ → Bool) → IsFirstAt (AgainAt seen bs) (earliest_again declared seen None bs)
-  again_first bs seen = same_first (λ at. nothing at ⊎ Again seen bs at) (AgainAt seen bs) (to_again bs seen) (from_again bs seen) (earliest_again declared seen None bs) (again_from bs seen nothing None none_first)
+  again_first : (bs : List Binder) (seen : ℕ → Bool) → IsFirstPlaceWhere (AgainAt seen bs) (first_repeated_name declared seen None bs)
+  again_first bs seen = same_first (λ at. nothing at ⊎ Again seen bs at) (AgainAt seen bs) (to_again bs seen) (from_again bs seen) (first_repeated_name declared seen None bs) (again_from bs seen nothing None none_first)
 
 module _ (m : Module) where
   abbrev names : List Binder
@@ -126,25 +126,25 @@ module _ (m : Module) where
   abbrev none : ℕ → Bool
   none x = false
 
-  to_taken : (n : ℕ) (x : Binder × Binder) → slice_get (imported m) n ≡ Some x → TakenAt known none names n x.1 → IsTaken m n x.1
+  to_taken : (n : ℕ) (x : Binder × Binder) → slice_get (imported m) n ≡ Some x → TakenAt known none names n x.1 → NameIsTaken m n x.1
   to_taken n x is (Seen e) = absurd cc
   to_taken n x is (Earlier {c = c} j l e s) = let w = mapped_at (λ (i : Binder × Binder). i.1) (imported m) j c e in Before j l w.is (ap (λ (b : Binder). b.name.0) w.same ∙ s)
   to_taken n x is (Known e) = Declared (declared_in m x.1.name.0 e)
 
-  from_taken : (n : ℕ) (b : Binder) → IsTaken m n b → TakenAt known none names n b
+  from_taken : (n : ℕ) (b : Binder) → NameIsTaken m n b → TakenAt known none names n b
   from_taken n b (Before {x = x} j l e s) = Earlier j l (map_get (λ (i : Binder × Binder). i.1) (imported m) j x e) s
   from_taken n b (Declared d) = Known (in_declared m b.name.0 d)
 
-  to_retakes : (at : ℕ) → AgainAt known none names at → Retakes m at
+  to_retakes : (at : ℕ) → AgainAt known none names at → ImportsTakenName m at
   to_retakes at w =
       let i = mapped_at (λ (i : Binder × Binder). i.1) (imported m) w.number w.name w.is in
       record { number = w.number; name = i.item; is = i.is; taken = to_taken w.number i.item i.is (subst (TakenAt known none names w.number) (sym i.same) w.taken); place = ap (λ (b : Binder). b.at) i.same ∙ w.place }
 
-  from_retakes : (at : ℕ) → Retakes m at → AgainAt known none names at
+  from_retakes : (at : ℕ) → ImportsTakenName m at → AgainAt known none names at
   from_retakes at w = record { number = w.number; name = w.name.1; is = map_get (λ (i : Binder × Binder). i.1) (imported m) w.number w.name w.is; taken = from_taken w.number w.name.1 w.taken; place = w.place }
 
-  pub retakes_first : IsFirstAt (Retakes m) (earliest_again known none None names)
-  retakes_first = same_first (AgainAt known none names) (Retakes m) to_retakes from_retakes (earliest_again known none None names) (again_first known names none)
+  pub retakes_first : IsFirstPlaceWhere (ImportsTakenName m) (first_repeated_name known none None names)
+  retakes_first = same_first (AgainAt known none names) (ImportsTakenName m) to_retakes from_retakes (first_repeated_name known none None names) (again_first known names none)
 
 -- ---- what is known
 

@@ -11,7 +11,7 @@ use Rattle.std.proofs.lemmas.List.Sorted.{IsPermutation-map, All-permutation}
 use Rattle.std.proofs.lemmas.List.Sums.{sum_by-cons}
 use Rattle.seq.specs.Lists.{AllOf}
 use Rattle.seq.proofs.Lists.{append_nil, append_again}
-use Rattle.core_reader.specs.Different.{AreDifferent}
+use Rattle.core_reader.specs.Different.{AreDistinct}
 use Rattle.core_reader.specs.declared.syntax.Core.{Core}
 use Rattle.core_reader.specs.declared.syntax.Data as code-data
 use Rattle.core_reader.specs.declared.syntax.Function as code-function
@@ -26,8 +26,8 @@ use Rattle.core_link.specs.declared.rename.Renaming.{Renaming}
 use Rattle.core_link.specs.Module.{Module, body, seen, name_of}
 use Rattle.core_link.specs.ModuleOf.{module_of, import_of}
 use Rattle.core_link.specs.Shared.{declare_all}
-use Rattle.core_link.specs.Joinable.{IsJoinable, AreJoinable}
-use Rattle.core_link.specs.Union.{IsUnion, IsRising}
+use Rattle.core_link.specs.Joinable.{IsLinkable, AreLinkable}
+use Rattle.core_link.specs.Union.{IsUnion, IsStrictlySorted}
 use Rattle.core_link.specs.Renaming.{Numbers, numbers_of, AreNumbered, renamed_data, renamed_function, renamed_functions, joined_constructors, joined_functions}
 use Rattle.core_link.proofs.Interned.{mapped_last}
 use Rattle.core_link.proofs.Sizes.{length_map}
@@ -153,11 +153,11 @@ module _ (yielded : List Named) (one : Named) (rs : List Renaming) (r : Renaming
 
 -- ---- sizes
 
-small_each : (ms : List code.Module) → AllOf IsJoinable (map module_of ms) → All (λ (m : code.Module). program_size (body (module_of m)) < 2 ^ 64) ms
+small_each : (ms : List code.Module) → AllOf IsLinkable (map module_of ms) → All (λ (m : code.Module). program_size (body (module_of m)) < 2 ^ 64) ms
 small_each [] h = All-nil (λ (m : code.Module). program_size (body (module_of m)) < 2 ^ 64)
 small_each (m ∷ ms) h = All-cons (λ (m : code.Module). program_size (body (module_of m)) < 2 ^ 64) m ms h.0.readable.size (small_each ms h.1)
 
-pub sizes_fit : (ms ys : List code.Module) → AreJoinable (map module_of ms) → IsPermutation ms ys → All (λ (m : code.Module). program_size (body (module_of m)) < 2 ^ 64) ys
+pub sizes_fit : (ms ys : List code.Module) → AreLinkable (map module_of ms) → IsPermutation ms ys → All (λ (m : code.Module). program_size (body (module_of m)) < 2 ^ 64) ys
 sizes_fit ms ys j p = All-permutation (λ (m : code.Module). program_size (body (module_of m)) < 2 ^ 64) ms ys p (small_each ms j.each)
 
 size_mapped : (ys : List code.Module) → sum_by (λ (m : Module). program_size (body m)) (map module_of ys) ≡ sum_by (λ (m : code.Module). program_size (body (module_of m))) ys
@@ -166,7 +166,7 @@ size_mapped (y ∷ ys) = sum_by-cons (λ (m : Module). program_size (body m)) (m
 
 -- ---- the union
 
-module _ (ms ys : List code.Module) (all : List Named) (rs : List Renaming) (p : Program) (j : AreJoinable (map module_of ms)) (moved : IsPermutation ms ys) (sorted : IsSortedByKey (λ (m : code.Module). name_of (module_of m)) (slice_cmp nat_cmp) ys)
+module _ (ms ys : List code.Module) (all : List Named) (rs : List Renaming) (p : Program) (j : AreLinkable (map module_of ms)) (moved : IsPermutation ms ys) (sorted : IsSortedByKey (λ (m : code.Module). name_of (module_of m)) (slice_cmp nat_cmp) ys)
     (parts : map (λ (n : Named). n.part) all ≡ ys) (numbered : AllZip (λ (n : Named). AreNumbered p.names (module_of n.part)) all rs) (constructors : p.constructors ≡ joined_constructors (map part_of all) (map numbers_of rs)) (functions : p.functions ≡ joined_functions (map part_of all) (map numbers_of rs)) where
   parts_are : map module_of ys ≡ map part_of all
   parts_are = ap (map module_of) (sym parts) ∙ map_twice (λ (n : Named). n.part) module_of all
@@ -174,14 +174,14 @@ module _ (ms ys : List code.Module) (all : List Named) (rs : List Renaming) (p :
   moved_parts : IsPermutation (map module_of ms) (map part_of all)
   moved_parts = subst (IsPermutation (map module_of ms)) parts_are (IsPermutation-map module_of ms ys moved)
 
-  rises : IsRising (map name_of (map part_of all))
+  rises : IsStrictlySorted (map name_of (map part_of all))
   rises =
-      subst (λ v. IsRising (map name_of v)) parts_are (subst IsRising (sym (map_twice module_of name_of ys)) (rising (λ (m : code.Module). name_of (module_of m)) ms ys moved (subst AreDifferent (map_twice module_of name_of ms) j.different) sorted))
+      subst (λ v. IsStrictlySorted (map name_of v)) parts_are (subst IsStrictlySorted (sym (map_twice module_of name_of ys)) (rising (λ (m : code.Module). name_of (module_of m)) ms ys moved (subst AreDistinct (map_twice module_of name_of ms) j.different) sorted))
 
   pub joined_is_union : IsUnion (map module_of ms) p
   joined_is_union = is_union (map module_of ms) (map part_of all) rs p j moved_parts rises (zip_mapped (AreNumbered p.names) part_of all rs numbered) constructors functions
 
-  pub joined_is_readable : AreDifferent p.names → sum_by (λ (m : code.Module). program_size (body (module_of m))) ys < 2 ^ 64 → IsReadable p
+  pub joined_is_readable : AreDistinct p.names → sum_by (λ (m : code.Module). program_size (body (module_of m))) ys < 2 ^ 64 → IsReadable p
   joined_is_readable d small =
       is_readable (map module_of ms) (map part_of all) rs p j moved_parts rises (zip_mapped (AreNumbered p.names) part_of all rs numbered) constructors functions d
       (subst (λ n. n < 2 ^ 64) (sym (size_mapped ys) ∙ ap (sum_by (λ (m : Module). program_size (body m))) parts_are) small)

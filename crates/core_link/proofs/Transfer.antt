@@ -13,13 +13,13 @@ use Rattle.core_reader.specs.Size.{term_size, terms_size, bind_size, pattern_siz
 use Rattle.core_reader.specs.Tree as tree
 use Rattle.core_reader.specs.Tree.{Term, Terms, NoTerms, AndTerm, Application, Bind, Expr, App, Let, Case, Alts, NoAlts, AndAlt, Data, Function, Program}
 use Rattle.core_print.specs.Renamed.{RenamedBinder, RenamedTerm, RenamedTerms, RenamedApp, RenamedBind, RenamedPattern, RenamedExpr, RenamedAlts, RenamedData, RenamedFunction, behind}
-use Rattle.arity_check.specs.Accepted.{IsUnbroken}
+use Rattle.arity_check.specs.Accepted.{BreaksNoRule}
 use Rattle.arity_check.specs.Broken as broken
-use Rattle.arity_check.specs.Broken.{first_named}
-use Rattle.arity_check.specs.Pieces.{Piece, Used, AnApp, AGroup, SomeAlts, binders_of, bound_by, within, InFunction}
+use Rattle.arity_check.specs.Broken.{first_constructor_named}
+use Rattle.arity_check.specs.Pieces.{FunctionPart, StandsApplied, AnApp, AGroup, SomeAlts, binders_of, bound_by, within, InFunction}
 use Rattle.arity_check.specs.BinderLists.{BinderList, OfFunction, OfGroup, OfPattern, Repeats}
-use Rattle.arity_check.specs.Standing.{Stands, Contains, count, place}
-use Rattle.arity_check.specs.Patterns.{alt_at, IsDefault, Differs, FirstKind, pattern_place}
+use Rattle.arity_check.specs.Standing.{HeadIsApplied, Contains, count, place}
+use Rattle.arity_check.specs.Patterns.{alt_at, IsDefault, KindsDiffer, IsFirstNonDefault, pattern_place}
 use Rattle.arity_check.specs.declared.normal.PrimOp.{PrimOp}
 use Rattle.arity_check.specs.declared.meaning.Meaning.TheVariants.{Primitive}
 use Rattle.arity_check.specs.Scope.{Scope, means, is_named}
@@ -47,7 +47,7 @@ module _ (p q : Program) {S : Type 0} (enter : List Binder → List Binder → S
     pub main : (n k : ℕ) → OfFunctionName n k → is_named p (codes "main") n ≡ is_named q (codes "main") k
     pub primitive : (c : S) (s t : Scope) (n k : ℕ) (op : PrimOp) → OfUse c n k → means q t k ≡ Primitive op → means p s n ≡ Primitive op
 
-  module _ (go : GoTogether) (ok : IsUnbroken p) where
+  module _ (go : GoTogether) (ok : BreaksNoRule p) where
     abbrev RBinder : Binder → Binder → Type 0
     RBinder = RenamedBinder enter OfBinder OfCon OfUse
 
@@ -62,14 +62,14 @@ module _ (p q : Program) {S : Type 0} (enter : List Binder → List Binder → S
 
     -- ---- pieces
 
-    record From (there : Piece) : Type 0 where
+    record From (there : FunctionPart) : Type 0 where
       context : S
       scope : Scope
-      piece : Piece
+      piece : FunctionPart
       inside : InFunction p scope piece
       like : LikePiece p q enter OfBinder OfCon OfUse Fits context piece there
 
-    from : (t : Scope) (there : Piece) → InFunction q t there → From there
+    from : (t : Scope) (there : FunctionPart) → InFunction q t there → From there
     from t there h =
         let f = beside_back RFunction p.functions q.functions go.functions h.number h.function h.is in
         let b : HasLike p q enter OfBinder OfCon OfUse Fits (within p f.0.params []) f.0.body t there =
@@ -107,7 +107,7 @@ module _ (p q : Program) {S : Type 0} (enter : List Binder → List Binder → S
 
     -- ---- constructors
 
-    fields_by : (n k : ℕ) → OfCon n k → (ds es : List Data) → AllZip RData ds es → (e : Data) → first_named k es ≡ Some e → (d : Data) × (first_named n ds ≡ Some d) × RData d e
+    fields_by : (n k : ℕ) → OfCon n k → (ds es : List Data) → AllZip RData ds es → (e : Data) → first_constructor_named k es ≡ Some e → (d : Data) × (first_constructor_named n ds ≡ Some d) × RData d e
     fields_by n k o [] [] z e f = absurd cc
     fields_by n k o [] (y ∷ es) z e f = absurd z
     fields_by n k o (x ∷ ds) [] z e f = absurd z
@@ -116,14 +116,14 @@ module _ (p q : Program) {S : Type 0} (enter : List Binder → List Binder → S
         same : (x.name == n) ≡ (y.name == k)
         same = both_ways (x.name == n) (y.name == k) (λ h. eq-eqb y.name k ((go.cons x.name y.name n k z.0.0 o).1 (eqb-true x.name n h))) (λ h. eq-eqb x.name n ((go.cons x.name y.name n k z.0.0 o).0 (eqb-true y.name k h)))
 
-        by : (b b' : Bool) → b ≡ b' → (if b' then Some y else first_named k es) ≡ Some e → (first_named k es ≡ Some e → (d : Data) × (first_named n ds ≡ Some d) × RData d e)
-            → (d : Data) × ((if b then Some x else first_named n ds) ≡ Some d) × RData d e
+        by : (b b' : Bool) → b ≡ b' → (if b' then Some y else first_constructor_named k es) ≡ Some e → (first_constructor_named k es ≡ Some e → (d : Data) × (first_constructor_named n ds ≡ Some d) × RData d e)
+            → (d : Data) × ((if b then Some x else first_constructor_named n ds) ≡ Some d) × RData d e
         by true true h f rest = let s : y ≡ e = cc in (x, refl, subst (RData x) s z.0)
         by true false h f rest = absurd cc
         by false true h f rest = absurd cc
         by false false h f rest = rest f
 
-    fields_back : (n k : ℕ) → OfCon n k → (e : Data) → first_named k q.constructors ≡ Some e → (d : Data) × (first_named n p.constructors ≡ Some d) × RData d e
+    fields_back : (n k : ℕ) → OfCon n k → (e : Data) → first_constructor_named k q.constructors ≡ Some e → (d : Data) × (first_constructor_named n p.constructors ≡ Some d) × RData d e
     fields_back n k o e f = fields_by n k o p.constructors q.constructors go.constructors e f
 
     -- ---- the rules
@@ -161,23 +161,23 @@ module _ (p q : Program) {S : Type 0} (enter : List Binder → List Binder → S
       scope : Scope
       con : ℕ
       at : ℕ
-      used : Used p scope (tree.Con con at) k
+      used : StandsApplied p scope (tree.Con con at) k
       like : OfCon con x
 
-    used_con : (t : Scope) (x at k : ℕ) → Used q t (tree.Con x at) k → UsedCon x k
+    used_con : (t : Scope) (x at k : ℕ) → StandsApplied q t (tree.Con x at) k → UsedCon x k
     used_con t x at k h =
         let w = from_app t h.0 h.1 in
         let u : StandsLike p q enter OfBinder OfCon OfUse Fits w.context w.before.head w.before.args (tree.Con x at) k = stands_like p q enter OfBinder OfCon OfUse Fits w.context w.before h.0 (tree.Con x at) k w.like h.2 in
         let v = con_before p q enter OfBinder OfCon OfUse Fits w.context u.head x at u.like in
-        record { scope = w.scope; con = v.0; at = v.1; used = (w.before, w.inside, subst (λ y. Stands w.before.head w.before.args y k) v.2 u.stands); like = v.3 }
+        record { scope = w.scope; con = v.0; at = v.1; used = (w.before, w.inside, subst (λ y. HeadIsApplied w.before.head w.before.args y k) v.2 u.stands); like = v.3 }
 
-    no_constructor_arity : (t : Scope) (x at k : ℕ) (e : Data) → Used q t (tree.Con x at) k → first_named x q.constructors ≡ Some e → k ≢ e.fields → ⊥
+    no_constructor_arity : (t : Scope) (x at k : ℕ) (e : Data) → StandsApplied q t (tree.Con x at) k → first_constructor_named x q.constructors ≡ Some e → k ≢ e.fields → ⊥
     no_constructor_arity t x at k e h f differ =
         let w = used_con t x at k h in
         let d = fields_back w.con x w.like e f in
         ok 15 w.at (broken.ConstructorArity w.used d.1 (λ s. differ (s ∙ d.2.1)))
 
-    no_pattern_arity : (t : Scope) (alts : Alts) (c : Binder) (fields : List Binder) (e : Data) (i : ℕ) → InFunction q t (SomeAlts alts) → alt_at alts i ≡ Some (pattern.Con c fields) → first_named c.name.0 q.constructors ≡ Some e → length fields ≢ e.fields → ⊥
+    no_pattern_arity : (t : Scope) (alts : Alts) (c : Binder) (fields : List Binder) (e : Data) (i : ℕ) → InFunction q t (SomeAlts alts) → alt_at alts i ≡ Some (pattern.Con c fields) → first_constructor_named c.name.0 q.constructors ≡ Some e → length fields ≢ e.fields → ⊥
     no_pattern_arity t alts c fields e i h at f differ =
         let w = from_alts t alts h in
         let a = pattern_from alts w i (pattern.Con c fields) at in
@@ -232,7 +232,7 @@ module _ (p q : Program) {S : Type 0} (enter : List Binder → List Binder → S
     default_onward (pattern.Con c xs) b r h = absurd h
     default_onward (pattern.Int k at) b r h = absurd h
 
-    differs_back : (a b a' b' : Pattern) → RPattern a a' → RPattern b b' → Differs a' b' → Differs a b
+    differs_back : (a b a' b' : Pattern) → RPattern a a' → RPattern b b' → KindsDiffer a' b' → KindsDiffer a b
     differs_back (pattern.Con c xs) (pattern.Con d ys) (pattern.Con c' xs') (pattern.Con d' ys') r s h = h
     differs_back (pattern.Con c xs) (pattern.Con d ys) (pattern.Con c' xs') b' r s h = absurd s
     differs_back (pattern.Con c xs) (pattern.Int k at) a' b' r s h = tt
@@ -248,12 +248,12 @@ module _ (p q : Program) {S : Type 0} (enter : List Binder → List Binder → S
     differs_back (pattern.Default x) b (pattern.Default x') b' r s h = h
     differs_back (pattern.Default x) b a' b' r s h = absurd r
 
-    no_mixed : (t : Scope) (alts : Alts) (b d : Pattern) (i j : ℕ) → InFunction q t (SomeAlts alts) → FirstKind alts i b → i < j → alt_at alts j ≡ Some d → Differs b d → ⊥
+    no_mixed : (t : Scope) (alts : Alts) (b d : Pattern) (i j : ℕ) → InFunction q t (SomeAlts alts) → IsFirstNonDefault alts i b → i < j → alt_at alts j ≡ Some d → KindsDiffer b d → ⊥
     no_mixed t alts b d i j h first l e differ =
         let w = from_alts t alts h in
         let u = pattern_from alts w i b first.here in
         let v = pattern_from alts w j d e in
-        let kind : FirstKind w.before i u.0 = record {
+        let kind : IsFirstNonDefault w.before i u.0 = record {
           here = u.1;
           plain = λ z. first.plain (default_onward u.0 b u.2 z);
           before = λ k r m f. (let o = alt_onward p q enter OfBinder OfCon OfUse Fits w.context w.before k r f alts w.like in default_back r o.0 o.2 (first.before k o.0 m o.1));
@@ -266,7 +266,7 @@ module _ (p q : Program) {S : Type 0} (enter : List Binder → List Binder → S
         let len = length_all_zip RBinder w.0.params g.params w.2.1 in
         ok 20 w.0.at (broken.MainHasParameters i w.1 (go.main w.0.name g.name w.2.0 ∙ h) (omega (arith, len, l)))
 
-    fields_from : (n k : ℕ) → OfCon n k → (ds es : List Data) → AllZip RData ds es → (d : Data) → first_named n ds ≡ Some d → (e : Data) × (first_named k es ≡ Some e) × RData d e
+    fields_from : (n k : ℕ) → OfCon n k → (ds es : List Data) → AllZip RData ds es → (d : Data) → first_constructor_named n ds ≡ Some d → (e : Data) × (first_constructor_named k es ≡ Some e) × RData d e
     fields_from n k o [] es z d f = absurd cc
     fields_from n k o (x ∷ ds) [] z d f = absurd z
     fields_from n k o (x ∷ ds) (y ∷ es) z d f = by (x.name == n) (y.name == k) same f (fields_from n k o ds es z.1 d)
@@ -274,8 +274,8 @@ module _ (p q : Program) {S : Type 0} (enter : List Binder → List Binder → S
         same : (x.name == n) ≡ (y.name == k)
         same = both_ways (x.name == n) (y.name == k) (λ h. eq-eqb y.name k ((go.cons x.name y.name n k z.0.0 o).1 (eqb-true x.name n h))) (λ h. eq-eqb x.name n ((go.cons x.name y.name n k z.0.0 o).0 (eqb-true y.name k h)))
 
-        by : (b b' : Bool) → b ≡ b' → (if b then Some x else first_named n ds) ≡ Some d → (first_named n ds ≡ Some d → (e : Data) × (first_named k es ≡ Some e) × RData d e)
-            → (e : Data) × ((if b' then Some y else first_named k es) ≡ Some e) × RData d e
+        by : (b b' : Bool) → b ≡ b' → (if b then Some x else first_constructor_named n ds) ≡ Some d → (first_constructor_named n ds ≡ Some d → (e : Data) × (first_constructor_named k es ≡ Some e) × RData d e)
+            → (e : Data) × ((if b' then Some y else first_constructor_named k es) ≡ Some e) × RData d e
         by true true h f rest = let s : x ≡ d = cc in (y, refl, subst (λ v. RData v y) s z.0)
         by true false h f rest = absurd cc
         by false true h f rest = absurd cc
@@ -287,17 +287,17 @@ module _ (p q : Program) {S : Type 0} (enter : List Binder → List Binder → S
         let k = beside RData p.constructors q.constructors go.constructors i.0 h.0 i.1 in
         let e = fields_from h.0.name k.0.name k.2.0 p.constructors q.constructors go.constructors h.0 h.1 in
         let named : e.0.name ≡ k.0.name = named_is k.0.name q.constructors e.0 e.1 in
-        (e.0, ap (λ x. first_named x q.constructors) named ∙ e.1, sym (go.con_text h.0.name e.0.name w e.2.0) ∙ h.2, sym e.2.1 ∙ h.3)
+        (e.0, ap (λ x. first_constructor_named x q.constructors) named ∙ e.1, sym (go.con_text h.0.name e.0.name w e.2.0) ∙ h.2, sym e.2.1 ∙ h.3)
 
     no_list_constructors : (broken.Declares q (codes "Nil") 0 × broken.Declares q (codes "Cons") 2 → ⊥) → ⊥
     no_list_constructors h = ok 21 0 (broken.NoListConstructors (λ d. h (declares_onward (codes "Nil") 0 d.0, declares_onward (codes "Cons") 2 d.1)))
 
-    no_primitive_arity : (t : Scope) (x at k : ℕ) (op : PrimOp) → Used q t (tree.Name x at) k → means q t x ≡ Primitive op → k ≢ 2 → ⊥
+    no_primitive_arity : (t : Scope) (x at k : ℕ) (op : PrimOp) → StandsApplied q t (tree.Name x at) k → means q t x ≡ Primitive op → k ≢ 2 → ⊥
     no_primitive_arity t x at k op h e differ =
         let w = from_app t h.0 h.1 in
         let u : StandsLike p q enter OfBinder OfCon OfUse Fits w.context w.before.head w.before.args (tree.Name x at) k = stands_like p q enter OfBinder OfCon OfUse Fits w.context w.before h.0 (tree.Name x at) k w.like h.2 in
         let v = name_before p q enter OfBinder OfCon OfUse Fits w.context u.head x at u.like in
-        ok 23 v.1 (broken.PrimitiveArity (w.before, w.inside, subst (λ y. Stands w.before.head w.before.args y k) v.2 u.stands) (go.primitive w.context w.scope t v.0 x op v.3 e) differ)
+        ok 23 v.1 (broken.PrimitiveArity (w.before, w.inside, subst (λ y. HeadIsApplied w.before.head w.before.args y k) v.2 u.stands) (go.primitive w.context w.scope t v.0 x op v.3 e) differ)
 
     no_arguments : (t : Scope) (app inner : Application) → InFunction q t (AnApp app) → Contains app inner → 12 < count inner.args → ⊥
     no_arguments t app inner h held l =

@@ -8,23 +8,23 @@ use Rattle.std.proofs.lemmas.List.Sums.{sum_by-cons, sum_by-append}
 use Rattle.std.proofs.lemmas.List.Sorted.{IsPermutation-sym, Contains-permutation}
 use Rattle.seq.specs.Lists.{AllOf, In, here, there}
 use Rattle.seq.proofs.Lists.{map_get}
-use Rattle.core_reader.specs.Different.{AreDifferent}
+use Rattle.core_reader.specs.Different.{AreDistinct}
 use Rattle.core_reader.specs.Tree.{Data, Function, Program}
 use Rattle.core_reader.specs.Size.{function_size, program_size}
 use Rattle.core_reader.specs.Readable.{ReadableData, ReadableFunction, IsReadable}
 use Rattle.arity_check.specs.Whole.{known_of}
 use Rattle.core_link.specs.declared.rename.Renaming.{Renaming}
 use Rattle.core_link.specs.Module.{Module, body, seen, name_of}
-use Rattle.core_link.specs.Joinable.{IsJoinable, AreJoinable}
-use Rattle.core_link.specs.Union.{ConstructorBecomes, FunctionBecomes, with_module, local_text, IsUnion, IsRising}
-use Rattle.core_link.specs.Renaming.{Numbers, numbers_of, or_zero, AreAt, AreNumbered, function_texts, renamed_data, renamed_functions, joined_constructors, joined_functions}
+use Rattle.core_link.specs.Joinable.{IsLinkable, AreLinkable}
+use Rattle.core_link.specs.Union.{ConstructorBecomes, FunctionBecomes, with_module, local_text, IsUnion, IsStrictlySorted}
+use Rattle.core_link.specs.Renaming.{Numbers, numbers_of, or_zero, TextsAreAtNumbers, AreNumbered, function_texts, renamed_data, renamed_functions, joined_constructors, joined_functions}
 use Rattle.core_link.proofs.Renames.{AreNumbers, data_becomes, function_becomes}
 use Rattle.core_link.proofs.Ready.{ready_data, ready_function}
 use Rattle.core_link.proofs.Sizes.{length_map, functions_as_large}
 
 -- ---- the numbers that the code keeps
 
-number_at : (names texts : List (List ℕ)) (numbers : List ℕ) (i : ℕ) (w : List ℕ) → AreAt names texts numbers → slice_get texts i ≡ Some w → slice_get names (or_zero (slice_get numbers i)) ≡ Some w
+number_at : (names texts : List (List ℕ)) (numbers : List ℕ) (i : ℕ) (w : List ℕ) → TextsAreAtNumbers names texts numbers → slice_get texts i ≡ Some w → slice_get names (or_zero (slice_get numbers i)) ≡ Some w
 number_at names [] [] i w h e = absurd cc
 number_at names [] (n ∷ ns) i w h e = absurd h
 number_at names (t ∷ ts) [] i w h e = absurd h
@@ -72,7 +72,7 @@ module _ (names : List (List ℕ)) where
     functions_are g [] at h = tt
     functions_are g (f ∷ fs) at h = (function_becomes names m n are g f (first g f fs at) (All-head (ReadableFunction m.names) f fs h), functions_are (g + 1) fs (next g f fs at) (All-tail (ReadableFunction m.names) f fs h))
 
-    module _ (j : IsJoinable m) where
+    module _ (j : IsLinkable m) where
       constructors_ready : (ds : List Data) → All (ReadableData m.names) ds → All (ReadableData names) (map (renamed_data n) ds)
       constructors_ready [] h = All-nil (ReadableData names)
       constructors_ready (d ∷ ds) h = All-cons (ReadableData names) (renamed_data n d) (map (renamed_data n) ds) (ready_data m j.name j.imports names n are d (All-head (ReadableData m.names) d ds h)) (constructors_ready ds (All-tail (ReadableData m.names) d ds h))
@@ -90,25 +90,25 @@ module _ (names : List (List ℕ)) where
   abbrev Ready : List Module → List Numbers → Type 0
   Ready ms ns = AllZip (AreNumbers names) ms ns
 
-  joined_data : (ms : List Module) (ns : List Numbers) → Ready ms ns → AllOf IsJoinable ms → AllZip DataIs (with_module (λ (m : Module). m.constructors) ms) (joined_constructors ms ns)
+  joined_data : (ms : List Module) (ns : List Numbers) → Ready ms ns → AllOf IsLinkable ms → AllZip DataIs (with_module (λ (m : Module). m.constructors) ms) (joined_constructors ms ns)
   joined_data [] [] h j = tt
   joined_data [] (n ∷ ns) h j = absurd h
   joined_data (m ∷ ms) [] h j = absurd h
   joined_data (m ∷ ms) (n ∷ ns) h j = zip_append DataIs (map (λ (d : Data). (m, d)) m.constructors) (with_module (λ (m : Module). m.constructors) ms) (map (renamed_data n) m.constructors) (joined_constructors ms ns) (constructors_are m n h.0 m.constructors j.0.readable.constructors) (joined_data ms ns h.1 j.1)
 
-  joined_code : (ms : List Module) (ns : List Numbers) → Ready ms ns → AllOf IsJoinable ms → AllZip FunctionIs (with_module (λ (m : Module). m.functions) ms) (joined_functions ms ns)
+  joined_code : (ms : List Module) (ns : List Numbers) → Ready ms ns → AllOf IsLinkable ms → AllZip FunctionIs (with_module (λ (m : Module). m.functions) ms) (joined_functions ms ns)
   joined_code [] [] h j = tt
   joined_code [] (n ∷ ns) h j = absurd h
   joined_code (m ∷ ms) [] h j = absurd h
   joined_code (m ∷ ms) (n ∷ ns) h j = zip_append FunctionIs (map (λ (f : Function). (m, f)) m.functions) (with_module (λ (m : Module). m.functions) ms) (renamed_functions n (known_of (seen m)) 0 m.functions) (joined_functions ms ns) (functions_are m n h.0 0 m.functions (all_from m n h.0) j.0.readable.functions) (joined_code ms ns h.1 j.1)
 
-  data_ready : (ms : List Module) (ns : List Numbers) → Ready ms ns → AllOf IsJoinable ms → All (ReadableData names) (joined_constructors ms ns)
+  data_ready : (ms : List Module) (ns : List Numbers) → Ready ms ns → AllOf IsLinkable ms → All (ReadableData names) (joined_constructors ms ns)
   data_ready [] [] h j = All-nil (ReadableData names)
   data_ready [] (n ∷ ns) h j = absurd h
   data_ready (m ∷ ms) [] h j = absurd h
   data_ready (m ∷ ms) (n ∷ ns) h j = All-append (ReadableData names) (map (renamed_data n) m.constructors) (joined_constructors ms ns) (constructors_ready m n h.0 j.0 m.constructors j.0.readable.constructors) (data_ready ms ns h.1 j.1)
 
-  code_ready : (ms : List Module) (ns : List Numbers) → Ready ms ns → AllOf IsJoinable ms → All (ReadableFunction names) (joined_functions ms ns)
+  code_ready : (ms : List Module) (ns : List Numbers) → Ready ms ns → AllOf IsLinkable ms → All (ReadableFunction names) (joined_functions ms ns)
   code_ready [] [] h j = All-nil (ReadableFunction names)
   code_ready [] (n ∷ ns) h j = absurd h
   code_ready (m ∷ ms) [] h j = absurd h
@@ -161,10 +161,10 @@ of_all P [] x h i = elim i [ ]
 of_all P (y ∷ xs) x h here = h.0
 of_all P (y ∷ xs) x h (there i) = of_all P xs x h.1 i
 
-module _ (ms sorted : List Module) (rs : List Renaming) (p : Program) (joinable : AreJoinable ms) (moved : IsPermutation ms sorted) (rises : IsRising (map name_of sorted))
+module _ (ms sorted : List Module) (rs : List Renaming) (p : Program) (joinable : AreLinkable ms) (moved : IsPermutation ms sorted) (rises : IsStrictlySorted (map name_of sorted))
     (numbered : AllZip (AreNumbered p.names) sorted rs) (constructors : p.constructors ≡ joined_constructors sorted (map numbers_of rs)) (functions : p.functions ≡ joined_functions sorted (map numbers_of rs)) where
-  each : AllOf IsJoinable sorted
-  each = all_of IsJoinable sorted (λ m i. of_all IsJoinable ms m joinable.each (in_moved sorted ms (IsPermutation-sym ms sorted moved) m i))
+  each : AllOf IsLinkable sorted
+  each = all_of IsLinkable sorted (λ m i. of_all IsLinkable ms m joinable.each (in_moved sorted ms (IsPermutation-sym ms sorted moved) m i))
 
   ready : (ms : List Module) (rs : List Renaming) → AllZip (AreNumbered p.names) ms rs → Ready p.names ms (map numbers_of rs)
   ready [] [] h = tt
@@ -185,7 +185,7 @@ module _ (ms sorted : List Module) (rs : List Renaming) (p : Program) (joinable 
   same_size : joined_size p.names sorted (map numbers_of rs) ≡ program_size p
   same_size = λ i. 2 * length (sym constructors i) + sum_by function_size (sym functions i)
 
-  pub is_readable : AreDifferent p.names → total_size p.names sorted < 2 ^ 64 → IsReadable p
+  pub is_readable : AreDistinct p.names → total_size p.names sorted < 2 ^ 64 → IsReadable p
   is_readable d small = record {
     different = d;
     constructors = subst (All (ReadableData p.names)) (sym constructors) (data_ready p.names sorted (map numbers_of rs) (ready sorted rs numbered) each);

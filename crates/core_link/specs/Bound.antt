@@ -31,9 +31,9 @@ bound_in_functions (f ∷ fs) = bound_in_function f ++ bound_in_functions fs
 -- ---- declarations
 
 -- a declaration isn't the first of its name, where the first has this number
-abbrev pub is_later : Option ℕ → ℕ → Bool
-is_later None i = false
-is_later (Some n) i = nat_lt n i
+abbrev pub is_redeclaration : Option ℕ → ℕ → Bool
+is_redeclaration None i = false
+is_redeclaration (Some n) i = nat_lt n i
 
 -- each item behind its number, from a number on
 abbrev pub numbered : {X : Type 0} → ℕ → List X → List (ℕ × X)

@@ -11,26 +11,26 @@ use Rattle.core_reader.specs.declared.token.Token.TheVariants as word
 use Rattle.core_reader.specs.declared.token.Further.TheVariants as further
 use Rattle.core_reader.specs.declared.token.Lexeme.{Lexeme}
 use Rattle.core_reader.specs.declared.refusal.ReadRefusal.{ReadRefusal}
-use Rattle.core_reader.specs.Grammar.{Room, Decl, at_most_200}
+use Rattle.core_reader.specs.Grammar.{NestingLimit, Decl, at_most_200}
 use Rattle.core_reader.specs.ReadingOf.{Step, go, done, stop, Reading, run_of}
 use Rattle.core_reader.specs.Machine.{refused, Goes}
 use Rattle.core_reader.specs.Declaring as core
 use Rattle.core_link.specs.declared.header.Header as code-header
 use Rattle.core_link.specs.declared.module.Import as code-import
-use Rattle.core_link.specs.Module.{Head, Import, SpellsModule, is_alphanumeric}
+use Rattle.core_link.specs.Module.{ModuleHeader, Import, SpellsModule, is_alphanumeric}
 use Rattle.core_link.specs.ModuleOf.{import_of}
 
 abbrev pub binder : NameId → ℕ → Binder
 binder n at = record { name = n; at = at }
 
-abbrev pub named : Binder → Head
+abbrev pub named : Binder → ModuleHeader
 named b = record { name = b; exports = []; imports = [] }
 
 -- one more name, and one more import
-abbrev pub exporting : Head → List Binder → Head
+abbrev pub exporting : ModuleHeader → List Binder → ModuleHeader
 exporting h bs = record { name = h.name; exports = h.exports ++ bs; imports = h.imports }
 
-abbrev pub importing : Head → Import → Head
+abbrev pub importing : ModuleHeader → Import → ModuleHeader
 importing h i =
     record { name = h.name; exports = h.exports; imports = h.imports ++ i ∷ [] }
 
@@ -41,23 +41,23 @@ pub data State : Type 0 where
   Start : State
   ModuleName : State
   NameEnd : Binder → State
-  Exports : Head → State
-  ExportWords : Head → State
-  Imports : Head → State
-  ImportName : Head → State
-  ImportWords : Head → Binder → List Binder → State
-  Declares : Head → core.State → State
+  Exports : ModuleHeader → State
+  ExportWords : ModuleHeader → State
+  Imports : ModuleHeader → State
+  ImportName : ModuleHeader → State
+  ImportWords : ModuleHeader → Binder → List Binder → State
+  Declares : ModuleHeader → core.State → State
 
-abbrev pub Parts : Type 0
-Parts = Head × List Decl
+abbrev pub ModuleParts : Type 0
+ModuleParts = ModuleHeader × List Decl
 
 -- a step behind the header is one of Core
-abbrev pub behind_head : Head → Step core.State (List Decl) → Step State Parts
+abbrev pub behind_head : ModuleHeader → Step core.State (List Decl) → Step State ModuleParts
 behind_head h (go s) = go (Declares h s)
 behind_head h (done ds) = done (h, ds)
 behind_head h (stop e) = stop e
 
-abbrev pub step : Room → State → ℕ → Token → Step State Parts
+abbrev pub step : NestingLimit → State → ℕ → Token → Step State ModuleParts
 step l Start at (word.Further further.Module) = go ModuleName
 step l ModuleName at (word.Con n) = go (NameEnd (binder n at))
 step l (NameEnd b) at word.Semicolon = go (Exports (named b))
@@ -80,18 +80,18 @@ step l s at token = stop (refused at token)
 abbrev pub modules : Reading
 modules = record {
   State = State;
-  Tree = Parts;
+  Tree = ModuleParts;
   start = Start;
   step = step;
   Spells = SpellsModule;
 }
 
-abbrev pub run : State → List Lexeme → Result Parts ReadRefusal
+abbrev pub run : State → List Lexeme → Result ModuleParts ReadRefusal
 run = run_of step at_most_200
 
 -- ---- what each part of the reader of a header does
 
-abbrev pub head : Binder → List Binder → List Import → Head
+abbrev pub head : Binder → List Binder → List Import → ModuleHeader
 head name exports imports = record { name = name; exports = exports; imports = imports }
 
 abbrev pub IsNoWord : Token → Type 0
@@ -127,7 +127,7 @@ ReadsExports old new result =
 abbrev pub ReadsImport : List Lexeme → List Lexeme → Result code-import.Import ReadRefusal
     → Type 0
 ReadsImport old new result =
-    (h : Head)
+    (h : ModuleHeader)
     → Goes result (run (ImportName h) old) (λ i. run (Imports (importing h (import_of i))) new)
 
 abbrev pub ReadsImports : List Lexeme → List Lexeme → Result (Vec code-import.Import) ReadRefusal
@@ -140,7 +140,7 @@ ReadsImports old new result =
 abbrev pub ReadsName : List Lexeme → List Lexeme → Result Binder ReadRefusal → Type 0
 ReadsName old new result = Goes result (run ModuleName old) (λ b. run (NameEnd b) new)
 
-abbrev pub parts_of : code-header.Header → Head
+abbrev pub parts_of : code-header.Header → ModuleHeader
 parts_of h = head h.name h.exports.items (map import_of h.imports.items)
 
 abbrev pub ReadsHeader : List Lexeme → List Lexeme → Result code-header.Header ReadRefusal
@@ -154,9 +154,10 @@ abbrev pub is_module : Token → Bool
 is_module (word.Further further.Module) = true
 is_module token = false
 
-abbrev pub is_misname : List (List ℕ) → Token → Bool
-is_misname names (word.Con n) = not (list_all is_alphanumeric (or_empty (slice_get names n.0)))
-is_misname names token = false
+abbrev pub is_bad_module_name : List (List ℕ) → Token → Bool
+is_bad_module_name names (word.Con n) =
+    not (list_all is_alphanumeric (or_empty (slice_get names n.0)))
+is_bad_module_name names token = false
 
 -- the place of the second token, where it is a module's name with other bytes than letters and
 -- digits
@@ -164,4 +165,4 @@ abbrev pub misnamed : List (List ℕ) → List Lexeme → Option ℕ
 misnamed names [] = None
 misnamed names (x ∷ []) = None
 misnamed names (x ∷ y ∷ ts) =
-    if is_module x.token && is_misname names y.token then Some y.at else None
+    if is_module x.token && is_bad_module_name names y.token then Some y.at else None

@@ -10,7 +10,7 @@ use Rattle.core_reader.specs.declared.token.Further.TheVariants as further
 use Rattle.core_reader.specs.declared.token.Lexeme.{Lexeme}
 use Rattle.core_reader.specs.Bytes.{is_inner, is_upper}
 use Rattle.core_reader.specs.Tree.{Data, Function, Program, App, Int, NoTerms}
-use Rattle.core_reader.specs.Grammar.{Room, lexeme, Decl, SpellsDecls, constructors_of, functions_of}
+use Rattle.core_reader.specs.Grammar.{NestingLimit, lexeme, Decl, SpellsDecls, constructors_of, functions_of}
 use Rattle.core_reader.specs.TokensOf.{Piece}
 use Rattle.core_reader.specs.WordsOf.{said}
 use Rattle.core_reader.specs.NamesOf as names
@@ -32,13 +32,13 @@ pub record Module : Type 0 where
   pub functions : List Function
 
 -- what stands before the declarations of a module
-pub record Head : Type 0 where
+pub record ModuleHeader : Type 0 where
   pub name : Binder
   pub exports : List Binder
   pub imports : List Import
 
-abbrev pub head_of : Module → Head
-head_of m = record { name = m.name; exports = m.exports; imports = m.imports }
+abbrev pub module_header_of : Module → ModuleHeader
+module_header_of m = record { name = m.name; exports = m.exports; imports = m.imports }
 
 -- ---- the tokens of a module
 
@@ -69,24 +69,24 @@ SpellsImports (i ∷ imports) ts =
     × (ts ≡ lexeme p (word.Further further.Import) ∷ lexeme i.from.at (word.Con i.from.name)
     ∷ (us ++ (lexeme q word.Semicolon ∷ vs)))
 
-abbrev pub SpellsHead : Head → List Lexeme → Type 0
+abbrev pub SpellsHead : ModuleHeader → List Lexeme → Type 0
 SpellsHead h ts =
     (p q : ℕ) × (us vs : List Lexeme) × SpellsExports h.exports us × SpellsImports h.imports vs
     × (ts ≡ lexeme p (word.Further further.Module) ∷ lexeme h.name.at (word.Con h.name.name)
     ∷ lexeme q word.Semicolon ∷ (us ++ vs))
 
-abbrev pub SpellsModule : Room → Head × List Decl → List Lexeme → Type 0
+abbrev pub SpellsModule : NestingLimit → ModuleHeader × List Decl → List Lexeme → Type 0
 SpellsModule room m ts =
     (us vs : List Lexeme) × SpellsHead m.0 us × SpellsDecls room m.1 vs × (ts ≡ us ++ vs)
 
 -- The grammar derives the module from the tokens, with as many open constructs as there is room
 -- for, whatever its name.
-pub record IsSpelled (room : Room) (m : Module) (pieces : List Piece) : Type 0 where
+pub record IsSpelled (room : NestingLimit) (m : Module) (pieces : List Piece) : Type 0 where
   pub names : m.names ≡ names.names_of Modules pieces
   pub decls : List Decl
   pub constructors : constructors_of decls ≡ m.constructors
   pub functions : functions_of decls ≡ m.functions
-  pub spelled : SpellsModule room (head_of m, decls) (map (said Modules m.names) pieces)
+  pub spelled : SpellsModule room (module_header_of m, decls) (map (said Modules m.names) pieces)
 
 -- a letter or a digit
 abbrev pub is_alphanumeric : ℕ → Bool
@@ -99,7 +99,7 @@ IsNamedPlainly (keyword ∷ []) = ⊥
 IsNamedPlainly (keyword ∷ name ∷ pieces) = list_all is_alphanumeric name.bytes ≡ true
 
 -- The grammar derives the module from the tokens.
-pub record IsModule (room : Room) (m : Module) (pieces : List Piece) : Type 0 where
+pub record IsModule (room : NestingLimit) (m : Module) (pieces : List Piece) : Type 0 where
   pub spelled : IsSpelled room m pieces
   pub named : IsNamedPlainly pieces
 
@@ -109,18 +109,18 @@ IsModuleText = any.IsText Modules IsModule
 
 -- ---- the rules 1 to 5, for texts of modules
 
-abbrev pub IsUnread : List ℕ → (k at : ℕ) → Type 0
-IsUnread = rules.IsUnread Modules IsModule
+abbrev pub IsReadingFault : List ℕ → (k at : ℕ) → Type 0
+IsReadingFault = rules.IsUnread Modules IsModule
 
-abbrev pub IsFirstUnread : List ℕ → (k at : ℕ) → Type 0
-IsFirstUnread = rules.IsFirstUnread Modules IsModule
+abbrev pub IsFirstReadingFault : List ℕ → (k at : ℕ) → Type 0
+IsFirstReadingFault = rules.IsFirstUnread Modules IsModule
 
 abbrev pub IsReadCause : List ℕ → ReadRefusal → Type 0
 IsReadCause = rules.IsCause Modules IsModule
 
 -- none of them is broken
-abbrev pub IsRead : List ℕ → Type 0
-IsRead = rules.IsUnbroken Modules IsModule
+abbrev pub BreaksNoReadingRule : List ℕ → Type 0
+BreaksNoReadingRule = rules.IsUnbroken Modules IsModule
 
 -- ---- what is known in a module
 

@@ -14,7 +14,7 @@ use Rattle.arity_check.specs.Scope.{Scope}
 use Rattle.arity_check.specs.Known.{Known, meaning, all_entered}
 use Rattle.arity_check.specs.Pieces.{binders_of, bound_by}
 use Rattle.arity_check.specs.Whole.{known_of}
-use Rattle.core_reader.specs.Different.{AreDifferent}
+use Rattle.core_reader.specs.Different.{AreDistinct}
 use Rattle.core_link.specs.declared.naming.Named.{Named}
 use Rattle.core_link.specs.declared.rename.Renaming.{Renaming}
 use Rattle.core_link.specs.Module.{Module, text_in, name_of, seen, imported_functions}
@@ -125,25 +125,25 @@ abbrev pub function_texts : Module → List (List ℕ)
 function_texts m = declared_texts m ++ map (imported_text m) (imported_functions m)
 
 -- what the code keeps of them
-pub record AreTexts (n : Named) : Type 0 where
+pub record AreNameTexts (n : Named) : Type 0 where
   pub local : n.local.items ≡ map local_text (module_of n.part).names
   pub function : n.function.items ≡ function_texts (module_of n.part)
 
 -- ---- their numbers among the names of the program
 
 -- each text stands at its number
-abbrev pub AreAt : List (List ℕ) → List (List ℕ) → List ℕ → Type 0
-AreAt names texts numbers = AllZip (λ w n. slice_get names n ≡ Some w) texts numbers
+abbrev pub TextsAreAtNumbers : List (List ℕ) → List (List ℕ) → List ℕ → Type 0
+TextsAreAtNumbers names texts numbers = AllZip (λ w n. slice_get names n ≡ Some w) texts numbers
 
 -- what stands at a number stays there, and each text is there once
-pub record Grows (old new : List (List ℕ)) : Type 0 where
+pub record NamesAreExtended (old new : List (List ℕ)) : Type 0 where
   pub kept : (n : ℕ) (w : List ℕ) → slice_get old n ≡ Some w → slice_get new n ≡ Some w
-  pub different : AreDifferent old → AreDifferent new
+  pub different : AreDistinct old → AreDistinct new
 
 pub record AreNumbered (names : List (List ℕ)) (m : Module) (r : Renaming) : Type 0 where
-  pub local : AreAt names (map local_text m.names) r.local.items
-  pub itself : AreAt names m.names r.itself.items
-  pub function : AreAt names (function_texts m) r.function.items
+  pub local : TextsAreAtNumbers names (map local_text m.names) r.local.items
+  pub itself : TextsAreAtNumbers names m.names r.itself.items
+  pub function : TextsAreAtNumbers names (function_texts m) r.function.items
 
 -- ---- the declarations of all modules
 

@@ -8,7 +8,7 @@ use Rattle.arity_check.specs.Broken as program
 use Rattle.core_link.specs.declared.refusal.LinkRefusal.{LinkRefusal}
 use Rattle.core_link.specs.declared.refusal.LinkKind.{LinkKind}
 use Rattle.core_link.specs.declared.refusal.LinkKind.TheVariants as kind
-use Rattle.core_link.specs.Module.{Module, Import, IsModuleText, IsUnread, text_in, name_of, body, seen, imported}
+use Rattle.core_link.specs.Module.{Module, Import, IsModuleText, IsReadingFault, text_in, name_of, body, seen, imported}
 
 -- a function or a constructor of this name is declared in the module
 pub data IsDeclared (m : Module) (name : ℕ) : Type 0 where
@@ -20,12 +20,12 @@ pub data IsDeclared (m : Module) (name : ℕ) : Type 0 where
 -- ---- the rules of a module by itself
 
 -- rule k is broken at a place of the module
-pub data Own (m : Module) : (k at : ℕ) → Type 0 where
-  ReservedName : {at : ℕ} → program.Broken (body m) 22 at → Own m 22 at
+pub data BreaksOwnRule (m : Module) : (k at : ℕ) → Type 0 where
+  ReservedName : {at : ℕ} → program.Broken (body m) 22 at → BreaksOwnRule m 22 at
   ExportUnknown : {b : Binder} (i : ℕ) → slice_get m.exports i ≡ Some b
-      → (IsDeclared m b.name.0 → ⊥) → Own m 55 b.at
-  AgainConstructor : {at : ℕ} → program.Broken (body m) 11 at → Own m 58 at
-  AgainFunction : {at : ℕ} → program.Broken (body m) 12 at → Own m 58 at
+      → (IsDeclared m b.name.0 → ⊥) → BreaksOwnRule m 55 b.at
+  AgainConstructor : {at : ℕ} → program.Broken (body m) 11 at → BreaksOwnRule m 58 at
+  AgainFunction : {at : ℕ} → program.Broken (body m) 12 at → BreaksOwnRule m 58 at
 
 -- ---- the rules between modules
 
@@ -48,10 +48,10 @@ abbrev pub IsImported : Module → ℕ → Binder × Binder → Type 0
 IsImported m i x = slice_get (imported m) i ≡ Some x
 
 -- the name was imported before this place, or is declared in the module
-pub data IsTaken (m : Module) (i : ℕ) (b : Binder) : Type 0 where
+pub data NameIsTaken (m : Module) (i : ℕ) (b : Binder) : Type 0 where
   Before : {x : Binder × Binder} (j : ℕ) → j < i → IsImported m j x → x.1.name.0 ≡ b.name.0
-      → IsTaken m i b
-  Declared : IsDeclared m b.name.0 → IsTaken m i b
+      → NameIsTaken m i b
+  Declared : IsDeclared m b.name.0 → NameIsTaken m i b
 
 pub record DeclaresMain (m : Module) : Type 0 where
   pub named : name_of m ≡ codes "Main"
@@ -61,23 +61,24 @@ pub record DeclaresMain (m : Module) : Type 0 where
   pub main : text_in m function.name ≡ codes "main"
 
 -- rule k is broken at a place of a file, with regard to the other files
-pub data Between (ms : List Module) : (k file at : ℕ) → Type 0 where
+pub data BreaksInterModuleRule (ms : List Module) : (k file at : ℕ) → Type 0 where
   DuplicateModule : {m other : Module} {i j : ℕ} → slice_get ms i ≡ Some m
       → slice_get ms j ≡ Some other → j < i → name_of other ≡ name_of m
-      → Between ms 52 i m.name.at
+      → BreaksInterModuleRule ms 52 i m.name.at
   UnknownModule : {m : Module} {i : ℕ} {x : Import} (n : ℕ) → slice_get ms i ≡ Some m
-      → slice_get m.imports n ≡ Some x → source ms m x.from ≡ None → Between ms 53 i x.from.at
+      → slice_get m.imports n ≡ Some x → source ms m x.from ≡ None
+      → BreaksInterModuleRule ms 53 i x.from.at
   NotExported : {m other : Module} {i : ℕ} {x : Binder × Binder} (n : ℕ)
       → slice_get ms i ≡ Some m → IsImported m n x → source ms m x.0 ≡ Some other
-      → (IsExported other (text_in m x.1.name.0) → ⊥) → Between ms 54 i x.1.at
+      → (IsExported other (text_in m x.1.name.0) → ⊥) → BreaksInterModuleRule ms 54 i x.1.at
   DuplicateImport : {m : Module} {i : ℕ} {x : Binder × Binder} (n : ℕ) → slice_get ms i ≡ Some m
-      → IsImported m n x → IsTaken m n x.1 → Between ms 56 i x.1.at
+      → IsImported m n x → NameIsTaken m n x.1 → BreaksInterModuleRule ms 56 i x.1.at
   UnknownName : {m : Module} {i at : ℕ} → slice_get ms i ≡ Some m
-      → program.Broken (seen m) 14 at → Between ms 57 i at
+      → program.Broken (seen m) 14 at → BreaksInterModuleRule ms 57 i at
   AgainElsewhere : {m other : Module} {i j : ℕ} {c d : Data} (n k : ℕ) → slice_get ms i ≡ Some m
       → slice_get ms j ≡ Some other → j < i → slice_get m.constructors n ≡ Some d
       → slice_get other.constructors k ≡ Some c → text_in other c.name ≡ text_in m d.name
-      → Between ms 58 i d.at
+      → BreaksInterModuleRule ms 58 i d.at
 
 abbrev pub LacksMain : List Module → Type 0
 LacksMain ms = (i : ℕ) (m : Module) → slice_get ms i ≡ Some m → DeclaresMain m → ⊥
@@ -86,41 +87,41 @@ LacksMain ms = (i : ℕ) (m : Module) → slice_get ms i ≡ Some m → Declares
 
 -- What a broken rule is about: the reading of one file, the declarations of one file, the lack of a
 -- `main`, or several files.
-pub data Group : Type 0 where
-  Reading : Group
-  OwnRule : Group
-  Main : Group
-  Files : Group
+pub data RuleGroup : Type 0 where
+  Reading : RuleGroup
+  OwnRule : RuleGroup
+  Main : RuleGroup
+  Files : RuleGroup
 
 -- rule k is broken at a place of a text, whatever other texts there are
-pub data BrokenIn (text : List ℕ) : Group → (k at : ℕ) → Type 0 where
-  Unread : {k at : ℕ} → IsUnread text k at → BrokenIn text Reading k at
-  OfModule : (m : Module) {k at : ℕ} → IsModuleText text m → Own m k at
+pub data BrokenIn (text : List ℕ) : RuleGroup → (k at : ℕ) → Type 0 where
+  Unread : {k at : ℕ} → IsReadingFault text k at → BrokenIn text Reading k at
+  OfModule : (m : Module) {k at : ℕ} → IsModuleText text m → BreaksOwnRule m k at
       → BrokenIn text OwnRule k at
 
 -- rule k is broken at a place of a file
-pub data Broken (texts : List (List ℕ)) : Group → (k file at : ℕ) → Type 0 where
-  InFile : {text : List ℕ} {g : Group} {k file at : ℕ} → slice_get texts file ≡ Some text
+pub data Broken (texts : List (List ℕ)) : RuleGroup → (k file at : ℕ) → Type 0 where
+  InFile : {text : List ℕ} {g : RuleGroup} {k file at : ℕ} → slice_get texts file ≡ Some text
       → BrokenIn text g k at → Broken texts g k file at
   NoMainModule : (ms : List Module) → AllZip IsModuleText texts ms → LacksMain ms
       → Broken texts Main 59 0 0
   OfFiles : (ms : List Module) {k file at : ℕ} → AllZip IsModuleText texts ms
-      → Between ms k file at → Broken texts Files k file at
+      → BreaksInterModuleRule ms k file at → Broken texts Files k file at
 
 -- no rule is broken
 abbrev pub IsUnbroken : List (List ℕ) → Type 0
-IsUnbroken texts = (g : Group) (k file at : ℕ) → Broken texts g k file at → ⊥
+IsUnbroken texts = (g : RuleGroup) (k file at : ℕ) → Broken texts g k file at → ⊥
 
 -- ---- which of them is named
 
 -- in a text rule 5 comes before the others on reading, and these before its own rules; then by
 -- place, and at one place by number
-abbrev pub rank_in : Group → (k at : ℕ) → List ℕ
+abbrev pub rank_in : RuleGroup → (k at : ℕ) → List ℕ
 rank_in Reading k at = (if k == 5 then 0 else 1) ∷ at ∷ k ∷ []
 rank_in OwnRule k at = 2 ∷ at ∷ k ∷ []
 rank_in group k at = []
 
-abbrev pub rank : Group → (k file at : ℕ) → List ℕ
+abbrev pub rank : RuleGroup → (k file at : ℕ) → List ℕ
 rank Reading k file at = 0 ∷ file ∷ rank_in Reading k at
 rank OwnRule k file at = 0 ∷ file ∷ rank_in OwnRule k at
 rank Main k file at = 1 ∷ []
@@ -134,20 +135,20 @@ IsBefore (a ∷ as') (b ∷ bs) = (a < b) ⊎ ((a ≡ b) × IsBefore as' bs)
 
 -- Rule k is broken at a place of a text, and no rule before it, whatever other texts there are.
 pub record IsFirstIn (text : List ℕ) (k at : ℕ) : Type 0 where
-  pub group : Group
+  pub group : RuleGroup
   pub broken : BrokenIn text group k at
-  pub first : (g : Group) (k' at' : ℕ) → BrokenIn text g k' at'
+  pub first : (g : RuleGroup) (k' at' : ℕ) → BrokenIn text g k' at'
       → IsBefore (rank_in group k at) (rank_in g k' at')
 
 -- no rule is broken in the text
 abbrev pub IsSound : List ℕ → Type 0
-IsSound text = (g : Group) (k at : ℕ) → BrokenIn text g k at → ⊥
+IsSound text = (g : RuleGroup) (k at : ℕ) → BrokenIn text g k at → ⊥
 
 -- Rule k is broken at a place of a file, and no broken rule comes before it.
 pub record IsFirstBroken (texts : List (List ℕ)) (k file at : ℕ) : Type 0 where
-  pub group : Group
+  pub group : RuleGroup
   pub broken : Broken texts group k file at
-  pub first : (g : Group) (k' file' at' : ℕ) → Broken texts g k' file' at'
+  pub first : (g : RuleGroup) (k' file' at' : ℕ) → Broken texts g k' file' at'
       → IsBefore (rank group k file at) (rank g k' file' at')
 
 -- ---- refusals

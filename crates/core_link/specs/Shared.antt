@@ -12,10 +12,10 @@ use Rattle.core_reader.specs.Tree.{Program}
 use Rattle.core_reader.specs.LexedOf.{texts_of}
 use Rattle.core_reader.specs.Readable.{IsReadable}
 use Rattle.arity_check.specs.Broken as program
-use Rattle.core_link.specs.declared.imports.Taking.{Taking}
+use Rattle.core_link.specs.declared.imports.ImportFaults.{ImportFaults}
 use Rattle.core_link.specs.Module.{Module, Import, IsModuleText, text_in, name_of, body, begins_upper, as_function, as_constructor, seen}
-use Rattle.core_link.specs.Rules.{IsTaken, IsImported, Between, module_named}
-use Rattle.core_link.specs.Found.{IsFirstAt}
+use Rattle.core_link.specs.Rules.{NameIsTaken, IsImported, BreaksInterModuleRule, module_named}
+use Rattle.core_link.specs.Found.{IsFirstPlaceWhere}
 
 -- ---- what is known in a module
 
@@ -41,17 +41,17 @@ declare_all p imports = fold (λ q i. fold declare q i.names) p imports
 -- ---- what a module breaks by what it imports
 
 -- a name is imported at this place that is taken
-pub record Retakes (m : Module) (at : ℕ) : Type 0 where
+pub record ImportsTakenName (m : Module) (at : ℕ) : Type 0 where
   pub number : ℕ
   pub name : Binder × Binder
   pub is : IsImported m number name
-  pub taken : IsTaken m number name.1
+  pub taken : NameIsTaken m number name.1
   pub place : name.1.at ≡ at
 
 -- the first places at which the module breaks the rules 56 and 57
-pub record IsTaking (m : Module) (t : Taking) : Type 0 where
-  pub again : IsFirstAt (Retakes m) t.again
-  pub unknown : IsFirstAt (program.Broken (seen m) 14) t.unknown
+pub record AreImportFaults (m : Module) (t : ImportFaults) : Type 0 where
+  pub again : IsFirstPlaceWhere (ImportsTakenName m) t.again
+  pub unknown : IsFirstPlaceWhere (program.Broken (seen m) 14) t.unknown
 
 -- ---- the tables
 
@@ -98,9 +98,10 @@ IsNoLater f k file at =
 
 -- a file with a rule and its place, where any rule is broken
 abbrev pub IsFirstBetween : List Module → Option (ℕ × (ℕ × ℕ)) → Type 0
-IsFirstBetween ms None = (k file at : ℕ) → Between ms k file at → ⊥
+IsFirstBetween ms None = (k file at : ℕ) → BreaksInterModuleRule ms k file at → ⊥
 IsFirstBetween ms (Some f) =
-    Between ms f.1.0 f.0 f.1.1 × ((k file at : ℕ) → Between ms k file at → IsNoLater f k file at)
+    BreaksInterModuleRule ms f.1.0 f.0 f.1.1
+    × ((k file at : ℕ) → BreaksInterModuleRule ms k file at → IsNoLater f k file at)
 
 -- the module is `Main` and declares a `main`
 abbrev pub declares_main : Module → Bool
@@ -109,20 +110,22 @@ declares_main m =
     && list_any (λ f. bytes_eq (text_in m f.name) (codes "main")) m.functions
 
 -- the tables of the modules before this one
-pub record Holds (ms : List Module) (file : ℕ) (named declared : List (Bor (List ℕ)))
+pub record TablesMatchModules (ms : List Module) (file : ℕ) (named declared : List (Bor (List ℕ)))
     : Type 0 where
   pub names : (w : List ℕ) → has (texts_of named) w ≡ has (map name_of (take file ms)) w
   pub constructors : (w : List ℕ) → has (texts_of declared) w ≡ declares (take file ms) w
 
 -- The texts stand for the modules, which are readable, and break these rules by what they import.
-pub record AreRead (texts : List (List ℕ)) (ms : List Module) (ts : List Taking) : Type 0 where
+pub record AreRead (texts : List (List ℕ)) (ms : List Module) (ts : List ImportFaults)
+    : Type 0 where
   pub modules : AllZip IsModuleText texts ms
   pub readable : AllOf (λ m. IsReadable (body m)) ms
-  pub takings : AllZip IsTaking ms ts
+  pub takings : AllZip AreImportFaults ms ts
 
 -- The module stands behind the others, and what it breaks behind what they break.
-pub record IsKept (m : Module) (old new : List Module) (ts us : List Taking) : Type 0 where
-  pub taking : Taking
-  pub is : IsTaking m taking
+pub record ModuleIsAppended (m : Module) (old new : List Module) (ts us : List ImportFaults)
+    : Type 0 where
+  pub taking : ImportFaults
+  pub is : AreImportFaults m taking
   pub modules : new ≡ old ++ m ∷ []
   pub takings : us ≡ ts ++ taking ∷ []

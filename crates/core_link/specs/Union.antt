@@ -32,15 +32,15 @@ import_home m None = []
 import_home m (Some i) = text_in m i.0.name.0
 
 -- the name of the module of a function, which is declared or imported
-abbrev pub home : Module → ℕ → List ℕ
-home m g =
+abbrev pub home_module : Module → ℕ → List ℕ
+home_module m g =
     if nat_lt g (length m.functions) then name_of m
     else import_home m (slice_get (imported_functions m) (g - length m.functions))
 
 -- the name of what a name stands for
 abbrev pub meaning_text : Module → List ℕ → Meaning → List ℕ
 meaning_text m x (meaning.Local y) = local_text x
-meaning_text m x (meaning.Function g params) = global_text x (home m g)
+meaning_text m x (meaning.Function g params) = global_text x (home_module m g)
 meaning_text m x (meaning.Primitive op) = x
 meaning_text m x meaning.Unbound = x
 
@@ -81,8 +81,8 @@ module _ (names : List (List ℕ)) (m : Module) where
 abbrev pub with_module : {X : Type 0} → (Module → List X) → List Module → List (Module × X)
 with_module items ms = flat_map (λ m. map (λ x. (m, x)) (items m)) ms
 
-abbrev pub IsRising : List (List ℕ) → Type 0
-IsRising = IsStrictlySortedBy (slice_cmp nat_cmp)
+abbrev pub IsStrictlySorted : List (List ℕ) → Type 0
+IsStrictlySorted = IsStrictlySortedBy (slice_cmp nat_cmp)
 
 -- The declarations are those of the modules, renamed, in the order of the bytes of the modules'
 -- names, and each module's in its order.
@@ -90,7 +90,7 @@ pub record IsUnion (ms : List Module) (c : Program) : Type 0 where
   pub sorted : List Module
   pub all : (m : Module) → In m ms → In m sorted
   pub only : (m : Module) → In m sorted → In m ms
-  pub rising : IsRising (map name_of sorted)
+  pub rising : IsStrictlySorted (map name_of sorted)
   pub constructors : AllZip (λ d e. ConstructorBecomes c.names d.0 d.1 e)
       (with_module (λ m. m.constructors) sorted) c.constructors
   pub functions : AllZip (λ f g. FunctionBecomes c.names f.0 f.1 g)

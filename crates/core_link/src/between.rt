@@ -8,7 +8,7 @@ ghost use Rattle.core_link.specs.Found.{earliest};
 ghost use Rattle.core_link.specs.Shared.{has, exports_text, constructor_texts, found_at, lacks, IsIndex};
 
 use crate::module::Module;
-use crate::rules::earlier_if;
+use crate::rules::earlier_place_if;
 use core_reader::{Binder, NameId};
 use indexmap::{IndexMap, IndexSet};
 use std::alloc::{AllocError, Global};
@@ -70,7 +70,10 @@ pub fn exports(
 }
 
 /// The first import that names no module.
-pub fn unknown_source(exports: &IndexMap<&[u8], IndexSet<&[u8]>>, module: &Module) -> Option<u32>
+pub fn unknown_import_module(
+    exports: &IndexMap<&[u8], IndexSet<&[u8]>>,
+    module: &Module,
+) -> Option<u32>
     ensures { result ≡ earliest
         (λ i. is_none (found_at exports.now.entries (text_in (module_of module.now) i.from.name.0)))
         (λ i. i.from.at) None (module_of module.now).imports }
@@ -78,7 +81,7 @@ pub fn unknown_source(exports: &IndexMap<&[u8], IndexSet<&[u8]>>, module: &Modul
     let mut first = None;
     for import in module.imports.as_slice() {
         let is_unknown = !exports.contains_key(text(module, import.from.name));
-        first = earlier_if(is_unknown, first, import.from.at);
+        first = earlier_place_if(is_unknown, first, import.from.at);
     }
     first
 }
@@ -97,7 +100,7 @@ fn not_among(
     let mut first = found;
     for name in names {
         let is_unknown = !exports.contains(text(module, name.name));
-        first = earlier_if(is_unknown, first, name.at);
+        first = earlier_place_if(is_unknown, first, name.at);
     }
     first
 }
@@ -119,7 +122,7 @@ pub fn not_exported(exports: &IndexMap<&[u8], IndexSet<&[u8]>>, module: &Module)
 }
 
 /// The first constructor of the module that an earlier module declares.
-pub fn declared_again(earlier: &IndexSet<&[u8]>, module: &Module) -> Option<u32>
+pub fn redeclared_constructor(earlier: &IndexSet<&[u8]>, module: &Module) -> Option<u32>
     ensures { result ≡ earliest
         (λ d. has (texts_of earlier.now.keys) (text_in (module_of module.now) d.name))
         (λ d. d.at) None (module_of module.now).constructors }
@@ -127,7 +130,7 @@ pub fn declared_again(earlier: &IndexSet<&[u8]>, module: &Module) -> Option<u32>
     let mut first = None;
     for constructor in module.core.constructors.as_slice() {
         let is_again = earlier.contains(text(module, constructor.name));
-        first = earlier_if(is_again, first, constructor.at);
+        first = earlier_place_if(is_again, first, constructor.at);
     }
     first
 }

@@ -4,7 +4,7 @@ ghost use Rattle.std.specs.Prelude.{◌≡◌, ◌⊎◌, IfOk, OnOk, IfErr, Som
 ghost use Rattle.core_reader.specs.Readable.{IsReadable};
 ghost use Rattle.arity_check.specs.Tables.{known};
 ghost use Rattle.arity_check.specs.Whole.{known_of};
-ghost use Rattle.core_link.specs.Found.{unread_of};
+ghost use Rattle.core_link.specs.Found.{read_refusal_in};
 ghost use Rattle.core_link.specs.Module.{IsModuleText, body};
 ghost use Rattle.core_link.specs.ModuleOf.{module_of};
 ghost use Rattle.core_link.specs.Rules.{IsCauseIn, IsSound, rule_of};
@@ -14,11 +14,12 @@ use crate::refusal::{LinkKind, LinkRefusal};
 use crate::rules::own;
 use arity_check::globals::Globals;
 use core_reader::ReadRefusal;
+use limits::MOST_BYTES;
 use std::alloc::Global;
 
 /// What a refusal of the reading of a text says, where the text has this number.
 fn unread(file: u32, refusal: ReadRefusal) -> LinkRefusal
-    ensures { result ≡ unread_of file refusal }
+    ensures { result ≡ read_refusal_in file refusal }
 {
     match refusal {
         ReadRefusal::BadByte(at) => LinkRefusal {
@@ -39,7 +40,7 @@ fn unread(file: u32, refusal: ReadRefusal) -> LinkRefusal
         },
         ReadRefusal::TextTooLong => LinkRefusal {
             file,
-            kind: LinkKind::TextTooLong(1048576),
+            kind: LinkKind::TextTooLong(MOST_BYTES),
         },
         ReadRefusal::Memory(error) => LinkRefusal {
             file: 0,
@@ -64,14 +65,14 @@ fn own_kind(rule: u8, at: u32) -> LinkKind
 
 /// A module with the tables of its names.
 #[derive(Drop)]
-pub struct Tabled {
+pub struct ModuleWithTables {
     pub module: Module,
     pub globals: Globals,
 }
 
 /// The module of a text, which has this number, or the first rule that the text breaks whatever
 /// other texts there are.
-pub fn read_file(alloc: Global, file: u32, text: &[u8]) -> Result<Tabled, LinkRefusal>
+pub fn read_file(alloc: Global, file: u32, text: &[u8]) -> Result<ModuleWithTables, LinkRefusal>
     ensures found { IfOk result (λ t. IsModuleText text.now (module_of t.module)) }
     ensures tables { IfOk result (λ t. known t.globals ≡ known_of (body (module_of t.module))) }
     ensures unbroken { OnOk result (IsSound text.now) }
@@ -85,7 +86,7 @@ pub fn read_file(alloc: Global, file: u32, text: &[u8]) -> Result<Tabled, LinkRe
     let globals = Globals::new(alloc, &module.core)?;
     let first = own(&module, &globals);
     match first {
-        None => Ok(Tabled { module, globals }),
+        None => Ok(ModuleWithTables { module, globals }),
         Some((rule, at)) => {
             let kind = own_kind(rule, at);
             Err(LinkRefusal { file, kind })

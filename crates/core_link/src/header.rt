@@ -7,7 +7,7 @@ ghost use Rattle.core_reader.specs.Machine.{front};
 ghost use Rattle.core_reader.specs.declared.token.Token.TheVariants as word;
 ghost use Rattle.core_reader.specs.declared.token.Further.TheVariants as further;
 ghost use Rattle.core_link.specs.Module.{is_alphanumeric};
-ghost use Rattle.core_link.specs.Heading.{is_module, is_misname, misnamed, ReadsName, ReadsWords, ReadsExports, ReadsImport, ReadsImports, ReadsHeader};
+ghost use Rattle.core_link.specs.Heading.{is_module, is_bad_module_name, misnamed, ReadsName, ReadsWords, ReadsExports, ReadsImport, ReadsImports, ReadsHeader};
 
 use crate::module::Import;
 use core_reader::{Binder, Further, Lexeme, Parser, ReadRefusal, Token};
@@ -41,8 +41,8 @@ fn is_module_name(name: &[u8]) -> bool
 }
 
 /// Whether a token is a constructor's that no module may be named.
-fn is_misname(names: &[&[u8]], token: Token) -> bool
-    ensures { result ≡ is_misname (texts_of names.now) token }
+fn is_bad_module_name(names: &[&[u8]], token: Token) -> bool
+    ensures { result ≡ is_bad_module_name (texts_of names.now) token }
 {
     match token {
         Token::Con(name) => match names.get(name.0 as usize) {
@@ -60,7 +60,7 @@ pub fn misnamed(names: &[&[u8]], lexemes: &[Lexeme]) -> Option<u32>
     let [first, second, ..] = lexemes else {
         return None;
     };
-    if first.token == Token::Further(Further::Module) && is_misname(names, second.token) {
+    if first.token == Token::Further(Further::Module) && is_bad_module_name(names, second.token) {
         return Some(second.at);
     }
     None

@@ -7,11 +7,11 @@ ghost use Rattle.arity_check.specs.Tables.{known};
 ghost use Rattle.arity_check.specs.Whole.{known_of};
 ghost use Rattle.core_link.specs.Module.{body, imported};
 ghost use Rattle.core_link.specs.ModuleOf.{module_of};
-ghost use Rattle.core_link.specs.Found.{earliest_again, seen_with, is_declared};
-ghost use Rattle.core_link.specs.Shared.{IsTaking};
+ghost use Rattle.core_link.specs.Found.{first_repeated_name, with_names_seen, is_declared};
+ghost use Rattle.core_link.specs.Shared.{AreImportFaults};
 
 use crate::module::Module;
-use crate::rules::{earlier_if, is_declared, unknown};
+use crate::rules::{earlier_place_if, is_declared, unknown};
 use crate::visible::seen;
 use arity_check::globals::Globals;
 use core_reader::{Binder, Core, NameId};
@@ -21,7 +21,7 @@ use std::collections::BTreeSet;
 
 /// The first places at which a module breaks the rules 56 and 57.
 #[derive(Clone, Copy)]
-pub struct Taking {
+pub struct ImportFaults {
     /// An imported name that was imported before or is declared.
     pub again: Option<u32>,
     /// A name that is not known.
@@ -35,7 +35,7 @@ fn imported_again(
     module: &Module,
 ) -> Result<Option<u32>, AllocError>
     ensures { IfOk result (λ first. first
-        ≡ earliest_again (is_declared (known globals.now)) (λ x. false) None
+        ≡ first_repeated_name (is_declared (known globals.now)) (λ x. false) None
         (map (λ i. i.1) (imported (module_of module.now)))) }
 {
     let mut seen = BTreeSet::new(alloc);
@@ -53,7 +53,8 @@ fn is_taken(globals: &Globals, is_new: bool, name: NameId) -> bool
     !is_new || is_declared(globals, name)
 }
 
-/// The first imported name that is taken among the names of one import, behind those that were seen.
+/// The first imported name that is taken among the names of one import, behind those that were
+/// seen.
 fn again(
     globals: &Globals,
     names: &[Binder],
@@ -61,15 +62,15 @@ fn again(
     found: Option<u32>,
 ) -> Result<Option<u32>, AllocError>
     ensures first { IfOk result (λ first. first
-        ≡ earliest_again (is_declared (known globals.now)) (contains nat_cmp seen.old) found
+        ≡ first_repeated_name (is_declared (known globals.now)) (contains nat_cmp seen.old) found
         names.now) }
     ensures seen { OnOk result (contains nat_cmp seen.new
-        ≡ seen_with (contains nat_cmp seen.old) names.now) }
+        ≡ with_names_seen (contains nat_cmp seen.old) names.now) }
 {
     let mut first = found;
     for name in names {
         let is_new = seen.insert(name.name.0)?;
-        first = earlier_if(is_taken(globals, is_new, name.name), first, name.at);
+        first = earlier_place_if(is_taken(globals, is_new, name.name), first, name.at);
     }
     Ok(first)
 }
@@ -83,22 +84,22 @@ fn first_items<T: Drop>(items: Seq<T>, count: usize) -> Seq<T>
     Seq::from_vec(items)
 }
 
-/// Where a module, which has these tables, first breaks the rules on what it imports, whatever other
-/// modules there are. The module comes back.
-pub fn find_taking(
+/// Where a module, which has these tables, first breaks the rules on what it imports, whatever
+/// other modules there are. The module comes back.
+pub fn find_import_faults(
     alloc: Global,
     module: Module,
     globals: Globals,
-) -> Result<(Module, Taking), AllocError>
+) -> Result<(Module, ImportFaults), AllocError>
     requires { known «globals» ≡ known_of (body (module_of «module»)) }
     ensures same { IfOk result (λ r. module_of r.0 ≡ module_of «module») }
-    ensures taking { IfOk result (λ r. IsTaking (module_of «module») r.1) }
+    ensures taking { IfOk result (λ r. AreImportFaults (module_of «module») r.1) }
 {
     if module.imports.is_empty() {
         let unknown = unknown(alloc, &module.core, &globals)?;
         return Ok((
             module,
-            Taking {
+            ImportFaults {
                 again: None,
                 unknown,
             },
@@ -127,5 +128,5 @@ pub fn find_taking(
         imports,
         core,
     };
-    Ok((module, Taking { again, unknown }))
+    Ok((module, ImportFaults { again, unknown }))
 }

@@ -12,13 +12,13 @@ ghost use Rattle.core_reader.specs.Size.{program_size};
 ghost use Rattle.core_reader.specs.Tree.{data_of, function as function_of, program};
 ghost use Rattle.core_link.specs.Module.{body, seen, name_of};
 ghost use Rattle.core_link.specs.ModuleOf.{module_of};
-ghost use Rattle.core_link.specs.Renaming.{AreTexts, AreNumbered, numbers_of, renamed_data, renamed_functions, joined_constructors, joined_functions};
+ghost use Rattle.core_link.specs.Renaming.{AreNameTexts, AreNumbered, numbers_of, renamed_data, renamed_functions, joined_constructors, joined_functions};
 ghost use Rattle.core_link.specs.Union.{IsUnion};
-ghost use Rattle.core_link.specs.Joinable.{AreJoinable};
+ghost use Rattle.core_link.specs.Joinable.{AreLinkable};
 
 use crate::between::text;
 use crate::module::Module;
-use crate::naming::{Named, renamings, with_texts};
+use crate::naming::{Named, renamings, with_name_texts};
 use crate::rename::{Renamer, Renaming};
 use crate::visible::seen;
 use arity_check::globals::Globals;
@@ -64,11 +64,11 @@ fn whole_size(modules: &[Module]) -> Result<u64, AllocError>
 /// The modules with the texts of their names.
 fn all_named(alloc: Global, modules: Vec<Module>) -> Result<Vec<Named>, AllocError>
     ensures modules { IfOk result (λ named. map (λ n. n.part) named.items ≡ modules.items) }
-    ensures texts { IfOk result (λ named. All AreTexts named.items) }
+    ensures texts { IfOk result (λ named. All AreNameTexts named.items) }
 {
     let mut all = Vec::new(alloc);
     for module in modules {
-        all.push(with_texts(alloc, module)?)?;
+        all.push(with_name_texts(alloc, module)?)?;
     }
     Ok(all)
 }
@@ -176,7 +176,7 @@ fn all_declared(
 
 /// The program that the modules are together.
 pub fn join(alloc: Global, modules: Vec<Module>) -> Result<Core, AllocError>
-    requires { AreJoinable (map module_of modules.items) }
+    requires { AreLinkable (map module_of modules.items) }
     ensures union { IfOk result (λ core. IsUnion (map module_of modules.items) (program core)) }
     ensures readable { IfOk result (λ core. IsReadable (program core)) }
 {

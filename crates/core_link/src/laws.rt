@@ -1,28 +1,28 @@
 //! What holds of linking by its definitions alone.
 
-ghost use Rattle.core_link.specs.Laws.{EachHasProgram, OneModuleKeeps, OrderIsFree, StillUnbroken};
+ghost use Rattle.core_link.specs.Laws.{ModuleTextHasProgram, SingleModuleKeepsMeaning, TextOrderIsIrrelevant, LinkingKeepsNameRules};
 
-use arity_check::laws::{one_normal_form, some_normal_form};
+use arity_check::laws::{normal_form_exists, normal_form_is_unique};
 
 /// The order of the texts is of no account.
-pub fn order_is_free()
-    ensures { OrderIsFree }
+pub fn text_order_is_irrelevant()
+    ensures { TextOrderIsIrrelevant }
 {}
 
 /// A linked program breaks no rule of names.
-pub fn still_unbroken()
-    ensures { StillUnbroken }
+pub fn linking_keeps_name_rules()
+    ensures { LinkingKeepsNameRules }
 {}
 
 /// Behind the header of each text of a module stands a program, the module's declarations.
-pub fn each_has_program()
-    ensures { EachHasProgram }
+pub fn module_text_has_program()
+    ensures { ModuleTextHasProgram }
 {}
 
 /// One module without imports puts out what its declarations do by themselves.
-pub fn one_module_keeps()
-    ensures { OneModuleKeeps }
+pub fn single_module_keeps_meaning()
+    ensures { SingleModuleKeepsMeaning }
 {
-    one_normal_form();
-    some_normal_form();
+    normal_form_is_unique();
+    normal_form_exists();
 }

@@ -15,11 +15,11 @@ use std::alloc::Global;
 
 /// The program that the modules of the texts are together: the declarations of all of them, in the
 /// order of the bytes of the modules' names. `main` of `Main` keeps its name, every other function
-/// `f` of a module `N` is `f'N`, and a local `x` other than `_` is `x'`; constructors and primitives
-/// keep their names.
+/// `f` of a module `N` is `f'N`, and a local `x` other than `_` is `x'`; constructors and
+/// primitives keep their names.
 ///
-/// The answer is `Ok` exactly where the texts break no rule, and else the rule that comes first. Want
-/// of memory may come in place of each answer.
+/// The answer is `Ok` exactly where the texts break no rule, and else the rule that comes first.
+/// Want of memory may come in place of each answer.
 pub fn link(alloc: Global, texts: &Texts) -> Result<Core, LinkRefusal>
     ensures linked { IfOk result (λ core. IsLinked texts.now (program core)) }
     ensures unbroken { OnOk result (IsUnbroken texts.now) }

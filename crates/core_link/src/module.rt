@@ -2,11 +2,12 @@
 
 ghost use Rattle.std.specs.Prelude.{◌≡◌, OnOk, IfOk, IfErr};
 ghost use Rattle.core_reader.specs.Readable.{IsReadable};
-ghost use Rattle.core_link.specs.Module.{IsModuleText, IsRead, IsReadCause, body};
+ghost use Rattle.core_link.specs.Module.{IsModuleText, BreaksNoReadingRule, IsReadCause, body};
 ghost use Rattle.core_link.specs.ModuleOf.{module_of};
 
 use crate::header::{Header, misnamed};
 use core_reader::{Binder, Core, Dialect, Parser, ReadRefusal, copied_names, lex};
+use limits::MOST_BYTES;
 use seq::Seq;
 use std::alloc::Global;
 
@@ -32,18 +33,15 @@ pub struct Module {
     pub core: Core,
 }
 
-/// The most bytes of a text.
-const MOST_BYTES: usize = 1048576;
-
 /// The module that a text stands for, or the first of the rules 1 to 5 that it breaks. Want of
 /// memory may come in place of each answer.
 pub fn read_module(alloc: Global, text: &[u8]) -> Result<Module, ReadRefusal>
     ensures found { IfOk result (λ m. IsModuleText text.now (module_of m)) }
-    ensures unbroken { OnOk result (IsRead text.now) }
+    ensures unbroken { OnOk result (BreaksNoReadingRule text.now) }
     ensures readable { IfOk result (λ m. IsReadable (body (module_of m))) }
     ensures refused { IfErr result (IsReadCause text.now) }
 {
-    if text.len() > MOST_BYTES {
+    if text.len() > MOST_BYTES as usize {
         return Err(ReadRefusal::TextTooLong);
     }
     let lexed = lex(alloc, Dialect::Modules, text)?;

@@ -2,11 +2,11 @@
 
 ghost use Rattle.std.specs.Prelude.{◌≡◌, ◌++◌, not, map, slice_get, All, IfOk};
 ghost use Rattle.std.specs.List.{AllZip, filter};
-ghost use Rattle.core_reader.specs.Different.{AreDifferent};
+ghost use Rattle.core_reader.specs.Different.{AreDistinct};
 ghost use Rattle.core_reader.specs.LexedOf.{texts_of};
 ghost use Rattle.core_link.specs.Module.{is_constructor, imported_functions};
 ghost use Rattle.core_link.specs.ModuleOf.{module_of};
-ghost use Rattle.core_link.specs.Renaming.{AreTexts, AreAt, AreNumbered, Grows, declared_texts, imported_text, function_texts};
+ghost use Rattle.core_link.specs.Renaming.{AreNameTexts, TextsAreAtNumbers, AreNumbered, NamesAreExtended, declared_texts, imported_text, function_texts};
 ghost use Rattle.core_link.specs.Union.{global_text, local_text};
 
 use crate::between::text;
@@ -117,9 +117,9 @@ fn function_texts(alloc: Global, module: &Module) -> Result<Vec<Seq<u8>>, AllocE
 }
 
 /// A module with the texts of its names.
-pub fn with_texts(alloc: Global, part: Module) -> Result<Named, AllocError>
+pub fn with_name_texts(alloc: Global, part: Module) -> Result<Named, AllocError>
     ensures part { IfOk result (λ named. named.part ≡ part) }
-    ensures texts { IfOk result AreTexts }
+    ensures texts { IfOk result AreNameTexts }
 {
     let local = local_texts(alloc, part.core.names.texts())?;
     let function = function_texts(alloc, &part)?;
@@ -132,7 +132,7 @@ pub fn with_texts(alloc: Global, part: Module) -> Result<Named, AllocError>
 
 /// The number of a text, which is put at the end of the known ones where it is new.
 fn number<'a>(known: &mut IndexSet<&'a [u8]>, text: &'a [u8]) -> Result<u32, AllocError>
-    ensures grows { IfOk result (λ _. Grows (texts_of known.old.keys) (texts_of known.new.keys)) }
+    ensures grows { IfOk result (λ _. NamesAreExtended (texts_of known.old.keys) (texts_of known.new.keys)) }
     ensures number { IfOk result (λ n. slice_get (texts_of known.new.keys) n ≡ Some text.now) }
 {
     let (index, _) = known.insert_full(text)?;
@@ -148,8 +148,8 @@ fn numbers<'a>(
     known: &mut IndexSet<&'a [u8]>,
     texts: &'a [Seq<u8>],
 ) -> Result<Vec<u32>, AllocError>
-    ensures grows { IfOk result (λ _. Grows (texts_of known.old.keys) (texts_of known.new.keys)) }
-    ensures numbers { IfOk result (λ v. AreAt (texts_of known.new.keys) texts.now v.items) }
+    ensures grows { IfOk result (λ _. NamesAreExtended (texts_of known.old.keys) (texts_of known.new.keys)) }
+    ensures numbers { IfOk result (λ v. TextsAreAtNumbers (texts_of known.new.keys) texts.now v.items) }
 {
     let mut numbers = Vec::new(alloc);
     for text in texts {
@@ -164,8 +164,8 @@ fn renaming<'a>(
     known: &mut IndexSet<&'a [u8]>,
     named: &'a Named,
 ) -> Result<Renaming, AllocError>
-    requires { AreTexts named.now }
-    ensures grows { IfOk result (λ _. Grows (texts_of known.old.keys) (texts_of known.new.keys)) }
+    requires { AreNameTexts named.now }
+    ensures grows { IfOk result (λ _. NamesAreExtended (texts_of known.old.keys) (texts_of known.new.keys)) }
     ensures numbered { IfOk result
         (AreNumbered (texts_of known.new.keys) (module_of named.now.part)) }
 {
@@ -178,7 +178,7 @@ fn renaming<'a>(
 
 /// The names of the linked program, and the new numbers of the names of each module.
 pub fn renamings(alloc: Global, modules: &[Named]) -> Result<(Names, Vec<Renaming>), AllocError>
-    requires { All AreTexts modules.now }
+    requires { All AreNameTexts modules.now }
     ensures { IfOk result (λ made.
         AllZip (λ n. AreNumbered made.0 (module_of n.part)) modules.now made.1.items) }
 {

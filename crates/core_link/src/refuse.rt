@@ -9,18 +9,18 @@ ghost use Rattle.arity_check.specs.Whole.{known_of};
 ghost use Rattle.core_link.specs.Module.{IsModuleText, body};
 ghost use Rattle.core_link.specs.Module.{Module as module_spec};
 ghost use Rattle.core_link.specs.ModuleOf.{module_of};
-ghost use Rattle.core_link.specs.Rules.{IsSound, IsUnbroken, IsCause, Between, rule_of};
-ghost use Rattle.core_link.specs.Found.{IsFirstOf, sooner};
-ghost use Rattle.core_link.specs.Shared.{AreRead, IsKept, IsTaking, IsIndex, IsFirstBetween, Holds, declares_main};
+ghost use Rattle.core_link.specs.Rules.{IsSound, IsUnbroken, IsCause, BreaksInterModuleRule, rule_of};
+ghost use Rattle.core_link.specs.Found.{NamesFirstBrokenRule, sooner};
+ghost use Rattle.core_link.specs.Shared.{AreRead, ModuleIsAppended, AreImportFaults, IsIndex, IsFirstBetween, TablesMatchModules, declares_main};
 
 use crate::between::{
-    add_constructors, declared_again, exports, not_exported, text, unknown_source,
+    add_constructors, exports, not_exported, redeclared_constructor, text, unknown_import_module,
 };
-use crate::files::{Tabled, read_file};
-use crate::imports::{Taking, find_taking};
+use crate::files::{ModuleWithTables, read_file};
+use crate::imports::{ImportFaults, find_import_faults};
 use crate::module::Module;
 use crate::refusal::{LinkKind, LinkRefusal};
-use crate::rules::{earlier_if, sooner};
+use crate::rules::{earlier_place_if, sooner};
 use crate::texts::Texts;
 use indexmap::{IndexMap, IndexSet};
 use std::alloc::{AllocError, Global};
@@ -72,7 +72,7 @@ fn first_rule(
     named_again: Option<u32>,
     source: Option<u32>,
     unexported: Option<u32>,
-    taking: Taking,
+    taking: ImportFaults,
     constructor: Option<u32>,
 ) -> Option<(u8, u32)>
     ensures { result ≡ sooner (sooner (sooner (sooner (sooner (sooner None 52 named_again) 53 source)
@@ -99,22 +99,22 @@ impl<'a> Earlier<'a> {
         &mut self,
         exports: &IndexMap<&'a [u8], IndexSet<&'a [u8]>>,
         module: &'a Module,
-        taking: Taking,
+        taking: ImportFaults,
     ) -> Result<Option<(u8, u32)>, AllocError>
         ensures { IfOk result (λ found. (ms : List module_spec) (file : ℕ)
             → slice_get ms file ≡ Some (module_of module.now)
             → IsIndex ms exports.now.entries
-            → Holds ms file self.old.names.keys self.old.constructors.keys
-            → IsTaking (module_of module.now) taking
-            → IsFirstOf (λ k at. Between ms k file at) found
-            × Holds ms (file + 1) self.new.names.keys self.new.constructors.keys) }
+            → TablesMatchModules ms file self.old.names.keys self.old.constructors.keys
+            → AreImportFaults (module_of module.now) taking
+            → NamesFirstBrokenRule (λ k at. BreaksInterModuleRule ms k file at) found
+            × TablesMatchModules ms (file + 1) self.new.names.keys self.new.constructors.keys) }
     {
         let name = text(module, module.name.name);
         let is_new = self.names.insert(name)?;
-        let named_again = earlier_if(!is_new, None, module.name.at);
-        let source = unknown_source(exports, module);
+        let named_again = earlier_place_if(!is_new, None, module.name.at);
+        let source = unknown_import_module(exports, module);
         let unexported = not_exported(exports, module);
-        let constructor = declared_again(&self.constructors, module);
+        let constructor = redeclared_constructor(&self.constructors, module);
         add_constructors(&mut self.constructors, module)?;
         Ok(first_rule(named_again, source, unexported, taking, constructor))
     }
@@ -124,9 +124,9 @@ impl<'a> Earlier<'a> {
 fn first_between(
     alloc: Global,
     modules: &[Module],
-    takings: &[Taking],
+    takings: &[ImportFaults],
 ) -> Result<Option<(u32, (u8, u32))>, AllocError>
-    requires { AllZip IsTaking (map module_of modules.now) takings.now }
+    requires { AllZip AreImportFaults (map module_of modules.now) takings.now }
     ensures { IfOk result (IsFirstBetween (map module_of modules.now)) }
 {
     let exports = exports(alloc, modules)?;
@@ -151,15 +151,15 @@ fn first_between(
 /// The module goes behind the others, with what it breaks by its imports.
 fn keep(
     alloc: Global,
-    read: Tabled,
+    read: ModuleWithTables,
     modules: &mut Vec<Module>,
-    takings: &mut Vec<Taking>,
+    takings: &mut Vec<ImportFaults>,
 ) -> Result<(), AllocError>
     requires { known read.globals ≡ known_of (body (module_of read.module)) }
-    ensures { OnOk result (IsKept (module_of «read».module) (map module_of modules.old.items)
+    ensures { OnOk result (ModuleIsAppended (module_of «read».module) (map module_of modules.old.items)
         (map module_of modules.new.items) takings.old.items takings.new.items) }
 {
-    let (module, taking) = find_taking(alloc, read.module, read.globals)?;
+    let (module, taking) = find_import_faults(alloc, read.module, read.globals)?;
     modules.push(module)?;
     takings.push(taking)?;
     Ok(())
@@ -167,7 +167,7 @@ fn keep(
 
 /// The modules of the texts, with what each of them breaks by its imports. Otherwise the first rule
 /// that a text breaks by itself.
-fn read_files(alloc: Global, texts: &Texts) -> Result<(Vec<Module>, Vec<Taking>), LinkRefusal>
+fn read_files(alloc: Global, texts: &Texts) -> Result<(Vec<Module>, Vec<ImportFaults>), LinkRefusal>
     ensures read { IfOk result (λ r. AreRead texts.now (map module_of r.0.items) r.1.items) }
     ensures sound { OnOk result (AllOf IsSound texts.now) }
     ensures refused { IfErr result (IsCause texts.now) }

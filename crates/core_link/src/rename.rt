@@ -10,7 +10,7 @@ ghost use Rattle.arity_check.specs.Tables.{known};
 ghost use Rattle.core_link.specs.Renaming.{or_zero, numbers_of, number_for, renamed_binder, renamed_con, renamed_pattern, renamed_data, renamed_term, renamed_app, renamed_bind, renamed_expr, renamed_alts, renamed_function};
 
 use arity_check::globals::Globals;
-use arity_check::meaning::{Meaning, stands_for};
+use arity_check::meaning::{Meaning, meaning_of_name};
 use arity_check::scope::Scope;
 use core_reader::{Alt, App, Atom, Bind, Binder, Data, Expr, Function, NameId, Pattern};
 use seq::Seq;
@@ -160,7 +160,7 @@ impl<'a> Renamer<'a> {
     {
         match atom {
             Atom::Name(name, at) => {
-                let meaning = stands_for(self.globals, scope, name);
+                let meaning = meaning_of_name(self.globals, scope, name);
                 Ok(Atom::Name(self.renaming.number_for(name, meaning), at))
             }
             Atom::Con(name, at) => Ok(Atom::Con(

@@ -7,10 +7,10 @@ ghost use Rattle.arity_check.specs.Known.{is_reserved};
 ghost use Rattle.arity_check.specs.Pieces.{binders_of, bound_by};
 ghost use Rattle.arity_check.specs.Tables.{known};
 ghost use Rattle.arity_check.specs.Whole.{known_of, int_kind};
-ghost use Rattle.core_link.specs.Found.{IsFirstAt, earliest, binder_place};
+ghost use Rattle.core_link.specs.Found.{IsFirstPlaceWhere, earliest, binder_place};
 ghost use Rattle.core_link.specs.Bound.{bound_in, bound_in_function, bound_in_functions};
 
-use crate::rules::earlier_if;
+use crate::rules::earlier_place_if;
 use arity_check::globals::Globals;
 use core_reader::{Alt, Bind, Binder, Core, Data, Expr, Function, Pattern};
 
@@ -22,7 +22,7 @@ fn among(globals: &Globals, binders: &[Binder], found: Option<u32>) -> Option<u3
     let mut first = found;
     for binder in binders {
         let is_reserved = globals.is_reserved(binder.name);
-        first = earlier_if(is_reserved, first, binder.at);
+        first = earlier_place_if(is_reserved, first, binder.at);
     }
     first
 }
@@ -35,7 +35,7 @@ fn in_group(globals: &Globals, group: &[Bind], found: Option<u32>) -> Option<u32
     let mut first = found;
     for member in group {
         let is_reserved = globals.is_reserved(member.binder.name);
-        first = earlier_if(is_reserved, first, member.binder.at);
+        first = earlier_place_if(is_reserved, first, member.binder.at);
     }
     first
 }
@@ -50,7 +50,7 @@ fn in_pattern(globals: &Globals, pattern: &Pattern, found: Option<u32>) -> Optio
         Pattern::Int(_, _) => found,
         Pattern::Default(name) => {
             let is_reserved = globals.is_reserved(name.name);
-            earlier_if(is_reserved, found, name.at)
+            earlier_place_if(is_reserved, found, name.at)
         }
     }
 }
@@ -93,7 +93,7 @@ fn in_function(globals: &Globals, function: &Function, found: Option<u32>) -> Op
         (bound_in_function (function_of function.now)) }
 {
     let is_reserved = globals.is_reserved(function.name);
-    let own = earlier_if(is_reserved, found, function.at);
+    let own = earlier_place_if(is_reserved, found, function.at);
     let bound = among(globals, function.params.as_slice(), own);
     in_expr(globals, &function.body, bound)
 }
@@ -118,7 +118,7 @@ fn in_constructors(globals: &Globals, constructors: &[Data]) -> Option<u32>
     let mut first = None;
     for constructor in constructors {
         let is_int = globals.is_int(constructor.name);
-        first = earlier_if(is_int, first, constructor.at);
+        first = earlier_place_if(is_int, first, constructor.at);
     }
     first
 }
@@ -126,7 +126,7 @@ fn in_constructors(globals: &Globals, constructors: &[Data]) -> Option<u32>
 /// The first name that is reserved.
 pub fn reserved(core: &Core, globals: &Globals) -> Option<u32>
     requires { known globals.now ≡ known_of (program core.now) }
-    ensures { IsFirstAt (Broken (program core.now) 22) result }
+    ensures { IsFirstPlaceWhere (Broken (program core.now) 22) result }
 {
     let constructor = in_constructors(globals, core.constructors.as_slice());
     in_functions(globals, core.functions.as_slice(), constructor)

@@ -5,10 +5,10 @@ ghost use Rattle.core_reader.specs.Tree.{program};
 ghost use Rattle.arity_check.specs.Tables.{known};
 ghost use Rattle.arity_check.specs.Whole.{known_of};
 ghost use Rattle.arity_check.specs.Broken.{Broken};
-ghost use Rattle.core_link.specs.Found.{IsFirstAt, IsFirstOf, sooner, earlier_if, earliest, binder_place, place_of, is_declared};
+ghost use Rattle.core_link.specs.Found.{IsFirstPlaceWhere, NamesFirstBrokenRule, sooner, earlier_place_if, earliest, binder_place, place_of, is_declared};
 ghost use Rattle.core_link.specs.Module.{body};
 ghost use Rattle.core_link.specs.ModuleOf.{module_of};
-ghost use Rattle.core_link.specs.Rules.{Own};
+ghost use Rattle.core_link.specs.Rules.{BreaksOwnRule};
 
 use crate::doubles::doubles;
 use crate::module::Module;
@@ -53,7 +53,7 @@ fn place_of(refusal: Option<CheckRefusal>) -> Option<u32>
 /// The first use of a name that is not bound.
 pub fn unknown(alloc: Global, core: &Core, globals: &Globals) -> Result<Option<u32>, AllocError>
     requires { known globals.now ≡ known_of (program core.now) }
-    ensures { IfOk result (λ place. IsFirstAt (Broken (program core.now) 14) place) }
+    ensures { IfOk result (λ place. IsFirstPlaceWhere (Broken (program core.now) 14) place) }
 {
     let refusal = first_refusal(alloc, Order::Unknown, core, globals)?;
     Ok(place_of(refusal))
@@ -70,8 +70,8 @@ pub fn is_declared(globals: &Globals, name: NameId) -> bool
 }
 
 /// A place, if something is broken at it, or an earlier one.
-pub fn earlier_if(is_broken: bool, first: Option<u32>, at: u32) -> Option<u32>
-    ensures { result ≡ earlier_if is_broken first at }
+pub fn earlier_place_if(is_broken: bool, first: Option<u32>, at: u32) -> Option<u32>
+    ensures { result ≡ earlier_place_if is_broken first at }
 {
     if !is_broken {
         return first;
@@ -96,7 +96,7 @@ fn unknown_export(globals: &Globals, exports: &[Binder]) -> Option<u32>
     let mut first = None;
     for export in exports {
         let is_unknown = !is_declared(globals, export.name);
-        first = earlier_if(is_unknown, first, export.at);
+        first = earlier_place_if(is_unknown, first, export.at);
     }
     first
 }
@@ -123,7 +123,7 @@ pub fn sooner(found: Option<(u8, u32)>, rule: u8, place: Option<u32>) -> Option<
 /// The first rule that a module breaks by itself, where these are its tables.
 pub fn own(module: &Module, globals: &Globals) -> Option<(u8, u32)>
     requires { known globals.now ≡ known_of (body (module_of module.now)) }
-    ensures { IsFirstOf (Own (module_of module.now)) result }
+    ensures { NamesFirstBrokenRule (BreaksOwnRule (module_of module.now)) result }
 {
     let reserved = reserved(&module.core, globals);
     let export = unknown_export(globals, module.exports.as_slice());

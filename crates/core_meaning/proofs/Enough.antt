@@ -5,10 +5,10 @@ use Rattle.arity_check.specs.declared.normal.Flat.{Flat}
 use Rattle.arity_check.specs.declared.normal.Flat.TheVariants as flat
 use Rattle.arity_check.specs.Program.{Program, Function, Term, App, Let, Case, Branches, NoMore, OnCon, OnInt, OnAny}
 use Rattle.core_meaning.specs.Heap.{Value, Int, Con, Part, Delayed, Call, Apply, Prim, Global, Input, Binding, Known, Waiting, Heap, Env, with_local, with_locals}
-use Rattle.core_meaning.specs.Numbers.{operate}
-use Rattle.core_meaning.specs.Evaluation.{State, Answer, Gives, NoAlternative, OutOfBound, and_then, with_number, is_con, fields_of, is_int, spend_of, spend, append, update, Onward, force_binding, force, give, give_all, apply, prim, form, eval, select, enter_body, parameters, next_byte, proceed, within, with_group, binding, params}
-use Rattle.core_meaning.specs.Printing.{Printed, Going, stops, on_value, on_list, on_byte, print}
-use Rattle.core_meaning.specs.Laws.{RecursionIsFree}
+use Rattle.core_meaning.specs.Numbers.{primitive_result}
+use Rattle.core_meaning.specs.Evaluation.{State, Answer, Gives, NoAlternative, OutOfBound, and_then, with_number, is_con, fields_of, is_int, spend_of, spend, append, update, DelayedEvaluator, force_binding, force, give, give_all, apply, prim, form, eval, select, enter_body, parameters, next_byte, proceed, within, with_group, binding, params}
+use Rattle.core_meaning.specs.Printing.{PrintedRun, Going, stops, on_value, on_list, on_byte, print}
+use Rattle.core_meaning.specs.Laws.{RecursionAddsNoBound}
 use Rattle.numbers.specs.Numbers.{low_byte}
 
 abbrev left_of : Answer → ℕ
@@ -71,7 +71,7 @@ module _ (k : ℕ) where
     spends = λ s. spend_spends s.left d s go go' (omega arith) g;
   }
 
-  module _ (p : Program) (onward onward' : Onward) (on : (t : Delayed) (d : ℕ) → Agree k (onward t d) (onward' t d)) where
+  module _ (p : Program) (onward onward' : DelayedEvaluator) (on : (t : Delayed) (d : ℕ) → Agree k (onward t d) (onward' t d)) where
     agree_update : (a : ℕ) (v : Value) → Agree k (λ s. Gives v (update s a v)) (λ s. Gives v (update s a v))
     agree_update a v = record { same = λ s lt. refl; spends = λ s. omega arith }
 
@@ -108,7 +108,7 @@ module _ (k : ℕ) where
     agree_prim : (op : _) (a b d : ℕ) → Agree k (prim p onward op a b d) (prim p onward' op a b d)
     agree_prim op a b d =
         agree_then (force p onward a (suc d)) (force p onward' a (suc d)) _ _ (agree_force a (suc d)) (λ v. agree_number v _ _ (λ i.
-        agree_then (force p onward b (suc d)) (force p onward' b (suc d)) _ _ (agree_force b (suc d)) (λ w. agree_number w _ _ (λ j. gives (Int (operate op i j))))))
+        agree_then (force p onward b (suc d)) (force p onward' b (suc d)) _ _ (agree_force b (suc d)) (λ w. agree_number w _ _ (λ j. gives (Int (primitive_result op i j))))))
 
     agree_form : (env : Env) (f : Flat) (d : ℕ) → Agree k (form p onward env f d) (form p onward' env f d)
     agree_form env (flat.Int k) d = gives _
@@ -171,16 +171,16 @@ agree_within p (suc n) m t d =
     rw e (agree_spend n d (proceed p (within p n) t d) (proceed p (within p (n + m)) t d) (agree_proceed n p (within p n) (within p (n + m)) (agree_within p n m) t d))
 
 module _ (k : ℕ) where
-  on_value_same : (r r' : Answer) (out : List ℕ) (go go' : Value → State → Printed) → r' ≡ r → left_of r ≤ k → ((v : Value) (s : State) → s.left ≤ k → go' v s ≡ go v s) → on_value r' out go' ≡ on_value r out go
+  on_value_same : (r r' : Answer) (out : List ℕ) (go go' : Value → State → PrintedRun) → r' ≡ r → left_of r ≤ k → ((v : Value) (s : State) → s.left ≤ k → go' v s ≡ go v s) → on_value r' out go' ≡ on_value r out go
   on_value_same (Gives v s) r' out go go' e le g = ap (λ x. on_value x out go') e ∙ g v s le
   on_value_same (NoAlternative s) r' out go go' e le g = ap (λ x. on_value x out go') e
   on_value_same (OutOfBound s) r' out go go' e le g = ap (λ x. on_value x out go') e
 
-  cases_same : (b : Bool) (x x' y : Printed) → x' ≡ x → ◌≡◌ {A = Printed} (elim b [ true ↦ x' | false ↦ y ]) (elim b [ true ↦ x | false ↦ y ])
+  cases_same : (b : Bool) (x x' y : PrintedRun) → x' ≡ x → ◌≡◌ {A = PrintedRun} (elim b [ true ↦ x' | false ↦ y ]) (elim b [ true ↦ x | false ↦ y ])
   cases_same true x x' y e = e
   cases_same false x x' y e = refl
 
-  on_list_same : (n c : ℕ) (v : Value) (out : List ℕ) (s : State) (go go' : ℕ → ℕ → Printed) → ((h t : ℕ) → go' h t ≡ go h t) → on_list n c v out s go' ≡ on_list n c v out s go
+  on_list_same : (n c : ℕ) (v : Value) (out : List ℕ) (s : State) (go go' : ℕ → ℕ → PrintedRun) → ((h t : ℕ) → go' h t ≡ go h t) → on_list n c v out s go' ≡ on_list n c v out s go
   on_list_same n c (Int i) out s go go' g = refl
   on_list_same n c (Part f xs) out s go go' g = refl
   on_list_same n c (Con d []) out s go go' g = refl
@@ -188,7 +188,7 @@ module _ (k : ℕ) where
   on_list_same n c (Con d (h ∷ t ∷ [])) out s go go' g = cases_same (d == c) _ _ _ (g h t)
   on_list_same n c (Con d (h ∷ t ∷ u ∷ xs)) out s go go' g = refl
 
-  on_byte_same : (v : Value) (out : List ℕ) (s : State) (go go' : ℕ → Printed) → ((b : ℕ) → go' b ≡ go b) → on_byte v out s go' ≡ on_byte v out s go
+  on_byte_same : (v : Value) (out : List ℕ) (s : State) (go go' : ℕ → PrintedRun) → ((b : ℕ) → go' b ≡ go b) → on_byte v out s go' ≡ on_byte v out s go
   on_byte_same (Int i) out s go go' g = g (low_byte i)
   on_byte_same (Con c xs) out s go go' g = refl
   on_byte_same (Part f xs) out s go go' g = refl
@@ -218,5 +218,5 @@ print_same p (suc n) m a out s le =
     on_value_same n _ _ out _ _ (head.same s le) (omega (arith, le, head.spends s)) (λ w s le.
     on_byte_same n w out s _ _ (λ byte. print_same p n m t (out ++ byte ∷ []) s le)))))
 
-pub recursion_is_free : RecursionIsFree
+pub recursion_is_free : RecursionAddsNoBound
 recursion_is_free = record { evaluation = λ p n m t d s le. (agree_within p n m t d).same s le; printing = print_same }

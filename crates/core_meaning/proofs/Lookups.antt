@@ -12,11 +12,11 @@ use Rattle.arity_check.specs.declared.normal.Flat.{Flat}
 use Rattle.arity_check.specs.declared.normal.Flat.TheVariants as flat
 use Rattle.arity_check.specs.Program.{Program, Function, Term, App, Let, Case, Branches, NoMore, OnCon, OnInt, OnAny}
 use Rattle.core_meaning.specs.Heap.{Value, Int, Con, Part, Delayed, Call, Apply, Prim, Global, Input, Binding, Known, Waiting, Heap, Env, with_local, with_locals}
-use Rattle.core_meaning.specs.Numbers.{operate}
+use Rattle.core_meaning.specs.Numbers.{primitive_result}
 use Rattle.numbers.specs.Numbers.{low_byte}
 use Rattle.core_meaning.specs.ByNeed as by_need
-use Rattle.core_meaning.specs.Evaluation.{State, Answer, Gives, NoAlternative, OutOfBound, and_then, with_number, is_con, fields_of, is_int, spend_of, append, update, taken, Onward, nil, global, params_of, params, name, names, binding, with_group, give, give_all, next_byte, globals, start, parameters, force_binding, force, apply, prim, form, eval, select, enter_body, proceed, within}
-use Rattle.core_meaning.specs.Printing.{Printed, on_value, on_list, on_byte, print, printed}
+use Rattle.core_meaning.specs.Evaluation.{State, Answer, Gives, NoAlternative, OutOfBound, and_then, with_number, is_con, fields_of, is_int, spend_of, append, update, taken, DelayedEvaluator, nil, global, params_of, params, name, names, binding, with_group, give, give_all, next_byte, globals, start, parameters, force_binding, force, apply, prim, form, eval, select, enter_body, proceed, within}
+use Rattle.core_meaning.specs.Printing.{PrintedRun, on_value, on_list, on_byte, print, printed}
 use Rattle.core_meaning.proofs.Shared.{global_below}
 use Rattle.core_meaning.specs.WellFormed.{InLocals, InGroup, AllOf, HasFields, HasParams, VarOk, FormOk, TermOk, BranchesOk, FunOk, WellFormed}
 
@@ -259,10 +259,10 @@ module _ (p : Program) where
 
   module _ (nowhere : ℕ) (lost : State → Answer) where
     -- both do the same with whatever waits and refers only to what is there
-    abbrev SameOnward : Onward → Onward → Type 0
+    abbrev SameOnward : DelayedEvaluator → DelayedEvaluator → Type 0
     SameOnward onward' onward = (t : Delayed) (d : ℕ) (s : State) → Sound s → DelayedIn (length s.heap) t → Found (length s.heap) (onward' t d s) (onward t d s)
 
-    module _ (onward' onward : Onward) (on : SameOnward onward' onward) where
+    module _ (onward' onward : DelayedEvaluator) (on : SameOnward onward' onward) where
       updated : (a : ℕ) (v : Value) (s : State) → Sound s → ValueIn (length s.heap) v → Found (length s.heap) (Gives v (update s a v)) (Gives v (update s a v))
       updated a v s ok h =
           let e : length (slice_set s.heap a (Known v)) ≡ length s.heap = length-set s.heap a (Known v) in
@@ -325,7 +325,7 @@ module _ (p : Program) where
       operating : (op : _) (a b d : ℕ) (s : State) → Sound s → a < length s.heap → b < length s.heap → Found (length s.heap) (by_need.prim nowhere lost p onward' op a b d s) (prim p onward op a b d s)
       operating op a b d s ok lta ltb =
           found_then _ _ _ _ _ (forcing a (suc d) s ok lta) (λ v t le ok h. found_number _ v t _ _ (λ i.
-          found_then _ _ _ _ _ (forcing b (suc d) t ok (omega (arith, ltb, le))) (λ w u le ok h. found_number _ w u _ _ (λ j. found_gives (Int (operate op i j)) u ok tt))))
+          found_then _ _ _ _ _ (forcing b (suc d) t ok (omega (arith, ltb, le))) (λ w u le ok h. found_number _ w u _ _ (λ j. found_gives (Int (primitive_result op i j)) u ok tt))))
 
       module _ (S : ℕ → Type 0) (env' env : Env) (s : State) (ok : Sound s) (k : Scope S (length s.heap) env' env) where
         forming : (f : Flat) (d : ℕ) → FormOk p S f → Found (length s.heap) (by_need.form nowhere lost p onward' env' f d s) (form p onward env f d s)
@@ -395,7 +395,7 @@ module _ (p : Program) where
             found_from _ _ _ _ (omega (arith, one)) (evaluating body (λ y. S y ⊎ (y ≡ x)) (with_local env' x m) (with_local env x m) d (append s (Known v ∷ [])) h.0 ok' scope)
 
     module _ (w : WellFormed p) where
-      module _ (onward' onward : Onward) (on : SameOnward onward' onward) where
+      module _ (onward' onward : DelayedEvaluator) (on : SameOnward onward' onward) where
         entering : (f : ℕ) (xs : List ℕ) (d : ℕ) (s : State) → Sound s → HasParams p f (λ n. n ≡ length xs) → NamesIn (length s.heap) xs
             → Found (length s.heap) (by_need.enter_body nowhere lost p onward' (slice_get p.funs f) xs d s) (enter_body p onward (slice_get p.funs f) xs d s)
         entering f xs d s ok h n =
@@ -434,17 +434,17 @@ module _ (p : Program) where
 
       -- ---- printing
 
-      value_same : (m : ℕ) (a' a : Answer) (out : List ℕ) (go' go : Value → State → Printed) → Found m a' a
+      value_same : (m : ℕ) (a' a : Answer) (out : List ℕ) (go' go : Value → State → PrintedRun) → Found m a' a
           → ((v : Value) (s : State) → m ≤ length s.heap → Sound s → ValueIn (length s.heap) v → go' v s ≡ go v s) → on_value a' out go' ≡ on_value a out go
       value_same m a' (Gives v s) out go' go f g = (λ i. on_value (f.same i) out go') ∙ g v s f.kept.0 f.kept.1 f.kept.2
       value_same m a' (NoAlternative s) out go' go f g = λ i. on_value (f.same i) out go'
       value_same m a' (OutOfBound s) out go' go f g = λ i. on_value (f.same i) out go'
 
-      cases_same : (b : Bool) (x' x y : Printed) → x' ≡ x → elim b as (λ _. Printed) [ true ↦ x' | false ↦ y ] ≡ elim b as (λ _. Printed) [ true ↦ x | false ↦ y ]
+      cases_same : (b : Bool) (x' x y : PrintedRun) → x' ≡ x → elim b as (λ _. PrintedRun) [ true ↦ x' | false ↦ y ] ≡ elim b as (λ _. PrintedRun) [ true ↦ x | false ↦ y ]
       cases_same true x' x y e = e
       cases_same false x' x y e = refl
 
-      list_same : (m n c : ℕ) (v : Value) (out : List ℕ) (s : State) (go' go : ℕ → ℕ → Printed) → ValueIn m v → ((h t : ℕ) → h < m → t < m → go' h t ≡ go h t) → on_list n c v out s go' ≡ on_list n c v out s go
+      list_same : (m n c : ℕ) (v : Value) (out : List ℕ) (s : State) (go' go : ℕ → ℕ → PrintedRun) → ValueIn m v → ((h t : ℕ) → h < m → t < m → go' h t ≡ go h t) → on_list n c v out s go' ≡ on_list n c v out s go
       list_same m n c (Int k) out s go' go i e = refl
       list_same m n c (Part f xs) out s go' go i e = refl
       list_same m n c (Con d []) out s go' go i e = refl
@@ -452,7 +452,7 @@ module _ (p : Program) where
       list_same m n c (Con d (h ∷ t ∷ [])) out s go' go i e = cases_same (d == c) _ _ _ (e h t i.1.0 i.1.1.0)
       list_same m n c (Con d (h ∷ t ∷ u ∷ xs)) out s go' go i e = refl
 
-      byte_same : (v : Value) (out : List ℕ) (s : State) (go' go : ℕ → Printed) → ((b : ℕ) → go' b ≡ go b) → on_byte v out s go' ≡ on_byte v out s go
+      byte_same : (v : Value) (out : List ℕ) (s : State) (go' go : ℕ → PrintedRun) → ((b : ℕ) → go' b ≡ go b) → on_byte v out s go' ≡ on_byte v out s go
       byte_same (Int k) out s go' go e = e (low_byte k)
       byte_same (Con c xs) out s go' go e = refl
       byte_same (Part f xs) out s go' go e = refl
@@ -476,8 +476,8 @@ module _ (p : Program) where
       well_formed_finds i n = by_test (params p p.main == 0) refl n
         where
           by_test : (b : Bool) → (params p p.main == 0) ≡ b → (n : ℕ)
-              → elim b as (λ _. Printed) [ true ↦ by_need.print nowhere lost p n (global p p.main) [] (start p i n) | false ↦ by_need.printed_from_input nowhere lost p i n ]
-              ≡ elim b as (λ _. Printed) [ true ↦ by_need.print 0 NoAlternative p n (global p p.main) [] (start p i n) | false ↦ by_need.printed_from_input 0 NoAlternative p i n ]
+              → elim b as (λ _. PrintedRun) [ true ↦ by_need.print nowhere lost p n (global p p.main) [] (start p i n) | false ↦ by_need.printed_from_input nowhere lost p i n ]
+              ≡ elim b as (λ _. PrintedRun) [ true ↦ by_need.print 0 NoAlternative p n (global p p.main) [] (start p i n) | false ↦ by_need.printed_from_input 0 NoAlternative p i n ]
           by_test true e n =
               let none : w.main.0.params ≡ 0 = sym main_params ∙ eqb-true (params p p.main) 0 e in
               printing n (global p p.main) [] (start p i n) (sound_start i n) (global_below p p.main (w.main.0, w.main.1, none))

@@ -5,7 +5,7 @@ use Rattle.std.proofs.lemmas.List.FromFn.{length-range_with_len}
 use Rattle.std.proofs.lemmas.Slice.Eq.{bytes_eq-Decides}
 use Rattle.std.proofs.lemmas.Bool.{eq-eqb, ltb-true, ltb-false}
 use Rattle.std.proofs.lemmas.Option.{same_Some, none-some, slice_get_within, slice_get-get_or}
-use Rattle.core_reader.specs.Readable.{AreDifferent}
+use Rattle.core_reader.specs.Readable.{AreDistinct}
 use mathlib.Core.Logic.{◌⊎◌, inl, inr}
 use Rattle.core_reader.specs.declared.syntax.Pattern.TheVariants as pattern
 use Rattle.core_reader.specs.declared.syntax.Binder.{Binder}
@@ -21,7 +21,7 @@ use Rattle.arity_check.specs.declared.meaning.Meaning.{Meaning}
 use Rattle.arity_check.specs.declared.meaning.Meaning.TheVariants.{Local, Function, Primitive, Unbound}
 use Rattle.arity_check.specs.Scope.{Scope, means, unless_primitive, found_in, function_from, primitive_from, primitives, con_number, is_named, binds, binds_all}
 use Rattle.arity_check.specs.Broken as broken
-use Rattle.arity_check.specs.Broken.{Broken, ConstructorArity, PatternArity, TooManyArguments, MainHasParameters, NoListConstructors, DuplicateConstructor, InFunction, place, Piece, AnApp, AGroup, SomeAlts, alt_at, count, Among, First, Later, Stands, AsCon, InHead, InArgument, Contains, Whole, InItsHead, InItsArgs, fields_of, first_named}
+use Rattle.arity_check.specs.Broken.{Broken, ConstructorArity, PatternArity, TooManyArguments, MainHasParameters, NoListConstructors, DuplicateConstructor, InFunction, place, FunctionPart, AnApp, AGroup, SomeAlts, alt_at, count, IsTermAmong, First, Later, HeadIsApplied, AsCon, InHead, InArgument, Contains, Whole, InItsHead, InItsArgs, fields_of, first_constructor_named}
 use Rattle.arity_check.specs.Normal.{append, bound, itself, itself_as, Pairwise, IsFlat, Number, Constructor, Named, NumberApplied, BracketApplied, LoneHead, LoneBracket, IsNamed, OfPrimitive, OfLocal, OfGlobal, Called, Partial, Exceeded, IsApplied, Applied, AreArgs, NoArgs, AndArg, IsArg, Itself, New, IsGroup, NoMembers, AndMember, IsNormal, PlainApp, BoundApp, Group, Choice, AreBranches, NoBranches, ConBranch, IntBranch, NamelessBranch, NamedBranch, IsFunction, IsConstructor, IsNormalForm}
 use Rattle.arity_check.specs.Program as normal
 use Rattle.arity_check.specs.Program.{Program}
@@ -54,11 +54,11 @@ count_append : (as' bs : Terms) → count (append as' bs) ≡ count as' + count 
 count_append NoTerms bs = omega arith
 count_append (AndTerm a as') bs = omega (arith, count_append as' bs)
 
-among_first : {a : Term} {as' : Terms} (bs : Terms) → Among a as' → Among a (append as' bs)
+among_first : {a : Term} {as' : Terms} (bs : Terms) → IsTermAmong a as' → IsTermAmong a (append as' bs)
 among_first bs First = First
 among_first bs (Later m) = Later (among_first bs m)
 
-among_rest : {a : Term} (as' : Terms) {bs : Terms} → Among a bs → Among a (append as' bs)
+among_rest : {a : Term} (as' : Terms) {bs : Terms} → IsTermAmong a bs → IsTermAmong a (append as' bs)
 among_rest NoTerms m = m
 among_rest (AndTerm b as') m = Later (among_rest as' m)
 
@@ -122,12 +122,12 @@ module _ (p : tree.Program) (q : Program) (nf : IsNormalForm p q) where
 
   record Numbered (ds : List Data) (c number : ℕ) : Type 0 where
     found : Data
-    first : first_named c ds ≡ Some found
+    first : first_constructor_named c ds ≡ Some found
     is : slice_get ds number ≡ Some found
 
   record NumberedMore (b : Bool) (d : Data) (ds : List Data) (c number : ℕ) : Type 0 where
     found : Data
-    first : cond b (Some d) (first_named c ds) ≡ Some found
+    first : cond b (Some d) (first_constructor_named c ds) ≡ Some found
     is : slice_get (d ∷ ds) number ≡ Some found
 
   numbered_by : (b : Bool) (d : Data) (ds : List Data) (c n : ℕ) → cond (not b) (1 + n) 0 < suc (length ds) → (n < length ds → Numbered ds c n) → NumberedMore b d ds c (cond (not b) (1 + n) 0)
@@ -159,15 +159,15 @@ module _ (p : tree.Program) (q : Program) (nf : IsNormalForm p q) where
   Fine (Bracket head args at) k = Unit {0}
 
   pub record AppFine (head : Term) (args : Terms) : Type 0 where
-    pub uses : (h : Term) (k : ℕ) → Stands head args h k → Fine h k
+    pub uses : (h : Term) (k : ℕ) → HeadIsApplied head args h k → Fine h k
     pub limited : (inner : Application) → Contains (record { head = head; args = args }) inner → count inner.args ≤ 12
 
   record ArgsFine (args : Terms) : Type 0 where
-    uses : (a h : Term) (k : ℕ) → Among a args → Stands a NoTerms h k → Fine h k
-    limited : (a : Term) → Among a args → (inner : Application) → Contains (record { head = a; args = NoTerms }) inner → count inner.args ≤ 12
+    uses : (a h : Term) (k : ℕ) → IsTermAmong a args → HeadIsApplied a NoTerms h k → Fine h k
+    limited : (a : Term) → IsTermAmong a args → (inner : Application) → Contains (record { head = a; args = NoTerms }) inner → count inner.args ≤ 12
     few : count args ≤ 12
 
-  none_among : {a : Term} {args : Terms} → args ≡ NoTerms → Among a args → ⊥
+  none_among : {a : Term} {args : Terms} → args ≡ NoTerms → IsTermAmong a args → ⊥
   none_among e First = cc
   none_among e (Later m) = cc
 
@@ -178,9 +178,9 @@ module _ (p : tree.Program) (q : Program) (nf : IsNormalForm p q) where
     few = f.limited (record { head = head; args = args }) Whole;
   }
     where
-      arg_limited : (a : Term) (inner : Application) → Among a args → Contains (record { head = a; args = NoTerms }) inner → count inner.args ≤ 12
+      arg_limited : (a : Term) (inner : Application) → IsTermAmong a args → Contains (record { head = a; args = NoTerms }) inner → count inner.args ≤ 12
       arg_limited a inner m Whole = omega arith
-      arg_limited a inner m (InItsHead e c) = f.limited inner (InItsArgs (subst (λ z. Among z args) e m) c)
+      arg_limited a inner m (InItsHead e c) = f.limited inner (InItsArgs (subst (λ z. IsTermAmong z args) e m) c)
       arg_limited a inner m (InItsArgs n c) = absurd (none_among refl n)
 
   lone_head_fine : (head : Term) (args : Terms) (at : ℕ) → AppFine (Bracket head NoTerms at) args → AppFine head args
@@ -198,7 +198,7 @@ module _ (p : tree.Program) (q : Program) (nf : IsNormalForm p q) where
   in_head_fine : (head a b : Term) (as' bs : Terms) (at : ℕ) → AppFine (Bracket head (AndTerm a as') at) (AndTerm b bs) → AppFine head (AndTerm a as')
   in_head_fine head a b as' bs at f = record { uses = λ h k st. f.uses h k (InHead st); limited = λ inner c. f.limited inner (InItsHead refl c) }
 
-  arg_fine : (a : Term) (args : Terms) → ArgsFine args → Among a args → AppFine a NoTerms
+  arg_fine : (a : Term) (args : Terms) → ArgsFine args → IsTermAmong a args → AppFine a NoTerms
   arg_fine a args f m = record { uses = λ h k st. f.uses a h k m st; limited = λ inner c. f.limited a m inner c }
 
   args_tail : (a : Term) (as' : Terms) → ArgsFine (AndTerm a as') → ArgsFine as'
@@ -356,16 +356,16 @@ module _ (p : tree.Program) (q : Program) (nf : IsNormalForm p q) where
   AltsFine : Alts → Type 0
   AltsFine alts = (i : ℕ) (c : Binder) (fields : List Binder) (d : Data) → alt_at alts i ≡ Some (pattern.Con c fields) → fields_of p c.name.0 ≡ Some d → length fields ≡ d.fields
 
-  abbrev PieceFine : Piece → Type 0
+  abbrev PieceFine : FunctionPart → Type 0
   PieceFine (AnApp app) = AppFine app.head app.args
   PieceFine (AGroup group) = Unit {0}
   PieceFine (SomeAlts alts) = AltsFine alts
 
   abbrev ExprFine : Scope → Expr → Type 0
-  ExprFine t0 e = (t : Scope) (piece : Piece) → broken.Has p t0 e t piece → PieceFine piece
+  ExprFine t0 e = (t : Scope) (piece : FunctionPart) → broken.Has p t0 e t piece → PieceFine piece
 
   abbrev AltsAllFine : Scope → Alts → Type 0
-  AltsAllFine t0 alts = (t : Scope) (piece : Piece) → broken.HasAlts p t0 alts t piece → PieceFine piece
+  AltsAllFine t0 alts = (t : Scope) (piece : FunctionPart) → broken.HasAlts p t0 alts t piece → PieceFine piece
 
   or_else : {A B C : Type 0} → (A → C) → A ⊎ B → C ⊎ B
   or_else f (inl a) = inl (f a)
@@ -413,11 +413,11 @@ module _ (p : tree.Program) (q : Program) (nf : IsNormalForm p q) where
     app_fine : (t : Scope) (app : Application) → InFunction p t (AnApp app) → AppFine app.head app.args
     app_fine t app f = record { uses = λ h k st. used_well h k st; limited = λ inner c. limit inner c (nat_lt 12 (count inner.args)) refl }
       where
-        same : (c at k : ℕ) (d : Data) → Stands app.head app.args (Con c at) k → fields_of p c ≡ Some d → (b : Bool) → nat_eq k d.fields ≡ b → k ≡ d.fields
+        same : (c at k : ℕ) (d : Data) → HeadIsApplied app.head app.args (Con c at) k → fields_of p c ≡ Some d → (b : Bool) → nat_eq k d.fields ≡ b → k ≡ d.fields
         same c at k d st e true q = eqb-true k d.fields q
         same c at k d st e false q = absurd (ok 15 at (ConstructorArity (app, f, st) e (λ i. not_both _ (eq-eqb k d.fields i) q)))
 
-        used_well : (h : Term) (k : ℕ) → Stands app.head app.args h k → Fine h k
+        used_well : (h : Term) (k : ℕ) → HeadIsApplied app.head app.args h k → Fine h k
         used_well (Con c at) k st = λ d e. same c at k d st e (nat_eq k d.fields) refl
         used_well (Name x at) k st = tt
         used_well (Int i at) k st = tt
@@ -435,7 +435,7 @@ module _ (p : tree.Program) (q : Program) (nf : IsNormalForm p q) where
         same i c fields d e h true q = eqb-true (length fields) d.fields q
         same i c fields d e h false q = absurd (ok 15 c.at (PatternArity i f e h (λ j. not_both _ (eq-eqb (length fields) d.fields j) q)))
 
-    piece_fine : (t : Scope) (piece : Piece) → InFunction p t piece → PieceFine piece
+    piece_fine : (t : Scope) (piece : FunctionPart) → InFunction p t piece → PieceFine piece
     piece_fine t (AnApp app) f = app_fine t app f
     piece_fine t (AGroup group) f = tt
     piece_fine t (SomeAlts alts) f = alts_fine t alts f
@@ -547,11 +547,11 @@ module _ (p : tree.Program) (q : Program) (nf : IsNormalForm p q) where
               let s : i ≡ j = omega (arith, le, ge) in
               same_Some c d (sym e ∙ ap (slice_get p.constructors) s ∙ f)
 
-      first_at : (ds : List Data) (c : ℕ) (d : Data) → first_named c ds ≡ Some d → (i : ℕ) × (slice_get ds i ≡ Some d)
+      first_at : (ds : List Data) (c : ℕ) (d : Data) → first_constructor_named c ds ≡ Some d → (i : ℕ) × (slice_get ds i ≡ Some d)
       first_at [] c d e = absurd (none-some d e)
       first_at (x ∷ ds) c d e = by_test (nat_eq x.name c) e (first_at ds c d)
         where
-          by_test : (b : Bool) → cond b (Some x) (first_named c ds) ≡ Some d → (first_named c ds ≡ Some d → (i : ℕ) × (slice_get ds i ≡ Some d)) → (i : ℕ) × (slice_get (x ∷ ds) i ≡ Some d)
+          by_test : (b : Bool) → cond b (Some x) (first_constructor_named c ds) ≡ Some d → (first_constructor_named c ds ≡ Some d → (i : ℕ) × (slice_get ds i ≡ Some d)) → (i : ℕ) × (slice_get (x ∷ ds) i ≡ Some d)
           by_test true e more = (0, e)
           by_test false e more = let m = more e in (suc m.0, m.1)
 
@@ -597,7 +597,7 @@ module _ (p : tree.Program) (q : Program) (nf : IsNormalForm p q) where
       valid_is_well_formed = record { bodies = bodies_ok; main = main_ok; nil_fields = nil_ok; cons_fields = cons_ok }
 
 -- in a list of different texts each has one place
-pub different_places : (ws : List (List ℕ)) → AreDifferent ws → (i j : ℕ) (b : List ℕ) → slice_get ws i ≡ Some b → slice_get ws j ≡ Some b → i ≡ j
+pub different_places : (ws : List (List ℕ)) → AreDistinct ws → (i j : ℕ) (b : List ℕ) → slice_get ws i ≡ Some b → slice_get ws j ≡ Some b → i ≡ j
 different_places [] h i j b e f = absurd (none-some b e)
 different_places (w ∷ ws) h zero zero b e f = refl
 different_places (w ∷ ws) h zero (suc j) b e f =

@@ -14,7 +14,7 @@ use Rattle.arity_check.specs.declared.normal.Con as arity
 use Rattle.arity_check.specs.Program.{Program, Function, Term, App, Let, Case, Branches, NoMore, OnCon, OnInt, OnAny}
 use Rattle.core_meaning.specs.Heap.{Value, Int, Con, Part, Call, Apply, Prim, Global, Binding, Known, Waiting, Heap, Env, with_local, with_locals}
 use Rattle.core_meaning.specs.Forcing as forcing
-pub use Rattle.core_meaning.specs.Forcing.{Gives, NoAlternative, OutOfBound, and_then, with_number, is_con, fields_of, is_int, spend_of, spend, append, update, taken, End, Done, Unaccepted, Going, Printed, stops, on_value, on_list, on_byte}
+pub use Rattle.core_meaning.specs.Forcing.{Gives, NoAlternative, OutOfBound, and_then, with_number, is_con, fields_of, is_int, spend_of, spend, append, update, taken, PrintingEnd, Done, Unaccepted, Going, PrintedRun, stops, on_value, on_list, on_byte}
 
 abbrev pub State : Type 0
 State = forcing.StateOf ℕ
@@ -22,8 +22,8 @@ State = forcing.StateOf ℕ
 abbrev pub Answer : Type 0
 Answer = forcing.AnswerOf ℕ
 
-abbrev pub Onward : Type 0
-Onward = forcing.OnwardOf ℕ
+abbrev pub DelayedEvaluator : Type 0
+DelayedEvaluator = forcing.DelayedEvaluatorOf ℕ
 
 -- the first constructor of this name
 abbrev pub con_named : List ℕ → List arity.Con → ℕ
@@ -78,7 +78,7 @@ module _ (p : Program) where
   abbrev pub start : List ℕ → ℕ → State
   start i n = forcing.start (globals p.funs 0) i n
 
-  module _ (onward : Onward) where
+  module _ (onward : DelayedEvaluator) where
     abbrev pub give : Value → ℕ → ℕ → State → Answer
     give v = forcing.give params onward v
 
@@ -96,7 +96,7 @@ module _ (nowhere : ℕ) (lost : State → Answer) where
   parameters xs x = slice_index_or xs x nowhere
 
   module _ (p : Program) where
-    module _ (onward : Onward) where
+    module _ (onward : DelayedEvaluator) where
       abbrev pub force_binding : Option Binding → ℕ → ℕ → State → Answer
       force_binding b = forcing.force_binding (params p) lost onward b
 
@@ -145,25 +145,25 @@ module _ (nowhere : ℕ) (lost : State → Answer) where
       enter_body None xs d s = lost s
       enter_body (Some f) xs d s = eval f.body (parameters xs) d s
 
-    abbrev pub enter : Onward → ℕ → List ℕ → ℕ → State → Answer
+    abbrev pub enter : DelayedEvaluator → ℕ → List ℕ → ℕ → State → Answer
     enter onward f xs d s = enter_body onward (slice_get p.funs f) xs d s
 
-    abbrev pub proceed : Onward → Onward
+    abbrev pub proceed : DelayedEvaluator → DelayedEvaluator
     proceed onward t = forcing.proceed (params p) lost (nil p) (cons p) enter onward t
 
-    abbrev pub within : ℕ → Onward
+    abbrev pub within : ℕ → DelayedEvaluator
     within n = forcing.within (params p) lost (nil p) (cons p) enter n
 
-    abbrev pub print : ℕ → ℕ → List ℕ → State → Printed
+    abbrev pub print : ℕ → ℕ → List ℕ → State → PrintedRun
     print n = forcing.print (params p) lost (nil p) (cons p) enter n
 
-    abbrev pub printed_from_input : List ℕ → ℕ → Printed
+    abbrev pub printed_from_input : List ℕ → ℕ → PrintedRun
     printed_from_input i n =
         forcing.printed_from_input (params p) lost (nil p) (cons p) enter
         (globals p p.funs 0) p.main (global p p.main) i n
 
     -- what the program puts out on the input i within n units
-    abbrev pub printed : List ℕ → ℕ → Printed
+    abbrev pub printed : List ℕ → ℕ → PrintedRun
     printed i n =
         forcing.printed (params p) lost (nil p) (cons p) enter
         (globals p p.funs 0) p.main (global p p.main) i n

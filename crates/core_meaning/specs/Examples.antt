@@ -38,8 +38,8 @@ greeting = list_program
     ∷ []) 0
 
 -- main = let c = Cons 46 c in c;
-abbrev pub dots : Program
-dots = list_program
+abbrev pub endless_dots : Program
+endless_dots = list_program
     (fun (codes "main") 0
     (Let (set 0 (Int (pos 46)) ∷ (set 1 (Con 1 (Local 0 ∷ (Local 1 ∷ []))) ∷ []))
     (App (Apply (Local 1) [])))
@@ -49,8 +49,8 @@ dots = list_program
 --     0 -> Nil; m -> case xs of { Nil -> Nil; Cons h t -> Cons h (take (sub m 1) t) } };
 -- from n = Cons n (from (add n 1));
 -- main = take 3 (from 65);
-abbrev pub three : Program
-three = list_program
+abbrev pub take_three : Program
+take_three = list_program
     (fun (codes "take") 2
     (Case (App (Apply (Local 0) []))
     (OnInt (pos 0) (App (Con 0 []))
@@ -90,16 +90,16 @@ bad = fun (codes "bad") 0 (Case (App (Int (pos 1))) (OnInt (pos 2) (App (Con 0 [
 
 -- second a b = b;
 -- main = second bad Nil;
-abbrev pub unneeded : Program
-unneeded = list_program
+abbrev pub unneeded_argument : Program
+unneeded_argument = list_program
     (bad
     ∷ (fun (codes "second") 2 (App (Apply (Local 1) []))
     ∷ (fun (codes "main") 0 (Let (set 0 (Con 0 []) ∷ []) (App (Call 1 (Global 0 ∷ (Local 0 ∷ [])))))
     ∷ []))) 2
 
 -- main = Cons 65 bad;
-abbrev pub bad_tail : Program
-bad_tail = list_program
+abbrev pub unaccepted_tail : Program
+unaccepted_tail = list_program
     (bad
     ∷ (fun (codes "main") 0
     (Let (set 0 (Int (pos 65)) ∷ []) (App (Con 1 (Local 0 ∷ (Global 0 ∷ [])))))
@@ -107,8 +107,8 @@ bad_tail = list_program
 
 -- id x = x;
 -- main = Cons (id id 66) Nil;
-abbrev pub one_more : Program
-one_more = list_program
+abbrev pub one_argument_too_many : Program
+one_argument_too_many = list_program
     (fun (codes "id") 1 (App (Apply (Local 0) []))
     ∷ (fun (codes "main") 0
     (Let (set 0 (Part 0 []) ∷ (set 1 (Call 0 (Local 0 ∷ [])) ∷ (set 2 (Int (pos 66))
@@ -118,8 +118,8 @@ one_more = list_program
 
 -- k x y = x;
 -- main = case k 65 of { p -> Cons (p Nil) Nil };
-abbrev pub one_fewer : Program
-one_fewer = list_program
+abbrev pub partial_application : Program
+partial_application = list_program
     (fun (codes "k") 2 (App (Apply (Local 0) []))
     ∷ (fun (codes "main") 0
     (Case (Let (set 0 (Int (pos 65)) ∷ []) (App (Part 0 (Local 0 ∷ []))))
@@ -148,8 +148,8 @@ abbrev pub itself : Program
 itself = list_program (fun (codes "main") 0 (App (Apply (Global 0) [])) ∷ []) 0
 
 -- main = Cons (add Nil 1) Nil;
-abbrev pub no_number : Program
-no_number = list_program
+abbrev pub number_expected : Program
+number_expected = list_program
     (fun (codes "main") 0
     (Let (set 0 (Con 0 []) ∷ (set 1 (Int (pos 1)) ∷ (set 2 (Prim Add (Local 0) (Local 1))
     ∷ (set 3 (Con 0 []) ∷ []))))
@@ -168,25 +168,25 @@ pub record Examples : Type 0 where
       ≡ record { out = []; end = Going; cells = 1; depth = 0; used = 0 }
   pub greeting_ends : printed greeting [] 4
       ≡ record { out = codes "Hi"; end = Done; cells = 5; depth = 2; used = 0 }
-  pub dots_go_on : printed dots [] 6
+  pub dots_go_on : printed endless_dots [] 6
       ≡ record { out = codes "....."; end = Going; cells = 3; depth = 2; used = 0 }
-  pub three_end : printed three [] 100
+  pub three_end : printed take_three [] 100
       ≡ record { out = codes "ABC"; end = Done; cells = 25; depth = 4; used = 0 }
   pub shared_ends : printed shared [] 10
       ≡ record { out = codes "AA"; end = Done; cells = 6; depth = 2; used = 0 }
-  pub unneeded_ends : printed unneeded [] 10
+  pub unneeded_ends : printed unneeded_argument [] 10
       ≡ record { out = []; end = Done; cells = 3; depth = 2; used = 0 }
-  pub bad_tail_ends : printed bad_tail [] 10
+  pub bad_tail_ends : printed unaccepted_tail [] 10
       ≡ record { out = codes "A"; end = Unaccepted; cells = 3; depth = 2; used = 0 }
-  pub one_more_ends : printed one_more [] 20
+  pub one_more_ends : printed one_argument_too_many [] 20
       ≡ record { out = codes "B"; end = Done; cells = 6; depth = 4; used = 0 }
-  pub one_fewer_ends : printed one_fewer [] 20
+  pub one_fewer_ends : printed partial_application [] 20
       ≡ record { out = codes "A"; end = Done; cells = 6; depth = 2; used = 0 }
   pub divisions_end : printed divisions [] 20
       ≡ record { out = 0 ∷ (255 ∷ (7 ∷ [])); end = Done; cells = 13; depth = 2; used = 0 }
   pub itself_goes_on : printed itself [] 50
       ≡ record { out = []; end = Going; cells = 1; depth = 50; used = 0 }
-  pub no_number_ends : printed no_number [] 10
+  pub no_number_ends : printed number_expected [] 10
       ≡ record { out = []; end = Unaccepted; cells = 5; depth = 2; used = 0 }
   pub echo_of_nothing : printed echo [] 20
       ≡ record { out = []; end = Done; cells = 2; depth = 3; used = 0 }

@@ -9,7 +9,7 @@ use Rattle.std.specs.Prelude.{ℕ, zero, suc, ℤ, pos, ◌==◌, nat_lt, max, B
 use Rattle.arity_check.specs.declared.normal.PrimOp.{PrimOp}
 use Rattle.core_meaning.specs.Heap.{ValueOf, Int, Con, Part, DelayedOf, Call, Apply, Prim, Global, Input, BindingOf, Known, Waiting, HeapOf}
 use Rattle.numbers.specs.Numbers.{same_number, low_byte}
-use Rattle.core_meaning.specs.Numbers.{operate}
+use Rattle.core_meaning.specs.Numbers.{primitive_result}
 
 -- the heap, the units that are left, the greatest nesting at which one was spent, the bytes of the
 -- input that are left, and how many were taken
@@ -27,20 +27,20 @@ pub data AnswerOf (F : Type 0) : Type 0 where
   OutOfBound : (state : StateOf F) → AnswerOf F
 
 -- what a delayed form does at a nesting, the unit that it costs among it
-abbrev pub OnwardOf : Type 0 → Type 0
-OnwardOf F = DelayedOf F → ℕ → StateOf F → AnswerOf F
+abbrev pub DelayedEvaluatorOf : Type 0 → Type 0
+DelayedEvaluatorOf F = DelayedOf F → ℕ → StateOf F → AnswerOf F
 
 -- how a run stands: its list ended, no alternative accepted a value, or it goes on past the bound
-pub data End : Type 0 where
-  Done : End
-  Unaccepted : End
-  Going : End
+pub data PrintingEnd : Type 0 where
+  Done : PrintingEnd
+  Unaccepted : PrintingEnd
+  Going : PrintingEnd
 
 -- the bytes put out, the end, the number of bindings, the greatest nesting at which a unit was
 -- spent, and the bytes taken
-pub record Printed : Type 0 where
+pub record PrintedRun : Type 0 where
   pub out : List ℕ
-  pub end : End
+  pub end : PrintingEnd
   pub cells : ℕ
   pub depth : ℕ
   pub used : ℕ
@@ -97,19 +97,19 @@ module _ {F : Type 0} where
   abbrev pub start : HeapOf F → List ℕ → ℕ → StateOf F
   start heap i n = record { heap = heap; left = n; depth = 0; input = i; used = 0 }
 
-  abbrev pub stops : List ℕ → End → StateOf F → Printed
+  abbrev pub stops : List ℕ → PrintingEnd → StateOf F → PrintedRun
   stops out end s =
       record { out = out; end = end; cells = length s.heap; depth = s.depth; used = s.used }
 
   -- goes on with a value
-  abbrev pub on_value : AnswerOf F → List ℕ → (ValueOf F → StateOf F → Printed) → Printed
+  abbrev pub on_value : AnswerOf F → List ℕ → (ValueOf F → StateOf F → PrintedRun) → PrintedRun
   on_value (Gives v s) out go = go v s
   on_value (NoAlternative s) out go = stops out Unaccepted s
   on_value (OutOfBound s) out go = stops out Going s
 
   -- goes on with the head and the tail of a list; the first number is that of Nil, the second that
   -- of Cons
-  abbrev pub on_list : ℕ → ℕ → ValueOf F → List ℕ → StateOf F → (ℕ → ℕ → Printed) → Printed
+  abbrev pub on_list : ℕ → ℕ → ValueOf F → List ℕ → StateOf F → (ℕ → ℕ → PrintedRun) → PrintedRun
   on_list n c (Int k) out s go = stops out Unaccepted s
   on_list n c (Part f xs) out s go = stops out Unaccepted s
   on_list n c (Con d []) out s go = stops out (if d == n then Done else Unaccepted) s
@@ -119,14 +119,14 @@ module _ {F : Type 0} where
   on_list n c (Con d (h ∷ t ∷ u ∷ xs)) out s go = stops out Unaccepted s
 
   -- goes on with the low byte of a number
-  abbrev pub on_byte : ValueOf F → List ℕ → StateOf F → (ℕ → Printed) → Printed
+  abbrev pub on_byte : ValueOf F → List ℕ → StateOf F → (ℕ → PrintedRun) → PrintedRun
   on_byte (Int k) out s go = go (low_byte k)
   on_byte (Con c xs) out s go = stops out Unaccepted s
   on_byte (Part f xs) out s go = stops out Unaccepted s
 
 -- a function has so many parameters
 module _ {F : Type 0} (arity : F → ℕ) where
-  module _ (onward : OnwardOf F) where
+  module _ (onward : DelayedEvaluatorOf F) where
     -- a value is given one more name; a part that has all its names is entered at nesting d
     abbrev pub give : ValueOf F → ℕ → ℕ → StateOf F → AnswerOf F
     give (Part f given) b d s =
@@ -144,7 +144,7 @@ module _ {F : Type 0} (arity : F → ℕ) where
 
 -- Lost is the answer where the heap has no such name.
 module _ {F : Type 0} (arity : F → ℕ) (lost : StateOf F → AnswerOf F) where
-  module _ (onward : OnwardOf F) where
+  module _ (onward : DelayedEvaluatorOf F) where
     abbrev pub force_binding : Option (BindingOf F) → ℕ → ℕ → StateOf F → AnswerOf F
     force_binding None a d s = lost s
     force_binding (Some (Known v)) a d s = Gives v s
@@ -165,7 +165,7 @@ module _ {F : Type 0} (arity : F → ℕ) (lost : StateOf F → AnswerOf F) wher
     prim op a b d s =
         and_then (force a (suc d) s) (λ v s. with_number v s (λ i.
         and_then (force b (suc d) s) (λ w s. with_number w s (λ j.
-        Gives (Int (operate op i j)) s))))
+        Gives (Int (primitive_result op i j)) s))))
 
 -- the list of the bytes that are left: none, or the next one and the list of the others; the
 -- numbers are those of Nil and of Cons
@@ -179,9 +179,9 @@ module _ {F : Type 0} (nil cons : ℕ) where
 -- A language gives the numbers of Nil and of Cons, how many parameters a function has, and what
 -- entering a function with as many names does at a nesting, where all that waits goes on so.
 module _ {F : Type 0} (arity : F → ℕ) (lost : StateOf F → AnswerOf F) (nil cons : ℕ)
-    (enter : OnwardOf F → F → List ℕ → ℕ → StateOf F → AnswerOf F) where
+    (enter : DelayedEvaluatorOf F → F → List ℕ → ℕ → StateOf F → AnswerOf F) where
   -- what follows the unit of a delayed form
-  abbrev pub proceed : OnwardOf F → OnwardOf F
+  abbrev pub proceed : DelayedEvaluatorOf F → DelayedEvaluatorOf F
   proceed onward (Call f xs) d s = enter onward f xs d s
   proceed onward (Global f) d s = enter onward f [] d s
   proceed onward (Apply a bs) d s = apply arity lost onward a bs d s
@@ -190,12 +190,12 @@ module _ {F : Type 0} (arity : F → ℕ) (lost : StateOf F → AnswerOf F) (nil
 
   -- spends a unit and goes on, where at most n units are spent inside one another. It meets its own
   -- end only where n is below the units left
-  abbrev pub within : ℕ → OnwardOf F
+  abbrev pub within : ℕ → DelayedEvaluatorOf F
   within zero t d s = OutOfBound s
   within (suc n) t d s = spend d s (proceed (within n) t d)
 
   -- prints the list a, with at most n steps, of which each spends a unit
-  abbrev pub print : ℕ → ℕ → List ℕ → StateOf F → Printed
+  abbrev pub print : ℕ → ℕ → List ℕ → StateOf F → PrintedRun
   print zero a out s = stops out Going s
   print (suc n) a out s =
       on_value (spend 0 s (force arity lost (within n) a 1)) out (λ v s.
@@ -207,7 +207,7 @@ module _ {F : Type 0} (arity : F → ℕ) (lost : StateOf F → AnswerOf F) (nil
   -- has no parameter.
   module _ (shared : HeapOf F) (main : F) (name : ℕ) where
     -- where main takes the input, as a list; the start spends the first unit
-    abbrev pub printed_from_input : List ℕ → ℕ → Printed
+    abbrev pub printed_from_input : List ℕ → ℕ → PrintedRun
     printed_from_input i zero = stops [] Going (start shared i 0)
     printed_from_input i (suc n) =
         let s : StateOf F = start shared i n in
@@ -215,7 +215,7 @@ module _ {F : Type 0} (arity : F → ℕ) (lost : StateOf F → AnswerOf F) (nil
         (append s (Waiting Input ∷ Waiting (Call main (length s.heap ∷ [])) ∷ []))
 
     -- what the program puts out on the input i within n units
-    abbrev pub printed : List ℕ → ℕ → Printed
+    abbrev pub printed : List ℕ → ℕ → PrintedRun
     printed i n = elim (arity main == 0) [
       | true ↦ print n name [] (start shared i n)
       | false ↦ printed_from_input i n

@@ -3,25 +3,25 @@ use Rattle.std.specs.Prelude.{◌≡◌, ◌≢◌, ℕ, ◌+◌, ◌≤◌, Lis
 use Rattle.arity_check.specs.Program.{Program}
 use Rattle.core_meaning.specs.Heap.{Delayed}
 use Rattle.core_meaning.specs.Evaluation.{State, within}
-use Rattle.core_meaning.specs.Printing.{Printed, Going, print, printed}
-use Rattle.headline.specs.Carries.{Begins}
+use Rattle.core_meaning.specs.Printing.{PrintedRun, Going, print, printed}
+use Rattle.headline.specs.Carries.{IsPrefixOf}
 
 -- b goes on from where a stood: no output is lost, cells, depth and bytes taken are no fewer, and
 -- where a has ended nothing changes
-pub record Extends (a b : Printed) : Type 0 where
-  pub output : Begins a.out b.out
+pub record RunExtends (a b : PrintedRun) : Type 0 where
+  pub output : IsPrefixOf a.out b.out
   pub cells : a.cells ≤ b.cells
   pub depth : a.depth ≤ b.depth
   pub used : a.used ≤ b.used
   pub ended : a.end ≢ Going → b ≡ a
 
-abbrev pub LargerBoundExtends : Type 0
-LargerBoundExtends =
-    (p : Program) (i : List ℕ) (m n : ℕ) → m ≤ n → Extends (printed p i m) (printed p i n)
+abbrev pub LargerBoundExtendsRun : Type 0
+LargerBoundExtendsRun =
+    (p : Program) (i : List ℕ) (m n : ℕ) → m ≤ n → RunExtends (printed p i m) (printed p i n)
 
 -- the numbers by which evaluation and the printing loop recurse end nothing by themselves: from the
 -- units left on, each number gives the same
-pub record RecursionIsFree : Type 0 where
+pub record RecursionAddsNoBound : Type 0 where
   pub evaluation : (p : Program) (n m : ℕ) (t : Delayed) (d : ℕ) (s : State)
       → s.left ≤ n → within p (n + m) t d s ≡ within p n t d s
   pub printing : (p : Program) (n m a : ℕ) (out : List ℕ) (s : State) → s.left ≤ n

@@ -5,7 +5,7 @@
 //! of functions without a body.
 #![tactic(auto)]
 
-ghost use Rattle.core_meaning.specs.Laws.{LargerBoundExtends, RecursionIsFree};
+ghost use Rattle.core_meaning.specs.Laws.{LargerBoundExtendsRun, RecursionAddsNoBound};
 ghost use Rattle.core_meaning.specs.Examples.{Examples};
 ghost use Rattle.core_meaning.specs.WellFormed.{ValidProgramsAreWellFormed};
 ghost use Rattle.core_meaning.specs.Lookups.{NoLookupFails};
@@ -13,12 +13,12 @@ ghost use Rattle.core_meaning.specs.Lookups.{NoLookupFails};
 /// A larger bound extends what a program puts out: the output begins with the smaller bound's, the
 /// cells, the depth and the bytes taken are no fewer, and after an end nothing changes.
 pub fn larger_bound()
-    ensures { LargerBoundExtends }
+    ensures { LargerBoundExtendsRun }
 {}
 
 /// The numbers by which the definitions recurse are no bounds of their own.
-pub fn recursion_is_free()
-    ensures { RecursionIsFree }
+pub fn recursion_adds_no_bound()
+    ensures { RecursionAddsNoBound }
 {}
 
 /// What small programs print, computed from the definitions.

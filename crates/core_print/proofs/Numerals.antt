@@ -6,7 +6,7 @@ use Rattle.std.proofs.lemmas.Bool.{lt-ltb, le-ltb, ltb-true}
 use Rattle.std.proofs.lemmas.Fmt.{decimal_by_steps}
 use Rattle.std.proofs.lemmas.Int.{ints}
 use Rattle.seq.proofs.Truth.{and_parts, and_from}
-use Rattle.core_reader.specs.declared.look.Kind.TheVariants.{Digits}
+use Rattle.core_reader.specs.declared.look.TokenKind.TheVariants.{Digits}
 use Rattle.core_reader.specs.Bytes.{is_lower, is_upper, is_digit}
 use Rattle.core_reader.specs.Tokens.{every, kind_of}
 use Rattle.core_reader.specs.Words.{digits_from, has_minus, written_number, IsInRange}

@@ -5,7 +5,7 @@ use Rattle.std.specs.List.{AllZip}
 use Rattle.std.specs.Fmt.{signed_decimal}
 use Rattle.std.proofs.lemmas.List.Elements.{All-head, All-tail}
 use Rattle.std.proofs.Math.Nat.{le-max_left, le-max_right}
-use Rattle.core_reader.specs.declared.look.Kind.TheVariants.{Lower, Digits, Sign}
+use Rattle.core_reader.specs.declared.look.TokenKind.TheVariants.{Lower, Digits, Sign}
 use Rattle.core_reader.specs.declared.look.Sign.TheVariants as signs
 use Rattle.core_reader.specs.declared.syntax.Binder.{Binder}
 use Rattle.core_reader.specs.declared.syntax.Pattern.{Pattern}
@@ -14,7 +14,7 @@ use Rattle.core_reader.specs.declared.token.Token.TheVariants as word
 use Rattle.core_reader.specs.declared.token.Lexeme.{Lexeme}
 use Rattle.core_reader.specs.Tree.{Term, Terms, NoTerms, AndTerm, Application, Bind, Expr, App, Let, Case, Alts, NoAlts, AndAlt}
 use Rattle.core_reader.specs.Tree as tree
-use Rattle.core_reader.specs.Grammar.{Room, lexeme, name_id, SpellsTerm, SpellsTerms, SpellsApp, binders, SpellsBind, AfterBind, SpellsBinds, SpellsPattern, AfterAlt, SpellsExpr, SpellsAlts}
+use Rattle.core_reader.specs.Grammar.{NestingLimit, lexeme, name_id, SpellsTerm, SpellsTerms, SpellsApp, binders, SpellsBind, AfterBind, SpellsBinds, SpellsPattern, AfterAlt, SpellsExpr, SpellsAlts}
 use Rattle.core_reader.specs.Words.{has_minus, written_number, number_in, IsInRange}
 use Rattle.core_reader.specs.Readable.{IsNamed, IsBound, ReadableTerm, ReadableTerms, ReadableApp, ReadableBind, ReadablePattern, ReadableExpr, ReadableAlts}
 use Rattle.core_print.specs.Canonical.{name_text, binders_text, term_text, terms_text, app_text, bind_text, group_text, pattern_text, expr_text, alts_text}
@@ -26,19 +26,19 @@ use Rattle.core_print.proofs.Rereading.{Apart, apart_more, Meaning, Back, Both, 
 use Rattle.seq.specs.Lists.{or_empty}
 
 -- one more `(`, `let` or `case` may be opened wherever fewer than 200 are open
-abbrev pub Roomy : Room → Type 0
+abbrev pub Roomy : NestingLimit → Type 0
 Roomy room = (n : ℕ) → n < 200 → room n ≡ true
 
 module _ (N : Texts) where
   -- what the tokens of each part mean: a part with those tokens that is the same
   abbrev TermAgain : ℕ → Term → Meaning
-  TermAgain d a names ts = (b : Term) × ((room : Room) → Roomy room → SpellsTerm room d b ts) × SameTerm N names a b
+  TermAgain d a names ts = (b : Term) × ((room : NestingLimit) → Roomy room → SpellsTerm room d b ts) × SameTerm N names a b
 
   abbrev TermsAgain : ℕ → Terms → Meaning
-  TermsAgain d xs names ts = (ys : Terms) × ((room : Room) → Roomy room → SpellsTerms room d ys ts) × SameTerms N names xs ys
+  TermsAgain d xs names ts = (ys : Terms) × ((room : NestingLimit) → Roomy room → SpellsTerms room d ys ts) × SameTerms N names xs ys
 
   abbrev AppAgain : ℕ → Application → Meaning
-  AppAgain d a names ts = (b : Application) × ((room : Room) → Roomy room → SpellsApp room d b ts) × SameApp N names a b
+  AppAgain d a names ts = (b : Application) × ((room : NestingLimit) → Roomy room → SpellsApp room d b ts) × SameApp N names a b
 
   pub name_again : (n : ℕ) (r : IsNamed N n) → Back (Named word.Name r.0) (name_text N n)
   name_again n r = as_text (Named word.Name r.0) r.0 (name_text N n) (sym (ap or_empty r.1)) (name r.0 r.2)
@@ -129,7 +129,7 @@ module _ (N : Texts) where
       (both (Named word.Name n.0) (BindersAgain bs) x (binders_text N bs) (apart_binders bs) (name_again b.name.0 n) (binders_again bs (All-tail (IsBound N) b bs r))))
 
   abbrev BindAgain : ℕ → Bind → Meaning
-  BindAgain d b names ts = (c : Bind) × ((room : Room) → Roomy room → SpellsBind room d c ts) × SameBind N names b c
+  BindAgain d b names ts = (c : Bind) × ((room : NestingLimit) → Roomy room → SpellsBind room d c ts) × SameBind N names b c
 
   bind_again : (b : Bind) → ReadableBind N b → (d : ℕ) → d + app_depth b.app ≤ 200 → Back (BindAgain d b) (bind_text N b)
   bind_again b r d h =
@@ -151,10 +151,10 @@ module _ (N : Texts) where
 
   -- the members of a group, and those behind the first with the `;` before them
   abbrev GroupAgain : ℕ → Bind → List Bind → Meaning
-  GroupAgain d b bs names ts = (c : Bind) × (cs : List Bind) × ((room : Room) → Roomy room → SpellsBinds room d (c ∷ cs) ts) × SameBind N names b c × AllZip (SameBind N names) bs cs
+  GroupAgain d b bs names ts = (c : Bind) × (cs : List Bind) × ((room : NestingLimit) → Roomy room → SpellsBinds room d (c ∷ cs) ts) × SameBind N names b c × AllZip (SameBind N names) bs cs
 
   abbrev MoreAgain : ℕ → List Bind → Meaning
-  MoreAgain d bs names ts = (cs : List Bind) × ((room : Room) → Roomy room → (semi us : List Lexeme) × AfterBind cs semi × SpellsBinds room d cs us × (ts ≡ semi ++ us)) × AllZip (SameBind N names) bs cs
+  MoreAgain d bs names ts = (cs : List Bind) × ((room : NestingLimit) → Roomy room → (semi us : List Lexeme) × AfterBind cs semi × SpellsBinds room d cs us × (ts ≡ semi ++ us)) × AllZip (SameBind N names) bs cs
 
   group_joined : (d : ℕ) (b : Bind) (bs : List Bind) (names : Texts) (ts : List Lexeme) → Both (BindAgain d b) (MoreAgain d bs) names ts → GroupAgain d b bs names ts
   group_joined d b bs names ts m = (
@@ -206,14 +206,14 @@ module _ (N : Texts) where
   -- ---- expressions
 
   abbrev pub ExprAgain : ℕ → Expr → Meaning
-  ExprAgain d e names ts = (f : Expr) × ((room : Room) → Roomy room → SpellsExpr room d f ts) × SameExpr N names e f
+  ExprAgain d e names ts = (f : Expr) × ((room : NestingLimit) → Roomy room → SpellsExpr room d f ts) × SameExpr N names e f
 
   abbrev AltsAgain : ℕ → Pattern → Expr → Alts → Meaning
   AltsAgain d p e xs names ts =
-      (q : Pattern) × (f : Expr) × (ys : Alts) × ((room : Room) → Roomy room → SpellsAlts room d (AndAlt q f ys) ts) × SamePattern N names p q × SameExpr N names e f × SameAlts N names xs ys
+      (q : Pattern) × (f : Expr) × (ys : Alts) × ((room : NestingLimit) → Roomy room → SpellsAlts room d (AndAlt q f ys) ts) × SamePattern N names p q × SameExpr N names e f × SameAlts N names xs ys
 
   abbrev MoreAlts : ℕ → Alts → Meaning
-  MoreAlts d xs names ts = (ys : Alts) × ((room : Room) → Roomy room → (semi us : List Lexeme) × AfterAlt ys semi × SpellsAlts room d ys us × (ts ≡ semi ++ us)) × SameAlts N names xs ys
+  MoreAlts d xs names ts = (ys : Alts) × ((room : NestingLimit) → Roomy room → (semi us : List Lexeme) × AfterAlt ys semi × SpellsAlts room d ys us × (ts ≡ semi ++ us)) × SameAlts N names xs ys
 
   abbrev let_text : List Bind → Expr → List ℕ
   let_text group e = codes "let" ++ (group_text N (codes " ") group ++ (codes " in " ++ expr_text N e))

@@ -5,8 +5,8 @@ use Rattle.std.proofs.Math.Seq.{take-append_seam, take-append-add}
 use Rattle.seq.proofs.Truth.{and_not_right}
 use Rattle.seq.proofs.Lists.{drop_before}
 use Rattle.core_reader.specs.declared.dialect.Dialect.TheVariants as dialect
-use Rattle.core_reader.specs.declared.look.Kind.{Kind}
-use Rattle.core_reader.specs.declared.look.Kind.TheVariants.{Lower, Upper, Digits, Sign}
+use Rattle.core_reader.specs.declared.look.TokenKind.{TokenKind}
+use Rattle.core_reader.specs.declared.look.TokenKind.TheVariants.{Lower, Upper, Digits, Sign}
 use Rattle.core_reader.specs.declared.look.Sign.TheVariants as signs
 use Rattle.core_reader.specs.declared.syntax.NameId.{NameId}
 use Rattle.core_reader.specs.declared.token.Token.{Token}
@@ -15,7 +15,7 @@ use Rattle.core_reader.specs.declared.token.Lexeme.{Lexeme}
 use Rattle.core_reader.specs.Bytes.{is_space, is_lower, is_upper, is_digit, is_inner}
 use Rattle.core_reader.specs.Grammar.{lexeme, name_id, IsSign}
 use Rattle.core_reader.specs.Tokens.{every, kind_of, after_minus, of_one, arrow, Longest, Piece, Reads, Stops, Passes, Takes}
-use Rattle.core_reader.specs.Words.{said, said_by, said_by_letters, number_in, written_number, IsInRange}
+use Rattle.core_reader.specs.Words.{said, said_by, keyword_or_name, number_in, written_number, IsInRange}
 use Rattle.core_reader.specs.Lexed.{AreInRange}
 use Rattle.core_reader.specs.Readable.{IsName, IsConstructor}
 use Rattle.core_reader.proofs.Naming.{Texts, EachHeld}
@@ -56,7 +56,7 @@ one_past : (b : ℕ) (bs : List ℕ) (r : ℕ) (rest : List ℕ) → of_one b (b
 one_past b [] r rest = refl
 one_past b (c ∷ bs) r rest = refl
 
-minus_past : (bs : List ℕ) (k : Kind) (r : ℕ) (rest : List ℕ) → after_minus bs ≡ Some k → is_inner r ≡ false → after_minus (bs ++ (r ∷ rest)) ≡ None
+minus_past : (bs : List ℕ) (k : TokenKind) (r : ℕ) (rest : List ℕ) → after_minus bs ≡ Some k → is_inner r ≡ false → after_minus (bs ++ (r ∷ rest)) ≡ None
 minus_past [] k r rest e h = absurd cc
 minus_past (c ∷ bs) k r rest e h = by (eqb c 62) refl
   where
@@ -64,7 +64,7 @@ minus_past (c ∷ bs) k r rest e h = by (eqb c 62) refl
     by true g = rw (g, arrow_past bs r rest) refl
     by false g = rw (g, and_not_right (is_digit c) (every is_digit (bs ++ (r ∷ rest))) (every_stops is_digit bs r rest (no_digit r h))) refl
 
-past : (w : List ℕ) (k : Kind) (r : ℕ) (rest : List ℕ) → kind_of w ≡ Some k → is_inner r ≡ false → kind_of (w ++ (r ∷ rest)) ≡ None
+past : (w : List ℕ) (k : TokenKind) (r : ℕ) (rest : List ℕ) → kind_of w ≡ Some k → is_inner r ≡ false → kind_of (w ++ (r ∷ rest)) ≡ None
 past [] k r rest e h = absurd cc
 past (b ∷ bs) k r rest e h = by (is_lower b) (is_upper b) (is_digit b) (eqb b 45) refl refl refl refl
   where
@@ -77,21 +77,21 @@ past (b ∷ bs) k r rest e h = by (is_lower b) (is_upper b) (is_digit b) (eqb b 
         rw (e1, e2, e3, e4) (minus_past bs k r rest f h)
     by false false false false e1 e2 e3 e4 = rw (e1, e2, e3, e4) (one_past b bs r rest)
 
-no_longer : (w : List ℕ) (k : Kind) (rest : List ℕ) → kind_of w ≡ Some k → Apart rest → (m : ℕ) → length w < m → m ≤ length (w ++ rest) → kind_of (take m (w ++ rest)) ≡ None
+no_longer : (w : List ℕ) (k : TokenKind) (rest : List ℕ) → kind_of w ≡ Some k → Apart rest → (m : ℕ) → length w < m → m ≤ length (w ++ rest) → kind_of (take m (w ++ rest)) ≡ None
 no_longer w k [] e h m lt le = absurd (omega (arith, length-append w []))
 no_longer w k (r ∷ rest) e h m lt le =
     let j = m - suc (length w) in
     let split : m ≡ length w + suc j = omega arith in
     ap (λ n. kind_of (take n (w ++ (r ∷ rest)))) split ∙ ap kind_of (take-append-add w (r ∷ rest) (suc j)) ∙ past w k r (take j rest) e h
 
-longest : (w : List ℕ) (k : Kind) (rest : List ℕ) → kind_of w ≡ Some k → Apart rest → Longest (length w) (w ++ rest) k
+longest : (w : List ℕ) (k : TokenKind) (rest : List ℕ) → kind_of w ≡ Some k → Apart rest → Longest (length w) (w ++ rest) k
 longest w k rest e h = record {
   within = omega (arith, length-append w rest);
   is_token = ap kind_of (take-append_seam w rest) ∙ e;
   no_longer = no_longer w k rest e h;
 }
 
-one_token : (w : List ℕ) (k : Kind) (rest : List ℕ) (at : ℕ) → kind_of w ≡ Some k → Apart rest → Reads at (w ++ rest) (record { bytes = w; at = at } ∷ []) (at + length w) rest
+one_token : (w : List ℕ) (k : TokenKind) (rest : List ℕ) (at : ℕ) → kind_of w ≡ Some k → Apart rest → Reads at (w ++ rest) (record { bytes = w; at = at } ∷ []) (at + length w) rest
 one_token w k rest at e h =
     let after = drop (length w) (w ++ rest) in
     let r = Takes at (length w) (w ++ rest) k [] (at + length w) after (longest w k rest e h) (Stops (at + length w) after) in
@@ -143,7 +143,7 @@ back_as P Q text f b at = let r = b at in record { pieces = r.pieces; reads = r.
 pub nothing : Back Nothing []
 nothing at = record { pieces = []; reads = λ rest h. subst (λ e. Reads at rest [] e rest) (let f : at ≡ at + 0 = omega arith in f) (Stops at rest); small = tt; means = λ names h. refl }
 
-pub token : (w : List ℕ) (k : Kind) (t : Token) → kind_of w ≡ Some k → ((names : Texts) → said_by names w (Some k) ≡ t) → (kind_of w ≡ Some Digits → IsInRange (written_number w)) → Back (OneToken t) w
+pub token : (w : List ℕ) (k : TokenKind) (t : Token) → kind_of w ≡ Some k → ((names : Texts) → said_by names w (Some k) ≡ t) → (kind_of w ≡ Some Digits → IsInRange (written_number w)) → Back (OneToken t) w
 token w k t e says small at = record {
   pieces = record { bytes = w; at = at } ∷ [];
   reads = λ rest h. one_token w k rest at e h;
@@ -165,7 +165,7 @@ name w e at = record {
   means = λ names h. record {
     at = at;
     number = at_number names w (h.0 (rw (e.0, e.1) refl));
-    whole = λ i. lexeme at ((ap (said_by names w) e.0 ∙ ap (said_by_letters names w) e.1) i) ∷ [];
+    whole = λ i. lexeme at ((ap (said_by names w) e.0 ∙ ap (keyword_or_name names w) e.1) i) ∷ [];
   };
 }
 

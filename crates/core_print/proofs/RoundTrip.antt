@@ -8,13 +8,13 @@ use Rattle.std.proofs.lemmas.List.{append-nil}
 use Rattle.std.proofs.lemmas.List.Elements.{All-head, All-tail}
 use Rattle.std.proofs.Math.Nat.{le-max_left, le-max_right}
 use Rattle.core_reader.specs.declared.dialect.Dialect.TheVariants as dialect
-use Rattle.core_reader.specs.declared.look.Kind.TheVariants.{Lower, Digits}
+use Rattle.core_reader.specs.declared.look.TokenKind.TheVariants.{Lower, Digits}
 use Rattle.core_reader.specs.declared.token.Token.TheVariants as word
 use Rattle.core_reader.specs.declared.syntax.Core.{Core}
 use Rattle.core_reader.specs.declared.refusal.ReadRefusal.{ReadRefusal}
 use Rattle.core_reader.specs.declared.refusal.ReadRefusal.TheVariants as refusal
 use Rattle.core_reader.specs.Tree.{Data, Function, Program, program}
-use Rattle.core_reader.specs.Grammar.{Room, anywhere, at_most_200, lexeme, name_id, binders, Decl, Declares, Defines, SpellsDecl, SpellsDecls, constructors_of, functions_of}
+use Rattle.core_reader.specs.Grammar.{NestingLimit, unlimited_nesting, at_most_200, lexeme, name_id, binders, Decl, Declares, Defines, SpellsDecl, SpellsDecls, constructors_of, functions_of}
 use Rattle.core_reader.specs.Tokens.{IsTokens, Reads}
 use Rattle.core_reader.specs.Words.{number_in, IsInRange}
 use Rattle.core_reader.specs.Names.{names_of}
@@ -24,7 +24,7 @@ use Rattle.core_reader.specs.Readable.{ReadableData, ReadableFunction, IsReadabl
 use Rattle.core_print.specs.Canonical.{name_text, binders_text, expr_text, data_line, function_line, canonical}
 use Rattle.core_print.specs.Depth.{expr_depth, functions_depth, program_depth}
 use Rattle.core_print.specs.Same.{SameData, SameFunction, SameProgram}
-use Rattle.core_print.specs.Laws.{CanonicalStands, IsMemory, IsSameAgain}
+use Rattle.core_print.specs.Laws.{CanonicalTextReadsBack, IsMemory, RereadsSameProgram}
 use Rattle.core_reader.proofs.FirstBroken.{Clear, unbroken}
 use Rattle.core_reader.proofs.Naming.{Texts, each_held}
 use Rattle.core_print.proofs.Numerals.{count_numeral}
@@ -35,10 +35,10 @@ use Rattle.seq.specs.Lists.{or_empty}
 
 module _ (N : Texts) where
   abbrev DataAgain : Data → Meaning
-  DataAgain d names ts = (c : Data) × ((room : Room) → Roomy room → SpellsDecl room (Declares c) ts) × SameData N names d c
+  DataAgain d names ts = (c : Data) × ((room : NestingLimit) → Roomy room → SpellsDecl room (Declares c) ts) × SameData N names d c
 
   abbrev FunctionAgain : Function → Meaning
-  FunctionAgain f names ts = (g : Function) × ((room : Room) → Roomy room → SpellsDecl room (Defines g) ts) × SameFunction N names f g
+  FunctionAgain f names ts = (g : Function) × ((room : NestingLimit) → Roomy room → SpellsDecl room (Defines g) ts) × SameFunction N names f g
 
   line_end : (Q : Meaning) (y : List ℕ) → Back Q y → Back (Both (OneToken word.Semicolon) Q) (codes ";\n" ++ y)
   line_end Q y q = both (OneToken word.Semicolon) Q (codes ";") (10 ∷ y) refl semicolon (space Q 10 y refl q)
@@ -126,10 +126,10 @@ module _ (N : Texts) where
       (both (ExprAgain N 0 f.body) End e end refl (expr_again N f.body r.2 0 (omega arith)) (line_end Q y q))))))))
 
   abbrev FunctionsAgain : List Function → Meaning
-  FunctionsAgain fs names ts = (ds : List Decl) × ((room : Room) → Roomy room → SpellsDecls room ds ts) × (constructors_of ds ≡ []) × AllZip (SameFunction N names) fs (functions_of ds)
+  FunctionsAgain fs names ts = (ds : List Decl) × ((room : NestingLimit) → Roomy room → SpellsDecls room ds ts) × (constructors_of ds ≡ []) × AllZip (SameFunction N names) fs (functions_of ds)
 
   abbrev ProgramAgain : List Data → List Function → Meaning
-  ProgramAgain cs fs names ts = (ds : List Decl) × ((room : Room) → Roomy room → SpellsDecls room ds ts) × AllZip (SameData N names) cs (constructors_of ds) × AllZip (SameFunction N names) fs (functions_of ds)
+  ProgramAgain cs fs names ts = (ds : List Decl) × ((room : NestingLimit) → Roomy room → SpellsDecls room ds ts) × AllZip (SameData N names) cs (constructors_of ds) × AllZip (SameFunction N names) fs (functions_of ds)
 
   functions_again : (fs : List Function) → All (ReadableFunction N) fs → functions_depth fs ≤ 200 → Back (FunctionsAgain fs) (flat_map (function_line N) fs)
   functions_again [] r h = back_as Nothing (FunctionsAgain []) [] (λ names ts e. ([], (λ room some. e), refl, tt)) nothing
@@ -152,13 +152,13 @@ module _ (N : Texts) where
       (λ names ts m. (Declares m.first.0 ∷ m.second.0, (λ room some. (m.front, m.behind, m.first.1 room some, m.second.1 room some, m.whole)), (m.first.2, m.second.2), m.second.3))
       (data_again c (All-head (ReadableData N) c cs rs) (ProgramAgain cs fs) (front ++ more) (program_again cs fs (All-tail (ReadableData N) c cs rs) r h)))
 
-everywhere : Roomy anywhere
+everywhere : Roomy unlimited_nesting
 everywhere n l = refl
 
 below_200 : Roomy at_most_200
 below_200 n l = lt-ltb n 200 l
 
-pub canonical_stands : CanonicalStands
+pub canonical_stands : CanonicalTextReadsBack
 canonical_stands p r short shallow =
     let text = canonical p in
     let back = program_again p.names p.constructors p.functions r.constructors r.functions shallow 0 in
@@ -168,10 +168,10 @@ canonical_stands p r short shallow =
     let end : 0 + length text ≡ length text = omega arith in
     let whole : Reads 0 text pieces (0 + length text) [] = subst (λ w. Reads 0 w pieces (0 + length text) []) (append-nil text) (back.reads [] tt) in
     let tokens : IsTokens text pieces = subst (λ n. Reads 0 text pieces n []) end whole in
-    let some : IsProgram anywhere q pieces = record { names = refl; decls = m.0; constructors = refl; functions = refl; spelled = m.1 anywhere everywhere } in
+    let some : IsProgram unlimited_nesting q pieces = record { names = refl; decls = m.0; constructors = refl; functions = refl; spelled = m.1 unlimited_nesting everywhere } in
     let few : IsProgram at_most_200 q pieces = record { names = refl; decls = m.0; constructors = refl; functions = refl; spelled = m.1 at_most_200 below_200 } in
     let clear : Clear dialect.Core IsProgram pieces = record {
-      some = record { rest = []; whole = q; is_program = subst (IsProgram anywhere q) (sym (append-nil pieces)) some };
+      some = record { rest = []; whole = q; is_program = subst (IsProgram unlimited_nesting q) (sym (append-nil pieces)) some };
       shallow = record { rest = []; whole = q; is_program = subst (IsProgram at_most_200 q) (sym (append-nil pieces)) few };
       small = back.small;
     } in
@@ -196,6 +196,6 @@ no_refusal text refusal.TextTooLong u h = absurd (u 5 1048576 h.broken)
 no_refusal text (refusal.Memory e) u h = tt
 
 pub same_again : (p : Program) (text : List ℕ) (answer : Result Core ReadRefusal) → IsReadable p → text ≡ canonical p → IfOk answer (λ core. IsText text (program core)) → IfErr answer (IsCause text)
-    → length (canonical p) ≤ 1048576 → program_depth p ≤ 200 → IsSameAgain p answer
+    → length (canonical p) ≤ 1048576 → program_depth p ≤ 200 → RereadsSameProgram p answer
 same_again p text (Ok core) r e found refused short shallow = (canonical_stands p r short shallow).no_other (program core) (subst (λ w. IsText w (program core)) e found)
 same_again p text (Err er) r e found refused short shallow = no_refusal (canonical p) er (canonical_stands p r short shallow).unbroken (subst (λ w. IsCause w er) e refused)

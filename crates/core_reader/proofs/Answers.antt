@@ -8,7 +8,7 @@ use Rattle.core_reader.specs.declared.parser.Declarations.{Declarations}
 use Rattle.core_reader.specs.declared.refusal.ReadRefusal.{ReadRefusal}
 use Rattle.core_reader.specs.declared.refusal.ReadRefusal.TheVariants.{BadByte, Syntax, NumberRange, TooDeep, TextTooLong, Memory}
 use Rattle.core_reader.specs.Tree.{Program, data_of, function}
-use Rattle.core_reader.specs.Grammar.{anywhere, at_most_200}
+use Rattle.core_reader.specs.Grammar.{unlimited_nesting, at_most_200}
 use Rattle.core_reader.specs.TokensOf.{Piece, Reads, Stops, Passes, Takes, IsTokens}
 use Rattle.core_reader.specs.WordsOf.{said}
 use Rattle.core_reader.specs.ProgramsOf.{Language, IsText}
@@ -75,7 +75,7 @@ module _ {P : Type 0} {d : Dialect} {r : Reading} {Derives : Language P} (w : Re
 
   -- A text that was read stands for what its tokens are derived from, and breaks no rule.
   pub found_by : (text : List ℕ) (lexemes : List Lexeme) (names : Texts) (a : r.Tree) → length text ≤ 1048576 → (l : IsLexed d text lexemes names) → run_of r.step at_most_200 r.start lexemes ≡ Ok a
-      → (p : P) → Derives anywhere p l.pieces → Found d Derives text p
+      → (p : P) → Derives unlimited_nesting p l.pieces → Found d Derives text p
   found_by text lexemes names a short l h p program =
       let x : Explained w names l.pieces l.last (Ok a) = subst (Explained w names l.pieces l.last) h (explained text lexemes names l) in
       let over = at_end l.at l.rest l.last l.stop x.0 in
@@ -83,14 +83,14 @@ module _ {P : Type 0} {d : Dialect} {r : Reading} {Derives : Language P} (w : Re
       let end : l.at ≡ length text = omega (arith, place, ap length over) in
       let tokens : IsTokens d text l.pieces = subst (λ v. Reads d 0 text l.pieces v []) end (subst (λ v. Reads d 0 text l.pieces l.at v) over l.reads) in
       let agrees : Agrees d names l.pieces = ap (λ v. map (said d v) l.pieces) l.named in
-      let clear : Clear d Derives l.pieces = record { some = viable w anywhere names l.pieces x.2 x.3.p agrees; shallow = viable w at_most_200 names l.pieces x.2 x.3.b agrees; small = l.in_range } in
+      let clear : Clear d Derives l.pieces = record { some = viable w unlimited_nesting names l.pieces x.2 x.3.p agrees; shallow = viable w at_most_200 names l.pieces x.2 x.3.b agrees; small = l.in_range } in
       record {
         is_text = record { pieces = l.pieces; tokens = tokens; program = program };
         unbroken = λ k at b. first.unbroken text l.pieces l.at l.rest names k at (read_text text lexemes names short l) over clear p program b;
       }
 
   -- what was read is spelled by the tokens
-  pub spelled_by : (text : List ℕ) (lexemes : List Lexeme) (names : Texts) (a : r.Tree) (l : IsLexed d text lexemes names) → run_of r.step at_most_200 r.start lexemes ≡ Ok a → r.Spells anywhere a (map (said d names) l.pieces)
+  pub spelled_by : (text : List ℕ) (lexemes : List Lexeme) (names : Texts) (a : r.Tree) (l : IsLexed d text lexemes names) → run_of r.step at_most_200 r.start lexemes ≡ Ok a → r.Spells unlimited_nesting a (map (said d names) l.pieces)
   spelled_by text lexemes names a l h =
       let x : Explained w names l.pieces l.last (Ok a) = subst (Explained w names l.pieces l.last) h (explained text lexemes names l) in
       x.1
@@ -116,7 +116,7 @@ too_long text h = record { broken = text-rules.TextTooLong h; first = λ k at b.
 abbrev pub program_of : Texts → Declarations → Program
 program_of names decls = record { names = names; constructors = map data_of decls.constructors.items; functions = map function decls.functions.items }
 
-pub derived : (text : List ℕ) (lexemes : List Lexeme) (names : Texts) (decls : Declarations) (l : IsLexed Core text lexemes names) → ReadsProgram lexemes (Ok decls) → IsProgram anywhere (program_of names decls) l.pieces
+pub derived : (text : List ℕ) (lexemes : List Lexeme) (names : Texts) (decls : Declarations) (l : IsLexed Core text lexemes names) → ReadsProgram lexemes (Ok decls) → IsProgram unlimited_nesting (program_of names decls) l.pieces
 derived text lexemes names decls l h =
     record { names = l.named; decls = h.0; constructors = h.1; functions = h.2; spelled = spelled_by core_reads text lexemes names h.0 l h.3 }
 
@@ -125,7 +125,7 @@ found text lexemes names decls short l h = found_by core_reads text lexemes name
 
 pub found_readable : (text : List ℕ) (lexemes : List Lexeme) (names : Texts) (decls : Declarations) → length text ≤ 1048576 → IsLexed Core text lexemes names → ReadsProgram lexemes (Ok decls) → IsReadable (program_of names decls)
 found_readable text lexemes names decls short l h =
-    readable anywhere (program_of names decls) l.pieces (derived text lexemes names decls l h) l.in_range (few text l.pieces l.at l.rest short l.reads)
+    readable unlimited_nesting (program_of names decls) l.pieces (derived text lexemes names decls l h) l.in_range (few text l.pieces l.at l.rest short l.reads)
 
 pub refused : (text : List ℕ) (lexemes : List Lexeme) (names : Texts) (e : ReadRefusal) → length text ≤ 1048576 → IsLexed Core text lexemes names → ReadsProgram lexemes (Err e) → IsCause Core IsProgram text e
 refused text lexemes names e short l h = refused_by core_reads text lexemes names e short l h

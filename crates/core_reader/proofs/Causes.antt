@@ -3,12 +3,12 @@ use Rattle.std.proofs.Common.{◌≡◌, ℕ, Bool, true, false, cond, eqb, List
 use Rattle.std.specs.Prelude.{ℤ, pos, neg_ℤ}
 use Rattle.std.proofs.lemmas.List.{append-nil}
 use Rattle.core_reader.specs.declared.dialect.Dialect.{Dialect}
-use Rattle.core_reader.specs.declared.look.Kind.TheVariants.{Digits}
+use Rattle.core_reader.specs.declared.look.TokenKind.TheVariants.{Digits}
 use Rattle.core_reader.specs.declared.token.Token.TheVariants as word
 use Rattle.core_reader.specs.declared.token.Lexeme.{Lexeme}
 use Rattle.core_reader.specs.declared.refusal.ReadRefusal.{ReadRefusal}
 use Rattle.core_reader.specs.declared.refusal.ReadRefusal.TheVariants as refusal
-use Rattle.core_reader.specs.Grammar.{anywhere, at_most_200}
+use Rattle.core_reader.specs.Grammar.{unlimited_nesting, at_most_200}
 use Rattle.core_reader.specs.TokensOf.{Piece, NothingBegins, kind_of}
 use Rattle.core_reader.specs.WordsOf.{said, said_by, digits_from, has_minus, written_number}
 use Rattle.core_reader.specs.NamesOf.{names_of}
@@ -34,28 +34,28 @@ module _ {P : Type 0} {d : Dialect} {r : Reading} {Derives : Language P} (w : Re
   clear_front : (names : Texts) (pieces us vs : List Piece) (s : r.State) → names ≡ names_of d pieces → AreInRange d pieces → pieces ≡ us ++ vs → Known w names us s → Clear d Derives us
   clear_front names pieces us vs s named small e k =
       let agrees : Agrees d names us = ap (λ v. map (said d v) us) (named ∙ ap (names_of d) e) ∙ agrees_front d us vs in
-      record { some = viable w anywhere names us s k.p agrees; shallow = viable w at_most_200 names us s k.b agrees; small = in_range_front d us vs (subst (AreInRange d) e small) }
+      record { some = viable w unlimited_nesting names us s k.p agrees; shallow = viable w at_most_200 names us s k.b agrees; small = in_range_front d us vs (subst (AreInRange d) e small) }
 
   agrees_at : (names : Texts) (pieces us : List Piece) (x : Piece) (vs : List Piece) → names ≡ names_of d pieces → pieces ≡ us ++ (x ∷ vs) → Agrees d names (us ++ x ∷ [])
   agrees_at names pieces us x vs named e = ap (λ v. map (said d v) (us ++ x ∷ [])) (named ∙ ap (names_of d) (e ∙ sym (one_last us x vs))) ∙ agrees_front d (us ++ x ∷ []) vs
 
   -- a token at which the reading stops
   syntax_at : (text : List ℕ) (pieces : List Piece) (at : ℕ) (rest : List ℕ) (names : Texts) (us : List Piece) (x : Piece) (vs : List Piece) (s : r.State) (er : ReadRefusal) → ReadText d text pieces at rest names
-      → pieces ≡ us ++ (x ∷ vs) → Known w names us s → r.step anywhere s x.at (said d names x).token ≡ stop er → IsFirstUnread d Derives text 2 x.at
+      → pieces ≡ us ++ (x ∷ vs) → Known w names us s → r.step unlimited_nesting s x.at (said d names x).token ≡ stop er → IsFirstUnread d Derives text 2 x.at
   syntax_at text pieces at rest names us x vs s er t e k h =
       let c = clear_front names pieces us (x ∷ vs) s t.named t.in_range e k in
-      let none = stops w anywhere names us s x er k.p (agrees_at names pieces us x vs t.named e) h in
+      let none = stops w unlimited_nesting names us s x er k.p (agrees_at names pieces us x vs t.named e) h in
       syntax_first text pieces at rest names us x vs t e c none
 
   no_opening : (names : Texts) (x : Piece) → IsOpening (said d names x).token → kind_of d x.bytes ≡ Some Digits → ⊥
   no_opening names x h e = subst (λ o. IsOpening (said_by d names x.bytes o)) e h
 
   deep_at : (text : List ℕ) (pieces : List Piece) (at : ℕ) (rest : List ℕ) (names : Texts) (us : List Piece) (x : Piece) (vs : List Piece) (s next : r.State) (er : ReadRefusal) → ReadText d text pieces at rest names
-      → pieces ≡ us ++ (x ∷ vs) → Known w names us s → r.step anywhere s x.at (said d names x).token ≡ go next → r.step at_most_200 s x.at (said d names x).token ≡ stop er → IsOpening (said d names x).token → IsFirstUnread d Derives text 4 x.at
+      → pieces ≡ us ++ (x ∷ vs) → Known w names us s → r.step unlimited_nesting s x.at (said d names x).token ≡ go next → r.step at_most_200 s x.at (said d names x).token ≡ stop er → IsOpening (said d names x).token → IsFirstUnread d Derives text 4 x.at
   deep_at text pieces at rest names us x vs s next er t e k h g opening =
       let c = clear_front names pieces us (x ∷ vs) s t.named t.in_range e k in
       let agrees = agrees_at names pieces us x vs t.named e in
-      let some = viable w anywhere names (us ++ x ∷ []) next (led_on w anywhere names us s next x k.p h) agrees in
+      let some = viable w unlimited_nesting names (us ++ x ∷ []) next (led_on w unlimited_nesting names us s next x k.p h) agrees in
       let none = stops w at_most_200 names us s x er k.b agrees g in
       deep_first text pieces at rest names us x vs t e c (no_opening names x opening) some none
 
@@ -68,17 +68,17 @@ module _ {P : Type 0} {d : Dialect} {r : Reading} {Derives : Language P} (w : Re
   agrees_large names pieces x e = ap (λ v. map (said d v) (pieces ++ x ∷ [])) e
 
   syntax_large : (text : List ℕ) (pieces : List Piece) (at : ℕ) (rest : List ℕ) (names : Texts) (x : Piece) (s : r.State) (p : ℕ) → ReadText d text pieces at rest names → Known w names pieces s → Large d text pieces at rest names x
-      → r.step anywhere s x.at (word.Large (has_minus x.bytes)) ≡ stop (refusal.Syntax p) → IsFirstUnread d Derives text 2 x.at
+      → r.step unlimited_nesting s x.at (word.Large (has_minus x.bytes)) ≡ stop (refusal.Syntax p) → IsFirstUnread d Derives text 2 x.at
   syntax_large text pieces at rest names x s p t known l h =
       let c = clear_front names pieces pieces [] s t.named t.in_range (sym (append-nil pieces)) known in
-      let none = stops w anywhere names pieces s x (refusal.Syntax p) known.p (agrees_large names pieces x l.named) (ap (r.step anywhere s x.at) (said_large names x l.digits) ∙ w.laws.large_stops s x.at p (has_minus x.bytes) (written_number x.bytes) h) in
+      let none = stops w unlimited_nesting names pieces s x (refusal.Syntax p) known.p (agrees_large names pieces x l.named) (ap (r.step unlimited_nesting s x.at) (said_large names x l.digits) ∙ w.laws.large_stops s x.at p (has_minus x.bytes) (written_number x.bytes) h) in
       large_syntax_first text pieces at rest names x t c l none
 
   range_large : (text : List ℕ) (pieces : List Piece) (at : ℕ) (rest : List ℕ) (names : Texts) (x : Piece) (s : r.State) (p : ℕ) → ReadText d text pieces at rest names → Known w names pieces s → Large d text pieces at rest names x
-      → r.step anywhere s x.at (word.Large (has_minus x.bytes)) ≡ stop (refusal.NumberRange p) → IsFirstUnread d Derives text 3 x.at
+      → r.step unlimited_nesting s x.at (word.Large (has_minus x.bytes)) ≡ stop (refusal.NumberRange p) → IsFirstUnread d Derives text 3 x.at
   range_large text pieces at rest names x s p t known l h =
       let g = w.laws.large_goes s x.at p (has_minus x.bytes) (written_number x.bytes) h (plain_number x.bytes) in
-      let some = viable w anywhere names (pieces ++ x ∷ []) g.0 (led_on w anywhere names pieces s g.0 x known.p (ap (r.step anywhere s x.at) (said_large names x l.digits) ∙ g.1)) (agrees_large names pieces x l.named) in
+      let some = viable w unlimited_nesting names (pieces ++ x ∷ []) g.0 (led_on w unlimited_nesting names pieces s g.0 x known.p (ap (r.step unlimited_nesting s x.at) (said_large names x l.digits) ∙ g.1)) (agrees_large names pieces x l.named) in
       let c = clear_front names pieces pieces [] s t.named t.in_range (sym (append-nil pieces)) known in
       large_range_first text pieces at rest names x t c l some
 
@@ -88,7 +88,7 @@ module _ {P : Type 0} {d : Dialect} {r : Reading} {Derives : Language P} (w : Re
   bad_stop text pieces at rest names s t known nothing =
       bad_first text pieces at rest names t (clear_front names pieces pieces [] s t.named t.in_range (sym (append-nil pieces)) known) nothing
 
-  end_stop : (text : List ℕ) (pieces : List Piece) (at : ℕ) (rest : List ℕ) (names : Texts) (s : r.State) (er : ReadRefusal) → ReadText d text pieces at rest names → Known w names pieces s → rest ≡ [] → r.step anywhere s at word.End ≡ stop er → IsFirstUnread d Derives text 2 at
+  end_stop : (text : List ℕ) (pieces : List Piece) (at : ℕ) (rest : List ℕ) (names : Texts) (s : r.State) (er : ReadRefusal) → ReadText d text pieces at rest names → Known w names pieces s → rest ≡ [] → r.step unlimited_nesting s at word.End ≡ stop er → IsFirstUnread d Derives text 2 at
   end_stop text pieces at rest names s er t known e h =
       let c = clear_front names pieces pieces [] s t.named t.in_range (sym (append-nil pieces)) known in
       let agrees : Agrees d names pieces = ap (λ v. map (said d v) pieces) t.named in

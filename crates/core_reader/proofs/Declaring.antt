@@ -12,7 +12,7 @@ use Rattle.core_reader.specs.declared.refusal.ReadRefusal.{ReadRefusal}
 use Rattle.core_reader.specs.declared.refusal.ReadRefusal.TheVariants.{BadByte, Syntax, NumberRange, TooDeep, TextTooLong, Memory}
 use Rattle.core_reader.specs.declared.dialect.Dialect.TheVariants.{Core}
 use Rattle.core_reader.specs.Tree.{Expr, Data, Function, NoTerms}
-use Rattle.core_reader.specs.Grammar.{Room, at_most_200, binders, Decl, Declares, Defines, constructors_of, functions_of}
+use Rattle.core_reader.specs.Grammar.{NestingLimit, at_most_200, binders, Decl, Declares, Defines, constructors_of, functions_of}
 use Rattle.core_reader.specs.ReadingOf.{run_of, follow, go, stop}
 use Rattle.core_reader.specs.Machine as expression
 use Rattle.core_reader.specs.Machine.{Outermost, InBody, Apply, Ended, refused, refusal, front, behind, is_name, Fails}
@@ -64,34 +64,34 @@ fails_by k (Memory e) read h = tt
 pub body_fails : (k : Hole) (er : ReadRefusal) (s : expression.State) (ts : List Lexeme) → Fails er (expression.run at_most_200 s ts) → Fails er (run at_most_200 (Within k s) ts)
 body_fails k er s ts h = subst (Fails er) (sym (through declarations finish_bad at_most_200 k s ts)) (fails_by k er (expression.run at_most_200 s ts) h)
 
-pub no_con : (l : Room) (ds : List Decl) (at : ℕ) (token : Token) → ((n : NameId) → token ≡ word.Con n → ⊥) → step l (Outside (DataName ds)) at token ≡ stop (refused at token)
+pub no_con : (l : NestingLimit) (ds : List Decl) (at : ℕ) (token : Token) → ((n : NameId) → token ≡ word.Con n → ⊥) → step l (Outside (DataName ds)) at token ≡ stop (refused at token)
 no_con l ds at (word.Con n) h = absurd (h n refl)
 no_con l ds at word.Bad h = refl
 no_con l ds at token h = refl
 
-pub no_semicolon : (l : Room) (ds : List Decl) (n : NameId) (p : ℕ) (fields : _) (at : ℕ) (token : Token) → (token ≡ word.Semicolon → ⊥) → step l (Outside (DataEnd ds n p fields)) at token ≡ stop (refused at token)
+pub no_semicolon : (l : NestingLimit) (ds : List Decl) (n : NameId) (p : ℕ) (fields : _) (at : ℕ) (token : Token) → (token ≡ word.Semicolon → ⊥) → step l (Outside (DataEnd ds n p fields)) at token ≡ stop (refused at token)
 no_semicolon l ds n p fields at word.Semicolon h = absurd (h refl)
 no_semicolon l ds n p fields at word.Bad h = refl
 no_semicolon l ds n p fields at token h = refl
 
-pub no_count : (l : Room) (ds : List Decl) (n : NameId) (p at : ℕ) (token : Token) → ((m : Bool) (v : ℤ) → token ≡ word.Number m v → ⊥) → ((m : Bool) → token ≡ word.Large m → ⊥) → step l (Outside (Count ds n p)) at token ≡ stop (refused at token)
+pub no_count : (l : NestingLimit) (ds : List Decl) (n : NameId) (p at : ℕ) (token : Token) → ((m : Bool) (v : ℤ) → token ≡ word.Number m v → ⊥) → ((m : Bool) → token ≡ word.Large m → ⊥) → step l (Outside (Count ds n p)) at token ≡ stop (refused at token)
 no_count l ds n p at (word.Number m v) h g = absurd (h m v refl)
 no_count l ds n p at (word.Large m) h g = absurd (g m refl)
 no_count l ds n p at token h g = refl
 
-pub minus_count : (l : Room) (ds : List Decl) (n : NameId) (p at : ℕ) (v : ℤ) → step l (Outside (Count ds n p)) at (word.Number true v) ≡ stop (Syntax at)
+pub minus_count : (l : NestingLimit) (ds : List Decl) (n : NameId) (p at : ℕ) (v : ℤ) → step l (Outside (Count ds n p)) at (word.Number true v) ≡ stop (Syntax at)
 minus_count l ds n p at (pos k) = refl
 minus_count l ds n p at (negsuc k) = refl
 
-pub below_count : (l : Room) (ds : List Decl) (n : NameId) (p at : ℕ) (v : ℤ) → v <ℤ pos 0 → step l (Outside (Count ds n p)) at (word.Number false v) ≡ stop (Syntax at)
+pub below_count : (l : NestingLimit) (ds : List Decl) (n : NameId) (p at : ℕ) (v : ℤ) → v <ℤ pos 0 → step l (Outside (Count ds n p)) at (word.Number false v) ≡ stop (Syntax at)
 below_count l ds n p at (pos k) h = absurd (omega (arith, ints))
 below_count l ds n p at (negsuc k) h = refl
 
-pub good_count : (l : Room) (ds : List Decl) (n : NameId) (p at : ℕ) (v : ℤ) → pos 0 ≤ℤ v → step l (Outside (Count ds n p)) at (word.Number false v) ≡ go (Outside (DataEnd ds n p (nat_abs v)))
+pub good_count : (l : NestingLimit) (ds : List Decl) (n : NameId) (p at : ℕ) (v : ℤ) → pos 0 ≤ℤ v → step l (Outside (Count ds n p)) at (word.Number false v) ≡ go (Outside (DataEnd ds n p (nat_abs v)))
 good_count l ds n p at (pos k) h = refl
 good_count l ds n p at (negsuc k) h = absurd (omega (arith, ints))
 
-pub no_decl : (l : Room) (ds : List Decl) (at : ℕ) (token : Token) → (token ≡ word.Data → ⊥) → ((n : NameId) → token ≡ word.Name n → ⊥) → (token ≡ word.End → ⊥) → step l (Outside (Top ds)) at token ≡ stop (refused at token)
+pub no_decl : (l : NestingLimit) (ds : List Decl) (at : ℕ) (token : Token) → (token ≡ word.Data → ⊥) → ((n : NameId) → token ≡ word.Name n → ⊥) → (token ≡ word.End → ⊥) → step l (Outside (Top ds)) at token ≡ stop (refused at token)
 no_decl l ds at word.Data h g f = absurd (h refl)
 no_decl l ds at (word.Name n) h g f = absurd (g n refl)
 no_decl l ds at word.End h g f = absurd (f refl)
@@ -126,11 +126,11 @@ finishes ds ts x front_is token_is =
     ∙ ap (λ (y : Lexeme). follow (step at_most_200 (top ds) y.at y.token) (λ s. run at_most_200 s (behind ts))) (sym front_is)
     ∙ ap (λ w. follow (step at_most_200 (top ds) x.at w) (λ s. run at_most_200 s (behind ts))) token_is
 
-pub no_param : (l : Room) (ds : List Decl) (n : NameId) (p : ℕ) (params : _) (at : ℕ) (token : Token) → is_name token ≡ false → (token ≡ word.Equals → ⊥) → step l (Outside (Params ds n p params)) at token ≡ stop (refused at token)
+pub no_param : (l : NestingLimit) (ds : List Decl) (n : NameId) (p : ℕ) (params : _) (at : ℕ) (token : Token) → is_name token ≡ false → (token ≡ word.Equals → ⊥) → step l (Outside (Params ds n p params)) at token ≡ stop (refused at token)
 no_param l ds n p params at (word.Name m) e h = absurd cc
 no_param l ds n p params at word.Equals e h = absurd (h refl)
 no_param l ds n p params at token e h = refl
 
-pub no_end : (l : Room) (ds : List Decl) (n : NameId) (p : ℕ) (params : _) (e : Expr) (at : ℕ) (token : Token) → (token ≡ word.Semicolon → ⊥) → step l (Within (InFunction ds n p params) (Ended Outermost e)) at token ≡ stop (refused at token)
+pub no_end : (l : NestingLimit) (ds : List Decl) (n : NameId) (p : ℕ) (params : _) (e : Expr) (at : ℕ) (token : Token) → (token ≡ word.Semicolon → ⊥) → step l (Within (InFunction ds n p params) (Ended Outermost e)) at token ≡ stop (refused at token)
 no_end l ds n p params e at word.Semicolon h = absurd (h refl)
 no_end l ds n p params e at token h = refl

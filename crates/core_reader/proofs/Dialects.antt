@@ -3,8 +3,8 @@ use Rattle.std.proofs.Common.{◌≡◌, ℕ, Bool, true, false, cond, List, [],
 use Rattle.std.specs.Prelude.{◌==◌}
 use Rattle.core_reader.specs.declared.dialect.Dialect.{Dialect}
 use Rattle.core_reader.specs.declared.dialect.Dialect.TheVariants as dialect
-use Rattle.core_reader.specs.declared.look.Kind.{Kind}
-use Rattle.core_reader.specs.declared.look.Kind.TheVariants.{Lower, Upper, Digits, Sign}
+use Rattle.core_reader.specs.declared.look.TokenKind.{TokenKind}
+use Rattle.core_reader.specs.declared.look.TokenKind.TheVariants.{Lower, Upper, Digits, Sign}
 use Rattle.core_reader.specs.declared.look.Sign.TheVariants.{Semicolon, Equals, OpenBrace, CloseBrace, Open, Close, Backslash, Bar, Colon}
 use Rattle.core_reader.specs.declared.token.Token.{Token}
 use Rattle.core_reader.specs.declared.token.Token.TheVariants as word
@@ -26,7 +26,7 @@ none_by false false false false false more e = refl
 pub no_keyword : (d : Dialect) (w : List ℕ) → keyword_of d w ≡ None → keyword_of dialect.Core w ≡ None
 no_keyword d w e = none_by _ _ _ _ _ _ e
 
-IsSignOrNone : Option Kind → Type 0
+IsSignOrNone : Option TokenKind → Type 0
 IsSignOrNone (Some Lower) = ⊥
 IsSignOrNone (Some Upper) = ⊥
 IsSignOrNone (Some Digits) = ⊥
@@ -37,7 +37,7 @@ none : IsSignOrNone None
 unfolding IsSignOrNone
 none = tt
 
-one_sign : (b : Bool) (s : _) (more : Option Kind) → IsSignOrNone more → IsSignOrNone (cond b (Some (Sign s)) more)
+one_sign : (b : Bool) (s : _) (more : Option TokenKind) → IsSignOrNone more → IsSignOrNone (cond b (Some (Sign s)) more)
 unfolding IsSignOrNone
 one_sign true s more h = tt
 one_sign false s more h = h
@@ -53,7 +53,7 @@ sign_is_sign d b [] =
     one_sign _ Semicolon _ (one_sign _ Equals _ (one_sign _ OpenBrace _ (one_sign _ CloseBrace _ (one_sign _ Open _ (one_sign _ Close _ (further_is_sign d b))))))
 sign_is_sign d b (c ∷ bs) = none
 
-kind_by : (b1 b2 b3 b4 : Bool) (x y z u v v' : Option Kind) (k : Kind) → (v ≡ Some k → v' ≡ Some k)
+kind_by : (b1 b2 b3 b4 : Bool) (x y z u v v' : Option TokenKind) (k : TokenKind) → (v ≡ Some k → v' ≡ Some k)
     → cond b1 x (cond b2 y (cond b3 z (cond b4 u v))) ≡ Some k → cond b1 x (cond b2 y (cond b3 z (cond b4 u v'))) ≡ Some k
 kind_by true b2 b3 b4 x y z u v v' k h e = e
 kind_by false true b3 b4 x y z u v v' k h e = e
@@ -61,10 +61,10 @@ kind_by false false true b4 x y z u v v' k h e = e
 kind_by false false false true x y z u v v' k h e = e
 kind_by false false false false x y z u v v' k h e = h e
 
-no_sign : (d : Dialect) (b : ℕ) (bs : List ℕ) (k : Kind) → (IsSignOrNone (Some k) → ⊥) → of_one d b bs ≡ Some k → of_one dialect.Core b bs ≡ Some k
+no_sign : (d : Dialect) (b : ℕ) (bs : List ℕ) (k : TokenKind) → (IsSignOrNone (Some k) → ⊥) → of_one d b bs ≡ Some k → of_one dialect.Core b bs ≡ Some k
 no_sign d b bs k h e = absurd (h (subst IsSignOrNone e (sign_is_sign d b bs)))
 
-in_core : (d : Dialect) (b : ℕ) (bs : List ℕ) (k : Kind) → (IsSignOrNone (Some k) → ⊥) → kind_of d (b ∷ bs) ≡ Some k → kind_of dialect.Core (b ∷ bs) ≡ Some k
+in_core : (d : Dialect) (b : ℕ) (bs : List ℕ) (k : TokenKind) → (IsSignOrNone (Some k) → ⊥) → kind_of d (b ∷ bs) ≡ Some k → kind_of dialect.Core (b ∷ bs) ≡ Some k
 in_core d b bs k h e =
     kind_by (is_lower b) (is_upper b) (is_digit b) (b == 45) (cond (every is_inner bs) (Some Lower) None) (cond (every is_inner bs) (Some Upper) None) (cond (every is_digit bs) (Some Digits) None)
     (after_minus bs) (of_one d b bs) (of_one dialect.Core b bs) k (no_sign d b bs k h) e

@@ -7,9 +7,9 @@ use Rattle.core_reader.specs.declared.syntax.Pattern.TheVariants as pattern
 use Rattle.core_reader.specs.declared.token.Lexeme.{Lexeme}
 use Rattle.core_reader.specs.Tree.{Term, Terms, NoTerms, AndTerm, Expr, Let, Case, NoAlts, AndAlt}
 use Rattle.core_reader.specs.Tree as tree
-use Rattle.core_reader.specs.Grammar.{Room, lexeme, name_id}
+use Rattle.core_reader.specs.Grammar.{NestingLimit, lexeme, name_id}
 use Rattle.core_reader.specs.TokensOf.{Piece}
-use Rattle.core_reader.specs.WordsOf.{said, keyword_of, said_by_letters, number_in}
+use Rattle.core_reader.specs.WordsOf.{said, keyword_of, keyword_or_name, number_in}
 use Rattle.core_reader.specs.Machine.{Cont, Outermost, LetBody, Scrutinee, AltBody, Frame, InBody, InBind, Inside, BindName, BindEquals, Ended, Brace, AltStart, AltNames, AltArrow, starts_atom, State, Apply, run, with_last, ◌⊹◌, binding, applied, front}
 use Rattle.core_reader.proofs.Taking.{ended_app, let_ends}
 
@@ -64,7 +64,7 @@ module _ (d : Dialect) (names : List (List ℕ)) (x : Lexeme) (rest : List Lexem
   abbrev before : List Piece → List Lexeme
   before us = map (said d names) us ++ x ∷ rest
 
-  abbrev Reaches : Room → State → List Lexeme → Type 0
+  abbrev Reaches : NestingLimit → State → List Lexeme → Type 0
   Reaches l s ts = (e : Expr) × (run l s ts ≡ Ok (record { expr = e; rest = x ∷ rest }))
 
   closing_ends : (k : Cont) → starts_atom (front (before (closing k))).token ≡ false
@@ -74,7 +74,7 @@ module _ (d : Dialect) (names : List (List ℕ)) (x : Lexeme) (rest : List Lexem
   closing_ends (Scrutinee k) = refl
   closing_ends (AltBody k s alts p) = refl
 
-  ends_cont : (l : Room) (k : Cont) (e : Expr) → Reaches l (Ended k e) (before (closing k))
+  ends_cont : (l : NestingLimit) (k : Cont) (e : Expr) → Reaches l (Ended k e) (before (closing k))
   unfolding run closing
   ends_cont l Outermost e = (e, refl)
   ends_cont l (LetBody k binds) e =
@@ -85,14 +85,14 @@ module _ (d : Dialect) (names : List (List ℕ)) (x : Lexeme) (rest : List Lexem
       ends_cont l k (Case e (AndAlt (pattern.Con (record { name = first; at = 0 }) []) (applied (tree.Con first.0 0) NoTerms) NoAlts))
   ends_cont l (AltBody k s alts p) e = ends_cont l k (Case s (alts ⊹ AndAlt p e NoAlts))
 
-  begins : (l : Room) (k : Cont) → Reaches l (Apply (InBody k) NoTerms) (before (constructor ∷ closing k))
+  begins : (l : NestingLimit) (k : Cont) → Reaches l (Apply (InBody k) NoTerms) (before (constructor ∷ closing k))
   unfolding run
   begins l k =
       let head = tree.Con (number_in names (codes "A")) 0 in
       let r = ends_cont l k (applied head NoTerms) in
       (r.0, ended_app l k head NoTerms (before (closing k)) (closing_ends k) ∙ r.1)
 
-  ends_frame : (l : Room) (k : Frame) (xs : Terms) → IsMore xs → Reaches l (Apply k xs) (before (closing_frame k))
+  ends_frame : (l : NestingLimit) (k : Frame) (xs : Terms) → IsMore xs → Reaches l (Apply k xs) (before (closing_frame k))
   unfolding run closing closing_frame IsMore
   ends_frame l k NoTerms h = absurd h
   ends_frame l (InBody k) (AndTerm a xs) h =
@@ -101,18 +101,18 @@ module _ (d : Dialect) (names : List (List ℕ)) (x : Lexeme) (rest : List Lexem
   ends_frame l (InBind k binds n p) (AndTerm a xs) h = begins l (LetBody k (binds ++ binding n p a xs ∷ []))
   ends_frame l (Inside k held at) (AndTerm a xs) h = ends_frame l k (with_last held (tree.Bracket a xs at)) (more_last held (tree.Bracket a xs at))
 
-  ends_app_of : (l : Room) (k : Frame) (held : Terms) → Reaches l (Apply k held) (before (constructor ∷ closing_frame k))
+  ends_app_of : (l : NestingLimit) (k : Frame) (held : Terms) → Reaches l (Apply k held) (before (constructor ∷ closing_frame k))
   unfolding run closing closing_frame
   ends_app_of l k held =
       let head = tree.Con (number_in names (codes "A")) 0 in
       ends_frame l k (with_last held head) (more_last held head)
 
-  pub ends : (l : Room) (s : State) → Reaches l s (before (ending s))
+  pub ends : (l : NestingLimit) (s : State) → Reaches l s (before (ending s))
   unfolding run ending closing closing_frame
   ends l (Apply k held) = ends_app_of l k held
   ends l (BindName k binds) =
       let rest = piece (codes "=") ∷ constructor ∷ piece (codes "in") ∷ constructor ∷ closing k in
-      subst (λ o. Reaches l (BindName k binds) (lexeme 0 (said_by_letters names (codes "a") o) ∷ before rest)) (sym (no_keyword d))
+      subst (λ o. Reaches l (BindName k binds) (lexeme 0 (keyword_or_name names (codes "a") o) ∷ before rest)) (sym (no_keyword d))
       (ends_app_of l (InBind k binds (name_id (number_in names (codes "a"))) 0) NoTerms)
   ends l (BindEquals k binds n p) = ends_app_of l (InBind k binds n p) NoTerms
   ends l (Ended k e) = ends_cont l k e

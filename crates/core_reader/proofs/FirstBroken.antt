@@ -4,13 +4,13 @@ use Rattle.std.proofs.Common.{◌≡◌, ℕ, ◌+◌, ◌≤◌, List, [], ◌�
 use Rattle.std.specs.Prelude.{◌≢◌}
 use Rattle.std.proofs.lemmas.List.{append-nil}
 use Rattle.core_reader.specs.declared.dialect.Dialect.{Dialect}
-use Rattle.core_reader.specs.declared.look.Kind.TheVariants.{Digits}
-use Rattle.core_reader.specs.Grammar.{Room, anywhere, at_most_200}
+use Rattle.core_reader.specs.declared.look.TokenKind.TheVariants.{Digits}
+use Rattle.core_reader.specs.Grammar.{NestingLimit, unlimited_nesting, at_most_200}
 use Rattle.core_reader.specs.TokensOf.{Piece, Reads, Stops, Takes, Longest, NothingBegins, kind_of}
 use Rattle.core_reader.specs.WordsOf.{written_number, IsInRange}
 use Rattle.core_reader.specs.NamesOf.{names_of, with_piece}
 use Rattle.core_reader.specs.ProgramsOf.{Language, Viable}
-use Rattle.core_reader.specs.RulesOf.{BeginsWith, IsBadByte, AtToken, AtEnd, IsUnread, BadByte, Syntax, NumberRange, TooDeep, TextTooLong, NoLater, IsFirstUnread}
+use Rattle.core_reader.specs.RulesOf.{BeginsWith, IsBadByte, AtToken, AtEnd, IsUnread, BadByte, Syntax, NumberRange, TooDeep, TextTooLong, IsNoLaterFault, IsFirstUnread}
 use Rattle.core_reader.specs.LexedOf.{AreInRange}
 use Rattle.core_reader.proofs.NamingOf.{Texts, fold_append}
 use Rattle.core_reader.proofs.Unique.{Stopped, Reading, goes_on, split, ascends, before_end, ends_at, reading, stuck, join}
@@ -43,13 +43,13 @@ one_last us x vs = append_assoc us (x ∷ []) vs
 
 -- tokens that break no rule
 pub record Clear {P : Type 0} (d : Dialect) (Derives : Language P) (ts : List Piece) : Type 0 where
-  pub some : Viable Derives anywhere ts
+  pub some : Viable Derives unlimited_nesting ts
   pub shallow : Viable Derives at_most_200 ts
   pub small : AreInRange d ts
 
 -- a rule that is broken at a token
 data AtPiece {P : Type 0} (d : Dialect) (Derives : Language P) (us : List Piece) (x : Piece) : ℕ → Type 0 where
-  NoProgram : (Viable Derives anywhere (us ++ x ∷ []) → ⊥) → AtPiece d Derives us x 2
+  NoProgram : (Viable Derives unlimited_nesting (us ++ x ∷ []) → ⊥) → AtPiece d Derives us x 2
   Outside : kind_of d x.bytes ≡ Some Digits → (IsInRange (written_number x.bytes) → ⊥) → AtPiece d Derives us x 3
   Deep : (Viable Derives at_most_200 (us ++ x ∷ []) → ⊥) → AtPiece d Derives us x 4
 
@@ -66,7 +66,7 @@ pub record Full (d : Dialect) (text : List ℕ) (all : List Piece) (end : ℕ) (
 
 -- No rule is broken before a token up to which nothing is.
 record Here {P : Type 0} (d : Dialect) (Derives : Language P) (k : ℕ) (us : List Piece) (x : Piece) : Type 0 where
-  syntax : (Viable Derives anywhere (us ++ x ∷ []) → ⊥) → k ≤ 2
+  syntax : (Viable Derives unlimited_nesting (us ++ x ∷ []) → ⊥) → k ≤ 2
   range : kind_of d x.bytes ≡ Some Digits → k ≤ 3
   any : k ≤ 4
 
@@ -88,10 +88,10 @@ pub record Large (d : Dialect) (text : List ℕ) (pieces : List Piece) (at : ℕ
   pub named : names ≡ names_of d (pieces ++ x ∷ [])
 
 module _ {P : Type 0} {Derives : Language P} where
-  viable_front : (l : Room) (us vs : List Piece) → Viable Derives l (us ++ vs) → Viable Derives l us
+  viable_front : (l : NestingLimit) (us vs : List Piece) → Viable Derives l (us ++ vs) → Viable Derives l us
   viable_front l us vs v = record { rest = vs ++ v.rest; whole = v.whole; is_program = subst (Derives l v.whole) (append_assoc us vs v.rest) v.is_program }
 
-  front_of : (l : Room) (ts us : List Piece) (x : Piece) (m : List Piece) → Viable Derives l ts → ts ≡ us ++ (x ∷ m) → Viable Derives l (us ++ x ∷ [])
+  front_of : (l : NestingLimit) (ts us : List Piece) (x : Piece) (m : List Piece) → Viable Derives l ts → ts ≡ us ++ (x ∷ m) → Viable Derives l (us ++ x ∷ [])
   front_of l ts us x m v e = viable_front l (us ++ x ∷ []) m (subst (Viable Derives l) (e ∙ sym (one_last us x m)) v)
 
 module _ (d : Dialect) where
@@ -161,7 +161,7 @@ module _ {d : Dialect} where
 
 module _ {P : Type 0} {d : Dialect} {Derives : Language P} where
   not_clear : (ts us : List Piece) (x : Piece) (m : List Piece) (k : ℕ) → Clear d Derives ts → ts ≡ us ++ (x ∷ m) → AtPiece d Derives us x k → ⊥
-  not_clear ts us x m k c e (NoProgram h) = h (front_of anywhere ts us x m c.some e)
+  not_clear ts us x m k c e (NoProgram h) = h (front_of unlimited_nesting ts us x m c.some e)
   not_clear ts us x m k c e (Outside digits h) = h (in_range_at d us x m (subst (AreInRange d) e c.small) digits)
   not_clear ts us x m k c e (Deep h) = h (front_of at_most_200 ts us x m c.shallow e)
 
@@ -179,7 +179,7 @@ module _ {P : Type 0} {d : Dialect} {Derives : Language P} where
   here_after k k' us x h (Deep g) = h.any
 
   no_later : (text : List ℕ) (all : List Piece) (end : ℕ) (rest : List ℕ) (us : List Piece) (x : Piece) (vs : List Piece) (k k' at' : ℕ) → Full d text all end rest → all ≡ us ++ (x ∷ vs) → Clear d Derives us → Here d Derives k us x
-      → Where d Derives text k' at' → NoLater k x.at k' at'
+      → Where d Derives text k' at' → IsNoLaterFault k x.at k' at'
   no_later text all end rest us x vs k k' at' f e c h (OnByte one b) =
       let b2 = byte_at_end text all end rest at' f b in
       let lt = before_end us x vs (subst (λ w. Reads d 0 text w end rest) e f.reads) in
@@ -192,7 +192,7 @@ module _ {P : Type 0} {d : Dialect} {Derives : Language P} where
       let g = in_full text all end rest before here at' f begins in
       by (order before here g.0 us x vs (sym g.1 ∙ e))
     where
-      by : Order before here us x → NoLater k x.at k' at'
+      by : Order before here us x → IsNoLaterFault k x.at k' at'
       by (Earlier m s) = absurd (not_clear us before here m k' c s broken)
       by (Same s t) =
           let same : AtPiece d Derives us x k' = subst (λ w. AtPiece d Derives us w k') t (subst (λ w. AtPiece d Derives w here k') s broken) in
@@ -205,7 +205,7 @@ module _ {P : Type 0} {d : Dialect} {Derives : Language P} where
 
   -- nor before the end of all tokens, if none of them breaks any
   no_later_end : (text : List ℕ) (all : List Piece) (end : ℕ) (rest : List ℕ) (k k' at' : ℕ) → Full d text all end rest → Clear d Derives all → k ≤ 2 → (NothingBegins d rest → k ≤ 1)
-      → Where d Derives text k' at' → NoLater k end k' at'
+      → Where d Derives text k' at' → IsNoLaterFault k end k' at'
   no_later_end text all end rest k k' at' f c two one (OnByte is b) =
       let q = byte_at_end text all end rest at' f b in
       inr ((λ five. absurd (omega (arith, is, five))), inr (sym q.0, omega (arith, one q.1, is)))
@@ -228,14 +228,14 @@ module _ {P : Type 0} {d : Dialect} {Derives : Language P} where
 
   -- a token with which nothing goes on
   pub syntax_first : (text : List ℕ) (pieces : List Piece) (at : ℕ) (rest : List ℕ) (names : Texts) (us : List Piece) (x : Piece) (vs : List Piece) → ReadText d text pieces at rest names
-      → pieces ≡ us ++ (x ∷ vs) → Clear d Derives us → (Viable Derives anywhere (us ++ x ∷ []) → ⊥) → IsFirstUnread d Derives text 2 x.at
+      → pieces ≡ us ++ (x ∷ vs) → Clear d Derives us → (Viable Derives unlimited_nesting (us ++ x ∷ []) → ⊥) → IsFirstUnread d Derives text 2 x.at
   syntax_first text pieces at rest names us x vs t e c none =
       at_token text pieces at rest names us x vs 2 t e c (record { syntax = λ g. omega arith; range = λ d. omega arith; any = omega arith })
       (Syntax x.at (AtToken x.at us x (begins_at text pieces us x vs at rest t.reads e) c.some none))
 
   -- a token, no integer, with which something goes on, but nothing that has so few constructs open
   pub deep_first : (text : List ℕ) (pieces : List Piece) (at : ℕ) (rest : List ℕ) (names : Texts) (us : List Piece) (x : Piece) (vs : List Piece) → ReadText d text pieces at rest names
-      → pieces ≡ us ++ (x ∷ vs) → Clear d Derives us → (kind_of d x.bytes ≡ Some Digits → ⊥) → Viable Derives anywhere (us ++ x ∷ []) → (Viable Derives at_most_200 (us ++ x ∷ []) → ⊥) → IsFirstUnread d Derives text 4 x.at
+      → pieces ≡ us ++ (x ∷ vs) → Clear d Derives us → (kind_of d x.bytes ≡ Some Digits → ⊥) → Viable Derives unlimited_nesting (us ++ x ∷ []) → (Viable Derives at_most_200 (us ++ x ∷ []) → ⊥) → IsFirstUnread d Derives text 4 x.at
   deep_first text pieces at rest names us x vs t e c opening some none =
       at_token text pieces at rest names us x vs 4 t e c (record { syntax = λ f. absurd (f some); range = λ d. absurd (opening d); any = omega arith })
       (TooDeep x.at (record { before = us; here = x; begins = begins_at text pieces us x vs at rest t.reads e; fits = c.shallow; goes_on = some; too_many = none }))
@@ -248,13 +248,13 @@ module _ {P : Type 0} {d : Dialect} {Derives : Language P} where
 
   -- an integer out of the range, where no integer goes on, and where one does
   pub large_syntax_first : (text : List ℕ) (pieces : List Piece) (at : ℕ) (rest : List ℕ) (names : Texts) (x : Piece) → ReadText d text pieces at rest names → Clear d Derives pieces → Large d text pieces at rest names x
-      → (Viable Derives anywhere (pieces ++ x ∷ []) → ⊥) → IsFirstUnread d Derives text 2 x.at
+      → (Viable Derives unlimited_nesting (pieces ++ x ∷ []) → ⊥) → IsFirstUnread d Derives text 2 x.at
   large_syntax_first text pieces at rest names x t c l none =
       large_broken text pieces at rest names x 2 t c l (record { syntax = λ g. omega arith; range = λ d. omega arith; any = omega arith })
       (Syntax x.at (AtToken x.at pieces x (large_begins text pieces at rest names x l) c.some none))
 
   pub large_range_first : (text : List ℕ) (pieces : List Piece) (at : ℕ) (rest : List ℕ) (names : Texts) (x : Piece) → ReadText d text pieces at rest names → Clear d Derives pieces → Large d text pieces at rest names x
-      → Viable Derives anywhere (pieces ++ x ∷ []) → IsFirstUnread d Derives text 3 x.at
+      → Viable Derives unlimited_nesting (pieces ++ x ∷ []) → IsFirstUnread d Derives text 3 x.at
   large_range_first text pieces at rest names x t c l some =
       large_broken text pieces at rest names x 3 t c l (record { syntax = λ f. absurd (f some); range = λ d. omega arith; any = omega arith })
       (NumberRange x.at (record { before = pieces; here = x; begins = large_begins text pieces at rest names x l; integer = l.digits; outside = l.outside }))
@@ -268,7 +268,7 @@ module _ {P : Type 0} {d : Dialect} {Derives : Language P} where
       }
 
   -- the end of a text, where nothing whole was read
-  pub end_first : (text : List ℕ) (pieces : List Piece) (at : ℕ) (rest : List ℕ) (names : Texts) → ReadText d text pieces at rest names → Clear d Derives pieces → rest ≡ [] → ((p : P) → Derives anywhere p pieces → ⊥) → IsFirstUnread d Derives text 2 at
+  pub end_first : (text : List ℕ) (pieces : List Piece) (at : ℕ) (rest : List ℕ) (names : Texts) → ReadText d text pieces at rest names → Clear d Derives pieces → rest ≡ [] → ((p : P) → Derives unlimited_nesting p pieces → ⊥) → IsFirstUnread d Derives text 2 at
   end_first text pieces at rest names t c e none =
       let q = end_place text pieces at rest t.reads e in
       let tokens : Reads d 0 text pieces (length text) [] = subst (λ v. Reads d 0 text pieces v []) q (subst (λ v. Reads d 0 text pieces at v) e t.reads) in
@@ -282,14 +282,14 @@ module _ {P : Type 0} {d : Dialect} {Derives : Language P} where
       let g = in_full text pieces at rest before here place f begins in
       not_clear pieces before here g.0 k c g.1 broken
 
-  none_broken : (text : List ℕ) (pieces : List Piece) (at : ℕ) (rest : List ℕ) (k' at' : ℕ) → Full d text pieces at rest → length text ≤ 1048576 → rest ≡ [] → Clear d Derives pieces → (p : P) → Derives anywhere p pieces → IsUnread d Derives text k' at' → ⊥
+  none_broken : (text : List ℕ) (pieces : List Piece) (at : ℕ) (rest : List ℕ) (k' at' : ℕ) → Full d text pieces at rest → length text ≤ 1048576 → rest ≡ [] → Clear d Derives pieces → (p : P) → Derives unlimited_nesting p pieces → IsUnread d Derives text k' at' → ⊥
   none_broken text pieces at rest k' at' f short e c p whole (BadByte _ h) = (byte_at_end text pieces at rest at' f h).1.not_end e
   none_broken text pieces at rest k' at' f short e c p whole (Syntax _ (AtToken _ before here begins v h)) = on_piece text pieces at rest before here at' 2 f c begins (NoProgram h)
-  none_broken text pieces at rest k' at' f short e c p whole (Syntax _ (AtEnd own tokens v h)) = h p (subst (Derives anywhere p) (sym (same_pieces text pieces at rest own f tokens)) whole)
+  none_broken text pieces at rest k' at' f short e c p whole (Syntax _ (AtEnd own tokens v h)) = h p (subst (Derives unlimited_nesting p) (sym (same_pieces text pieces at rest own f tokens)) whole)
   none_broken text pieces at rest k' at' f short e c p whole (NumberRange _ h) = on_piece text pieces at rest h.before h.here at' 3 f c h.begins (Outside h.integer h.outside)
   none_broken text pieces at rest k' at' f short e c p whole (TooDeep _ h) = on_piece text pieces at rest h.before h.here at' 4 f c h.begins (Deep h.too_many)
   none_broken text pieces at rest k' at' f short e c p whole (TextTooLong h) = absurd (omega (arith, h, short))
 
   -- A text that was read breaks no rule.
-  pub unbroken : (text : List ℕ) (pieces : List Piece) (at : ℕ) (rest : List ℕ) (names : Texts) (k' at' : ℕ) → ReadText d text pieces at rest names → rest ≡ [] → Clear d Derives pieces → (p : P) → Derives anywhere p pieces → IsUnread d Derives text k' at' → ⊥
+  pub unbroken : (text : List ℕ) (pieces : List Piece) (at : ℕ) (rest : List ℕ) (names : Texts) (k' at' : ℕ) → ReadText d text pieces at rest names → rest ≡ [] → Clear d Derives pieces → (p : P) → Derives unlimited_nesting p pieces → IsUnread d Derives text k' at' → ⊥
   unbroken text pieces at rest names k' at' t e c p whole b = none_broken text pieces at rest k' at' (record { reads = t.reads; stop = inl e }) t.short e c p whole b

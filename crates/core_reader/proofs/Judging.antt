@@ -7,7 +7,7 @@ use Rattle.core_reader.specs.declared.token.Token.TheVariants as word
 use Rattle.core_reader.specs.declared.refusal.ReadRefusal.TheVariants.{Syntax, NumberRange}
 use Rattle.core_reader.specs.Tree.{NoTerms, AndTerm, Expr, Let, NoAlts, AndAlt}
 use Rattle.core_reader.specs.Tree as tree
-use Rattle.core_reader.specs.Grammar.{anywhere, at_most_200}
+use Rattle.core_reader.specs.Grammar.{unlimited_nesting, at_most_200}
 use Rattle.core_reader.specs.Machine.{Cont, Outermost, LetBody, Scrutinee, AltBody, nests, InBody, InBind, Inside, opens, BindName, BindEquals, Ended, Brace, AltStart, AltNames, AltArrow, give, refused, State, Apply, go, done, stop, step, with_last, applied}
 use Rattle.core_reader.proofs.ReadingOf.{IsLast, Verdict, Plain, refused_plain, by_plain, opened, Accepts}
 
@@ -55,7 +55,7 @@ give_large (Scrutinee k) e at p minus h = cc
 give_large (AltBody k s alts q) e at p minus h = cc
 
 -- where an integer out of the range may stand, that number may
-pub large_goes : (s : State) (at p : ℕ) (minus : Bool) (v : ℤ) → step anywhere s at (word.Large minus) ≡ stop (NumberRange p) → (minus ≡ false → (n : ℕ) × (v ≡ pos n)) → Accepts step s at minus v
+pub large_goes : (s : State) (at p : ℕ) (minus : Bool) (v : ℤ) → step unlimited_nesting s at (word.Large minus) ≡ stop (NumberRange p) → (minus ≡ false → (n : ℕ) × (v ≡ pos n)) → Accepts step s at minus v
 large_goes (Apply k held) at p minus v h f = (Apply k (with_last held (tree.Int v at)), refl)
 large_goes (AltStart k s alts) at p minus v h f = (AltArrow k s alts (pattern.Int v at), refl)
 large_goes (BindName k []) at p minus v h f = absurd cc
@@ -72,7 +72,7 @@ give_number Outermost e at p minus v h = absurd cc
 give_number (Scrutinee k) e at p minus v h = h
 give_number (AltBody k s alts q) e at p minus v h = h
 
-pub large_stops : (s : State) (at p : ℕ) (minus : Bool) (v : ℤ) → step anywhere s at (word.Large minus) ≡ stop (Syntax p) → step anywhere s at (word.Number minus v) ≡ stop (Syntax p)
+pub large_stops : (s : State) (at p : ℕ) (minus : Bool) (v : ℤ) → step unlimited_nesting s at (word.Large minus) ≡ stop (Syntax p) → step unlimited_nesting s at (word.Number minus v) ≡ stop (Syntax p)
 large_stops (Apply k held) at p minus v h = absurd cc
 large_stops (AltStart k s alts) at p minus v h = absurd cc
 large_stops (BindName k []) at p minus v h = h
@@ -90,7 +90,7 @@ give_done (Scrutinee k) e at minus v f h = absurd cc
 give_done (AltBody k s alts q) e at minus v f h = absurd cc
 
 -- an expression that is whole before it is whole before that number
-pub large_done : (s : State) (at : ℕ) (minus : Bool) (v : ℤ) (f : Expr) → step anywhere s at (word.Large minus) ≡ done f → step anywhere s at (word.Number minus v) ≡ done f
+pub large_done : (s : State) (at : ℕ) (minus : Bool) (v : ℤ) (f : Expr) → step unlimited_nesting s at (word.Large minus) ≡ done f → step unlimited_nesting s at (word.Number minus v) ≡ done f
 large_done (Apply k held) at minus v f h = absurd cc
 large_done (AltStart k s alts) at minus v f h = absurd cc
 large_done (BindName k []) at minus v f h = absurd cc

@@ -8,19 +8,19 @@ use Rattle.std.specs.List.{list_any, position_or_len}
 use Rattle.std.proofs.lemmas.List.{drop-drop, take_all, append-nil}
 use Rattle.seq.proofs.Lists.{map_push}
 use Rattle.core_reader.specs.declared.dialect.Dialect.{Dialect}
-use Rattle.core_reader.specs.declared.look.Kind.{Kind}
-use Rattle.core_reader.specs.declared.look.Kind.TheVariants.{Lower, Upper, Digits, Sign}
+use Rattle.core_reader.specs.declared.look.TokenKind.{TokenKind}
+use Rattle.core_reader.specs.declared.look.TokenKind.TheVariants.{Lower, Upper, Digits, Sign}
 use Rattle.core_reader.specs.declared.look.Found.{Found}
 use Rattle.core_reader.specs.declared.look.Found.TheVariants as found
 use Rattle.core_reader.specs.declared.token.Token.{Token}
 use Rattle.core_reader.specs.declared.token.Token.TheVariants as word
 use Rattle.core_reader.specs.declared.token.Lexeme.{Lexeme}
 use Rattle.core_reader.specs.Grammar.{lexeme}
-use Rattle.core_reader.specs.LookOf.{looks}
-use Rattle.core_reader.specs.TokensOf.{Piece, Reads, Stops, Passes, Takes, Longest, IsGap, NothingBegins, kind_of}
+use Rattle.core_reader.specs.LookOf.{scanned_token}
+use Rattle.core_reader.specs.TokensOf.{Piece, Reads, Stops, Passes, Takes, Longest, IsSeparator, NothingBegins, kind_of}
 use Rattle.core_reader.specs.WordsOf.{said, said_by, number_in, written_number, digits_from, has_minus, IsInRange}
 use Rattle.core_reader.specs.NamesOf.{names_of, with_name, with_piece, is_numbered_by}
-use Rattle.core_reader.specs.LexedOf.{texts_of, is_large, IsSigned, IsTokenOf, Says, StopsAt, AtEnd, AtBad, AtLarge, AreInRange, IsLexed}
+use Rattle.core_reader.specs.LexedOf.{texts_of, is_large, IsSigned, IsTokenOf, IsTokenOfKind, StopsAt, AtEnd, AtBad, AtLarge, AreInRange, IsLexed}
 use Rattle.core_reader.proofs.Looking.{StandsAtFront, front_stands}
 use Rattle.core_reader.proofs.NamingOf.{Texts, has, itself, fold_append, one_more, each_held, map_grows}
 use Rattle.core_reader.proofs.Proper.{IsProper, proper}
@@ -64,22 +64,22 @@ no_large_said word.Bad h e = cc
 no_large_said word.End h e = cc
 
 module _ (d : Dialect) where
-  pub gap_here : (text : List ℕ) (at : ℕ) (n : ℕ) (r : Found) → r ≡ looks d (take (length text - at) (drop at text)) → r ≡ found.Gap n → IsGap n (drop at text) × (0 < n) × (n ≤ length (drop at text))
-  gap_here text at n r e f = subst (StandsAtFront d (drop at text)) (ap (looks d) (sym (rest_is text at)) ∙ sym e ∙ f) (front_stands d (drop at text))
+  pub gap_here : (text : List ℕ) (at : ℕ) (n : ℕ) (r : Found) → r ≡ scanned_token d (take (length text - at) (drop at text)) → r ≡ found.Gap n → IsSeparator n (drop at text) × (0 < n) × (n ≤ length (drop at text))
+  gap_here text at n r e f = subst (StandsAtFront d (drop at text)) (ap (scanned_token d) (sym (rest_is text at)) ∙ sym e ∙ f) (front_stands d (drop at text))
 
-  pub token_here : (text : List ℕ) (at : ℕ) (n : ℕ) (kind : Kind) (r : Found) → r ≡ looks d (take (length text - at) (drop at text)) → r ≡ found.Token n kind → Longest d n (drop at text) kind × (0 < n)
-  token_here text at n kind r e f = subst (StandsAtFront d (drop at text)) (ap (looks d) (sym (rest_is text at)) ∙ sym e ∙ f) (front_stands d (drop at text))
+  pub token_here : (text : List ℕ) (at : ℕ) (n : ℕ) (kind : TokenKind) (r : Found) → r ≡ scanned_token d (take (length text - at) (drop at text)) → r ≡ found.Token n kind → Longest d n (drop at text) kind × (0 < n)
+  token_here text at n kind r e f = subst (StandsAtFront d (drop at text)) (ap (scanned_token d) (sym (rest_is text at)) ∙ sym e ∙ f) (front_stands d (drop at text))
 
-  pub bad_here : (text : List ℕ) (at : ℕ) (r : Found) → r ≡ looks d (take (length text - at) (drop at text)) → r ≡ found.Bad → NothingBegins d (drop at text)
-  bad_here text at r e f = subst (StandsAtFront d (drop at text)) (ap (looks d) (sym (rest_is text at)) ∙ sym e ∙ f) (front_stands d (drop at text))
+  pub bad_here : (text : List ℕ) (at : ℕ) (r : Found) → r ≡ scanned_token d (take (length text - at) (drop at text)) → r ≡ found.Bad → NothingBegins d (drop at text)
+  bad_here text at r e f = subst (StandsAtFront d (drop at text)) (ap (scanned_token d) (sym (rest_is text at)) ∙ sym e ∙ f) (front_stands d (drop at text))
 
-  pub end_here : (text : List ℕ) (at : ℕ) (r : Found) → r ≡ looks d (take (length text - at) (drop at text)) → r ≡ found.End → drop at text ≡ []
-  end_here text at r e f = subst (StandsAtFront d (drop at text)) (ap (looks d) (sym (rest_is text at)) ∙ sym e ∙ f) (front_stands d (drop at text))
+  pub end_here : (text : List ℕ) (at : ℕ) (r : Found) → r ≡ scanned_token d (take (length text - at) (drop at text)) → r ≡ found.End → drop at text ≡ []
+  end_here text at r e f = subst (StandsAtFront d (drop at text)) (ap (scanned_token d) (sym (rest_is text at)) ∙ sym e ∙ f) (front_stands d (drop at text))
 
   pub start : (text : List ℕ) → Lexing d text 0 [] []
   start text = record { pieces = []; within = omega arith; so_far = λ tail end rest h. h; named = refl; in_range = tt; lexed = refl; counted = omega arith }
 
-  pub on_gap : (text : List ℕ) (at n : ℕ) (lexemes : List Lexeme) (names : Texts) → Lexing d text at lexemes names → IsGap n (drop at text) → Lexing d text (at + n) lexemes names
+  pub on_gap : (text : List ℕ) (at n : ℕ) (lexemes : List Lexeme) (names : Texts) → Lexing d text at lexemes names → IsSeparator n (drop at text) → Lexing d text (at + n) lexemes names
   on_gap text at n lexemes names h gap =
       let w = gap_within (drop at text) n gap in
       record {
@@ -94,7 +94,7 @@ module _ (d : Dialect) where
 
   -- ---- a token
 
-  said_is : (names : Texts) (w : List ℕ) (kind : Kind) (token : Token) → Says d names w kind token → is_large token ≡ false → token ≡ said_by d names w (Some kind)
+  said_is : (names : Texts) (w : List ℕ) (kind : TokenKind) (token : Token) → IsTokenOfKind d names w kind token → is_large token ≡ false → token ≡ said_by d names w (Some kind)
   said_is names w Lower token h e = h
   said_is names w Upper token h e = h
   said_is names w (Sign s) token h e = h
@@ -102,7 +102,7 @@ module _ (d : Dialect) where
   said_is names w Digits (word.Large m) h e = absurd cc
   said_is names w Digits token h e = absurd h
 
-  ranged : (names : Texts) (w : List ℕ) (kind : Kind) (token : Token) → Says d names w kind token → is_large token ≡ false → kind_of d w ≡ Some kind → kind_of d w ≡ Some Digits → IsInRange (written_number w)
+  ranged : (names : Texts) (w : List ℕ) (kind : TokenKind) (token : Token) → IsTokenOfKind d names w kind token → is_large token ≡ false → kind_of d w ≡ Some kind → kind_of d w ≡ Some Digits → IsInRange (written_number w)
   ranged names w Lower token h e f g = absurd cc
   ranged names w Upper token h e f g = absurd cc
   ranged names w (Sign s) token h e f g = absurd cc
@@ -114,7 +114,7 @@ module _ (d : Dialect) where
   range_last [] p h g = (g, tt)
   range_last (q ∷ ps) p h g = (h.0, range_last ps p h.1 g)
 
-  piece_named : (old new : Texts) (w : List ℕ) (at : ℕ) (kind : Kind) → kind_of d w ≡ Some kind → new ≡ (if is_numbered_by d w (Some kind) then with_name old w else old) → new ≡ with_piece d old (record { bytes = w; at = at })
+  piece_named : (old new : Texts) (w : List ℕ) (at : ℕ) (kind : TokenKind) → kind_of d w ≡ Some kind → new ≡ (if is_numbered_by d w (Some kind) then with_name old w else old) → new ≡ with_piece d old (record { bytes = w; at = at })
   piece_named old new w at kind e h = h ∙ ap (λ o. if is_numbered_by d w o then with_name old w else old) (sym e)
 
   longer_by : (b c : Bool) (names : Texts) (w : List ℕ) → length (cond b (cond c names (names ++ w ∷ [])) names) ≤ length names + 1
@@ -125,7 +125,7 @@ module _ (d : Dialect) where
   one_longer : (names : Texts) (p : Piece) → length (with_piece d names p) ≤ length names + 1
   one_longer names p = longer_by _ _ names p.bytes
 
-  pub on_token : (text : List ℕ) (at n : ℕ) (kind : Kind) (token : Token) (lexemes longer : List Lexeme) (names new : Texts) → Lexing d text at lexemes names → Longest d n (drop at text) kind
+  pub on_token : (text : List ℕ) (at n : ℕ) (kind : TokenKind) (token : Token) (lexemes longer : List Lexeme) (names new : Texts) → Lexing d text at lexemes names → Longest d n (drop at text) kind
       → IsTokenOf d names new (take n (drop at text)) kind token → is_large token ≡ false → longer ≡ lexemes ++ lexeme at token ∷ [] → Lexing d text (at + n) longer new
   on_token text at n kind token lexemes longer names new h longest t small e =
       let w = take n (drop at text) in
@@ -173,7 +173,7 @@ module _ (d : Dialect) where
   pub on_end : (text : List ℕ) (at : ℕ) (lexemes longer : List Lexeme) (names : Texts) → Lexing d text at lexemes names → drop at text ≡ [] → longer ≡ lexemes ++ lexeme at word.End ∷ [] → IsLexed d text longer names
   on_end text at lexemes longer names h none e = ends_with text at lexemes longer names (lexeme at word.End) h (AtEnd none) e
 
-  no_large_kind : {A : Type 0} (names : Texts) (w : List ℕ) (kind : Kind) (token : Token) → token ≡ said_by d names w (Some kind) → is_large token ≡ true → A
+  no_large_kind : {A : Type 0} (names : Texts) (w : List ℕ) (kind : TokenKind) (token : Token) → token ≡ said_by d names w (Some kind) → is_large token ≡ true → A
   no_large_kind names w kind token e h = absurd (no_large_said token (subst IsProper (sym e) (proper d names w kind)) h)
 
   large_stops : (text : List ℕ) (at n : ℕ) (names : Texts) (token : Token) → Longest d n (drop at text) Digits → IsSigned (has_minus (take n (drop at text))) (written_number (take n (drop at text))) token → is_large token ≡ true → StopsAt d at (drop at text) (lexeme at token)
@@ -181,7 +181,7 @@ module _ (d : Dialect) where
   large_stops text at n names (word.Number m v) longest s large = absurd cc
   large_stops text at n names token longest s large = absurd s
 
-  pub on_large : (text : List ℕ) (at n : ℕ) (kind : Kind) (token : Token) (lexemes longer : List Lexeme) (names new : Texts) → Lexing d text at lexemes names → Longest d n (drop at text) kind
+  pub on_large : (text : List ℕ) (at n : ℕ) (kind : TokenKind) (token : Token) (lexemes longer : List Lexeme) (names new : Texts) → Lexing d text at lexemes names → Longest d n (drop at text) kind
       → IsTokenOf d names new (take n (drop at text)) kind token → is_large token ≡ true → longer ≡ lexemes ++ lexeme at token ∷ [] → IsLexed d text longer new
   on_large text at n Lower token lexemes longer names new h longest t large e = no_large_kind new (take n (drop at text)) Lower token t.says large
   on_large text at n Upper token lexemes longer names new h longest t large e = no_large_kind new (take n (drop at text)) Upper token t.says large

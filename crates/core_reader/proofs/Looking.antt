@@ -5,17 +5,17 @@ use Rattle.std.proofs.lemmas.Bool.{eqb-true}
 use Rattle.core_reader.specs.declared.dialect.Dialect.{Dialect}
 use Rattle.core_reader.specs.declared.dialect.Dialect.TheVariants as dialect
 use Rattle.core_reader.specs.declared.look.Sign.TheVariants.{Semicolon, Equals, OpenBrace, CloseBrace, Open, Close, Arrow, Backslash, Bar, Colon}
-use Rattle.core_reader.specs.declared.look.Kind.{Kind}
-use Rattle.core_reader.specs.declared.look.Kind.TheVariants.{Lower, Upper, Digits, Sign}
+use Rattle.core_reader.specs.declared.look.TokenKind.{TokenKind}
+use Rattle.core_reader.specs.declared.look.TokenKind.TheVariants.{Lower, Upper, Digits, Sign}
 use Rattle.core_reader.specs.declared.look.Found.{Found}
 use Rattle.core_reader.specs.declared.look.Found.TheVariants.{Gap, Token, Bad, End}
 use Rattle.core_reader.specs.Bytes.{is_space, is_lower, is_upper, is_digit, is_inner, is_in_line}
-use Rattle.core_reader.specs.LookOf.{looks, looks_minus, sign_of, further_sign_of}
-use Rattle.core_reader.specs.TokensOf.{every, kind_of, of_one, sign, further_sign, Longest, IsGap, NothingBegins}
+use Rattle.core_reader.specs.LookOf.{scanned_token, scanned_minus, sign_of, further_sign_of}
+use Rattle.core_reader.specs.TokensOf.{every, kind_of, of_one, sign, further_sign, Longest, IsSeparator, NothingBegins}
 use Rattle.core_reader.proofs.Runs.{len_run, within_run, longest_run, longest_two, longest_one, longest_arrow}
 
 abbrev pub StandsAtFront : Dialect → List ℕ → Found → Type 0
-StandsAtFront d bytes (Gap n) = IsGap n bytes × (0 < n) × (n ≤ length bytes)
+StandsAtFront d bytes (Gap n) = IsSeparator n bytes × (0 < n) × (n ≤ length bytes)
 StandsAtFront d bytes (Token n kind) = Longest d n bytes kind × (0 < n)
 StandsAtFront d bytes Bad = NothingBegins d bytes
 StandsAtFront d bytes End = bytes ≡ []
@@ -27,11 +27,11 @@ true_false A false e f = absurd cc
 not_minus : (b : ℕ) → eqb b 45 ≡ false → b ≡ 45 → ⊥
 not_minus b e h = true_false ⊥ (eqb b 45) (rw h refl) e
 
-no_gap_at : (b : ℕ) (rest : List ℕ) → is_space b ≡ false → eqb b 45 ≡ false → (n : ℕ) → IsGap n (b ∷ rest) → ⊥
+no_gap_at : (b : ℕ) (rest : List ℕ) → is_space b ≡ false → eqb b 45 ≡ false → (n : ℕ) → IsSeparator n (b ∷ rest) → ⊥
 no_gap_at b rest space minus n (inl h) = true_false ⊥ (is_space b) h.0 space
 no_gap_at b rest space minus n (inr h) = not_minus b minus h.1
 
-minus_no_gap : (bs : List ℕ) → ((rest : List ℕ) → bs ≡ 45 ∷ rest → ⊥) → (n : ℕ) → IsGap n (45 ∷ bs) → ⊥
+minus_no_gap : (bs : List ℕ) → ((rest : List ℕ) → bs ≡ 45 ∷ rest → ⊥) → (n : ℕ) → IsSeparator n (45 ∷ bs) → ⊥
 minus_no_gap bs f n (inl h) = absurd (true_false ⊥ (is_space 45) h.0 refl)
 minus_no_gap bs f n (inr h) = f h.0 h.2
 
@@ -50,7 +50,7 @@ module _ (d : Dialect) where
   no_sign b (c ∷ rest) shape e (suc (suc n)) = shape (c ∷ take n rest)
 
   -- a byte that is a sign, and one that begins nothing
-  one_sign : (b : ℕ) (rest : List ℕ) (kind : Kind) → ((bs : List ℕ) → kind_of d (b ∷ bs) ≡ of_one d b bs) → sign d b ≡ Some kind → StandsAtFront d (b ∷ rest) (Token 1 kind)
+  one_sign : (b : ℕ) (rest : List ℕ) (kind : TokenKind) → ((bs : List ℕ) → kind_of d (b ∷ bs) ≡ of_one d b bs) → sign d b ≡ Some kind → StandsAtFront d (b ∷ rest) (Token 1 kind)
   one_sign b rest kind shape e = (longest_one b rest kind (shape [] ∙ e) (λ c bs. shape (c ∷ bs)), omega arith)
 
   nothing : (b : ℕ) (rest : List ℕ) → is_space b ≡ false → eqb b 45 ≡ false → ((bs : List ℕ) → kind_of d (b ∷ bs) ≡ of_one d b bs) → sign d b ≡ None → StandsAtFront d (b ∷ rest) Bad
@@ -107,12 +107,12 @@ module _ (d : Dialect) where
   minus_by c tail false false false e1 e2 e3 =
       record { no_gap = minus_no_gap (c ∷ tail) (λ rest e. not_minus c e1 (head_of c tail rest e)); no_token = minus_no_token c tail e2 e3; not_end = λ e. cc }
 
-  minus45 : (rest : List ℕ) → StandsAtFront d (45 ∷ rest) (looks_minus rest)
+  minus45 : (rest : List ℕ) → StandsAtFront d (45 ∷ rest) (scanned_minus rest)
   minus45 [] = record { no_gap = minus_no_gap [] (λ rest e. cc); no_token = minus_end; not_end = λ e. cc }
   minus45 (c ∷ tail) = minus_by c tail (eqb c 45) (eqb c 62) (is_digit c) refl refl refl
 
-  right_minus : (b : ℕ) (rest : List ℕ) → b ≡ 45 → StandsAtFront d (b ∷ rest) (looks_minus rest)
-  right_minus b rest e = subst (λ x. StandsAtFront d (x ∷ rest) (looks_minus rest)) (sym e) (minus45 rest)
+  right_minus : (b : ℕ) (rest : List ℕ) → b ≡ 45 → StandsAtFront d (b ∷ rest) (scanned_minus rest)
+  right_minus b rest e = subst (λ x. StandsAtFront d (x ∷ rest) (scanned_minus rest)) (sym e) (minus45 rest)
 
   shape_lower : (b : ℕ) → is_lower b ≡ true → (bs : List ℕ) → kind_of d (b ∷ bs) ≡ cond (every is_inner bs) (Some Lower) None
   shape_lower b e bs = rw e refl
@@ -127,7 +127,7 @@ module _ (d : Dialect) where
   shape_sign b e f g h bs = rw (e, f, g, h) refl
 
   chosen : (b : ℕ) (rest : List ℕ) (s lo up di mi : Bool) → is_space b ≡ s → is_lower b ≡ lo → is_upper b ≡ up → is_digit b ≡ di → eqb b 45 ≡ mi
-      → StandsAtFront d (b ∷ rest) (cond s (Gap 1) (cond lo (Token (1 + length (take_while is_inner rest)) Lower) (cond up (Token (1 + length (take_while is_inner rest)) Upper) (cond di (Token (1 + length (take_while is_digit rest)) Digits) (cond mi (looks_minus rest) (sign_of d b))))))
+      → StandsAtFront d (b ∷ rest) (cond s (Gap 1) (cond lo (Token (1 + length (take_while is_inner rest)) Lower) (cond up (Token (1 + length (take_while is_inner rest)) Upper) (cond di (Token (1 + length (take_while is_digit rest)) Digits) (cond mi (scanned_minus rest) (sign_of d b))))))
   chosen b rest true lo up di mi es el eu ed em = (inl (es, refl), omega arith, omega arith)
   chosen b rest false true up di mi es el eu ed em = (longest_run b rest is_inner Lower (shape_lower b el), omega arith)
   chosen b rest false false true di mi es el eu ed em = (longest_run b rest is_inner Upper (shape_upper b el eu), omega arith)
@@ -135,6 +135,6 @@ module _ (d : Dialect) where
   chosen b rest false false false false true es el eu ed em = right_minus b rest (eqb-true b 45 em)
   chosen b rest false false false false false es el eu ed em = signs b rest es em (shape_sign b el eu ed em)
 
-  pub front_stands : (bytes : List ℕ) → StandsAtFront d bytes (looks d bytes)
+  pub front_stands : (bytes : List ℕ) → StandsAtFront d bytes (scanned_token d bytes)
   front_stands [] = refl
   front_stands (b ∷ rest) = chosen b rest (is_space b) (is_lower b) (is_upper b) (is_digit b) (eqb b 45) refl refl refl refl refl

@@ -8,13 +8,13 @@ use Rattle.std.proofs.lemmas.List.Folds.{list_any-append}
 use Rattle.std.proofs.lemmas.Slice.Eq.{bytes_eq-Decides}
 use Rattle.seq.proofs.Truth.{or_true, or_left}
 use Rattle.core_reader.specs.declared.dialect.Dialect.{Dialect}
-use Rattle.core_reader.specs.declared.look.Kind.{Kind}
-use Rattle.core_reader.specs.declared.look.Kind.TheVariants.{Lower, Upper, Digits, Sign}
+use Rattle.core_reader.specs.declared.look.TokenKind.{TokenKind}
+use Rattle.core_reader.specs.declared.look.TokenKind.TheVariants.{Lower, Upper, Digits, Sign}
 use Rattle.core_reader.specs.declared.token.Token.{Token}
 use Rattle.core_reader.specs.declared.token.Token.TheVariants as word
 use Rattle.core_reader.specs.Grammar.{lexeme, name_id}
 use Rattle.core_reader.specs.TokensOf.{Piece, kind_of}
-use Rattle.core_reader.specs.WordsOf.{said, said_by, said_by_letters, keyword_of, number_in}
+use Rattle.core_reader.specs.WordsOf.{said, said_by, keyword_or_name, keyword_of, number_in}
 use Rattle.core_reader.specs.NamesOf.{with_piece, names_of, is_numbered, is_numbered_by}
 
 abbrev pub Texts : Type 0
@@ -58,7 +58,7 @@ pub number_grows : (w : List ℕ) (names more : Texts) → has names w ≡ true 
 number_grows w [] more h = absurd cc
 number_grows w (v ∷ names) more h = first_by (bytes_eq w v) (has names w) (number_in (names ++ more) w) (number_in names w) h (number_grows w names more)
 
-letters_grow : (names more : Texts) (w : List ℕ) (o : Option Token) → (is_none o ≡ true → has names w ≡ true) → said_by_letters (names ++ more) w o ≡ said_by_letters names w o
+letters_grow : (names more : Texts) (w : List ℕ) (o : Option Token) → (is_none o ≡ true → has names w ≡ true) → keyword_or_name (names ++ more) w o ≡ keyword_or_name names w o
 letters_grow names more w (Some token) h = refl
 letters_grow names more w None h = ap (λ n. word.Name (name_id n)) (number_grows w names more (h refl))
 
@@ -83,7 +83,7 @@ module _ (d : Dialect) where
   pub held_more : (names more : Texts) (p : Piece) → Held d names p → Held d (names ++ more) p
   held_more names more p h g = has_more names more p.bytes (h g)
 
-  said_by_grows : (names more : Texts) (w : List ℕ) (kind : Option Kind) → (is_numbered_by d w kind ≡ true → has names w ≡ true) → said_by d (names ++ more) w kind ≡ said_by d names w kind
+  said_by_grows : (names more : Texts) (w : List ℕ) (kind : Option TokenKind) → (is_numbered_by d w kind ≡ true → has names w ≡ true) → said_by d (names ++ more) w kind ≡ said_by d names w kind
   said_by_grows names more w None h = refl
   said_by_grows names more w (Some Lower) h = letters_grow names more w (keyword_of d w) h
   said_by_grows names more w (Some Upper) h = ap (λ n. word.Con (name_id n)) (number_grows w names more (h refl))

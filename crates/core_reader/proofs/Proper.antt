@@ -2,14 +2,14 @@
 use Rattle.std.proofs.Common.{◌≡◌, ℕ, Bool, true, false, cond, List, Option, Some, None, sym, subst}
 use Rattle.core_reader.specs.declared.dialect.Dialect.{Dialect}
 use Rattle.core_reader.specs.declared.dialect.Dialect.TheVariants as dialect
-use Rattle.core_reader.specs.declared.look.Kind.{Kind}
-use Rattle.core_reader.specs.declared.look.Kind.TheVariants.{Lower, Upper, Digits, Sign}
+use Rattle.core_reader.specs.declared.look.TokenKind.{TokenKind}
+use Rattle.core_reader.specs.declared.look.TokenKind.TheVariants.{Lower, Upper, Digits, Sign}
 use Rattle.core_reader.specs.declared.look.Sign.TheVariants as signs
 use Rattle.core_reader.specs.declared.token.Token.{Token}
 use Rattle.core_reader.specs.declared.token.Token.TheVariants as word
 use Rattle.core_reader.specs.declared.token.Further.TheVariants as further
 use Rattle.core_reader.specs.TokensOf.{Piece, kind_of}
-use Rattle.core_reader.specs.WordsOf.{said, said_by, said_by_letters, sign_token, keyword_of, further_keyword_of}
+use Rattle.core_reader.specs.WordsOf.{said, said_by, keyword_or_name, sign_token, keyword_of, further_keyword_of}
 
 abbrev pub IsProper : Token → Type 0
 IsProper (word.Large minus) = ⊥
@@ -82,22 +82,22 @@ keyword_by false false false false false more h = h
 pub keyword_is_word : (d : Dialect) (w : List ℕ) → IsKeyword (keyword_of d w)
 keyword_is_word d w = keyword_by _ _ _ _ _ (further_keyword_of d w) (further_is_word d w)
 
-letters_proper : (names : List (List ℕ)) (w : List ℕ) (keyword : Option Token) → IsKeyword keyword → IsProper (said_by_letters names w keyword)
+letters_proper : (names : List (List ℕ)) (w : List ℕ) (keyword : Option Token) → IsKeyword keyword → IsProper (keyword_or_name names w keyword)
 letters_proper names w (Some token) h = word_proper token h
 letters_proper names w None h = tt
 
 module _ (d : Dialect) where
-  pub proper : (names : List (List ℕ)) (w : List ℕ) (kind : Kind) → IsProper (said_by d names w (Some kind))
+  pub proper : (names : List (List ℕ)) (w : List ℕ) (kind : TokenKind) → IsProper (said_by d names w (Some kind))
   proper names w Lower = letters_proper names w (keyword_of d w) (keyword_is_word d w)
   proper names w Upper = tt
   proper names w Digits = tt
   proper names w (Sign s) = word_proper (sign_token s) (sign_is_word s)
 
-  no_end_by : (names : List (List ℕ)) (w : List ℕ) (kind : Option Kind) → said_by d names w kind ≡ word.End → ⊥
+  no_end_by : (names : List (List ℕ)) (w : List ℕ) (kind : Option TokenKind) → said_by d names w kind ≡ word.End → ⊥
   no_end_by names w None e = cc
   no_end_by names w (Some kind) e = subst IsProper e (proper names w kind)
 
-  no_large_by : (names : List (List ℕ)) (w : List ℕ) (kind : Option Kind) (minus : Bool) → said_by d names w kind ≡ word.Large minus → ⊥
+  no_large_by : (names : List (List ℕ)) (w : List ℕ) (kind : Option TokenKind) (minus : Bool) → said_by d names w kind ≡ word.Large minus → ⊥
   no_large_by names w None minus e = cc
   no_large_by names w (Some kind) minus e = subst IsProper e (proper names w kind)
 
@@ -107,5 +107,5 @@ module _ (d : Dialect) where
   pub no_large : (names : List (List ℕ)) (x : Piece) (minus : Bool) → (said d names x).token ≡ word.Large minus → ⊥
   no_large names x minus e = no_large_by names x.bytes (kind_of d x.bytes) minus e
 
-  pub no_bad : (names : List (List ℕ)) (w : List ℕ) (kind : Kind) → kind_of d w ≡ Some kind → said_by d names w (kind_of d w) ≡ word.Bad → ⊥
+  pub no_bad : (names : List (List ℕ)) (w : List ℕ) (kind : TokenKind) → kind_of d w ≡ Some kind → said_by d names w (kind_of d w) ≡ word.Bad → ⊥
   no_bad names w kind e h = subst IsProper h (subst (λ o. IsProper (said_by d names w o)) (sym e) (proper names w kind))

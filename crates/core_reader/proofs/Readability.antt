@@ -13,21 +13,21 @@ use Rattle.core_reader.specs.declared.dialect.Dialect.TheVariants.{Core}
 use Rattle.core_reader.specs.declared.syntax.Binder.{Binder}
 use Rattle.core_reader.specs.declared.syntax.Pattern.{Pattern}
 use Rattle.core_reader.specs.declared.syntax.Pattern.TheVariants as pattern
-use Rattle.core_reader.specs.declared.look.Kind.{Kind}
-use Rattle.core_reader.specs.declared.look.Kind.TheVariants.{Lower, Upper, Digits, Sign}
+use Rattle.core_reader.specs.declared.look.TokenKind.{TokenKind}
+use Rattle.core_reader.specs.declared.look.TokenKind.TheVariants.{Lower, Upper, Digits, Sign}
 use Rattle.core_reader.specs.declared.token.Token.{Token}
 use Rattle.core_reader.specs.declared.token.Token.TheVariants as word
 use Rattle.core_reader.specs.declared.token.Lexeme.{Lexeme}
 use Rattle.core_reader.specs.Tree.{Term, Terms, NoTerms, AndTerm, Application, Bind, Expr, App, Let, Case, Alts, NoAlts, AndAlt, Data, Function, Program}
 use Rattle.core_reader.specs.Tree as tree
-use Rattle.core_reader.specs.Grammar.{Room, lexeme, SpellsTerm, SpellsTerms, SpellsApp, binders, SpellsBind, SpellsBinds, SpellsPattern, SpellsExpr, SpellsAlts, Decl, Declares, Defines, SpellsDecl, SpellsDecls, constructors_of, functions_of}
+use Rattle.core_reader.specs.Grammar.{NestingLimit, lexeme, SpellsTerm, SpellsTerms, SpellsApp, binders, SpellsBind, SpellsBinds, SpellsPattern, SpellsExpr, SpellsAlts, Decl, Declares, Defines, SpellsDecl, SpellsDecls, constructors_of, functions_of}
 use Rattle.core_reader.specs.TokensOf.{Piece, kind_of}
-use Rattle.core_reader.specs.WordsOf.{said, said_by, said_by_letters, keyword_of, sign_token, number_in, written_number, IsInRange}
+use Rattle.core_reader.specs.WordsOf.{said, said_by, keyword_or_name, keyword_of, sign_token, number_in, written_number, IsInRange}
 use Rattle.core_reader.specs.NamesOf.{names_of, with_piece, is_numbered, is_numbered_by}
 use Rattle.core_reader.specs.Programs.{IsProgram}
 use Rattle.core_reader.specs.LexedOf.{AreInRange}
 use Rattle.core_reader.specs.Size.{term_size, terms_size, bind_size, pattern_size, expr_size, alts_size, function_size}
-use Rattle.core_reader.specs.Readable.{IsConstructor, IsTextAt, IsNamed, IsBound, ReadableTerm, ReadableTerms, ReadableApp, ReadableBind, ReadablePattern, ReadableExpr, ReadableAlts, ReadableData, ReadableFunction, AreDifferent, IsReadable}
+use Rattle.core_reader.specs.Readable.{IsConstructor, IsTextAt, IsNamed, IsBound, ReadableTerm, ReadableTerms, ReadableApp, ReadableBind, ReadablePattern, ReadableExpr, ReadableAlts, ReadableData, ReadableFunction, AreDistinct, IsReadable}
 use Rattle.core_reader.proofs.NamingOf.{Texts, has, EachHeld, each_held}
 use Rattle.core_reader.proofs.Proper.{IsWord, IsKeyword, sign_is_word, keyword_is_word}
 use Rattle.core_reader.proofs.Dialects.{no_keyword, lower_in_core, upper_in_core}
@@ -69,11 +69,11 @@ word_known names (word.Con n) h = absurd h
 word_known names (word.Number minus k) h = absurd h
 word_known names token h = tt
 
-letters_known : (d : Dialect) (names : Texts) (w : List ℕ) (o : Option Token) → keyword_of d w ≡ o → IsKeyword o → kind_of d w ≡ Some Lower → (is_none o ≡ true → has names w ≡ true) → KnownToken names (said_by_letters names w o)
+letters_known : (d : Dialect) (names : Texts) (w : List ℕ) (o : Option Token) → keyword_of d w ≡ o → IsKeyword o → kind_of d w ≡ Some Lower → (is_none o ≡ true → has names w ≡ true) → KnownToken names (keyword_or_name names w o)
 letters_known d names w (Some token) e k l h = word_known names token k
 letters_known d names w None e k l h = (w, at_number names w (h refl), (lower_in_core d w l, no_keyword d w e))
 
-known_by : (d : Dialect) (names : Texts) (w : List ℕ) (kind : Option Kind) → kind_of d w ≡ kind → (is_numbered_by d w kind ≡ true → has names w ≡ true) → (kind ≡ Some Digits → IsInRange (written_number w)) → KnownToken names (said_by d names w kind)
+known_by : (d : Dialect) (names : Texts) (w : List ℕ) (kind : Option TokenKind) → kind_of d w ≡ kind → (is_numbered_by d w kind ≡ true → has names w ≡ true) → (kind ≡ Some Digits → IsInRange (written_number w)) → KnownToken names (said_by d names w kind)
 known_by d names w None e h g = tt
 known_by d names w (Some Lower) e h g = letters_known d names w (keyword_of d w) refl (keyword_is_word d w) e h
 known_by d names w (Some Upper) e h g = (w, at_number names w (h refl), upper_in_core d w e)
@@ -87,7 +87,7 @@ known d names (p ∷ ps) h g = (known_by d names p.bytes (kind_of d p.bytes) ref
 -- ---- what the grammar derives from such tokens
 
 mutual
-  pub term_readable : (names : Texts) (l : Room) (d : ℕ) (a : Term) (ts : List Lexeme) → SpellsTerm l d a ts → EachKnown names ts → ReadableTerm names a
+  pub term_readable : (names : Texts) (l : NestingLimit) (d : ℕ) (a : Term) (ts : List Lexeme) → SpellsTerm l d a ts → EachKnown names ts → ReadableTerm names a
   term_readable names l d (tree.Name n at) ts h k = (subst (EachKnown names) h k).0
   term_readable names l d (tree.Con n at) ts h k = (subst (EachKnown names) h k).0
   term_readable names l d (tree.Int v at) ts h k = (subst (EachKnown names) h.1 k).0
@@ -96,25 +96,25 @@ mutual
       let k2 : EachKnown names (h.0 ++ (h.1 ++ close)) = (subst (EachKnown names) h.6 k).1 in
       (term_readable names l (suc d) a h.0 h.4 (front_known names h.0 (h.1 ++ close) k2), terms_readable names l (suc d) xs h.1 h.5 (front_known names h.1 close (back_known names h.0 (h.1 ++ close) k2)))
 
-  pub terms_readable : (names : Texts) (l : Room) (d : ℕ) (xs : Terms) (ts : List Lexeme) → SpellsTerms l d xs ts → EachKnown names ts → ReadableTerms names xs
+  pub terms_readable : (names : Texts) (l : NestingLimit) (d : ℕ) (xs : Terms) (ts : List Lexeme) → SpellsTerms l d xs ts → EachKnown names ts → ReadableTerms names xs
   terms_readable names l d NoTerms ts h k = tt
   terms_readable names l d (AndTerm a xs) ts h k =
       let k2 = subst (EachKnown names) h.4 k in
       (term_readable names l d a h.0 h.2 (front_known names h.0 h.1 k2), terms_readable names l d xs h.1 h.3 (back_known names h.0 h.1 k2))
 
-app_readable : (names : Texts) (l : Room) (d : ℕ) (app : Application) (ts : List Lexeme) → SpellsApp l d app ts → EachKnown names ts → ReadableApp names app
+app_readable : (names : Texts) (l : NestingLimit) (d : ℕ) (app : Application) (ts : List Lexeme) → SpellsApp l d app ts → EachKnown names ts → ReadableApp names app
 app_readable names l d app ts h k = terms_readable names l d (AndTerm app.head app.args) ts h k
 
 pub binders_readable : (names : Texts) (bs : List Binder) → EachKnown names (binders bs) → All (IsBound names) bs
 binders_readable names [] k = All-nil (IsBound names)
 binders_readable names (b ∷ bs) k = All-cons (IsBound names) b bs k.0 (binders_readable names bs k.1)
 
-pub bind_readable : (names : Texts) (l : Room) (d : ℕ) (b : Bind) (ts : List Lexeme) → SpellsBind l d b ts → EachKnown names ts → ReadableBind names b
+pub bind_readable : (names : Texts) (l : NestingLimit) (d : ℕ) (b : Bind) (ts : List Lexeme) → SpellsBind l d b ts → EachKnown names ts → ReadableBind names b
 bind_readable names l d b ts h k =
     let k2 = subst (EachKnown names) h.3 k in
     (k2.0, app_readable names l d b.app h.1 h.2 k2.1.1)
 
-pub binds_readable : (names : Texts) (l : Room) (d : ℕ) (bs : List Bind) (ts : List Lexeme) → SpellsBinds l d bs ts → EachKnown names ts → All (ReadableBind names) bs
+pub binds_readable : (names : Texts) (l : NestingLimit) (d : ℕ) (bs : List Bind) (ts : List Lexeme) → SpellsBinds l d bs ts → EachKnown names ts → All (ReadableBind names) bs
 binds_readable names l d [] ts h k = All-nil (ReadableBind names)
 binds_readable names l d (b ∷ bs) ts h k =
     let k2 = subst (EachKnown names) h.6 k in
@@ -126,7 +126,7 @@ pattern_readable names (pattern.Int v at) ts h k = (subst (EachKnown names) h.1 
 pattern_readable names (pattern.Default x) ts h k = (subst (EachKnown names) h k).0
 
 mutual
-  pub expr_readable : (names : Texts) (l : Room) (d : ℕ) (e : Expr) (ts : List Lexeme) → SpellsExpr l d e ts → EachKnown names ts → ReadableExpr names e
+  pub expr_readable : (names : Texts) (l : NestingLimit) (d : ℕ) (e : Expr) (ts : List Lexeme) → SpellsExpr l d e ts → EachKnown names ts → ReadableExpr names e
   expr_readable names l d (App app) ts h k = app_readable names l d app ts h k
   expr_readable names l d (Let group e) ts h k =
       let rest = lexeme h.1 word.In ∷ h.3 in
@@ -139,7 +139,7 @@ mutual
       let k3 = back_known names h.4 rest k2 in
       (h.7, expr_readable names l (suc d) e h.4 h.8 (front_known names h.4 rest k2), alts_readable names l (suc d) alts h.5 h.9 (front_known names h.5 close k3.1.1))
 
-  pub alts_readable : (names : Texts) (l : Room) (d : ℕ) (xs : Alts) (ts : List Lexeme) → SpellsAlts l d xs ts → EachKnown names ts → ReadableAlts names xs
+  pub alts_readable : (names : Texts) (l : NestingLimit) (d : ℕ) (xs : Alts) (ts : List Lexeme) → SpellsAlts l d xs ts → EachKnown names ts → ReadableAlts names xs
   alts_readable names l d NoAlts ts h k = tt
   alts_readable names l d (AndAlt p e xs) ts h k =
       let rest2 = h.2 ++ h.3 in
@@ -156,7 +156,7 @@ abbrev pub EachReadable : Texts → List Decl → Type 0
 EachReadable names [] = Unit {0}
 EachReadable names (d ∷ ds) = ReadableDecl names d × EachReadable names ds
 
-pub decl_readable : (names : Texts) (l : Room) (d : Decl) (ts : List Lexeme) → SpellsDecl l d ts → EachKnown names ts → ReadableDecl names d
+pub decl_readable : (names : Texts) (l : NestingLimit) (d : Decl) (ts : List Lexeme) → SpellsDecl l d ts → EachKnown names ts → ReadableDecl names d
 decl_readable names l (Declares d) ts h k =
     let k2 = subst (EachKnown names) h.3 k in
     let r : IsInRange (pos d.fields) = k2.1.1.0 in
@@ -168,7 +168,7 @@ decl_readable names l (Defines f) ts h k =
     let k3 = back_known names (binders f.params) rest k2.1 in
     (k2.0, binders_readable names f.params (front_known names (binders f.params) rest k2.1), expr_readable names l 0 f.body h.2 h.3 (front_known names h.2 close k3.1))
 
-decls_readable : (names : Texts) (l : Room) (ds : List Decl) (ts : List Lexeme) → SpellsDecls l ds ts → EachKnown names ts → EachReadable names ds
+decls_readable : (names : Texts) (l : NestingLimit) (ds : List Decl) (ts : List Lexeme) → SpellsDecls l ds ts → EachKnown names ts → EachReadable names ds
 decls_readable names l [] ts h k = tt
 decls_readable names l (d ∷ ds) ts h k =
     let k2 = subst (EachKnown names) h.4 k in
@@ -193,25 +193,25 @@ either false c e = (refl, e)
 other : (w v : List ℕ) → bytes_eq w v ≡ false → w ≢ v
 other w v e f = let t : bytes_eq w v ≡ true = (bytes_eq-Decides w v).1 f in absurd cc
 
-new_last : (names : Texts) (w : List ℕ) → AreDifferent names → has names w ≡ false → AreDifferent (names ++ w ∷ [])
+new_last : (names : Texts) (w : List ℕ) → AreDistinct names → has names w ≡ false → AreDistinct (names ++ w ∷ [])
 new_last [] w d h = (All-nil (λ v. v ≢ w), tt)
 new_last (v ∷ names) w d h =
     let e = either (bytes_eq w v) (has names w) h in
     (All-push (λ u. u ≢ v) names w d.0 (other w v e.0), new_last names w d.1 e.1)
 
-different_by : (b c : Bool) (names : Texts) (w : List ℕ) → AreDifferent names → has names w ≡ c → AreDifferent (cond b (cond c names (names ++ w ∷ [])) names)
+different_by : (b c : Bool) (names : Texts) (w : List ℕ) → AreDistinct names → has names w ≡ c → AreDistinct (cond b (cond c names (names ++ w ∷ [])) names)
 different_by true true names w d e = d
 different_by true false names w d e = new_last names w d e
 different_by false c names w d e = d
 
-pub different_from : (d : Dialect) (names : Texts) (ps : List Piece) → AreDifferent names → AreDifferent (fold (with_piece d) names ps)
+pub different_from : (d : Dialect) (names : Texts) (ps : List Piece) → AreDistinct names → AreDistinct (fold (with_piece d) names ps)
 different_from d names [] h = h
 different_from d names (p ∷ ps) h = different_from d (with_piece d names p) ps (different_by (is_numbered d p) (has names p.bytes) names p.bytes h refl)
 
 -- ---- the size is at most the number of tokens
 
 mutual
-  term_small : (l : Room) (d : ℕ) (a : Term) (ts : List Lexeme) → SpellsTerm l d a ts → term_size a ≤ length ts
+  term_small : (l : NestingLimit) (d : ℕ) (a : Term) (ts : List Lexeme) → SpellsTerm l d a ts → term_size a ≤ length ts
   term_small l d (tree.Name n at) ts h = omega (arith, ap length h)
   term_small l d (tree.Con n at) ts h = omega (arith, ap length h)
   term_small l d (tree.Int v at) ts h = omega (arith, ap length h.1)
@@ -221,24 +221,24 @@ mutual
       let e2 = terms_small l (suc d) xs h.1 h.5 in
       omega (arith, e1, e2, ap length h.6, length-append h.0 (h.1 ++ close), length-append h.1 close)
 
-  terms_small : (l : Room) (d : ℕ) (xs : Terms) (ts : List Lexeme) → SpellsTerms l d xs ts → terms_size xs ≤ length ts
+  terms_small : (l : NestingLimit) (d : ℕ) (xs : Terms) (ts : List Lexeme) → SpellsTerms l d xs ts → terms_size xs ≤ length ts
   terms_small l d NoTerms ts h = omega arith
   terms_small l d (AndTerm a xs) ts h =
       let e1 = term_small l d a h.0 h.2 in
       let e2 = terms_small l d xs h.1 h.3 in
       omega (arith, e1, e2, ap length h.4, length-append h.0 h.1)
 
-app_small : (l : Room) (d : ℕ) (app : Application) (ts : List Lexeme) → SpellsApp l d app ts → term_size app.head + terms_size app.args ≤ length ts
+app_small : (l : NestingLimit) (d : ℕ) (app : Application) (ts : List Lexeme) → SpellsApp l d app ts → term_size app.head + terms_size app.args ≤ length ts
 app_small l d app ts h = terms_small l d (AndTerm app.head app.args) ts h
 
 pub binders_length : (bs : List Binder) → length (binders bs) ≡ length bs
 binders_length [] = refl
 binders_length (b ∷ bs) = ap suc (binders_length bs)
 
-bind_small : (l : Room) (d : ℕ) (b : Bind) (ts : List Lexeme) → SpellsBind l d b ts → bind_size b ≤ length ts
+bind_small : (l : NestingLimit) (d : ℕ) (b : Bind) (ts : List Lexeme) → SpellsBind l d b ts → bind_size b ≤ length ts
 bind_small l d b ts h = let e = app_small l d b.app h.1 h.2 in omega (arith, e, ap length h.3)
 
-binds_small : (l : Room) (d : ℕ) (bs : List Bind) (ts : List Lexeme) → SpellsBinds l d bs ts → sum_by bind_size bs ≤ length ts
+binds_small : (l : NestingLimit) (d : ℕ) (bs : List Bind) (ts : List Lexeme) → SpellsBinds l d bs ts → sum_by bind_size bs ≤ length ts
 binds_small l d [] ts h = omega arith
 binds_small l d (b ∷ bs) ts h =
     let e1 = bind_small l d b h.0 h.3 in
@@ -252,7 +252,7 @@ pattern_small (pattern.Int v at) ts h = omega (arith, ap length h.1)
 pattern_small (pattern.Default x) ts h = omega (arith, ap length h)
 
 mutual
-  pub expr_small : (l : Room) (d : ℕ) (e : Expr) (ts : List Lexeme) → SpellsExpr l d e ts → expr_size e ≤ length ts
+  pub expr_small : (l : NestingLimit) (d : ℕ) (e : Expr) (ts : List Lexeme) → SpellsExpr l d e ts → expr_size e ≤ length ts
   expr_small l d (App app) ts h = app_small l d app ts h
   expr_small l d (Let group e) ts h =
       let e1 = binds_small l (suc d) group h.2 h.6 in
@@ -264,7 +264,7 @@ mutual
       let e2 = alts_small l (suc d) alts h.5 h.9 in
       omega (arith, e1, e2, ap length h.10, length-append h.4 (lexeme h.1 word.Of ∷ lexeme h.2 word.OpenBrace ∷ (h.5 ++ close)), length-append h.5 close)
 
-  pub alts_small : (l : Room) (d : ℕ) (xs : Alts) (ts : List Lexeme) → SpellsAlts l d xs ts → alts_size xs ≤ length ts
+  pub alts_small : (l : NestingLimit) (d : ℕ) (xs : Alts) (ts : List Lexeme) → SpellsAlts l d xs ts → alts_size xs ≤ length ts
   alts_small l d NoAlts ts h = omega arith
   alts_small l d (AndAlt p e xs) ts h =
       let e1 = pattern_small p h.0 h.5 in
@@ -272,7 +272,7 @@ mutual
       let e3 = alts_small l d xs h.3 h.8 in
       omega (arith, e1, e2, e3, ap length h.9, length-append h.0 (lexeme h.4 word.Arrow ∷ (h.1 ++ (h.2 ++ h.3))), length-append h.1 (h.2 ++ h.3), length-append h.2 h.3)
 
-decls_small : (l : Room) (ds : List Decl) (ts : List Lexeme) → SpellsDecls l ds ts → 2 * length (constructors_of ds) + sum_by function_size (functions_of ds) ≤ length ts
+decls_small : (l : NestingLimit) (ds : List Decl) (ts : List Lexeme) → SpellsDecls l ds ts → 2 * length (constructors_of ds) + sum_by function_size (functions_of ds) ≤ length ts
 decls_small l [] ts h = omega arith
 decls_small l (Declares d ∷ ds) ts h =
     let e = decls_small l ds h.1 h.3 in
@@ -290,7 +290,7 @@ map_length d names [] = refl
 map_length d names (p ∷ ps) = ap suc (map_length d names ps)
 
 -- Declarations among the tokens of a text of any dialect are readable.
-pub readable_in : (d : Dialect) (l : Room) (p : Program) (ds : List Decl) (pieces : List Piece) (us ts vs : List Lexeme) → p.names ≡ names_of d pieces → constructors_of ds ≡ p.constructors → functions_of ds ≡ p.functions → SpellsDecls l ds ts
+pub readable_in : (d : Dialect) (l : NestingLimit) (p : Program) (ds : List Decl) (pieces : List Piece) (us ts vs : List Lexeme) → p.names ≡ names_of d pieces → constructors_of ds ≡ p.constructors → functions_of ds ≡ p.functions → SpellsDecls l ds ts
     → map (said d p.names) pieces ≡ us ++ (ts ++ vs) → AreInRange d pieces → length pieces < 2 ^ 64 → IsReadable p
 readable_in d l p ds pieces us ts vs named constructors functions spelled whole small short =
     let held : EachHeld d p.names pieces = subst (λ v. EachHeld d v pieces) (sym named) (each_held d [] pieces) in
@@ -298,13 +298,13 @@ readable_in d l p ds pieces us ts vs named constructors functions spelled whole 
     let r = decls_readable p.names l ds ts spelled (front_known p.names ts vs (back_known p.names us (ts ++ vs) each)) in
     let s = decls_small l ds ts spelled in
     record {
-      different = subst AreDifferent (sym named) (different_from d [] pieces tt);
+      different = subst AreDistinct (sym named) (different_from d [] pieces tt);
       constructors = subst (All (ReadableData p.names)) constructors (constructors_readable p.names ds r);
       functions = subst (All (ReadableFunction p.names)) functions (functions_readable p.names ds r);
       size = subst (λ v. v < 2 ^ 64) (λ i. 2 * length (constructors i) + sum_by function_size (functions i)) (omega (arith, s, short, map_length d p.names pieces, ap length whole, length-append us (ts ++ vs), length-append ts vs));
     }
 
-pub readable : (l : Room) (p : Program) (pieces : List Piece) → IsProgram l p pieces → AreInRange Core pieces → length pieces < 2 ^ 64 → IsReadable p
+pub readable : (l : NestingLimit) (p : Program) (pieces : List Piece) → IsProgram l p pieces → AreInRange Core pieces → length pieces < 2 ^ 64 → IsReadable p
 readable l p pieces h small short =
     let ts = map (said Core p.names) pieces in
     readable_in Core l p h.decls pieces [] ts [] h.names h.constructors h.functions h.spelled (sym (append-nil ts)) small short

@@ -11,7 +11,7 @@ use Rattle.core_reader.specs.declared.token.Token.TheVariants as word
 use Rattle.core_reader.specs.declared.token.Lexeme.{Lexeme}
 use Rattle.core_reader.specs.declared.refusal.ReadRefusal.{ReadRefusal}
 use Rattle.core_reader.specs.declared.refusal.ReadRefusal.TheVariants.{BadByte, Syntax, NumberRange, TooDeep, TextTooLong, Memory}
-use Rattle.core_reader.specs.Grammar.{Room, anywhere, at_most_200, lexeme, binders}
+use Rattle.core_reader.specs.Grammar.{NestingLimit, unlimited_nesting, at_most_200, lexeme, binders}
 use Rattle.core_reader.specs.TokensOf.{Piece}
 use Rattle.core_reader.specs.WordsOf.{said}
 use Rattle.core_reader.specs.NamesOf.{names_of}
@@ -38,7 +38,7 @@ abbrev pub ended : Dialect → Texts → List Piece → List Lexeme
 ended d names us = map (said d names) us ++ lexeme 0 word.End ∷ []
 
 -- What was read is what the next state knows, or spells what is answered.
-abbrev pub Good : {S A : Type 0} → (Room → S → List Lexeme → Type 0) → (Room → A → List Lexeme → Type 0) → Room → Step S A → List Lexeme → Type 0
+abbrev pub Good : {S A : Type 0} → (NestingLimit → S → List Lexeme → Type 0) → (NestingLimit → A → List Lexeme → Type 0) → NestingLimit → Step S A → List Lexeme → Type 0
 Good Consumed Spells l (go s) ts = Consumed l s ts
 Good Consumed Spells l (done a) ts = (us : List Lexeme) × (end : ℕ) × Spells l a us × (ts ≡ us ++ lexeme end word.End ∷ [])
 Good Consumed Spells l (stop e) ts = Unit {0}
@@ -46,12 +46,12 @@ Good Consumed Spells l (stop e) ts = Unit {0}
 -- ---- what the other limits do at a step of the reading
 
 abbrev pub Verdict : {S A : Type 0} → Steps S A → S → ℕ → Token → Step S A → Type 0
-Verdict step s at token (go next) = step anywhere s at token ≡ go next
-Verdict step s at token (done a) = step anywhere s at token ≡ done a
+Verdict step s at token (go next) = step unlimited_nesting s at token ≡ go next
+Verdict step s at token (done a) = step unlimited_nesting s at token ≡ done a
 Verdict step s at token (stop (BadByte p)) = (at ≡ p) × (token ≡ word.Bad)
-Verdict step s at token (stop (Syntax p)) = (at ≡ p) × (step anywhere s at token ≡ stop (Syntax p)) × (token ≡ word.Bad → ⊥)
-Verdict step s at token (stop (NumberRange p)) = (at ≡ p) × (minus : Bool) × (token ≡ word.Large minus) × (step anywhere s at token ≡ stop (NumberRange p))
-Verdict {S = S} step s at token (stop (TooDeep p)) = (at ≡ p) × (next : S) × (step anywhere s at token ≡ go next) × IsOpening token
+Verdict step s at token (stop (Syntax p)) = (at ≡ p) × (step unlimited_nesting s at token ≡ stop (Syntax p)) × (token ≡ word.Bad → ⊥)
+Verdict step s at token (stop (NumberRange p)) = (at ≡ p) × (minus : Bool) × (token ≡ word.Large minus) × (step unlimited_nesting s at token ≡ stop (NumberRange p))
+Verdict {S = S} step s at token (stop (TooDeep p)) = (at ≡ p) × (next : S) × (step unlimited_nesting s at token ≡ go next) × IsOpening token
 Verdict step s at token (stop TextTooLong) = ⊥
 Verdict step s at token (stop (Memory e)) = ⊥
 
@@ -70,7 +70,7 @@ pub refused_plain : (S A : Type 0) (at : ℕ) (token : Token) → Plain {S = S} 
 refused_plain S A at word.Bad = (refl, refl)
 refused_plain S A at token = (refl, λ e. cc)
 
-pub by_plain : {S A : Type 0} (step : Steps S A) (s : S) (at : ℕ) (token : Token) (st : Step S A) → step anywhere s at token ≡ st → Plain at token st → Verdict step s at token st
+pub by_plain : {S A : Type 0} (step : Steps S A) (s : S) (at : ℕ) (token : Token) (st : Step S A) → step unlimited_nesting s at token ≡ st → Plain at token st → Verdict step s at token st
 by_plain step s at token (go next) p h = p
 by_plain step s at token (done a) p h = p
 by_plain step s at token (stop (BadByte q)) p h = h
@@ -80,38 +80,38 @@ by_plain step s at token (stop (TooDeep q)) p h = absurd h
 by_plain step s at token (stop TextTooLong) p h = absurd h
 by_plain step s at token (stop (Memory e)) p h = absurd h
 
-pub opened : {S A : Type 0} (step : Steps S A) (s next : S) (at : ℕ) (token : Token) (b : Bool) → step anywhere s at token ≡ go next → IsOpening token → Verdict step s at token (cond b (go next) (stop (TooDeep at)))
+pub opened : {S A : Type 0} (step : Steps S A) (s next : S) (at : ℕ) (token : Token) (b : Bool) → step unlimited_nesting s at token ≡ go next → IsOpening token → Verdict step s at token (cond b (go next) (stop (TooDeep at)))
 opened step s next at token true p h = p
 opened step s next at token false p h = (refl, next, p, h)
 
 abbrev pub Accepts : {S A : Type 0} → Steps S A → S → ℕ → Bool → ℤ → Type 0
-Accepts {S = S} step s at minus v = (next : S) × (step anywhere s at (word.Number minus v) ≡ go next)
+Accepts {S = S} step s at minus v = (next : S) × (step unlimited_nesting s at (word.Number minus v) ≡ go next)
 
 -- ---- the laws
 
 pub record Laws (d : Dialect) (r : Reading) : Type 1 where
   -- the tokens before a state
-  pub Consumed : Room → r.State → List Lexeme → Type 0
-  pub begins : (l : Room) → Consumed l r.start []
-  pub sound : (l : Room) (s : r.State) (ts : List Lexeme) (at : ℕ) (token : Token) → Consumed l s ts → Good Consumed r.Spells l (r.step l s at token) (ts ++ lexeme at token ∷ [])
+  pub Consumed : NestingLimit → r.State → List Lexeme → Type 0
+  pub begins : (l : NestingLimit) → Consumed l r.start []
+  pub sound : (l : NestingLimit) (s : r.State) (ts : List Lexeme) (at : ℕ) (token : Token) → Consumed l s ts → Good Consumed r.Spells l (r.step l s at token) (ts ++ lexeme at token ∷ [])
   -- tokens that complete what was read
   pub ending : r.State → List Piece
-  pub ends : (names : Texts) (l : Room) (s : r.State) → (a : r.Tree) × (run_of r.step l s (ended d names (ending s)) ≡ Ok a)
-  pub whole : (l : Room) (a : r.Tree) (ts : List Lexeme) (end : ℕ) (rest : List Lexeme) → r.Spells l a ts → run_of r.step l r.start (ts ++ lexeme end word.End ∷ rest) ≡ Ok a
+  pub ends : (names : Texts) (l : NestingLimit) (s : r.State) → (a : r.Tree) × (run_of r.step l s (ended d names (ending s)) ≡ Ok a)
+  pub whole : (l : NestingLimit) (a : r.Tree) (ts : List Lexeme) (end : ℕ) (rest : List Lexeme) → r.Spells l a ts → run_of r.step l r.start (ts ++ lexeme end word.End ∷ rest) ≡ Ok a
   pub judged : (s : r.State) (at : ℕ) (token : Token) → Verdict r.step s at token (r.step at_most_200 s at token)
   -- where an integer out of the range may stand, that number may
-  pub large_goes : (s : r.State) (at p : ℕ) (minus : Bool) (v : ℤ) → r.step anywhere s at (word.Large minus) ≡ stop (NumberRange p) → (minus ≡ false → (n : ℕ) × (v ≡ pos n)) → Accepts r.step s at minus v
-  pub large_stops : (s : r.State) (at p : ℕ) (minus : Bool) (v : ℤ) → r.step anywhere s at (word.Large minus) ≡ stop (Syntax p) → r.step anywhere s at (word.Number minus v) ≡ stop (Syntax p)
+  pub large_goes : (s : r.State) (at p : ℕ) (minus : Bool) (v : ℤ) → r.step unlimited_nesting s at (word.Large minus) ≡ stop (NumberRange p) → (minus ≡ false → (n : ℕ) × (v ≡ pos n)) → Accepts r.step s at minus v
+  pub large_stops : (s : r.State) (at p : ℕ) (minus : Bool) (v : ℤ) → r.step unlimited_nesting s at (word.Large minus) ≡ stop (Syntax p) → r.step unlimited_nesting s at (word.Number minus v) ≡ stop (Syntax p)
   pub last_stays : (s next : r.State) (at : ℕ) (token : Token) → IsLast token → r.step at_most_200 s at token ≡ go next → ⊥
   pub done_last : (s : r.State) (at : ℕ) (token : Token) (a : r.Tree) → r.step at_most_200 s at token ≡ done a → token ≡ word.End
 
 -- The reading reads a language: what the grammar derives from tokens is made of what they spell.
 pub record ReadsLanguage {P : Type 0} (d : Dialect) (r : Reading) (Derives : Language P) : Type 1 where
   pub laws : Laws d r
-  pub tree : (l : Room) (p : P) (ps : List Piece) → Derives l p ps → r.Tree
-  pub spelled : (l : Room) (p : P) (ps : List Piece) (h : Derives l p ps) → r.Spells l (tree l p ps h) (map (said d (names_of d ps)) ps)
-  pub made : (l : Room) (a : r.Tree) (ps : List Piece) → r.Spells l a (map (said d (names_of d ps)) ps) → (p : P) × Derives l p ps
-  pub same : (l : Room) (p q : P) (ps : List Piece) (h : Derives l p ps) (g : Derives l q ps) → tree l p ps h ≡ tree l q ps g → p ≡ q
+  pub tree : (l : NestingLimit) (p : P) (ps : List Piece) → Derives l p ps → r.Tree
+  pub spelled : (l : NestingLimit) (p : P) (ps : List Piece) (h : Derives l p ps) → r.Spells l (tree l p ps h) (map (said d (names_of d ps)) ps)
+  pub made : (l : NestingLimit) (a : r.Tree) (ps : List Piece) → r.Spells l a (map (said d (names_of d ps)) ps) → (p : P) × Derives l p ps
+  pub same : (l : NestingLimit) (p q : P) (ps : List Piece) (h : Derives l p ps) (g : Derives l q ps) → tree l p ps h ≡ tree l q ps g → p ≡ q
 
 -- ---- the names of a list
 

@@ -3,7 +3,7 @@ use Rattle.std.proofs.Common.{◌≡◌, ℕ, zero, suc, ◌+◌, ◌<◌, ◌�
 use Rattle.std.specs.List.{take_while}
 use Rattle.std.proofs.lemmas.List.Sums.{take_while-cons}
 use Rattle.core_reader.specs.declared.dialect.Dialect.{Dialect}
-use Rattle.core_reader.specs.declared.look.Kind.{Kind}
+use Rattle.core_reader.specs.declared.look.TokenKind.{TokenKind}
 use Rattle.core_reader.specs.TokensOf.{every, kind_of, Longest}
 
 pub run : (ℕ → Bool) → List ℕ → ℕ
@@ -48,12 +48,12 @@ past_run p (b ∷ bs) zero lt le = absurd (omega arith)
 past_run p (b ∷ bs) (suc m) lt le = past_if p b bs (run p bs) m (p b) refl (λ h. past_run p bs m h (omega arith)) lt
 
 module _ (d : Dialect) where
-  longer : (b : ℕ) (rest : List ℕ) (p : ℕ → Bool) (kind : Kind) → ((bs : List ℕ) → kind_of d (b ∷ bs) ≡ cond (every p bs) (Some kind) None)
+  longer : (b : ℕ) (rest : List ℕ) (p : ℕ → Bool) (kind : TokenKind) → ((bs : List ℕ) → kind_of d (b ∷ bs) ≡ cond (every p bs) (Some kind) None)
       → (m : ℕ) → suc (run p rest) < m → m ≤ length (b ∷ rest) → kind_of d (take m (b ∷ rest)) ≡ None
   longer b rest p kind shape zero lt le = absurd (omega arith)
   longer b rest p kind shape (suc m) lt le = shape (take m rest) ∙ ap (λ v. cond v (Some kind) None) (past_run p rest m (omega arith) (omega arith))
 
-  longer_two : (b c : ℕ) (rest : List ℕ) (p : ℕ → Bool) (kind : Kind) → ((bs : List ℕ) → kind_of d (b ∷ c ∷ bs) ≡ cond (every p bs) (Some kind) None)
+  longer_two : (b c : ℕ) (rest : List ℕ) (p : ℕ → Bool) (kind : TokenKind) → ((bs : List ℕ) → kind_of d (b ∷ c ∷ bs) ≡ cond (every p bs) (Some kind) None)
       → (m : ℕ) → suc (suc (run p rest)) < m → m ≤ length (b ∷ c ∷ rest) → kind_of d (take m (b ∷ c ∷ rest)) ≡ None
   longer_two b c rest p kind shape zero lt le = absurd (omega arith)
   longer_two b c rest p kind shape (suc zero) lt le = absurd (omega arith)
@@ -74,7 +74,7 @@ module _ (d : Dialect) where
 
 module _ {d : Dialect} where
   -- a token of one byte and a run, and of two bytes and a run
-  pub longest_run : (b : ℕ) (rest : List ℕ) (p : ℕ → Bool) (kind : Kind) → ((bs : List ℕ) → kind_of d (b ∷ bs) ≡ cond (every p bs) (Some kind) None) → Longest d (1 + length (take_while p rest)) (b ∷ rest) kind
+  pub longest_run : (b : ℕ) (rest : List ℕ) (p : ℕ → Bool) (kind : TokenKind) → ((bs : List ℕ) → kind_of d (b ∷ bs) ≡ cond (every p bs) (Some kind) None) → Longest d (1 + length (take_while p rest)) (b ∷ rest) kind
   longest_run b rest p kind shape =
       let n : 1 + length (take_while p rest) ≡ suc (run p rest) = omega (arith, len_run p rest) in
       rw n (record {
@@ -83,7 +83,7 @@ module _ {d : Dialect} where
         no_longer = longer d b rest p kind shape;
       })
 
-  pub longest_two : (b c : ℕ) (rest : List ℕ) (p : ℕ → Bool) (kind : Kind) → ((bs : List ℕ) → kind_of d (b ∷ c ∷ bs) ≡ cond (every p bs) (Some kind) None) → Longest d (2 + length (take_while p rest)) (b ∷ c ∷ rest) kind
+  pub longest_two : (b c : ℕ) (rest : List ℕ) (p : ℕ → Bool) (kind : TokenKind) → ((bs : List ℕ) → kind_of d (b ∷ c ∷ bs) ≡ cond (every p bs) (Some kind) None) → Longest d (2 + length (take_while p rest)) (b ∷ c ∷ rest) kind
   longest_two b c rest p kind shape =
       let n : 2 + length (take_while p rest) ≡ suc (suc (run p rest)) = omega (arith, len_run p rest) in
       rw n (record {
@@ -93,8 +93,8 @@ module _ {d : Dialect} where
       })
 
   -- a token of these bytes, where no longer one begins so
-  pub longest_one : (b : ℕ) (rest : List ℕ) (kind : Kind) → kind_of d (b ∷ []) ≡ Some kind → ((c : ℕ) (bs : List ℕ) → kind_of d (b ∷ c ∷ bs) ≡ None) → Longest d 1 (b ∷ rest) kind
+  pub longest_one : (b : ℕ) (rest : List ℕ) (kind : TokenKind) → kind_of d (b ∷ []) ≡ Some kind → ((c : ℕ) (bs : List ℕ) → kind_of d (b ∷ c ∷ bs) ≡ None) → Longest d 1 (b ∷ rest) kind
   longest_one b rest kind one none = record { within = omega arith; is_token = one; no_longer = no_two d b rest none }
 
-  pub longest_arrow : (b c : ℕ) (rest : List ℕ) (kind : Kind) → kind_of d (b ∷ c ∷ []) ≡ Some kind → ((e : ℕ) (bs : List ℕ) → kind_of d (b ∷ c ∷ e ∷ bs) ≡ None) → Longest d 2 (b ∷ c ∷ rest) kind
+  pub longest_arrow : (b c : ℕ) (rest : List ℕ) (kind : TokenKind) → kind_of d (b ∷ c ∷ []) ≡ Some kind → ((e : ℕ) (bs : List ℕ) → kind_of d (b ∷ c ∷ e ∷ bs) ≡ None) → Longest d 2 (b ∷ c ∷ rest) kind
   longest_arrow b c rest kind two none = record { within = omega arith; is_token = two; no_longer = no_three d b c rest none }

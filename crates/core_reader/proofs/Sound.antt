@@ -9,41 +9,41 @@ use Rattle.core_reader.specs.declared.token.Lexeme.{Lexeme}
 use Rattle.core_reader.specs.declared.refusal.ReadRefusal.{ReadRefusal}
 use Rattle.core_reader.specs.Tree.{Term, Terms, NoTerms, AndTerm, Application, Bind, Expr, App, Let, Case, Alts, NoAlts, AndAlt, Data, Function}
 use Rattle.core_reader.specs.Tree as tree
-use Rattle.core_reader.specs.Grammar.{Room, lexeme, SpellsTerm, SpellsTerms, binders, SpellsBind, SpellsBinds, IsGroup, IsSomeAlts, SpellsPattern, SpellsExpr, SpellsAlts}
+use Rattle.core_reader.specs.Grammar.{NestingLimit, lexeme, SpellsTerm, SpellsTerms, binders, SpellsBind, SpellsBinds, IsGroup, IsNonemptyAlts, SpellsPattern, SpellsExpr, SpellsAlts}
 use Rattle.core_reader.specs.Machine.{Cont, Outermost, LetBody, Scrutinee, AltBody, nests, Frame, InBody, InBind, Inside, opens, BindName, BindEquals, Ended, Brace, AltStart, AltNames, AltArrow, give, State, Apply, Step, go, done, stop, step, with_last, ◌⊹◌, binding, applied}
 use Rattle.core_reader.proofs.Complete.{some_last, alts_last}
 
 -- each binding with a `;` after it
-abbrev pub EachBind : Room → ℕ → List Bind → List Lexeme → Type 0
+abbrev pub EachBind : NestingLimit → ℕ → List Bind → List Lexeme → Type 0
 EachBind l d [] ts = ts ≡ []
 EachBind l d (b ∷ bs) ts = (us vs : List Lexeme) × (r : ℕ) × SpellsBind l d b us × EachBind l d bs vs × (ts ≡ us ++ (lexeme r word.Semicolon ∷ vs))
 
-abbrev pub EachAlt : Room → ℕ → Alts → List Lexeme → Type 0
+abbrev pub EachAlt : NestingLimit → ℕ → Alts → List Lexeme → Type 0
 EachAlt l d NoAlts ts = ts ≡ []
 EachAlt l d (AndAlt p e xs) ts = (us vs ws : List Lexeme) × (q r : ℕ) × SpellsPattern p us × SpellsExpr l d e vs × EachAlt l d xs ws × (ts ≡ us ++ (lexeme q word.Arrow ∷ (vs ++ (lexeme r word.Semicolon ∷ ws))))
 
 -- a case up to an alternative, where B says what stands before the case
-abbrev pub AltsFrom : Room → (List Lexeme → Type 0) → ℕ → Expr → Alts → List Lexeme → Type 0
+abbrev pub AltsFrom : NestingLimit → (List Lexeme → Type 0) → ℕ → Expr → Alts → List Lexeme → Type 0
 AltsFrom l B n s alts ts = (us vs ws : List Lexeme) × (p q r : ℕ) × (l n ≡ true) × B us × SpellsExpr l (suc n) s vs × EachAlt l (suc n) alts ws × (ts ≡ us ++ (lexeme p word.Case ∷ (vs ++ (lexeme q word.Of ∷ (lexeme r word.OpenBrace ∷ ws)))))
 
 -- the tokens before an expression
-abbrev pub From : Room → Cont → List Lexeme → Type 0
+abbrev pub From : NestingLimit → Cont → List Lexeme → Type 0
 From l Outermost ts = ts ≡ []
 From l (LetBody k binds) ts = (us vs : List Lexeme) × (p q : ℕ) × (l (nests k) ≡ true) × From l k us × IsGroup binds × SpellsBinds l (suc (nests k)) binds vs × (ts ≡ us ++ (lexeme p word.Let ∷ (vs ++ lexeme q word.In ∷ [])))
 From l (Scrutinee k) ts = (us : List Lexeme) × (p : ℕ) × (l (nests k) ≡ true) × From l k us × (ts ≡ us ++ lexeme p word.Case ∷ [])
 From l (AltBody k s alts pat) ts = (us vs : List Lexeme) × (q : ℕ) × AltsFrom l (From l k) (nests k) s alts us × SpellsPattern pat vs × (ts ≡ us ++ (vs ++ lexeme q word.Arrow ∷ []))
 
-abbrev pub BindsFrom : Room → Cont → List Bind → List Lexeme → Type 0
+abbrev pub BindsFrom : NestingLimit → Cont → List Bind → List Lexeme → Type 0
 BindsFrom l k binds ts = (us vs : List Lexeme) × (p : ℕ) × (l (nests k) ≡ true) × From l k us × EachBind l (suc (nests k)) binds vs × (ts ≡ us ++ (lexeme p word.Let ∷ vs))
 
 -- the tokens before an application that stands in a frame
-abbrev pub Before : Room → Frame → List Lexeme → Type 0
+abbrev pub Before : NestingLimit → Frame → List Lexeme → Type 0
 Before l (InBody k) ts = From l k ts
 Before l (InBind k binds n at) ts = (us : List Lexeme) × (q : ℕ) × BindsFrom l k binds us × (ts ≡ us ++ (lexeme at (word.Name n) ∷ lexeme q word.Equals ∷ []))
 Before l (Inside k held p) ts = (us vs : List Lexeme) × (l (opens k) ≡ true) × Before l k us × SpellsTerms l (opens k) held vs × (ts ≡ us ++ (vs ++ lexeme p word.Open ∷ []))
 
 -- the tokens before a state
-abbrev pub Consumed : Room → State → List Lexeme → Type 0
+abbrev pub Consumed : NestingLimit → State → List Lexeme → Type 0
 Consumed l (Apply k held) ts = (us vs : List Lexeme) × Before l k us × SpellsTerms l (opens k) held vs × (ts ≡ us ++ vs)
 Consumed l (BindName k binds) ts = BindsFrom l k binds ts
 Consumed l (BindEquals k binds n at) ts = (us : List Lexeme) × BindsFrom l k binds us × (ts ≡ us ++ lexeme at (word.Name n) ∷ [])
@@ -53,16 +53,16 @@ Consumed l (AltStart k s alts) ts = AltsFrom l (From l k) (nests k) s alts ts
 Consumed l (AltNames k s alts n at names) ts = (us : List Lexeme) × AltsFrom l (From l k) (nests k) s alts us × (ts ≡ us ++ lexeme at (word.Con n) ∷ binders names)
 Consumed l (AltArrow k s alts pat) ts = (us vs : List Lexeme) × AltsFrom l (From l k) (nests k) s alts us × SpellsPattern pat vs × (ts ≡ us ++ vs)
 
-abbrev pub Good : Room → Step → List Lexeme → Type 0
+abbrev pub Good : NestingLimit → Step → List Lexeme → Type 0
 Good l (go s) ts = Consumed l s ts
 Good l (done e) ts = (us : List Lexeme) × (x : Lexeme) × SpellsExpr l 0 e us × (ts ≡ us ++ x ∷ [])
 Good l (stop e) ts = Unit {0}
 
-good_if : (l : Room) (b : Bool) (s : State) (e : ReadRefusal) (ts : List Lexeme) → (b ≡ true → Consumed l s ts) → Good l (cond b (go s) (stop e)) ts
+good_if : (l : NestingLimit) (b : Bool) (s : State) (e : ReadRefusal) (ts : List Lexeme) → (b ≡ true → Consumed l s ts) → Good l (cond b (go s) (stop e)) ts
 good_if l true s e ts h = h refl
 good_if l false s e ts h = tt
 
-all_last : (l : Room) (n : ℕ) (xs : Terms) (a : Term) (us vs : List Lexeme) → SpellsTerms l n xs us → SpellsTerm l n a vs → SpellsTerms l n (with_last xs a) (us ++ vs)
+all_last : (l : NestingLimit) (n : ℕ) (xs : Terms) (a : Term) (us vs : List Lexeme) → SpellsTerms l n xs us → SpellsTerm l n a vs → SpellsTerms l n (with_last xs a) (us ++ vs)
 all_last l n NoTerms a us vs h g = (vs, [], g, refl, rw (h, append-nil) refl)
 all_last l n (AndTerm b xs) a us vs h g = (h.0, h.1 ++ vs, h.2, all_last l n xs a h.1 vs h.3 g, ap (λ w. w ++ vs) h.4 ∙ append_assoc h.0 h.1 vs)
 
@@ -71,35 +71,35 @@ binders_last [] b = refl
 binders_last (p ∷ ps) b = ap (λ w. lexeme p.at (word.Name p.name) ∷ w) (binders_last ps b)
 
 -- an atom of one token
-adds : (l : Room) (k : Frame) (held : Terms) (a : Term) (ts : List Lexeme) (x : Lexeme) → Consumed l (Apply k held) ts → SpellsTerm l (opens k) a (x ∷ []) → Consumed l (Apply k (with_last held a)) (ts ++ x ∷ [])
+adds : (l : NestingLimit) (k : Frame) (held : Terms) (a : Term) (ts : List Lexeme) (x : Lexeme) → Consumed l (Apply k held) ts → SpellsTerm l (opens k) a (x ∷ []) → Consumed l (Apply k (with_last held a)) (ts ++ x ∷ [])
 adds l k held a ts x h g = (h.0, h.1 ++ x ∷ [], h.2, all_last l (opens k) held a h.1 (x ∷ []) h.3 g, ap (λ w. w ++ x ∷ []) h.4 ∙ append_assoc h.0 h.1 (x ∷ []))
 
-each_bind_last : (l : Room) (d : ℕ) (bs : List Bind) (b : Bind) (us vs : List Lexeme) (r : ℕ) → EachBind l d bs us → SpellsBind l d b vs → EachBind l d (bs ++ b ∷ []) (us ++ (vs ++ lexeme r word.Semicolon ∷ []))
+each_bind_last : (l : NestingLimit) (d : ℕ) (bs : List Bind) (b : Bind) (us vs : List Lexeme) (r : ℕ) → EachBind l d bs us → SpellsBind l d b vs → EachBind l d (bs ++ b ∷ []) (us ++ (vs ++ lexeme r word.Semicolon ∷ []))
 each_bind_last l d [] b us vs r h g = (vs, [], r, g, refl, ap (λ w. w ++ (vs ++ lexeme r word.Semicolon ∷ [])) h)
 each_bind_last l d (c ∷ bs) b us vs r h g = (h.0, h.1 ++ (vs ++ lexeme r word.Semicolon ∷ []), h.2, h.3, each_bind_last l d bs b h.1 vs r h.4 g, simp (h.5, append_assoc))
 
-each_binds : (l : Room) (d : ℕ) (bs : List Bind) (ts : List Lexeme) → EachBind l d bs ts → SpellsBinds l d bs ts
+each_binds : (l : NestingLimit) (d : ℕ) (bs : List Bind) (ts : List Lexeme) → EachBind l d bs ts → SpellsBinds l d bs ts
 each_binds l d [] ts h = h
 each_binds l d (b ∷ []) ts h = (h.0, lexeme h.2 word.Semicolon ∷ [], h.1, h.3, inr (h.2, refl), h.4, h.5)
 each_binds l d (b ∷ c ∷ bs) ts h = (h.0, lexeme h.2 word.Semicolon ∷ [], h.1, h.3, (h.2, refl), each_binds l d (c ∷ bs) h.1 h.4, h.5)
 
-binds_end : (l : Room) (d : ℕ) (bs : List Bind) (b : Bind) (us vs : List Lexeme) → EachBind l d bs us → SpellsBind l d b vs → SpellsBinds l d (bs ++ b ∷ []) (us ++ vs)
+binds_end : (l : NestingLimit) (d : ℕ) (bs : List Bind) (b : Bind) (us vs : List Lexeme) → EachBind l d bs us → SpellsBind l d b vs → SpellsBinds l d (bs ++ b ∷ []) (us ++ vs)
 binds_end l d [] b us vs h g = (vs, [], [], g, inl refl, refl, simp (h, append-nil))
 binds_end l d (c ∷ []) b us vs h g = (h.0, lexeme h.2 word.Semicolon ∷ [], h.1 ++ vs, h.3, (h.2, refl), binds_end l d [] b h.1 vs h.4 g, simp (h.5, append_assoc))
 binds_end l d (c ∷ e ∷ bs) b us vs h g = (h.0, lexeme h.2 word.Semicolon ∷ [], h.1 ++ vs, h.3, (h.2, refl), binds_end l d (e ∷ bs) b h.1 vs h.4 g, simp (h.5, append_assoc))
 
-each_alt_last : (l : Room) (d : ℕ) (xs : Alts) (p : Pattern) (e : Expr) (ts us vs : List Lexeme) (q r : ℕ) → EachAlt l d xs ts → SpellsPattern p us → SpellsExpr l d e vs
+each_alt_last : (l : NestingLimit) (d : ℕ) (xs : Alts) (p : Pattern) (e : Expr) (ts us vs : List Lexeme) (q r : ℕ) → EachAlt l d xs ts → SpellsPattern p us → SpellsExpr l d e vs
     → EachAlt l d (xs ⊹ AndAlt p e NoAlts) (ts ++ (us ++ (lexeme q word.Arrow ∷ (vs ++ lexeme r word.Semicolon ∷ []))))
 each_alt_last l d NoAlts p e ts us vs q r h g f = (us, vs, [], q, r, g, f, refl, simp h)
 each_alt_last l d (AndAlt p2 e2 xs) p e ts us vs q r h g f =
     (h.0, h.1, h.2 ++ (us ++ (lexeme q word.Arrow ∷ (vs ++ lexeme r word.Semicolon ∷ []))), h.3, h.4, h.5, h.6, each_alt_last l d xs p e h.2 us vs q r h.7 g f, simp (h.8, append_assoc))
 
-each_alts : (l : Room) (d : ℕ) (xs : Alts) (ts : List Lexeme) → EachAlt l d xs ts → SpellsAlts l d xs ts
+each_alts : (l : NestingLimit) (d : ℕ) (xs : Alts) (ts : List Lexeme) → EachAlt l d xs ts → SpellsAlts l d xs ts
 each_alts l d NoAlts ts h = h
 each_alts l d (AndAlt p e NoAlts) ts h = (h.0, h.1, lexeme h.4 word.Semicolon ∷ [], h.2, h.3, h.5, h.6, inr (h.4, refl), h.7, h.8)
 each_alts l d (AndAlt p e (AndAlt p2 e2 xs)) ts h = (h.0, h.1, lexeme h.4 word.Semicolon ∷ [], h.2, h.3, h.5, h.6, (h.4, refl), each_alts l d (AndAlt p2 e2 xs) h.2 h.7, h.8)
 
-alts_end : (l : Room) (d : ℕ) (xs : Alts) (p : Pattern) (e : Expr) (ts us vs : List Lexeme) (q : ℕ) → EachAlt l d xs ts → SpellsPattern p us → SpellsExpr l d e vs
+alts_end : (l : NestingLimit) (d : ℕ) (xs : Alts) (p : Pattern) (e : Expr) (ts us vs : List Lexeme) (q : ℕ) → EachAlt l d xs ts → SpellsPattern p us → SpellsExpr l d e vs
     → SpellsAlts l d (xs ⊹ AndAlt p e NoAlts) (ts ++ (us ++ (lexeme q word.Arrow ∷ vs)))
 alts_end l d NoAlts p e ts us vs q h g f = (us, vs, [], [], q, g, f, inl refl, refl, simp (h, append-nil))
 alts_end l d (AndAlt p2 e2 NoAlts) p e ts us vs q h g f =
@@ -108,7 +108,7 @@ alts_end l d (AndAlt p2 e2 (AndAlt p3 e3 xs)) p e ts us vs q h g f =
     (h.0, h.1, lexeme h.4 word.Semicolon ∷ [], h.2 ++ (us ++ (lexeme q word.Arrow ∷ vs)), h.3, h.5, h.6, (h.4, refl), alts_end l d (AndAlt p3 e3 xs) p e h.2 us vs q h.7 g f, simp (h.8, append_assoc))
 
 -- a case is whole
-case_whole : (l : Room) (k : Cont) (s : Expr) (alts all : Alts) (ts tail : List Lexeme) (at : ℕ) (h : AltsFrom l (From l k) (nests k) s alts ts) → IsSomeAlts all → SpellsAlts l (suc (nests k)) all (h.2 ++ tail)
+case_whole : (l : NestingLimit) (k : Cont) (s : Expr) (alts all : Alts) (ts tail : List Lexeme) (at : ℕ) (h : AltsFrom l (From l k) (nests k) s alts ts) → IsNonemptyAlts all → SpellsAlts l (suc (nests k)) all (h.2 ++ tail)
     → Consumed l (Ended k (Case s all)) (ts ++ (tail ++ lexeme at word.CloseBrace ∷ []))
 case_whole l k s alts all ts tail at h some g = (
   h.0,
@@ -118,7 +118,7 @@ case_whole l k s alts all ts tail at h some g = (
   simp (h.10, append_assoc),
 )
 
-sound_give : (l : Room) (k : Cont) (e : Expr) (us vs : List Lexeme) (at : ℕ) (token : Token) → From l k us → SpellsExpr l (nests k) e vs → Good l (give k e at token) ((us ++ vs) ++ lexeme at token ∷ [])
+sound_give : (l : NestingLimit) (k : Cont) (e : Expr) (us vs : List Lexeme) (at : ℕ) (token : Token) → From l k us → SpellsExpr l (nests k) e vs → Good l (give k e at token) ((us ++ vs) ++ lexeme at token ∷ [])
 sound_give l (LetBody k binds) e us vs at token h g =
     let whole = lexeme h.2 word.Let ∷ (h.1 ++ (lexeme h.3 word.In ∷ vs)) in
     let regroup : us ++ vs ≡ h.0 ++ whole = simp (h.8, append_assoc) in
@@ -150,7 +150,7 @@ sound_give l (AltBody k s alts p) e us vs at word.CloseBrace h g =
     (case_whole l k s alts (alts ⊹ AndAlt p e NoAlts) h.0 tail at c (alts_last alts p e) (alts_end l (suc (nests k)) alts p e c.2 h.1 vs h.2 c.9 h.4 g))
 sound_give l k e us vs at token h g = tt
 
-pub sound_step : (l : Room) (s : State) (ts : List Lexeme) (at : ℕ) (token : Token) → Consumed l s ts → Good l (step l s at token) (ts ++ lexeme at token ∷ [])
+pub sound_step : (l : NestingLimit) (s : State) (ts : List Lexeme) (at : ℕ) (token : Token) → Consumed l s ts → Good l (step l s at token) (ts ++ lexeme at token ∷ [])
 sound_step l (Apply k held) ts at (word.Name n) h = adds l k held (tree.Name n.0 at) ts _ h refl
 sound_step l (Apply k held) ts at (word.Con n) h = adds l k held (tree.Con n.0 at) ts _ h refl
 sound_step l (Apply k held) ts at (word.Number minus v) h = adds l k held (tree.Int v at) ts _ h (minus, refl)

@@ -6,7 +6,7 @@ use Rattle.core_reader.specs.declared.token.Token.TheVariants as word
 use Rattle.core_reader.specs.declared.token.Lexeme.{Lexeme}
 use Rattle.core_reader.specs.declared.refusal.ReadRefusal.{ReadRefusal}
 use Rattle.core_reader.specs.declared.refusal.ReadRefusal.TheVariants.{BadByte, Syntax, NumberRange, TooDeep, TextTooLong, Memory}
-use Rattle.core_reader.specs.Grammar.{Room, at_most_200}
+use Rattle.core_reader.specs.Grammar.{NestingLimit, at_most_200}
 use Rattle.core_reader.specs.ReadingOf.{Step, go, done, stop, Steps, Reading, follow, run_of}
 use Rattle.core_reader.specs.Machine.{front, behind, refused, refusal, Fails}
 use Rattle.core_reader.proofs.ReadingOf.{Verdict, Laws}
@@ -15,7 +15,7 @@ pub refused_fails : {Y : Type 0} (at : ℕ) (token : Token) (read : Result Y Rea
 refused_fails at word.Bad read e = e
 refused_fails at token read e = e
 
-module _ {S A : Type 0} (step : Steps S A) (l : Room) (bad : (s : S) (at : ℕ) → step l s at word.Bad ≡ stop (BadByte at)) where
+module _ {S A : Type 0} (step : Steps S A) (l : NestingLimit) (bad : (s : S) (at : ℕ) → step l s at word.Bad ≡ stop (BadByte at)) where
   pub turns : (s : S) (ts : List Lexeme) → run_of step l s ts ≡ follow (step l s (front ts).at (front ts).token) (λ s. run_of step l s (behind ts))
   unfolding run_of
   turns s [] = sym (ap (λ st. follow st (λ s. run_of step l s [])) (bad s 0))

@@ -3,12 +3,12 @@ use Rattle.std.proofs.Common.{◌≡◌, ℕ, ◌<◌, ◌≤◌, Bool, true, fa
 use Rattle.std.specs.Prelude.{ℤ, pos, negsuc}
 use Rattle.std.proofs.lemmas.Bool.Decides.{nat_tests}
 use Rattle.std.proofs.lemmas.Int.{ints}
-use Rattle.core_reader.specs.Grammar.{anywhere}
+use Rattle.core_reader.specs.Grammar.{unlimited_nesting}
 use Rattle.core_reader.specs.Tokens.{Piece, IsTokens}
 use Rattle.core_reader.specs.Words.{IsInRange, written_number}
 use Rattle.core_reader.specs.Rules.{NumberRange, TextTooLong, IsUnbroken}
 use Rattle.core_reader.specs.Lexed.{AreInRange}
-use Rattle.core_reader.specs.Laws.{UnbrokenIsReadable}
+use Rattle.core_reader.specs.Laws.{AcceptedIsReadable}
 use Rattle.core_reader.proofs.FirstBroken.{one_last, begins_at}
 use Rattle.core_reader.proofs.Readability.{readable}
 use Rattle.core_reader.proofs.Answers.{few}
@@ -46,7 +46,7 @@ short : (text : List ℕ) → IsUnbroken text → (b : Bool) → nat_lt 1048576 
 short text u true e = absurd (u 5 1048576 (TextTooLong (grind (arith, nat_tests))))
 short text u false e = grind (arith, nat_tests)
 
-pub unbroken_is_readable : UnbrokenIsReadable
+pub unbroken_is_readable : AcceptedIsReadable
 unbroken_is_readable text p u h =
-    readable anywhere p h.pieces h.program (all_in_range text u [] h.pieces h.tokens)
+    readable unlimited_nesting p h.pieces h.program (all_in_range text u [] h.pieces h.tokens)
     (few text h.pieces (length text) [] (short text u (nat_lt 1048576 (length text)) refl) h.tokens)

@@ -4,12 +4,12 @@ use Rattle.std.specs.List.{take_while}
 use Rattle.std.proofs.lemmas.Bool.{eqb-true, cases_order}
 use Rattle.core_reader.specs.declared.dialect.Dialect.{Dialect}
 use Rattle.core_reader.specs.declared.dialect.Dialect.TheVariants as dialect
-use Rattle.core_reader.specs.declared.look.Kind.{Kind}
+use Rattle.core_reader.specs.declared.look.TokenKind.{TokenKind}
 use Rattle.core_reader.specs.declared.look.Found.{Found}
 use Rattle.core_reader.specs.declared.look.Found.TheVariants as found
 use Rattle.core_reader.specs.Bytes.{is_space, is_in_line}
-use Rattle.core_reader.specs.LookOf.{looks}
-use Rattle.core_reader.specs.TokensOf.{kind_of, further_sign, Longest, IsGap, Piece, Reads, Stops, Passes, Takes, NothingBegins}
+use Rattle.core_reader.specs.LookOf.{scanned_token}
+use Rattle.core_reader.specs.TokensOf.{kind_of, further_sign, Longest, IsSeparator, Piece, Reads, Stops, Passes, Takes, NothingBegins}
 use Rattle.core_reader.proofs.Looking.{StandsAtFront, front_stands}
 use Rattle.core_reader.proofs.Runs.{len_run, within_run}
 
@@ -44,7 +44,7 @@ two_kinds o e f = absurd cc
 no_space_dash : {A : Type 0} (b : ℕ) → is_space b ≡ true → b ≡ 45 → A
 no_space_dash b h e = let f : false ≡ true = subst (λ w. is_space w ≡ true) e h in absurd cc
 
-gap_once : (bytes : List ℕ) (n m : ℕ) → IsGap n bytes → IsGap m bytes → n ≡ m
+gap_once : (bytes : List ℕ) (n m : ℕ) → IsSeparator n bytes → IsSeparator m bytes → n ≡ m
 gap_once [] n m h g = absurd h
 gap_once (b ∷ bs) n m (inl h) (inl g) = h.1 ∙ sym g.1
 gap_once (b ∷ bs) n m (inl h) (inr g) = no_space_dash b h.0 g.1
@@ -53,7 +53,7 @@ gap_once (b ∷ bs) n m (inr h) (inr g) =
     let e : h.0 ≡ g.0 = cc in
     h.3 ∙ ap (λ r. 2 + length (take_while is_in_line r)) e ∙ sym g.3
 
-pub gap_within : (bytes : List ℕ) (n : ℕ) → IsGap n bytes → (0 < n) × (n ≤ length bytes)
+pub gap_within : (bytes : List ℕ) (n : ℕ) → IsSeparator n bytes → (0 < n) × (n ≤ length bytes)
 gap_within [] n h = absurd h
 gap_within (b ∷ bs) n (inl h) = (omega (arith, h.1), omega (arith, h.1))
 gap_within (b ∷ bs) n (inr h) =
@@ -106,14 +106,14 @@ module _ (d : Dialect) where
   dashes_have_none rest (suc zero) = refl
   dashes_have_none rest (suc (suc n)) = refl
 
-  gap_has_none : (bytes : List ℕ) (n m : ℕ) → IsGap n bytes → kind_of d (take m bytes) ≡ None
+  gap_has_none : (bytes : List ℕ) (n m : ℕ) → IsSeparator n bytes → kind_of d (take m bytes) ≡ None
   gap_has_none [] n m h = absurd h
   gap_has_none (b ∷ bs) n zero h = refl
   gap_has_none (b ∷ bs) n (suc m) (inl h) = space_has_none b h.0 (take m bs)
   gap_has_none (b ∷ bs) n (suc m) (inr h) = rw (h.1, h.2) (dashes_have_none h.0 (suc m))
 
 module _ {d : Dialect} where
-  longest_once : (bytes : List ℕ) (n m : ℕ) (k j : Kind) → Longest d n bytes k → Longest d m bytes j → n ≡ m
+  longest_once : (bytes : List ℕ) (n m : ℕ) (k j : TokenKind) → Longest d n bytes k → Longest d m bytes j → n ≡ m
   longest_once bytes n m k j h g = by (cases_order n m)
     where
       by : (n ≡ m) ⊎ ((n < m) ⊎ (m < n)) → n ≡ m
@@ -125,7 +125,7 @@ module _ {d : Dialect} where
   pub goes_on : {at : ℕ} {bytes : List ℕ} {all some : List Piece} {end mid : ℕ} {rest more : List ℕ} → Reads d at bytes all end rest → Stopped d rest → Reads d at bytes some mid more
       → (left : List Piece) × (all ≡ some ++ left) × Reads d mid more left end rest
   goes_on {all = all} r stop (Stops at rest) = (all, refl, r)
-  goes_on (Stops at bytes) (inl e) (Passes _ m _ some mid more g s) = absurd (subst (IsGap m) e g)
+  goes_on (Stops at bytes) (inl e) (Passes _ m _ some mid more g s) = absurd (subst (IsSeparator m) e g)
   goes_on (Stops at bytes) (inr e) (Passes _ m _ some mid more g s) = absurd (e.no_gap m g)
   goes_on (Passes at n bytes all end rest h r) stop (Passes _ m _ some mid more g s) =
       let e = gap_once bytes n m h g in
@@ -142,7 +142,7 @@ module _ {d : Dialect} where
   -- where a reading stops, no other goes on
   pub stuck : {mid end : ℕ} {more rest : List ℕ} {left : List Piece} → Reads d mid more left end rest → Stopped d more → (left ≡ []) × (mid ≡ end) × (more ≡ rest)
   stuck (Stops at rest) stop = (refl, refl, refl)
-  stuck (Passes at n bytes pieces end rest h r) (inl e) = absurd (subst (IsGap n) e h)
+  stuck (Passes at n bytes pieces end rest h r) (inl e) = absurd (subst (IsSeparator n) e h)
   stuck (Passes at n bytes pieces end rest h r) (inr e) = absurd (e.no_gap n h)
   stuck (Takes at n bytes k pieces end rest h r) (inl e) = two_kinds _ h.is_token (subst (λ w. kind_of d (take n w) ≡ None) (sym e) (no_kind_none d n))
   stuck (Takes at n bytes k pieces end rest h r) (inr e) = two_kinds _ h.is_token (e.no_token n)
@@ -152,7 +152,7 @@ module _ {d : Dialect} where
   join (Passes at n bytes pieces end rest h r) s = Passes at n bytes _ _ _ h (join r s)
   join (Takes at n bytes k pieces end rest h r) s = Takes at n bytes k _ _ _ h (join r s)
 
-  pub longest_some : (bytes : List ℕ) (n : ℕ) (k : Kind) → Longest d n bytes k → 0 < n
+  pub longest_some : (bytes : List ℕ) (n : ℕ) (k : TokenKind) → Longest d n bytes k → 0 < n
   longest_some bytes zero k h = two_kinds _ h.is_token refl
   longest_some bytes (suc n) k h = omega arith
 
@@ -170,7 +170,7 @@ module _ {d : Dialect} where
 
   reading_from : (n at : ℕ) (bytes : List ℕ) → length bytes ≤ n → Reading d at bytes
   reading_from zero at bytes h = record { all = []; end = at; rest = bytes; reads = Stops at bytes; stop = inl (empty bytes h) }
-  reading_from (suc n) at bytes h = reading_by at n bytes (looks d bytes) (front_stands d bytes) h (λ m bs g. reading_from n m bs g)
+  reading_from (suc n) at bytes h = reading_by at n bytes (scanned_token d bytes) (front_stands d bytes) h (λ m bs g. reading_from n m bs g)
 
   pub reading : (text : List ℕ) → Reading d 0 text
   reading text = reading_from (length text) 0 text (omega arith)

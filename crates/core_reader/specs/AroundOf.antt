@@ -5,7 +5,7 @@ use Rattle.core_reader.specs.declared.token.Token.{Token}
 use Rattle.core_reader.specs.declared.token.Lexeme.{Lexeme}
 use Rattle.core_reader.specs.declared.refusal.ReadRefusal.{ReadRefusal}
 use Rattle.core_reader.specs.Tree.{Expr, NoTerms}
-use Rattle.core_reader.specs.Grammar.{Room}
+use Rattle.core_reader.specs.Grammar.{NestingLimit}
 use Rattle.core_reader.specs.ReadingOf.{Step, go, done, stop, Steps, Reading}
 use Rattle.core_reader.specs.Machine as expression
 use Rattle.core_reader.specs.Machine.{Outermost, InBody, Apply}
@@ -20,38 +20,38 @@ pub data Move (O H A : Type 0) : Type 0 where
 
 -- What stands around expressions: the states there, the places of expressions, what a token does,
 -- also behind a whole expression, and which tokens spell what is made.
-pub record Around : Type 1 where
+pub record ExpressionContext : Type 1 where
   pub Own : Type 0
   pub Hole : Type 0
   pub Whole : Type 0
   pub start : Own
-  pub step : Room → Own → ℕ → Token → Move Own Hole Whole
+  pub step : NestingLimit → Own → ℕ → Token → Move Own Hole Whole
   pub give : Hole → Expr → ℕ → Token → Move Own Hole Whole
-  pub Spells : Room → Whole → List Lexeme → Type 0
+  pub Spells : NestingLimit → Whole → List Lexeme → Type 0
 
-pub data AroundState (O H : Type 0) : Type 0 where
-  Outside : O → AroundState O H
-  Within : H → expression.State → AroundState O H
+pub data ContextState (O H : Type 0) : Type 0 where
+  Outside : O → ContextState O H
+  Within : H → expression.State → ContextState O H
 
-abbrev pub moved : {O H A : Type 0} → Move O H A → Step (AroundState O H) A
-moved (next o) = go (Outside o)
-moved (enter h) = go (Within h (Apply (InBody Outermost) NoTerms))
-moved (all a) = done a
-moved (refuse e) = stop e
+abbrev pub step_of_move : {O H A : Type 0} → Move O H A → Step (ContextState O H) A
+step_of_move (next o) = go (Outside o)
+step_of_move (enter h) = go (Within h (Apply (InBody Outermost) NoTerms))
+step_of_move (all a) = done a
+step_of_move (refuse e) = stop e
 
 abbrev pub within : {O H A : Type 0} → (H → Expr → ℕ → Token → Move O H A) → H → ℕ → Token
-    → Step expression.State Expr → Step (AroundState O H) A
+    → Step expression.State Expr → Step (ContextState O H) A
 within give h at token (go s) = go (Within h s)
-within give h at token (done e) = moved (give h e at token)
+within give h at token (done e) = step_of_move (give h e at token)
 within give h at token (stop er) = stop er
 
-abbrev pub steps : (r : Around) → Steps (AroundState r.Own r.Hole) r.Whole
-steps r l (Outside o) at token = moved (r.step l o at token)
+abbrev pub steps : (r : ExpressionContext) → Steps (ContextState r.Own r.Hole) r.Whole
+steps r l (Outside o) at token = step_of_move (r.step l o at token)
 steps r l (Within h s) at token = within r.give h at token (expression.step l s at token)
 
-abbrev pub around : Around → Reading
-around r = record {
-  State = AroundState r.Own r.Hole;
+abbrev pub context_reading : ExpressionContext → Reading
+context_reading r = record {
+  State = ContextState r.Own r.Hole;
   Tree = r.Whole;
   start = Outside r.start;
   step = steps r;

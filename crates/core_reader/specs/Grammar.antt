@@ -9,16 +9,17 @@ use Rattle.core_reader.specs.declared.token.Token.TheVariants as word
 use Rattle.core_reader.specs.declared.token.Lexeme.{Lexeme}
 use Rattle.core_reader.specs.Tree.{Term, Terms, NoTerms, AndTerm, Application, Bind, Expr, App, Let, Case, Alts, NoAlts, AndAlt, Data, Function}
 use Rattle.core_reader.specs.Tree as tree
+use Rattle.limits.specs.Limits.{most_open}
 
 -- Whether one more `(`, `let` or `case` may be opened where so many are open.
-abbrev pub Room : Type 0
-Room = ℕ → Bool
+abbrev pub NestingLimit : Type 0
+NestingLimit = ℕ → Bool
 
-abbrev pub anywhere : Room
-anywhere depth = true
+abbrev pub unlimited_nesting : NestingLimit
+unlimited_nesting depth = true
 
-abbrev pub at_most_200 : Room
-at_most_200 depth = nat_lt depth 200
+abbrev pub at_most_200 : NestingLimit
+at_most_200 depth = nat_lt depth most_open
 
 -- a token at a place
 abbrev pub lexeme : ℕ → Token → Lexeme
@@ -33,7 +34,7 @@ name_id n = record { 0 = n }
 
 abbrev mutual
   -- The tokens of a head or an argument where so many constructs are open.
-  pub SpellsTerm : Room → ℕ → Term → List Lexeme → Type 0
+  pub SpellsTerm : NestingLimit → ℕ → Term → List Lexeme → Type 0
   SpellsTerm room depth (tree.Name n at) ts = ts ≡ lexeme at (word.Name (name_id n)) ∷ []
   SpellsTerm room depth (tree.Con n at) ts = ts ≡ lexeme at (word.Con (name_id n)) ∷ []
   SpellsTerm room depth (tree.Int k at) ts =
@@ -43,13 +44,13 @@ abbrev mutual
       × SpellsTerms room (suc depth) args vs
       × (ts ≡ lexeme at word.Open ∷ (us ++ (vs ++ lexeme end word.Close ∷ [])))
 
-  pub SpellsTerms : Room → ℕ → Terms → List Lexeme → Type 0
+  pub SpellsTerms : NestingLimit → ℕ → Terms → List Lexeme → Type 0
   SpellsTerms room depth NoTerms ts = ts ≡ []
   SpellsTerms room depth (AndTerm a xs) ts =
       (us vs : List Lexeme) × SpellsTerm room depth a us
       × SpellsTerms room depth xs vs × (ts ≡ us ++ vs)
 
-abbrev pub SpellsApp : Room → ℕ → Application → List Lexeme → Type 0
+abbrev pub SpellsApp : NestingLimit → ℕ → Application → List Lexeme → Type 0
 SpellsApp room depth app ts = SpellsTerms room depth (AndTerm app.head app.args) ts
 
 abbrev pub binders : List Binder → List Lexeme
@@ -60,7 +61,7 @@ binders (b ∷ bs) = lexeme b.at (word.Name b.name) ∷ binders bs
 abbrev pub IsOptional : List Lexeme → Type 0
 IsOptional ts = (ts ≡ []) ⊎ IsSign word.Semicolon ts
 
-abbrev pub SpellsBind : Room → ℕ → Bind → List Lexeme → Type 0
+abbrev pub SpellsBind : NestingLimit → ℕ → Bind → List Lexeme → Type 0
 SpellsBind room depth b ts =
     (equals : ℕ) × (us : List Lexeme) × SpellsApp room depth b.app us
     × (ts ≡ lexeme b.binder.at (word.Name b.binder.name) ∷ lexeme equals word.Equals ∷ us)
@@ -70,7 +71,7 @@ abbrev pub AfterBind : List Bind → List Lexeme → Type 0
 AfterBind [] ts = IsOptional ts
 AfterBind (b ∷ bs) ts = IsSign word.Semicolon ts
 
-abbrev pub SpellsBinds : Room → ℕ → List Bind → List Lexeme → Type 0
+abbrev pub SpellsBinds : NestingLimit → ℕ → List Bind → List Lexeme → Type 0
 SpellsBinds room depth [] ts = ts ≡ []
 SpellsBinds room depth (b ∷ bs) ts =
     (us semi vs : List Lexeme) × SpellsBind room depth b us × AfterBind bs semi
@@ -80,9 +81,9 @@ abbrev pub IsGroup : List Bind → Type 0
 IsGroup [] = ⊥
 IsGroup (b ∷ bs) = Unit {0}
 
-abbrev pub IsSomeAlts : Alts → Type 0
-IsSomeAlts NoAlts = ⊥
-IsSomeAlts (AndAlt p e xs) = Unit {0}
+abbrev pub IsNonemptyAlts : Alts → Type 0
+IsNonemptyAlts NoAlts = ⊥
+IsNonemptyAlts (AndAlt p e xs) = Unit {0}
 
 abbrev pub AfterAlt : Alts → List Lexeme → Type 0
 AfterAlt NoAlts ts = IsOptional ts
@@ -94,19 +95,19 @@ SpellsPattern (pattern.Int k at) ts = (minus : Bool) × (ts ≡ lexeme at (word.
 SpellsPattern (pattern.Default x) ts = ts ≡ lexeme x.at (word.Name x.name) ∷ []
 
 abbrev mutual
-  pub SpellsExpr : Room → ℕ → Expr → List Lexeme → Type 0
+  pub SpellsExpr : NestingLimit → ℕ → Expr → List Lexeme → Type 0
   SpellsExpr room depth (App app) ts = SpellsApp room depth app ts
   SpellsExpr room depth (Let group e) ts =
       (p q : ℕ) × (us vs : List Lexeme) × (room depth ≡ true) × IsGroup group
       × SpellsBinds room (suc depth) group us × SpellsExpr room (suc depth) e vs
       × (ts ≡ lexeme p word.Let ∷ (us ++ (lexeme q word.In ∷ vs)))
   SpellsExpr room depth (Case e alts) ts =
-      (p q r s : ℕ) × (us vs : List Lexeme) × (room depth ≡ true) × IsSomeAlts alts
+      (p q r s : ℕ) × (us vs : List Lexeme) × (room depth ≡ true) × IsNonemptyAlts alts
       × SpellsExpr room (suc depth) e us × SpellsAlts room (suc depth) alts vs
       × (ts ≡ lexeme p word.Case ∷ (us
       ++ (lexeme q word.Of ∷ lexeme r word.OpenBrace ∷ (vs ++ lexeme s word.CloseBrace ∷ []))))
 
-  pub SpellsAlts : Room → ℕ → Alts → List Lexeme → Type 0
+  pub SpellsAlts : NestingLimit → ℕ → Alts → List Lexeme → Type 0
   SpellsAlts room depth NoAlts ts = ts ≡ []
   SpellsAlts room depth (AndAlt p e xs) ts =
       (us vs semi ws : List Lexeme) × (arrow : ℕ) × SpellsPattern p us
@@ -118,7 +119,7 @@ pub data Decl : Type 0 where
   Declares : Data → Decl
   Defines : Function → Decl
 
-abbrev pub SpellsDecl : Room → Decl → List Lexeme → Type 0
+abbrev pub SpellsDecl : NestingLimit → Decl → List Lexeme → Type 0
 SpellsDecl room (Declares d) ts =
     (p q r : ℕ)
     × (ts ≡ lexeme p word.Data ∷ lexeme d.at (word.Con (name_id d.name))
@@ -129,7 +130,7 @@ SpellsDecl room (Defines f) ts =
     ∷ (binders f.params ++ (lexeme p word.Equals ∷ (us ++ lexeme q word.Semicolon ∷ []))))
 
 -- the tokens of declarations, one after the other
-abbrev pub SpellsDecls : Room → List Decl → List Lexeme → Type 0
+abbrev pub SpellsDecls : NestingLimit → List Decl → List Lexeme → Type 0
 SpellsDecls room [] ts = ts ≡ []
 SpellsDecls room (d ∷ ds) ts =
     (us vs : List Lexeme) × SpellsDecl room d us × SpellsDecls room ds vs × (ts ≡ us ++ vs)

@@ -7,17 +7,18 @@ use Rattle.core_reader.specs.Rules.{IsFirstUnread, IsUnbroken}
 use Rattle.core_reader.specs.Readable.{IsReadable}
 
 -- At most one rule is the first that a text breaks, at one place.
-abbrev pub OneRefusal : Type 0
-OneRefusal =
+abbrev pub RefusalIsUnique : Type 0
+RefusalIsUnique =
     (text : List ℕ) (k at k' at' : ℕ) → IsFirstUnread text k at
     → IsFirstUnread text k' at' → (k ≡ k') × (at ≡ at')
 
-abbrev pub OneReading : Type 0
-OneReading = (text : List ℕ) (us vs : List Piece) → IsTokens text us → IsTokens text vs → us ≡ vs
+abbrev pub TokensAreUnique : Type 0
+TokensAreUnique =
+    (text : List ℕ) (us vs : List Piece) → IsTokens text us → IsTokens text vs → us ≡ vs
 
-abbrev pub OneProgram : Type 0
-OneProgram = (text : List ℕ) (p q : Program) → IsText text p → IsText text q → p ≡ q
+abbrev pub ProgramIsUnique : Type 0
+ProgramIsUnique = (text : List ℕ) (p q : Program) → IsText text p → IsText text q → p ≡ q
 
 -- The program of a text that breaks no rule is readable.
-abbrev pub UnbrokenIsReadable : Type 0
-UnbrokenIsReadable = (text : List ℕ) (p : Program) → IsUnbroken text → IsText text p → IsReadable p
+abbrev pub AcceptedIsReadable : Type 0
+AcceptedIsReadable = (text : List ℕ) (p : Program) → IsUnbroken text → IsText text p → IsReadable p

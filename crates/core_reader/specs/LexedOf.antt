@@ -3,8 +3,8 @@ use Rattle.std.specs.Prelude.{◌≡◌, ℕ, ◌<◌, ◌≤◌, ℤ, Bool, tru
 use denote.Ref.{Bor}
 use Rattle.core_reader.specs.declared.syntax.NameId.{NameId}
 use Rattle.core_reader.specs.declared.dialect.Dialect.{Dialect}
-use Rattle.core_reader.specs.declared.look.Kind.{Kind}
-use Rattle.core_reader.specs.declared.look.Kind.TheVariants.{Digits}
+use Rattle.core_reader.specs.declared.look.TokenKind.{TokenKind}
+use Rattle.core_reader.specs.declared.look.TokenKind.TheVariants.{Digits}
 use Rattle.core_reader.specs.declared.token.Token.{Token}
 use Rattle.core_reader.specs.declared.token.Token.TheVariants as word
 use Rattle.core_reader.specs.declared.token.Lexeme.{Lexeme}
@@ -35,15 +35,15 @@ IsSigned minus k token = ⊥
 abbrev pub IsNumberOf : List (List ℕ) → List (List ℕ) → List ℕ → NameId → Type 0
 IsNumberOf old new w id = (new ≡ with_name old w) × (id.0 ≡ number_in new w)
 
-abbrev pub Says : Dialect → List (List ℕ) → List ℕ → Kind → Token → Type 0
-Says d names w Digits token = IsSigned (has_minus w) (written_number w) token
-Says d names w kind token = token ≡ said_by d names w (Some kind)
+abbrev pub IsTokenOfKind : Dialect → List (List ℕ) → List ℕ → TokenKind → Token → Type 0
+IsTokenOfKind d names w Digits token = IsSigned (has_minus w) (written_number w) token
+IsTokenOfKind d names w kind token = token ≡ said_by d names w (Some kind)
 
 -- the token of bytes of this kind, and the names with it
-pub record IsTokenOf (d : Dialect) (old new : List (List ℕ)) (w : List ℕ) (kind : Kind)
+pub record IsTokenOf (d : Dialect) (old new : List (List ℕ)) (w : List ℕ) (kind : TokenKind)
     (token : Token) : Type 0 where
   pub names : new ≡ (if is_numbered_by d w (Some kind) then with_name old w else old)
-  pub says : Says d new w kind token
+  pub says : IsTokenOfKind d new w kind token
 
 -- why nothing is read behind a token that stands before a rest
 pub data StopsAt (d : Dialect) (at : ℕ) (rest : List ℕ) : Lexeme → Type 0 where

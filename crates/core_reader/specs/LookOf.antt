@@ -4,7 +4,7 @@ use Rattle.std.specs.List.{take_while}
 use Rattle.core_reader.specs.declared.dialect.Dialect.{Dialect}
 use Rattle.core_reader.specs.declared.dialect.Dialect.TheVariants as dialect
 use Rattle.core_reader.specs.declared.look.Sign.TheVariants.{Semicolon, Equals, OpenBrace, CloseBrace, Open, Close, Arrow, Backslash, Bar, Colon}
-use Rattle.core_reader.specs.declared.look.Kind.TheVariants.{Lower, Upper, Digits, Sign}
+use Rattle.core_reader.specs.declared.look.TokenKind.TheVariants.{Lower, Upper, Digits, Sign}
 use Rattle.core_reader.specs.declared.look.Found.{Found}
 use Rattle.core_reader.specs.declared.look.Found.TheVariants.{Gap, Token, Bad, End}
 use Rattle.core_reader.specs.Bytes.{is_space, is_lower, is_upper, is_digit, is_inner, is_in_line}
@@ -26,20 +26,20 @@ sign_of d b =
     else (if b == 41 then Token 1 (Sign Close)
     else further_sign_of d b)))))
 
-abbrev pub looks_minus : List ℕ → Found
-looks_minus [] = Bad
-looks_minus (c ∷ tail) =
+abbrev pub scanned_minus : List ℕ → Found
+scanned_minus [] = Bad
+scanned_minus (c ∷ tail) =
     if c == 45 then Gap (2 + length (take_while is_in_line tail))
     else (if c == 62 then Token 2 (Sign Arrow)
     else (if is_digit c then Token (2 + length (take_while is_digit tail)) Digits
     else Bad))
 
-abbrev pub looks : Dialect → List ℕ → Found
-looks d [] = End
-looks d (b ∷ rest) =
+abbrev pub scanned_token : Dialect → List ℕ → Found
+scanned_token d [] = End
+scanned_token d (b ∷ rest) =
     if is_space b then Gap 1
     else (if is_lower b then Token (1 + length (take_while is_inner rest)) Lower
     else (if is_upper b then Token (1 + length (take_while is_inner rest)) Upper
     else (if is_digit b then Token (1 + length (take_while is_digit rest)) Digits
-    else (if b == 45 then looks_minus rest
+    else (if b == 45 then scanned_minus rest
     else sign_of d b))))

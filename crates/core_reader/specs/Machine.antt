@@ -18,7 +18,7 @@ use Rattle.core_reader.specs.declared.refusal.ReadRefusal.{ReadRefusal}
 use Rattle.core_reader.specs.declared.refusal.ReadRefusal.TheVariants.{BadByte, Syntax, NumberRange, TooDeep, TextTooLong, Memory}
 use Rattle.core_reader.specs.Tree.{Term, Terms, NoTerms, AndTerm, Application, Bind, Expr, App, Let, Case, Alts, NoAlts, AndAlt, Data, Function, terms_of, alts_of}
 use Rattle.core_reader.specs.Tree as tree
-use Rattle.core_reader.specs.Grammar.{Room, at_most_200, binders}
+use Rattle.core_reader.specs.Grammar.{NestingLimit, at_most_200, binders}
 use Rattle.core_reader.specs.ReadingOf as any
 pub use Rattle.core_reader.specs.ReadingOf.{go, done, stop}
 
@@ -89,7 +89,7 @@ give (AltBody k s alts p) e at word.Semicolon = go (AltStart k s (alts ⊹ AndAl
 give (AltBody k s alts p) e at word.CloseBrace = go (Ended k (Case s (alts ⊹ AndAlt p e NoAlts)))
 give k e at token = stop (refused at token)
 
-abbrev pub step : Room → State → ℕ → Token → Step
+abbrev pub step : NestingLimit → State → ℕ → Token → Step
 step l (Apply k held) at (word.Name n) = go (Apply k (with_last held (tree.Name n.0 at)))
 step l (Apply k held) at (word.Con n) = go (Apply k (with_last held (tree.Con n.0 at)))
 step l (Apply k held) at (word.Number minus v) = go (Apply k (with_last held (tree.Int v at)))
@@ -130,12 +130,13 @@ pub record Found : Type 0 where
   pub expr : Expr
   pub rest : List Lexeme
 
-abbrev pub follow : Step → List Lexeme → (State → Result Found ReadRefusal) → Result Found ReadRefusal
+abbrev pub follow : Step → List Lexeme → (State → Result Found ReadRefusal)
+    → Result Found ReadRefusal
 follow (go s) ts next = next s
 follow (done e) ts next = Ok (record { expr = e; rest = ts })
 follow (stop er) ts next = Err er
 
-unfoldable pub run : Room → State → List Lexeme → Result Found ReadRefusal
+unfoldable pub run : NestingLimit → State → List Lexeme → Result Found ReadRefusal
 run l s [] = follow (step l s 0 word.Bad) [] (λ s. Err (BadByte 0))
 run l s (t ∷ ts) = follow (step l s t.at t.token) (t ∷ ts) (λ s. run l s ts)
 

@@ -1,12 +1,12 @@
 -- The names of a text of Core.
 use Rattle.std.specs.Prelude.{ℕ, Bool, List, Option}
 use Rattle.core_reader.specs.declared.dialect.Dialect.TheVariants.{Core}
-use Rattle.core_reader.specs.declared.look.Kind.{Kind}
+use Rattle.core_reader.specs.declared.look.TokenKind.{TokenKind}
 use Rattle.core_reader.specs.TokensOf.{Piece}
 use Rattle.core_reader.specs.NamesOf as any
 pub use Rattle.core_reader.specs.NamesOf.{with_name}
 
-abbrev pub is_numbered_by : List ℕ → Option Kind → Bool
+abbrev pub is_numbered_by : List ℕ → Option TokenKind → Bool
 is_numbered_by = any.is_numbered_by Core
 
 abbrev pub is_numbered : Piece → Bool

@@ -3,13 +3,13 @@ use Rattle.std.specs.Prelude.{ℕ, Bool, true, false, List, [], ◌∷◌, ◌++
 use Rattle.std.specs.Str.{bytes_eq}
 use Rattle.std.specs.List.{list_any}
 use Rattle.core_reader.specs.declared.dialect.Dialect.{Dialect}
-use Rattle.core_reader.specs.declared.look.Kind.{Kind}
-use Rattle.core_reader.specs.declared.look.Kind.TheVariants.{Lower, Upper, Digits, Sign}
+use Rattle.core_reader.specs.declared.look.TokenKind.{TokenKind}
+use Rattle.core_reader.specs.declared.look.TokenKind.TheVariants.{Lower, Upper, Digits, Sign}
 use Rattle.core_reader.specs.TokensOf.{Piece, kind_of}
 use Rattle.core_reader.specs.WordsOf.{keyword_of}
 
 -- a name or a constructor, which gets a number
-abbrev pub is_numbered_by : Dialect → List ℕ → Option Kind → Bool
+abbrev pub is_numbered_by : Dialect → List ℕ → Option TokenKind → Bool
 is_numbered_by d w None = false
 is_numbered_by d w (Some Lower) = is_none (keyword_of d w)
 is_numbered_by d w (Some Upper) = true

@@ -3,10 +3,10 @@
 use Rattle.std.specs.Prelude.{ℕ, List, ◌++◌}
 use Rattle.core_reader.specs.declared.dialect.Dialect.{Dialect}
 use Rattle.core_reader.specs.TokensOf.{Piece, IsTokens}
-use Rattle.core_reader.specs.Grammar.{Room, anywhere}
+use Rattle.core_reader.specs.Grammar.{NestingLimit, unlimited_nesting}
 
 abbrev pub Language : Type 0 → Type 1
-Language P = Room → P → List Piece → Type 0
+Language P = NestingLimit → P → List Piece → Type 0
 
 -- The text stands for the thing: its longest-token reading gives tokens from which the grammar
 -- derives it.
@@ -14,10 +14,10 @@ pub record IsText {P : Type 0} (d : Dialect) (Derives : Language P) (text : List
     : Type 0 where
   pub pieces : List Piece
   pub tokens : IsTokens d text pieces
-  pub program : Derives anywhere p pieces
+  pub program : Derives unlimited_nesting p pieces
 
 -- Some tokens after these complete a thing that the grammar derives.
-pub record Viable {P : Type 0} (Derives : Language P) (room : Room) (pieces : List Piece)
+pub record Viable {P : Type 0} (Derives : Language P) (room : NestingLimit) (pieces : List Piece)
     : Type 0 where
   pub rest : List Piece
   pub whole : P

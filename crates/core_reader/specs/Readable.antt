@@ -4,14 +4,14 @@ use Rattle.std.specs.Prelude.{◌≡◌, ℕ, ◌<◌, ◌≤◌, ◌^◌, List,
 use Rattle.core_reader.specs.declared.syntax.Binder.{Binder}
 use Rattle.core_reader.specs.declared.syntax.Pattern.{Pattern}
 use Rattle.core_reader.specs.declared.syntax.Pattern.TheVariants as pattern
-use Rattle.core_reader.specs.declared.look.Kind.TheVariants.{Lower, Upper}
+use Rattle.core_reader.specs.declared.look.TokenKind.TheVariants.{Lower, Upper}
 use Rattle.core_reader.specs.Tree.{Term, Terms, NoTerms, AndTerm, Application, Bind, Expr, App, Let, Case, Alts, NoAlts, AndAlt, Data, Function, Program}
 use Rattle.core_reader.specs.Tree as tree
 use Rattle.core_reader.specs.Tokens.{kind_of}
 use Rattle.core_reader.specs.Words.{keyword_of, IsInRange}
-use Rattle.core_reader.specs.Grammar.{IsGroup, IsSomeAlts}
+use Rattle.core_reader.specs.Grammar.{IsGroup, IsNonemptyAlts}
 use Rattle.core_reader.specs.Size.{program_size}
-pub use Rattle.core_reader.specs.Different.{AreDifferent}
+pub use Rattle.core_reader.specs.Different.{AreDistinct}
 
 -- the bytes of a name, and of a constructor
 abbrev pub IsName : List ℕ → Type 0
@@ -61,7 +61,7 @@ abbrev mutual
   ReadableExpr names (Let group e) =
       IsGroup group × All (ReadableBind names) group × ReadableExpr names e
   ReadableExpr names (Case e alts) =
-      IsSomeAlts alts × ReadableExpr names e × ReadableAlts names alts
+      IsNonemptyAlts alts × ReadableExpr names e × ReadableAlts names alts
 
   pub ReadableAlts : List (List ℕ) → Alts → Type 0
   ReadableAlts names NoAlts = Unit {0}
@@ -76,7 +76,7 @@ ReadableFunction names f =
     IsNamed names f.name × All (IsBound names) f.params × ReadableExpr names f.body
 
 pub record IsReadable (p : Program) : Type 0 where
-  pub different : AreDifferent p.names
+  pub different : AreDistinct p.names
   pub constructors : All (ReadableData p.names) p.constructors
   pub functions : All (ReadableFunction p.names) p.functions
   pub size : program_size p < 2 ^ 64

@@ -1,11 +1,11 @@
--- Reading one token after the other, in any language: a state holds what was read, and a token leads
--- to the next one. A device of the proofs: no clause of `read` speaks of it.
+-- Reading one token after the other, in any language: a state holds what was read, and a token
+-- leads to the next one. A device of the proofs: no clause of `read` speaks of it.
 use Rattle.std.specs.Prelude.{ℕ, List, [], ◌∷◌, Result, Ok, Err}
 use Rattle.core_reader.specs.declared.token.Token.{Token}
 use Rattle.core_reader.specs.declared.token.Lexeme.{Lexeme}
 use Rattle.core_reader.specs.declared.refusal.ReadRefusal.{ReadRefusal}
 use Rattle.core_reader.specs.declared.refusal.ReadRefusal.TheVariants.{BadByte}
-use Rattle.core_reader.specs.Grammar.{Room}
+use Rattle.core_reader.specs.Grammar.{NestingLimit}
 
 -- The reading goes on, has all, or is refused.
 pub data Step (S A : Type 0) : Type 0 where
@@ -15,14 +15,15 @@ pub data Step (S A : Type 0) : Type 0 where
 
 -- what a token at a place does in a state, with as many open constructs as there is room for
 abbrev pub Steps : Type 0 → Type 0 → Type 0
-Steps S A = Room → S → ℕ → Token → Step S A
+Steps S A = NestingLimit → S → ℕ → Token → Step S A
 
 abbrev pub follow : {S A : Type 0} → Step S A → (S → Result A ReadRefusal) → Result A ReadRefusal
 follow (go s) next = next s
 follow (done a) next = Ok a
 follow (stop e) next = Err e
 
-unfoldable pub run_of : {S A : Type 0} → Steps S A → Room → S → List Lexeme → Result A ReadRefusal
+unfoldable pub run_of : {S A : Type 0} → Steps S A → NestingLimit → S
+    → List Lexeme → Result A ReadRefusal
 run_of step l s [] = Err (BadByte 0)
 run_of step l s (t ∷ ts) = follow (step l s t.at t.token) (λ s. run_of step l s ts)
 
@@ -32,4 +33,4 @@ pub record Reading : Type 1 where
   pub Tree : Type 0
   pub start : State
   pub step : Steps State Tree
-  pub Spells : Room → Tree → List Lexeme → Type 0
+  pub Spells : NestingLimit → Tree → List Lexeme → Type 0

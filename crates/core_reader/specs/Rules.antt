@@ -5,7 +5,7 @@ use Rattle.core_reader.specs.declared.refusal.ReadRefusal.{ReadRefusal}
 use Rattle.core_reader.specs.TokensOf.{Piece}
 use Rattle.core_reader.specs.Programs.{IsProgram}
 use Rattle.core_reader.specs.RulesOf as any
-pub use Rattle.core_reader.specs.RulesOf.{AtToken, AtEnd, BadByte, Syntax, NumberRange, TooDeep, TextTooLong, NoLater}
+pub use Rattle.core_reader.specs.RulesOf.{AtToken, AtEnd, BadByte, Syntax, NumberRange, TooDeep, TextTooLong, IsNoLaterFault}
 
 abbrev pub BeginsWith : List ℕ → List Piece → Piece → ℕ → Type 0
 BeginsWith = any.BeginsWith Core

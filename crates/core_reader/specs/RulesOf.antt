@@ -2,13 +2,14 @@
 -- which broken rule is named. The language has the tokens of a dialect and a grammar.
 use Rattle.std.specs.Prelude.{◌≡◌, ◌≢◌, ℕ, ◌<◌, ◌≤◌, ◌⊎◌, List, [], ◌∷◌, ◌++◌, length, Some}
 use Rattle.core_reader.specs.declared.dialect.Dialect.{Dialect}
-use Rattle.core_reader.specs.declared.look.Kind.TheVariants.{Digits}
+use Rattle.core_reader.specs.declared.look.TokenKind.TheVariants.{Digits}
 use Rattle.core_reader.specs.declared.refusal.ReadRefusal.{ReadRefusal}
 use Rattle.core_reader.specs.declared.refusal.ReadRefusal.TheVariants as refusal
 use Rattle.core_reader.specs.TokensOf.{Piece, Reads, IsTokens, NothingBegins, kind_of}
-use Rattle.core_reader.specs.Grammar.{anywhere, at_most_200}
+use Rattle.core_reader.specs.Grammar.{unlimited_nesting, at_most_200}
 use Rattle.core_reader.specs.WordsOf.{written_number, IsInRange}
 use Rattle.core_reader.specs.ProgramsOf.{Language, Viable}
+use Rattle.limits.specs.Limits.{most_bytes}
 
 -- A text begins with these tokens, the last of which stands at a place.
 pub record BeginsWith (d : Dialect) (text : List ℕ) (before : List Piece) (here : Piece)
@@ -29,10 +30,12 @@ pub record IsBadByte (d : Dialect) (text : List ℕ) (at : ℕ) : Type 0 where
 pub data IsSyntaxFault {P : Type 0} (d : Dialect) (Derives : Language P) (text : List ℕ)
     : ℕ → Type 0 where
   AtToken : (at : ℕ) (before : List Piece) (here : Piece) → BeginsWith d text before here at
-      → Viable Derives anywhere before → (Viable Derives anywhere (before ++ here ∷ []) → ⊥)
+      → Viable Derives unlimited_nesting before
+      → (Viable Derives unlimited_nesting (before ++ here ∷ []) → ⊥)
       → IsSyntaxFault d Derives text at
-  AtEnd : (pieces : List Piece) → IsTokens d text pieces → Viable Derives anywhere pieces
-      → ((p : P) → Derives anywhere p pieces → ⊥) → IsSyntaxFault d Derives text (length text)
+  AtEnd : (pieces : List Piece) → IsTokens d text pieces → Viable Derives unlimited_nesting pieces
+      → ((p : P) → Derives unlimited_nesting p pieces → ⊥)
+      → IsSyntaxFault d Derives text (length text)
 
 -- rule 3: an integer is out of the range
 pub record IsOutOfRange (d : Dialect) (text : List ℕ) (at : ℕ) : Type 0 where
@@ -43,14 +46,14 @@ pub record IsOutOfRange (d : Dialect) (text : List ℕ) (at : ℕ) : Type 0 wher
   pub outside : IsInRange (written_number here.bytes) → ⊥
 
 -- rule 4: a program begins with the tokens up to this `(`, `let` or `case`, but none that has only
--- 200 of them open at one place
+-- `most_open` of them open at one place
 pub record IsTooDeep {P : Type 0} (d : Dialect) (Derives : Language P) (text : List ℕ)
     (at : ℕ) : Type 0 where
   pub before : List Piece
   pub here : Piece
   pub begins : BeginsWith d text before here at
   pub fits : Viable Derives at_most_200 before
-  pub goes_on : Viable Derives anywhere (before ++ here ∷ [])
+  pub goes_on : Viable Derives unlimited_nesting (before ++ here ∷ [])
   pub too_many : Viable Derives at_most_200 (before ++ here ∷ []) → ⊥
 
 -- Rule k is broken at a place of the text.
@@ -60,17 +63,17 @@ pub data IsUnread {P : Type 0} (d : Dialect) (Derives : Language P) (text : List
   Syntax : (at : ℕ) → IsSyntaxFault d Derives text at → IsUnread d Derives text 2 at
   NumberRange : (at : ℕ) → IsOutOfRange d text at → IsUnread d Derives text 3 at
   TooDeep : (at : ℕ) → IsTooDeep d Derives text at → IsUnread d Derives text 4 at
-  TextTooLong : 1048576 < length text → IsUnread d Derives text 5 1048576
+  TextTooLong : most_bytes < length text → IsUnread d Derives text 5 most_bytes
 
 -- rule 5 is the first; then the first place, and at one place the smaller number
-abbrev pub NoLater : (k at k' at' : ℕ) → Type 0
-NoLater k at k' at' = (k ≡ 5) ⊎ ((k' ≢ 5) × ((at < at') ⊎ ((at ≡ at') × (k ≤ k'))))
+abbrev pub IsNoLaterFault : (k at k' at' : ℕ) → Type 0
+IsNoLaterFault k at k' at' = (k ≡ 5) ⊎ ((k' ≢ 5) × ((at < at') ⊎ ((at ≡ at') × (k ≤ k'))))
 
 -- Rule k is broken at this place, and no rule is broken before it.
 pub record IsFirstUnread {P : Type 0} (d : Dialect) (Derives : Language P) (text : List ℕ)
     (k at : ℕ) : Type 0 where
   pub broken : IsUnread d Derives text k at
-  pub first : (k' at' : ℕ) → IsUnread d Derives text k' at' → NoLater k at k' at'
+  pub first : (k' at' : ℕ) → IsUnread d Derives text k' at' → IsNoLaterFault k at k' at'
 
 -- the rule and the place that a refusal names
 abbrev pub IsCause : {P : Type 0} → Dialect → Language P → List ℕ → ReadRefusal → Type 0
@@ -78,7 +81,7 @@ IsCause d Derives text (refusal.BadByte at) = IsFirstUnread d Derives text 1 at
 IsCause d Derives text (refusal.Syntax at) = IsFirstUnread d Derives text 2 at
 IsCause d Derives text (refusal.NumberRange at) = IsFirstUnread d Derives text 3 at
 IsCause d Derives text (refusal.TooDeep at) = IsFirstUnread d Derives text 4 at
-IsCause d Derives text refusal.TextTooLong = IsFirstUnread d Derives text 5 1048576
+IsCause d Derives text refusal.TextTooLong = IsFirstUnread d Derives text 5 most_bytes
 IsCause d Derives text (refusal.Memory e) = Unit {0}
 
 -- No rule is broken.

@@ -1,20 +1,20 @@
 -- The tokens of a text of Core.
 use Rattle.std.specs.Prelude.{ℕ, List, Option}
 use Rattle.core_reader.specs.declared.dialect.Dialect.TheVariants.{Core}
-use Rattle.core_reader.specs.declared.look.Kind.{Kind}
+use Rattle.core_reader.specs.declared.look.TokenKind.{TokenKind}
 use Rattle.core_reader.specs.TokensOf as any
-pub use Rattle.core_reader.specs.TokensOf.{every, arrow, after_minus, IsGap, Piece, Stops, Passes, Takes}
+pub use Rattle.core_reader.specs.TokensOf.{every, arrow, after_minus, IsSeparator, Piece, Stops, Passes, Takes}
 
-abbrev pub sign : ℕ → Option Kind
+abbrev pub sign : ℕ → Option TokenKind
 sign = any.sign Core
 
-abbrev pub of_one : ℕ → List ℕ → Option Kind
+abbrev pub of_one : ℕ → List ℕ → Option TokenKind
 of_one = any.of_one Core
 
-abbrev pub kind_of : List ℕ → Option Kind
+abbrev pub kind_of : List ℕ → Option TokenKind
 kind_of = any.kind_of Core
 
-abbrev pub Longest : ℕ → List ℕ → Kind → Type 0
+abbrev pub Longest : ℕ → List ℕ → TokenKind → Type 0
 Longest = any.Longest Core
 
 abbrev pub Reads : (at : ℕ) → List ℕ → List Piece → (end : ℕ) → List ℕ → Type 0

@@ -6,8 +6,8 @@ use Rattle.core_reader.specs.declared.dialect.Dialect.{Dialect}
 use Rattle.core_reader.specs.declared.dialect.Dialect.TheVariants as dialect
 use Rattle.core_reader.specs.declared.look.Sign as sign
 use Rattle.core_reader.specs.declared.look.Sign.TheVariants as signs
-use Rattle.core_reader.specs.declared.look.Kind.{Kind}
-use Rattle.core_reader.specs.declared.look.Kind.TheVariants.{Lower, Upper, Digits, Sign}
+use Rattle.core_reader.specs.declared.look.TokenKind.{TokenKind}
+use Rattle.core_reader.specs.declared.look.TokenKind.TheVariants.{Lower, Upper, Digits, Sign}
 use Rattle.core_reader.specs.declared.token.Token.{Token}
 use Rattle.core_reader.specs.declared.token.Token.TheVariants as word
 use Rattle.core_reader.specs.declared.token.Further.TheVariants as further
@@ -75,13 +75,13 @@ abbrev pub number_in : List (List ℕ) → List ℕ → ℕ
 number_in names w = position_or_len (bytes_eq w) names
 
 -- a keyword, or else a name
-abbrev pub said_by_letters : List (List ℕ) → List ℕ → Option Token → Token
-said_by_letters names w (Some keyword) = keyword
-said_by_letters names w None = word.Name (name_id (number_in names w))
+abbrev pub keyword_or_name : List (List ℕ) → List ℕ → Option Token → Token
+keyword_or_name names w (Some keyword) = keyword
+keyword_or_name names w None = word.Name (name_id (number_in names w))
 
-abbrev pub said_by : Dialect → List (List ℕ) → List ℕ → Option Kind → Token
+abbrev pub said_by : Dialect → List (List ℕ) → List ℕ → Option TokenKind → Token
 said_by d names w None = word.Bad
-said_by d names w (Some Lower) = said_by_letters names w (keyword_of d w)
+said_by d names w (Some Lower) = keyword_or_name names w (keyword_of d w)
 said_by d names w (Some Upper) = word.Con (name_id (number_in names w))
 said_by d names w (Some Digits) = word.Number (has_minus w) (written_number w)
 said_by d names w (Some (Sign s)) = sign_token s

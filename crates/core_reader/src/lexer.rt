@@ -6,7 +6,7 @@ ghost use Rattle.core_reader.specs.WordsOf.{digits_from, has_minus, keyword_of, 
 ghost use Rattle.core_reader.specs.LexedOf.{texts_of, is_large, IsSize, IsSigned, IsNumberOf, IsTokenOf, IsLexed};
 
 use crate::dialect::Dialect;
-use crate::look::{Found, Kind, Sign, look};
+use crate::look::{Found, Sign, TokenKind, look};
 use crate::syntax::NameId;
 use crate::token::{Further, Lexeme, Token};
 use indexmap::IndexSet;
@@ -155,20 +155,20 @@ fn token_of<'a>(
     dialect: Dialect,
     names: &mut IndexSet<&'a [u8]>,
     word: &'a [u8],
-    kind: Kind,
+    kind: TokenKind,
 ) -> Result<Token, AllocError>
     requires { index_set_len names.old < 2 ^ 32 }
     ensures { IfOk result (λ token.
         IsTokenOf dialect (texts_of names.old.keys) (texts_of names.new.keys) word.now kind token) }
 {
     match kind {
-        Kind::Lower => match keyword(dialect, word) {
+        TokenKind::Lower => match keyword(dialect, word) {
             Some(token) => Ok(token),
             None => Ok(Token::Name(name_id(names, word)?)),
         },
-        Kind::Upper => Ok(Token::Con(name_id(names, word)?)),
-        Kind::Digits => Ok(number_token(word)),
-        Kind::Sign(sign) => Ok(sign.token()),
+        TokenKind::Upper => Ok(Token::Con(name_id(names, word)?)),
+        TokenKind::Digits => Ok(number_token(word)),
+        TokenKind::Sign(sign) => Ok(sign.token()),
     }
 }
 

@@ -1,7 +1,7 @@
 //! What stands at the front of a text.
 
 ghost use Rattle.std.specs.Prelude.{◌≡◌};
-ghost use Rattle.core_reader.specs.LookOf.{looks, sign_of, further_sign_of};
+ghost use Rattle.core_reader.specs.LookOf.{scanned_token, sign_of, further_sign_of};
 
 use crate::bytes::{digit_len, inner_len, is_digit, is_lower, is_space, is_upper, line_len};
 use crate::dialect::Dialect;
@@ -23,7 +23,7 @@ pub enum Sign {
 
 /// A kind of token. Keywords are of the kind `Lower`.
 #[derive(Clone, Copy, Debug, PartialEq, Eq)]
-pub enum Kind {
+pub enum TokenKind {
     Lower,
     Upper,
     Digits,
@@ -34,7 +34,7 @@ pub enum Kind {
 #[derive(Clone, Copy, Debug, PartialEq, Eq)]
 pub enum Found {
     Gap(usize),
-    Token(usize, Kind),
+    Token(usize, TokenKind),
     Bad,
     End,
 }
@@ -46,12 +46,12 @@ fn further_sign_of(dialect: Dialect, byte: u8) -> Found
     match dialect {
         Dialect::Core | Dialect::Modules => Found::Bad,
         Dialect::Lambdas => match byte {
-            b'\\' => Found::Token(1, Kind::Sign(Sign::Backslash)),
+            b'\\' => Found::Token(1, TokenKind::Sign(Sign::Backslash)),
             _ => Found::Bad,
         },
         Dialect::Types => match byte {
-            b'|' => Found::Token(1, Kind::Sign(Sign::Bar)),
-            b':' => Found::Token(1, Kind::Sign(Sign::Colon)),
+            b'|' => Found::Token(1, TokenKind::Sign(Sign::Bar)),
+            b':' => Found::Token(1, TokenKind::Sign(Sign::Colon)),
             _ => Found::Bad,
         },
     }
@@ -61,19 +61,19 @@ fn sign_of(dialect: Dialect, byte: u8) -> Found
     ensures { result ≡ sign_of dialect byte }
 {
     match byte {
-        b';' => Found::Token(1, Kind::Sign(Sign::Semicolon)),
-        b'=' => Found::Token(1, Kind::Sign(Sign::Equals)),
-        b'{' => Found::Token(1, Kind::Sign(Sign::OpenBrace)),
-        b'}' => Found::Token(1, Kind::Sign(Sign::CloseBrace)),
-        b'(' => Found::Token(1, Kind::Sign(Sign::Open)),
-        b')' => Found::Token(1, Kind::Sign(Sign::Close)),
+        b';' => Found::Token(1, TokenKind::Sign(Sign::Semicolon)),
+        b'=' => Found::Token(1, TokenKind::Sign(Sign::Equals)),
+        b'{' => Found::Token(1, TokenKind::Sign(Sign::OpenBrace)),
+        b'}' => Found::Token(1, TokenKind::Sign(Sign::CloseBrace)),
+        b'(' => Found::Token(1, TokenKind::Sign(Sign::Open)),
+        b')' => Found::Token(1, TokenKind::Sign(Sign::Close)),
         _ => further_sign_of(dialect, byte),
     }
 }
 
 /// The token, separator or comment that begins with the first byte.
 pub(crate) fn look(dialect: Dialect, bytes: &[u8]) -> Found
-    ensures { result ≡ looks dialect bytes.now }
+    ensures { result ≡ scanned_token dialect bytes.now }
 {
     let [b, rest @ ..] = bytes else {
         return Found::End;
@@ -82,13 +82,13 @@ pub(crate) fn look(dialect: Dialect, bytes: &[u8]) -> Found
         return Found::Gap(1);
     }
     if is_lower(*b) {
-        return Found::Token(1 + inner_len(rest), Kind::Lower);
+        return Found::Token(1 + inner_len(rest), TokenKind::Lower);
     }
     if is_upper(*b) {
-        return Found::Token(1 + inner_len(rest), Kind::Upper);
+        return Found::Token(1 + inner_len(rest), TokenKind::Upper);
     }
     if is_digit(*b) {
-        return Found::Token(1 + digit_len(rest), Kind::Digits);
+        return Found::Token(1 + digit_len(rest), TokenKind::Digits);
     }
     if *b != b'-' {
         return sign_of(dialect, *b);
@@ -100,10 +100,10 @@ pub(crate) fn look(dialect: Dialect, bytes: &[u8]) -> Found
         return Found::Gap(2 + line_len(tail));
     }
     if *c == b'>' {
-        return Found::Token(2, Kind::Sign(Sign::Arrow));
+        return Found::Token(2, TokenKind::Sign(Sign::Arrow));
     }
     if is_digit(*c) {
-        return Found::Token(2 + digit_len(tail), Kind::Digits);
+        return Found::Token(2 + digit_len(tail), TokenKind::Digits);
     }
     Found::Bad
 }

@@ -9,6 +9,7 @@ ghost use Rattle.core_reader.specs.declared.token.Token.TheVariants as word;
 use crate::refusal::ReadRefusal;
 use crate::syntax::{Alt, App, Atom, Bind, Binder, Data, Expr, Function, NameId, Pattern};
 use crate::token::{Lexeme, Token};
+use limits::MOST_OPEN;
 use seq::Seq;
 use std::alloc::Global;
 
@@ -27,9 +28,6 @@ pub(crate) fn parse(alloc: Global, lexemes: &[Lexeme]) -> Result<Declarations, R
 {
     Parser::new(alloc, lexemes).program()
 }
-
-/// The most brackets, lets and cases that are open at one place.
-const MOST_OPEN: u32 = 200;
 
 /// A reader of tokens, one after the other, which has a method for each part of Core.
 #[derive(Drop)]

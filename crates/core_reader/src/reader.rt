@@ -4,7 +4,7 @@ ghost use Rattle.std.specs.Prelude.{◌≡◌, OnOk, IfOk, IfErr};
 ghost use Rattle.core_reader.specs.Tree.{program};
 ghost use Rattle.core_reader.specs.Programs.{IsText};
 ghost use Rattle.core_reader.specs.Rules.{IsUnbroken, IsCause};
-ghost use Rattle.core_reader.specs.Different.{AreDifferent};
+ghost use Rattle.core_reader.specs.Different.{AreDistinct};
 ghost use Rattle.core_reader.specs.Readable.{IsReadable};
 ghost use Rattle.core_reader.specs.Lexed.{texts_of};
 
@@ -14,11 +14,9 @@ use crate::parser::parse;
 use crate::refusal::ReadRefusal;
 use crate::syntax::{Core, Names};
 use indexmap::IndexSet;
+use limits::MOST_BYTES;
 use seq::Seq;
 use std::alloc::{AllocError, Global};
-
-/// The most bytes of a text.
-const MOST_BYTES: usize = 1048576;
 
 /// The program that a text stands for: the longest-token reading of the bytes gives tokens from
 /// which the grammar derives it. Places are offsets in bytes, and names have their numbers in the
@@ -33,7 +31,7 @@ pub fn read(alloc: Global, text: &[u8]) -> Result<Core, ReadRefusal>
     ensures readable { IfOk result (λ core. IsReadable (program core)) }
     ensures refused { IfErr result (IsCause text.now) }
 {
-    if text.len() > MOST_BYTES {
+    if text.len() > MOST_BYTES as usize {
         return Err(ReadRefusal::TextTooLong);
     }
     let lexed = lex(alloc, Dialect::Core, text)?;
@@ -47,7 +45,7 @@ pub fn read(alloc: Global, text: &[u8]) -> Result<Core, ReadRefusal>
 
 /// The names of a text that was taken apart as texts of their own, in the order of their numbers.
 pub fn copied_names(alloc: Global, names: &IndexSet<&[u8]>) -> Result<Names, AllocError>
-    requires { AreDifferent (texts_of names.now.keys) }
+    requires { AreDistinct (texts_of names.now.keys) }
     ensures { IfOk result (λ copy. copy ≡ texts_of names.now.keys) }
 {
     let mut entries = Vec::new(alloc);

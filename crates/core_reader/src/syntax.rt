@@ -1,7 +1,7 @@
 //! The syntax of Core.
 
 ghost use Rattle.std.specs.Prelude.{◌≡◌};
-ghost use Rattle.core_reader.specs.Different.{AreDifferent};
+ghost use Rattle.core_reader.specs.Different.{AreDistinct};
 
 use seq::Seq;
 use std::marker::Model;
@@ -94,19 +94,19 @@ pub struct Names {
 
 impl Model for Names {
     ghost use Rattle.std.specs.Prelude.{List, ℕ};
-    ghost use Rattle.core_reader.specs.Different.{AreDifferent};
+    ghost use Rattle.core_reader.specs.Different.{AreDistinct};
 
     ghost Value = { List (List ℕ) };
 
     ghost view = { λ n. n.entries.items };
 
-    ghost invariant = { λ n. AreDifferent n.entries.items };
+    ghost invariant = { λ n. AreDistinct n.entries.items };
 }
 
 impl Names {
     /// Names from their bytes. The number of each is its place among them.
     pub fn from_vec(entries: Vec<Seq<u8>>) -> Names
-        requires { AreDifferent entries.items }
+        requires { AreDistinct entries.items }
         ensures { result ≡ entries.items }
     {
         Names { entries }
@@ -115,7 +115,7 @@ impl Names {
     /// The bytes of each name, as they were given.
     pub fn into_vec(self) -> Vec<Seq<u8>>
         ensures given { result.items ≡ self }
-        ensures different { AreDifferent result.items }
+        ensures different { AreDistinct result.items }
     {
         let Names { entries } = self;
         entries

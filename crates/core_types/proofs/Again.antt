@@ -5,7 +5,7 @@ use Rattle.std.proofs.lemmas.Bool.{eqb-true, eq-eqb}
 use Rattle.seq.proofs.Truth.{two_ways}
 use Rattle.core_reader.specs.declared.syntax.Binder.{Binder}
 use Rattle.core_reader.specs.Tree.{Function}
-use Rattle.arity_check.specs.Faults.{also}
+use Rattle.arity_check.specs.Faults.{with_member}
 use Rattle.arity_check.specs.Known.{Known}
 use Rattle.arity_check.specs.Whole.{known_of, function_at}
 use Rattle.arity_check.proofs.Names.{int_named}
@@ -13,7 +13,7 @@ use Rattle.core_types.specs.Source.{TypeDecl, Signature, Source, erased}
 use Rattle.core_types.specs.Rules.{Broken}
 use Rattle.core_types.specs.Lists.{is_named}
 use Rattle.core_types.specs.Rules as rules
-use Rattle.core_types.specs.Found.{IsFirstAt, earlier_if, again_in, is_int, types_again, is_unknown, signatures_again}
+use Rattle.core_types.specs.Found.{IsFirstPlaceWhere, earlier_place_if, first_repeated_name, is_int, first_duplicate_type, is_unknown, first_bad_signature}
 use Rattle.core_types.proofs.Firsts.{Here, Adds, here_adds, then_adds, none_adds, all_added}
 use Rattle.core_types.proofs.Unknowns.{also_parts, also_same, also_before}
 
@@ -24,15 +24,15 @@ module _ {X : Type 0} (name : X → ℕ) where
   abbrev pub Earlier : (ℕ → Bool) → List X → ℕ → ℕ → Type 0
   Earlier seen xs j n = (seen n ≡ true) ⊎ ((i : ℕ) × (x : X) × (i < j) × (slice_get xs i ≡ Some x) × (name x ≡ n))
 
-  pub later_seen : (seen : ℕ → Bool) (x : X) (xs : List X) (j n : ℕ) → Earlier (also (name x) seen) xs j n → Earlier seen (x ∷ xs) (suc j) n
+  pub later_seen : (seen : ℕ → Bool) (x : X) (xs : List X) (j n : ℕ) → Earlier (with_member (name x) seen) xs j n → Earlier seen (x ∷ xs) (suc j) n
   later_seen seen x xs j n (inl e) = elim (also_parts (name x) n seen e) [ inl y ↦ inr (zero, x, omega arith, refl, y) | inr b ↦ inl b ]
   later_seen seen x xs j n (inr h) = let l = h.2 in inr (suc h.0, h.1, omega (arith, l), h.3, h.4)
 
-  pub seen_later : (seen : ℕ → Bool) (x : X) (xs : List X) (j n : ℕ) → Earlier seen (x ∷ xs) (suc j) n → Earlier (also (name x) seen) xs j n
+  pub seen_later : (seen : ℕ → Bool) (x : X) (xs : List X) (j n : ℕ) → Earlier seen (x ∷ xs) (suc j) n → Earlier (with_member (name x) seen) xs j n
   seen_later seen x xs j n (inl e) = inl (also_before (name x) n seen e)
   seen_later seen x xs j n (inr h) = go h.0 h.1 h.2 h.3 h.4
     where
-      go : (i : ℕ) (y : X) → i < suc j → slice_get (x ∷ xs) i ≡ Some y → name y ≡ n → Earlier (also (name x) seen) xs j n
+      go : (i : ℕ) (y : X) → i < suc j → slice_get (x ∷ xs) i ≡ Some y → name y ≡ n → Earlier (with_member (name x) seen) xs j n
       go zero y l e f = let same : x ≡ y = cc in inl (also_same (name x) n seen (ap name same ∙ f))
       go (suc i) y l e f = inr (i, y, omega (arith, l), e, f)
 
@@ -45,11 +45,11 @@ binder_name b = b.name.0
 
 abbrev AgainIn : (ℕ → Bool) → List Binder → ℕ → Type 0
 AgainIn seen [] at = ⊥
-AgainIn seen (x ∷ xs) at = Here (seen x.name.0) x.at at ⊎ AgainIn (also x.name.0 seen) xs at
+AgainIn seen (x ∷ xs) at = Here (seen x.name.0) x.at at ⊎ AgainIn (with_member x.name.0 seen) xs at
 
-again_adds : (seen : ℕ → Bool) (xs : List Binder) → Adds (AgainIn seen xs) (λ o. again_in seen o xs)
+again_adds : (seen : ℕ → Bool) (xs : List Binder) → Adds (AgainIn seen xs) (λ o. first_repeated_name seen o xs)
 again_adds seen [] = none_adds
-again_adds seen (x ∷ xs) = then_adds (Here (seen x.name.0) x.at) (AgainIn (also x.name.0 seen) xs) (λ o. earlier_if (seen x.name.0) o x.at) (λ o. again_in (also x.name.0 seen) o xs) (here_adds (seen x.name.0) x.at) (again_adds (also x.name.0 seen) xs)
+again_adds seen (x ∷ xs) = then_adds (Here (seen x.name.0) x.at) (AgainIn (with_member x.name.0 seen) xs) (λ o. earlier_place_if (seen x.name.0) o x.at) (λ o. first_repeated_name (with_member x.name.0 seen) o xs) (here_adds (seen x.name.0) x.at) (again_adds (with_member x.name.0 seen) xs)
 
 abbrev name_in : Binder → ℕ
 name_in b = b.name.0
@@ -65,7 +65,7 @@ to_again : (seen : ℕ → Bool) (xs : List Binder) (at : ℕ) → AgainIn seen 
 to_again seen [] at h = absurd h
 to_again seen (x ∷ xs) at (inl h) = record { j = zero; item = x; is = refl; place = h.1; before = inl h.0 }
 to_again seen (x ∷ xs) at (inr h) =
-    let w = to_again (also x.name.0 seen) xs at h in
+    let w = to_again (with_member x.name.0 seen) xs at h in
     record { j = suc w.j; item = w.item; is = w.is; place = w.place; before = later_seen name_in seen x xs w.j w.item.name.0 w.before }
 
 from_again : (seen : ℕ → Bool) (xs : List Binder) (j : ℕ) (x : Binder) → slice_get xs j ≡ Some x → Earlier name_in seen xs j x.name.0 → AgainIn seen xs x.at
@@ -73,7 +73,7 @@ from_again seen [] j x e h = absurd cc
 from_again seen (y ∷ xs) zero x e h =
     let same : y ≡ x = cc in
     inl (ap (λ (w : Binder). seen w.name.0) same ∙ none_earlier name_in seen (y ∷ xs) x.name.0 h, ap (λ (w : Binder). w.at) same)
-from_again seen (y ∷ xs) (suc j) x e h = inr (from_again (also y.name.0 seen) xs j x e (seen_later name_in seen y xs j x.name.0 h))
+from_again seen (y ∷ xs) (suc j) x e h = inr (from_again (with_member y.name.0 seen) xs j x e (seen_later name_in seen y xs j x.name.0 h))
 
 -- ---- types
 
@@ -92,16 +92,16 @@ module _ (k : Known) where
 
   abbrev TypesAgain : (ℕ → Bool) → List TypeDecl → ℕ → Type 0
   TypesAgain seen [] at = ⊥
-  TypesAgain seen (d ∷ ds) at = TypeAgain seen d at ⊎ TypesAgain (also d.name.name.0 seen) ds at
+  TypesAgain seen (d ∷ ds) at = TypeAgain seen d at ⊎ TypesAgain (with_member d.name.name.0 seen) ds at
 
-  types_adds : (seen : ℕ → Bool) (ds : List TypeDecl) → Adds (TypesAgain seen ds) (λ o. types_again k seen o ds)
+  types_adds : (seen : ℕ → Bool) (ds : List TypeDecl) → Adds (TypesAgain seen ds) (λ o. first_duplicate_type k seen o ds)
   types_adds seen [] = none_adds
   types_adds seen (d ∷ ds) =
       let n = d.name.name.0 in
-      then_adds (TypeAgain seen d) (TypesAgain (also n seen) ds) (λ o. again_in no_names (earlier_if (is_int k n) (earlier_if (seen n) o d.name.at) d.name.at) d.params) (λ o. types_again k (also n seen) o ds)
-      (then_adds (λ at. Here (seen n) d.name.at at ⊎ Here (is_int k n) d.name.at at) (AgainIn no_names d.params) (λ o. earlier_if (is_int k n) (earlier_if (seen n) o d.name.at) d.name.at) (λ o. again_in no_names o d.params)
-      (then_adds (Here (seen n) d.name.at) (Here (is_int k n) d.name.at) (λ o. earlier_if (seen n) o d.name.at) (λ o. earlier_if (is_int k n) o d.name.at) (here_adds (seen n) d.name.at) (here_adds (is_int k n) d.name.at)) (again_adds no_names d.params))
-      (types_adds (also n seen) ds)
+      then_adds (TypeAgain seen d) (TypesAgain (with_member n seen) ds) (λ o. first_repeated_name no_names (earlier_place_if (is_int k n) (earlier_place_if (seen n) o d.name.at) d.name.at) d.params) (λ o. first_duplicate_type k (with_member n seen) o ds)
+      (then_adds (λ at. Here (seen n) d.name.at at ⊎ Here (is_int k n) d.name.at at) (AgainIn no_names d.params) (λ o. earlier_place_if (is_int k n) (earlier_place_if (seen n) o d.name.at) d.name.at) (λ o. first_repeated_name no_names o d.params)
+      (then_adds (Here (seen n) d.name.at) (Here (is_int k n) d.name.at) (λ o. earlier_place_if (seen n) o d.name.at) (λ o. earlier_place_if (is_int k n) o d.name.at) (here_adds (seen n) d.name.at) (here_adds (is_int k n) d.name.at)) (again_adds no_names d.params))
+      (types_adds (with_member n seen) ds)
 
   -- what the first of these breaks
   data TypeBroken (seen : ℕ → Bool) (ds : List TypeDecl) (at : ℕ) : Type 0 where
@@ -109,7 +109,7 @@ module _ (k : Known) where
     Reserved : (j : ℕ) (d : TypeDecl) → slice_get ds j ≡ Some d → d.name.at ≡ at → is_int k d.name.name.0 ≡ true → TypeBroken seen ds at
     Parameter : (j : ℕ) (d : TypeDecl) → slice_get ds j ≡ Some d → Again no_names d.params at → TypeBroken seen ds at
 
-  later_type : (seen : ℕ → Bool) (d : TypeDecl) (ds : List TypeDecl) (at : ℕ) → TypeBroken (also d.name.name.0 seen) ds at → TypeBroken seen (d ∷ ds) at
+  later_type : (seen : ℕ → Bool) (d : TypeDecl) (ds : List TypeDecl) (at : ℕ) → TypeBroken (with_member d.name.name.0 seen) ds at → TypeBroken seen (d ∷ ds) at
   later_type seen d ds at (Twice j e is p b) = Twice (suc j) e is p (later_seen type_name seen d ds j e.name.name.0 b)
   later_type seen d ds at (Reserved j e is p b) = Reserved (suc j) e is p b
   later_type seen d ds at (Parameter j e is b) = Parameter (suc j) e is b
@@ -119,49 +119,49 @@ module _ (k : Known) where
   to_types seen (d ∷ ds) at (inl (inl (inl h))) = Twice zero d refl h.1 (inl h.0)
   to_types seen (d ∷ ds) at (inl (inl (inr h))) = Reserved zero d refl h.1 h.0
   to_types seen (d ∷ ds) at (inl (inr h)) = Parameter zero d refl (to_again no_names d.params at h)
-  to_types seen (d ∷ ds) at (inr h) = later_type seen d ds at (to_types (also d.name.name.0 seen) ds at h)
+  to_types seen (d ∷ ds) at (inr h) = later_type seen d ds at (to_types (with_member d.name.name.0 seen) ds at h)
 
   type_twice : (seen : ℕ → Bool) (ds : List TypeDecl) (j : ℕ) (d : TypeDecl) → slice_get ds j ≡ Some d → Earlier type_name seen ds j d.name.name.0 → TypesAgain seen ds d.name.at
   type_twice seen [] j d e h = absurd cc
   type_twice seen (c ∷ ds) zero d e h =
       let same : c ≡ d = cc in
       inl (inl (inl (ap (λ (w : TypeDecl). seen w.name.name.0) same ∙ none_earlier type_name seen (c ∷ ds) d.name.name.0 h, ap (λ (w : TypeDecl). w.name.at) same)))
-  type_twice seen (c ∷ ds) (suc j) d e h = inr (type_twice (also c.name.name.0 seen) ds j d e (seen_later type_name seen c ds j d.name.name.0 h))
+  type_twice seen (c ∷ ds) (suc j) d e h = inr (type_twice (with_member c.name.name.0 seen) ds j d e (seen_later type_name seen c ds j d.name.name.0 h))
 
   type_reserved : (seen : ℕ → Bool) (ds : List TypeDecl) (j : ℕ) (d : TypeDecl) → slice_get ds j ≡ Some d → is_int k d.name.name.0 ≡ true → TypesAgain seen ds d.name.at
   type_reserved seen [] j d e h = absurd cc
   type_reserved seen (c ∷ ds) zero d e h =
       let same : c ≡ d = cc in
       inl (inl (inr (ap (λ (w : TypeDecl). is_int k w.name.name.0) same ∙ h, ap (λ (w : TypeDecl). w.name.at) same)))
-  type_reserved seen (c ∷ ds) (suc j) d e h = inr (type_reserved (also c.name.name.0 seen) ds j d e h)
+  type_reserved seen (c ∷ ds) (suc j) d e h = inr (type_reserved (with_member c.name.name.0 seen) ds j d e h)
 
   parameter_again : (seen : ℕ → Bool) (ds : List TypeDecl) (j : ℕ) (d : TypeDecl) (at : ℕ) → slice_get ds j ≡ Some d → AgainIn no_names d.params at → TypesAgain seen ds at
   parameter_again seen [] j d at e h = absurd cc
   parameter_again seen (c ∷ ds) zero d at e h =
       let same : c ≡ d = cc in
       inl (inr (subst (λ (w : TypeDecl). AgainIn no_names w.params at) (sym same) h))
-  parameter_again seen (c ∷ ds) (suc j) d at e h = inr (parameter_again (also c.name.name.0 seen) ds j d at e h)
+  parameter_again seen (c ∷ ds) (suc j) d at e h = inr (parameter_again (with_member c.name.name.0 seen) ds j d at e h)
 
   -- ---- signatures
 
   abbrev SignaturesAgain : (ℕ → Bool) → List Signature → ℕ → Type 0
   SignaturesAgain seen [] at = ⊥
   SignaturesAgain seen (g ∷ gs) at =
-      (Here (seen g.function.name.0) g.function.at at ⊎ Here (is_unknown (k.function g.function.name.0)) g.function.at at) ⊎ SignaturesAgain (also g.function.name.0 seen) gs at
+      (Here (seen g.function.name.0) g.function.at at ⊎ Here (is_unknown (k.function g.function.name.0)) g.function.at at) ⊎ SignaturesAgain (with_member g.function.name.0 seen) gs at
 
-  signatures_adds : (seen : ℕ → Bool) (gs : List Signature) → Adds (SignaturesAgain seen gs) (λ o. signatures_again k seen o gs)
+  signatures_adds : (seen : ℕ → Bool) (gs : List Signature) → Adds (SignaturesAgain seen gs) (λ o. first_bad_signature k seen o gs)
   signatures_adds seen [] = none_adds
   signatures_adds seen (g ∷ gs) =
       let n = g.function.name.0 in
       let u = is_unknown (k.function n) in
-      then_adds (λ at. Here (seen n) g.function.at at ⊎ Here u g.function.at at) (SignaturesAgain (also n seen) gs) (λ o. earlier_if u (earlier_if (seen n) o g.function.at) g.function.at) (λ o. signatures_again k (also n seen) o gs)
-      (then_adds (Here (seen n) g.function.at) (Here u g.function.at) (λ o. earlier_if (seen n) o g.function.at) (λ o. earlier_if u o g.function.at) (here_adds (seen n) g.function.at) (here_adds u g.function.at)) (signatures_adds (also n seen) gs)
+      then_adds (λ at. Here (seen n) g.function.at at ⊎ Here u g.function.at at) (SignaturesAgain (with_member n seen) gs) (λ o. earlier_place_if u (earlier_place_if (seen n) o g.function.at) g.function.at) (λ o. first_bad_signature k (with_member n seen) o gs)
+      (then_adds (Here (seen n) g.function.at) (Here u g.function.at) (λ o. earlier_place_if (seen n) o g.function.at) (λ o. earlier_place_if u o g.function.at) (here_adds (seen n) g.function.at) (here_adds u g.function.at)) (signatures_adds (with_member n seen) gs)
 
   data SignatureBroken (seen : ℕ → Bool) (gs : List Signature) (at : ℕ) : Type 0 where
     SignedTwice : (j : ℕ) (g : Signature) → slice_get gs j ≡ Some g → g.function.at ≡ at → Earlier signed_name seen gs j g.function.name.0 → SignatureBroken seen gs at
     NoFunction : (j : ℕ) (g : Signature) → slice_get gs j ≡ Some g → g.function.at ≡ at → is_unknown (k.function g.function.name.0) ≡ true → SignatureBroken seen gs at
 
-  later_signature : (seen : ℕ → Bool) (g : Signature) (gs : List Signature) (at : ℕ) → SignatureBroken (also g.function.name.0 seen) gs at → SignatureBroken seen (g ∷ gs) at
+  later_signature : (seen : ℕ → Bool) (g : Signature) (gs : List Signature) (at : ℕ) → SignatureBroken (with_member g.function.name.0 seen) gs at → SignatureBroken seen (g ∷ gs) at
   later_signature seen g gs at (SignedTwice j h is p b) = SignedTwice (suc j) h is p (later_seen signed_name seen g gs j h.function.name.0 b)
   later_signature seen g gs at (NoFunction j h is p b) = NoFunction (suc j) h is p b
 
@@ -169,21 +169,21 @@ module _ (k : Known) where
   to_signatures seen [] at h = absurd h
   to_signatures seen (g ∷ gs) at (inl (inl h)) = SignedTwice zero g refl h.1 (inl h.0)
   to_signatures seen (g ∷ gs) at (inl (inr h)) = NoFunction zero g refl h.1 h.0
-  to_signatures seen (g ∷ gs) at (inr h) = later_signature seen g gs at (to_signatures (also g.function.name.0 seen) gs at h)
+  to_signatures seen (g ∷ gs) at (inr h) = later_signature seen g gs at (to_signatures (with_member g.function.name.0 seen) gs at h)
 
   signed_twice : (seen : ℕ → Bool) (gs : List Signature) (j : ℕ) (g : Signature) → slice_get gs j ≡ Some g → Earlier signed_name seen gs j g.function.name.0 → SignaturesAgain seen gs g.function.at
   signed_twice seen [] j g e h = absurd cc
   signed_twice seen (f ∷ gs) zero g e h =
       let same : f ≡ g = cc in
       inl (inl (ap (λ (w : Signature). seen w.function.name.0) same ∙ none_earlier signed_name seen (f ∷ gs) g.function.name.0 h, ap (λ (w : Signature). w.function.at) same))
-  signed_twice seen (f ∷ gs) (suc j) g e h = inr (signed_twice (also f.function.name.0 seen) gs j g e (seen_later signed_name seen f gs j g.function.name.0 h))
+  signed_twice seen (f ∷ gs) (suc j) g e h = inr (signed_twice (with_member f.function.name.0 seen) gs j g e (seen_later signed_name seen f gs j g.function.name.0 h))
 
   no_function : (seen : ℕ → Bool) (gs : List Signature) (j : ℕ) (g : Signature) → slice_get gs j ≡ Some g → is_unknown (k.function g.function.name.0) ≡ true → SignaturesAgain seen gs g.function.at
   no_function seen [] j g e h = absurd cc
   no_function seen (f ∷ gs) zero g e h =
       let same : f ≡ g = cc in
       inl (inr (ap (λ (w : Signature). is_unknown (k.function w.function.name.0)) same ∙ h, ap (λ (w : Signature). w.function.at) same))
-  no_function seen (f ∷ gs) (suc j) g e h = inr (no_function (also f.function.name.0 seen) gs j g e h)
+  no_function seen (f ∷ gs) (suc j) g e h = inr (no_function (with_member f.function.name.0 seen) gs j g e h)
 
 -- ---- functions by their names
 
@@ -242,8 +242,8 @@ module _ (s : Source) where
   pub type_is_int : (i : ℕ) (d : TypeDecl) → slice_get s.types i ≡ Some d → is_named s (codes "Int") d.name.name.0 ≡ true → Rule81 d.name.at
   type_is_int i d e h = type_reserved known no_names s.types i d e (int_named (erased s) d.name.name.0 ∙ h)
 
-  pub again_first : IsFirstAt Rule81 (types_again known no_names None s.types)
-  again_first = all_added Rule81 (λ o. types_again known no_names o s.types) (types_adds known no_names s.types)
+  pub again_first : IsFirstPlaceWhere Rule81 (first_duplicate_type known no_names None s.types)
+  again_first = all_added Rule81 (λ o. first_duplicate_type known no_names o s.types) (types_adds known no_names s.types)
 
   signature_breaks : (at : ℕ) → SignatureBroken known no_names s.signatures at → Broken s 85 at
   signature_breaks at (SignedTwice j g e p h) = let w = unseen signed_name s.signatures j g.function.name.0 h in subst (Broken s 85) p (rules.SignedAgain w.2 w.3 e (sym w.4))
@@ -258,5 +258,5 @@ module _ (s : Source) where
   pub signed_unknown : (i : ℕ) (g : Signature) → slice_get s.signatures i ≡ Some g → ((j : ℕ) (f : Function) → slice_get s.functions j ≡ Some f → f.name ≢ g.function.name.0) → Rule85 g.function.at
   signed_unknown i g e h = no_function known no_names s.signatures i g e (unfound_function s.functions 0 g.function.name.0 h)
 
-  pub signed_first : IsFirstAt Rule85 (signatures_again known no_names None s.signatures)
-  signed_first = all_added Rule85 (λ o. signatures_again known no_names o s.signatures) (signatures_adds known no_names s.signatures)
+  pub signed_first : IsFirstPlaceWhere Rule85 (first_bad_signature known no_names None s.signatures)
+  signed_first = all_added Rule85 (λ o. first_bad_signature known no_names o s.signatures) (signatures_adds known no_names s.signatures)

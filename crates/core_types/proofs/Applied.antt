@@ -9,7 +9,7 @@ use Rattle.core_reader.specs.Tree.{Term, Terms, Application, Bracket, term, appl
 use Rattle.core_reader.proofs.TreeOf.{application_of, term_of-Bracket}
 use Rattle.core_types.specs.Source.{Source}
 use Rattle.core_types.specs.Typing.{Typed, Open, AtBracket, Locals, within_term, within_terms, of_app}
-use Rattle.core_types.specs.Building.{own_constraint}
+use Rattle.core_types.specs.Building.{application_constraint}
 use Rattle.core_types.proofs.Heads.{some_arguments, bracket_within}
 
 abbrev made : Term → Terms → Application
@@ -17,14 +17,14 @@ made head args = record { head = head; args = args }
 
 module _ (s : Source) (ls : Locals) (t : Typed) (app : App) where
   abbrev IsWhole : Application → Type 0
-  IsWhole a = of_app s ls t a ≡ own_constraint s ls t a ∷ (within_term s ls a.head ++ within_terms s ls a.args)
+  IsWhole a = of_app s ls t a ≡ application_constraint s ls t a ∷ (within_term s ls a.head ++ within_terms s ls a.args)
 
   pub with_some : (app.args ≡ [] → ⊥) → IsWhole (application app)
   with_some some = subst IsWhole (sym (application_of app)) (some_arguments s ls t (term app.head) app.args some)
 
-  pub parts_are : own_constraint s ls t (application app) ∷ (within_term s ls (application app).head ++ within_terms s ls (application app).args)
-      ≡ own_constraint s ls t (application app) ∷ (within_term s ls (term app.head) ++ within_terms s ls (terms_of (map term app.args)))
-  parts_are = ap (λ (a : Application). own_constraint s ls t (application app) ∷ (within_term s ls a.head ++ within_terms s ls a.args)) (application_of app)
+  pub parts_are : application_constraint s ls t (application app) ∷ (within_term s ls (application app).head ++ within_terms s ls (application app).args)
+      ≡ application_constraint s ls t (application app) ∷ (within_term s ls (term app.head) ++ within_terms s ls (terms_of (map term app.args)))
+  parts_are = ap (λ (a : Application). application_constraint s ls t (application app) ∷ (within_term s ls a.head ++ within_terms s ls a.args)) (application_of app)
 
 module _ (s : Source) (ls : Locals) (a : Atom) where
   bracket_is : (app : Box App Global) (at : ℕ) → a ≡ atom.Bracket app at → term a ≡ Bracket (term app.value.head) (terms_of (map term app.value.args)) at

@@ -9,13 +9,13 @@ use Rattle.core_reader.specs.declared.syntax.Alt.{Alt}
 use Rattle.core_reader.specs.Tree.{expr, alternative, alts_of}
 use Rattle.core_reader.proofs.TreeOf.{alternative_of}
 use Rattle.core_types.specs.Source.{TypeDecl, Constructor, Source}
-use Rattle.core_types.specs.Typing.{Typed, Int, Constraint, Locals, declared_by, read_list, used_at, applied, constraint, binds, binds_all, of_pattern, with_pattern, of_expr, of_alts}
+use Rattle.core_types.specs.Typing.{Typed, Int, Constraint, Locals, constructor_by_name, read_list, used_at, applied, constraint, binds, binds_all, of_pattern, with_pattern, of_expr, of_alts}
 
 -- ---- patterns
 
 module _ (s : Source) (u : Typed) (ls : Locals) (p : Pattern) where
   module _ (c : Binder) (xs : List Binder) (is : p ≡ pattern.Con c xs) where
-    module _ (d : TypeDecl) (b : Constructor) (e : declared_by s.types c.name.0 ≡ Some (d, b)) where
+    module _ (d : TypeDecl) (b : Constructor) (e : constructor_by_name s.types c.name.0 ≡ Some (d, b)) where
       pub con_constraint : of_pattern s u p ≡ constraint s c.at u (applied s d (used_at s c.at)) ∷ []
       con_constraint = ap (of_pattern s u) is ∙ ap (λ (o : Option (TypeDecl × Constructor)). elim o [ Some x ↦ constraint s c.at u (applied s x.0 (used_at s c.at)) ∷ [] | None ↦ [] ]) e
 

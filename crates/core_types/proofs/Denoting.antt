@@ -9,10 +9,10 @@ use Rattle.unification.specs.declared.term.Symbol.TheVariants as symbol
 use Rattle.unification.specs.declared.term.Term.{Term}
 use Rattle.unification.specs.declared.term.Term.TheVariants as term
 use Rattle.unification.specs.Terms.{AreEarlier, arguments_in}
-use Rattle.core_types.specs.declared.nodes.Key as code-key
+use Rattle.core_types.specs.declared.nodes.TypeVariableKey as code-key
 use Rattle.core_types.specs.declared.nodes.Nodes.{Nodes}
-use Rattle.core_types.specs.Typing.{Key, AtBinder, AtResult, AtBracket, AtScrutinee, AtUse, Typed, Types, Int, Open, Rigid, Named, Arrow, NoTypeds, AndTyped}
-use Rattle.core_types.specs.Nodes.{key_of, number_of, is_use, IsInRange, entry_of, found_of, entered, named_by, IsVariable, IsSound, IsMade, AreBelow, Denotes, DenoteAll, Grows, Gives}
+use Rattle.core_types.specs.Typing.{TypeVariableKey, AtBinder, AtResult, AtBracket, AtScrutinee, AtUse, Typed, Types, Int, Open, Rigid, Named, Arrow, NoTypeds, AndTyped}
+use Rattle.core_types.specs.Nodes.{key_of, number_of, is_use, IsInRange, entry_of, index_of_key, entered, named_by, IsVariableAt, IsSound, IsSymbolAt, AreBelow, Denotes, DenoteAll, ExtendsNodes, AddsTermForType}
 
 -- ---- lists
 
@@ -47,12 +47,12 @@ eq_true a b e = grind (arith, e)
 pub none_in : (x : ℕ) → In x [] → ⊥
 none_in x h = elim h [ ]
 
-named_more : (ks : List (Option code-key.Key)) (k : Option code-key.Key) (x : ℕ) (q : Key) → named_by (slice_get ks x) ≡ Some q → named_by (slice_get (ks ++ k ∷ []) x) ≡ Some q
+named_more : (ks : List (Option code-key.TypeVariableKey)) (k : Option code-key.TypeVariableKey) (x : ℕ) (q : TypeVariableKey) → named_by (slice_get ks x) ≡ Some q → named_by (slice_get (ks ++ k ∷ []) x) ≡ Some q
 named_more [] k x q e = absurd cc
 named_more (l ∷ ks) k zero q e = e
 named_more (l ∷ ks) k (suc x) q e = named_more ks k x q e
 
-variable_cases : (ts : List Term) (ks : List (Option code-key.Key)) (t : Term) (k : Option code-key.Key) (x : ℕ) (q : Key) → length ks ≡ length ts
+variable_cases : (ts : List Term) (ks : List (Option code-key.TypeVariableKey)) (t : Term) (k : Option code-key.TypeVariableKey) (x : ℕ) (q : TypeVariableKey) → length ks ≡ length ts
     → slice_get (ts ++ t ∷ []) x ≡ Some term.Variable → named_by (slice_get (ks ++ k ∷ []) x) ≡ Some q
     → ((slice_get ts x ≡ Some term.Variable) × (named_by (slice_get ks x) ≡ Some q)) ⊎ ((x ≡ length ts) × (t ≡ term.Variable) × (named_by (Some k) ≡ Some q))
 variable_cases [] [] t k zero q l e f = inr (refl, cc, f)
@@ -65,7 +65,7 @@ variable_cases (s ∷ ts) (j ∷ ks) t k (suc x) q l e f =
 
 -- ---- keys
 
-pub same_key : (q r : Key) → IsInRange q → IsInRange r → is_use q ≡ is_use r → number_of q ≡ number_of r → q ≡ r
+pub same_key : (q r : TypeVariableKey) → IsInRange q → IsInRange r → is_use q ≡ is_use r → number_of q ≡ number_of r → q ≡ r
 same_key (AtBinder a) (AtBinder b) l m u e = ap AtBinder (omega (arith, e))
 same_key (AtBinder a) (AtResult b) l m u e = absurd (omega (arith, e))
 same_key (AtBinder a) (AtBracket b) l m u e = absurd (omega (arith, e))
@@ -111,8 +111,8 @@ number_still f c d at x none e = go (d == c) refl
 number_there : (c at : ℕ) (o : Option ℕ) → (if c == c then Some at else o) ≡ Some at
 number_there c at o = let y : (c == c) ≡ true = grind arith in ap (λ b. if b then Some at else o) y
 
-module _ (n : Nodes) (q : Key) (at : ℕ) where
-  entered_cases : (r : Key) (x : ℕ) → IsInRange q → IsInRange r → entered n q at (is_use r) (number_of r) ≡ Some x → ((r ≡ q) × (at ≡ x)) ⊎ (found_of n r ≡ Some x)
+module _ (n : Nodes) (q : TypeVariableKey) (at : ℕ) where
+  entered_cases : (r : TypeVariableKey) (x : ℕ) → IsInRange q → IsInRange r → entered n q at (is_use r) (number_of r) ≡ Some x → ((r ≡ q) × (at ≡ x)) ⊎ (index_of_key n r ≡ Some x)
   entered_cases r x l m e = go (is_use q) (is_use r) refl refl e
     where
       go : (b c : Bool) → is_use q ≡ b → is_use r ≡ c
@@ -124,7 +124,7 @@ module _ (n : Nodes) (q : Key) (at : ℕ) where
       go false true u v e = inr e
       go false false u v e = elim (number_cases (get nat_cmp n.places) (number_of q) (number_of r) at x e) [ inl h ↦ inl (same_key r q m l (v ∙ sym u) h.0, h.1) | inr h ↦ inr h ]
 
-  entered_still : (r : Key) (x : ℕ) → found_of n q ≡ None → found_of n r ≡ Some x → entered n q at (is_use r) (number_of r) ≡ Some x
+  entered_still : (r : TypeVariableKey) (x : ℕ) → index_of_key n q ≡ None → index_of_key n r ≡ Some x → entered n q at (is_use r) (number_of r) ≡ Some x
   entered_still r x none e = go (is_use q) (is_use r) none e
     where
       go : (b c : Bool) → (if b then get nat_cmp n.uses (number_of q) else get nat_cmp n.places (number_of q)) ≡ None
@@ -146,7 +146,7 @@ module _ (n : Nodes) (q : Key) (at : ℕ) where
 
 -- ---- what terms stand for
 
-module _ (n n' : Nodes) (terms : (x : ℕ) (v : Term) → slice_get n.terms.items x ≡ Some v → slice_get n'.terms.items x ≡ Some v) (variables : (q : Key) (x : ℕ) → IsVariable n q x → IsVariable n' q x) where
+module _ (n n' : Nodes) (terms : (x : ℕ) (v : Term) → slice_get n.terms.items x ≡ Some v → slice_get n'.terms.items x ≡ Some v) (variables : (q : TypeVariableKey) (x : ℕ) → IsVariableAt n q x → IsVariableAt n' q x) where
   mutual
     kept : (t : Typed) (x : ℕ) → Denotes n t x → Denotes n' t x
     kept Int x h = terms x (term.Made symbol.Integer []) h
@@ -171,11 +171,11 @@ earlier_more ts t new old = λ i x h. go i x (slice_get (ts ++ t ∷ []) i) refl
       | inr g ↦ (let l = new x (subst (λ w. In x (arguments_in (Some w))) (sym g.1) h) in let m = g.0 in omega (arith, l, m))
     ]
 
-module _ (n n' : Nodes) (t : Term) (k : Option code-key.Key) (grown : n'.terms.items ≡ n.terms.items ++ t ∷ []) (keyed : n'.keys.items ≡ n.keys.items ++ k ∷ []) (h : IsSound n) where
+module _ (n n' : Nodes) (t : Term) (k : Option code-key.TypeVariableKey) (grown : n'.terms.items ≡ n.terms.items ++ t ∷ []) (keyed : n'.keys.items ≡ n.keys.items ++ k ∷ []) (h : IsSound n) where
   terms_kept : (x : ℕ) (v : Term) → slice_get n.terms.items x ≡ Some v → slice_get n'.terms.items x ≡ Some v
   terms_kept x v e = ap (λ ts. slice_get ts x) grown ∙ get_more n.terms.items (t ∷ []) x v e
 
-  variables_kept : (q : Key) (x : ℕ) → IsVariable n q x → IsVariable n' q x
+  variables_kept : (q : TypeVariableKey) (x : ℕ) → IsVariableAt n q x → IsVariableAt n' q x
   variables_kept q x e = (terms_kept x term.Variable e.0, ap (λ ks. named_by (slice_get ks x)) keyed ∙ named_more n.keys.items k x q e.1)
 
   same_length : length n'.keys.items ≡ length n'.terms.items
@@ -184,13 +184,13 @@ module _ (n n' : Nodes) (t : Term) (k : Option code-key.Key) (grown : n'.terms.i
   no_shorter : length n.terms.items ≤ length n'.terms.items
   no_shorter = let l = ap length grown ∙ length_last n.terms.items t in omega (arith, l)
 
-  was_or_new : (q : Key) (x : ℕ) → IsVariable n' q x → IsVariable n q x ⊎ ((x ≡ length n.terms.items) × (t ≡ term.Variable) × (named_by (Some k) ≡ Some q))
+  was_or_new : (q : TypeVariableKey) (x : ℕ) → IsVariableAt n' q x → IsVariableAt n q x ⊎ ((x ≡ length n.terms.items) × (t ≡ term.Variable) × (named_by (Some k) ≡ Some q))
   was_or_new q x e = variable_cases n.terms.items n.keys.items t k x q h.same (sym (ap (λ ts. slice_get ts x) grown) ∙ e.0) (sym (ap (λ ks. named_by (slice_get ks x)) keyed) ∙ e.1)
 
   earlier_kept : ((x : ℕ) → In x (arguments_in (Some t)) → x < length n.terms.items) → AreEarlier n'.terms.items
   earlier_kept new = subst AreEarlier (sym grown) (earlier_more n.terms.items t new h.earlier)
 
-  grown_by : IsSound n' → Grows n n'
+  grown_by : IsSound n' → ExtendsNodes n n'
   grown_by sound = record { sound = sound; longer = no_shorter; one = kept n n' terms_kept variables_kept; all = all_kept n n' terms_kept variables_kept }
 
   at_last : slice_get n'.terms.items (length n.terms.items) ≡ Some t
@@ -201,10 +201,10 @@ module _ (n n' : Nodes) (t : Term) (k : Option code-key.Key) (grown : n'.terms.i
 
 -- a symbol was added
 module _ (n n' : Nodes) (s : Symbol) (xs : List ℕ) (grown : n'.terms.items ≡ n.terms.items ++ term.Made s xs ∷ []) (keyed : n'.keys.items ≡ n.keys.items ++ None ∷ []) (h : IsSound n) where
-  was : (q : Key) (x : ℕ) → IsVariable n' q x → IsVariable n q x
+  was : (q : TypeVariableKey) (x : ℕ) → IsVariableAt n' q x → IsVariableAt n q x
   was q x e = elim (was_or_new n n' (term.Made s xs) None grown keyed h q x e) [ inl y ↦ y | inr y ↦ absurd (let never = y.2 in cc) ]
 
-  pub made_grows : n'.uses ≡ n.uses → n'.places ≡ n.places → ((x : ℕ) → In x xs → x < length n.terms.items) → Grows n n'
+  pub made_grows : n'.uses ≡ n.uses → n'.places ≡ n.places → ((x : ℕ) → In x xs → x < length n.terms.items) → ExtendsNodes n n'
   made_grows u p new = grown_by n n' (term.Made s xs) None grown keyed h (record {
     same = same_length n n' (term.Made s xs) None grown keyed h;
     earlier = earlier_kept n n' (term.Made s xs) None grown keyed h new;
@@ -213,38 +213,38 @@ module _ (n n' : Nodes) (s : Symbol) (xs : List ℕ) (grown : n'.terms.items ≡
     held = λ q x l e. variables_kept n n' (term.Made s xs) None grown keyed h q x (h.held q x l (sym (found q) ∙ e));
   })
     where
-      found : (q : Key) → found_of n' q ≡ found_of n q
+      found : (q : TypeVariableKey) → index_of_key n' q ≡ index_of_key n q
       found q = λ i. if is_use q then get nat_cmp (u i) (number_of q) else get nat_cmp (p i) (number_of q)
 
-  pub made_is : (x : ℕ) → x ≡ length n.terms.items → IsMade n' x s xs
+  pub made_is : (x : ℕ) → x ≡ length n.terms.items → IsSymbolAt n' x s xs
   made_is x last = ap (λ i. slice_get n'.terms.items i) last ∙ at_last n n' (term.Made s xs) None grown keyed h
 
 -- a variable was added
-module _ (n n' : Nodes) (k : code-key.Key) (at : ℕ) (grown : n'.terms.items ≡ n.terms.items ++ term.Variable ∷ []) (keyed : n'.keys.items ≡ n.keys.items ++ Some k ∷ [])
+module _ (n n' : Nodes) (k : code-key.TypeVariableKey) (at : ℕ) (grown : n'.terms.items ≡ n.terms.items ++ term.Variable ∷ []) (keyed : n'.keys.items ≡ n.keys.items ++ Some k ∷ [])
     (last : at ≡ length n.terms.items) (more : (used : Bool) (number : ℕ) → entry_of n' used number ≡ entered n (key_of k) at used number)
-    (range : IsInRange (key_of k)) (none : found_of n (key_of k) ≡ None) (h : IsSound n) where
-  new_is : IsVariable n' (key_of k) at
+    (range : IsInRange (key_of k)) (none : index_of_key n (key_of k) ≡ None) (h : IsSound n) where
+  new_is : IsVariableAt n' (key_of k) at
   new_is = (ap (λ i. slice_get n'.terms.items i) last ∙ at_last n n' term.Variable (Some k) grown keyed h, ap (λ i. named_by (slice_get n'.keys.items i)) last ∙ named_last n n' term.Variable (Some k) grown keyed h)
 
-  new_ranged : (q : Key) (x : ℕ) → IsVariable n' q x → IsInRange q
+  new_ranged : (q : TypeVariableKey) (x : ℕ) → IsVariableAt n' q x → IsInRange q
   new_ranged q x e = elim (was_or_new n n' term.Variable (Some k) grown keyed h q x e) [
     | inl y ↦ h.ranged q x y
     | inr y ↦ (let same : key_of k ≡ q = (let z = y.2 in cc) in subst IsInRange same range)
   ]
 
-  new_listed : (q : Key) (x : ℕ) → IsVariable n' q x → found_of n' q ≡ Some x
+  new_listed : (q : TypeVariableKey) (x : ℕ) → IsVariableAt n' q x → index_of_key n' q ≡ Some x
   new_listed q x e = elim (was_or_new n n' term.Variable (Some k) grown keyed h q x e) [
     | inl y ↦ more (is_use q) (number_of q) ∙ entered_still n (key_of k) at q x none (h.listed q x y)
-    | inr y ↦ (let same : key_of k ≡ q = (let z = y.2 in cc) in subst (λ q. found_of n' q ≡ Some x) same (more (is_use (key_of k)) (number_of (key_of k)) ∙ entered_there n (key_of k) at ∙ ap Some (last ∙ sym y.0)))
+    | inr y ↦ (let same : key_of k ≡ q = (let z = y.2 in cc) in subst (λ q. index_of_key n' q ≡ Some x) same (more (is_use (key_of k)) (number_of (key_of k)) ∙ entered_there n (key_of k) at ∙ ap Some (last ∙ sym y.0)))
   ]
 
-  new_held : (q : Key) (x : ℕ) → IsInRange q → found_of n' q ≡ Some x → IsVariable n' q x
+  new_held : (q : TypeVariableKey) (x : ℕ) → IsInRange q → index_of_key n' q ≡ Some x → IsVariableAt n' q x
   new_held q x l e = elim (entered_cases n (key_of k) at q x range l (sym (more (is_use q) (number_of q)) ∙ e)) [
-    | inl y ↦ subst (λ q. IsVariable n' q x) (sym y.0) (subst (IsVariable n' (key_of k)) y.1 new_is)
+    | inl y ↦ subst (λ q. IsVariableAt n' q x) (sym y.0) (subst (IsVariableAt n' (key_of k)) y.1 new_is)
     | inr y ↦ variables_kept n n' term.Variable (Some k) grown keyed h q x (h.held q x l y)
   ]
 
-  pub variable_grows : Grows n n'
+  pub variable_grows : ExtendsNodes n n'
   variable_grows = grown_by n n' term.Variable (Some k) grown keyed h (record {
     same = same_length n n' term.Variable (Some k) grown keyed h;
     earlier = earlier_kept n n' term.Variable (Some k) grown keyed h (λ x i. absurd (none_in x i));
@@ -279,10 +279,10 @@ module _ (n : Nodes) where
   two_below t u x y h k z (there here) = denotes_below u y k
   two_below t u x y h k z (there (there i)) = absurd (none_in z i)
 
-pub grows_refl : (n : Nodes) → IsSound n → Grows n n
+pub grows_refl : (n : Nodes) → IsSound n → ExtendsNodes n n
 grows_refl n h = record { sound = h; longer = omega arith; one = λ t x d. d; all = λ ts xs d. d }
 
-pub grows_then : (n n' n'' : Nodes) → Grows n n' → Grows n' n'' → Grows n n''
+pub grows_then : (n n' n'' : Nodes) → ExtendsNodes n n' → ExtendsNodes n' n'' → ExtendsNodes n n''
 grows_then n n' n'' g h = let l = g.longer in let m = h.longer in
     record { sound = h.sound; longer = omega (arith, l, m); one = λ t x d. h.one t x (g.one t x d); all = λ ts xs d. h.all ts xs (g.all ts xs d) }
 
@@ -293,13 +293,13 @@ none_sound n t k p u = record {
   earlier = subst AreEarlier (sym t) no_terms;
   ranged = λ q x e. absurd (no_variable q x e);
   listed = λ q x e. absurd (no_variable q x e);
-  held = λ q x l e. absurd (never (found_of n q) x (go (is_use q) (number_of q)) e);
+  held = λ q x l e. absurd (never (index_of_key n q) x (go (is_use q) (number_of q)) e);
 }
   where
     no_terms : AreEarlier []
     no_terms = λ i x h. absurd (none_in x h)
 
-    no_variable : (q : Key) (x : ℕ) → IsVariable n q x → ⊥
+    no_variable : (q : TypeVariableKey) (x : ℕ) → IsVariableAt n q x → ⊥
     no_variable q x e = let f : slice_get [] x ≡ Some term.Variable = sym (ap (λ ts. slice_get ts x) t) ∙ e.0 in cc
 
     go : (b : Bool) (c : ℕ) → (if b then get nat_cmp n.uses c else get nat_cmp n.places c) ≡ None
@@ -313,21 +313,21 @@ none_sound n t k p u = record {
 -- ---- what is given
 
 -- a symbol without arguments
-pub leaf_gives : (n n' : Nodes) (t : Typed) (x : ℕ) (s : Symbol) (xs : List ℕ) → xs ≡ [] → (IsSound n → AreBelow n xs → Grows n n') → (IsSound n → IsMade n' x s xs) → (IsMade n' x s [] → Denotes n' t x)
-    → IsSound n → Gives n n' t x
+pub leaf_gives : (n n' : Nodes) (t : Typed) (x : ℕ) (s : Symbol) (xs : List ℕ) → xs ≡ [] → (IsSound n → AreBelow n xs → ExtendsNodes n n') → (IsSound n → IsSymbolAt n' x s xs) → (IsSymbolAt n' x s [] → Denotes n' t x)
+    → IsSound n → AddsTermForType n n' t x
 leaf_gives n n' t x s xs e grows made to h = record {
   grows = grows h (λ y i. absurd (none_in y (subst (In y) e i)));
-  denotes = to (subst (IsMade n' x s) e (made h));
+  denotes = to (subst (IsSymbolAt n' x s) e (made h));
 }
 
-pub named_gives : (n n' : Nodes) (x name : ℕ) (xs : List ℕ) → (IsSound n → AreBelow n xs → Grows n n') → (IsSound n → IsMade n' x (symbol.Named name) xs)
-    → (ts : Types) → IsSound n → DenoteAll n ts xs → Gives n n' (Named name ts) x
+pub named_gives : (n n' : Nodes) (x name : ℕ) (xs : List ℕ) → (IsSound n → AreBelow n xs → ExtendsNodes n n') → (IsSound n → IsSymbolAt n' x (symbol.Named name) xs)
+    → (ts : Types) → IsSound n → DenoteAll n ts xs → AddsTermForType n n' (Named name ts) x
 named_gives n n' x name xs grows made ts h d =
     let g = grows h (all_below n ts xs d) in
     record { grows = g; denotes = (xs, made h, g.all ts xs d) }
 
-pub arrow_gives : (n n' : Nodes) (x from to : ℕ) (xs : List ℕ) → xs ≡ from ∷ (to ∷ []) → (IsSound n → AreBelow n xs → Grows n n') → (IsSound n → IsMade n' x symbol.Arrow xs)
-    → (t u : Typed) → IsSound n → Denotes n t from → Denotes n u to → Gives n n' (Arrow t u) x
+pub arrow_gives : (n n' : Nodes) (x from to : ℕ) (xs : List ℕ) → xs ≡ from ∷ (to ∷ []) → (IsSound n → AreBelow n xs → ExtendsNodes n n') → (IsSound n → IsSymbolAt n' x symbol.Arrow xs)
+    → (t u : Typed) → IsSound n → Denotes n t from → Denotes n u to → AddsTermForType n n' (Arrow t u) x
 arrow_gives n n' x from to xs e grows made t u h d k =
     let g = grows h (λ z i. two_below n t u from to d k z (subst (In z) e i)) in
-    record { grows = g; denotes = (from, to, subst (IsMade n' x symbol.Arrow) e (made h), g.one t from d, g.one u to k) }
+    record { grows = g; denotes = (from, to, subst (IsSymbolAt n' x symbol.Arrow) e (made h), g.one t from d, g.one u to k) }

@@ -2,7 +2,7 @@
 use Rattle.std.proofs.Common.{◌≡◌, ℕ, ◌<◌, ◌≤◌, Bool, true, false, refl, sym, ap, subst, arith, Option, Some, None, ◌⊎◌, inl, inr}
 use Rattle.std.specs.Prelude.{nat_lt, if◌then◌else◌}
 use Rattle.seq.proofs.Truth.{two_ways}
-use Rattle.core_types.specs.Found.{IsFirstAt, earlier_if}
+use Rattle.core_types.specs.Found.{IsFirstPlaceWhere, earlier_place_if}
 
 pub lt_true : (a b : ℕ) → nat_lt a b ≡ true → a < b
 lt_true a b e = grind (arith, e)
@@ -10,7 +10,7 @@ lt_true a b e = grind (arith, e)
 pub lt_false : (a b : ℕ) → nat_lt a b ≡ false → b ≤ a
 lt_false a b e = grind (arith, e)
 
-pub same_first : (P Q : ℕ → Type 0) → ((at : ℕ) → P at → Q at) → ((at : ℕ) → Q at → P at) → (o : Option ℕ) → IsFirstAt P o → IsFirstAt Q o
+pub same_first : (P Q : ℕ → Type 0) → ((at : ℕ) → P at → Q at) → ((at : ℕ) → Q at → P at) → (o : Option ℕ) → IsFirstPlaceWhere P o → IsFirstPlaceWhere Q o
 same_first P Q to from None h = λ at q. h at (from at q)
 same_first P Q to from (Some a) h = (to a h.0, λ at q. h.1 at (from at q))
 
@@ -20,23 +20,23 @@ Here b a at = (b ≡ true) × (a ≡ at)
 
 -- A walk adds the places of which Q holds to those of which something else holds.
 abbrev pub Adds : (ℕ → Type 0) → (Option ℕ → Option ℕ) → Type 1
-Adds Q walk = (P : ℕ → Type 0) (o : Option ℕ) → IsFirstAt P o → IsFirstAt (λ at. P at ⊎ Q at) (walk o)
+Adds Q walk = (P : ℕ → Type 0) (o : Option ℕ) → IsFirstPlaceWhere P o → IsFirstPlaceWhere (λ at. P at ⊎ Q at) (walk o)
 
 false_here : (P : ℕ → Type 0) (a at : ℕ) → P at ⊎ Here false a at → P at
 false_here P a at (inl p) = p
 false_here P a at (inr q) = absurd cc
 
-here_first : (b : Bool) (a : ℕ) (P : ℕ → Type 0) (o : Option ℕ) → IsFirstAt P o → IsFirstAt (λ at. P at ⊎ Here b a at) (earlier_if b o a)
+here_first : (b : Bool) (a : ℕ) (P : ℕ → Type 0) (o : Option ℕ) → IsFirstPlaceWhere P o → IsFirstPlaceWhere (λ at. P at ⊎ Here b a at) (earlier_place_if b o a)
 here_first false a P o h = same_first P (λ at. P at ⊎ Here false a at) (λ at p. inl p) (false_here P a) o h
 here_first true a P None h = (inr (refl, refl), λ at q. elim q [ inl p ↦ absurd (h at p) | inr w ↦ (let e = w.1 in omega (arith, e)) ])
 here_first true a P (Some c) h = elim (two_ways (nat_lt a c)) [
-  | inl y ↦ subst (IsFirstAt (λ at. P at ⊎ Here true a at)) (ap (λ b. if b then Some a else Some c) (sym y))
+  | inl y ↦ subst (IsFirstPlaceWhere (λ at. P at ⊎ Here true a at)) (ap (λ b. if b then Some a else Some c) (sym y))
       (inr (refl, refl), λ at q. elim q [ inl p ↦ (let l = h.1 at p in let m = lt_true a c y in omega (arith, l, m)) | inr w ↦ (let e = w.1 in omega (arith, e)) ])
-  | inr n ↦ subst (IsFirstAt (λ at. P at ⊎ Here true a at)) (ap (λ b. if b then Some a else Some c) (sym n))
+  | inr n ↦ subst (IsFirstPlaceWhere (λ at. P at ⊎ Here true a at)) (ap (λ b. if b then Some a else Some c) (sym n))
       (inl h.0, λ at q. elim q [ inl p ↦ h.1 at p | inr w ↦ (let e = w.1 in let m = lt_false a c n in omega (arith, e, m)) ])
 ]
 
-pub here_adds : (b : Bool) (a : ℕ) → Adds (Here b a) (λ o. earlier_if b o a)
+pub here_adds : (b : Bool) (a : ℕ) → Adds (Here b a) (λ o. earlier_place_if b o a)
 here_adds b a = λ P o h. here_first b a P o h
 
 regroup : (A B C : Type 0) → (A ⊎ B) ⊎ C → A ⊎ (B ⊎ C)
@@ -77,10 +77,10 @@ unfolding nothing
 right_only Q at (inl p) = absurd p
 right_only Q at (inr q) = q
 
-none_first : IsFirstAt nothing None
+none_first : IsFirstPlaceWhere nothing None
 unfolding nothing
 none_first = λ at h. h
 
 -- a walk from nothing on
-pub all_added : (Q : ℕ → Type 0) (f : Option ℕ → Option ℕ) → Adds Q f → IsFirstAt Q (f None)
+pub all_added : (Q : ℕ → Type 0) (f : Option ℕ → Option ℕ) → Adds Q f → IsFirstPlaceWhere Q (f None)
 all_added Q f a = same_first (λ at. nothing at ⊎ Q at) Q (right_only Q) (λ at q. inr q) (f None) (a nothing None none_first)

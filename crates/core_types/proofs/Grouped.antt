@@ -13,7 +13,7 @@ use Rattle.core_types.specs.Source.{Source, erased}
 use Rattle.core_types.specs.Lists.{is_named}
 use Rattle.core_types.specs.declared.nodes.Nodes.{Nodes}
 use Rattle.core_types.specs.Nodes.{Denotes, DenoteEach}
-use Rattle.core_types.specs.Typing.{Typed, Constraint, Locals, open_at, binds, binds_all, with_group, of_app, of_group}
+use Rattle.core_types.specs.Typing.{Typed, Constraint, Locals, binder_type_variable, binds, binds_all, with_group, of_app, of_group}
 
 module _ (s : Source) (ls : Locals) (k : Known) (b : Binder) (t : Typed) (o : Bool) (known : k ≡ known_of (erased s)) (is : o ≡ is_nameless k b.name.0) where
   named_by : o ≡ is_named s (codes "_") b.name.0
@@ -26,27 +26,27 @@ module _ (s : Source) (ls : Locals) (k : Known) (b : Binder) (t : Typed) (o : Bo
   seen e = ap (λ c. if c then ls else (b.name.0, t) ∷ ls) (sym named_by ∙ e)
 
 module _ (s : Source) where
-  with_last : (bs : List Bind) (b : Bind) (ls : Locals) → with_group s (bs ++ b ∷ []) ls ≡ binds s b.binder (open_at b.binder) (with_group s bs ls)
+  with_last : (bs : List Bind) (b : Bind) (ls : Locals) → with_group s (bs ++ b ∷ []) ls ≡ binds s b.binder (binder_type_variable b.binder) (with_group s bs ls)
   with_last [] b ls = refl
-  with_last (a ∷ bs) b ls = with_last bs b (binds s a.binder (open_at a.binder) ls)
+  with_last (a ∷ bs) b ls = with_last bs b (binds s a.binder (binder_type_variable a.binder) ls)
 
-  of_last : (ls : Locals) (bs : List Bind) (b : Bind) → of_group s ls (bs ++ b ∷ []) ≡ of_group s ls bs ++ of_app s ls (open_at b.binder) b.app
-  of_last ls [] b = go (of_app s ls (open_at b.binder) b.app)
+  of_last : (ls : Locals) (bs : List Bind) (b : Bind) → of_group s ls (bs ++ b ∷ []) ≡ of_group s ls bs ++ of_app s ls (binder_type_variable b.binder) b.app
+  of_last ls [] b = go (of_app s ls (binder_type_variable b.binder) b.app)
     where
       go : (cs : List Constraint) → cs ++ [] ≡ cs
       go [] = refl
       go (c ∷ cs) = ap (λ cs. c ∷ cs) (go cs)
-  of_last ls (a ∷ bs) b = ap (λ l. of_app s ls (open_at a.binder) a.app ++ l) (of_last ls bs b)
-      ∙ sym (append_assoc (of_app s ls (open_at a.binder) a.app) (of_group s ls bs) (of_app s ls (open_at b.binder) b.app))
+  of_last ls (a ∷ bs) b = ap (λ l. of_app s ls (binder_type_variable a.binder) a.app ++ l) (of_last ls bs b)
+      ∙ sym (append_assoc (of_app s ls (binder_type_variable a.binder) a.app) (of_group s ls bs) (of_app s ls (binder_type_variable b.binder) b.app))
 
   module _ (bs : List code.Bind) (i : ℕ) (b : code.Bind) (l : i < length bs) (is : b ≡ get_or bs i b) where
     one_bind : map bind (take (i + 1) bs) ≡ map bind (take i bs) ++ bind b ∷ []
     one_bind = ap (map bind) (take_more bs i b l ∙ ap (λ y. take i bs ++ y ∷ []) (sym is)) ∙ map_push bind (take i bs) b
 
-    pub with_one : (ls : Locals) → with_group s (map bind (take (i + 1) bs)) ls ≡ binds s b.binder (open_at b.binder) (with_group s (map bind (take i bs)) ls)
+    pub with_one : (ls : Locals) → with_group s (map bind (take (i + 1) bs)) ls ≡ binds s b.binder (binder_type_variable b.binder) (with_group s (map bind (take i bs)) ls)
     with_one ls = ap (λ bs. with_group s bs ls) one_bind ∙ with_last (map bind (take i bs)) (bind b) ls
 
-    pub of_one : (ls : Locals) → of_group s ls (map bind (take (i + 1) bs)) ≡ of_group s ls (map bind (take i bs)) ++ of_app s ls (open_at b.binder) (bind b).app
+    pub of_one : (ls : Locals) → of_group s ls (map bind (take (i + 1) bs)) ≡ of_group s ls (map bind (take i bs)) ++ of_app s ls (binder_type_variable b.binder) (bind b).app
     of_one ls = ap (of_group s ls) one_bind ∙ of_last ls (map bind (take i bs)) (bind b)
 
 -- ---- binders with types

@@ -7,7 +7,7 @@ use Rattle.core_reader.specs.Tree.{Term, Terms, Name, Con, Int, Bracket, NoTerms
 use Rattle.core_reader.proofs.TreeOf.{application_of, term_of-Name, term_of-Con, term_of-Int, term_of-Bracket}
 use Rattle.core_types.specs.Source.{Source}
 use Rattle.core_types.specs.Typing.{Typed, Open, AtBracket, Locals, term_type, terms_types, head_place, within_term, within_terms, of_terms, Constraint}
-use Rattle.core_types.specs.Building.{own_constraint}
+use Rattle.core_types.specs.Building.{application_constraint}
 use Rattle.core_types.specs.Bare.{bare, place_of}
 
 module _ (s : Source) (ls : Locals) where
@@ -59,7 +59,7 @@ module _ (s : Source) (ls : Locals) where
 -- ---- applications
 
 abbrev own_and : Source → Locals → Typed → Term → Terms → List Constraint
-own_and s ls t head args = own_constraint s ls t (record { head = head; args = args }) ∷ (within_term s ls head ++ within_terms s ls args)
+own_and s ls t head args = application_constraint s ls t (record { head = head; args = args }) ∷ (within_term s ls head ++ within_terms s ls args)
 
 module _ (s : Source) (ls : Locals) (t : Typed) where
   pub with_arguments : (head a : Term) (args : Terms) → of_terms s ls t head (AndTerm a args) ≡ own_and s ls t head (AndTerm a args)

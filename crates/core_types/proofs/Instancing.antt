@@ -9,14 +9,14 @@ use Rattle.arity_check.specs.Whole.{known_of, int_kind}
 use Rattle.arity_check.proofs.Names.{int_named}
 use Rattle.core_types.specs.declared.source.Written as code-written
 use Rattle.core_types.specs.declared.nodes.Nodes.{Nodes}
-use Rattle.core_types.specs.Source.{Written, Writtens, AndType, NoTypes, Source, erased}
+use Rattle.core_types.specs.Source.{Written, WrittenTypes, AndType, NoTypes, Source, erased}
 use Rattle.core_types.specs.Source as written
 use Rattle.core_types.specs.SourceOf.{types_from, types_in}
 use Rattle.core_types.specs.SourceOf as of
 use Rattle.core_types.specs.Lists.{is_named}
 use Rattle.core_types.specs.Typing.{Typed, Int, Named, Arrow, arrows, read, read_all, read_list, all_of, AtUse, Open}
-use Rattle.core_types.specs.Nodes.{Denotes, DenoteAll, DenoteEach, IsSound, Grows, Gives}
-use Rattle.core_types.specs.Instances.{GivesEach}
+use Rattle.core_types.specs.Nodes.{Denotes, DenoteAll, DenoteEach, IsSound, ExtendsNodes, AddsTermForType}
+use Rattle.core_types.specs.Instances.{AddsTermsForTypes}
 use Rattle.core_types.proofs.Denoting.{grows_refl, grows_then}
 
 -- ---- terms in a row
@@ -30,7 +30,7 @@ module _ (n : Nodes) where
   all_denoted s [] xs e = e
   all_denoted s (t ∷ ts) xs e = (e.0, e.1, e.2, e.3, all_denoted s ts e.1 e.4)
 
-  pub read_denoted : (s : Source) (v : ℕ → Typed) (ws : Writtens) (xs : List ℕ) → DenoteEach n (read_list s v ws) xs → DenoteAll n (read_all s v ws) xs
+  pub read_denoted : (s : Source) (v : ℕ → Typed) (ws : WrittenTypes) (xs : List ℕ) → DenoteEach n (read_list s v ws) xs → DenoteAll n (read_all s v ws) xs
   read_denoted s v NoTypes xs e = e
   read_denoted s v (AndType w ws) xs e = (e.0, e.1, e.2, e.3, read_denoted s v ws e.1 e.4)
 
@@ -47,22 +47,22 @@ module _ (n : Nodes) where
       let h = each_at ts e.1 i d e.4 (omega (arith, l, m)) in
       (h.0, h.1, subst (Denotes n h.0) (sym (ap (λ l. get_or l (suc i) d) e.2)) h.2)
 
-pub each_kept : (n n' : Nodes) → Grows n n' → (ts : List Typed) (xs : List ℕ) → DenoteEach n ts xs → DenoteEach n' ts xs
+pub each_kept : (n n' : Nodes) → ExtendsNodes n n' → (ts : List Typed) (xs : List ℕ) → DenoteEach n ts xs → DenoteEach n' ts xs
 each_kept n n' g [] xs e = e
 each_kept n n' g (t ∷ ts) xs e = (e.0, e.1, e.2, g.one t e.0 e.3, each_kept n n' g ts e.1 e.4)
 
 -- ---- steps
 
-pub gives_as : (n n' : Nodes) (t t' : Typed) (x : ℕ) → t' ≡ t → Gives n n' t x → Gives n n' t' x
-gives_as n n' t t' x e g = subst (λ t. Gives n n' t x) (sym e) g
+pub gives_as : (n n' : Nodes) (t t' : Typed) (x : ℕ) → t' ≡ t → AddsTermForType n n' t x → AddsTermForType n n' t' x
+gives_as n n' t t' x e g = subst (λ t. AddsTermForType n n' t x) (sym e) g
 
-pub gives_then : (n n' n'' : Nodes) (t : Typed) (x : ℕ) → Grows n n' → Gives n' n'' t x → Gives n n'' t x
+pub gives_then : (n n' n'' : Nodes) (t : Typed) (x : ℕ) → ExtendsNodes n n' → AddsTermForType n' n'' t x → AddsTermForType n n'' t x
 gives_then n n' n'' t x g h = record { grows = grows_then n n' n'' g h.grows; denotes = h.denotes }
 
-pub none_given : (n : Nodes) (xs : List ℕ) → xs ≡ [] → IsSound n → GivesEach n n [] xs
+pub none_given : (n : Nodes) (xs : List ℕ) → xs ≡ [] → IsSound n → AddsTermsForTypes n n [] xs
 none_given n xs e h = record { grows = grows_refl n h; each = e }
 
-pub one_given : (n n' n'' : Nodes) (ts us : List Typed) (xs ys : List ℕ) (t : Typed) (x : ℕ) → us ≡ ts ++ t ∷ [] → ys ≡ xs ++ x ∷ [] → GivesEach n n' ts xs → Gives n' n'' t x → GivesEach n n'' us ys
+pub one_given : (n n' n'' : Nodes) (ts us : List Typed) (xs ys : List ℕ) (t : Typed) (x : ℕ) → us ≡ ts ++ t ∷ [] → ys ≡ xs ++ x ∷ [] → AddsTermsForTypes n n' ts xs → AddsTermForType n' n'' t x → AddsTermsForTypes n n'' us ys
 one_given n n' n'' ts us xs ys t x e f g h = record {
   grows = grows_then n n' n'' g.grows h.grows;
   each = subst (λ us. DenoteEach n'' us ys) (sym e) (subst (DenoteEach n'' (ts ++ t ∷ [])) (sym f) (each_more n'' ts xs t x (each_kept n' n'' h.grows ts xs g.each) h.denotes));
@@ -85,7 +85,7 @@ module _ (s : Source) (v : ℕ → Typed) where
   pub read_whole : (ws : List code-written.Written) (i : ℕ) → length ws ≤ i → read_list s v (types_in (take i ws)) ≡ read_list s v (types_in ws)
   read_whole ws i l = ap (λ l. read_list s v (types_in l)) (take_all i ws l)
 
-  module _ (k : Known) (b : Binder) (args : Writtens) (o : Bool) (known : k ≡ known_of (erased s)) (is : o ≡ int_kind (k.kind b.name.0)) where
+  module _ (k : Known) (b : Binder) (args : WrittenTypes) (o : Bool) (known : k ≡ known_of (erased s)) (is : o ≡ int_kind (k.kind b.name.0)) where
     is_int : o ≡ is_named s (codes "Int") b.name.0
     is_int = is ∙ ap (λ k. int_kind (k.kind b.name.0)) known ∙ int_named (erased s) b.name.0
 
@@ -99,9 +99,9 @@ module _ (s : Source) (v : ℕ → Typed) where
 
 -- one more type before others
 pub arrow_more : (n n' n'' : Nodes) (ts : List Typed) (t : Typed) (xs : List ℕ) (i x y d : ℕ)
-    → i < length xs → DenoteEach n ts xs → Gives n n' (arrows (drop (suc i) ts) t) x
-    → ((u w : Typed) → IsSound n' → Denotes n' u (get_or xs i d) → Denotes n' w x → Gives n' n'' (Arrow u w) y)
-    → Gives n n'' (arrows (drop i ts) t) y
+    → i < length xs → DenoteEach n ts xs → AddsTermForType n n' (arrows (drop (suc i) ts) t) x
+    → ((u w : Typed) → IsSound n' → Denotes n' u (get_or xs i d) → Denotes n' w x → AddsTermForType n' n'' (Arrow u w) y)
+    → AddsTermForType n n'' (arrows (drop i ts) t) y
 arrow_more n n' n'' ts t xs i x y d l e g h =
     let a = each_at n ts xs i d e l in
     gives_then n n' n'' (arrows (drop i ts) t) y g.grows

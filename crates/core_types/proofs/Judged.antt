@@ -9,7 +9,7 @@ use Rattle.core_reader.specs.Tree.{Program}
 use Rattle.arity_check.specs.declared.refusal.CheckRefusal.{CheckRefusal}
 use Rattle.arity_check.specs.declared.order.Order.TheVariants.{Check}
 use Rattle.arity_check.specs.Refusal.{rule, number}
-use Rattle.arity_check.specs.Order.{ranked, IsBefore}
+use Rattle.arity_check.specs.Order.{ranks_of_order, IsBefore}
 use Rattle.arity_check.specs.Order as core-order
 use Rattle.arity_check.specs.Broken as core
 use Rattle.arity_check.specs.First.{IsFirstRefusal}
@@ -22,8 +22,8 @@ use Rattle.core_types.specs.Rules.{Broken, rank, IsFirstBroken, IsUnbroken}
 use Rattle.core_types.specs.Lists.{is_list, is_list_by}
 use Rattle.core_types.specs.Rules as rules
 use Rattle.core_types.specs.Typing.{Typed, Int, Named, AndTyped, NoTypeds, integers}
-use Rattle.core_types.specs.Refused.{IsFirstOf, IsJudged}
-use Rattle.core_types.specs.Found.{IsFirstAt, name_of, IsFirstMismatch, sooner, nil_in, cons_in, declared_first, declared_fault, types_again, unknown_names, signatures_again, partial_in_functions}
+use Rattle.core_types.specs.Refused.{NamesFirstBrokenRule, IsVerdict}
+use Rattle.core_types.specs.Found.{IsFirstPlaceWhere, name_of, IsFirstMismatch, earlier_fault, is_nil_name, is_cons_name, first_declaration_fault, declared_fault, first_duplicate_type, first_unknown_name, first_bad_signature, partial_in_functions}
 use Rattle.core_types.proofs.Firsts.{lt_true, lt_false}
 use Rattle.core_types.proofs.Finding.{find_none, find_some}
 use Rattle.core_types.proofs.Mismatched.{one_mismatch, no_mismatch}
@@ -137,7 +137,7 @@ module _ (s : Source) where
 
   -- ---- the rules of the program without its types
 
-  none_in_core : IsFirstRefusal (ranked Check) (erased s) None → NoCore
+  none_in_core : IsFirstRefusal (ranks_of_order Check) (erased s) None → NoCore
   none_in_core h k at b = h k at b tt
 
   later : (k at : ℕ) (a : ℕ × ℕ × ℕ) → a.0 ≤ 2 → Found k at → (NoCore ⊎ ((k' at' : ℕ) → core.Broken (erased s) k' at' → IsBefore a (core-order.rank k' at'))) → IsBefore a (rank k at)
@@ -150,7 +150,7 @@ module _ (s : Source) where
   later k at a l (Rule83 e r) f = subst (λ n. IsBefore a (rank n at)) (sym e) (inl (omega (arith, l)))
   later k at a l (Rule84 e r) f = subst (λ n. IsBefore a (rank n at)) (sym e) (inl (omega (arith, l)))
 
-  pub core_first : (r : CheckRefusal) → IsFirstRefusal (ranked Check) (erased s) (Some r) → IsFirstOf s (fault.Unchecked r)
+  pub core_first : (r : CheckRefusal) → IsFirstRefusal (ranks_of_order Check) (erased s) (Some r) → NamesFirstBrokenRule s (fault.Unchecked r)
   core_first r h =
       let b : core.Broken (erased s) (rule r) (number r) = h.broken in
       record {
@@ -204,7 +204,7 @@ module _ (s : Source) where
       ]
 
   -- the rules that were found before have smaller numbers
-  sooner_first : (P : ℕ → ℕ → Type 0) (k : ℕ) (Q : ℕ → Type 0) (f : Option (ℕ × ℕ)) (place : Option ℕ) → ((k' at : ℕ) → P k' at → k' ≤ k) → IsFirstIn P f → IsFirstAt Q place → IsFirstIn (And P k Q) (sooner f k place)
+  sooner_first : (P : ℕ → ℕ → Type 0) (k : ℕ) (Q : ℕ → Type 0) (f : Option (ℕ × ℕ)) (place : Option ℕ) → ((k' at : ℕ) → P k' at → k' ≤ k) → IsFirstIn P f → IsFirstPlaceWhere Q place → IsFirstIn (And P k Q) (earlier_fault f k place)
   sooner_first P k Q None None below h g = λ k' at b. elim b [ inl p ↦ h k' at p | inr q ↦ g at q.1 ]
   sooner_first P k Q (Some f) None below h g = (inl h.0, λ k' at b. elim b [ inl p ↦ h.1 k' at p | inr q ↦ absurd (g at q.1) ])
   sooner_first P k Q None (Some at) below h g = (inr (refl, g.0), none_before P k Q h at g.1)
@@ -243,16 +243,16 @@ module _ (s : Source) where
   none_of = λ k at h. h
 
   abbrev first_declared : Option (ℕ × ℕ)
-  first_declared = declared_first (known_of (erased s)) s.types s.signatures
+  first_declared = first_declaration_fault (known_of (erased s)) s.types s.signatures
 
   three_first : IsFirstIn Three first_declared
   three_first =
       let k = known_of (erased s) in
-      let a = types_again k (λ n. false) None s.types in
-      let b = unknown_names k s.types s.signatures in
-      let c = signatures_again k (λ n. false) None s.signatures in
-      sooner_first Two 85 (again.Rule85 s) (sooner (sooner None 81 a) 82 b) c below_two
-      (sooner_first One 82 (declared.Rule82 s) (sooner None 81 a) b below_one (sooner_first nowhere 81 (again.Rule81 s) None a below_none none_of (again.again_first s)) (declared.unknown_first s)) (again.signed_first s)
+      let a = first_duplicate_type k (λ n. false) None s.types in
+      let b = first_unknown_name k s.types s.signatures in
+      let c = first_bad_signature k (λ n. false) None s.signatures in
+      sooner_first Two 85 (again.Rule85 s) (earlier_fault (earlier_fault None 81 a) 82 b) c below_two
+      (sooner_first One 82 (declared.Rule82 s) (earlier_fault None 81 a) b below_one (sooner_first nowhere 81 (again.Rule81 s) None a below_none none_of (again.again_first s)) (declared.unknown_first s)) (again.signed_first s)
 
   three_broken : (k at : ℕ) → Three k at → Broken s k at
   unfolding nowhere
@@ -268,12 +268,12 @@ module _ (s : Source) where
   three_ranks k at (inl (inr h)) = subst (λ n. rank n at ≡ (3, at, n)) (sym h.0) refl
   three_ranks k at (inr h) = subst (λ n. rank n at ≡ (3, at, n)) (sym h.0) refl
 
-  three_fault : (k at : ℕ) → Three k at → IsFirstBroken s k at → IsFirstOf s (declared_fault k at)
+  three_fault : (k at : ℕ) → Three k at → IsFirstBroken s k at → NamesFirstBrokenRule s (declared_fault k at)
   unfolding nowhere
   three_fault k at (inl (inl (inl h))) b = absurd h
-  three_fault k at (inl (inl (inr h))) b = subst (λ n. IsFirstBroken s n at → IsFirstOf s (declared_fault n at)) (sym h.0) (λ b. b) b
-  three_fault k at (inl (inr h)) b = subst (λ n. IsFirstBroken s n at → IsFirstOf s (declared_fault n at)) (sym h.0) (λ b. b) b
-  three_fault k at (inr h) b = subst (λ n. IsFirstBroken s n at → IsFirstOf s (declared_fault n at)) (sym h.0) (λ b. b) b
+  three_fault k at (inl (inl (inr h))) b = subst (λ n. IsFirstBroken s n at → NamesFirstBrokenRule s (declared_fault n at)) (sym h.0) (λ b. b) b
+  three_fault k at (inl (inr h)) b = subst (λ n. IsFirstBroken s n at → NamesFirstBrokenRule s (declared_fault n at)) (sym h.0) (λ b. b) b
+  three_fault k at (inr h) b = subst (λ n. IsFirstBroken s n at → NamesFirstBrokenRule s (declared_fault n at)) (sym h.0) (λ b. b) b
 
   after_three : (f : ℕ × ℕ) → NoCore → ((k at : ℕ) → Three k at → NotAfter f k at) → (k at : ℕ) → Found k at → IsBefore (3, f.1, f.0) (rank k at)
   after_three f none first k at (InCore b) = absurd (none k at b)
@@ -293,7 +293,7 @@ module _ (s : Source) where
   after_three f none first k at (Rule83 e r) = subst (λ n. IsBefore (3, f.1, f.0) (rank n at)) (sym e) (inl (omega arith))
   after_three f none first k at (Rule84 e r) = subst (λ n. IsBefore (3, f.1, f.0) (rank n at)) (sym e) (inl (omega arith))
 
-  first_by : (f : Option (ℕ × ℕ)) → IsFirstIn Three f → NoCore → (k at : ℕ) → f ≡ Some (k, at) → IsFirstOf s (declared_fault k at)
+  first_by : (f : Option (ℕ × ℕ)) → IsFirstIn Three f → NoCore → (k at : ℕ) → f ≡ Some (k, at) → NamesFirstBrokenRule s (declared_fault k at)
   first_by None h none k at e = absurd cc
   first_by (Some f) h none k at e =
       let same : f ≡ (k, at) = cc in
@@ -303,7 +303,7 @@ module _ (s : Source) where
         first = λ k' at' b. subst (λ a. IsBefore a (rank k' at')) (sym (three_ranks k at h2.0)) (after_three (k, at) none h2.1 k' at' (found k' at' b));
       })
 
-  pub declared_is_first : (k at : ℕ) → IsFirstRefusal (ranked Check) (erased s) None → first_declared ≡ Some (k, at) → IsFirstOf s (declared_fault k at)
+  pub declared_is_first : (k at : ℕ) → IsFirstRefusal (ranks_of_order Check) (erased s) None → first_declared ≡ Some (k, at) → NamesFirstBrokenRule s (declared_fault k at)
   declared_is_first k at h e = first_by first_declared three_first (none_in_core h) k at e
 
   abbrev NoThree : Type 0
@@ -316,7 +316,7 @@ module _ (s : Source) where
   -- ---- the type of lists
 
   abbrev lists : TypeDecl → Bool
-  lists = is_list_by (nil_in (known_of (erased s))) (cons_in (known_of (erased s)))
+  lists = is_list_by (is_nil_name (known_of (erased s))) (is_cons_name (known_of (erased s)))
 
   lists_is : (d : TypeDecl) → lists d ≡ is_list s d
   lists_is d = λ i. is_list_by (λ n. nil_named (erased s) n i) (λ n. cons_named (erased s) n i) d
@@ -360,7 +360,7 @@ module _ (s : Source) where
   after_list none three k at (Rule83 e r) = subst (λ n. IsBefore (4, 0, 86) (rank n at)) (sym e) (inl (omega arith))
   after_list none three k at (Rule84 e r) = subst (λ n. IsBefore (4, 0, 86) (rank n at)) (sym e) (inl (omega arith))
 
-  pub list_is_first : IsFirstRefusal (ranked Check) (erased s) None → first_declared ≡ None → list_name ≡ None → IsFirstOf s fault.ListType
+  pub list_is_first : IsFirstRefusal (ranks_of_order Check) (erased s) None → first_declared ≡ None → list_name ≡ None → NamesFirstBrokenRule s fault.ListType
   list_is_first h d e = record {
     broken = rules.ListType (none_lists e);
     first = λ k at b. after_list (none_in_core h) (none_by first_declared three_first d) k at (found k at b);
@@ -377,7 +377,7 @@ module _ (s : Source) where
   after_mismatch none three list place m k at (Rule83 e r) = subst (λ n. IsBefore (5, place, 83) (rank n at)) (sym e) (subst (λ (n : ℕ). IsBefore (5, place, 83) (5, n, 83)) (one_mismatch s place at m r) (inr (refl, inr (refl, omega arith))))
   after_mismatch none three list place m k at (Rule84 e r) = subst (λ n. IsBefore (5, place, 83) (rank n at)) (sym e) (inl (omega arith))
 
-  pub mismatch_is_first : (n : NameId) (at : ℕ) → IsFirstRefusal (ranked Check) (erased s) None → first_declared ≡ None → list_name ≡ Some n → IsFirstMismatch s (Some at) → IsFirstOf s (fault.Mismatch at)
+  pub mismatch_is_first : (n : NameId) (at : ℕ) → IsFirstRefusal (ranks_of_order Check) (erased s) None → first_declared ≡ None → list_name ≡ Some n → IsFirstMismatch s (Some at) → NamesFirstBrokenRule s (fault.Mismatch at)
   mismatch_is_first n at h d l m = record {
     broken = subst (Broken s 83) m.3 (rules.Mismatch m.0 m.2);
     first = λ k' at' b. after_mismatch (none_in_core h) (none_by first_declared three_first d) (some_lists n l) at m k' at' (found k' at' b);
@@ -400,17 +400,17 @@ module _ (s : Source) where
   abbrev first_partial : Option ℕ
   first_partial = partial_in_functions s.types None s.functions
 
-  case_by : (o : Option ℕ) → IsFirstAt (partial.Rule84 s) o → NoCore → NoThree → (NoList → ⊥) → IsFirstMismatch s None → (at : ℕ) → o ≡ Some at → IsFirstOf s (fault.NotExhaustive at)
+  case_by : (o : Option ℕ) → IsFirstPlaceWhere (partial.Rule84 s) o → NoCore → NoThree → (NoList → ⊥) → IsFirstMismatch s None → (at : ℕ) → o ≡ Some at → NamesFirstBrokenRule s (fault.NotExhaustive at)
   case_by None h none three list fits at e = absurd cc
   case_by (Some p) h none three list fits at e =
       let same : p ≡ at = cc in
-      let h2 : IsFirstAt (partial.Rule84 s) (Some at) = subst (λ q. IsFirstAt (partial.Rule84 s) (Some q)) same h in
+      let h2 : IsFirstPlaceWhere (partial.Rule84 s) (Some at) = subst (λ q. IsFirstPlaceWhere (partial.Rule84 s) (Some q)) same h in
       record { broken = partial.partial_breaks s at h2.0; first = λ k' at' b. after_cases none three list fits at h2.1 k' at' (found k' at' b) }
 
-  pub case_is_first : (n : NameId) (at : ℕ) → IsFirstRefusal (ranked Check) (erased s) None → first_declared ≡ None → list_name ≡ Some n → IsFirstMismatch s None → first_partial ≡ Some at → IsFirstOf s (fault.NotExhaustive at)
+  pub case_is_first : (n : NameId) (at : ℕ) → IsFirstRefusal (ranks_of_order Check) (erased s) None → first_declared ≡ None → list_name ≡ Some n → IsFirstMismatch s None → first_partial ≡ Some at → NamesFirstBrokenRule s (fault.NotExhaustive at)
   case_is_first n at h d l fits e = case_by first_partial (partial.partial_first s) (none_in_core h) (none_by first_declared three_first d) (some_lists n l) fits at e
 
-  no_case : (o : Option ℕ) → IsFirstAt (partial.Rule84 s) o → o ≡ None → (at : ℕ) → partial.Rule84 s at → ⊥
+  no_case : (o : Option ℕ) → IsFirstPlaceWhere (partial.Rule84 s) o → o ≡ None → (at : ℕ) → partial.Rule84 s at → ⊥
   no_case None h e = h
   no_case (Some p) h e = absurd cc
 
@@ -423,12 +423,12 @@ module _ (s : Source) where
   never none three list fits cases k at (Rule83 e r) = no_mismatch s at fits r
   never none three list fits cases k at (Rule84 e r) = cases at r
 
-  pub none_broken : (n : NameId) → IsFirstRefusal (ranked Check) (erased s) None → first_declared ≡ None → list_name ≡ Some n → IsFirstMismatch s None → first_partial ≡ None → IsJudged s None
+  pub none_broken : (n : NameId) → IsFirstRefusal (ranks_of_order Check) (erased s) None → first_declared ≡ None → list_name ≡ Some n → IsFirstMismatch s None → first_partial ≡ None → IsVerdict s None
   none_broken n h d l fits e = (λ k at b. never (none_in_core h) (none_by first_declared three_first d) (some_lists n l) fits (no_case first_partial (partial.partial_first s) e) k at (found k at b), fits)
 
 -- the name of the type of lists, by any table that knows the names of the program
 abbrev pub list_in : Source → Option NameId
-list_in s = name_of (find (is_list_by (nil_in (known_of (erased s))) (cons_in (known_of (erased s)))) s.types)
+list_in s = name_of (find (is_list_by (is_nil_name (known_of (erased s))) (is_cons_name (known_of (erased s)))) s.types)
 
-pub list_is : (s : Source) (k : Known) (types : List TypeDecl) (o o' : Option NameId) → k ≡ known_of (erased s) → types ≡ s.types → o ≡ name_of (find (is_list_by (nil_in k) (cons_in k)) types) → o ≡ o' → list_in s ≡ o'
-list_is s k types o o' e f g h = (λ i. name_of (find (is_list_by (nil_in (sym e i)) (cons_in (sym e i))) (sym f i))) ∙ sym g ∙ h
+pub list_is : (s : Source) (k : Known) (types : List TypeDecl) (o o' : Option NameId) → k ≡ known_of (erased s) → types ≡ s.types → o ≡ name_of (find (is_list_by (is_nil_name k) (is_cons_name k)) types) → o ≡ o' → list_in s ≡ o'
+list_is s k types o o' e f g h = (λ i. name_of (find (is_list_by (is_nil_name (sym e i)) (is_cons_name (sym e i))) (sym f i))) ∙ sym g ∙ h

@@ -16,10 +16,10 @@ use Rattle.arity_check.specs.Whole.{known_of, main_kind, function_at}
 use Rattle.arity_check.proofs.Names.{main_named, from_reserved, to_reserved}
 use Rattle.core_types.specs.declared.nodes.Nodes.{Nodes}
 use Rattle.core_types.specs.Source.{Signature, TypeDecl, Constructor, Source, erased}
-use Rattle.core_types.specs.Typing.{Typed, Int, Open, AtBinder, AtResult, Arrow, arrows, open_at, Locals, local_in, unless_primitive, integers, is_main, param_type, result_type, own_type, function_type, global_type, name_type, constructor_type, signature_of, function_of, declared_by, signed, used_at, read_list, applied}
+use Rattle.core_types.specs.Typing.{Typed, Int, Open, AtBinder, AtResult, Arrow, arrows, binder_type_variable, Locals, local_in, unless_primitive, integers, is_main, param_type, result_type, own_type, function_type, global_type, name_type, constructor_type, signature_of, function_of, constructor_by_name, signed, used_at, read_list, applied}
 use Rattle.core_types.specs.Nodes.{Denotes}
 use Rattle.arity_check.specs.declared.globals.Globals.{Globals}
-use Rattle.core_types.specs.Building.{DenoteLocals, picked}
+use Rattle.core_types.specs.Building.{DenoteLocals, element_if_some}
 
 -- ---- functions
 
@@ -28,10 +28,10 @@ module _ (s : Source) (k : Known) (f : Function) (o : Bool) (known : k ≡ known
   main_by = is ∙ ap (λ k. main_kind (k.kind f.name)) known ∙ main_named (erased s) f.name
 
   pub main_param : (b : Binder) → o ≡ true → param_type s f b ≡ integers s
-  main_param b e = ap (λ c. if c then integers s else open_at b) (sym main_by ∙ e)
+  main_param b e = ap (λ c. if c then integers s else binder_type_variable b) (sym main_by ∙ e)
 
   pub other_param : (b : Binder) → o ≡ false → param_type s f b ≡ Open (AtBinder b.at)
-  other_param b e = ap (λ c. if c then integers s else open_at b) (sym main_by ∙ e)
+  other_param b e = ap (λ c. if c then integers s else binder_type_variable b) (sym main_by ∙ e)
 
   pub main_result : o ≡ true → result_type s f ≡ integers s
   main_result e = ap (λ c. if c then integers s else Open (AtResult f.at)) (sym main_by ∙ e)
@@ -48,7 +48,7 @@ unsigned_type s f at e = ap (λ o. elim o [ Some g ↦ signed s (used_at s at) g
 pub known_global : (s : Source) (n at : ℕ) (f : Function) → function_of s.functions n ≡ Some f → global_type s n at ≡ function_type s f at
 known_global s n at f e = ap (λ o. elim o [ Some f ↦ function_type s f at | None ↦ Int ]) e
 
-pub known_constructor : (s : Source) (n at : ℕ) (d : TypeDecl) (c : Constructor) → declared_by s.types n ≡ Some (d, c) → constructor_type s n at ≡ arrows (read_list s (used_at s at) c.fields) (applied s d (used_at s at))
+pub known_constructor : (s : Source) (n at : ℕ) (d : TypeDecl) (c : Constructor) → constructor_by_name s.types n ≡ Some (d, c) → constructor_type s n at ≡ arrows (read_list s (used_at s at) c.fields) (applied s d (used_at s at))
 known_constructor s n at d c e = ap (λ (o : Option (TypeDecl × Constructor)). elim o [ Some x ↦ arrows (read_list s (used_at s at) x.1.fields) (applied s x.0 (used_at s at)) | None ↦ Int ]) e
 
 -- ---- names
@@ -96,20 +96,20 @@ module _ (s : Source) (ls : Locals) (k : Known) (n at : ℕ) (o : Bool) (known :
 
 -- ---- locals
 
-pub local_found : (n : Nodes) (ls : Locals) (sc : List (ℕ × ℕ)) (x y : ℕ) → DenoteLocals n ls sc → by.local_in sc x ≡ Some y → (t : Typed) × (local_in ls x ≡ Some t) × Denotes n t y
-local_found n [] sc x y d e = absurd (let f : by.local_in [] x ≡ Some y = ap (λ sc. by.local_in sc x) (sym d) ∙ e in cc)
-local_found n (l ∷ ls) sc x y d e = go (l.0 == x) refl (ap (λ sc. by.local_in sc x) (sym d.2) ∙ e) (λ f. local_found n ls d.1 x y d.4 f)
+pub local_found : (n : Nodes) (ls : Locals) (sc : List (ℕ × ℕ)) (x y : ℕ) → DenoteLocals n ls sc → by.innermost_local sc x ≡ Some y → (t : Typed) × (local_in ls x ≡ Some t) × Denotes n t y
+local_found n [] sc x y d e = absurd (let f : by.innermost_local [] x ≡ Some y = ap (λ sc. by.innermost_local sc x) (sym d) ∙ e in cc)
+local_found n (l ∷ ls) sc x y d e = go (l.0 == x) refl (ap (λ sc. by.innermost_local sc x) (sym d.2) ∙ e) (λ f. local_found n ls d.1 x y d.4 f)
   where
-    go : (b : Bool) → (l.0 == x) ≡ b → (if b then Some d.0 else by.local_in d.1 x) ≡ Some y → (by.local_in d.1 x ≡ Some y → (t : Typed) × (local_in ls x ≡ Some t) × Denotes n t y)
+    go : (b : Bool) → (l.0 == x) ≡ b → (if b then Some d.0 else by.innermost_local d.1 x) ≡ Some y → (by.innermost_local d.1 x ≡ Some y → (t : Typed) × (local_in ls x ≡ Some t) × Denotes n t y)
         → (t : Typed) × ((if b then Some l.1 else local_in ls x) ≡ Some t) × Denotes n t y
     go true q f rest = (l.1, refl, subst (Denotes n l.1) (let g = f in cc) d.3)
     go false q f rest = rest f
 
-pub local_missing : (n : Nodes) (ls : Locals) (sc : List (ℕ × ℕ)) (x : ℕ) → DenoteLocals n ls sc → by.local_in sc x ≡ None → local_in ls x ≡ None
+pub local_missing : (n : Nodes) (ls : Locals) (sc : List (ℕ × ℕ)) (x : ℕ) → DenoteLocals n ls sc → by.innermost_local sc x ≡ None → local_in ls x ≡ None
 local_missing n [] sc x d e = refl
-local_missing n (l ∷ ls) sc x d e = go (l.0 == x) (ap (λ sc. by.local_in sc x) (sym d.2) ∙ e) (λ f. local_missing n ls d.1 x d.4 f)
+local_missing n (l ∷ ls) sc x d e = go (l.0 == x) (ap (λ sc. by.innermost_local sc x) (sym d.2) ∙ e) (λ f. local_missing n ls d.1 x d.4 f)
   where
-    go : (b : Bool) → (if b then Some d.0 else by.local_in d.1 x) ≡ None → (by.local_in d.1 x ≡ None → local_in ls x ≡ None)
+    go : (b : Bool) → (if b then Some d.0 else by.innermost_local d.1 x) ≡ None → (by.innermost_local d.1 x ≡ None → local_in ls x ≡ None)
         → (if b then Some l.1 else local_in ls x) ≡ None
     go true f rest = absurd cc
     go false f rest = rest f
@@ -133,9 +133,9 @@ function_none (f ∷ fs) k x e = go (f.name == x) e (λ e. function_none fs (k +
     go true e rest = absurd cc
     go false e rest = rest e
 
-pub function_found : (g : Globals) (s : Source) → tables.known g ≡ known_of (erased s) → (n : ℕ) → function_of s.functions n ≡ picked s.functions (tables.first_of (get nat_cmp g.functions n))
-function_found g s h n = go (function_at s.functions 0 n) refl ∙ ap (λ (k : Known). picked s.functions (tables.first_of (k.function n))) (sym h)
+pub function_found : (g : Globals) (s : Source) → tables.known g ≡ known_of (erased s) → (n : ℕ) → function_of s.functions n ≡ element_if_some s.functions (tables.first_of (get nat_cmp g.functions n))
+function_found g s h n = go (function_at s.functions 0 n) refl ∙ ap (λ (k : Known). element_if_some s.functions (tables.first_of (k.function n))) (sym h)
   where
-    go : (o : Option (ℕ × ℕ)) → function_at s.functions 0 n ≡ o → function_of s.functions n ≡ picked s.functions (tables.first_of o)
+    go : (o : Option (ℕ × ℕ)) → function_at s.functions 0 n ≡ o → function_of s.functions n ≡ element_if_some s.functions (tables.first_of o)
     go None e = function_none s.functions 0 n e
     go (Some p) e = let r = function_some s.functions 0 n p.0 p.1 e in r.2 ∙ ap (slice_get s.functions) (let m : p.0 ≡ r.0 + 0 = r.1 in omega (arith, m))

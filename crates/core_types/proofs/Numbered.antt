@@ -3,8 +3,8 @@ use Rattle.std.proofs.Common.{◌≡◌, ℕ, zero, suc, ◌+◌, Bool, true, fa
 use Rattle.std.specs.Prelude.{◌==◌, slice_get, if◌then◌else◌}
 use Rattle.arity_check.specs.Tables.{or_else}
 use Rattle.core_types.specs.Source.{Constructor, TypeDecl, Signature}
-use Rattle.core_types.specs.Typing.{constructor_in, declared_by, signature_of}
-use Rattle.core_types.specs.Building.{picked, constructor_at, constructor_picked, signature_number, constructor_number, number_in_types}
+use Rattle.core_types.specs.Typing.{constructor_in, constructor_by_name, signature_of}
+use Rattle.core_types.specs.Building.{element_if_some, constructor_at, constructor_by_numbers, signature_number, constructor_number, number_in_types}
 
 pub or_else_assoc : {T : Type 0} (a b c : Option T) → or_else (or_else a b) c ≡ or_else a (or_else b c)
 or_else_assoc None b c = refl
@@ -29,7 +29,7 @@ signature_none (g ∷ gs) k n e = go (g.function.name.0 == n) e (λ e. signature
     go true e rest = absurd cc
     go false e rest = rest e
 
-pub signature_found : (gs : List Signature) (n : ℕ) (o : Option ℕ) → o ≡ signature_number gs 0 n → signature_of gs n ≡ picked gs o
+pub signature_found : (gs : List Signature) (n : ℕ) (o : Option ℕ) → o ≡ signature_number gs 0 n → signature_of gs n ≡ element_if_some gs o
 signature_found gs n None e = signature_none gs 0 n (sym e)
 signature_found gs n (Some i) e = let r = signature_some gs 0 n i (sym e) in r.2 ∙ ap (slice_get gs) (let m : i ≡ r.0 + 0 = r.1 in omega (arith, m))
 
@@ -73,30 +73,30 @@ of_type d o = elim o [ Some c ↦ Some (d, c) | None ↦ None ]
 abbrev in_types : ℕ → Option TypeDecl → Option (TypeDecl × Constructor)
 in_types j o = elim o [ Some d ↦ constructor_at d j | None ↦ None ]
 
-declared_some : (ds : List TypeDecl) (k n : ℕ) (p : ℕ × ℕ) → number_in_types ds k n ≡ Some p → (m : ℕ) × (p.0 ≡ m + k) × (declared_by ds n ≡ constructor_picked ds (Some (m, p.1)))
+declared_some : (ds : List TypeDecl) (k n : ℕ) (p : ℕ × ℕ) → number_in_types ds k n ≡ Some p → (m : ℕ) × (p.0 ≡ m + k) × (constructor_by_name ds n ≡ constructor_by_numbers ds (Some (m, p.1)))
 declared_some [] k n p e = absurd cc
 declared_some (d ∷ ds) k n p e = go (constructor_number k d.constructors 0 n) refl e (λ e. declared_some ds (k + 1) n p e)
   where
-    go : (o : Option (ℕ × ℕ)) → constructor_number k d.constructors 0 n ≡ o → or_else o (number_in_types ds (k + 1) n) ≡ Some p → (number_in_types ds (k + 1) n ≡ Some p → (m : ℕ) × (p.0 ≡ m + (k + 1)) × (declared_by ds n ≡ constructor_picked ds (Some (m, p.1))))
-        → (m : ℕ) × (p.0 ≡ m + k) × (declared_by (d ∷ ds) n ≡ constructor_picked (d ∷ ds) (Some (m, p.1)))
+    go : (o : Option (ℕ × ℕ)) → constructor_number k d.constructors 0 n ≡ o → or_else o (number_in_types ds (k + 1) n) ≡ Some p → (number_in_types ds (k + 1) n ≡ Some p → (m : ℕ) × (p.0 ≡ m + (k + 1)) × (constructor_by_name ds n ≡ constructor_by_numbers ds (Some (m, p.1))))
+        → (m : ℕ) × (p.0 ≡ m + k) × (constructor_by_name (d ∷ ds) n ≡ constructor_by_numbers (d ∷ ds) (Some (m, p.1)))
     go (Some q) f e rest =
         let same : q ≡ p = cc in
         let r : Placed d.constructors n p.0 p.1 k 0 = constructor_some d.constructors k 0 n p (f ∙ ap Some same) in
         let place : r.number ≡ p.1 = (let l = r.place in omega (arith, l)) in
-        (zero, (let l = r.type in omega (arith, l)), ap (first_or d (declared_by ds n)) r.by_name ∙ sym (ap (of_type d) (ap (slice_get d.constructors) (sym place) ∙ r.by_place)))
+        (zero, (let l = r.type in omega (arith, l)), ap (first_or d (constructor_by_name ds n)) r.by_name ∙ sym (ap (of_type d) (ap (slice_get d.constructors) (sym place) ∙ r.by_place)))
     go None f e rest =
         let r = rest e in
-        (suc r.0, (let m = r.1 in omega (arith, m)), ap (first_or d (declared_by ds n)) (constructor_none d.constructors k 0 n f) ∙ r.2)
+        (suc r.0, (let m = r.1 in omega (arith, m)), ap (first_or d (constructor_by_name ds n)) (constructor_none d.constructors k 0 n f) ∙ r.2)
 
-declared_none : (ds : List TypeDecl) (k n : ℕ) → number_in_types ds k n ≡ None → declared_by ds n ≡ None
+declared_none : (ds : List TypeDecl) (k n : ℕ) → number_in_types ds k n ≡ None → constructor_by_name ds n ≡ None
 declared_none [] k n e = refl
 declared_none (d ∷ ds) k n e = go (constructor_number k d.constructors 0 n) refl e (λ e. declared_none ds (k + 1) n e)
   where
-    go : (o : Option (ℕ × ℕ)) → constructor_number k d.constructors 0 n ≡ o → or_else o (number_in_types ds (k + 1) n) ≡ None → (number_in_types ds (k + 1) n ≡ None → declared_by ds n ≡ None) → declared_by (d ∷ ds) n ≡ None
+    go : (o : Option (ℕ × ℕ)) → constructor_number k d.constructors 0 n ≡ o → or_else o (number_in_types ds (k + 1) n) ≡ None → (number_in_types ds (k + 1) n ≡ None → constructor_by_name ds n ≡ None) → constructor_by_name (d ∷ ds) n ≡ None
     go (Some q) f e rest = absurd cc
-    go None f e rest = ap (first_or d (declared_by ds n)) (constructor_none d.constructors k 0 n f) ∙ rest e
+    go None f e rest = ap (first_or d (constructor_by_name ds n)) (constructor_none d.constructors k 0 n f) ∙ rest e
 
-pub constructor_found : (ds : List TypeDecl) (n : ℕ) (o : Option (ℕ × ℕ)) → o ≡ number_in_types ds 0 n → declared_by ds n ≡ constructor_picked ds o
+pub constructor_found : (ds : List TypeDecl) (n : ℕ) (o : Option (ℕ × ℕ)) → o ≡ number_in_types ds 0 n → constructor_by_name ds n ≡ constructor_by_numbers ds o
 constructor_found ds n None e = declared_none ds 0 n (sym e)
 constructor_found ds n (Some p) e =
     let r = declared_some ds 0 n p (sym e) in

@@ -12,7 +12,7 @@ use Rattle.core_types.specs.Source.{Constructor, TypeDecl, Source}
 use Rattle.core_types.specs.Rules.{HasCase, HasCaseIn, names_constructor, type_with, IsPartial, Broken}
 use Rattle.core_types.specs.Rules as rules
 use Rattle.seq.proofs.Truth.{two_ways}
-use Rattle.core_types.specs.Found.{IsFirstAt, earlier_if, Seen, no_patterns, with_pattern, with_patterns, is_missing, lacks_in, is_partial, partial_case, partial_in, partial_in_alts, partial_in_functions}
+use Rattle.core_types.specs.Found.{IsFirstPlaceWhere, earlier_place_if, CoveredPatterns, no_patterns, with_pattern, with_patterns, is_missing, type_lacks_pattern, is_partial, partial_case, partial_in, partial_in_alts, partial_in_functions}
 use Rattle.core_types.specs.Found as found
 use Rattle.core_types.proofs.Firsts.{Here, Adds, here_adds, then_adds, none_adds, all_added}
 use Rattle.core_types.proofs.Unknowns.{is_not, not_is}
@@ -161,40 +161,40 @@ turned true false c = refl
 turned false true c = refl
 turned false false c = refl
 
-seen_constructors : (s : Seen) (alts : Alts) (n : ℕ) → (with_patterns s alts).constructors n ≡ (s.constructors n || some_pattern (is_of n) alts)
+seen_constructors : (s : CoveredPatterns) (alts : Alts) (n : ℕ) → (with_patterns s alts).constructors n ≡ (s.constructors n || some_pattern (is_of n) alts)
 seen_constructors s NoAlts n = or_false (s.constructors n)
 seen_constructors s (AndAlt (pattern.Con c xs) body rest) n = seen_constructors (with_pattern s (pattern.Con c xs)) rest n ∙ turned (c.name.0 == n) (s.constructors n) (some_pattern (is_of n) rest)
 seen_constructors s (AndAlt (pattern.Int k at) body rest) n = seen_constructors (with_pattern s (pattern.Int k at)) rest n
 seen_constructors s (AndAlt (pattern.Default x) body rest) n = seen_constructors (with_pattern s (pattern.Default x)) rest n
 
-seen_integers : (s : Seen) (alts : Alts) → (with_patterns s alts).integers ≡ (s.integers || some_pattern is_integer alts)
+seen_integers : (s : CoveredPatterns) (alts : Alts) → (with_patterns s alts).integers ≡ (s.integers || some_pattern is_integer alts)
 seen_integers s NoAlts = or_false s.integers
 seen_integers s (AndAlt (pattern.Con c xs) body rest) = seen_integers (with_pattern s (pattern.Con c xs)) rest
 seen_integers s (AndAlt (pattern.Int k at) body rest) = seen_integers (with_pattern s (pattern.Int k at)) rest ∙ or_true s.integers
 seen_integers s (AndAlt (pattern.Default x) body rest) = seen_integers (with_pattern s (pattern.Default x)) rest
 
-seen_default : (s : Seen) (alts : Alts) → (with_patterns s alts).default ≡ (s.default || some_pattern is_default alts)
+seen_default : (s : CoveredPatterns) (alts : Alts) → (with_patterns s alts).default ≡ (s.default || some_pattern is_default alts)
 seen_default s NoAlts = or_false s.default
 seen_default s (AndAlt (pattern.Con c xs) body rest) = seen_default (with_pattern s (pattern.Con c xs)) rest
 seen_default s (AndAlt (pattern.Int k at) body rest) = seen_default (with_pattern s (pattern.Int k at)) rest
 seen_default s (AndAlt (pattern.Default x) body rest) = seen_default (with_pattern s (pattern.Default x)) rest ∙ or_true s.default
 
-abbrev all_seen : Alts → Seen
+abbrev all_seen : Alts → CoveredPatterns
 all_seen alts = with_patterns no_patterns alts
 
 missing_is : (alts : Alts) (c : Constructor) → is_missing (all_seen alts) c ≡ missing alts c
 missing_is alts c = ap not (seen_constructors no_patterns alts c.name.name.0)
 
-lacks_is : (alts : Alts) (ds : List TypeDecl) (n : ℕ) → lacks_in (all_seen alts) ds n ≡ lacks_one alts (type_with ds n)
+lacks_is : (alts : Alts) (ds : List TypeDecl) (n : ℕ) → type_lacks_pattern (all_seen alts) ds n ≡ lacks_one alts (type_with ds n)
 lacks_is alts [] n = refl
 lacks_is alts (d ∷ ds) n =
     let test : is_missing (all_seen alts) ≡ missing alts = λ i c. missing_is alts c i in
     elim (two_ways (names_constructor n d.constructors)) [
-      | inl y ↦ ap (λ b. if b then list_any (is_missing (all_seen alts)) d.constructors else lacks_in (all_seen alts) ds n) y ∙ ap (λ t. list_any t d.constructors) test ∙ ap (λ b. lacks_one alts (if b then Some d else type_with ds n)) (sym y)
-      | inr m ↦ ap (λ b. if b then list_any (is_missing (all_seen alts)) d.constructors else lacks_in (all_seen alts) ds n) m ∙ lacks_is alts ds n ∙ ap (λ b. lacks_one alts (if b then Some d else type_with ds n)) (sym m)
+      | inl y ↦ ap (λ b. if b then list_any (is_missing (all_seen alts)) d.constructors else type_lacks_pattern (all_seen alts) ds n) y ∙ ap (λ t. list_any t d.constructors) test ∙ ap (λ b. lacks_one alts (if b then Some d else type_with ds n)) (sym y)
+      | inr m ↦ ap (λ b. if b then list_any (is_missing (all_seen alts)) d.constructors else type_lacks_pattern (all_seen alts) ds n) m ∙ lacks_is alts ds n ∙ ap (λ b. lacks_one alts (if b then Some d else type_with ds n)) (sym m)
     ]
 
-lacks_same : (alts : Alts) (ds : List TypeDecl) (p : Pattern) → found.lacks ds (all_seen alts) p ≡ lacks ds alts p
+lacks_same : (alts : Alts) (ds : List TypeDecl) (p : Pattern) → found.misses_constructor ds (all_seen alts) p ≡ lacks ds alts p
 lacks_same alts ds (pattern.Con c xs) = lacks_is alts ds c.name.0
 lacks_same alts ds (pattern.Int k at) = refl
 lacks_same alts ds (pattern.Default x) = refl
@@ -350,5 +350,5 @@ module _ (s : Source) where
   pub not_exhaustive : (i : ℕ) (f : Function) (alts : Alts) (p : Pattern) → slice_get s.functions i ≡ Some f → HasCase f.body alts → alt_at alts 0 ≡ Some p → ((j : ℕ) (x : Binder) → alt_at alts j ≢ Some (pattern.Default x)) → IsPartial s alts p → Rule84 (pattern_place p)
   not_exhaustive i f alts p e q first none h = from_function s.functions i f (pattern_place p) e (from_case f.body alts (pattern_place p) (case_here alts p first none h) q)
 
-  pub partial_first : IsFirstAt Rule84 (partial_in_functions ds None s.functions)
+  pub partial_first : IsFirstPlaceWhere Rule84 (partial_in_functions ds None s.functions)
   partial_first = all_added Rule84 (λ o. partial_in_functions ds o s.functions) (functions_adds s.functions)

@@ -7,14 +7,14 @@ use Rattle.std.proofs.lemmas.List.Sums.{fold-append, prefix_len-le-length}
 use Rattle.core_types.specs.declared.sides.Ty.{Ty}
 use Rattle.core_types.specs.Typing.{Named}
 use Rattle.core_types.specs.Sides.{types_from, type_of}
-use Rattle.core_types.specs.Shown.{Mark, with_mark, with_marks, is_same, is_compound}
+use Rattle.core_types.specs.Shown.{VariableMark, with_mark, with_marks, same_mark, is_compound}
 
-pub more_marks : (ms ns os : List Mark) → with_marks ms (ns ++ os) ≡ with_marks (with_marks ms ns) os
+pub more_marks : (ms ns os : List VariableMark) → with_marks ms (ns ++ os) ≡ with_marks (with_marks ms ns) os
 more_marks ms ns os = fold-append with_mark ms ns os
 
 -- what stands nowhere has the length as its place
-pub stands_nowhere : (m : Mark) (ms : List Mark) → None ≡ (if nat_lt (position_or_len (is_same m) ms) (length ms) then Some (position_or_len (is_same m) ms) else None) → length ms ≡ position_or_len (is_same m) ms
-stands_nowhere m ms = go (length ms) (position_or_len (is_same m) ms) (prefix_len-le-length (λ n. not (is_same m n)) ms)
+pub stands_nowhere : (m : VariableMark) (ms : List VariableMark) → None ≡ (if nat_lt (position_or_len (same_mark m) ms) (length ms) then Some (position_or_len (same_mark m) ms) else None) → length ms ≡ position_or_len (same_mark m) ms
+stands_nowhere m ms = go (length ms) (position_or_len (same_mark m) ms) (prefix_len-le-length (λ n. not (same_mark m n)) ms)
   where
     by : (n p : ℕ) → p ≤ n → (below : Bool) → nat_lt p n ≡ below → None ≡ (if below then Some p else None) → n ≡ p
     by n p l true h e = absurd cc

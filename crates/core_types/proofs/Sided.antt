@@ -10,7 +10,7 @@ use Rattle.unification.specs.declared.pieces.Piece.TheVariants as piece
 use Rattle.unification.specs.declared.term.Symbol.{Symbol}
 use Rattle.unification.specs.declared.term.Symbol.TheVariants as symbol
 use Rattle.unification.specs.Trees.{Tree, Trees, Open, Made, NoTrees, AndTree}
-use Rattle.unification.specs.Pieces.{many, pieces, pieces_all}
+use Rattle.unification.specs.Pieces.{tree_count, pieces, pieces_all}
 use Rattle.core_types.specs.declared.sides.Ty.{Ty, fold-roll-Ty}
 use Rattle.core_types.specs.declared.sides.Ty.TheVariants as variant
 use Rattle.core_types.specs.declared.sides.Ty.TheOpen as layer
@@ -65,7 +65,7 @@ in_and_from : (ts : Trees) → trees_from (trees_in ts) ≡ ts
 in_and_from NoTrees = refl
 in_and_from (AndTree t ts) = ap (AndTree t) (in_and_from ts)
 
-many_in : (ts : Trees) → length (trees_in ts) ≡ many ts
+many_in : (ts : Trees) → length (trees_in ts) ≡ tree_count ts
 many_in NoTrees = refl
 many_in (AndTree t ts) = ap suc (many_in ts)
 
@@ -73,9 +73,9 @@ read_append : (ps qs : List Piece) (ts : List Tree) → read_back (ps ++ qs) ts 
 read_append [] qs ts = refl
 read_append (p ∷ ps) qs ts = ap (read_piece p) (read_append ps qs ts)
 
-whole : (s : Symbol) (us : Trees) (ts : List Tree) → read_piece (piece.Made s (many us)) (ts ++ trees_in us) ≡ ts ++ Made s us ∷ []
+whole : (s : Symbol) (us : Trees) (ts : List Tree) → read_piece (piece.Made s (tree_count us)) (ts ++ trees_in us) ≡ ts ++ Made s us ∷ []
 whole s us ts =
-    let n : length (ts ++ trees_in us) - many us ≡ length ts = (let a = length-append ts (trees_in us) in let b = many_in us in omega (arith, a, b)) in
+    let n : length (ts ++ trees_in us) - tree_count us ≡ length ts = (let a = length-append ts (trees_in us) in let b = many_in us in omega (arith, a, b)) in
     (λ i. take (n i) (ts ++ trees_in us) ++ Made s (trees_from (drop (n i) (ts ++ trees_in us))) ∷ [])
     ∙ (λ i. take_at ts (trees_in us) (length ts) refl i ++ Made s (trees_from (drop_at ts (trees_in us) (length ts) refl i)) ∷ [])
     ∙ ap (λ us. ts ++ Made s us ∷ []) (in_and_from us)
@@ -83,7 +83,7 @@ whole s us ts =
 mutual
   read_tree : (t : Tree) (ts : List Tree) → read_back (pieces t) ts ≡ ts ++ t ∷ []
   read_tree (Open n) ts = refl
-  read_tree (Made s us) ts = ap (read_piece (piece.Made s (many us))) (read_trees us ts) ∙ whole s us ts
+  read_tree (Made s us) ts = ap (read_piece (piece.Made s (tree_count us))) (read_trees us ts) ∙ whole s us ts
 
   read_trees : (us : Trees) (ts : List Tree) → read_back (pieces_all us) ts ≡ ts ++ trees_in us
   read_trees NoTrees ts = sym (append_nil ts)

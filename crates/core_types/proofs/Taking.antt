@@ -13,14 +13,14 @@ use Rattle.core_reader.specs.Grammar.{at_most_200, binders}
 use Rattle.core_reader.specs.ReadingOf.{go, stop, follow, run_of}
 use Rattle.core_reader.specs.Machine as expression
 use Rattle.core_reader.specs.Machine.{Outermost, InBody, Apply, Ended, front, behind, refused, refusal, is_name, Fails, Goes}
-use Rattle.core_reader.specs.AroundOf.{next, refuse, Outside, Within, moved}
+use Rattle.core_reader.specs.AroundOf.{next, refuse, Outside, Within, step_of_move}
 use Rattle.core_reader.proofs.ReadingOf.{reads_names}
 use Rattle.core_reader.proofs.Turns as any
 use Rattle.core_reader.proofs.Turns.{turns, bad_halts}
 use Rattle.core_reader.proofs.AroundOf.{through, continue}
-use Rattle.core_types.specs.Source.{Written, Writtens, Named, NoTypes, AndType, Constructor, TypeDecl}
+use Rattle.core_types.specs.Source.{Written, WrittenTypes, Named, NoTypes, AndType, Constructor, TypeDecl}
 use Rattle.core_types.specs.Grammar.{Decl}
-use Rattle.core_types.specs.Reading.{binder, type_named, constructing, Frame, InFields, InParts, InArguments, InResult, InBrackets, nests, Own, Top, TypeName, TypeParams, ConName, Fields, SigName, SigColon, SigBehind, Params, OneType, Opened, Arguments, Behind, Closing, Hole, InFunction, given, begin, move, finish, declarations, State, step, run, starts_type, KeepsTypes}
+use Rattle.core_types.specs.Reading.{binder, empty_type_decl, with_new_constructor, Frame, InFields, InParts, InArguments, InResult, InBrackets, nests, Own, Top, TypeName, TypeParams, ConName, Fields, SigName, SigColon, SigBehind, Params, OneType, Opened, Arguments, Behind, Closing, Hole, InFunction, given, begin, move, finish, declarations, State, step, run, starts_type, CollectsTypes}
 use Rattle.core_types.specs.Reading as reading
 use Rattle.core_types.proofs.SourceReading.{type_laws, finish_bad}
 
@@ -65,12 +65,12 @@ other_begin k p token a b c = refl
 pub too_deep : (k : Frame) (p depth : ℕ) → nests k ≡ depth → 200 ≤ depth → step at_most_200 (Outside (OneType k)) p word.Open ≡ stop (TooDeep p)
 too_deep k p depth e h =
     let f : at_most_200 (nests k) ≡ false = ap at_most_200 e ∙ grind (arith, h) in
-    ap (λ b. moved (cond b (next (Opened k)) (refuse (TooDeep p)))) f
+    ap (λ b. step_of_move (cond b (next (Opened k)) (refuse (TooDeep p)))) f
 
 pub opens : (k : Frame) (p depth : ℕ) → nests k ≡ depth → depth < 200 → step at_most_200 (Outside (OneType k)) p word.Open ≡ go (Outside (Opened k))
 opens k p depth e h =
     let f : at_most_200 (nests k) ≡ true = ap at_most_200 e ∙ grind (arith, h) in
-    ap (λ b. moved (cond b (next (Opened k)) (refuse (TooDeep p)))) f
+    ap (λ b. step_of_move (cond b (next (Opened k)) (refuse (TooDeep p)))) f
 
 -- behind a `(` all but a constructor begin a type of one piece
 pub opened_other : (k : Frame) (p : ℕ) (token : Token) → ((n : NameId) → token ≡ word.Con n → ⊥) → move at_most_200 (Opened k) p token ≡ begin at_most_200 (InBrackets k) p token
@@ -84,7 +84,7 @@ applied_none k b p (word.Con n) e = absurd cc
 applied_none k b p word.Open e = absurd cc
 applied_none k b p token e = refl
 
-pub no_close_args : (k : Frame) (b : Binder) (t : Written) (ts : Writtens) (p : ℕ) (token : Token) → starts_type token ≡ false → (token ≡ word.Close → ⊥) → move at_most_200 (Arguments k b (AndType t ts)) p token ≡ refuse (refused p token)
+pub no_close_args : (k : Frame) (b : Binder) (t : Written) (ts : WrittenTypes) (p : ℕ) (token : Token) → starts_type token ≡ false → (token ≡ word.Close → ⊥) → move at_most_200 (Arguments k b (AndType t ts)) p token ≡ refuse (refused p token)
 no_close_args k b t ts p (word.Name n) e h = absurd cc
 no_close_args k b t ts p (word.Con n) e h = absurd cc
 no_close_args k b t ts p word.Open e h = absurd cc
@@ -113,7 +113,7 @@ no_type_param ds b ps p (word.Name n) e a = absurd cc
 no_type_param ds b ps p word.Equals e a = absurd (a refl)
 no_type_param ds b ps p token e a = refl
 
-pub no_fields_end : (ds : List Decl) (d : TypeDecl) (c : Binder) (ts : Writtens) (p : ℕ) (token : Token) → starts_type token ≡ false → (token ≡ word.Further further.Bar → ⊥) → (token ≡ word.Semicolon → ⊥) → move at_most_200 (Fields ds d c ts) p token ≡ refuse (refused p token)
+pub no_fields_end : (ds : List Decl) (d : TypeDecl) (c : Binder) (ts : WrittenTypes) (p : ℕ) (token : Token) → starts_type token ≡ false → (token ≡ word.Further further.Bar → ⊥) → (token ≡ word.Semicolon → ⊥) → move at_most_200 (Fields ds d c ts) p token ≡ refuse (refused p token)
 no_fields_end ds d c ts p (word.Name n) e a b = absurd cc
 no_fields_end ds d c ts p (word.Con n) e a b = absurd cc
 no_fields_end ds d c ts p word.Open e a b = absurd cc
@@ -129,7 +129,7 @@ pub no_colon : (ds : List Decl) (f : Binder) (p : ℕ) (token : Token) → (toke
 no_colon ds f p (word.Further further.Colon) a = absurd (a refl)
 no_colon ds f p token a = refl
 
-pub no_sig_end : (ds : List Decl) (f : Binder) (ts : Writtens) (t : Written) (p : ℕ) (token : Token) → (token ≡ word.Arrow → ⊥) → (token ≡ word.Semicolon → ⊥) → move at_most_200 (SigBehind ds f ts t) p token ≡ refuse (refused p token)
+pub no_sig_end : (ds : List Decl) (f : Binder) (ts : WrittenTypes) (t : Written) (p : ℕ) (token : Token) → (token ≡ word.Arrow → ⊥) → (token ≡ word.Semicolon → ⊥) → move at_most_200 (SigBehind ds f ts t) p token ≡ refuse (refused p token)
 no_sig_end ds f ts t p word.Arrow a b = absurd (a refl)
 no_sig_end ds f ts t p word.Semicolon a b = absurd (b refl)
 no_sig_end ds f ts t p token a b = refl
@@ -152,23 +152,23 @@ no_decl ds p token a b c d = refl
 
 -- a token that this state refuses
 pub refuses_at : (o : Own) (ts : List Lexeme) (er : ReadRefusal) → er ≡ refusal (front ts) → move at_most_200 o (front ts).at (front ts).token ≡ refuse (refused (front ts).at (front ts).token) → Fails er (reading.at o ts)
-refuses_at o ts er er_is e = refuses (Outside o) ts er er_is (ap moved e)
+refuses_at o ts er er_is e = refuses (Outside o) ts er er_is (ap step_of_move e)
 
 -- ---- the states that keep types
 
-pub keeps_fields : (ds : List Decl) (d : TypeDecl) (c : Binder) → KeepsTypes (Fields ds d c) (InFields ds d c)
+pub keeps_fields : (ds : List Decl) (d : TypeDecl) (c : Binder) → CollectsTypes (Fields ds d c) (InFields ds d c)
 keeps_fields ds d c = record { keeps = λ ts t. refl; begins = begins; bad = λ ts p. refl }
   where
-    begins : (ts : Writtens) (p : ℕ) (token : Token) → starts_type token ≡ true → move at_most_200 (Fields ds d c ts) p token ≡ move at_most_200 (OneType (InFields ds d c ts)) p token
+    begins : (ts : WrittenTypes) (p : ℕ) (token : Token) → starts_type token ≡ true → move at_most_200 (Fields ds d c ts) p token ≡ move at_most_200 (OneType (InFields ds d c ts)) p token
     begins ts p (word.Name n) e = refl
     begins ts p (word.Con n) e = refl
     begins ts p word.Open e = refl
     begins ts p token e = absurd cc
 
-pub keeps_arguments : (k : Frame) (b : Binder) → KeepsTypes (Arguments k b) (InArguments k b)
+pub keeps_arguments : (k : Frame) (b : Binder) → CollectsTypes (Arguments k b) (InArguments k b)
 keeps_arguments k b = record { keeps = λ ts t. refl; begins = begins; bad = λ ts p. refl }
   where
-    begins : (ts : Writtens) (p : ℕ) (token : Token) → starts_type token ≡ true → move at_most_200 (Arguments k b ts) p token ≡ move at_most_200 (OneType (InArguments k b ts)) p token
+    begins : (ts : WrittenTypes) (p : ℕ) (token : Token) → starts_type token ≡ true → move at_most_200 (Arguments k b ts) p token ≡ move at_most_200 (OneType (InArguments k b ts)) p token
     begins ts p (word.Name n) e = refl
     begins ts p (word.Con n) e = refl
     begins ts p word.Open e = refl

@@ -10,20 +10,20 @@ use Rattle.core_reader.specs.declared.token.Token.TheVariants as word
 use Rattle.core_reader.specs.declared.token.Lexeme.{Lexeme}
 use Rattle.core_reader.specs.declared.refusal.ReadRefusal.{ReadRefusal}
 use Rattle.core_reader.specs.Tree.{function}
-use Rattle.core_reader.specs.Grammar.{Room, anywhere, lexeme, binders}
+use Rattle.core_reader.specs.Grammar.{NestingLimit, unlimited_nesting, lexeme, binders}
 use Rattle.core_reader.specs.Grammar as core
 use Rattle.core_reader.specs.TokensOf.{Piece, Reads, Stops, Passes, Takes}
 use Rattle.core_reader.specs.WordsOf.{said}
 use Rattle.core_reader.specs.LexedOf.{IsLexed, AreInRange}
 use Rattle.core_reader.specs.Size.{function_size}
-use Rattle.core_reader.specs.Different.{AreDifferent}
+use Rattle.core_reader.specs.Different.{AreDistinct}
 use Rattle.core_reader.specs.Readable.{ReadableData, ReadableFunction, IsReadable}
 use Rattle.core_reader.proofs.NamingOf.{Texts, EachHeld, each_held}
 use Rattle.core_reader.proofs.Unique.{ends_at, longest_some}
 use Rattle.core_reader.proofs.Readability.{EachKnown, front_known, back_known, known, decl_readable, expr_small, binders_length, different_from}
 use Rattle.core_reader.proofs.Answers.{Found, found_by, spelled_by, refused_by}
 use Rattle.core_types.specs.declared.reader.Declarations.{Declarations}
-use Rattle.core_types.specs.Source.{Written, Writtens, Constructor, Source, count, data_of, data_in, erased}
+use Rattle.core_types.specs.Source.{Written, WrittenTypes, Constructor, Source, count, data_of, data_in, erased}
 use Rattle.core_types.specs.SourceOf.{type_of, signature_of}
 use Rattle.core_types.specs.Grammar.{SpellsType, SpellsTypes, Variable, Constant, Bracket, None, More, SpellsConstructors, Decl, Declares, Signs, Defines, SpellsDecl, SpellsDecls, types_of, functions_of}
 use Rattle.core_types.specs.Text.{IsSource, IsReadCause}
@@ -38,7 +38,7 @@ source_from names found = record {
   functions = map function found.functions.items;
 }
 
-pub derived : (text : List ℕ) (lexemes : List Lexeme) (names : List (List ℕ)) (decls : Declarations) (l : IsLexed Types text lexemes names) → ReadsSource lexemes (Ok decls) → IsSource anywhere (source_from names decls) l.pieces
+pub derived : (text : List ℕ) (lexemes : List Lexeme) (names : List (List ℕ)) (decls : Declarations) (l : IsLexed Types text lexemes names) → ReadsSource lexemes (Ok decls) → IsSource unlimited_nesting (source_from names decls) l.pieces
 derived text lexemes names decls l h =
     record { names = l.named; decls = h.0; types = h.1; signatures = h.2; functions = h.3; spelled = spelled_by source_reads text lexemes names h.0 l h.4 }
 
@@ -50,19 +50,19 @@ refused text lexemes names e short l h = refused_by source_reads text lexemes na
 
 -- ---- the program without its types is readable
 
-type_some : (l : Room) (depth : ℕ) (t : Written) (ts : List Lexeme) → SpellsType l depth t ts → 1 ≤ length ts
+type_some : (l : NestingLimit) (depth : ℕ) (t : Written) (ts : List Lexeme) → SpellsType l depth t ts → 1 ≤ length ts
 type_some l depth t ts (Variable d b) = omega arith
 type_some l depth t ts (Constant d b) = omega arith
 type_some l depth t ts (Bracket d p q u us vs room g e) = omega (arith, ap length e)
 
-types_count : (l : Room) (depth : ℕ) (ts : Writtens) (us : List Lexeme) → SpellsTypes l depth ts us → count ts ≤ length us
+types_count : (l : NestingLimit) (depth : ℕ) (ts : WrittenTypes) (us : List Lexeme) → SpellsTypes l depth ts us → count ts ≤ length us
 types_count l depth ts us (None d) = omega arith
 types_count l depth ts us (More d t more xs ys zs h g e) =
     let one = type_some l depth t xs h in
     let rest = types_count l depth more ys g in
     omega (arith, one, rest, ap length e, length-append xs ys)
 
-constructors_readable : (names : Texts) (l : Room) (sign : Token) (cs : List Constructor) (ts : List Lexeme) → SpellsConstructors l sign cs ts → EachKnown names ts → length ts ≤ 2147483647 → All (ReadableData names) (map data_of cs)
+constructors_readable : (names : Texts) (l : NestingLimit) (sign : Token) (cs : List Constructor) (ts : List Lexeme) → SpellsConstructors l sign cs ts → EachKnown names ts → length ts ≤ 2147483647 → All (ReadableData names) (map data_of cs)
 constructors_readable names l sign [] ts h k short = All-nil (ReadableData names)
 constructors_readable names l sign (c ∷ cs) ts h k short =
     let k2 = subst (EachKnown names) h.5 k in
@@ -74,7 +74,7 @@ constructors_readable names l sign (c ∷ cs) ts h k short =
     All-cons (ReadableData names) (data_of c) (map data_of cs) (k3.0, omega (arith, few, total, first, short))
     (constructors_readable names l _ cs h.2 h.4 (back_known names h.1 h.2 k2.1) (omega (arith, total, short)))
 
-constructors_small : (l : Room) (sign : Token) (cs : List Constructor) (ts : List Lexeme) → SpellsConstructors l sign cs ts → 2 * length (map data_of cs) ≤ length ts
+constructors_small : (l : NestingLimit) (sign : Token) (cs : List Constructor) (ts : List Lexeme) → SpellsConstructors l sign cs ts → 2 * length (map data_of cs) ≤ length ts
 constructors_small l sign [] ts h = omega arith
 constructors_small l sign (c ∷ cs) ts h =
     let rest = constructors_small l _ cs h.2 h.4 in
@@ -89,7 +89,7 @@ abbrev EachReadable : Texts → List Decl → Type 0
 EachReadable names [] = Unit {0}
 EachReadable names (d ∷ ds) = ReadableDecl names d × EachReadable names ds
 
-readable_decl : (names : Texts) (l : Room) (d : Decl) (ts : List Lexeme) → SpellsDecl l d ts → EachKnown names ts → length ts ≤ 2147483647 → ReadableDecl names d
+readable_decl : (names : Texts) (l : NestingLimit) (d : Decl) (ts : List Lexeme) → SpellsDecl l d ts → EachKnown names ts → length ts ≤ 2147483647 → ReadableDecl names d
 readable_decl names l (Declares d) ts h k short =
     let k2 = (subst (EachKnown names) h.5 k).1.1 in
     let close = lexeme h.1 word.Semicolon ∷ [] in
@@ -99,7 +99,7 @@ readable_decl names l (Declares d) ts h k short =
 readable_decl names l (Signs s) ts h k short = tt
 readable_decl names l (Defines f) ts h k short = decl_readable names l (core.Defines f) ts h k
 
-decls_readable : (names : Texts) (l : Room) (ds : List Decl) (ts : List Lexeme) → SpellsDecls l ds ts → EachKnown names ts → length ts ≤ 2147483647 → EachReadable names ds
+decls_readable : (names : Texts) (l : NestingLimit) (ds : List Decl) (ts : List Lexeme) → SpellsDecls l ds ts → EachKnown names ts → length ts ≤ 2147483647 → EachReadable names ds
 decls_readable names l [] ts h k short = tt
 decls_readable names l (d ∷ ds) ts h k short =
     let k2 = subst (EachKnown names) h.4 k in
@@ -121,7 +121,7 @@ all_functions names (Defines f ∷ ds) h = All-cons (ReadableFunction names) f (
 abbrev size_of : List Decl → ℕ
 size_of ds = 2 * length (flat_map data_in (types_of ds)) + sum_by function_size (functions_of ds)
 
-decls_small : (l : Room) (ds : List Decl) (ts : List Lexeme) → SpellsDecls l ds ts → size_of ds ≤ length ts
+decls_small : (l : NestingLimit) (ds : List Decl) (ts : List Lexeme) → SpellsDecls l ds ts → size_of ds ≤ length ts
 decls_small l [] ts h = omega arith
 decls_small l (Declares d ∷ ds) ts h =
     let g = h.2 in
@@ -144,7 +144,7 @@ map_length : (names : Texts) (ps : List Piece) → length (map (said Types names
 map_length names [] = refl
 map_length names (p ∷ ps) = ap suc (map_length names ps)
 
-pub source_readable : (l : Room) (s : Source) (pieces : List Piece) → IsSource l s pieces → AreInRange Types pieces → length pieces ≤ 1048576 → IsReadable (erased s)
+pub source_readable : (l : NestingLimit) (s : Source) (pieces : List Piece) → IsSource l s pieces → AreInRange Types pieces → length pieces ≤ 1048576 → IsReadable (erased s)
 source_readable l s pieces h small short =
     let held : EachHeld Types s.names pieces = subst (λ v. EachHeld Types v pieces) (sym h.names) (each_held Types [] pieces) in
     let each = known Types s.names pieces held small in
@@ -152,7 +152,7 @@ source_readable l s pieces h small short =
     let r = decls_readable s.names l h.decls (map (said Types s.names) pieces) h.spelled each (omega (arith, fits)) in
     let n = decls_small l h.decls (map (said Types s.names) pieces) h.spelled in
     record {
-      different = subst AreDifferent (sym h.names) (different_from Types [] pieces tt);
+      different = subst AreDistinct (sym h.names) (different_from Types [] pieces tt);
       constructors = subst (λ ts. All (ReadableData s.names) (flat_map data_in ts)) h.types (all_constructors s.names h.decls r);
       functions = subst (All (ReadableFunction s.names)) h.functions (all_functions s.names h.decls r);
       size = subst (λ v. v < 2 ^ 64) (λ i. 2 * length (flat_map data_in (h.types i)) + sum_by function_size (h.functions i)) (omega (arith, n, fits));
@@ -167,4 +167,4 @@ pub found_readable : (text : List ℕ) (lexemes : List Lexeme) (names : List (Li
 found_readable text lexemes names decls short l h =
     let f = fewer l.reads in
     let g = ends_at l.reads in
-    source_readable anywhere (source_from names decls) l.pieces (derived text lexemes names decls l h) l.in_range (omega (arith, f, g, short))
+    source_readable unlimited_nesting (source_from names decls) l.pieces (derived text lexemes names decls l h) l.in_range (omega (arith, f, g, short))

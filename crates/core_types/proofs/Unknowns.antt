@@ -4,13 +4,13 @@ use Rattle.std.specs.Prelude.{◌≢◌, ◌==◌, ◌||◌, not, slice_get, if�
 use Rattle.std.proofs.lemmas.Bool.{eqb-true, eq-eqb}
 use Rattle.seq.proofs.Truth.{two_ways}
 use Rattle.core_reader.specs.declared.syntax.Binder.{Binder}
-use Rattle.arity_check.specs.Faults.{also}
+use Rattle.arity_check.specs.Faults.{with_member}
 use Rattle.arity_check.specs.Whole.{known_of}
 use Rattle.arity_check.proofs.Names.{int_named}
-use Rattle.core_types.specs.Source.{Written, Writtens, Var, Named, Arrow, NoTypes, AndType, Constructor, TypeDecl, Signature, Source, count, erased}
-use Rattle.core_types.specs.Rules.{Has, HasIn, IsBound, params_in, parameters, InFields, Stands, InType, InArgument, InResult, Broken}
+use Rattle.core_types.specs.Source.{Written, WrittenTypes, Var, Named, Arrow, NoTypes, AndType, Constructor, TypeDecl, Signature, Source, count, erased}
+use Rattle.core_types.specs.Rules.{Has, HasIn, IsBound, type_arity, parameters, InFields, Stands, InType, InArgument, InResult, Broken}
 use Rattle.core_types.specs.Rules as rules
-use Rattle.core_types.specs.Found.{IsFirstAt, earlier_if, seen_all, same_count, params_of, unknown_in, unknown_in_all, unknown_in_fields, unknown_in_types, unknown_in_signatures, unknown_names}
+use Rattle.core_types.specs.Found.{IsFirstPlaceWhere, earlier_place_if, with_all_seen, same_count, params_of, unknown_in, unknown_in_all, unknown_in_fields, unknown_in_types, unknown_in_signatures, first_unknown_name}
 use Rattle.core_types.proofs.Firsts.{Here, Adds, here_adds, then_adds, none_adds, all_added}
 
 pub is_not : (b : Bool) → not b ≡ true → b ≡ false
@@ -32,7 +32,7 @@ not_so false h = refl
 -- ---- unknown names in a type
 
 module _ (known : ℕ → Option ℕ) where
-  abbrev Miscounted : Binder → Writtens → Bool
+  abbrev Miscounted : Binder → WrittenTypes → Bool
   Miscounted b args = not (same_count (known b.name.0) (count args))
 
   abbrev mutual
@@ -41,23 +41,23 @@ module _ (known : ℕ → Option ℕ) where
     UnknownIn bound (Named b args) at = Here (Miscounted b args) b.at at ⊎ UnknownInAll bound args at
     UnknownIn bound (Arrow from to) at = UnknownIn bound from at ⊎ UnknownIn bound to at
 
-    pub UnknownInAll : (ℕ → Bool) → Writtens → ℕ → Type 0
+    pub UnknownInAll : (ℕ → Bool) → WrittenTypes → ℕ → Type 0
     UnknownInAll bound NoTypes at = ⊥
     UnknownInAll bound (AndType t ts) at = UnknownIn bound t at ⊎ UnknownInAll bound ts at
 
   mutual
     unknown_adds : (bound : ℕ → Bool) (t : Written) → Adds (UnknownIn bound t) (λ o. unknown_in known bound o t)
     unknown_adds bound (Var b) = here_adds (not (bound b.name.0)) b.at
-    unknown_adds bound (Named b args) = then_adds (Here (Miscounted b args) b.at) (UnknownInAll bound args) (λ o. earlier_if (Miscounted b args) o b.at) (λ o. unknown_in_all known bound o args) (here_adds (Miscounted b args) b.at) (unknown_all_adds bound args)
+    unknown_adds bound (Named b args) = then_adds (Here (Miscounted b args) b.at) (UnknownInAll bound args) (λ o. earlier_place_if (Miscounted b args) o b.at) (λ o. unknown_in_all known bound o args) (here_adds (Miscounted b args) b.at) (unknown_all_adds bound args)
     unknown_adds bound (Arrow from to) = then_adds (UnknownIn bound from) (UnknownIn bound to) (λ o. unknown_in known bound o from) (λ o. unknown_in known bound o to) (unknown_adds bound from) (unknown_adds bound to)
 
-    unknown_all_adds : (bound : ℕ → Bool) (ts : Writtens) → Adds (UnknownInAll bound ts) (λ o. unknown_in_all known bound o ts)
+    unknown_all_adds : (bound : ℕ → Bool) (ts : WrittenTypes) → Adds (UnknownInAll bound ts) (λ o. unknown_in_all known bound o ts)
     unknown_all_adds bound NoTypes = none_adds
     unknown_all_adds bound (AndType t ts) = then_adds (UnknownIn bound t) (UnknownInAll bound ts) (λ o. unknown_in known bound o t) (λ o. unknown_in_all known bound o ts) (unknown_adds bound t) (unknown_all_adds bound ts)
 
   -- among the types of which Q holds one is unknown
   pub data Unknown (Q : Written → Type 0) (bound : ℕ → Bool) (at : ℕ) : Type 0 where
-    OfType : (b : Binder) (args : Writtens) → Q (Named b args) → same_count (known b.name.0) (count args) ≡ false → b.at ≡ at → Unknown Q bound at
+    OfType : (b : Binder) (args : WrittenTypes) → Q (Named b args) → same_count (known b.name.0) (count args) ≡ false → b.at ≡ at → Unknown Q bound at
     OfVariable : (x : Binder) → Q (Var x) → bound x.name.0 ≡ false → x.at ≡ at → Unknown Q bound at
 
   pub lifted : (Q R : Written → Type 0) (bound : ℕ → Bool) (at : ℕ) → ((u : Written) → Q u → R u) → Unknown Q bound at → Unknown R bound at
@@ -72,22 +72,22 @@ module _ (known : ℕ → Option ℕ) where
     to_unknown bound (Arrow from to) at (inl h) = lifted (Has from) (Has (Arrow from to)) bound at (λ u q. inr (inl q)) (to_unknown bound from at h)
     to_unknown bound (Arrow from to) at (inr h) = lifted (Has to) (Has (Arrow from to)) bound at (λ u q. inr (inr q)) (to_unknown bound to at h)
 
-    to_unknown_all : (bound : ℕ → Bool) (ts : Writtens) (at : ℕ) → UnknownInAll bound ts at → Unknown (HasIn ts) bound at
+    to_unknown_all : (bound : ℕ → Bool) (ts : WrittenTypes) (at : ℕ) → UnknownInAll bound ts at → Unknown (HasIn ts) bound at
     to_unknown_all bound NoTypes at h = absurd h
     to_unknown_all bound (AndType t ts) at (inl h) = lifted (Has t) (HasIn (AndType t ts)) bound at (λ u q. inl q) (to_unknown bound t at h)
     to_unknown_all bound (AndType t ts) at (inr h) = lifted (HasIn ts) (HasIn (AndType t ts)) bound at (λ u q. inr q) (to_unknown_all bound ts at h)
 
-  var_named : (x b : Binder) (args : Writtens) → Named b args ≡ Var x → ⊥
+  var_named : (x b : Binder) (args : WrittenTypes) → Named b args ≡ Var x → ⊥
   var_named x b args e = cc
 
   var_arrow : (x : Binder) (f t : Written) → Var x ≡ Arrow f t → ⊥
   var_arrow x f t e = cc
 
-  named_arrow : (b : Binder) (args : Writtens) (f t : Written) → Named b args ≡ Arrow f t → ⊥
+  named_arrow : (b : Binder) (args : WrittenTypes) (f t : Written) → Named b args ≡ Arrow f t → ⊥
   named_arrow b args f t e = cc
 
   mutual
-    miscounted_in : (bound : ℕ → Bool) (t : Written) (b : Binder) (args : Writtens) → same_count (known b.name.0) (count args) ≡ false → Has t (Named b args) → UnknownIn bound t b.at
+    miscounted_in : (bound : ℕ → Bool) (t : Written) (b : Binder) (args : WrittenTypes) → same_count (known b.name.0) (count args) ≡ false → Has t (Named b args) → UnknownIn bound t b.at
     miscounted_in bound (Var x) b args s h = absurd (var_named x b args h)
     miscounted_in bound (Named c xs) b args s (inl e) = subst (λ u. UnknownIn bound u b.at) e (inl (not_is (same_count (known b.name.0) (count args)) s, refl))
     miscounted_in bound (Named c xs) b args s (inr h) = inr (miscounted_in_all bound xs b args s h)
@@ -95,7 +95,7 @@ module _ (known : ℕ → Option ℕ) where
     miscounted_in bound (Arrow from to) b args s (inr (inl h)) = inl (miscounted_in bound from b args s h)
     miscounted_in bound (Arrow from to) b args s (inr (inr h)) = inr (miscounted_in bound to b args s h)
 
-    miscounted_in_all : (bound : ℕ → Bool) (ts : Writtens) (b : Binder) (args : Writtens) → same_count (known b.name.0) (count args) ≡ false → HasIn ts (Named b args) → UnknownInAll bound ts b.at
+    miscounted_in_all : (bound : ℕ → Bool) (ts : WrittenTypes) (b : Binder) (args : WrittenTypes) → same_count (known b.name.0) (count args) ≡ false → HasIn ts (Named b args) → UnknownInAll bound ts b.at
     miscounted_in_all bound NoTypes b args s h = absurd h
     miscounted_in_all bound (AndType t ts) b args s (inl h) = inl (miscounted_in bound t b args s h)
     miscounted_in_all bound (AndType t ts) b args s (inr h) = inr (miscounted_in_all bound ts b args s h)
@@ -109,7 +109,7 @@ module _ (known : ℕ → Option ℕ) where
     unbound_in bound (Arrow from to) x s (inr (inl h)) = inl (unbound_in bound from x s h)
     unbound_in bound (Arrow from to) x s (inr (inr h)) = inr (unbound_in bound to x s h)
 
-    unbound_in_all : (bound : ℕ → Bool) (ts : Writtens) (x : Binder) → bound x.name.0 ≡ false → HasIn ts (Var x) → UnknownInAll bound ts x.at
+    unbound_in_all : (bound : ℕ → Bool) (ts : WrittenTypes) (x : Binder) → bound x.name.0 ≡ false → HasIn ts (Var x) → UnknownInAll bound ts x.at
     unbound_in_all bound NoTypes x s h = absurd h
     unbound_in_all bound (AndType t ts) x s (inl h) = inl (unbound_in bound t x s h)
     unbound_in_all bound (AndType t ts) x s (inr h) = inr (unbound_in_all bound ts x s h)
@@ -121,7 +121,7 @@ module _ (known : ℕ → Option ℕ) where
   FieldsUnknown bound (c ∷ cs) at = UnknownInAll bound c.fields at ⊎ FieldsUnknown bound cs at
 
   abbrev bound_by : TypeDecl → ℕ → Bool
-  bound_by d = seen_all (λ n. false) d.params
+  bound_by d = with_all_seen (λ n. false) d.params
 
   abbrev TypesUnknown : List TypeDecl → ℕ → Type 0
   TypesUnknown [] at = ⊥
@@ -203,50 +203,50 @@ module _ (known : ℕ → Option ℕ) where
 
 -- ---- names that were seen
 
-pub also_parts : (x n : ℕ) (seen : ℕ → Bool) → also x seen n ≡ true → (x ≡ n) ⊎ (seen n ≡ true)
+pub also_parts : (x n : ℕ) (seen : ℕ → Bool) → with_member x seen n ≡ true → (x ≡ n) ⊎ (seen n ≡ true)
 also_parts x n seen e = elim (two_ways (x == n)) [ inl y ↦ inl (eqb-true x n y) | inr m ↦ inr (sym (ap (λ b. b || seen n) m) ∙ e) ]
 
-pub also_same : (x n : ℕ) (seen : ℕ → Bool) → x ≡ n → also x seen n ≡ true
+pub also_same : (x n : ℕ) (seen : ℕ → Bool) → x ≡ n → with_member x seen n ≡ true
 also_same x n seen e = ap (λ b. b || seen n) (eq-eqb x n e)
 
 or_true : (b : Bool) → (b || true) ≡ true
 or_true true = refl
 or_true false = refl
 
-pub also_before : (x n : ℕ) (seen : ℕ → Bool) → seen n ≡ true → also x seen n ≡ true
+pub also_before : (x n : ℕ) (seen : ℕ → Bool) → seen n ≡ true → with_member x seen n ≡ true
 also_before x n seen e = ap (λ b. (x == n) || b) e ∙ or_true (x == n)
 
 -- the name stands in the list
 abbrev pub StandsIn : List Binder → ℕ → Type 0
 StandsIn xs n = IsBound xs n
 
-seen_before : (seen : ℕ → Bool) (xs : List Binder) (n : ℕ) → seen n ≡ true → seen_all seen xs n ≡ true
+seen_before : (seen : ℕ → Bool) (xs : List Binder) (n : ℕ) → seen n ≡ true → with_all_seen seen xs n ≡ true
 seen_before seen [] n e = e
-seen_before seen (x ∷ xs) n e = seen_before (also x.name.0 seen) xs n (also_before x.name.0 n seen e)
+seen_before seen (x ∷ xs) n e = seen_before (with_member x.name.0 seen) xs n (also_before x.name.0 n seen e)
 
-seen_in : (seen : ℕ → Bool) (xs : List Binder) (n : ℕ) → seen_all seen xs n ≡ true → (seen n ≡ true) ⊎ StandsIn xs n
+seen_in : (seen : ℕ → Bool) (xs : List Binder) (n : ℕ) → with_all_seen seen xs n ≡ true → (seen n ≡ true) ⊎ StandsIn xs n
 seen_in seen [] n e = inl e
-seen_in seen (x ∷ xs) n e = elim (seen_in (also x.name.0 seen) xs n e) [
+seen_in seen (x ∷ xs) n e = elim (seen_in (with_member x.name.0 seen) xs n e) [
   | inl a ↦ elim (also_parts x.name.0 n seen a) [ inl y ↦ inr (zero, x, refl, y) | inr b ↦ inl b ]
   | inr h ↦ inr (suc h.0, h.1, h.2, h.3)
 ]
 
-in_seen : (seen : ℕ → Bool) (xs : List Binder) (n i : ℕ) (x : Binder) → slice_get xs i ≡ Some x → x.name.0 ≡ n → seen_all seen xs n ≡ true
+in_seen : (seen : ℕ → Bool) (xs : List Binder) (n i : ℕ) (x : Binder) → slice_get xs i ≡ Some x → x.name.0 ≡ n → with_all_seen seen xs n ≡ true
 in_seen seen [] n i x e f = absurd cc
 in_seen seen (y ∷ xs) n zero x e f =
     let same : y ≡ x = cc in
-    seen_before (also y.name.0 seen) xs n (also_same y.name.0 n seen (ap (λ (w : Binder). w.name.0) same ∙ f))
-in_seen seen (y ∷ xs) n (suc i) x e f = in_seen (also y.name.0 seen) xs n i x e f
+    seen_before (with_member y.name.0 seen) xs n (also_same y.name.0 n seen (ap (λ (w : Binder). w.name.0) same ∙ f))
+in_seen seen (y ∷ xs) n (suc i) x e f = in_seen (with_member y.name.0 seen) xs n i x e f
 
-pub unbound_if : (xs : List Binder) (n : ℕ) → seen_all (λ n. false) xs n ≡ false → IsBound xs n → ⊥
-unbound_if xs n e h = false_true (seen_all (λ n. false) xs n) e (in_seen (λ n. false) xs n h.0 h.1 h.2 h.3)
+pub unbound_if : (xs : List Binder) (n : ℕ) → with_all_seen (λ n. false) xs n ≡ false → IsBound xs n → ⊥
+unbound_if xs n e h = false_true (with_all_seen (λ n. false) xs n) e (in_seen (λ n. false) xs n h.0 h.1 h.2 h.3)
 
 nothing_seen : (xs : List Binder) (n : ℕ) → (false ≡ true) ⊎ StandsIn xs n → StandsIn xs n
 nothing_seen xs n (inl e) = absurd cc
 nothing_seen xs n (inr h) = h
 
-pub if_unbound : (xs : List Binder) (n : ℕ) → (IsBound xs n → ⊥) → seen_all (λ n. false) xs n ≡ false
-if_unbound xs n h = not_so (seen_all (λ n. false) xs n) (λ e. h (nothing_seen xs n (seen_in (λ n. false) xs n e)))
+pub if_unbound : (xs : List Binder) (n : ℕ) → (IsBound xs n → ⊥) → with_all_seen (λ n. false) xs n ≡ false
+if_unbound xs n h = not_so (with_all_seen (λ n. false) xs n) (λ e. h (nothing_seen xs n (seen_in (λ n. false) xs n e)))
 
 -- ---- a type's name, or a variable
 
@@ -269,15 +269,15 @@ module _ (s : Source) where
   known = params_of (known_of (erased s)) s.types
 
   known_is : (n : ℕ) → known n ≡ parameters s n
-  known_is n = ap (λ b. if b then Some 0 else params_in s.types n) (int_named (erased s) n)
+  known_is n = ap (λ b. if b then Some 0 else type_arity s.types n) (int_named (erased s) n)
 
   abbrev pub Rule82 : ℕ → Type 0
   Rule82 at = TypesUnknown known s.types at ⊎ SignaturesUnknown known s.signatures at
 
-  misnamed : (b : Binder) (args : Writtens) → same_count (known b.name.0) (count args) ≡ false → parameters s b.name.0 ≢ Some (count args)
+  misnamed : (b : Binder) (args : WrittenTypes) → same_count (known b.name.0) (count args) ≡ false → parameters s b.name.0 ≢ Some (count args)
   misnamed b args e f = other_count (known b.name.0) (count args) e (known_is b.name.0 ∙ f)
 
-  named_so : (b : Binder) (args : Writtens) → parameters s b.name.0 ≢ Some (count args) → same_count (known b.name.0) (count args) ≡ false
+  named_so : (b : Binder) (args : WrittenTypes) → parameters s b.name.0 ≢ Some (count args) → same_count (known b.name.0) (count args) ≡ false
   named_so b args h = count_other (known b.name.0) (count args) (λ e. h (sym (known_is b.name.0) ∙ e))
 
   field_breaks : (d : TypeDecl) (i at : ℕ) → slice_get s.types i ≡ Some d → Unknown known (FieldOf known d.constructors) (bound_by known d) at → Broken s 82 at
@@ -296,7 +296,7 @@ module _ (s : Source) where
   breaks at (inl h) = let w = to_types known s.types at h in field_breaks w.decl w.i at w.is w.unknown
   breaks at (inr h) = let w = to_signatures known s.signatures at h in signature_breaks w.signature w.i at w.is w.unknown
 
-  stands_unknown : (b : Binder) (args : Writtens) → same_count (known b.name.0) (count args) ≡ false → Stands s (Named b args) → Rule82 b.at
+  stands_unknown : (b : Binder) (args : WrittenTypes) → same_count (known b.name.0) (count args) ≡ false → Stands s (Named b args) → Rule82 b.at
   stands_unknown b args m (InType {d = d} i e h) = inl (types_have known s.types i d b.at e (fields_have known (bound_by known d) d.constructors h.0 h.1 b.at h.2 (miscounted_in_all known (bound_by known d) h.1.fields b args m h.3)))
   stands_unknown b args m (InArgument {g = g} i e h) = inr (signatures_have known s.signatures i g b.at e (inl (miscounted_in_all known (any known) g.args b args m h)))
   stands_unknown b args m (InResult {g = g} i e h) = inr (signatures_have known s.signatures i g b.at e (inr (miscounted_in known (any known) g.result b args m h)))
@@ -304,14 +304,14 @@ module _ (s : Source) where
   pub unknown_breaks : (at : ℕ) → Rule82 at → Broken s 82 at
   unknown_breaks at h = breaks at h
 
-  pub type_unknown : (b : Binder) (args : Writtens) → Stands s (Named b args) → parameters s b.name.0 ≢ Some (count args) → Rule82 b.at
+  pub type_unknown : (b : Binder) (args : WrittenTypes) → Stands s (Named b args) → parameters s b.name.0 ≢ Some (count args) → Rule82 b.at
   type_unknown b args h m = stands_unknown b args (named_so b args m) h
 
   pub variable_unknown : (d : TypeDecl) (x : Binder) (i : ℕ) → slice_get s.types i ≡ Some d → InFields s d (Var x) → (IsBound d.params x.name.0 → ⊥) → Rule82 x.at
   variable_unknown d x i e h u =
       inl (types_have known s.types i d x.at e (fields_have known (bound_by known d) d.constructors h.0 h.1 x.at h.2 (unbound_in_all known (bound_by known d) h.1.fields x (if_unbound d.params x.name.0 u) h.3)))
 
-  pub unknown_first : IsFirstAt Rule82 (unknown_names (known_of (erased s)) s.types s.signatures)
+  pub unknown_first : IsFirstPlaceWhere Rule82 (first_unknown_name (known_of (erased s)) s.types s.signatures)
   unknown_first =
       all_added Rule82 (λ o. unknown_in_signatures known (unknown_in_types known o s.types) s.signatures)
       (then_adds (TypesUnknown known s.types) (SignaturesUnknown known s.signatures) (λ o. unknown_in_types known o s.types) (λ o. unknown_in_signatures known o s.signatures) (types_adds known s.types) (signatures_adds known s.signatures))

@@ -2,26 +2,26 @@
 use Rattle.std.proofs.Common.{◌≡◌, ℕ, zero, suc, ◌<◌, List, [], ◌∷◌, length, refl, sym, ap, subst, ◌∙◌, Option, Some, None}
 use Rattle.std.specs.Prelude.{MatchOption, slice_get}
 use Rattle.seq.specs.Lists.{here, there}
-use Rattle.unification.specs.Terms.{AreEarlier, AreBelow, equations}
+use Rattle.unification.specs.Terms.{AreEarlier, PairsAreBelow, equations}
 use Rattle.unification.specs.Solutions as equal
 use Rattle.core_types.specs.declared.nodes.Nodes.{Nodes}
-use Rattle.core_types.specs.declared.building.Builder.{Builder}
+use Rattle.core_types.specs.declared.building.ConstraintBuilder.{ConstraintBuilder}
 use Rattle.core_types.specs.Typing.{Constraint, Substitution, Solves, IsFirstUnsolved}
-use Rattle.core_types.specs.Nodes.{IsSound, Stand}
+use Rattle.core_types.specs.Nodes.{IsSound, PairsDenote}
 use Rattle.core_types.specs.Building.{Stands, IsFirstIn, places_of}
 use Rattle.core_types.proofs.Denoting.{denotes_below}
 use Rattle.core_types.proofs.Solving.{types_solve, first_is, first_there}
 
-none_below : (n : ℕ) → AreBelow n []
+none_below : (n : ℕ) → PairsAreBelow n []
 none_below n p h = elim h [ ]
 
-one_below : (n : ℕ) (p : ℕ × ℕ) (ps : List (ℕ × ℕ)) → (p.0 < n) × (p.1 < n) → AreBelow n ps → AreBelow n (p ∷ ps)
+one_below : (n : ℕ) (p : ℕ × ℕ) (ps : List (ℕ × ℕ)) → (p.0 < n) × (p.1 < n) → PairsAreBelow n ps → PairsAreBelow n (p ∷ ps)
 one_below n p ps l rest q here = l
 one_below n p ps l rest q (there h) = rest q h
 
-all_below : (n : Nodes) (cs : List Constraint) (ps : List (ℕ × ℕ)) → Stand n cs ps → AreBelow (length n.terms.items) ps
-all_below n [] ps s = subst (AreBelow (length n.terms.items)) (sym s) (none_below (length n.terms.items))
-all_below n (c ∷ cs) ps s = subst (AreBelow (length n.terms.items)) (sym s.2)
+all_below : (n : Nodes) (cs : List Constraint) (ps : List (ℕ × ℕ)) → PairsDenote n cs ps → PairsAreBelow (length n.terms.items) ps
+all_below n [] ps s = subst (PairsAreBelow (length n.terms.items)) (sym s) (none_below (length n.terms.items))
+all_below n (c ∷ cs) ps s = subst (PairsAreBelow (length n.terms.items)) (sym s.2)
     (one_below (length n.terms.items) s.0 s.1 (denotes_below n c.left s.0.0 s.3, denotes_below n c.right s.0.1 s.4) (all_below n cs s.1 s.5))
 
 place_at : (cs : List Constraint) (i : ℕ) (c : Constraint) → slice_get cs i ≡ Some c → slice_get (places_of cs) i ≡ Some c.at
@@ -31,19 +31,19 @@ place_at (d ∷ cs) (suc i) c e = place_at cs i c e
 
 -- ---- what unification asks for
 
-pub pairs_earlier : (b : Builder) → IsSound b.nodes → AreEarlier b.nodes.terms.items
+pub pairs_earlier : (b : ConstraintBuilder) → IsSound b.nodes → AreEarlier b.nodes.terms.items
 pairs_earlier b h = h.earlier
 
-pub pairs_below : (b : Builder) (cs : List Constraint) → Stands b cs → AreBelow (length b.nodes.terms.items) b.pairs.items
+pub pairs_below : (b : ConstraintBuilder) (cs : List Constraint) → Stands b cs → PairsAreBelow (length b.nodes.terms.items) b.pairs.items
 pairs_below b cs s = all_below b.nodes cs b.pairs.items s.pairs
 
 -- ---- what it answers
 
-all_solved : (b : Builder) (cs : List Constraint) → IsSound b.nodes → Stands b cs
+all_solved : (b : ConstraintBuilder) (cs : List Constraint) → IsSound b.nodes → Stands b cs
     → (σ : equal.Substitution) × equal.Solves σ (equations b.nodes.terms.items b.pairs.items) → (σ : Substitution) × Solves σ cs
 all_solved b cs h s u = (_, types_solve b.nodes h cs b.pairs.items s.pairs u.0 u.1)
 
-one_unsolved : (b : Builder) (cs : List Constraint) → IsSound b.nodes → Stands b cs → (i : ℕ) → equal.IsFirstUnsolved (equations b.nodes.terms.items b.pairs.items) i
+one_unsolved : (b : ConstraintBuilder) (cs : List Constraint) → IsSound b.nodes → Stands b cs → (i : ℕ) → equal.IsFirstUnsolved (equations b.nodes.terms.items b.pairs.items) i
     → (c : Constraint) × IsFirstUnsolved cs i c × (slice_get b.places.items i ≡ Some c.at)
 one_unsolved b cs h s i u = go (slice_get cs i) refl
   where
@@ -51,7 +51,7 @@ one_unsolved b cs h s i u = go (slice_get cs i) refl
     go None e = absurd (first_there b.nodes h cs b.pairs.items s.pairs i e u)
     go (Some c) e = (c, first_is b.nodes h cs b.pairs.items s.pairs i c e u, ap (λ ps. slice_get ps i) (sym s.places) ∙ place_at cs i c e)
 
-pub first_in : (b : Builder) (cs : List Constraint) → IsSound b.nodes → Stands b cs → (o : Option ℕ)
+pub first_in : (b : ConstraintBuilder) (cs : List Constraint) → IsSound b.nodes → Stands b cs → (o : Option ℕ)
     → MatchOption o ((σ : equal.Substitution) × equal.Solves σ (equations b.nodes.terms.items b.pairs.items)) (equal.IsFirstUnsolved (equations b.nodes.terms.items b.pairs.items))
     → IsFirstIn b cs o
 first_in b cs h s None u = all_solved b cs h s u

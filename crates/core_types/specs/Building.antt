@@ -6,26 +6,27 @@ use Rattle.core_reader.specs.Tree.{Application}
 use Rattle.arity_check.specs.Tables.{known, first_of, or_else}
 use Rattle.arity_check.specs.Whole.{known_of}
 use Rattle.core_types.specs.declared.context.Context.{Context}
-use Rattle.core_types.specs.declared.building.Builder.{Builder}
+use Rattle.core_types.specs.declared.building.ConstraintBuilder.{ConstraintBuilder}
 use Rattle.core_types.specs.declared.mismatch.Unsolved.{Unsolved}
 use Rattle.core_types.specs.Source.{Constructor, TypeDecl, Signature, Source, erased}
 use Rattle.core_types.specs.SourceOf.{source_of}
-use Rattle.core_types.specs.Typing.{Typed, Int, Named, AndTyped, NoTypeds, Constraint, Substitution, Solves, IsFirstUnsolved, Locals, constraints, declared_by, function_of, integers, arrows, constraint, head_place, term_type, terms_types}
+use Rattle.core_types.specs.Typing.{Typed, Int, Named, AndTyped, NoTypeds, Constraint, Substitution, Solves, IsFirstUnsolved, Locals, constraints, constructor_by_name, function_of, integers, arrows, constraint, head_place, term_type, terms_types}
 use Rattle.core_types.specs.Typing as typing
-use Rattle.core_types.specs.Nodes.{IsSound, Denotes, Grows, Stand}
+use Rattle.core_types.specs.Nodes.{IsSound, Denotes, ExtendsNodes, PairsDenote}
 use Rattle.core_types.specs.declared.nodes.Nodes.{Nodes}
 
 -- what has a number in a list, where there is a number
-abbrev pub picked : {T : Type 0} → List T → Option ℕ → Option T
-picked xs None = None
-picked xs (Some i) = slice_get xs i
+abbrev pub element_if_some : {T : Type 0} → List T → Option ℕ → Option T
+element_if_some xs None = None
+element_if_some xs (Some i) = slice_get xs i
 
 abbrev pub constructor_at : TypeDecl → ℕ → Option (TypeDecl × Constructor)
 constructor_at d j = elim (slice_get d.constructors j) [ Some c ↦ Some (d, c) | None ↦ None ]
 
-abbrev pub constructor_picked : List TypeDecl → Option (ℕ × ℕ) → Option (TypeDecl × Constructor)
-constructor_picked ds None = None
-constructor_picked ds (Some p) = elim (slice_get ds p.0) [ Some d ↦ constructor_at d p.1 | None ↦ None ]
+abbrev pub constructor_by_numbers : List TypeDecl → Option (ℕ × ℕ) → Option (TypeDecl × Constructor)
+constructor_by_numbers ds None = None
+constructor_by_numbers ds (Some p) =
+    elim (slice_get ds p.0) [ Some d ↦ constructor_at d p.1 | None ↦ None ]
 
 -- the first signature of a name from number i on
 abbrev pub signature_number : List Signature → ℕ → ℕ → Option ℕ
@@ -46,12 +47,18 @@ number_in_types (d ∷ ds) i n =
     or_else (constructor_number i d.constructors 0 n) (number_in_types ds (i + 1) n)
 
 -- The tables say what names stand for in a program.
-pub record IsContext (c : Context) (s : Source) : Type 0 where
+pub record IsContextOf (c : Context) (s : Source) : Type 0 where
   pub source : source_of c.source.now ≡ s
   pub names : known c.globals.now ≡ known_of (erased s)
-  pub functions : (n : ℕ) → function_of s.functions n ≡ picked s.functions (first_of (get nat_cmp c.globals.now.functions n))
-  pub signatures : (n : ℕ) → typing.signature_of s.signatures n ≡ picked s.signatures (get nat_cmp c.signatures n)
-  pub constructors : (n : ℕ) → declared_by s.types n ≡ constructor_picked s.types (get nat_cmp c.constructors n)
+  pub functions : (n : ℕ)
+      → function_of s.functions n
+      ≡ element_if_some s.functions (first_of (get nat_cmp c.globals.now.functions n))
+  pub signatures : (n : ℕ)
+      → typing.signature_of s.signatures n
+      ≡ element_if_some s.signatures (get nat_cmp c.signatures n)
+  pub constructors : (n : ℕ)
+      → constructor_by_name s.types n
+      ≡ constructor_by_numbers s.types (get nat_cmp c.constructors n)
   pub lists : integers s ≡ Named c.lists.0 (AndTyped Int NoTypeds)
 
 -- the locals of a scope have terms for their types
@@ -62,7 +69,7 @@ DenoteLocals n (l ∷ ls) scope =
     × DenoteLocals n ls rest
 
 -- The terms are sound, and these are the locals in scope.
-pub record IsAt (b : Builder) (ls : Locals) : Type 0 where
+pub record HasLocalsInScope (b : ConstraintBuilder) (ls : Locals) : Type 0 where
   pub sound : IsSound b.nodes
   pub locals : DenoteLocals b.nodes ls b.scope
 
@@ -70,13 +77,13 @@ abbrev pub places_of : List Constraint → List ℕ
 places_of cs = map (λ c. c.at) cs
 
 -- The pairs stand for these constraints, each with its place.
-pub record Stands (b : Builder) (cs : List Constraint) : Type 0 where
-  pub pairs : Stand b.nodes cs b.pairs.items
+pub record Stands (b : ConstraintBuilder) (cs : List Constraint) : Type 0 where
+  pub pairs : PairsDenote b.nodes cs b.pairs.items
   pub places : places_of cs ≡ b.places.items
 
 -- this is the number of the first constraint that has no solution with those before it, where there
 -- is one
-abbrev pub IsFirstIn : Builder → List Constraint → Option ℕ → Type 0
+abbrev pub IsFirstIn : ConstraintBuilder → List Constraint → Option ℕ → Type 0
 IsFirstIn b cs None = (σ : Substitution) × Solves σ cs
 IsFirstIn b cs (Some i) =
     (c : Constraint) × IsFirstUnsolved cs i c × (slice_get b.places.items i ≡ Some c.at)
@@ -89,19 +96,20 @@ pub record IsUnsolvedOf (s : Source) (u : Unsolved) : Type 0 where
   pub first : IsFirstIn u.builder (constraints s) u.number
 
 -- Pairs were added for these constraints.
-pub record Adds (b b' : Builder) (cs : List Constraint) : Type 0 where
-  pub grows : Grows b.nodes b'.nodes
+pub record Adds (b b' : ConstraintBuilder) (cs : List Constraint) : Type 0 where
+  pub grows : ExtendsNodes b.nodes b'.nodes
   pub scope : b'.scope ≡ b.scope
   pub stands : (before : List Constraint) → Stands b before → Stands b' (before ++ cs)
 
 -- the constraint of an application by itself
-abbrev pub own_constraint : Source → Locals → Typed → Application → Constraint
-own_constraint s ls t app =
-    constraint s (head_place s app.head) (term_type s ls app.head) (arrows (terms_types s ls app.args) t)
+abbrev pub application_constraint : Source → Locals → Typed → Application → Constraint
+application_constraint s ls t app =
+    constraint s (head_place s app.head) (term_type s ls app.head)
+    (arrows (terms_types s ls app.args) t)
 
 -- More names have types in a scope, and no pairs were added.
-pub record Enters (b b' : Builder) (ls : Locals) : Type 0 where
-  pub grows : Grows b.nodes b'.nodes
+pub record EntersLocals (b b' : ConstraintBuilder) (ls : Locals) : Type 0 where
+  pub grows : ExtendsNodes b.nodes b'.nodes
   pub pairs : b'.pairs.items ≡ b.pairs.items
   pub places : b'.places.items ≡ b.places.items
   pub more : List (ℕ × ℕ)

@@ -6,31 +6,31 @@ use Rattle.core_reader.specs.declared.syntax.NameId.{NameId}
 use Rattle.core_reader.specs.declared.syntax.Pattern.{Pattern}
 use Rattle.core_reader.specs.declared.syntax.Pattern.TheVariants as pattern
 use Rattle.core_reader.specs.Tree.{Expr, App, Let, Case, Alts, NoAlts, AndAlt, Function}
-use Rattle.arity_check.specs.Faults.{also}
+use Rattle.arity_check.specs.Faults.{with_member}
 use Rattle.arity_check.specs.Patterns.{pattern_place}
 use Rattle.arity_check.specs.Known.{Known}
 use Rattle.arity_check.specs.Whole.{int_kind, nil_kind, cons_kind}
 use Rattle.core_types.specs.declared.refusal.TypeFault.{TypeFault}
 use Rattle.core_types.specs.declared.refusal.TypeFault.TheVariants.{DuplicateType, UnknownType, BadSignature}
-use Rattle.core_types.specs.Source.{Written, Writtens, Var, Named, Arrow, NoTypes, AndType, Constructor, TypeDecl, Signature, Source, count}
+use Rattle.core_types.specs.Source.{Written, WrittenTypes, Var, Named, Arrow, NoTypes, AndType, Constructor, TypeDecl, Signature, Source, count}
 use Rattle.core_types.specs.Typing.{Constraint, Substitution, Solves, IsFirstUnsolved, constraints}
-use Rattle.core_types.specs.Rules.{params_in, names_constructor}
+use Rattle.core_types.specs.Rules.{type_arity, names_constructor}
 
 -- the first place at which something is broken, where it is broken at any
-abbrev pub IsFirstAt : (ℕ → Type 0) → Option ℕ → Type 0
-IsFirstAt P None = (at : ℕ) → P at → ⊥
-IsFirstAt P (Some at) = P at × ((at' : ℕ) → P at' → at ≤ at')
+abbrev pub IsFirstPlaceWhere : (ℕ → Type 0) → Option ℕ → Type 0
+IsFirstPlaceWhere P None = (at : ℕ) → P at → ⊥
+IsFirstPlaceWhere P (Some at) = P at × ((at' : ℕ) → P at' → at ≤ at')
 
-abbrev pub earlier_if : Bool → Option ℕ → ℕ → Option ℕ
-earlier_if false first at = first
-earlier_if true None at = Some at
-earlier_if true (Some a) at = if nat_lt at a then Some at else Some a
+abbrev pub earlier_place_if : Bool → Option ℕ → ℕ → Option ℕ
+earlier_place_if false first at = first
+earlier_place_if true None at = Some at
+earlier_place_if true (Some a) at = if nat_lt at a then Some at else Some a
 
 -- a rule of a larger number was found at a place, or nowhere
-abbrev pub sooner : Option (ℕ × ℕ) → ℕ → Option ℕ → Option (ℕ × ℕ)
-sooner found k None = found
-sooner None k (Some at) = Some (k, at)
-sooner (Some f) k (Some at) = if nat_lt at f.1 then Some (k, at) else Some f
+abbrev pub earlier_fault : Option (ℕ × ℕ) → ℕ → Option ℕ → Option (ℕ × ℕ)
+earlier_fault found k None = found
+earlier_fault None k (Some at) = Some (k, at)
+earlier_fault (Some f) k (Some at) = if nat_lt at f.1 then Some (k, at) else Some f
 
 -- ---- types
 
@@ -49,34 +49,35 @@ IsFirstMismatch s (Some at) =
 -- ---- names that stand again
 
 -- the first place of a name that was seen before
-abbrev pub again_in : (ℕ → Bool) → Option ℕ → List Binder → Option ℕ
-again_in seen first [] = first
-again_in seen first (x ∷ xs) =
-    again_in (also x.name.0 seen) (earlier_if (seen x.name.0) first x.at) xs
+abbrev pub first_repeated_name : (ℕ → Bool) → Option ℕ → List Binder → Option ℕ
+first_repeated_name seen first [] = first
+first_repeated_name seen first (x ∷ xs) =
+    first_repeated_name (with_member x.name.0 seen) (earlier_place_if (seen x.name.0) first x.at) xs
 
 -- these names were seen too
-abbrev pub seen_all : (ℕ → Bool) → List Binder → ℕ → Bool
-seen_all seen [] = seen
-seen_all seen (x ∷ xs) = seen_all (also x.name.0 seen) xs
+abbrev pub with_all_seen : (ℕ → Bool) → List Binder → ℕ → Bool
+with_all_seen seen [] = seen
+with_all_seen seen (x ∷ xs) = with_all_seen (with_member x.name.0 seen) xs
 
 -- a name is `Int`
 abbrev pub is_int : Known → ℕ → Bool
 is_int k n = int_kind (k.kind n)
 
 -- a name is `Nil`, and `Cons`
-abbrev pub nil_in : Known → ℕ → Bool
-nil_in k n = nil_kind (k.kind n)
+abbrev pub is_nil_name : Known → ℕ → Bool
+is_nil_name k n = nil_kind (k.kind n)
 
-abbrev pub cons_in : Known → ℕ → Bool
-cons_in k n = cons_kind (k.kind n)
+abbrev pub is_cons_name : Known → ℕ → Bool
+is_cons_name k n = cons_kind (k.kind n)
 
 -- the first name of a type that is `Int` or was seen before, or parameter that stands again
-abbrev pub types_again : Known → (ℕ → Bool) → Option ℕ → List TypeDecl → Option ℕ
-types_again k seen first [] = first
-types_again k seen first (d ∷ ds) =
-    types_again k (also d.name.name.0 seen)
-    (again_in (λ n. false)
-    (earlier_if (is_int k d.name.name.0) (earlier_if (seen d.name.name.0) first d.name.at) d.name.at)
+abbrev pub first_duplicate_type : Known → (ℕ → Bool) → Option ℕ → List TypeDecl → Option ℕ
+first_duplicate_type k seen first [] = first
+first_duplicate_type k seen first (d ∷ ds) =
+    first_duplicate_type k (with_member d.name.name.0 seen)
+    (first_repeated_name (λ n. false)
+    (earlier_place_if (is_int k d.name.name.0)
+    (earlier_place_if (seen d.name.name.0) first d.name.at) d.name.at)
     d.params) ds
 
 abbrev pub is_unknown : Option (ℕ × ℕ) → Bool
@@ -84,12 +85,12 @@ is_unknown None = true
 is_unknown (Some f) = false
 
 -- the first signature of a function that has one or is unknown
-abbrev pub signatures_again : Known → (ℕ → Bool) → Option ℕ → List Signature → Option ℕ
-signatures_again k seen first [] = first
-signatures_again k seen first (g ∷ gs) =
-    signatures_again k (also g.function.name.0 seen)
-    (earlier_if (is_unknown (k.function g.function.name.0))
-    (earlier_if (seen g.function.name.0) first g.function.at) g.function.at) gs
+abbrev pub first_bad_signature : Known → (ℕ → Bool) → Option ℕ → List Signature → Option ℕ
+first_bad_signature k seen first [] = first
+first_bad_signature k seen first (g ∷ gs) =
+    first_bad_signature k (with_member g.function.name.0 seen)
+    (earlier_place_if (is_unknown (k.function g.function.name.0))
+    (earlier_place_if (seen g.function.name.0) first g.function.at) g.function.at) gs
 
 -- ---- names that are unknown
 
@@ -99,19 +100,19 @@ same_count (Some m) n = m == n
 
 -- the number of parameters of a type
 abbrev pub params_of : Known → List TypeDecl → ℕ → Option ℕ
-params_of k ds n = if is_int k n then Some 0 else params_in ds n
+params_of k ds n = if is_int k n then Some 0 else type_arity ds n
 
 module _ (known : ℕ → Option ℕ) where
   abbrev mutual
     -- the first place of an unknown name in a type
     pub unknown_in : (ℕ → Bool) → Option ℕ → Written → Option ℕ
-    unknown_in bound first (Var b) = earlier_if (not (bound b.name.0)) first b.at
+    unknown_in bound first (Var b) = earlier_place_if (not (bound b.name.0)) first b.at
     unknown_in bound first (Named b args) =
         unknown_in_all bound
-        (earlier_if (not (same_count (known b.name.0) (count args))) first b.at) args
+        (earlier_place_if (not (same_count (known b.name.0) (count args))) first b.at) args
     unknown_in bound first (Arrow from to) = unknown_in bound (unknown_in bound first from) to
 
-    pub unknown_in_all : (ℕ → Bool) → Option ℕ → Writtens → Option ℕ
+    pub unknown_in_all : (ℕ → Bool) → Option ℕ → WrittenTypes → Option ℕ
     unknown_in_all bound first NoTypes = first
     unknown_in_all bound first (AndType t ts) =
         unknown_in_all bound (unknown_in bound first t) ts
@@ -124,7 +125,8 @@ module _ (known : ℕ → Option ℕ) where
   abbrev pub unknown_in_types : Option ℕ → List TypeDecl → Option ℕ
   unknown_in_types first [] = first
   unknown_in_types first (d ∷ ds) =
-      unknown_in_types (unknown_in_fields (seen_all (λ n. false) d.params) first d.constructors) ds
+      unknown_in_types
+      (unknown_in_fields (with_all_seen (λ n. false) d.params) first d.constructors) ds
 
   abbrev pub unknown_in_signatures : Option ℕ → List Signature → Option ℕ
   unknown_in_signatures first [] = first
@@ -133,16 +135,17 @@ module _ (known : ℕ → Option ℕ) where
       (unknown_in (λ n. true) (unknown_in_all (λ n. true) first g.args) g.result) gs
 
 -- the first unknown name in all types and signatures
-abbrev pub unknown_names : Known → List TypeDecl → List Signature → Option ℕ
-unknown_names k ds gs =
+abbrev pub first_unknown_name : Known → List TypeDecl → List Signature → Option ℕ
+first_unknown_name k ds gs =
     unknown_in_signatures (params_of k ds) (unknown_in_types (params_of k ds) None ds) gs
 
 -- the first of these rules, by place and at one place by number
-abbrev pub declared_first : Known → List TypeDecl → List Signature → Option (ℕ × ℕ)
-declared_first k ds gs =
-    sooner
-    (sooner (sooner None 81 (types_again k (λ n. false) None ds)) 82 (unknown_names k ds gs)) 85
-    (signatures_again k (λ n. false) None gs)
+abbrev pub first_declaration_fault : Known → List TypeDecl → List Signature → Option (ℕ × ℕ)
+first_declaration_fault k ds gs =
+    earlier_fault
+    (earlier_fault (earlier_fault None 81 (first_duplicate_type k (λ n. false) None ds))
+    82 (first_unknown_name k ds gs)) 85
+    (first_bad_signature k (λ n. false) None gs)
 
 abbrev pub declared_fault : ℕ → ℕ → TypeFault
 declared_fault k at =
@@ -150,18 +153,19 @@ declared_fault k at =
 
 -- ---- cases that don't take every value
 
--- what stands among the patterns of a case: which constructors, and whether an integer and a default
-pub record Seen : Type 0 where
+-- what stands among the patterns of a case: which constructors, and whether an integer and a
+-- default
+pub record CoveredPatterns : Type 0 where
   pub constructors : ℕ → Bool
   pub integers : Bool
   pub default : Bool
 
-abbrev pub no_patterns : Seen
+abbrev pub no_patterns : CoveredPatterns
 no_patterns = record { constructors = λ n. false; integers = false; default = false }
 
-abbrev pub with_pattern : Seen → Pattern → Seen
+abbrev pub with_pattern : CoveredPatterns → Pattern → CoveredPatterns
 with_pattern s (pattern.Con c xs) = record {
-  constructors = also c.name.0 s.constructors;
+  constructors = with_member c.name.0 s.constructors;
   integers = s.integers;
   default = s.default;
 }
@@ -170,34 +174,34 @@ with_pattern s (pattern.Int k at) =
 with_pattern s (pattern.Default x) =
     record { constructors = s.constructors; integers = s.integers; default = true }
 
-abbrev pub with_patterns : Seen → Alts → Seen
+abbrev pub with_patterns : CoveredPatterns → Alts → CoveredPatterns
 with_patterns s NoAlts = s
 with_patterns s (AndAlt pat body rest) = with_patterns (with_pattern s pat) rest
 
 -- a constructor is not among the patterns
-abbrev pub is_missing : Seen → Constructor → Bool
+abbrev pub is_missing : CoveredPatterns → Constructor → Bool
 is_missing s c = not (s.constructors c.name.name.0)
 
 -- the first type that has a constructor of this name has one that is not among the patterns
-abbrev pub lacks_in : Seen → List TypeDecl → ℕ → Bool
-lacks_in s [] n = false
-lacks_in s (d ∷ ds) n =
+abbrev pub type_lacks_pattern : CoveredPatterns → List TypeDecl → ℕ → Bool
+type_lacks_pattern s [] n = false
+type_lacks_pattern s (d ∷ ds) n =
     if names_constructor n d.constructors then list_any (is_missing s) d.constructors
-    else lacks_in s ds n
+    else type_lacks_pattern s ds n
 
-abbrev pub lacks : List TypeDecl → Seen → Pattern → Bool
-lacks ds s (pattern.Con c xs) = lacks_in s ds c.name.0
-lacks ds s (pattern.Int k at) = false
-lacks ds s (pattern.Default x) = false
+abbrev pub misses_constructor : List TypeDecl → CoveredPatterns → Pattern → Bool
+misses_constructor ds s (pattern.Con c xs) = type_lacks_pattern s ds c.name.0
+misses_constructor ds s (pattern.Int k at) = false
+misses_constructor ds s (pattern.Default x) = false
 
 -- the case with these patterns, the first of which is this, does not take every value
-abbrev pub is_partial : List TypeDecl → Seen → Pattern → Bool
-is_partial ds s first = not s.default && (s.integers || lacks ds s first)
+abbrev pub is_partial : List TypeDecl → CoveredPatterns → Pattern → Bool
+is_partial ds s first = not s.default && (s.integers || misses_constructor ds s first)
 
 abbrev pub partial_case : List TypeDecl → Option ℕ → Alts → Option ℕ
 partial_case ds first NoAlts = first
 partial_case ds first (AndAlt pat body rest) =
-    earlier_if (is_partial ds (with_patterns no_patterns (AndAlt pat body rest)) pat) first
+    earlier_place_if (is_partial ds (with_patterns no_patterns (AndAlt pat body rest)) pat) first
     (pattern_place pat)
 
 module _ (ds : List TypeDecl) where

@@ -6,13 +6,13 @@ use Rattle.core_reader.specs.declared.token.Token.TheVariants as word
 use Rattle.core_reader.specs.declared.token.Further.TheVariants as further
 use Rattle.core_reader.specs.declared.token.Lexeme.{Lexeme}
 use Rattle.core_reader.specs.Tree.{Function}
-use Rattle.core_reader.specs.Grammar.{Room, lexeme, binders, SpellsExpr}
+use Rattle.core_reader.specs.Grammar.{NestingLimit, lexeme, binders, SpellsExpr}
 use Rattle.core_reader.specs.Grammar as core
-use Rattle.core_types.specs.Source.{Written, Writtens, Var, Named, Arrow, NoTypes, AndType, Constructor, TypeDecl, Signature}
+use Rattle.core_types.specs.Source.{Written, WrittenTypes, Var, Named, Arrow, NoTypes, AndType, Constructor, TypeDecl, Signature}
 
-abbrev pub IsSomeTypes : Writtens → Type 0
-IsSomeTypes NoTypes = ⊥
-IsSomeTypes (AndType t ts) = Unit {0}
+abbrev pub IsNonemptyTypes : WrittenTypes → Type 0
+IsNonemptyTypes NoTypes = ⊥
+IsNonemptyTypes (AndType t ts) = Unit {0}
 
 -- the token of a name, and of a constructor or a type
 abbrev pub name_at : Binder → Lexeme
@@ -23,7 +23,7 @@ con_at b = lexeme b.at (word.Con b.name)
 
 mutual
   -- The tokens of a type of one piece where so many constructs are open.
-  pub data SpellsType (room : Room) : ℕ → Written → List Lexeme → Type 0 where
+  pub data SpellsType (room : NestingLimit) : ℕ → Written → List Lexeme → Type 0 where
     Variable : (depth : ℕ) (b : Binder) → SpellsType room depth (Var b) (name_at b ∷ [])
     Constant : (depth : ℕ) (b : Binder) → SpellsType room depth (Named b NoTypes) (con_at b ∷ [])
     Bracket : (depth p q : ℕ) (t : Written) (us ts : List Lexeme) → room depth ≡ true
@@ -31,57 +31,58 @@ mutual
         → ts ≡ lexeme p word.Open ∷ (us ++ lexeme q word.Close ∷ []) → SpellsType room depth t ts
 
   -- The same in brackets, which hold one piece, a type with arguments, or one arrow.
-  pub data SpellsInner (room : Room) : ℕ → Written → List Lexeme → Type 0 where
+  pub data SpellsInner (room : NestingLimit) : ℕ → Written → List Lexeme → Type 0 where
     Alone : (depth : ℕ) (t : Written) (ts : List Lexeme) → SpellsType room depth t ts
         → SpellsInner room depth t ts
-    Applied : (depth : ℕ) (b : Binder) (args : Writtens) (us : List Lexeme) → IsSomeTypes args
+    Applied : (depth : ℕ) (b : Binder) (args : WrittenTypes) (us : List Lexeme)
+        → IsNonemptyTypes args
         → SpellsTypes room depth args us → SpellsInner room depth (Named b args) (con_at b ∷ us)
     OneArrow : (depth p : ℕ) (t u : Written) (us vs ts : List Lexeme)
         → SpellsType room depth t us → SpellsType room depth u vs
         → ts ≡ us ++ (lexeme p word.Arrow ∷ vs) → SpellsInner room depth (Arrow t u) ts
 
   -- types of one piece, one after the other
-  pub data SpellsTypes (room : Room) : ℕ → Writtens → List Lexeme → Type 0 where
+  pub data SpellsTypes (room : NestingLimit) : ℕ → WrittenTypes → List Lexeme → Type 0 where
     None : (depth : ℕ) → SpellsTypes room depth NoTypes []
-    More : (depth : ℕ) (t : Written) (rest : Writtens) (us vs ts : List Lexeme)
+    More : (depth : ℕ) (t : Written) (rest : WrittenTypes) (us vs ts : List Lexeme)
         → SpellsType room depth t us → SpellsTypes room depth rest vs → ts ≡ us ++ vs
         → SpellsTypes room depth (AndType t rest) ts
 
 abbrev pub bar : Token
 bar = word.Further further.Bar
 
-abbrev pub SpellsConstructor : Room → Constructor → List Lexeme → Type 0
+abbrev pub SpellsConstructor : NestingLimit → Constructor → List Lexeme → Type 0
 SpellsConstructor room c ts =
     (us : List Lexeme) × SpellsTypes room 0 c.fields us × (ts ≡ con_at c.name ∷ us)
 
 -- Before the first constructor stands this sign, before each further one a `|`.
-abbrev pub SpellsConstructors : Room → Token → List Constructor → List Lexeme → Type 0
+abbrev pub SpellsConstructors : NestingLimit → Token → List Constructor → List Lexeme → Type 0
 SpellsConstructors room sign [] ts = ts ≡ []
 SpellsConstructors room sign (c ∷ cs) ts =
     (p : ℕ) × (us vs : List Lexeme) × SpellsConstructor room c us
     × SpellsConstructors room bar cs vs × (ts ≡ lexeme p sign ∷ (us ++ vs))
 
-abbrev pub IsSomeConstructors : List Constructor → Type 0
-IsSomeConstructors [] = ⊥
-IsSomeConstructors (c ∷ cs) = Unit {0}
+abbrev pub IsNonemptyConstructors : List Constructor → Type 0
+IsNonemptyConstructors [] = ⊥
+IsNonemptyConstructors (c ∷ cs) = Unit {0}
 
-abbrev pub SpellsTypeDecl : Room → TypeDecl → List Lexeme → Type 0
+abbrev pub SpellsTypeDecl : NestingLimit → TypeDecl → List Lexeme → Type 0
 SpellsTypeDecl room d ts =
-    (p q : ℕ) × (us : List Lexeme) × IsSomeConstructors d.constructors
+    (p q : ℕ) × (us : List Lexeme) × IsNonemptyConstructors d.constructors
     × SpellsConstructors room word.Equals d.constructors us
     × (ts ≡ lexeme p (word.Further further.TypeDecl) ∷ con_at d.name
     ∷ (binders d.params ++ (us ++ lexeme q word.Semicolon ∷ [])))
 
 -- types, each before an arrow
-abbrev pub SpellsParts : Room → Writtens → List Lexeme → Type 0
-SpellsParts room NoTypes ts = ts ≡ []
-SpellsParts room (AndType t rest) ts =
-    (p : ℕ) × (us vs : List Lexeme) × SpellsType room 0 t us × SpellsParts room rest vs
+abbrev pub SpellsArgumentTypes : NestingLimit → WrittenTypes → List Lexeme → Type 0
+SpellsArgumentTypes room NoTypes ts = ts ≡ []
+SpellsArgumentTypes room (AndType t rest) ts =
+    (p : ℕ) × (us vs : List Lexeme) × SpellsType room 0 t us × SpellsArgumentTypes room rest vs
     × (ts ≡ us ++ (lexeme p word.Arrow ∷ vs))
 
-abbrev pub SpellsSignature : Room → Signature → List Lexeme → Type 0
+abbrev pub SpellsSignature : NestingLimit → Signature → List Lexeme → Type 0
 SpellsSignature room s ts =
-    (p q r : ℕ) × (us vs : List Lexeme) × SpellsParts room s.args us
+    (p q r : ℕ) × (us vs : List Lexeme) × SpellsArgumentTypes room s.args us
     × SpellsType room 0 s.result vs
     × (ts ≡ lexeme p (word.Further further.Signature) ∷ name_at s.function
     ∷ lexeme q (word.Further further.Colon) ∷ (us ++ (vs ++ lexeme r word.Semicolon ∷ [])))
@@ -92,13 +93,13 @@ pub data Decl : Type 0 where
   Signs : Signature → Decl
   Defines : Function → Decl
 
-abbrev pub SpellsDecl : Room → Decl → List Lexeme → Type 0
+abbrev pub SpellsDecl : NestingLimit → Decl → List Lexeme → Type 0
 SpellsDecl room (Declares d) ts = SpellsTypeDecl room d ts
 SpellsDecl room (Signs s) ts = SpellsSignature room s ts
 SpellsDecl room (Defines f) ts = core.SpellsDecl room (core.Defines f) ts
 
 -- the tokens of declarations, one after the other
-abbrev pub SpellsDecls : Room → List Decl → List Lexeme → Type 0
+abbrev pub SpellsDecls : NestingLimit → List Decl → List Lexeme → Type 0
 SpellsDecls room [] ts = ts ≡ []
 SpellsDecls room (d ∷ ds) ts =
     (us vs : List Lexeme) × SpellsDecl room d us × SpellsDecls room ds vs × (ts ≡ us ++ vs)

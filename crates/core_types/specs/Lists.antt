@@ -2,19 +2,19 @@
 use Rattle.std.specs.Prelude.{ℕ, ◌==◌, ◌&&◌, ◌||◌, Bool, true, false, List, [], ◌∷◌, codes}
 use Rattle.core_reader.specs.declared.syntax.Binder.{Binder}
 use Rattle.arity_check.specs.Scope as scope
-use Rattle.core_types.specs.Source.{Written, Writtens, Var, Named, Arrow, NoTypes, AndType, Constructor, TypeDecl, Source, erased}
+use Rattle.core_types.specs.Source.{Written, WrittenTypes, Var, Named, Arrow, NoTypes, AndType, Constructor, TypeDecl, Source, erased}
 
 abbrev pub is_var : ℕ → Written → Bool
 is_var n (Var b) = b.name.0 == n
 is_var n (Named b args) = false
 is_var n (Arrow from to) = false
 
-abbrev pub is_empty : Writtens → Bool
+abbrev pub is_empty : WrittenTypes → Bool
 is_empty NoTypes = true
 is_empty (AndType t ts) = false
 
 -- a variable of this name alone
-abbrev pub is_one_var : ℕ → Writtens → Bool
+abbrev pub is_one_var : ℕ → WrittenTypes → Bool
 is_one_var n NoTypes = false
 is_one_var n (AndType t ts) = is_var n t && is_empty ts
 
@@ -24,12 +24,12 @@ is_applied name n (Var b) = false
 is_applied name n (Named b args) = (b.name.0 == name) && is_one_var n args
 is_applied name n (Arrow from to) = false
 
-abbrev pub is_tail : ℕ → ℕ → Writtens → Bool
+abbrev pub is_tail : ℕ → ℕ → WrittenTypes → Bool
 is_tail name n NoTypes = false
 is_tail name n (AndType t ts) = is_applied name n t && is_empty ts
 
 -- a variable, and a type of this name that is applied to it
-abbrev pub is_item_and_tail : ℕ → ℕ → Writtens → Bool
+abbrev pub is_item_and_tail : ℕ → ℕ → WrittenTypes → Bool
 is_item_and_tail name n NoTypes = false
 is_item_and_tail name n (AndType t ts) = is_var n t && is_tail name n ts
 

@@ -12,51 +12,51 @@ use Rattle.core_reader.specs.declared.token.Lexeme.{Lexeme}
 use Rattle.core_reader.specs.declared.refusal.ReadRefusal.{ReadRefusal}
 use Rattle.core_reader.specs.declared.refusal.ReadRefusal.TheVariants.{TooDeep}
 use Rattle.core_reader.specs.Tree.{Expr, function}
-use Rattle.core_reader.specs.Grammar.{Room, at_most_200}
+use Rattle.core_reader.specs.Grammar.{NestingLimit, at_most_200}
 use Rattle.core_reader.specs.ReadingOf.{Reading, Steps, run_of}
 use Rattle.core_reader.specs.AroundOf as any
-use Rattle.core_reader.specs.AroundOf.{next, enter, all, refuse, Around, AroundState, Outside, around, steps}
+use Rattle.core_reader.specs.AroundOf.{next, enter, all, refuse, ExpressionContext, ContextState, Outside, context_reading, steps}
 use Rattle.core_reader.specs.Machine.{refused, Goes, Fails}
 use Rattle.core_types.specs.declared.source.Written as code-written
 use Rattle.core_types.specs.declared.source.Constructor as code-constructor
 use Rattle.core_types.specs.declared.source.TypeDecl as code-type
 use Rattle.core_types.specs.declared.source.Signature as code-signature
 use Rattle.core_types.specs.declared.reader.Declarations.{Declarations}
-use Rattle.core_types.specs.Source.{Written, Writtens, Var, Named, Arrow, NoTypes, AndType, TypeDecl}
+use Rattle.core_types.specs.Source.{Written, WrittenTypes, Var, Named, Arrow, NoTypes, AndType, TypeDecl}
 use Rattle.core_types.specs.SourceOf.{written, types_in, constructor_of, type_of, signature_of}
 use Rattle.core_types.specs.Grammar.{Decl, Declares, Signs, Defines, SpellsDecls, types_of, signatures_of, functions_of}
 
 abbrev pub binder : NameId → ℕ → Binder
 binder n at = record { name = n; at = at }
 
-abbrev pub with_last : Writtens → Written → Writtens
+abbrev pub with_last : WrittenTypes → Written → WrittenTypes
 with_last NoTypes u = AndType u NoTypes
 with_last (AndType t ts) u = AndType t (with_last ts u)
 
-abbrev pub type_named : Binder → List Binder → TypeDecl
-type_named b params = record { name = b; params = params; constructors = [] }
+abbrev pub empty_type_decl : Binder → List Binder → TypeDecl
+empty_type_decl b params = record { name = b; params = params; constructors = [] }
 
 -- one more constructor
-abbrev pub constructing : TypeDecl → Binder → Writtens → TypeDecl
-constructing d c ts = record {
+abbrev pub with_new_constructor : TypeDecl → Binder → WrittenTypes → TypeDecl
+with_new_constructor d c ts = record {
   name = d.name;
   params = d.params;
   constructors = d.constructors ++ record { name = c; fields = ts } ∷ [];
 }
 
-abbrev pub signed : Binder → Writtens → Written → Decl
+abbrev pub signed : Binder → WrittenTypes → Written → Decl
 signed f ts t = Signs (record { function = f; args = ts; result = t })
 
-abbrev pub defined : Binder → List Binder → Expr → Decl
-defined f params body =
+abbrev pub function_declaration : Binder → List Binder → Expr → Decl
+function_declaration f params body =
     Defines (record { name = f.name.0; at = f.at; params = params; body = body })
 
 -- Where a type of one piece stands: among the fields of a constructor, among the types of a
 -- signature, among the arguments of a type in brackets, behind an arrow there, or first there.
 pub data Frame : Type 0 where
-  InFields : List Decl → TypeDecl → Binder → Writtens → Frame
-  InParts : List Decl → Binder → Writtens → Frame
-  InArguments : Frame → Binder → Writtens → Frame
+  InFields : List Decl → TypeDecl → Binder → WrittenTypes → Frame
+  InParts : List Decl → Binder → WrittenTypes → Frame
+  InArguments : Frame → Binder → WrittenTypes → Frame
   InResult : Frame → Written → Frame
   InBrackets : Frame → Frame
 
@@ -73,14 +73,14 @@ pub data Own : Type 0 where
   TypeName : List Decl → Own
   TypeParams : List Decl → Binder → List Binder → Own
   ConName : List Decl → TypeDecl → Own
-  Fields : List Decl → TypeDecl → Binder → Writtens → Own
+  Fields : List Decl → TypeDecl → Binder → WrittenTypes → Own
   SigName : List Decl → Own
   SigColon : List Decl → Binder → Own
-  SigBehind : List Decl → Binder → Writtens → Written → Own
+  SigBehind : List Decl → Binder → WrittenTypes → Written → Own
   Params : List Decl → Binder → List Binder → Own
   OneType : Frame → Own
   Opened : Frame → Own
-  Arguments : Frame → Binder → Writtens → Own
+  Arguments : Frame → Binder → WrittenTypes → Own
   Behind : Frame → Written → Own
   Closing : Frame → Written → Own
 
@@ -88,8 +88,8 @@ pub data Own : Type 0 where
 pub data Hole : Type 0 where
   InFunction : List Decl → Binder → List Binder → Hole
 
-abbrev pub Move : Type 0
-Move = any.Move Own Hole (List Decl)
+abbrev pub Transition : Type 0
+Transition = any.Move Own Hole (List Decl)
 
 -- A type of one piece was read.
 abbrev pub given : Frame → Written → Own
@@ -99,29 +99,30 @@ given (InArguments k b ts) t = Arguments k b (with_last ts t)
 given (InResult k u) t = Closing k (Arrow u t)
 given (InBrackets k) t = Behind k t
 
-abbrev pub begin : Room → Frame → ℕ → Token → Move
+abbrev pub begin : NestingLimit → Frame → ℕ → Token → Transition
 begin l k at (word.Name n) = next (given k (Var (binder n at)))
 begin l k at (word.Con n) = next (given k (Named (binder n at) NoTypes))
 begin l k at word.Open = cond (l (nests k)) (next (Opened k)) (refuse (TooDeep at))
 begin l k at token = refuse (refused at token)
 
 -- An arrow behind a type without arguments, in brackets.
-abbrev pub arrow_behind : Frame → Binder → Writtens → ℕ → Move
+abbrev pub arrow_behind : Frame → Binder → WrittenTypes → ℕ → Transition
 arrow_behind k b NoTypes at = next (OneType (InResult k (Named b NoTypes)))
 arrow_behind k b (AndType t ts) at = refuse (refused at word.Arrow)
 
-abbrev pub move : Room → Own → ℕ → Token → Move
+abbrev pub move : NestingLimit → Own → ℕ → Token → Transition
 move l (Top ds) at (word.Further further.TypeDecl) = next (TypeName ds)
 move l (Top ds) at (word.Further further.Signature) = next (SigName ds)
 move l (Top ds) at (word.Name n) = next (Params ds (binder n at) [])
 move l (Top ds) at word.End = all ds
 move l (TypeName ds) at (word.Con n) = next (TypeParams ds (binder n at) [])
 move l (TypeParams ds b ps) at (word.Name n) = next (TypeParams ds b (ps ++ binder n at ∷ []))
-move l (TypeParams ds b ps) at word.Equals = next (ConName ds (type_named b ps))
+move l (TypeParams ds b ps) at word.Equals = next (ConName ds (empty_type_decl b ps))
 move l (ConName ds d) at (word.Con n) = next (Fields ds d (binder n at) NoTypes)
-move l (Fields ds d c ts) at (word.Further further.Bar) = next (ConName ds (constructing d c ts))
+move l (Fields ds d c ts) at (word.Further further.Bar) =
+    next (ConName ds (with_new_constructor d c ts))
 move l (Fields ds d c ts) at word.Semicolon =
-    next (Top (ds ++ Declares (constructing d c ts) ∷ []))
+    next (Top (ds ++ Declares (with_new_constructor d c ts) ∷ []))
 move l (Fields ds d c ts) at token = begin l (InFields ds d c ts) at token
 move l (SigName ds) at (word.Name n) = next (SigColon ds (binder n at))
 move l (SigColon ds f) at (word.Further further.Colon) = next (OneType (InParts ds f NoTypes))
@@ -140,11 +141,12 @@ move l (Behind k t) at word.Arrow = next (OneType (InResult k t))
 move l (Closing k t) at word.Close = next (given k t)
 move l o at token = refuse (refused at token)
 
-abbrev pub finish : Hole → Expr → ℕ → Token → Move
-finish (InFunction ds f ps) e at word.Semicolon = next (Top (ds ++ defined f ps e ∷ []))
+abbrev pub finish : Hole → Expr → ℕ → Token → Transition
+finish (InFunction ds f ps) e at word.Semicolon =
+    next (Top (ds ++ function_declaration f ps e ∷ []))
 finish h e at token = refuse (refused at token)
 
-abbrev pub declarations : Around
+abbrev pub declarations : ExpressionContext
 declarations = record {
   Own = Own;
   Hole = Hole;
@@ -157,10 +159,10 @@ declarations = record {
 
 -- the reading of a text of a program with types
 abbrev pub types : Reading
-types = around declarations
+types = context_reading declarations
 
 abbrev pub State : Type 0
-State = AroundState Own Hole
+State = ContextState Own Hole
 
 abbrev pub step : Steps State (List Decl)
 step = steps declarations
@@ -187,25 +189,25 @@ starts_type word.Open = true
 starts_type token = false
 
 -- A state that keeps types takes one more, in a frame, where one begins.
-pub record KeepsTypes (state : Writtens → Own) (frame : Writtens → Frame) : Type 0 where
-  pub keeps : (ts : Writtens) (t : Written) → given (frame ts) t ≡ state (with_last ts t)
-  pub begins : (ts : Writtens) (p : ℕ) (token : Token) → starts_type token ≡ true
+pub record CollectsTypes (state : WrittenTypes → Own) (frame : WrittenTypes → Frame) : Type 0 where
+  pub keeps : (ts : WrittenTypes) (t : Written) → given (frame ts) t ≡ state (with_last ts t)
+  pub begins : (ts : WrittenTypes) (p : ℕ) (token : Token) → starts_type token ≡ true
       → move at_most_200 (state ts) p token ≡ move at_most_200 (OneType (frame ts)) p token
-  pub bad : (ts : Writtens) (p : ℕ)
+  pub bad : (ts : WrittenTypes) (p : ℕ)
       → move at_most_200 (state ts) p word.Bad ≡ refuse (refused p word.Bad)
 
 -- Types were read, one after the other, by whatever keeps them.
 abbrev pub ReadsTypes : ℕ → List Lexeme → List Lexeme
     → Result (List code-written.Written) ReadRefusal → Type 0
 ReadsTypes depth old new result =
-    (state : Writtens → Own) (frame : Writtens → Frame) → KeepsTypes state frame
-    → ((ts : Writtens) → nests (frame ts) ≡ depth)
+    (state : WrittenTypes → Own) (frame : WrittenTypes → Frame) → CollectsTypes state frame
+    → ((ts : WrittenTypes) → nests (frame ts) ≡ depth)
     → Goes result (at (state NoTypes) old) (λ ts. at (state (types_in ts)) new)
 
 -- A type in brackets was read, of which this state is behind the `(` or further.
-abbrev pub ReadsInner : (Frame → Own) → ℕ → List Lexeme → List Lexeme
+abbrev pub ReadsBracketedType : (Frame → Own) → ℕ → List Lexeme → List Lexeme
     → Result code-written.Written ReadRefusal → Type 0
-ReadsInner state depth old new result =
+ReadsBracketedType state depth old new result =
     (k : Frame) → suc (nests k) ≡ depth
     → Goes result (at (state k) old) (λ t. at (given k (written t)) new)
 
@@ -220,7 +222,7 @@ abbrev pub ReadsConstructors : List Lexeme → List Lexeme
     → Result (Vec code-constructor.Constructor) ReadRefusal → Type 0
 ReadsConstructors old new result =
     (ds : List Decl) (b : Binder) (ps : List Binder)
-    → Goes result (at (ConName ds (type_named b ps)) old) (λ cs.
+    → Goes result (at (ConName ds (empty_type_decl b ps)) old) (λ cs.
     at (Top (ds ++ Declares (record {
       name = b;
       params = ps;
@@ -228,9 +230,9 @@ ReadsConstructors old new result =
     }) ∷ [])) new)
 
 -- The rest of a signature was read, behind its `:`.
-abbrev pub ReadsSigned : Binder → List Lexeme → List Lexeme
+abbrev pub ReadsSignatureRest : Binder → List Lexeme → List Lexeme
     → Result code-signature.Signature ReadRefusal → Type 0
-ReadsSigned f old new result =
+ReadsSignatureRest f old new result =
     (ds : List Decl)
     → Goes result (at (OneType (InParts ds f NoTypes)) old) (λ s.
     at (Top (ds ++ Signs (signature_of s) ∷ [])) new)

@@ -14,10 +14,11 @@ use Rattle.core_types.specs.declared.refusal.TypeRefusal.TheVariants as refusal
 use Rattle.core_types.specs.declared.sides.Ty.{Ty}
 use Rattle.core_types.specs.declared.accepted.Typed.{Typed}
 use Rattle.core_types.specs.Source.{Source, erased}
-use Rattle.core_types.specs.Text.{IsText, IsRead, IsFirstUnread}
+use Rattle.core_types.specs.Text.{IsSourceText, BreaksNoReadingRule, IsFirstReadingFault}
 use Rattle.core_types.specs.Typing.{Substitution, Solves, constraints}
 use Rattle.core_types.specs.Rules.{IsFirstBroken, IsUnbroken}
 use Rattle.core_types.specs.Sides.{type_of, IsMismatch}
+use Rattle.limits.specs.Limits.{most_bytes}
 
 abbrev pub unread_rule : ReadRefusal → ℕ
 unread_rule (unread.BadByte at) = 1
@@ -32,7 +33,7 @@ unread_place (unread.BadByte at) = at
 unread_place (unread.Syntax at) = at
 unread_place (unread.NumberRange at) = at
 unread_place (unread.TooDeep at) = at
-unread_place unread.TextTooLong = 1048576
+unread_place unread.TextTooLong = most_bytes
 unread_place (unread.Memory e) = 0
 
 -- the number of the broken rule
@@ -65,18 +66,19 @@ unread_fault (unread.Memory e) = fault.Memory e
 unread_fault e = fault.Unread e
 
 -- the refusal names the first rule that the program breaks
-abbrev pub IsFirstOf : Source → TypeFault → Type 0
-IsFirstOf s f = IsFirstBroken s (rule f) (number f)
+abbrev pub NamesFirstBrokenRule : Source → TypeFault → Type 0
+NamesFirstBrokenRule s f = IsFirstBroken s (rule f) (number f)
 
 -- the first rule that the program breaks; or it breaks none, and its constraints have a solution
-abbrev pub IsJudged : Source → Option TypeFault → Type 0
-IsJudged s None = IsUnbroken s × ((σ : Substitution) × Solves σ (constraints s))
-IsJudged s (Some f) = IsFirstOf s f
+abbrev pub IsVerdict : Source → Option TypeFault → Type 0
+IsVerdict s None = IsUnbroken s × ((σ : Substitution) × Solves σ (constraints s))
+IsVerdict s (Some f) = NamesFirstBrokenRule s f
 
 -- Rule k is broken at this place, and no rule is broken before it: what cannot be read comes first.
 pub data IsFirstBrokenText (text : List ℕ) : (k at : ℕ) → Type 0 where
-  Unread : {k at : ℕ} → IsFirstUnread text k at → IsFirstBrokenText text k at
-  Untyped : {k at : ℕ} → IsRead text → (s : Source) → IsText text s → IsFirstBroken s k at
+  Unread : {k at : ℕ} → IsFirstReadingFault text k at → IsFirstBrokenText text k at
+  Untyped : {k at : ℕ} → BreaksNoReadingRule text → (s : Source)
+      → IsSourceText text s → IsFirstBroken s k at
       → IsFirstBrokenText text k at
 
 -- The refusal names the first rule that the text breaks. Want of memory has no cause in the text.
@@ -85,8 +87,9 @@ IsCause text (fault.Memory e) = Unit {0}
 IsCause text f = IsFirstBrokenText text (rule f) (number f)
 
 -- The text breaks no rule.
-abbrev pub IsUnbrokenText : List ℕ → Type 0
-IsUnbrokenText text = IsRead text × ((s : Source) → IsText text s → IsUnbroken s)
+abbrev pub TextBreaksNoRule : List ℕ → Type 0
+TextBreaksNoRule text =
+    BreaksNoReadingRule text × ((s : Source) → IsSourceText text s → IsUnbroken s)
 
 -- the place at which types do not fit, where that is the fault
 abbrev pub mismatch_in : TypeFault → Option ℕ
@@ -103,7 +106,7 @@ mismatch_in (fault.Memory e) = None
 -- At this place of the text the types of a constraint do not fit, and these are its two sides.
 abbrev pub AreSidesAt : List ℕ → ℕ → Ty → Ty → Type 0
 AreSidesAt text at left right =
-    (s : Source) × IsText text s × IsMismatch s at (type_of left) (type_of right)
+    (s : Source) × IsSourceText text s × IsMismatch s at (type_of left) (type_of right)
 
 -- The refusal names the first rule that the text breaks; where types do not fit, with the sides.
 abbrev pub IsRefusal : List ℕ → TypeRefusal → Type 0
@@ -115,7 +118,7 @@ IsRefusal text (refusal.Fault f) = IsCause text f × (mismatch_in f ≡ None)
 -- and its normal form.
 pub record IsTypedAs (text : List ℕ) (found : Typed) : Type 0 where
   pub source : Source
-  pub is_text : IsText text source
+  pub is_text : IsSourceText text source
   pub core : program_of found.core ≡ erased source
   pub readable : IsReadable (erased source)
   pub normal : IsNormalForm (erased source) (normal_form found.checked)

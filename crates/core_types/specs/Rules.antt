@@ -11,7 +11,7 @@ use Rattle.arity_check.specs.Order as core-order
 use Rattle.arity_check.specs.Order.{IsBefore}
 use Rattle.core_types.specs.Lists.{is_named, is_list}
 use Rattle.core_types.specs.Typing.{Constraint, constraints, IsFirstUnsolved}
-use Rattle.core_types.specs.Source.{Written, Writtens, Var, Named, Arrow, NoTypes, AndType, Constructor, TypeDecl, Signature, Source, count, erased}
+use Rattle.core_types.specs.Source.{Written, WrittenTypes, Var, Named, Arrow, NoTypes, AndType, Constructor, TypeDecl, Signature, Source, count, erased}
 
 -- ---- what stands in types and in expressions
 
@@ -22,7 +22,7 @@ abbrev mutual
   Has (Named b args) u = (u ≡ Named b args) ⊎ HasIn args u
   Has (Arrow from to) u = (u ≡ Arrow from to) ⊎ (Has from u ⊎ Has to u)
 
-  pub HasIn : Writtens → Written → Type 0
+  pub HasIn : WrittenTypes → Written → Type 0
   HasIn NoTypes u = ⊥
   HasIn (AndType t ts) u = Has t u ⊎ HasIn ts u
 
@@ -43,9 +43,9 @@ abbrev pub IsBound : List Binder → ℕ → Type 0
 IsBound xs n = (i : ℕ) × (x : Binder) × (slice_get xs i ≡ Some x) × (x.name.0 ≡ n)
 
 -- the first type of this name has so many parameters
-abbrev pub params_in : List TypeDecl → ℕ → Option ℕ
-params_in [] n = None
-params_in (d ∷ ds) n = if d.name.name.0 == n then Some (length d.params) else params_in ds n
+abbrev pub type_arity : List TypeDecl → ℕ → Option ℕ
+type_arity [] n = None
+type_arity (d ∷ ds) n = if d.name.name.0 == n then Some (length d.params) else type_arity ds n
 
 abbrev pub names_constructor : ℕ → List Constructor → Bool
 names_constructor n [] = false
@@ -59,11 +59,12 @@ type_with (d ∷ ds) n = if names_constructor n d.constructors then Some d else 
 module _ (s : Source) where
   -- the number of parameters of a type
   abbrev pub parameters : ℕ → Option ℕ
-  parameters n = if is_named s (codes "Int") n then Some 0 else params_in s.types n
+  parameters n = if is_named s (codes "Int") n then Some 0 else type_arity s.types n
 
   -- a type stands in a field of a constructor of this type
   abbrev pub InFields : TypeDecl → Written → Type 0
-  InFields d u = (j : ℕ) × (c : Constructor) × (slice_get d.constructors j ≡ Some c) × HasIn c.fields u
+  InFields d u =
+      (j : ℕ) × (c : Constructor) × (slice_get d.constructors j ≡ Some c) × HasIn c.fields u
 
   -- a type stands in a declaration
   pub data Stands (u : Written) : Type 0 where
@@ -93,7 +94,7 @@ module _ (s : Source) where
         → slice_get d.params j ≡ Some y → y.name.0 ≡ x.name.0 → Broken 81 y.at
     ReservedType : {d : TypeDecl} (i : ℕ) → slice_get s.types i ≡ Some d
         → is_named s (codes "Int") d.name.name.0 ≡ true → Broken 81 d.name.at
-    UnknownType : {b : Binder} {args : Writtens} → Stands (Named b args)
+    UnknownType : {b : Binder} {args : WrittenTypes} → Stands (Named b args)
         → parameters b.name.0 ≢ Some (count args) → Broken 82 b.at
     UnknownVariable : {d : TypeDecl} {x : Binder} (i : ℕ) → slice_get s.types i ≡ Some d
         → InFields d (Var x) → (IsBound d.params x.name.0 → ⊥) → Broken 82 x.at

@@ -8,7 +8,7 @@ use Rattle.core_types.specs.declared.sides.Ty.{Ty-F, fold-Ty}
 use Rattle.core_types.specs.declared.sides.Ty as code
 use Rattle.core_types.specs.declared.sides.Ty.TheOpen as layer
 use Rattle.core_types.specs.Source.{Source}
-use Rattle.core_types.specs.Typing.{Key, AtBinder, AtResult, AtBracket, AtScrutinee, AtUse, Typed, Types, Int, Rigid, Named, Arrow, NoTypeds, AndTyped, Constraint, Substitution, under, constraints, IsFirstUnsolved, IsMostGeneral}
+use Rattle.core_types.specs.Typing.{TypeVariableKey, AtBinder, AtResult, AtBracket, AtScrutinee, AtUse, Typed, Types, Int, Rigid, Named, Arrow, NoTypeds, AndTyped, Constraint, Substitution, under, constraints, IsFirstUnsolved, IsMostGeneral}
 use Rattle.core_types.specs.Typing as typing
 
 abbrev pub types_from : List Typed → Types
@@ -50,7 +50,7 @@ pub record IsMismatch (s : Source) (at : ℕ) (left right : Typed) : Type 0 wher
 -- ---- trees as types
 
 -- a variable of types, by the tree that is put for it where it is to stay as it is
-abbrev pub mark_of : Tree → Key
+abbrev pub mark_of : Tree → TypeVariableKey
 mark_of (Open y) = AtBinder y
 mark_of (Made symbol.Integer ts) = AtBinder 0
 mark_of (Made symbol.Arrow ts) = AtBinder 0

@@ -8,17 +8,17 @@ mutual
   -- A type as it is written. A binder is a name at its place.
   pub data Written : Type 0 where
     Var : (variable : Binder) → Written
-    Named : (name : Binder) (args : Writtens) → Written
+    Named : (name : Binder) (args : WrittenTypes) → Written
     Arrow : (from to : Written) → Written
 
-  pub data Writtens : Type 0 where
-    NoTypes : Writtens
-    AndType : (type : Written) (rest : Writtens) → Writtens
+  pub data WrittenTypes : Type 0 where
+    NoTypes : WrittenTypes
+    AndType : (type : Written) (rest : WrittenTypes) → WrittenTypes
 
 -- a constructor with the types of its fields
 pub record Constructor : Type 0 where
   pub name : Binder
-  pub fields : Writtens
+  pub fields : WrittenTypes
 
 -- a type with its parameters and its constructors
 pub record TypeDecl : Type 0 where
@@ -29,7 +29,7 @@ pub record TypeDecl : Type 0 where
 -- the type of a function: from these types to the last one
 pub record Signature : Type 0 where
   pub function : Binder
-  pub args : Writtens
+  pub args : WrittenTypes
   pub result : Written
 
 -- A program with types, each kind of declaration in text order.
@@ -41,7 +41,7 @@ pub record Source : Type 0 where
 
 -- ---- the program without its types
 
-abbrev pub count : Writtens → ℕ
+abbrev pub count : WrittenTypes → ℕ
 count NoTypes = 0
 count (AndType t ts) = suc (count ts)
 

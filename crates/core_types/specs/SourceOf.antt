@@ -8,9 +8,9 @@ use Rattle.core_types.specs.declared.source.Constructor as code-constructor
 use Rattle.core_types.specs.declared.source.TypeDecl as code-type
 use Rattle.core_types.specs.declared.source.Signature as code-signature
 use Rattle.core_types.specs.declared.source.Source as code
-use Rattle.core_types.specs.Source.{Written, Writtens, Var, Named, Arrow, NoTypes, AndType, Constructor, TypeDecl, Signature, Source}
+use Rattle.core_types.specs.Source.{Written, WrittenTypes, Var, Named, Arrow, NoTypes, AndType, Constructor, TypeDecl, Signature, Source}
 
-abbrev pub types_from : List Written → Writtens
+abbrev pub types_from : List Written → WrittenTypes
 types_from [] = NoTypes
 types_from (t ∷ ts) = AndType t (types_from ts)
 
@@ -22,7 +22,7 @@ written_layer (layer.Arrow from to) = Arrow from.value to.value
 abbrev pub written : code-written.Written → Written
 written t = fold-Written Written written_layer t
 
-abbrev pub types_in : List code-written.Written → Writtens
+abbrev pub types_in : List code-written.Written → WrittenTypes
 types_in ts = types_from (map written ts)
 
 abbrev pub constructor_of : code-constructor.Constructor → Constructor

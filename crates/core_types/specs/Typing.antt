@@ -9,25 +9,25 @@ use Rattle.core_reader.specs.Tree as tree
 use Rattle.arity_check.specs.Scope as scope
 use Rattle.arity_check.specs.declared.meaning.Meaning.{Meaning}
 use Rattle.arity_check.specs.declared.meaning.Meaning.TheVariants.{Primitive}
-use Rattle.core_types.specs.Source.{Written, Writtens, NoTypes, AndType, Constructor, TypeDecl, Signature, Source, erased}
+use Rattle.core_types.specs.Source.{Written, WrittenTypes, NoTypes, AndType, Constructor, TypeDecl, Signature, Source, erased}
 use Rattle.core_types.specs.Source as written
 use Rattle.core_types.specs.Lists.{is_named, is_list}
 
 -- A variable, by the place at which it comes in: a binder, the result of a function, a bracket with
 -- arguments, the first pattern of a case, or a variable of what is used at a place.
-pub data Key : Type 0 where
-  AtBinder : (at : ℕ) → Key
-  AtResult : (at : ℕ) → Key
-  AtBracket : (at : ℕ) → Key
-  AtScrutinee : (at : ℕ) → Key
-  AtUse : (at variable : ℕ) → Key
+pub data TypeVariableKey : Type 0 where
+  AtBinder : (at : ℕ) → TypeVariableKey
+  AtResult : (at : ℕ) → TypeVariableKey
+  AtBracket : (at : ℕ) → TypeVariableKey
+  AtScrutinee : (at : ℕ) → TypeVariableKey
+  AtUse : (at variable : ℕ) → TypeVariableKey
 
 mutual
   -- Integers, a variable, a variable of the signature of a function where its body is checked, a
   -- type by its name with its arguments, or functions.
   pub data Typed : Type 0 where
     Int : Typed
-    Open : Key → Typed
+    Open : TypeVariableKey → Typed
     Rigid : (function variable : ℕ) → Typed
     Named : (name : ℕ) (args : Types) → Typed
     Arrow : (from to : Typed) → Typed
@@ -46,8 +46,8 @@ abbrev pub arrows : List Typed → Typed → Typed
 arrows [] t = t
 arrows (u ∷ us) t = Arrow u (arrows us t)
 
-abbrev pub open_at : Binder → Typed
-open_at b = Open (AtBinder b.at)
+abbrev pub binder_type_variable : Binder → Typed
+binder_type_variable b = Open (AtBinder b.at)
 
 -- the types of locals by name, the innermost first
 abbrev pub Locals : Type 0
@@ -62,10 +62,13 @@ constructor_in [] n = None
 constructor_in (c ∷ cs) n = if c.name.name.0 == n then Some c else constructor_in cs n
 
 -- what a name says of a constructor: its type and the constructor itself
-abbrev pub declared_by : List TypeDecl → ℕ → Option (TypeDecl × Constructor)
-declared_by [] n = None
-declared_by (d ∷ ds) n =
-    elim (constructor_in d.constructors n) [ Some c ↦ Some (d, c) | None ↦ declared_by ds n ]
+abbrev pub constructor_by_name : List TypeDecl → ℕ → Option (TypeDecl × Constructor)
+constructor_by_name [] n = None
+constructor_by_name (d ∷ ds) n =
+    elim (constructor_in d.constructors n) [
+      | Some c ↦ Some (d, c)
+      | None ↦ constructor_by_name ds n
+    ]
 
 abbrev pub signature_of : List Signature → ℕ → Option Signature
 signature_of [] n = None
@@ -89,11 +92,11 @@ module _ (s : Source) where
         if is_named s (codes "Int") b.name.0 then Int else Named b.name.0 (read_all var args)
     read var (written.Arrow from to) = Arrow (read var from) (read var to)
 
-    pub read_all : (ℕ → Typed) → Writtens → Types
+    pub read_all : (ℕ → Typed) → WrittenTypes → Types
     read_all var NoTypes = NoTypeds
     read_all var (AndType t ts) = AndTyped (read var t) (read_all var ts)
 
-  abbrev pub read_list : (ℕ → Typed) → Writtens → List Typed
+  abbrev pub read_list : (ℕ → Typed) → WrittenTypes → List Typed
   read_list var NoTypes = []
   read_list var (AndType t ts) = read var t ∷ read_list var ts
 
@@ -123,7 +126,7 @@ module _ (s : Source) where
   is_main f = is_named s (codes "main") f.name
 
   abbrev pub param_type : Function → Binder → Typed
-  param_type f b = if is_main f then integers else open_at b
+  param_type f b = if is_main f then integers else binder_type_variable b
 
   abbrev pub result_type : Function → Typed
   result_type f = if is_main f then integers else Open (AtResult f.at)
@@ -152,7 +155,7 @@ module _ (s : Source) where
 
   abbrev pub constructor_type : ℕ → ℕ → Typed
   constructor_type n at =
-      elim (declared_by s.types n) [
+      elim (constructor_by_name s.types n) [
         | Some x ↦ arrows (read_list (used_at at) x.1.fields) (applied x.0 (used_at at))
         | None ↦ Int
       ]
@@ -217,11 +220,11 @@ module _ (s : Source) where
 
   abbrev pub with_group : List Bind → Locals → Locals
   with_group [] ls = ls
-  with_group (b ∷ bs) ls = with_group bs (binds b.binder (open_at b.binder) ls)
+  with_group (b ∷ bs) ls = with_group bs (binds b.binder (binder_type_variable b.binder) ls)
 
   abbrev pub of_group : Locals → List Bind → List Constraint
   of_group ls [] = []
-  of_group ls (b ∷ bs) = of_app ls (open_at b.binder) b.app ++ of_group ls bs
+  of_group ls (b ∷ bs) = of_app ls (binder_type_variable b.binder) b.app ++ of_group ls bs
 
   abbrev pub scrutinee : Alts → Typed
   scrutinee NoAlts = Int
@@ -232,7 +235,7 @@ module _ (s : Source) where
   -- of a pattern of a value of this type
   abbrev pub of_pattern : Typed → Pattern → List Constraint
   of_pattern t (pattern.Con c xs) =
-      elim (declared_by s.types c.name.0) [
+      elim (constructor_by_name s.types c.name.0) [
         | Some x ↦ constraint c.at t (applied x.0 (used_at c.at)) ∷ []
         | None ↦ []
       ]
@@ -241,7 +244,7 @@ module _ (s : Source) where
 
   abbrev pub with_pattern : Typed → Pattern → Locals → Locals
   with_pattern t (pattern.Con c xs) ls =
-      elim (declared_by s.types c.name.0) [
+      elim (constructor_by_name s.types c.name.0) [
         | Some x ↦ binds_all xs (read_list (used_at c.at) x.1.fields) ls
         | None ↦ ls
       ]
@@ -283,7 +286,7 @@ module _ (s : Source) where
 
 -- what variables stand for
 abbrev pub Substitution : Type 0
-Substitution = Key → Typed
+Substitution = TypeVariableKey → Typed
 
 abbrev mutual
   pub under : Substitution → Typed → Typed
@@ -305,7 +308,7 @@ Solves σ (c ∷ cs) = (under σ c.left ≡ under σ c.right) × Solves σ cs
 pub record IsMostGeneral (σ : Substitution) (cs : List Constraint) : Type 0 where
   pub solves : Solves σ cs
   pub general : (τ : Substitution) → Solves τ cs
-      → (ρ : Substitution) × ((k : Key) → τ k ≡ under ρ (σ k))
+      → (ρ : Substitution) × ((k : TypeVariableKey) → τ k ≡ under ρ (σ k))
 
 -- The constraint of this number is the first that has no solution with those before it.
 pub record IsFirstUnsolved (cs : List Constraint) (i : ℕ) (c : Constraint) : Type 0 where

@@ -5,15 +5,15 @@ ghost use Rattle.core_reader.specs.Tree.{term as term_of, application as applica
 ghost use Rattle.core_types.specs.Source.{Source};
 ghost use Rattle.core_types.specs.Typing.{Typed, Locals, within_term, within_terms, of_app};
 ghost use Rattle.core_types.specs.Nodes.{Denotes};
-ghost use Rattle.core_types.specs.Building.{IsContext, IsAt, Adds};
+ghost use Rattle.core_types.specs.Building.{IsContextOf, HasLocalsInScope, Adds};
 
-use crate::building::Builder;
+use crate::building::ConstraintBuilder;
 use crate::context::Context;
-use crate::nodes::Key;
+use crate::nodes::TypeVariableKey;
 use core_reader::{App, Atom};
 use std::alloc::{AllocError, Global};
 
-impl Builder {
+impl ConstraintBuilder {
     /// Adds the constraints of an application with an expected type.
     #[cycle(applications)]
     pub fn application(
@@ -24,7 +24,7 @@ impl Builder {
         app: &App,
     ) -> Result<(), AllocError>
         ensures { IfOk result (λ _. (s : Source) (ls : Locals) (t : Typed)
-            → IsContext context.now s → IsAt self.old ls → Denotes self.old.nodes t expected
+            → IsContextOf context.now s → HasLocalsInScope self.old ls → Denotes self.old.nodes t expected
             → Adds self.old self.new (of_app s ls t (application_of app.now))) }
     {
         if app.args.is_empty() {
@@ -53,8 +53,8 @@ impl Builder {
         context: &Context<'_>,
         atom: &Atom,
     ) -> Result<(), AllocError>
-        ensures { IfOk result (λ _. (s : Source) (ls : Locals) → IsContext context.now s
-            → IsAt self.old ls → Adds self.old self.new (within_term s ls (term_of atom.now))) }
+        ensures { IfOk result (λ _. (s : Source) (ls : Locals) → IsContextOf context.now s
+            → HasLocalsInScope self.old ls → Adds self.old self.new (within_term s ls (term_of atom.now))) }
     {
         match atom {
             Atom::Bracket(app, at) => {
@@ -62,7 +62,7 @@ impl Builder {
                     self.within_term(alloc, context, &app.head)?;
                     return Ok(());
                 }
-                let expected = self.nodes.variable(Key::Bracket(*at))?;
+                let expected = self.nodes.variable(TypeVariableKey::Bracket(*at))?;
                 self.application(alloc, context, expected, app)?;
                 Ok(())
             }
@@ -78,8 +78,8 @@ impl Builder {
         context: &Context<'_>,
         atoms: &[Atom],
     ) -> Result<(), AllocError>
-        ensures { IfOk result (λ _. (s : Source) (ls : Locals) → IsContext context.now s
-            → IsAt self.old ls
+        ensures { IfOk result (λ _. (s : Source) (ls : Locals) → IsContextOf context.now s
+            → HasLocalsInScope self.old ls
             → Adds self.old self.new (within_terms s ls (terms_of (map term_of atoms.now)))) }
     {
         for atom in atoms {

@@ -4,14 +4,14 @@ ghost use Rattle.std.specs.Prelude.{◌≡◌, ◌∷◌, [], ℕ, List, IfOk, m
 ghost use Rattle.core_reader.specs.Tree.{Term, function as function_tree, term as term_of, application as application_of, terms_of};
 ghost use Rattle.core_types.specs.Source.{Source};
 ghost use Rattle.core_types.specs.Typing.{Typed, Int, Open, AtBinder, AtResult, Arrow, Locals, integers, param_type, result_type, own_type, global_type, name_type, constructor_type, term_type, terms_types, head_place, constraint, within_term, within_terms, of_terms, of_app};
-ghost use Rattle.core_types.specs.Nodes.{IsSound, Denotes, Gives};
-ghost use Rattle.core_types.specs.Instances.{GivesEach};
-ghost use Rattle.core_types.specs.Building.{IsContext, DenoteLocals, IsAt, Adds, own_constraint};
+ghost use Rattle.core_types.specs.Nodes.{IsSound, Denotes, AddsTermForType};
+ghost use Rattle.core_types.specs.Instances.{AddsTermsForTypes};
+ghost use Rattle.core_types.specs.Building.{IsContextOf, DenoteLocals, HasLocalsInScope, Adds, application_constraint};
 ghost use Rattle.core_types.specs.Bare.{bare, place_of};
 
 use crate::context::{Context, constructor, function, signature};
 use crate::instances::{Instance, applied, arrows, read_all, signed};
-use crate::nodes::{Key, Nodes};
+use crate::nodes::{Nodes, TypeVariableKey};
 use arity_check::scope::Scope;
 use core_reader::{App, Atom, Binder, Function, NameId};
 use seq::Seq;
@@ -20,7 +20,7 @@ use std::alloc::{AllocError, Global};
 /// Pairs of terms, each for a constraint with its place, and the locals in scope, each with the
 /// term of its type.
 #[derive(Drop)]
-pub struct Builder {
+pub struct ConstraintBuilder {
     pub nodes: Nodes,
     pub pairs: Vec<(usize, usize)>,
     pub places: Vec<u32>,
@@ -29,8 +29,8 @@ pub struct Builder {
 
 /// The list of integers.
 fn integers(alloc: Global, context: &Context<'_>, nodes: &mut Nodes) -> Result<usize, AllocError>
-    ensures { IfOk result (λ x. (s : Source) → IsContext context.now s → IsSound nodes.old
-        → Gives nodes.old nodes.new (integers s) x) }
+    ensures { IfOk result (λ x. (s : Source) → IsContextOf context.now s → IsSound nodes.old
+        → AddsTermForType nodes.old nodes.new (integers s) x) }
 {
     let item = nodes.integer(alloc)?;
     let mut arguments = Seq::new(alloc);
@@ -47,14 +47,14 @@ fn param_type(
     function: &Function,
     param: Binder,
 ) -> Result<usize, AllocError>
-    ensures { IfOk result (λ x. (s : Source) → IsContext context.now s → IsSound nodes.old
-        → Gives nodes.old nodes.new (param_type s (function_tree function.now) param) x) }
+    ensures { IfOk result (λ x. (s : Source) → IsContextOf context.now s → IsSound nodes.old
+        → AddsTermForType nodes.old nodes.new (param_type s (function_tree function.now) param) x) }
 {
     if context.globals.is_main(function.name) {
         let at = integers(alloc, context, nodes)?;
         return Ok(at);
     }
-    let at = nodes.variable(Key::Binder(param.at))?;
+    let at = nodes.variable(TypeVariableKey::Binder(param.at))?;
     Ok(at)
 }
 
@@ -65,14 +65,14 @@ pub fn result_type(
     nodes: &mut Nodes,
     function: &Function,
 ) -> Result<usize, AllocError>
-    ensures { IfOk result (λ x. (s : Source) → IsContext context.now s → IsSound nodes.old
-        → Gives nodes.old nodes.new (result_type s (function_tree function.now)) x) }
+    ensures { IfOk result (λ x. (s : Source) → IsContextOf context.now s → IsSound nodes.old
+        → AddsTermForType nodes.old nodes.new (result_type s (function_tree function.now)) x) }
 {
     if context.globals.is_main(function.name) {
         let at = integers(alloc, context, nodes)?;
         return Ok(at);
     }
-    let at = nodes.variable(Key::Result(function.at))?;
+    let at = nodes.variable(TypeVariableKey::Result(function.at))?;
     Ok(at)
 }
 
@@ -83,8 +83,8 @@ pub fn param_types(
     nodes: &mut Nodes,
     function: &Function,
 ) -> Result<Vec<usize>, AllocError>
-    ensures { IfOk result (λ xs. (s : Source) → IsContext context.now s → IsSound nodes.old
-        → GivesEach nodes.old nodes.new
+    ensures { IfOk result (λ xs. (s : Source) → IsContextOf context.now s → IsSound nodes.old
+        → AddsTermsForTypes nodes.old nodes.new
         (map (param_type s (function_tree function.now)) function.now.params) xs.items) }
 {
     let mut terms = Vec::new(alloc);
@@ -102,8 +102,8 @@ pub fn own_type(
     nodes: &mut Nodes,
     function: &Function,
 ) -> Result<usize, AllocError>
-    ensures { IfOk result (λ x. (s : Source) → IsContext context.now s → IsSound nodes.old
-        → Gives nodes.old nodes.new (own_type s (function_tree function.now)) x) }
+    ensures { IfOk result (λ x. (s : Source) → IsContextOf context.now s → IsSound nodes.old
+        → AddsTermForType nodes.old nodes.new (own_type s (function_tree function.now)) x) }
 {
     let params = param_types(alloc, context, nodes, function)?;
     let result = result_type(alloc, context, nodes, function)?;
@@ -119,8 +119,8 @@ fn global_type(
     name: NameId,
     at: u32,
 ) -> Result<usize, AllocError>
-    ensures { IfOk result (λ x. (s : Source) → IsContext context.now s → IsSound nodes.old
-        → Gives nodes.old nodes.new (global_type s name.0 at) x) }
+    ensures { IfOk result (λ x. (s : Source) → IsContextOf context.now s → IsSound nodes.old
+        → AddsTermForType nodes.old nodes.new (global_type s name.0 at) x) }
 {
     let Some(function) = function(context, name) else {
         let term = nodes.integer(alloc)?;
@@ -142,7 +142,7 @@ fn global_type(
 /// The type of the primitives.
 fn primitive_type(alloc: Global, nodes: &mut Nodes) -> Result<usize, AllocError>
     ensures { IfOk result (λ x. IsSound nodes.old
-        → Gives nodes.old nodes.new (Arrow Int (Arrow Int Int)) x) }
+        → AddsTermForType nodes.old nodes.new (Arrow Int (Arrow Int Int)) x) }
 {
     let integer = nodes.integer(alloc)?;
     let second = nodes.arrow(alloc, integer, integer)?;
@@ -159,9 +159,9 @@ fn name_type(
     name: NameId,
     at: u32,
 ) -> Result<usize, AllocError>
-    ensures { IfOk result (λ x. (s : Source) (ls : Locals) → IsContext context.now s
+    ensures { IfOk result (λ x. (s : Source) (ls : Locals) → IsContextOf context.now s
         → IsSound nodes.old → DenoteLocals nodes.old ls scope.now
-        → Gives nodes.old nodes.new (name_type s ls name.0 at) x) }
+        → AddsTermForType nodes.old nodes.new (name_type s ls name.0 at) x) }
 {
     if context.globals.is_reserved(name) {
         let term = primitive_type(alloc, nodes)?;
@@ -185,8 +185,8 @@ fn constructor_type(
     name: NameId,
     at: u32,
 ) -> Result<usize, AllocError>
-    ensures { IfOk result (λ x. (s : Source) → IsContext context.now s → IsSound nodes.old
-        → Gives nodes.old nodes.new (constructor_type s name.0 at) x) }
+    ensures { IfOk result (λ x. (s : Source) → IsContextOf context.now s → IsSound nodes.old
+        → AddsTermForType nodes.old nodes.new (constructor_type s name.0 at) x) }
 {
     let Some(found) = constructor(context, name) else {
         let term = nodes.integer(alloc)?;
@@ -236,9 +236,9 @@ fn bare_type(
     atom: &Atom,
 ) -> Result<usize, AllocError>
     ensures { IfOk result (λ x. (s : Source) (ls : Locals) (t : Term)
-        → term_of atom.now ≡ bare t → IsContext context.now s → IsSound nodes.old
+        → term_of atom.now ≡ bare t → IsContextOf context.now s → IsSound nodes.old
         → DenoteLocals nodes.old ls scope.now
-        → Gives nodes.old nodes.new (term_type s ls t) x) }
+        → AddsTermForType nodes.old nodes.new (term_type s ls t) x) }
 {
     match atom {
         Atom::Name(name, at) => {
@@ -254,7 +254,7 @@ fn bare_type(
             Ok(term)
         }
         Atom::Bracket(_, at) => {
-            let term = nodes.variable(Key::Bracket(*at))?;
+            let term = nodes.variable(TypeVariableKey::Bracket(*at))?;
             Ok(term)
         }
     }
@@ -268,9 +268,9 @@ fn terms_types(
     scope: &Scope,
     atoms: &[Atom],
 ) -> Result<Vec<usize>, AllocError>
-    ensures { IfOk result (λ xs. (s : Source) (ls : Locals) → IsContext context.now s
+    ensures { IfOk result (λ xs. (s : Source) (ls : Locals) → IsContextOf context.now s
         → IsSound nodes.old → DenoteLocals nodes.old ls scope.now
-        → GivesEach nodes.old nodes.new
+        → AddsTermsForTypes nodes.old nodes.new
         (terms_types s ls (terms_of (map term_of atoms.now))) xs.items) }
 {
     let mut terms = Vec::new(alloc);
@@ -282,7 +282,7 @@ fn terms_types(
     Ok(terms)
 }
 
-impl Builder {
+impl ConstraintBuilder {
     /// Adds a constraint between terms.
     pub fn equate(&mut self, at: u32, left: usize, right: usize) -> Result<(), AllocError>
         ensures { IfOk result (λ _. (s : Source) (t u : Typed) → IsSound self.old.nodes
@@ -303,8 +303,8 @@ impl Builder {
         app: &App,
     ) -> Result<(), AllocError>
         ensures { IfOk result (λ _. (s : Source) (ls : Locals) (t : Typed)
-            → IsContext context.now s → IsAt self.old ls → Denotes self.old.nodes t expected
-            → Adds self.old self.new (own_constraint s ls t (application_of app.now) ∷ [])) }
+            → IsContextOf context.now s → HasLocalsInScope self.old ls → Denotes self.old.nodes t expected
+            → Adds self.old self.new (application_constraint s ls t (application_of app.now) ∷ [])) }
     {
         let bare = bare(&app.head);
         let head = bare_type(alloc, context, &mut self.nodes, &self.scope, bare)?;

@@ -8,8 +8,8 @@ ghost use Rattle.arity_check.specs.Whole.{known_of};
 ghost use Rattle.core_reader.specs.Tree.{function as function_tree};
 ghost use Rattle.core_types.specs.Source.{Source as Program, erased};
 ghost use Rattle.core_types.specs.SourceOf.{source_of, signature_of as signature_tree, type_of, constructor_of};
-ghost use Rattle.core_types.specs.Typing.{Int, Named, AndTyped, NoTypeds, integers, signature_of, function_of, declared_by};
-ghost use Rattle.core_types.specs.Building.{IsContext, signature_number, constructor_number, number_in_types};
+ghost use Rattle.core_types.specs.Typing.{Int, Named, AndTyped, NoTypeds, integers, signature_of, function_of, constructor_by_name};
+ghost use Rattle.core_types.specs.Building.{IsContextOf, signature_number, constructor_number, number_in_types};
 
 use crate::source::{Constructor, Signature, Source, TypeDecl};
 use arity_check::globals::Globals;
@@ -96,7 +96,7 @@ impl<'a> Context<'a> {
     ) -> Result<Context<'a>, AllocError>
         requires tables { known globals.now ≡ known_of (erased (source_of source.now)) }
         requires lists { integers (source_of source.now) ≡ Named lists.0 (AndTyped Int NoTypeds) }
-        ensures { IfOk result (λ c. IsContext c (source_of source.now)) }
+        ensures { IfOk result (λ c. IsContextOf c (source_of source.now)) }
     {
         let signatures = signatures(alloc, source.signatures.as_slice())?;
         let constructors = constructors(alloc, source.types.as_slice())?;
@@ -113,8 +113,8 @@ impl<'a> Context<'a> {
 /// The signature of a function.
 pub fn signature<'a>(context: &'a Context<'_>, name: NameId) -> Option<&'a Signature>
     ensures { MatchOption result
-        ((s : Program) → IsContext context.now s → signature_of s.signatures name.0 ≡ None)
-        (λ g. (s : Program) → IsContext context.now s
+        ((s : Program) → IsContextOf context.now s → signature_of s.signatures name.0 ≡ None)
+        (λ g. (s : Program) → IsContextOf context.now s
         → signature_of s.signatures name.0 ≡ Some (signature_tree g.now)) }
 {
     let number = context.signatures.get(&name.0).copied()?;
@@ -132,8 +132,8 @@ fn function_number(context: &Context<'_>, name: NameId) -> Option<u32>
 /// The function of a name.
 pub fn function<'a>(context: &'a Context<'_>, name: NameId) -> Option<&'a Function>
     ensures { MatchOption result
-        ((s : Program) → IsContext context.now s → function_of s.functions name.0 ≡ None)
-        (λ f. (s : Program) → IsContext context.now s
+        ((s : Program) → IsContextOf context.now s → function_of s.functions name.0 ≡ None)
+        (λ f. (s : Program) → IsContextOf context.now s
         → function_of s.functions name.0 ≡ Some (function_tree f.now)) }
 {
     let number = function_number(context, name)?;
@@ -148,8 +148,8 @@ pub fn function<'a>(context: &'a Context<'_>, name: NameId) -> Option<&'a Functi
 /// The constructor of a name, with its type.
 pub fn constructor<'a>(context: &'a Context<'_>, name: NameId) -> Option<Declared<'a>>
     ensures { MatchOption result
-        ((s : Program) → IsContext context.now s → declared_by s.types name.0 ≡ None)
-        (λ d. (s : Program) → IsContext context.now s → declared_by s.types name.0
+        ((s : Program) → IsContextOf context.now s → constructor_by_name s.types name.0 ≡ None)
+        (λ d. (s : Program) → IsContextOf context.now s → constructor_by_name s.types name.0
         ≡ Some (type_of d.declared.now, constructor_of d.constructor.now)) }
 {
     let (number, constructor) = context.constructors.get(&name.0).copied()?;

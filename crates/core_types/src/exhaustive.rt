@@ -5,11 +5,11 @@ ghost use Rattle.core_reader.specs.Tree.{alternative, alts_of, expr as expr_of, 
 ghost use Rattle.arity_check.specs.Patterns.{pattern_place};
 ghost use Rattle.core_types.specs.SourceOf.{type_of, constructor_of};
 ghost use Rattle.core_types.specs.Rules.{names_constructor};
-ghost use Rattle.core_types.specs.Found.{no_patterns, with_pattern, with_patterns, is_missing, lacks_in, lacks, is_partial, partial_case, partial_in, partial_in_alts, partial_in_functions};
-ghost use Rattle.core_types.specs.Kept.{patterns_in};
+ghost use Rattle.core_types.specs.Found.{no_patterns, with_pattern, with_patterns, is_missing, type_lacks_pattern, misses_constructor, is_partial, partial_case, partial_in, partial_in_alts, partial_in_functions};
+ghost use Rattle.core_types.specs.Kept.{covered_patterns};
 ghost use Rattle.std.specs.List.{list_any};
 
-use crate::places::earlier_if;
+use crate::places::earlier_place_if;
 use crate::source::{Constructor, TypeDecl};
 use core_reader::{Alt, Expr, Function, NameId, Pattern};
 use std::alloc::{AllocError, Global};
@@ -26,8 +26,8 @@ struct Patterns {
 impl Patterns {
     /// Notes a pattern.
     fn add(&mut self, pattern: &Pattern) -> Result<(), AllocError>
-        ensures { IfOk result (λ _. patterns_in self.new
-            ≡ with_pattern (patterns_in self.old) pattern.now) }
+        ensures { IfOk result (λ _. covered_patterns self.new
+            ≡ with_pattern (covered_patterns self.old) pattern.now) }
     {
         match pattern {
             Pattern::Con(name, _) => {
@@ -41,7 +41,7 @@ impl Patterns {
 
     /// The patterns of alternatives.
     fn of(alloc: Global, alts: &[Alt]) -> Result<Patterns, AllocError>
-        ensures { IfOk result (λ p. patterns_in p
+        ensures { IfOk result (λ p. covered_patterns p
             ≡ with_patterns no_patterns (alts_of (map alternative alts.now))) }
     {
         let mut patterns = Patterns {
@@ -57,7 +57,7 @@ impl Patterns {
 
     /// Whether one of these constructors is not among them.
     fn lacks_one(&self, constructors: &[Constructor]) -> bool
-        ensures { result ≡ list_any (is_missing (patterns_in self.now))
+        ensures { result ≡ list_any (is_missing (covered_patterns self.now))
             (map constructor_of constructors.now) }
     {
         for constructor in constructors {
@@ -70,7 +70,7 @@ impl Patterns {
 
     /// Whether the type with this constructor has one that is not among them.
     fn lack(&self, types: &[TypeDecl], name: NameId) -> bool
-        ensures { result ≡ lacks_in (patterns_in self.now) (map type_of types.now) name.0 }
+        ensures { result ≡ type_lacks_pattern (covered_patterns self.now) (map type_of types.now) name.0 }
     {
         for declared in types {
             let constructors = declared.constructors.as_slice();
@@ -83,7 +83,7 @@ impl Patterns {
 
     /// Whether a case with these patterns, the first of which is this, does not take every value.
     fn are_partial(&self, types: &[TypeDecl], first: &Pattern) -> bool
-        ensures { result ≡ is_partial (map type_of types.now) (patterns_in self.now) first.now }
+        ensures { result ≡ is_partial (map type_of types.now) (covered_patterns self.now) first.now }
     {
         if self.default {
             return false;
@@ -137,7 +137,7 @@ fn partial_case(
     };
     let patterns = Patterns::of(alloc, alts)?;
     let is_partial = patterns.are_partial(types, &alt.pattern);
-    Ok(earlier_if(is_partial, first, place(&alt.pattern)))
+    Ok(earlier_place_if(is_partial, first, place(&alt.pattern)))
 }
 
 /// The place of the first such case in an expression, or an earlier one.
@@ -184,7 +184,7 @@ fn partial_in_alts(
 }
 
 /// The place of the first case in the functions that does not take every value.
-pub fn partial_cases(
+pub fn first_partial_case(
     alloc: Global,
     types: &[TypeDecl],
     functions: &[Function],

@@ -4,20 +4,20 @@ ghost use Rattle.std.specs.Prelude.{◌≡◌, IfOk, List, map};
 ghost use Rattle.core_reader.specs.Tree.{bind as bind_of, expr as expr_of, alternative, alts_of};
 ghost use Rattle.core_types.specs.Source.{Source};
 ghost use Rattle.core_types.specs.Typing.{Typed, Locals, binds, binds_all, with_group, with_pattern, of_group, of_pattern, of_expr, of_alts, scrutinee};
-ghost use Rattle.core_types.specs.Nodes.{IsSound, Denotes, DenoteEach, Gives};
-ghost use Rattle.core_types.specs.Building.{IsContext, IsAt, Adds, Enters};
+ghost use Rattle.core_types.specs.Nodes.{IsSound, Denotes, DenoteEach, AddsTermForType};
+ghost use Rattle.core_types.specs.Building.{IsContextOf, HasLocalsInScope, Adds, EntersLocals};
 
-use crate::building::Builder;
+use crate::building::ConstraintBuilder;
 use crate::context::{Context, constructor};
 use crate::instances::{Instance, applied, read_all};
-use crate::nodes::{Key, Nodes};
+use crate::nodes::{Nodes, TypeVariableKey};
 use core_reader::{Alt, Bind, Binder, Expr, Pattern};
 use std::alloc::{AllocError, Global};
 
 /// The type of what is tested, by the first pattern.
 fn scrutinee(alloc: Global, nodes: &mut Nodes, alts: &[Alt]) -> Result<usize, AllocError>
     ensures { IfOk result (λ x. (s : Source) → IsSound nodes.old
-        → Gives nodes.old nodes.new (scrutinee s (alts_of (map alternative alts.now))) x) }
+        → AddsTermForType nodes.old nodes.new (scrutinee s (alts_of (map alternative alts.now))) x) }
 {
     let Some(first) = alts.first() else {
         let term = nodes.integer(alloc)?;
@@ -28,16 +28,16 @@ fn scrutinee(alloc: Global, nodes: &mut Nodes, alts: &[Alt]) -> Result<usize, Al
         Pattern::Int(_, at) => *at,
         Pattern::Default(binder) => binder.at,
     };
-    let term = nodes.variable(Key::Scrutinee(at))?;
+    let term = nodes.variable(TypeVariableKey::Scrutinee(at))?;
     Ok(term)
 }
 
-impl Builder {
+impl ConstraintBuilder {
     /// A binder's name has a type from here on, but `_` has none.
     fn bind(&mut self, context: &Context<'_>, binder: Binder, term: usize) -> Result<(), AllocError>
         ensures { IfOk result (λ _. (s : Source) (ls : Locals) (t : Typed)
-            → IsContext context.now s → IsAt self.old ls → Denotes self.old.nodes t term
-            → Enters self.old self.new (binds s binder t ls)) }
+            → IsContextOf context.now s → HasLocalsInScope self.old ls → Denotes self.old.nodes t term
+            → EntersLocals self.old self.new (binds s binder t ls)) }
     {
         if context.globals.is_nameless(binder.name) {
             return Ok(());
@@ -51,12 +51,14 @@ impl Builder {
 
     /// The names of a group have types from here on.
     fn bind_group(&mut self, context: &Context<'_>, group: &[Bind]) -> Result<(), AllocError>
-        ensures { IfOk result (λ _. (s : Source) (ls : Locals) → IsContext context.now s
-            → IsAt self.old ls
-            → Enters self.old self.new (with_group s (map bind_of group.now) ls)) }
+        ensures { IfOk result (λ _. (s : Source) (ls : Locals) → IsContextOf context.now s
+            → HasLocalsInScope self.old ls
+            → EntersLocals self.old self.new (with_group s (map bind_of group.now) ls)) }
     {
         for member in group {
-            let term = self.nodes.variable(Key::Binder(member.binder.at))?;
+            let term = self
+                .nodes
+                .variable(TypeVariableKey::Binder(member.binder.at))?;
             self.bind(context, member.binder, term)?;
         }
         Ok(())
@@ -69,12 +71,14 @@ impl Builder {
         context: &Context<'_>,
         group: &[Bind],
     ) -> Result<(), AllocError>
-        ensures { IfOk result (λ _. (s : Source) (ls : Locals) → IsContext context.now s
-            → IsAt self.old ls
+        ensures { IfOk result (λ _. (s : Source) (ls : Locals) → IsContextOf context.now s
+            → HasLocalsInScope self.old ls
             → Adds self.old self.new (of_group s ls (map bind_of group.now))) }
     {
         for member in group {
-            let term = self.nodes.variable(Key::Binder(member.binder.at))?;
+            let term = self
+                .nodes
+                .variable(TypeVariableKey::Binder(member.binder.at))?;
             self.application(alloc, context, term, &member.app)?;
         }
         Ok(())
@@ -88,9 +92,9 @@ impl Builder {
         terms: &[usize],
     ) -> Result<(), AllocError>
         ensures { IfOk result (λ _. (s : Source) (ls : Locals) (ts : List Typed)
-            → IsContext context.now s → IsAt self.old ls
+            → IsContextOf context.now s → HasLocalsInScope self.old ls
             → DenoteEach self.old.nodes ts terms.now
-            → Enters self.old self.new (binds_all s binders.now ts ls)) }
+            → EntersLocals self.old self.new (binds_all s binders.now ts ls)) }
     {
         for (i, binder) in binders.iter().enumerate() {
             let Some(term) = terms.get(i) else {
@@ -110,7 +114,7 @@ impl Builder {
         pattern: &Pattern,
     ) -> Result<(), AllocError>
         ensures { IfOk result (λ _. (s : Source) (ls : Locals) (u : Typed)
-            → IsContext context.now s → IsAt self.old ls → Denotes self.old.nodes u scrutinee
+            → IsContextOf context.now s → HasLocalsInScope self.old ls → Denotes self.old.nodes u scrutinee
             → Adds self.old self.new (of_pattern s u pattern.now)) }
     {
         match pattern {
@@ -140,8 +144,8 @@ impl Builder {
         pattern: &Pattern,
     ) -> Result<(), AllocError>
         ensures { IfOk result (λ _. (s : Source) (ls : Locals) (u : Typed)
-            → IsContext context.now s → IsAt self.old ls → Denotes self.old.nodes u scrutinee
-            → Enters self.old self.new (with_pattern s u pattern.now ls)) }
+            → IsContextOf context.now s → HasLocalsInScope self.old ls → Denotes self.old.nodes u scrutinee
+            → EntersLocals self.old self.new (with_pattern s u pattern.now ls)) }
     {
         match pattern {
             Pattern::Con(name, binders) => {
@@ -172,7 +176,7 @@ impl Builder {
         expr: &Expr,
     ) -> Result<(), AllocError>
         ensures { IfOk result (λ _. (s : Source) (ls : Locals) (t : Typed)
-            → IsContext context.now s → IsAt self.old ls → Denotes self.old.nodes t expected
+            → IsContextOf context.now s → HasLocalsInScope self.old ls → Denotes self.old.nodes t expected
             → Adds self.old self.new (of_expr s ls t (expr_of expr.now))) }
     {
         match expr {
@@ -208,7 +212,7 @@ impl Builder {
         alts: &[Alt],
     ) -> Result<(), AllocError>
         ensures { IfOk result (λ _. (s : Source) (ls : Locals) (u t : Typed)
-            → IsContext context.now s → IsAt self.old ls → Denotes self.old.nodes u scrutinee
+            → IsContextOf context.now s → HasLocalsInScope self.old ls → Denotes self.old.nodes u scrutinee
             → Denotes self.old.nodes t expected
             → Adds self.old self.new (of_alts s ls u t (alts_of (map alternative alts.now)))) }
     {

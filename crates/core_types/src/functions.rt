@@ -5,9 +5,9 @@ ghost use Rattle.core_reader.specs.Tree.{function as function_tree};
 ghost use Rattle.core_types.specs.Source.{Source};
 ghost use Rattle.core_types.specs.Typing.{of_signature, of_function, constraints};
 ghost use Rattle.core_types.specs.Nodes.{IsSound};
-ghost use Rattle.core_types.specs.Building.{IsContext, IsAt, Stands, Adds};
+ghost use Rattle.core_types.specs.Building.{IsContextOf, HasLocalsInScope, Stands, Adds};
 
-use crate::building::{Builder, own_type, param_types, result_type};
+use crate::building::{ConstraintBuilder, own_type, param_types, result_type};
 use crate::context::{Context, signature};
 use crate::instances::{Instance, signed};
 use crate::nodes::Nodes;
@@ -15,12 +15,12 @@ use arity_check::scope::Scope;
 use core_reader::Function;
 use std::alloc::{AllocError, Global};
 
-impl Builder {
+impl ConstraintBuilder {
     /// No constraints, and no locals in scope.
-    fn new(alloc: Global) -> Builder
-        ensures { IsAt result [] × Stands result [] }
+    fn new(alloc: Global) -> ConstraintBuilder
+        ensures { HasLocalsInScope result [] × Stands result [] }
     {
-        Builder {
+        ConstraintBuilder {
             nodes: Nodes::new(alloc),
             pairs: Vec::new(alloc),
             places: Vec::new(alloc),
@@ -35,7 +35,7 @@ impl Builder {
         context: &Context<'_>,
         function: &Function,
     ) -> Result<(), AllocError>
-        ensures { IfOk result (λ _. (s : Source) → IsContext context.now s
+        ensures { IfOk result (λ _. (s : Source) → IsContextOf context.now s
             → IsSound self.old.nodes
             → Adds self.old self.new (of_signature s (function_tree function.now))) }
     {
@@ -56,7 +56,7 @@ impl Builder {
         context: &Context<'_>,
         function: &Function,
     ) -> Result<(), AllocError>
-        ensures { IfOk result (λ _. (s : Source) → IsContext context.now s → IsAt self.old []
+        ensures { IfOk result (λ _. (s : Source) → IsContextOf context.now s → HasLocalsInScope self.old []
             → Adds self.old self.new (of_function s (function_tree function.now))) }
     {
         self.signed(alloc, context, function)?;
@@ -71,11 +71,14 @@ impl Builder {
 }
 
 /// The constraints of a program, by place.
-pub fn constrained(alloc: Global, context: &Context<'_>) -> Result<Builder, AllocError>
-    ensures { IfOk result (λ b. (s : Source) → IsContext context.now s
+pub fn program_constraints(
+    alloc: Global,
+    context: &Context<'_>,
+) -> Result<ConstraintBuilder, AllocError>
+    ensures { IfOk result (λ b. (s : Source) → IsContextOf context.now s
         → IsSound b.nodes × Stands b (constraints s)) }
 {
-    let mut builder = Builder::new(alloc);
+    let mut builder = ConstraintBuilder::new(alloc);
     for function in context.source.core.functions.as_slice() {
         builder.function(alloc, context, function)?;
     }

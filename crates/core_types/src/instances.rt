@@ -7,10 +7,10 @@ ghost use Rattle.arity_check.specs.Whole.{known_of};
 ghost use Rattle.core_types.specs.Source.{Source, erased};
 ghost use Rattle.core_types.specs.SourceOf.{written as tree_of, types_in, type_of, signature_of};
 ghost use Rattle.core_types.specs.Typing.{Typed, arrows, applied, read, read_list, signed, used_at};
-ghost use Rattle.core_types.specs.Nodes.{IsSound, Denotes, DenoteEach, Gives};
-ghost use Rattle.core_types.specs.Instances.{variable_of, GivesEach};
+ghost use Rattle.core_types.specs.Nodes.{IsSound, Denotes, DenoteEach, AddsTermForType};
+ghost use Rattle.core_types.specs.Instances.{variable_of, AddsTermsForTypes};
 
-use crate::nodes::{Key, Nodes};
+use crate::nodes::{Nodes, TypeVariableKey};
 use crate::source::{Signature, TypeDecl, Written};
 use arity_check::globals::Globals;
 use core_reader::{Binder, NameId};
@@ -34,11 +34,11 @@ fn variable(
     name: NameId,
 ) -> Result<usize, AllocError>
     ensures { IfOk result (λ x. IsSound nodes.old
-        → Gives nodes.old nodes.new (variable_of instance name.0) x) }
+        → AddsTermForType nodes.old nodes.new (variable_of instance name.0) x) }
 {
     match instance {
         Instance::Used(at) => {
-            let at = nodes.variable(Key::Use(at, name.0))?;
+            let at = nodes.variable(TypeVariableKey::Use(at, name.0))?;
             Ok(at)
         }
         Instance::Rigid(function) => {
@@ -60,7 +60,7 @@ pub fn read(
 ) -> Result<usize, AllocError>
     ensures { IfOk result (λ x. (s : Source) → known globals.now ≡ known_of (erased s)
         → IsSound nodes.old
-        → Gives nodes.old nodes.new (read s (variable_of instance) (tree_of written.now)) x) }
+        → AddsTermForType nodes.old nodes.new (read s (variable_of instance) (tree_of written.now)) x) }
 {
     match written {
         Written::Var(name) => {
@@ -95,7 +95,7 @@ pub fn read_all(
     types: &[Written],
 ) -> Result<Vec<usize>, AllocError>
     ensures { IfOk result (λ xs. (s : Source) → known globals.now ≡ known_of (erased s)
-        → IsSound nodes.old → GivesEach nodes.old nodes.new
+        → IsSound nodes.old → AddsTermsForTypes nodes.old nodes.new
         (read_list s (variable_of instance) (types_in types.now)) xs.items) }
 {
     let mut terms = Vec::new(alloc);
@@ -115,7 +115,7 @@ pub fn arrows(
 ) -> Result<usize, AllocError>
     ensures { IfOk result (λ x. (ts : List Typed) (t : Typed) → IsSound nodes.old
         → DenoteEach nodes.old ts from.now → Denotes nodes.old t to
-        → Gives nodes.old nodes.new (arrows ts t) x) }
+        → AddsTermForType nodes.old nodes.new (arrows ts t) x) }
 {
     let mut at = to;
     let mut left = from.len();
@@ -133,12 +133,12 @@ fn parameters(
     at: u32,
     params: &[Binder],
 ) -> Result<Vec<usize>, AllocError>
-    ensures { IfOk result (λ xs. (s : Source) → IsSound nodes.old → GivesEach nodes.old nodes.new
+    ensures { IfOk result (λ xs. (s : Source) → IsSound nodes.old → AddsTermsForTypes nodes.old nodes.new
         (map (λ (b : binder). used_at s at b.name.0) params.now) xs.items) }
 {
     let mut terms = Vec::new(alloc);
     for param in params {
-        let variable = nodes.variable(Key::Use(at, param.name.0))?;
+        let variable = nodes.variable(TypeVariableKey::Use(at, param.name.0))?;
         terms.push(variable)?;
     }
     Ok(terms)
@@ -152,7 +152,7 @@ pub fn applied(
     declared: &TypeDecl,
 ) -> Result<usize, AllocError>
     ensures { IfOk result (λ x. (s : Source) → IsSound nodes.old
-        → Gives nodes.old nodes.new (applied s (type_of declared.now) (used_at s at)) x) }
+        → AddsTermForType nodes.old nodes.new (applied s (type_of declared.now) (used_at s at)) x) }
 {
     let params = parameters(alloc, nodes, at, declared.params.as_slice())?;
     let at = nodes.named(declared.name.name.0, Seq::from_vec(params))?;
@@ -168,7 +168,7 @@ pub fn signed(
     signature: &Signature,
 ) -> Result<usize, AllocError>
     ensures { IfOk result (λ x. (s : Source) → known globals.now ≡ known_of (erased s)
-        → IsSound nodes.old → Gives nodes.old nodes.new
+        → IsSound nodes.old → AddsTermForType nodes.old nodes.new
         (signed s (variable_of instance) (signature_of signature.now)) x) }
 {
     let from = read_all(alloc, globals, nodes, instance, signature.args.as_slice())?;

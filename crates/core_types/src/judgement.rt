@@ -1,7 +1,7 @@
 //! Programs whose types fit, or the two sides that do not.
 
 ghost use Rattle.std.specs.Prelude.{OnOk, IfOk, IfErr};
-ghost use Rattle.core_types.specs.Refused.{IsTypedAs, IsUnbrokenText, IsFirstBrokenText, AreSidesAt, IsRefusal};
+ghost use Rattle.core_types.specs.Refused.{IsTypedAs, TextBreaksNoRule, IsFirstBrokenText, AreSidesAt, IsRefusal};
 
 use crate::accepted::{Typed, typed_or_place};
 use crate::lists::list_type;
@@ -37,7 +37,7 @@ fn sides_at(alloc: Global, text: &[u8], at: u32) -> Result<(Ty, Ty), AllocError>
 /// memory, which may come in place of each answer.
 pub fn typed(alloc: Global, text: &[u8]) -> Result<Typed, TypeRefusal>
     ensures typed { IfOk result (IsTypedAs text.now) }
-    ensures unbroken { OnOk result (IsUnbrokenText text.now) }
+    ensures unbroken { OnOk result (TextBreaksNoRule text.now) }
     ensures refused { IfErr result (IsRefusal text.now) }
 {
     let fault = match typed_or_place(alloc, text) {

@@ -5,7 +5,7 @@ ghost use Rattle.std.specs.List.{find};
 ghost use Rattle.arity_check.specs.Tables.{known};
 ghost use Rattle.core_types.specs.SourceOf.{written as tree_of, types_in, constructor_of, type_of};
 ghost use Rattle.core_types.specs.Lists.{is_var, is_empty, is_one_var, is_applied, is_tail, is_item_and_tail, are_list_constructors, is_list_by};
-ghost use Rattle.core_types.specs.Found.{nil_in, cons_in, name_of};
+ghost use Rattle.core_types.specs.Found.{is_nil_name, is_cons_name, name_of};
 
 use crate::source::{Constructor, TypeDecl, Written};
 use arity_check::globals::Globals;
@@ -85,8 +85,8 @@ fn are_list_constructors(
     nil: &Constructor,
     cons: &Constructor,
 ) -> bool
-    ensures { result ≡ are_list_constructors (nil_in (known globals.now))
-        (cons_in (known globals.now)) type_name.0 name.0 (constructor_of nil.now)
+    ensures { result ≡ are_list_constructors (is_nil_name (known globals.now))
+        (is_cons_name (known globals.now)) type_name.0 name.0 (constructor_of nil.now)
         (constructor_of cons.now) }
 {
     if !globals.is_nil(nil.name.name) {
@@ -103,7 +103,7 @@ fn are_list_constructors(
 
 /// Whether a type is that of lists.
 fn is_list(globals: &Globals, declared: &TypeDecl) -> bool
-    ensures { result ≡ is_list_by (nil_in (known globals.now)) (cons_in (known globals.now))
+    ensures { result ≡ is_list_by (is_nil_name (known globals.now)) (is_cons_name (known globals.now))
         (type_of declared.now) }
 {
     let [param] = declared.params.as_slice() else {
@@ -121,8 +121,8 @@ fn is_list(globals: &Globals, declared: &TypeDecl) -> bool
 
 /// The name of the type of lists.
 pub fn list_type(globals: &Globals, types: &[TypeDecl]) -> Option<NameId>
-    ensures { result ≡ name_of (find (is_list_by (nil_in (known globals.now))
-        (cons_in (known globals.now))) (map type_of types.now)) }
+    ensures { result ≡ name_of (find (is_list_by (is_nil_name (known globals.now))
+        (is_cons_name (known globals.now))) (map type_of types.now)) }
 {
     for declared in types {
         if is_list(globals, declared) {

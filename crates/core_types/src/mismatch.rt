@@ -9,9 +9,9 @@ ghost use Rattle.core_types.specs.Typing.{Int, Named, AndTyped, NoTypeds, intege
 ghost use Rattle.core_types.specs.Building.{IsUnsolvedOf};
 ghost use Rattle.core_types.specs.Found.{IsFirstMismatch};
 
-use crate::building::Builder;
+use crate::building::ConstraintBuilder;
 use crate::context::Context;
-use crate::functions::constrained;
+use crate::functions::program_constraints;
 use crate::source::Source;
 use arity_check::globals::Globals;
 use core_reader::NameId;
@@ -22,7 +22,7 @@ use unification::first_unsolved;
 /// before it.
 #[derive(Drop)]
 pub struct Unsolved {
-    pub builder: Builder,
+    pub builder: ConstraintBuilder,
     pub number: Option<usize>,
 }
 
@@ -40,7 +40,7 @@ impl Unsolved {
         ensures { IfOk result (IsUnsolvedOf (source_of source.now)) }
     {
         let context = Context::new(alloc, source, globals, lists)?;
-        let builder = constrained(alloc, &context)?;
+        let builder = program_constraints(alloc, &context)?;
         let pairs = builder.pairs.as_slice();
         let number = first_unsolved(alloc, builder.nodes.terms.as_slice(), pairs)?;
         Ok(Unsolved { builder, number })
@@ -48,7 +48,7 @@ impl Unsolved {
 }
 
 /// The place of the constraint of this number.
-fn place_of(builder: &Builder, number: usize) -> Option<u32>
+fn place_of(builder: &ConstraintBuilder, number: usize) -> Option<u32>
     ensures { result ≡ slice_get builder.now.places.items number }
 {
     builder.places.as_slice().get(number).copied()

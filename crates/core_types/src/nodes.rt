@@ -1,7 +1,7 @@
 //! Types as terms in a vector.
 
 ghost use Rattle.std.specs.Prelude.{◌≡◌, ℕ, Bool, IfOk};
-ghost use Rattle.core_types.specs.Nodes.{key_of, number_of, is_use, IsInRange, entry_of, entered, found_of, IsSound, IsMade, AreBelow, Denotes, DenoteAll, Grows, Gives};
+ghost use Rattle.core_types.specs.Nodes.{key_of, number_of, is_use, IsInRange, entry_of, entered, index_of_key, IsSound, IsSymbolAt, AreBelow, Denotes, DenoteAll, ExtendsNodes, AddsTermForType};
 ghost use Rattle.core_types.specs.Typing.{Typed, Types, Int, Open, Rigid, Named, Arrow};
 
 use seq::Seq;
@@ -11,7 +11,7 @@ use unification::{Symbol, Term};
 
 /// What a variable of types is named by, with its place.
 #[derive(Clone, Copy, Debug)]
-pub enum Key {
+pub enum TypeVariableKey {
     /// A binder.
     Binder(u32),
     /// The result of a function.
@@ -30,18 +30,18 @@ const KINDS: u64 = 4;
 /// How many names there are at most.
 const NAMES: u64 = 4294967296;
 
-impl Key {
+impl TypeVariableKey {
     /// The number of a key among the uses, or among the others.
     fn number(self) -> u64
         ensures number { result ≡ number_of (key_of self) }
         ensures range { IsInRange (key_of self) }
     {
         match self {
-            Key::Binder(at) => u64::from(at) * KINDS,
-            Key::Result(at) => u64::from(at) * KINDS + 1,
-            Key::Bracket(at) => u64::from(at) * KINDS + 2,
-            Key::Scrutinee(at) => u64::from(at) * KINDS + 3,
-            Key::Use(at, variable) => u64::from(at) * NAMES + u64::from(variable),
+            TypeVariableKey::Binder(at) => u64::from(at) * KINDS,
+            TypeVariableKey::Result(at) => u64::from(at) * KINDS + 1,
+            TypeVariableKey::Bracket(at) => u64::from(at) * KINDS + 2,
+            TypeVariableKey::Scrutinee(at) => u64::from(at) * KINDS + 3,
+            TypeVariableKey::Use(at, variable) => u64::from(at) * NAMES + u64::from(variable),
         }
     }
 
@@ -50,8 +50,11 @@ impl Key {
         ensures { result ≡ is_use (key_of self) }
     {
         match self {
-            Key::Binder(_) | Key::Result(_) | Key::Bracket(_) | Key::Scrutinee(_) => false,
-            Key::Use(_, _) => true,
+            TypeVariableKey::Binder(_)
+            | TypeVariableKey::Result(_)
+            | TypeVariableKey::Bracket(_)
+            | TypeVariableKey::Scrutinee(_) => false,
+            TypeVariableKey::Use(_, _) => true,
         }
     }
 }
@@ -62,7 +65,7 @@ pub struct Nodes {
     /// The terms, each behind its arguments.
     pub terms: Vec<Term>,
     /// What each variable among them is named by.
-    pub keys: Vec<Option<Key>>,
+    pub keys: Vec<Option<TypeVariableKey>>,
     /// The places of the variables of uses by the numbers of their keys, and those of the others.
     pub uses: BTreeMap<u64, usize>,
     pub places: BTreeMap<u64, usize>,
@@ -84,8 +87,8 @@ impl Nodes {
     /// Adds a symbol with arguments.
     fn made(&mut self, symbol: Symbol, arguments: Seq<usize>) -> Result<usize, AllocError>
         ensures grows { IfOk result (λ x. IsSound self.old → AreBelow self.old arguments
-            → Grows self.old self.new) }
-        ensures made { IfOk result (λ x. IsSound self.old → IsMade self.new x symbol arguments) }
+            → ExtendsNodes self.old self.new) }
+        ensures made { IfOk result (λ x. IsSound self.old → IsSymbolAt self.new x symbol arguments) }
     {
         let at = self.terms.len();
         self.terms.push(Term::Made(symbol, arguments))?;
@@ -95,7 +98,7 @@ impl Nodes {
 
     /// The integers.
     pub fn integer(&mut self, alloc: Global) -> Result<usize, AllocError>
-        ensures { IfOk result (λ x. IsSound self.old → Gives self.old self.new Int x) }
+        ensures { IfOk result (λ x. IsSound self.old → AddsTermForType self.old self.new Int x) }
     {
         let at = self.made(Symbol::Integer, Seq::new(alloc))?;
         Ok(at)
@@ -109,7 +112,7 @@ impl Nodes {
         variable: u32,
     ) -> Result<usize, AllocError>
         ensures { IfOk result (λ x. IsSound self.old
-            → Gives self.old self.new (Rigid function variable) x) }
+            → AddsTermForType self.old self.new (Rigid function variable) x) }
     {
         let at = self.made(Symbol::Rigid(function, variable), Seq::new(alloc))?;
         Ok(at)
@@ -118,7 +121,7 @@ impl Nodes {
     /// A type by its name.
     pub fn named(&mut self, name: u32, arguments: Seq<usize>) -> Result<usize, AllocError>
         ensures { IfOk result (λ x. (ts : Types) → IsSound self.old
-            → DenoteAll self.old ts arguments → Gives self.old self.new (Named name ts) x) }
+            → DenoteAll self.old ts arguments → AddsTermForType self.old self.new (Named name ts) x) }
     {
         let at = self.made(Symbol::Named(name), arguments)?;
         Ok(at)
@@ -127,7 +130,7 @@ impl Nodes {
     /// The functions from one type to another one.
     pub fn arrow(&mut self, alloc: Global, from: usize, to: usize) -> Result<usize, AllocError>
         ensures { IfOk result (λ x. (t u : Typed) → IsSound self.old → Denotes self.old t from
-            → Denotes self.old u to → Gives self.old self.new (Arrow t u) x) }
+            → Denotes self.old u to → AddsTermForType self.old self.new (Arrow t u) x) }
     {
         let mut arguments = Seq::new(alloc);
         arguments.push(from)?;
@@ -137,8 +140,8 @@ impl Nodes {
     }
 
     /// The place of a key's variable.
-    fn find(&self, key: Key) -> Option<usize>
-        ensures found { result ≡ found_of self.now (key_of key) }
+    fn find(&self, key: TypeVariableKey) -> Option<usize>
+        ensures found { result ≡ index_of_key self.now (key_of key) }
         ensures range { IsInRange (key_of key) }
     {
         let number = key.number();
@@ -149,7 +152,7 @@ impl Nodes {
     }
 
     /// A key is found at a place from here on.
-    fn enter(&mut self, key: Key, at: usize) -> Result<(), AllocError>
+    fn enter(&mut self, key: TypeVariableKey, at: usize) -> Result<(), AllocError>
         ensures terms { IfOk result (λ _. self.new.terms.items ≡ self.old.terms.items) }
         ensures keys { IfOk result (λ _. self.new.keys.items ≡ self.old.keys.items) }
         ensures entered { IfOk result (λ _. (used : Bool) (number : ℕ)
@@ -166,9 +169,9 @@ impl Nodes {
     }
 
     /// The variable of a key.
-    pub fn variable(&mut self, key: Key) -> Result<usize, AllocError>
+    pub fn variable(&mut self, key: TypeVariableKey) -> Result<usize, AllocError>
         ensures { IfOk result (λ x. IsSound self.old
-            → Gives self.old self.new (Open (key_of key)) x) }
+            → AddsTermForType self.old self.new (Open (key_of key)) x) }
     {
         let found = self.find(key);
         if let Some(at) = found {

@@ -1,11 +1,11 @@
 //! The first of several places.
 
 ghost use Rattle.std.specs.Prelude.{◌≡◌};
-ghost use Rattle.core_types.specs.Found.{earlier_if, sooner};
+ghost use Rattle.core_types.specs.Found.{earlier_place_if, earlier_fault};
 
 /// A place, if something is broken at it, or an earlier one.
-pub fn earlier_if(is_broken: bool, first: Option<u32>, at: u32) -> Option<u32>
-    ensures { result ≡ earlier_if is_broken first at }
+pub fn earlier_place_if(is_broken: bool, first: Option<u32>, at: u32) -> Option<u32>
+    ensures { result ≡ earlier_place_if is_broken first at }
 {
     if !is_broken {
         return first;
@@ -23,8 +23,8 @@ pub fn earlier_if(is_broken: bool, first: Option<u32>, at: u32) -> Option<u32>
 }
 
 /// The first of what was found and of a rule with a larger number that is broken at a place.
-pub fn sooner(found: Option<(u8, u32)>, rule: u8, place: Option<u32>) -> Option<(u8, u32)>
-    ensures { result ≡ sooner found rule place }
+pub fn earlier_fault(found: Option<(u8, u32)>, rule: u8, place: Option<u32>) -> Option<(u8, u32)>
+    ensures { result ≡ earlier_fault found rule place }
 {
     match place {
         None => found,

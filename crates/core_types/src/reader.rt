@@ -6,10 +6,11 @@ ghost use Rattle.core_reader.specs.declared.token.Token.TheVariants as word;
 ghost use Rattle.core_reader.specs.declared.token.Further.TheVariants as further;
 ghost use Rattle.core_types.specs.Source.{NoTypes};
 ghost use Rattle.core_types.specs.SourceOf.{written};
-ghost use Rattle.core_types.specs.Reading.{Opened, Arguments, Behind, starts_type, ReadsType, ReadsTypes, ReadsInner, ReadsConstructor, ReadsConstructors, ReadsSigned, ReadsDecl, ReadsSource, type_decl, signature_decl, function_decl};
+ghost use Rattle.core_types.specs.Reading.{Opened, Arguments, Behind, starts_type, ReadsType, ReadsTypes, ReadsBracketedType, ReadsConstructor, ReadsConstructors, ReadsSignatureRest, ReadsDecl, ReadsSource, type_decl, signature_decl, function_decl};
 
 use crate::source::{Constructor, Signature, TypeDecl, Written};
 use core_reader::{Binder, Function, Further, NameId, Parser, ReadRefusal, Token};
+use limits::MOST_OPEN;
 use seq::Seq;
 
 /// The declarations of a program, each kind in text order.
@@ -19,9 +20,6 @@ pub struct Declarations {
     pub signatures: Vec<Signature>,
     pub functions: Vec<Function>,
 }
-
-/// The most brackets, lets and cases that are open at one place.
-const MOST_OPEN: u32 = 200;
 
 /// Whether a type of one piece begins with a token.
 fn starts_type(token: Token) -> bool
@@ -81,7 +79,7 @@ fn types(parser: &mut Parser) -> Result<Seq<Written>, ReadRefusal>
 /// What stands in brackets, and the `)`.
 #[cycle(types)]
 fn in_brackets(parser: &mut Parser) -> Result<Written, ReadRefusal>
-    ensures reads { ReadsInner Opened parser.old.depth parser.old.rest.now parser.new.rest.now
+    ensures reads { ReadsBracketedType Opened parser.old.depth parser.old.rest.now parser.new.rest.now
         result }
     ensures shorter { OnOk result (length parser.new.rest.now < length parser.old.rest.now) }
     ensures depth { OnOk result (parser.new.depth ≡ parser.old.depth) }
@@ -104,7 +102,7 @@ fn in_brackets(parser: &mut Parser) -> Result<Written, ReadRefusal>
 /// The arguments of a type in brackets, or what is behind an arrow, and the `)`.
 #[cycle(types)]
 fn applied(parser: &mut Parser, name: Binder) -> Result<Written, ReadRefusal>
-    ensures reads { ReadsInner (λ k. Arguments k name NoTypes) parser.old.depth
+    ensures reads { ReadsBracketedType (λ k. Arguments k name NoTypes) parser.old.depth
         parser.old.rest.now parser.new.rest.now result }
     ensures shorter { OnOk result (length parser.new.rest.now < length parser.old.rest.now) }
     ensures depth { OnOk result (parser.new.depth ≡ parser.old.depth) }
@@ -121,7 +119,7 @@ fn applied(parser: &mut Parser, name: Binder) -> Result<Written, ReadRefusal>
 /// What stands in brackets behind a type of one piece, and the `)`.
 #[cycle(types)]
 fn behind_first(parser: &mut Parser, first: Written) -> Result<Written, ReadRefusal>
-    ensures reads { ReadsInner (λ k. Behind k (written first)) parser.old.depth
+    ensures reads { ReadsBracketedType (λ k. Behind k (written first)) parser.old.depth
         parser.old.rest.now parser.new.rest.now result }
     ensures shorter { OnOk result (length parser.new.rest.now < length parser.old.rest.now) }
     ensures depth { OnOk result (parser.new.depth ≡ parser.old.depth) }
@@ -214,7 +212,7 @@ fn type_decl(parser: &mut Parser) -> Result<TypeDecl, ReadRefusal>
 /// The types of a signature behind the `:`, and the `;`.
 fn signed(parser: &mut Parser, function: Binder) -> Result<Signature, ReadRefusal>
     requires { parser.old.depth ≡ 0 }
-    ensures reads { ReadsSigned function parser.old.rest.now parser.new.rest.now result }
+    ensures reads { ReadsSignatureRest function parser.old.rest.now parser.new.rest.now result }
     ensures shorter { OnOk result (length parser.new.rest.now < length parser.old.rest.now) }
     ensures depth { OnOk result (parser.new.depth ≡ 0) }
 {

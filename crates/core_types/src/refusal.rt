@@ -8,6 +8,7 @@ ghost use Rattle.core_types.specs.Refused.{rule, number, unread_rule, unread_pla
 use crate::sides::Ty;
 use arity_check::refusal::CheckRefusal;
 use core_reader::ReadRefusal;
+use limits::MOST_BYTES;
 use std::alloc::AllocError;
 use thiserror::Error;
 
@@ -94,7 +95,7 @@ fn unread_place(refusal: &ReadRefusal) -> u32
         | ReadRefusal::Syntax(at)
         | ReadRefusal::NumberRange(at)
         | ReadRefusal::TooDeep(at) => *at,
-        ReadRefusal::TextTooLong => 1048576,
+        ReadRefusal::TextTooLong => MOST_BYTES,
         ReadRefusal::Memory(_) => 0,
     }
 }

@@ -7,14 +7,14 @@ ghost use Rattle.arity_check.specs.Tables.{known};
 ghost use Rattle.arity_check.specs.Whole.{known_of};
 ghost use Rattle.core_types.specs.Source.{erased};
 ghost use Rattle.core_types.specs.SourceOf.{source_of};
-ghost use Rattle.core_types.specs.Refused.{IsJudged};
-ghost use Rattle.core_types.specs.Found.{declared_first, declared_fault};
+ghost use Rattle.core_types.specs.Refused.{IsVerdict};
+ghost use Rattle.core_types.specs.Found.{first_declaration_fault, declared_fault};
 
-use crate::declared::{signatures_again, types_again, unknown_types};
-use crate::exhaustive::partial_cases;
+use crate::declared::{first_bad_signature, first_duplicate_type, first_unknown_type};
+use crate::exhaustive::first_partial_case;
 use crate::lists::list_type;
 use crate::mismatch::mismatch;
-use crate::places::sooner;
+use crate::places::earlier_fault;
 use crate::refusal::TypeFault;
 use crate::source::Source;
 use arity_check::globals::Globals;
@@ -28,15 +28,19 @@ fn declared(
     globals: &Globals,
     source: &Source,
 ) -> Result<Option<(u8, u32)>, AllocError>
-    ensures { IfOk result (λ found. found ≡ declared_first (known globals.now)
+    ensures { IfOk result (λ found. found ≡ first_declaration_fault (known globals.now)
         (source_of source.now).types (source_of source.now).signatures) }
 {
     let types = source.types.as_slice();
     let signatures = source.signatures.as_slice();
-    let duplicate = types_again(alloc, globals, types)?;
-    let unknown = unknown_types(alloc, globals, types, signatures)?;
-    let signed = signatures_again(alloc, globals, signatures)?;
-    Ok(sooner(sooner(sooner(None, 81, duplicate), 82, unknown), 85, signed))
+    let duplicate = first_duplicate_type(alloc, globals, types)?;
+    let unknown = first_unknown_type(alloc, globals, types, signatures)?;
+    let signed = first_bad_signature(alloc, globals, signatures)?;
+    Ok(earlier_fault(
+        earlier_fault(earlier_fault(None, 81, duplicate), 82, unknown),
+        85,
+        signed,
+    ))
 }
 
 /// The refusal by one of these rules.
@@ -53,7 +57,7 @@ fn fault(rule: u8, at: u32) -> TypeFault
 }
 
 /// The first rule that a program breaks.
-pub fn first_broken(
+pub fn first_broken_rule(
     alloc: Global,
     globals: &Globals,
     source: &Source,
@@ -61,7 +65,7 @@ pub fn first_broken(
     requires tables { known globals.now ≡ known_of (erased (source_of source.now)) }
     requires erased { program_of source.now.core ≡ erased (source_of source.now) }
     requires readable { IsReadable (erased (source_of source.now)) }
-    ensures { IfOk result (IsJudged (source_of source.now)) }
+    ensures { IfOk result (IsVerdict (source_of source.now)) }
 {
     let refusal = first_refusal(alloc, Order::Check, &source.core, globals)?;
     if let Some(refusal) = refusal {
@@ -79,7 +83,7 @@ pub fn first_broken(
     if let Some(at) = mismatch {
         return Ok(Some(TypeFault::Mismatch(at)));
     }
-    let partial = partial_cases(alloc, types, source.core.functions.as_slice())?;
+    let partial = first_partial_case(alloc, types, source.core.functions.as_slice())?;
     match partial {
         Some(at) => Ok(Some(TypeFault::NotExhaustive(at))),
         None => Ok(None),

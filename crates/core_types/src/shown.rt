@@ -3,7 +3,7 @@
 ghost use Rattle.std.specs.Prelude.{◌≡◌, ◌++◌, map, slice_get, OnOk, IfOk};
 ghost use Rattle.std.specs.List.{position_or_len};
 ghost use Rattle.seq.specs.Lists.{or_empty};
-ghost use Rattle.core_types.specs.Shown.{with_mark, with_marks, marks, marks_all, is_same, is_arrow, is_compound, text_if, variable_text, type_text, args_text, shown_sides};
+ghost use Rattle.core_types.specs.Shown.{with_mark, with_marks, marks, marks_all, same_mark, is_arrow, is_compound, text_if, variable_text, type_text, args_text, shown_sides};
 ghost use Rattle.core_types.specs.Sides.{type_of, types_from};
 
 use crate::sides::Ty;
@@ -15,24 +15,24 @@ use std::alloc::{AllocError, Global};
 use std::marker::Model;
 
 /// A variable, as three numbers that no other one has.
-type Mark = (usize, usize, usize);
+type VariableMark = (usize, usize, usize);
 
 /// The variable of this number in a solution.
-fn solution_mark(number: usize) -> Mark
+fn solution_mark(number: usize) -> VariableMark
     ensures { result ≡ (4, number, 0) }
 {
     (4, number, 0)
 }
 
 /// A variable of the signature of a function.
-fn signature_mark(function: NameId, variable: NameId) -> Mark
+fn signature_mark(function: NameId, variable: NameId) -> VariableMark
     ensures { result ≡ (5, function.0, variable.0) }
 {
     (5, function.0 as usize, variable.0 as usize)
 }
 
 /// Puts a variable at the end where it is new.
-fn enter_mark(seen: &mut IndexSet<Mark>, mark: Mark) -> Result<(), AllocError>
+fn enter_mark(seen: &mut IndexSet<VariableMark>, mark: VariableMark) -> Result<(), AllocError>
     ensures { OnOk result (seen.new.keys ≡ with_mark seen.old.keys mark) }
 {
     seen.insert(mark)?;
@@ -42,7 +42,7 @@ fn enter_mark(seen: &mut IndexSet<Mark>, mark: Mark) -> Result<(), AllocError>
 /// Puts the new variables of a type at the end, in the order in which they appear.
 #[tactic(auto, using(crate::proofs::Sided::types, crate::proofs::Showing::more_marks))]
 #[cycle(enter)]
-fn enter(seen: &mut IndexSet<Mark>, ty: &Ty) -> Result<(), AllocError>
+fn enter(seen: &mut IndexSet<VariableMark>, ty: &Ty) -> Result<(), AllocError>
     ensures { OnOk result (seen.new.keys ≡ with_marks seen.old.keys (marks (type_of ty.now))) }
 {
     match ty {
@@ -59,7 +59,7 @@ fn enter(seen: &mut IndexSet<Mark>, ty: &Ty) -> Result<(), AllocError>
 
 #[tactic(auto, using(crate::proofs::Sided::types, crate::proofs::Showing::more_marks))]
 #[cycle(enter)]
-fn enter_all(seen: &mut IndexSet<Mark>, tys: &[Ty]) -> Result<(), AllocError>
+fn enter_all(seen: &mut IndexSet<VariableMark>, tys: &[Ty]) -> Result<(), AllocError>
     ensures { OnOk result (seen.new.keys
         ≡ with_marks seen.old.keys (marks_all (types_from (map type_of tys.now)))) }
 {
@@ -70,8 +70,8 @@ fn enter_all(seen: &mut IndexSet<Mark>, tys: &[Ty]) -> Result<(), AllocError>
 }
 
 /// The place of a variable among those that were seen, or their number where it was not.
-fn place(seen: &IndexSet<Mark>, mark: Mark) -> usize
-    ensures { result ≡ position_or_len (is_same mark) seen.now.keys }
+fn place(seen: &IndexSet<VariableMark>, mark: VariableMark) -> usize
+    ensures { result ≡ position_or_len (same_mark mark) seen.now.keys }
 {
     match seen.get_index_of(&mark) {
         Some(place) => place,
@@ -141,7 +141,11 @@ impl Text {
     }
 
     /// A variable, by its place among those that were seen.
-    fn variable(&mut self, seen: &IndexSet<Mark>, mark: Mark) -> Result<(), AllocError>
+    fn variable(
+        &mut self,
+        seen: &IndexSet<VariableMark>,
+        mark: VariableMark,
+    ) -> Result<(), AllocError>
         ensures { OnOk result (self.new ≡ self.old ++ variable_text seen.now.keys mark) }
     {
         self.put(b"v")?;
@@ -151,7 +155,12 @@ impl Text {
 
     #[tactic(auto, using(crate::proofs::Sided::types))]
     #[cycle(show)]
-    fn ty(&mut self, names: &[Seq<u8>], seen: &IndexSet<Mark>, ty: &Ty) -> Result<(), AllocError>
+    fn ty(
+        &mut self,
+        names: &[Seq<u8>],
+        seen: &IndexSet<VariableMark>,
+        ty: &Ty,
+    ) -> Result<(), AllocError>
         ensures { OnOk result (self.new
             ≡ self.old ++ type_text names.now seen.now.keys (type_of ty.now)) }
     {
@@ -182,7 +191,7 @@ impl Text {
     fn args(
         &mut self,
         names: &[Seq<u8>],
-        seen: &IndexSet<Mark>,
+        seen: &IndexSet<VariableMark>,
         args: &[Ty],
     ) -> Result<(), AllocError>
         ensures { OnOk result (self.new ≡ self.old

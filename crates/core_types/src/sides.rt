@@ -2,7 +2,7 @@
 
 ghost use Rattle.std.specs.Prelude.{◌≡◌, ◌∷◌, [], ◌<◌, ℕ, List, Some, IfOk, map, length, slice_get, take};
 ghost use Rattle.unification.specs.Pieces.{pieces};
-ghost use Rattle.unification.specs.Shown.{AreClasses, Shows};
+ghost use Rattle.unification.specs.Shown.{AreClasses, ShowsTrees};
 ghost use Rattle.unification.specs.Terms.{AreEarlier};
 ghost use Rattle.unification.specs.Trees.{Tree, Made};
 ghost use Rattle.core_types.specs.Typing.{Typed, Arrow, Constraint};
@@ -10,11 +10,11 @@ ghost use Rattle.core_types.specs.Nodes.{IsSound};
 ghost use Rattle.core_types.specs.Building.{Stands};
 ghost use Rattle.core_types.specs.Sides.{type_of, typed_of, trees_from, read_piece, AreSides};
 
-use crate::building::Builder;
+use crate::building::ConstraintBuilder;
 use core_reader::NameId;
 use seq::Seq;
 use std::alloc::{AllocError, Global};
-use unification::{Classes, Piece, Symbol, Term, pieces_of, solve};
+use unification::{Classes, Piece, Symbol, Term, solve, tree_pieces};
 
 /// The most pieces of a side.
 const MOST_PIECES: usize = 1000000;
@@ -144,10 +144,10 @@ fn side(alloc: Global, terms: &[Term], classes: &Classes, at: usize) -> Result<T
     requires earlier { AreEarlier terms.now }
     requires classes { AreClasses (length terms.now) classes.now }
     requires within { at < length terms.now }
-    ensures { IfOk result (λ ty. (v : ℕ → Tree) → Shows terms.now classes.now v
+    ensures { IfOk result (λ ty. (v : ℕ → Tree) → ShowsTrees terms.now classes.now v
         → type_of ty ≡ typed_of (v at)) }
 {
-    let row = pieces_of(alloc, terms, classes, at, MOST_PIECES)?;
+    let row = tree_pieces(alloc, terms, classes, at, MOST_PIECES)?;
     let Some(row) = row else {
         return Err(AllocError);
     };
@@ -159,7 +159,7 @@ fn side(alloc: Global, terms: &[Term], classes: &Classes, at: usize) -> Result<T
 }
 
 /// The terms of the constraint of this number.
-fn pair_at(builder: &Builder, number: usize) -> Option<(usize, usize)>
+fn pair_at(builder: &ConstraintBuilder, number: usize) -> Option<(usize, usize)>
     ensures { result ≡ slice_get builder.now.pairs.items number }
 {
     builder.pairs.as_slice().get(number).copied()
@@ -167,7 +167,11 @@ fn pair_at(builder: &Builder, number: usize) -> Option<(usize, usize)>
 
 /// The sides of the constraint of this number, as the most general solution of those before it
 /// leaves them. Where there is none, that counts as want of memory.
-pub fn sides(alloc: Global, builder: &Builder, number: usize) -> Result<(Ty, Ty), AllocError>
+pub fn sides(
+    alloc: Global,
+    builder: &ConstraintBuilder,
+    number: usize,
+) -> Result<(Ty, Ty), AllocError>
     requires sound { IsSound builder.now.nodes }
     requires stands { (cs : List Constraint) × Stands builder.now cs }
     ensures { IfOk result (λ tys. (cs : List Constraint) (c : Constraint) → Stands builder.now cs

@@ -5,27 +5,25 @@ ghost use Rattle.core_reader.specs.Tree.{program as program_of};
 ghost use Rattle.core_reader.specs.Readable.{IsReadable};
 ghost use Rattle.core_types.specs.Source.{erased};
 ghost use Rattle.core_types.specs.SourceOf.{source_of};
-ghost use Rattle.core_types.specs.Text.{IsText, IsRead, IsReadCause};
+ghost use Rattle.core_types.specs.Text.{IsSourceText, BreaksNoReadingRule, IsReadCause};
 
 use crate::reader::program;
 use crate::source::{Source, constructors};
 use core_reader::{Core, Dialect, Parser, ReadRefusal, copied_names, lex};
+use limits::MOST_BYTES;
 use seq::Seq;
 use std::alloc::Global;
-
-/// The most bytes of a text.
-const MOST_BYTES: usize = 1048576;
 
 /// The program with types that a text stands for, or the first of the rules 1 to 5 that it breaks.
 /// Want of memory may come in place of each answer.
 pub fn read_source(alloc: Global, text: &[u8]) -> Result<Source, ReadRefusal>
-    ensures found { IfOk result (λ s. IsText text.now (source_of s)) }
-    ensures unbroken { OnOk result (IsRead text.now) }
+    ensures found { IfOk result (λ s. IsSourceText text.now (source_of s)) }
+    ensures unbroken { OnOk result (BreaksNoReadingRule text.now) }
     ensures core { IfOk result (λ s. program_of s.core ≡ erased (source_of s)) }
     ensures readable { IfOk result (λ s. IsReadable (erased (source_of s))) }
     ensures refused { IfErr result (IsReadCause text.now) }
 {
-    if text.len() > MOST_BYTES {
+    if text.len() > MOST_BYTES as usize {
         return Err(ReadRefusal::TextTooLong);
     }
     let lexed = lex(alloc, Dialect::Types, text)?;

@@ -2,7 +2,7 @@
 use Rattle.std.proofs.Common.{◌≡◌, ℕ, zero, suc, ◌≤◌, List, [], ◌∷◌, ◌++◌, length, Bool, true, false, cond, Some, slice_get, slice_set, refl, sym, ap, ◌∙◌, arith}
 use Rattle.grin_meaning.specs.Values.{Datum, Node, HeapCell}
 use Rattle.seq.proofs.Lists.{some_is, none_is_some}
-use Rattle.dead_store.specs.Kept.{rank, stays_at, node_with, kept_with}
+use Rattle.dead_store.specs.Kept.{rank, stays_at, map_node_fields, kept_with}
 
 -- the sites of the first heap are the first ones of the second
 abbrev pub Begins : List HeapCell → List HeapCell → Type 0
@@ -36,7 +36,7 @@ SameSites h h' = Begins h h' × Begins h' h
 module _ (stays : ℕ → Bool) where
   module _ (f : Datum → Datum) where
     abbrev pub cell_to : HeapCell → HeapCell
-    cell_to c = record { site = c.site; node = node_with f c.node }
+    cell_to c = record { site = c.site; node = map_node_fields f c.node }
 
     pub kept_append : (h hs : List HeapCell) → kept_with stays f (h ++ hs) ≡ kept_with stays f h ++ kept_with stays f hs
     kept_append [] hs = refl
@@ -82,17 +82,17 @@ module _ (stays : ℕ → Bool) where
         go false r = r
 
     pub kept_set : (h F : List HeapCell) (i : ℕ) (y : HeapCell) (n : Node) → Begins h F → slice_get h i ≡ Some y → stays y.site ≡ true
-        → kept_with stays f (slice_set h i (record { site = y.site; node = n })) ≡ slice_set (kept_with stays f h) (rank stays F i) (record { site = y.site; node = node_with f n })
+        → kept_with stays f (slice_set h i (record { site = y.site; node = n })) ≡ slice_set (kept_with stays f h) (rank stays F i) (record { site = y.site; node = map_node_fields f n })
     kept_set [] F i y n b e s = none_is_some e
     kept_set (c ∷ h) [] i y n b e s = absurd b
     kept_set (c ∷ h) (d ∷ F) zero y n b e s =
-        kept_one (record { site = y.site; node = n }) h s ∙ sym (ap (λ l. slice_set l 0 (record { site = y.site; node = node_with f n })) (kept_one c h (ap (λ z. stays z.site) (some_is e) ∙ s)))
+        kept_one (record { site = y.site; node = n }) h s ∙ sym (ap (λ l. slice_set l 0 (record { site = y.site; node = map_node_fields f n })) (kept_one c h (ap (λ z. stays z.site) (some_is e) ∙ s)))
     kept_set (c ∷ h) (d ∷ F) (suc i) y n b e s =
-        go (stays c.site) (kept_set h F i y n b.1 e s) ∙ ap (λ t. slice_set (kept_with stays f (c ∷ h)) (cond (stays t) (suc (rank stays F i)) (rank stays F i)) (record { site = y.site; node = node_with f n })) (sym b.0)
+        go (stays c.site) (kept_set h F i y n b.1 e s) ∙ ap (λ t. slice_set (kept_with stays f (c ∷ h)) (cond (stays t) (suc (rank stays F i)) (rank stays F i)) (record { site = y.site; node = map_node_fields f n })) (sym b.0)
       where
-        go : (t : Bool) → kept_with stays f (slice_set h i (record { site = y.site; node = n })) ≡ slice_set (kept_with stays f h) (rank stays F i) (record { site = y.site; node = node_with f n })
+        go : (t : Bool) → kept_with stays f (slice_set h i (record { site = y.site; node = n })) ≡ slice_set (kept_with stays f h) (rank stays F i) (record { site = y.site; node = map_node_fields f n })
             → cond t (cell_to c ∷ kept_with stays f (slice_set h i (record { site = y.site; node = n }))) (kept_with stays f (slice_set h i (record { site = y.site; node = n })))
-            ≡ slice_set (cond t (cell_to c ∷ kept_with stays f h) (kept_with stays f h)) (cond t (suc (rank stays F i)) (rank stays F i)) (record { site = y.site; node = node_with f n })
+            ≡ slice_set (cond t (cell_to c ∷ kept_with stays f h) (kept_with stays f h)) (cond t (suc (rank stays F i)) (rank stays F i)) (record { site = y.site; node = map_node_fields f n })
         go true r = ap (λ l. cell_to c ∷ l) r
         go false r = r
 

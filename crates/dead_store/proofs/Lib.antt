@@ -7,10 +7,10 @@ pub mod OneStores
 pub mod Fine
 pub mod Likeness
 pub mod Unique
-pub mod Same
-pub mod Shape
-pub mod Well
-pub mod PassContract
+pub mod Simulated
+pub mod Gives
+pub mod Formed
+pub mod Contract
 pub mod Collected
 pub mod Numbers
 pub mod Rewriting

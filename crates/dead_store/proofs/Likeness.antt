@@ -16,7 +16,7 @@ use Rattle.grin_syntax.specs.Tree.{Code, end, store, bind, Act, unit, fetch, fet
 use Rattle.grin_syntax.specs.Binders.{target_vars, shape_vars}
 use Rattle.grin_syntax.specs.Formed.{AllOf}
 use Rattle.grin_meaning.specs.Values.{Datum, number, tag, cell, Node, Value, node, words, bindings_of, Env, HeapCell, World, gives, need, and_then, Binding, with_vars, fits, fits_not, number_fit, node_fit, int_fit, fit_of, word_of, as_node}
-use Rattle.grin_meaning.specs.Run.{Calls, act_by, places, cells_of, place_of, number_of, on_numbers, node_word}
+use Rattle.grin_meaning.specs.Run.{Calls, act_by, places, cells_of, place_of, number_of, apply_arithmetic, node_word}
 use Rattle.grin_meaning.specs.Checks.{all_fill, has_block, is_fetch}
 use Rattle.grin_meaning.specs.Follows.{Same, same}
 use Rattle.grin_meaning.specs.Ready.{NoNodeVar}
@@ -28,17 +28,17 @@ use Rattle.grin_meaning.proofs.Procedures.{side_by_side}
 use Rattle.flow_system.specs.declared.fact.Element.TheVariants.{Cell as cell_of}
 use Rattle.flow_system.specs.Tables.{tables}
 use Rattle.flow_system.specs.Solution.{Solution, StandsFor}
-use Rattle.flow_system.specs.Covers.{site_at, Lies}
+use Rattle.flow_system.specs.Covers.{site_at, StateIsCovered}
 use Rattle.flow_system.proofs.Lying.{from_some, place_lies}
 use Rattle.flow_system.proofs.Covered.{site_is}
 use Rattle.pass_ground.proofs.Bound.{names_of, bound_names}
 use Rattle.std.proofs.lemmas.List.{append-nil}
 use Rattle.seq.proofs.Lists.{some_is, none_is_some}
 use Rattle.seq.proofs.Truth.{false_not_true}
-use Rattle.dead_store.proofs.Shape.{either}
+use Rattle.dead_store.proofs.Gives.{either}
 use Rattle.dead_store.specs.Kept.{rank, stays_at, kept_with}
 use Rattle.dead_store.specs.Reads.{is_one_of}
-use Rattle.dead_store.specs.Without.{without_word, without_val, updates_gone, leaves, kept_cells, store_any, without_act, without_code, without_arms}
+use Rattle.dead_store.specs.Without.{without_word, without_val, updates_gone, leaves, kept_cells, store_if_any, without_act, without_code, without_arms}
 use Rattle.dead_store.proofs.Renaming.{f, node_to, value_to, bindings_to, word_renamed, bindings_renamed, fit_renamed, number_renamed, bound_renamed}
 use Rattle.dead_store.proofs.Heaps.{Begins, cell_to, kept_append, kept_fewer, kept_get, kept_set, left_set, rank_length, stays_get}
 use Rattle.dead_store.proofs.Related.{Related, related_bind, GlobalsStay, word_too, words_too, value_too, node_too, fills_too, node_fills, cells_too, all_fill_too, VarFine, made_sites, places_related}
@@ -136,7 +136,7 @@ module _ (g : Program) (A : Solution) (stays gone : ℕ → Bool) (F : List Heap
 
   -- looking runs, in states that lie in the solution and whose heaps begin the one at the end
   abbrev pub plan : Plan
-  plan = record { looks = true; K = compared; P = λ s. Lies g A s × Begins s.heap F; Args = λ p xs xs'. Same (map (f stays F) xs) xs'; Result = λ p. V; g = g; procs = procs }
+  plan = record { looks = true; K = compared; P = λ s. StateIsCovered g A s × Begins s.heap F; Args = λ p xs xs'. Same (map (f stays F) xs) xs'; Result = λ p. V; g = g; procs = procs }
 
   abbrev after : Program
   after = record g { procs = procs }
@@ -236,7 +236,7 @@ module _ (g : Program) (A : Solution) (stays gone : ℕ → Bool) (F : List Heap
     call_like : (p : ProcId) (ws : List Word) → ActLike (call p ws) (call p (map (without_word gone) ws))
     call_like p ws = call_follows it p ws (map (without_word gone) ws) (λ x xs e. (map (f stays F) xs, words_too stays gone F g procs globals x.env x.env' x.related.0 ws xs e, same))
 
-    numbers_like : (p : PrimOp) (y z : Datum) (w : World) (b : Beside compared w) → Sim plan.P compared V (need (on_numbers p y z) w (λ v. gives v w)) (need (on_numbers p (f stays F y) (f stays F z)) (beside b) (λ v. gives v (beside b)))
+    numbers_like : (p : PrimOp) (y z : Datum) (w : World) (b : Beside compared w) → Sim plan.P compared V (need (apply_arithmetic p y z) w (λ v. gives v w)) (need (apply_arithmetic p (f stays F y) (f stays F z)) (beside b) (λ v. gives v (beside b)))
     numbers_like p (number i) (number j) w b = λ _. gives_too b same
     numbers_like p (number i) (tag t) w b = λ _. free
     numbers_like p (number i) (cell a) w b = λ _. free
@@ -301,10 +301,10 @@ module _ (g : Program) (A : Solution) (stays gone : ℕ → Bool) (F : List Heap
     group_kept : (x : Here plan R) (hs : List HeapCell) → x.b.cells ++ kept_of hs ≡ kept_of (x.w.cells ++ hs)
     group_kept x hs = ap (λ l. l ++ kept_of hs) x.b.heaps ∙ sym (kept_append stays (f stays F) x.w.cells hs)
 
-    store_like : (cs : List Cell) (b b' : Code) → AllOf (CellFine A g stays gone stored) cs → CodeLike b b' → CodeLike (store cs b) (store_any (kept_cells stays gone cs) b')
+    store_like : (cs : List Cell) (b b' : Code) → AllOf (CellFine A g stays gone stored) cs → CodeLike b b' → CodeLike (store cs b) (store_if_any (kept_cells stays gone cs) b')
     store_like cs b b' ok k = go (kept_cells stays gone cs) refl
       where
-        go : (ks : List Cell) → kept_cells stays gone cs ≡ ks → CodeLike (store cs b) (store_any ks b')
+        go : (ks : List Cell) → kept_cells stays gone cs ≡ ks → CodeLike (store cs b) (store_if_any ks b')
         go [] q = store_left it {R = R} {R' = R} {V = V} cs b b' k (λ x y.
             let none : kept_of y.hs ≡ [] = some_is (sym (group_there cs ok x y) ∙ ap (λ l. cells_of after (with_vars (places (length x.b.cells) l) x.env') l) q) in
             record {

@@ -13,12 +13,12 @@ use Rattle.seq.proofs.Member.{none_in, cons_in}
 use Rattle.seq.proofs.Order.{eq_self, eq_from}
 use Rattle.seq.proofs.Truth.{or_true, or_cases, false_not_true}
 use Rattle.flow_system.proofs.Numbered.{nat_equal}
-use Rattle.dead_store.specs.Holding.{holds}
+use Rattle.dead_store.specs.Holding.{set_holds}
 
 at_is : (n k : ℕ) → is_at (nat_cmp n) k ≡ nat_eq n k
 at_is n k = grind (arith, nat_tests)
 
-pub holds_among : (ks : List ℕ) (n : ℕ) → holds ks n ≡ is_among n ks
+pub holds_among : (ks : List ℕ) (n : ℕ) → set_holds ks n ≡ is_among n ks
 holds_among [] n = refl
 holds_among (k ∷ ks) n = λ i. at_is n k i || holds_among ks n i
 
@@ -33,10 +33,10 @@ in_among n (k ∷ ks) h = ⊎_elim
     (λ t. ap (λ b. nat_eq n k || b) (in_among n ks t) ∙ or_true (nat_eq n k))
     (cons_in k ks h)
 
-pub holds_in : (n : ℕ) (ks : List ℕ) → holds ks n ≡ true → In n ks
+pub holds_in : (n : ℕ) (ks : List ℕ) → set_holds ks n ≡ true → In n ks
 holds_in n ks e = among_in n ks (sym (holds_among ks n) ∙ e)
 
-pub in_holds : (n : ℕ) (ks : List ℕ) → In n ks → holds ks n ≡ true
+pub in_holds : (n : ℕ) (ks : List ℕ) → In n ks → set_holds ks n ≡ true
 in_holds n ks h = holds_among ks n ∙ in_among n ks h
 
 among_insert : (ks : List ℕ) (k n : ℕ) → is_among n (insert_key nat_cmp ks k) ≡ (nat_eq n k || is_among n ks)
@@ -60,10 +60,10 @@ among_insert (x ∷ ks) k n = go (nat_cmp k x) refl (among_insert ks k n)
 
 -- a set has these numbers
 pub record HasThose (keys ns : List ℕ) : Type 0 where
-  pub by : (n : ℕ) → holds keys n ≡ is_among n ns
+  pub by : (n : ℕ) → set_holds keys n ≡ is_among n ns
 
 pub has_none : (keys : List ℕ) → keys ≡ [] → HasThose keys []
-has_none keys e = record { by = λ n. ap (λ ks. holds ks n) e }
+has_none keys e = record { by = λ n. ap (λ ks. set_holds ks n) e }
 
 pub one_more : (old new ns : List ℕ) (i d : ℕ) → i < length ns → new ≡ insert_key nat_cmp old (get_or ns i d) → HasThose old (take i ns) → HasThose new (take (i + 1) ns)
 one_more old new ns i d lt e h = record {
@@ -77,5 +77,5 @@ one_more old new ns i d lt e h = record {
     turn false true = refl
     turn false false = refl
 
-pub has_all : (keys ns : List ℕ) (i : ℕ) → length ns ≤ i → HasThose keys (take i ns) → (n : ℕ) → holds keys n ≡ is_among n ns
+pub has_all : (keys ns : List ℕ) (i : ℕ) → length ns ≤ i → HasThose keys (take i ns) → (n : ℕ) → set_holds keys n ≡ is_among n ns
 has_all keys ns i le h n = h.by n ∙ ap (is_among n) (take_all i ns le)

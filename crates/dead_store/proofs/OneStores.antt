@@ -8,7 +8,7 @@ use Rattle.grin_syntax.specs.declared.program.Val.TheVariants.{Vector}
 use Rattle.grin_syntax.specs.declared.program.Word.{Word}
 use Rattle.grin_syntax.specs.Tree.{Code, store, bind, Act, unit, update}
 use Rattle.grin_meaning.specs.Values.{Node, Value, words, Env, HeapCell, World, missing, Answer, gives, with_vars, Binding, node_of, bindings_of}
-use Rattle.grin_meaning.specs.Run.{act_by, code_by, looking, passing, places, cells_of, with_cells}
+use Rattle.grin_meaning.specs.Run.{act_by, code_by, require_if_checked, with_state_seen, places, cells_of, with_cells}
 use Rattle.grin_meaning.specs.Checks.{fills, all_fill, is_bound_well}
 use Rattle.grin_meaning.specs.Keeps.{ended, end_of, world_of}
 use Rattle.grin_meaning.proofs.Back.{code_by_back, every_last}
@@ -23,7 +23,7 @@ likewise_heaps K V a a' (stops_too b) n = b.heaps
 module _ (s : Setting) where
   open s use {plan, c, c', back as cb, follow as cf, plan.{looks, K, P, Args, Result, g, procs}}
 
-  looking_first : (V : Value → Value → Type 0) (looks b : Bool) (w : World) (a a' : Answer) → (Seen looks b → Sim P K V a a') → Sim P K V (looking looks b w a) a'
+  looking_first : (V : Value → Value → Type 0) (looks b : Bool) (w : World) (a a' : Answer) → (Seen looks b → Sim P K V a a') → Sim P K V (require_if_checked looks b w a) a'
   looking_first V false b w a a' f = f (λ l. false_not_true l)
   looking_first V true true w a a' f = f (λ l. refl)
   looking_first V true false w a a' f = λ _. free
@@ -38,15 +38,15 @@ module _ (s : Setting) where
   store_left {R} {R'} {V} cs b b' k stores = record {
     by = λ x.
         let env : Env = with_vars (places (length x.w.cells) cs) x.env in
-        need_first P K V (cells_of g env cs) x.w _ _ (λ hs e. looking_first V looks (all_fill g env cs) x.w (code_by g c looks env x.d b (passing env (with_cells hs x.w))) _ (λ seen all.
-        let at : P (record { env = env; heap = x.w.cells ++ hs }) = every_last P x.w.seen _ (code_by_back P g c cb looks env x.d b (passing env (with_cells hs x.w)) all) in
+        need_first P K V (cells_of g env cs) x.w _ _ (λ hs e. looking_first V looks (all_fill g env cs) x.w (code_by g c looks env x.d b (with_state_seen env (with_cells hs x.w))) _ (λ seen all.
+        let at : P (record { env = env; heap = x.w.cells ++ hs }) = every_last P x.w.seen _ (code_by_back P g c cb looks env x.d b (with_state_seen env (with_cells hs x.w)) all) in
         let y : StoredAlone R R' cs x hs = stores x (record { hs = hs; cells = e; seen = seen; next = at }) in
         k.by (record {
           env = env;
           env' = x.env';
           d = x.d;
           d' = x.d';
-          w = passing env (with_cells hs x.w);
+          w = with_state_seen env (with_cells hs x.w);
           b = record { cells = x.b.cells; seen = x.b.seen; depth = x.b.depth; heaps = y.heaps; deep = x.b.deep };
           related = y.related;
           known = at;
@@ -74,7 +74,7 @@ module _ (s : Setting) where
   unfolding act_by
   unit_left {R} {V} o f = record { by = λ x. subst (Sim P K V (act_by g c looks x.env x.d o x.w)) (given x.env' (beside x.b) looks) (f.by x) }
     where
-      given : (env : Env) (w : World) (b : Bool) → gives (words []) w ≡ looking b (fills (h s) env (Vector [])) w (gives (words []) w)
+      given : (env : Env) (w : World) (b : Bool) → gives (words []) w ≡ require_if_checked b (fills (h s) env (Vector [])) w (gives (words []) w)
       given env w true = refl
       given env w false = refl
 
@@ -92,10 +92,10 @@ module _ (s : Setting) where
           env' = x.env';
           d = x.d;
           d' = x.d';
-          w = passing env w;
+          w = with_state_seen env w;
           b = record { cells = n.cells; seen = n.seen; depth = n.depth; heaps = n.heaps; deep = n.deep };
           related = binds x w.cells v bs e;
-          known = every_last P w.seen _ (code_by_back P g c cb looks env x.d b (passing env w) all);
+          known = every_last P w.seen _ (code_by_back P g c cb looks env x.d b (with_state_seen env w) all);
           nest = x.nest;
         }) all)));
   }

@@ -9,12 +9,12 @@ use Rattle.grin_syntax.specs.declared.program.Target.{Target}
 use Rattle.grin_syntax.specs.declared.program.Target.TheVariants.{Nothing, Node as NodeTarget, One as OneTarget, Vector as VectorTarget}
 use Rattle.grin_syntax.specs.Tree.{Act, Program}
 use Rattle.numbers.specs.Numbers.{same_number}
-use Rattle.grin_meaning.specs.Values.{Datum, number, tag, cell, Node, Value, node, words, HeapCell, and_then, Binding, one_each, padded, Fit, fits, fits_not, unclear, fits_if, fields_fit, node_fit, number_fit, int_fit, fit_of, fields_of, made_node, as_node, bindings_of}
+use Rattle.grin_meaning.specs.Values.{Datum, number, tag, cell, Node, Value, node, words, HeapCell, and_then, Binding, one_each, padded, MatchOutcome, fits, fits_not, unclear, fits_if, fields_fit, node_fit, number_fit, int_fit, fit_of, fields_of, made_node, as_node, bindings_of}
 use Rattle.grin_meaning.specs.Run.{nth_or_zero, node_word, number_of}
 use Rattle.grin_meaning.specs.Checks.{is_none_or, is_zero, all_zero, number_then_zeros, plain_number, has_block, is_fetch, is_node_target, is_delayed, not_delayed, is_given, is_filled, is_bound_well}
 use Rattle.seq.proofs.Truth.{and_left, and_right, and_from}
 use Rattle.seq.proofs.Lists.{some_is, none_is_some}
-use Rattle.dead_store.specs.Kept.{rank, stays_at, renamed, node_with}
+use Rattle.dead_store.specs.Kept.{rank, stays_at, renamed, map_node_fields}
 
 drop_map : {X Y : Type 0} (f : X → Y) (k : ℕ) (xs : List X) → drop k (map f xs) ≡ map f (drop k xs)
 drop_map f zero xs = refl
@@ -26,7 +26,7 @@ module _ (stays : ℕ → Bool) (F : List HeapCell) where
   f = renamed stays F
 
   abbrev pub node_to : Node → Node
-  node_to = node_with f
+  node_to = map_node_fields f
 
   abbrev pub value_to : Value → Value
   value_to (node n) = node (node_to n)
@@ -123,12 +123,12 @@ module _ (stays : ℕ → Bool) (F : List HeapCell) where
   -- ---- patterns
 
   -- it is clear whether a pattern fits
-  abbrev pub IsClear : Fit → Type 0
+  abbrev pub IsClear : MatchOutcome → Type 0
   IsClear (fits bs) = Unit {0}
   IsClear fits_not = Unit {0}
   IsClear unclear = ⊥
 
-  abbrev pub fit_to : Fit → Fit
+  abbrev pub fit_to : MatchOutcome → MatchOutcome
   fit_to (fits bs) = fits (bindings_to bs)
   fit_to fits_not = fits_not
   fit_to unclear = unclear
@@ -167,7 +167,7 @@ module _ (stays : ℕ → Bool) (F : List HeapCell) where
       go true c = number_fit_renamed k n.fields c
       go false c = refl
 
-  pub fit_renamed : (g : Program) (s : Shape) (v : Value) (q : Fit) → fit_of g s v ≡ q → IsClear q → fit_of g s (value_to v) ≡ fit_to q
+  pub fit_renamed : (g : Program) (s : Shape) (v : Value) (q : MatchOutcome) → fit_of g s v ≡ q → IsClear q → fit_of g s (value_to v) ≡ fit_to q
   fit_renamed g (NodeShape t xs) v q e c = ap (node_fit t.0 xs) (as_node_renamed g v) ∙ node_fit_renamed t.0 xs (as_node g v) (subst IsClear (sym e) c) ∙ ap fit_to e
   fit_renamed g (Int k) v q e c = ap (int_fit k) (as_node_renamed g v) ∙ int_fit_renamed k (as_node g v) (subst IsClear (sym e) c) ∙ ap fit_to e
   fit_renamed g Else v q e c = ap fit_to e

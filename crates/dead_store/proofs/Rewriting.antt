@@ -12,14 +12,14 @@ use Rattle.grin_syntax.specs.declared.program.Val.{Val}
 use Rattle.grin_syntax.specs.Tree.{Code, bind, case, arm, act_of, before_of, arm_of, all_before, arms_of}
 use Rattle.grin_syntax.proofs.TreeOf.{act_of-Case, before_of-Store, before_of-Bind}
 use Rattle.grin_syntax.proofs.Pieces.{all_before_push}
-use Rattle.dead_store.specs.Without.{without_val, kept_cell, leaves, kept_cells, store_any, without_act, without_code, without_arms, without_arm}
+use Rattle.dead_store.specs.Without.{without_val, kept_cell, leaves, kept_cells, store_if_any, without_act, without_code, without_arms, without_arm}
 
 -- ---- a group is put behind statements, where it has a cell
 
-pub none_put : (made : List Stmt) (cs : List Cell) (b : Code) → cs ≡ [] → all_before (map before_of made) b ≡ all_before (map before_of made) (store_any cs b)
-none_put made cs b n = ap (λ l. all_before (map before_of made) (store_any l b)) (sym n)
+pub none_put : (made : List Stmt) (cs : List Cell) (b : Code) → cs ≡ [] → all_before (map before_of made) b ≡ all_before (map before_of made) (store_if_any cs b)
+none_put made cs b n = ap (λ l. all_before (map before_of made) (store_if_any l b)) (sym n)
 
-pub some_put : (made more : List Stmt) (cs : List Cell) (b : Code) → (cs ≡ [] → ⊥) → more ≡ made ++ Store cs ∷ [] → all_before (map before_of more) b ≡ all_before (map before_of made) (store_any cs b)
+pub some_put : (made more : List Stmt) (cs : List Cell) (b : Code) → (cs ≡ [] → ⊥) → more ≡ made ++ Store cs ∷ [] → all_before (map before_of more) b ≡ all_before (map before_of made) (store_if_any cs b)
 some_put made more [] b n p = absurd (n refl)
 some_put made more (k ∷ ks) b n p = ap (λ l. all_before (map before_of l) b) p ∙ all_before_push made (Store (k ∷ ks)) b ∙ ap (λ f. all_before (map before_of made) (f b)) (before_of-Store (k ∷ ks))
 
@@ -67,13 +67,13 @@ module _ (stays gone : ℕ → Bool) where
       ∙ ap (λ b. all_before (map before_of made) (cond b (without_code stays gone c) (bind t (without_act stays gone (act_of o)) (without_code stays gone c)))) (sym n)
       ∙ ap (λ f. all_before (map before_of made) (without_code stays gone (f c))) (sym (before_of-Bind t o)) ∙ ap (λ s. all_before (map before_of made) (without_code stays gone (before_of s c))) (sym q)
 
-  store_is : (made : List Stmt) (s : Stmt) (cs : List Cell) (c : Code) → s ≡ Store cs → all_before (map before_of made) (store_any (kept_cells stays gone cs) (without_code stays gone c)) ≡ all_before (map before_of made) (without_code stays gone (before_of s c))
+  store_is : (made : List Stmt) (s : Stmt) (cs : List Cell) (c : Code) → s ≡ Store cs → all_before (map before_of made) (store_if_any (kept_cells stays gone cs) (without_code stays gone c)) ≡ all_before (map before_of made) (without_code stays gone (before_of s c))
   unfolding without_act
   store_is made s cs c q = ap (λ f. all_before (map before_of made) (without_code stays gone (f c))) (sym (before_of-Store cs)) ∙ ap (λ s. all_before (map before_of made) (without_code stays gone (before_of s c))) (sym q)
 
-  pub store_becomes : (made more : List Stmt) (s : Stmt) (cs kept : List Cell) (c : Code) → s ≡ Store cs → kept ≡ kept_cells stays gone cs → ((b : Code) → all_before (map before_of more) b ≡ all_before (map before_of made) (store_any kept b))
+  pub store_becomes : (made more : List Stmt) (s : Stmt) (cs kept : List Cell) (c : Code) → s ≡ Store cs → kept ≡ kept_cells stays gone cs → ((b : Code) → all_before (map before_of more) b ≡ all_before (map before_of made) (store_if_any kept b))
       → all_before (map before_of more) (without_code stays gone c) ≡ all_before (map before_of made) (without_code stays gone (before_of s c))
-  store_becomes made more s cs kept c q e p = p (without_code stays gone c) ∙ ap (λ l. all_before (map before_of made) (store_any l (without_code stays gone c))) e ∙ store_is made s cs c q
+  store_becomes made more s cs kept c q e p = p (without_code stays gone c) ∙ ap (λ l. all_before (map before_of made) (store_if_any l (without_code stays gone c))) e ∙ store_is made s cs c q
 
   -- ---- alternatives
 

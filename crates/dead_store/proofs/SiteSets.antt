@@ -17,9 +17,9 @@ use Rattle.points_to.specs.Joined.{Joined}
 use Rattle.seq.specs.Lists.{In, here, there}
 use Rattle.seq.proofs.Lists.{none_is_some, some_is, map_push}
 use Rattle.seq.proofs.Member.{none_in, one_in, in_split, in_left, in_right}
-use Rattle.dead_store.specs.Holding.{holds}
+use Rattle.dead_store.specs.Holding.{set_holds}
 use Rattle.dead_store.specs.Reads.{reads_of}
-use Rattle.dead_store.specs.Without.{is_stored}
+use Rattle.dead_store.specs.Without.{is_bound_by_store}
 use Rattle.dead_store.specs.Staying.{IsGlobalSite, IsReadBy, AreStaying, HasCell, CellsJoin}
 use Rattle.dead_store.proofs.Numbers.{holds_in, in_holds}
 
@@ -75,8 +75,8 @@ module _ (A : Solution) where
 -- ---- the words that are read
 
 -- by a set of the variables that stores bind
-pub stored_reads : (keys : List ℕ) (qs ps : List Proc) → qs ≡ ps → ((x : ℕ) → holds keys x ≡ is_stored (map procedure_of qs) x) → reads_of (holds keys) (map procedure_of qs) ≡ reads_of (is_stored (map procedure_of ps)) (map procedure_of ps)
-stored_reads keys qs ps e h = ap (λ k. reads_of k (map procedure_of qs)) (λ i x. h x i) ∙ ap (λ ps. reads_of (is_stored (map procedure_of ps)) (map procedure_of ps)) e
+pub stored_reads : (keys : List ℕ) (qs ps : List Proc) → qs ≡ ps → ((x : ℕ) → set_holds keys x ≡ is_bound_by_store (map procedure_of qs) x) → reads_of (set_holds keys) (map procedure_of qs) ≡ reads_of (is_bound_by_store (map procedure_of ps)) (map procedure_of ps)
+stored_reads keys qs ps e h = ap (λ k. reads_of k (map procedure_of qs)) (λ i x. h x i) ∙ ap (λ ps. reads_of (is_bound_by_store (map procedure_of ps)) (map procedure_of ps)) e
 
 -- ---- the sites that stay
 
@@ -120,7 +120,7 @@ module _ (A : Solution) (g : Program) where
   in_set ws sites u s a h (variable {x = x} k) = u.put s (Var x) h (x, refl, k)
   in_set ws sites u s a h (global {i = i} {c = c} k) = u.globals c.site.0 (global_in g.globals i c k)
 
-  pub sites_done : (ws : List W.Word) (i : ℕ) (sites : List ℕ) → ws ≡ reads_of (is_stored g.procs) g.procs → length ws ≤ i → SitesSoFar (take i ws) sites → AreStaying A g (holds sites)
+  pub sites_done : (ws : List W.Word) (i : ℕ) (sites : List ℕ) → ws ≡ reads_of (is_bound_by_store g.procs) g.procs → length ws ≤ i → SitesSoFar (take i ws) sites → AreStaying A g (set_holds sites)
   sites_done ws i sites e le u =
-      let v : SitesSoFar (reads_of (is_stored g.procs) g.procs) sites = subst (λ l. SitesSoFar l sites) (take_all i ws le ∙ e) u in
-      λ s. (λ h. v.only s (holds_in s sites h), λ h. in_holds s sites (⊎_elim (λ k. v.globals s k) (λ r. in_set (reads_of (is_stored g.procs) g.procs) sites v s r.0 r.1 r.2) h))
+      let v : SitesSoFar (reads_of (is_bound_by_store g.procs) g.procs) sites = subst (λ l. SitesSoFar l sites) (take_all i ws le ∙ e) u in
+      λ s. (λ h. v.only s (holds_in s sites h), λ h. in_holds s sites (⊎_elim (λ k. v.globals s k) (λ r. in_set (reads_of (is_bound_by_store g.procs) g.procs) sites v s r.0 r.1 r.2) h))

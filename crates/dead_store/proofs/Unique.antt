@@ -5,7 +5,7 @@ use Rattle.grin_syntax.specs.declared.program.Word.{Word}
 use Rattle.grin_syntax.specs.Tree.{Code, end, store, bind, Act, unit, fetch, fetch_word, update, eval, apply, call, prim, read, write, case, nested, fail, Arms, no_arm, arm, Procedure, Program}
 use Rattle.grin_syntax.specs.Binders.{numbers_of, target_vars, shape_vars, cell_vars, act_vars, code_vars, arms_vars, procs_vars}
 use Rattle.grin_syntax.specs.Formed.{AllOf}
-use Rattle.grin_meaning.specs.Ready.{EachAct, EachCode, EachArms, EachBody, inlined_kind, by_words_kind, vectorised_kind, NoNodeVar}
+use Rattle.grin_meaning.specs.Ready.{EachAct, EachCode, EachArms, EveryBodyIsOfKind, inlined_kind, without_node_fetches, vectorised_kind, NoNodeVar}
 use Rattle.flow_system.specs.Solution.{Solution}
 use Rattle.pass_ground.proofs.Tests.{all_front, all_back}
 use Rattle.std.specs.Prelude.{◌||◌}
@@ -13,7 +13,7 @@ use Rattle.seq.specs.Lists.{times, is_among}
 use Rattle.seq.proofs.Counted.{times_append, times_fewer, one_at, not_among_times}
 use Rattle.seq.proofs.Truth.{two_ways, false_not_true}
 use Rattle.dead_store.specs.Reads.{is_one_of, update_reads, act_reads, code_reads, arms_reads, reads_of}
-use Rattle.dead_store.specs.Without.{cells_left, act_left, code_left, arms_left, left_of, is_gone, is_stored}
+use Rattle.dead_store.specs.Without.{cells_left, act_left, code_left, arms_left, left_of, is_gone, is_bound_by_store}
 use Rattle.dead_store.proofs.Fine.{WordStays, IsThere, IsOther, UpdateFine, CellFine, ActFine, CodeFine, ArmsFine}
 
 among_times : (x : ℕ) (xs : List ℕ) → is_among x xs ≡ true → 1 ≤ times x xs
@@ -184,7 +184,7 @@ module _ (A : Solution) (g : Program) (stays gone stored : ℕ → Bool) where
   mutual
     unfolding act_reads act_left act_vars EachAct ActFine
 
-    act_fine : (o : Act) → EachAct inlined_kind o → EachAct by_words_kind o → EachAct vectorised_kind o → Read (act_reads stored o) → Parts (act_vars o) (act_left stays o) (act_left none o) → ActFine A g stays gone stored o
+    act_fine : (o : Act) → EachAct inlined_kind o → EachAct without_node_fetches o → EachAct vectorised_kind o → Read (act_reads stored o) → Parts (act_vars o) (act_left stays o) (act_left none o) → ActFine A g stays gone stored o
     act_fine (unit v) i w n r p = n.1
     act_fine (fetch a) i w n r p = w
     act_fine (fetch_word a k) i w n r p = r.0
@@ -199,7 +199,7 @@ module _ (A : Solution) (g : Program) (stays gone stored : ℕ → Bool) where
     act_fine (nested b) i w n r p = code_fine b i.1 w.1 n.1 r p
     act_fine fail i w n r p = tt
 
-    code_fine : (b : Code) → EachCode inlined_kind b → EachCode by_words_kind b → EachCode vectorised_kind b → Read (code_reads stored b) → Parts (code_vars b) (code_left stays b) (code_left none b) → CodeFine A g stays gone stored b
+    code_fine : (b : Code) → EachCode inlined_kind b → EachCode without_node_fetches b → EachCode vectorised_kind b → Read (code_reads stored b) → Parts (code_vars b) (code_left stays b) (code_left none b) → CodeFine A g stays gone stored b
     code_fine (end o) i w n r p = act_fine o i w n r p
     code_fine (store cs b) i w n r p = (
       cells_fine cs (parted_front gone (cell_vars cs) (code_vars b) (cells_left stays cs) (code_left stays b) (λ y. code_fewer stays y b) p.leaving) n.0,
@@ -217,7 +217,7 @@ module _ (A : Solution) (g : Program) (stays gone stored : ℕ → Bool) where
               (both_back gone stored (act_vars o) (code_vars b) (act_left stays o) (code_left stays b) (act_left none o) (code_left none b) (λ y. act_fewer stays y o) (λ y. act_fewer none y o) rest),
         )
 
-    arms_fine : (as' : Arms) → EachArms inlined_kind as' → EachArms by_words_kind as' → EachArms vectorised_kind as' → Read (arms_reads stored as') → Parts (arms_vars as') (arms_left stays as') (arms_left none as') → ArmsFine A g stays gone stored as'
+    arms_fine : (as' : Arms) → EachArms inlined_kind as' → EachArms without_node_fetches as' → EachArms vectorised_kind as' → Read (arms_reads stored as') → Parts (arms_vars as') (arms_left stays as') (arms_left none as') → ArmsFine A g stays gone stored as'
     arms_fine no_arm i w n r p = tt
     arms_fine (arm s b as') i w n r p =
         let rest : Parts (code_vars b ++ arms_vars as') (code_left stays b ++ arms_left stays as') (code_left none b ++ arms_left none as')
@@ -240,7 +240,7 @@ module _ (A : Solution) (g : Program) (stays gone stored : ℕ → Bool) where
       let l : times y (code_left stays q.body) ≤ times y (code_vars q.body) = code_fewer stays y q.body in
       omega (arith, e, l)
 
-  procs_fine : (qs : List Procedure) → EachBody inlined_kind qs → EachBody by_words_kind qs → EachBody vectorised_kind qs → Read (reads_of stored qs) → Parts (procs_vars qs) (left_of stays qs) (left_of none qs) → AllOf ProcFine qs
+  procs_fine : (qs : List Procedure) → EveryBodyIsOfKind inlined_kind qs → EveryBodyIsOfKind without_node_fetches qs → EveryBodyIsOfKind vectorised_kind qs → Read (reads_of stored qs) → Parts (procs_vars qs) (left_of stays qs) (left_of none qs) → AllOf ProcFine qs
   procs_fine [] i w n r p = tt
   procs_fine (q ∷ qs) i w n r p =
       let here : Parts (numbers_of q.params ++ code_vars q.body) (code_left stays q.body) (code_left none q.body)
@@ -263,6 +263,6 @@ all_parted g stays once = record {
 }
 
 -- the procedures of a program, where the variables of cells that leave are gone
-pub all_fine : (A : Solution) (g : Program) (stays : ℕ → Bool) → ((y : ℕ) → times y (procs_vars g.procs) ≤ 1) → EachBody inlined_kind g.procs → EachBody by_words_kind g.procs → EachBody vectorised_kind g.procs → AllOf (WordStays A g stays) (reads_of (is_stored g.procs) g.procs)
-    → AllOf (ProcFine A g stays (is_gone stays g.procs) (is_stored g.procs)) g.procs
-all_fine A g stays once i w n r = procs_fine A g stays (is_gone stays g.procs) (is_stored g.procs) g.procs i w n r (record { leaving = all_parted g stays once; owned = all_parted g none once })
+pub all_fine : (A : Solution) (g : Program) (stays : ℕ → Bool) → ((y : ℕ) → times y (procs_vars g.procs) ≤ 1) → EveryBodyIsOfKind inlined_kind g.procs → EveryBodyIsOfKind without_node_fetches g.procs → EveryBodyIsOfKind vectorised_kind g.procs → AllOf (WordStays A g stays) (reads_of (is_bound_by_store g.procs) g.procs)
+    → AllOf (ProcFine A g stays (is_gone stays g.procs) (is_bound_by_store g.procs)) g.procs
+all_fine A g stays once i w n r = procs_fine A g stays (is_gone stays g.procs) (is_bound_by_store g.procs) g.procs i w n r (record { leaving = all_parted g stays once; owned = all_parted g none once })

@@ -5,5 +5,5 @@ use Rattle.std.specs.List.{list_any}
 use Rattle.std.specs.Ordering.{nat_cmp}
 
 -- whether a set has a number
-abbrev pub holds : List ℕ → ℕ → Bool
-holds keys n = list_any (is_at (nat_cmp n)) keys
+abbrev pub set_holds : List ℕ → ℕ → Bool
+set_holds keys n = list_any (is_at (nat_cmp n)) keys

@@ -3,8 +3,8 @@ use Rattle.std.specs.Prelude.{ℕ, zero, suc, pos, Bool, false, cond, List, [], 
 use Rattle.grin_meaning.specs.Values.{Datum, number, tag, cell, Node, HeapCell}
 
 -- a node with other words
-abbrev pub node_with : (Datum → Datum) → Node → Node
-node_with f n = record { tag = n.tag; fields = map f n.fields }
+abbrev pub map_node_fields : (Datum → Datum) → Node → Node
+map_node_fields f n = record { tag = n.tag; fields = map f n.fields }
 
 -- the cells of some sites stay
 module _ (stays : ℕ → Bool) where
@@ -29,7 +29,8 @@ module _ (stays : ℕ → Bool) where
   abbrev pub kept_with : (Datum → Datum) → List HeapCell → List HeapCell
   kept_with f [] = []
   kept_with f (c ∷ h) =
-      cond (stays c.site) (record { site = c.site; node = node_with f c.node } ∷ kept_with f h)
+      cond (stays c.site)
+      (record { site = c.site; node = map_node_fields f c.node } ∷ kept_with f h)
       (kept_with f h)
 
   -- those that stay, their words renamed

@@ -11,7 +11,7 @@ use Rattle.flow_system.specs.declared.fact.Place.TheVariants.{Var as var}
 use Rattle.flow_system.specs.declared.fact.Part.TheVariants.{Word as word}
 use Rattle.flow_system.specs.Solution.{Solution, At, StandsFor}
 use Rattle.dead_store.specs.Reads.{reads_of}
-use Rattle.dead_store.specs.Without.{is_stored}
+use Rattle.dead_store.specs.Without.{is_bound_by_store}
 
 abbrev pub IsGlobalSite : Program → ℕ → Type 0
 IsGlobalSite g s = In s (map (λ c. c.site.0) g.globals)
@@ -24,7 +24,7 @@ module _ (A : Solution) (g : Program) where
   -- a fetch of the program may go to a cell of the site, or an update on another word than the
   -- variable of a store
   abbrev pub IsRead : ℕ → Type 0
-  IsRead = IsReadBy (reads_of (is_stored g.procs) g.procs)
+  IsRead = IsReadBy (reads_of (is_bound_by_store g.procs) g.procs)
 
   -- the cells of a site stay where they are global or read
   abbrev pub Stays : ℕ → Type 0

@@ -43,9 +43,9 @@ module _ (gone : ℕ → Bool) where
   leaves (to.Vector xs) o = false
 
 -- a group of cells before a block, where there is a cell
-abbrev pub store_any : List Cell → Code → Code
-store_any [] b = b
-store_any (c ∷ cs) b = store (c ∷ cs) b
+abbrev pub store_if_any : List Cell → Code → Code
+store_if_any [] b = b
+store_if_any (c ∷ cs) b = store (c ∷ cs) b
 
 -- the cells of some sites stay
 module _ (stays : ℕ → Bool) where
@@ -98,7 +98,7 @@ module _ (stays : ℕ → Bool) where
 
       pub without_code : Code → Code
       without_code (end o) = end (without_act o)
-      without_code (store cs b) = store_any (kept_cells cs) (without_code b)
+      without_code (store cs b) = store_if_any (kept_cells cs) (without_code b)
       without_code (bind t o b) =
           cond (leaves gone t o) (without_code b) (bind t (without_act o) (without_code b))
 
@@ -123,5 +123,5 @@ module _ (stays : ℕ → Bool) where
   without g = record g { procs = without_procs (is_gone g.procs) g.procs }
 
 -- stores of the program bind these variables: they'd be gone if no cell stayed
-abbrev pub is_stored : List Procedure → ℕ → Bool
-is_stored = is_gone (λ s. false)
+abbrev pub is_bound_by_store : List Procedure → ℕ → Bool
+is_bound_by_store = is_gone (λ s. false)

@@ -3,8 +3,8 @@
 
 ghost use Rattle.std.specs.Prelude.{◌≡◌, ◌++◌, [], ◌∷◌, map, IfOk, OnOk};
 ghost use Rattle.grin_syntax.specs.Tree.{Code, update, act_of, before_of, arm_of, code_of, all_before};
-ghost use Rattle.dead_store.specs.Holding.{holds};
-ghost use Rattle.dead_store.specs.Without.{without_word, without_val, kept_cell, updates_gone, leaves, kept_cells, store_any, without_act, without_code, without_arm};
+ghost use Rattle.dead_store.specs.Holding.{set_holds};
+ghost use Rattle.dead_store.specs.Without.{without_word, without_val, kept_cell, updates_gone, leaves, kept_cells, store_if_any, without_act, without_code, without_arm};
 
 use crate::reads::is_one_of;
 use grin_syntax::{Alt, Block, Cell, Op, Stmt, Target, Val, Word};
@@ -15,7 +15,7 @@ use std::collections::BTreeSet;
 // A group of cells, where there is a cell.
 fn put_group(cells: Seq<Cell>, made: &mut Seq<Stmt>) -> Result<(), AllocError>
     ensures { OnOk result ((c : Code) → all_before (map before_of made.new) c
-        ≡ all_before (map before_of made.old) (store_any cells c)) }
+        ≡ all_before (map before_of made.old) (store_if_any cells c)) }
 {
     if cells.is_empty() {
         return Ok(());
@@ -26,16 +26,16 @@ fn put_group(cells: Seq<Cell>, made: &mut Seq<Stmt>) -> Result<(), AllocError>
 
 /// Takes cells out of blocks.
 #[derive(Drop)]
-pub(crate) struct Leaving<'a> {
+pub(crate) struct DeadCellRemover<'a> {
     /// The sites whose cells stay.
     pub sites: &'a BTreeSet<u32>,
     /// The variables of the cells that leave.
     pub gone: &'a BTreeSet<u32>,
 }
 
-impl Leaving<'_> {
+impl DeadCellRemover<'_> {
     fn word(&self, word: Word) -> Word
-        ensures { result ≡ without_word (holds self.now.gone.now.keys) word }
+        ensures { result ≡ without_word (set_holds self.now.gone.now.keys) word }
     {
         match word {
             Word::Var(x) => {
@@ -52,7 +52,7 @@ impl Leaving<'_> {
     }
 
     fn words(&self, alloc: Global, words: Seq<Word>) -> Result<Seq<Word>, AllocError>
-        ensures { IfOk result (λ ws. ws ≡ map (without_word (holds self.now.gone.now.keys))
+        ensures { IfOk result (λ ws. ws ≡ map (without_word (set_holds self.now.gone.now.keys))
             words) }
     {
         let mut made = Seq::new(alloc);
@@ -63,7 +63,7 @@ impl Leaving<'_> {
     }
 
     fn val(&self, alloc: Global, val: Val) -> Result<Val, AllocError>
-        ensures { IfOk result (λ v. v ≡ without_val (holds self.now.gone.now.keys) val) }
+        ensures { IfOk result (λ v. v ≡ without_val (set_holds self.now.gone.now.keys) val) }
     {
         match val {
             Val::NodeVar(x) => Ok(Val::NodeVar(x)),
@@ -74,7 +74,7 @@ impl Leaving<'_> {
     }
 
     fn cell(&self, alloc: Global, cell: Cell) -> Result<Cell, AllocError>
-        ensures { IfOk result (λ c. c ≡ kept_cell (holds self.now.gone.now.keys) cell) }
+        ensures { IfOk result (λ c. c ≡ kept_cell (set_holds self.now.gone.now.keys) cell) }
     {
         Ok(Cell {
             var: cell.var,
@@ -85,8 +85,8 @@ impl Leaving<'_> {
 
     // A cell, where it stays.
     fn put_cell(&self, alloc: Global, cell: Cell, made: &mut Seq<Cell>) -> Result<(), AllocError>
-        ensures { OnOk result (made.new ≡ made.old ++ kept_cells (holds self.now.sites.now.keys)
-            (holds self.now.gone.now.keys) (cell ∷ [])) }
+        ensures { OnOk result (made.new ≡ made.old ++ kept_cells (set_holds self.now.sites.now.keys)
+            (set_holds self.now.gone.now.keys) (cell ∷ [])) }
     {
         if self.sites.contains(&cell.site.0) {
             made.push(self.cell(alloc, cell)?)?;
@@ -96,8 +96,8 @@ impl Leaving<'_> {
 
     // The cells of a group that stay.
     fn cells(&self, alloc: Global, cells: Seq<Cell>) -> Result<Seq<Cell>, AllocError>
-        ensures { IfOk result (λ cs. cs ≡ kept_cells (holds self.now.sites.now.keys)
-            (holds self.now.gone.now.keys) cells) }
+        ensures { IfOk result (λ cs. cs ≡ kept_cells (set_holds self.now.sites.now.keys)
+            (set_holds self.now.gone.now.keys) cells) }
     {
         let mut made = Seq::new(alloc);
         for cell in cells.into_vec() {
@@ -108,8 +108,8 @@ impl Leaving<'_> {
 
     // An update, but where the cell is gone.
     fn update(&self, alloc: Global, word: Word, val: Val) -> Result<Op, AllocError>
-        ensures { IfOk result (λ o. act_of o ≡ without_act (holds self.now.sites.now.keys)
-            (holds self.now.gone.now.keys) (update word val)) }
+        ensures { IfOk result (λ o. act_of o ≡ without_act (set_holds self.now.sites.now.keys)
+            (set_holds self.now.gone.now.keys) (update word val)) }
     {
         if is_one_of(self.gone, word) {
             return Ok(Op::Unit(Val::Vector(Seq::new(alloc))));
@@ -118,7 +118,7 @@ impl Leaving<'_> {
     }
 
     fn updates_gone(&self, op: &Op) -> bool
-        ensures { result ≡ updates_gone (holds self.now.gone.now.keys) (act_of op.now) }
+        ensures { result ≡ updates_gone (set_holds self.now.gone.now.keys) (act_of op.now) }
     {
         match op {
             Op::Update(word, _) => is_one_of(self.gone, *word),
@@ -139,7 +139,7 @@ impl Leaving<'_> {
 
     // Whether a statement is an update of a cell that is gone.
     fn leaves(&self, target: &Target, op: &Op) -> bool
-        ensures { result ≡ leaves (holds self.now.gone.now.keys) target.now (act_of op.now) }
+        ensures { result ≡ leaves (set_holds self.now.gone.now.keys) target.now (act_of op.now) }
     {
         match target {
             Target::Nothing => self.updates_gone(op),
@@ -152,8 +152,8 @@ impl Leaving<'_> {
     #[cycle(leave)]
     #[tactic(auto, using(grin_syntax::proofs::TreeOf::tree_of, crate::proofs::Rewriting::case_without), unfolding(crate::specs::Without::without_act))]
     fn op(&self, alloc: Global, op: Op) -> Result<Op, AllocError>
-        ensures { IfOk result (λ o. act_of o ≡ without_act (holds self.now.sites.now.keys)
-            (holds self.now.gone.now.keys) (act_of op)) }
+        ensures { IfOk result (λ o. act_of o ≡ without_act (set_holds self.now.sites.now.keys)
+            (set_holds self.now.gone.now.keys) (act_of op)) }
     {
         match op {
             Op::Unit(v) => Ok(Op::Unit(self.val(alloc, v)?)),
@@ -184,8 +184,8 @@ impl Leaving<'_> {
 
     #[cycle(leave)]
     fn alt(&self, alloc: Global, alt: Alt) -> Result<Alt, AllocError>
-        ensures { IfOk result (λ a. arm_of a ≡ without_arm (holds self.now.sites.now.keys)
-            (holds self.now.gone.now.keys) (arm_of alt)) }
+        ensures { IfOk result (λ a. arm_of a ≡ without_arm (set_holds self.now.sites.now.keys)
+            (set_holds self.now.gone.now.keys) (arm_of alt)) }
     {
         Ok(Alt {
             pattern: alt.pattern,
@@ -197,9 +197,9 @@ impl Leaving<'_> {
     #[cycle(leave)]
     fn stmt(&self, alloc: Global, stmt: Stmt, made: &mut Seq<Stmt>) -> Result<(), AllocError>
         ensures { OnOk result ((c : Code) → all_before (map before_of made.new)
-            (without_code (holds self.now.sites.now.keys) (holds self.now.gone.now.keys) c)
-            ≡ all_before (map before_of made.old) (without_code (holds self.now.sites.now.keys)
-            (holds self.now.gone.now.keys) (before_of stmt c))) }
+            (without_code (set_holds self.now.sites.now.keys) (set_holds self.now.gone.now.keys) c)
+            ≡ all_before (map before_of made.old) (without_code (set_holds self.now.sites.now.keys)
+            (set_holds self.now.gone.now.keys) (before_of stmt c))) }
     {
         match stmt {
             Stmt::Store(cells) => {
@@ -221,8 +221,8 @@ impl Leaving<'_> {
     /// A block without the cells that leave.
     #[cycle(leave)]
     pub(crate) fn block(&self, alloc: Global, block: Block) -> Result<Block, AllocError>
-        ensures { IfOk result (λ b. code_of b ≡ without_code (holds self.now.sites.now.keys)
-            (holds self.now.gone.now.keys) (code_of block)) }
+        ensures { IfOk result (λ b. code_of b ≡ without_code (set_holds self.now.sites.now.keys)
+            (set_holds self.now.gone.now.keys) (code_of block)) }
     {
         let mut stmts = Seq::new(alloc);
         for stmt in block.stmts.into_vec() {

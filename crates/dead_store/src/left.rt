@@ -4,8 +4,8 @@
 ghost use Rattle.std.specs.Prelude.{◌≡◌, ◌++◌, [], ◌∷◌, ℕ, map, IfOk, OnOk};
 ghost use Rattle.grin_syntax.specs.Tree.{Code, act_of, before_of, arms_of, arm_of, code_of, procedure_of};
 ghost use Rattle.seq.specs.Lists.{is_among};
-ghost use Rattle.dead_store.specs.Holding.{holds};
-ghost use Rattle.dead_store.specs.Without.{cells_left, act_left, code_left, arms_left, left_of, is_gone, is_stored};
+ghost use Rattle.dead_store.specs.Holding.{set_holds};
+ghost use Rattle.dead_store.specs.Without.{cells_left, act_left, code_left, arms_left, left_of, is_gone, is_bound_by_store};
 
 use grin_syntax::{Alt, Block, Cell, Op, Proc, Stmt};
 use seq::Seq;
@@ -20,7 +20,7 @@ fn none_left(left: &mut Seq<u32>) -> Result<(), AllocError>
 }
 
 fn cell_left(sites: &BTreeSet<u32>, cell: &Cell, left: &mut Seq<u32>) -> Result<(), AllocError>
-    ensures { OnOk result (left.new ≡ left.old ++ cells_left (holds sites.now.keys) (cell.now
+    ensures { OnOk result (left.new ≡ left.old ++ cells_left (set_holds sites.now.keys) (cell.now
         ∷ [])) }
 {
     if sites.contains(&cell.site.0) {
@@ -30,7 +30,7 @@ fn cell_left(sites: &BTreeSet<u32>, cell: &Cell, left: &mut Seq<u32>) -> Result<
 }
 
 fn group_left(sites: &BTreeSet<u32>, cells: &[Cell], left: &mut Seq<u32>) -> Result<(), AllocError>
-    ensures { OnOk result (left.new ≡ left.old ++ cells_left (holds sites.now.keys) cells.now) }
+    ensures { OnOk result (left.new ≡ left.old ++ cells_left (set_holds sites.now.keys) cells.now) }
 {
     for cell in cells {
         cell_left(sites, cell, left)?;
@@ -40,7 +40,7 @@ fn group_left(sites: &BTreeSet<u32>, cells: &[Cell], left: &mut Seq<u32>) -> Res
 
 #[cycle(left)]
 fn op_left(sites: &BTreeSet<u32>, op: &Op, left: &mut Seq<u32>) -> Result<(), AllocError>
-    ensures { OnOk result (left.new ≡ left.old ++ act_left (holds sites.now.keys)
+    ensures { OnOk result (left.new ≡ left.old ++ act_left (set_holds sites.now.keys)
         (act_of op.now)) }
 {
     match op {
@@ -62,7 +62,7 @@ fn op_left(sites: &BTreeSet<u32>, op: &Op, left: &mut Seq<u32>) -> Result<(), Al
 
 #[cycle(left)]
 fn alts_left(sites: &BTreeSet<u32>, alts: &[Alt], left: &mut Seq<u32>) -> Result<(), AllocError>
-    ensures { OnOk result (left.new ≡ left.old ++ arms_left (holds sites.now.keys)
+    ensures { OnOk result (left.new ≡ left.old ++ arms_left (set_holds sites.now.keys)
         (arms_of (map arm_of alts.now))) }
 {
     for alt in alts {
@@ -74,8 +74,8 @@ fn alts_left(sites: &BTreeSet<u32>, alts: &[Alt], left: &mut Seq<u32>) -> Result
 #[cycle(left)]
 fn stmt_left(sites: &BTreeSet<u32>, stmt: &Stmt, left: &mut Seq<u32>) -> Result<(), AllocError>
     ensures { OnOk result ((c : Code)
-        → left.old ++ code_left (holds sites.now.keys) (before_of stmt.now c) ≡ left.new
-        ++ code_left (holds sites.now.keys) c) }
+        → left.old ++ code_left (set_holds sites.now.keys) (before_of stmt.now c) ≡ left.new
+        ++ code_left (set_holds sites.now.keys) c) }
 {
     match stmt {
         Stmt::Store(cells) => {
@@ -91,7 +91,7 @@ fn stmt_left(sites: &BTreeSet<u32>, stmt: &Stmt, left: &mut Seq<u32>) -> Result<
 
 #[cycle(left)]
 fn block_left(sites: &BTreeSet<u32>, block: &Block, left: &mut Seq<u32>) -> Result<(), AllocError>
-    ensures { OnOk result (left.new ≡ left.old ++ code_left (holds sites.now.keys)
+    ensures { OnOk result (left.new ≡ left.old ++ code_left (set_holds sites.now.keys)
         (code_of block.now)) }
 {
     for stmt in block.stmts.as_slice() {
@@ -103,7 +103,7 @@ fn block_left(sites: &BTreeSet<u32>, block: &Block, left: &mut Seq<u32>) -> Resu
 
 // The variables of the cells of these procedures that leave, where those of these sites stay.
 fn procs_left(alloc: Global, sites: &BTreeSet<u32>, procs: &[Proc]) -> Result<Seq<u32>, AllocError>
-    ensures { IfOk result (λ xs. xs ≡ left_of (holds sites.now.keys)
+    ensures { IfOk result (λ xs. xs ≡ left_of (set_holds sites.now.keys)
         (map procedure_of procs.now)) }
 {
     let mut left = Seq::new(alloc);
@@ -115,7 +115,7 @@ fn procs_left(alloc: Global, sites: &BTreeSet<u32>, procs: &[Proc]) -> Result<Se
 
 // A set of these numbers.
 fn set_of(alloc: Global, numbers: &[u32]) -> Result<BTreeSet<u32>, AllocError>
-    ensures { IfOk result (λ set. (n : ℕ) → holds set.keys n ≡ is_among n numbers.now) }
+    ensures { IfOk result (λ set. (n : ℕ) → set_holds set.keys n ≡ is_among n numbers.now) }
 {
     let mut set = BTreeSet::new(alloc);
     for n in numbers {
@@ -125,12 +125,12 @@ fn set_of(alloc: Global, numbers: &[u32]) -> Result<BTreeSet<u32>, AllocError>
 }
 
 /// A set of the variables of the cells that leave, where those of these sites stay.
-pub(crate) fn variables_gone(
+pub(crate) fn removed_variables(
     alloc: Global,
     sites: &BTreeSet<u32>,
     procs: &[Proc],
 ) -> Result<BTreeSet<u32>, AllocError>
-    ensures { IfOk result (λ gone. (x : ℕ) → holds gone.keys x ≡ is_gone (holds sites.now.keys)
+    ensures { IfOk result (λ gone. (x : ℕ) → set_holds gone.keys x ≡ is_gone (set_holds sites.now.keys)
         (map procedure_of procs.now) x) }
 {
     let left = procs_left(alloc, sites, procs)?;
@@ -139,11 +139,11 @@ pub(crate) fn variables_gone(
 }
 
 /// A set of the variables that stores of these procedures bind.
-pub(crate) fn variables_stored(alloc: Global, procs: &[Proc]) -> Result<BTreeSet<u32>, AllocError>
-    ensures { IfOk result (λ stored. (x : ℕ) → holds stored.keys x
-        ≡ is_stored (map procedure_of procs.now) x) }
+pub(crate) fn stored_variables(alloc: Global, procs: &[Proc]) -> Result<BTreeSet<u32>, AllocError>
+    ensures { IfOk result (λ stored. (x : ℕ) → set_holds stored.keys x
+        ≡ is_bound_by_store (map procedure_of procs.now) x) }
 {
     let none = BTreeSet::new(alloc);
-    let stored = variables_gone(alloc, &none, procs)?;
+    let stored = removed_variables(alloc, &none, procs)?;
     Ok(stored)
 }

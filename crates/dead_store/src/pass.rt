@@ -9,13 +9,13 @@ ghost use Rattle.flow_system.specs.Tables.{tables};
 ghost use Rattle.flow_system.specs.System.{system};
 ghost use Rattle.flow_system.specs.Solution.{Solves};
 ghost use Rattle.points_to.specs.Found.{found};
-ghost use Rattle.pass_ground.specs.Vectors.{OfVectors};
-ghost use Rattle.dead_store.specs.Holding.{holds};
-ghost use Rattle.dead_store.specs.Stored.{LeftBy, StoredBy, Stored};
+ghost use Rattle.pass_ground.specs.Vectors.{IsVectorForm};
+ghost use Rattle.dead_store.specs.Holding.{set_holds};
+ghost use Rattle.dead_store.specs.Stored.{KeepsOnlyStayingCells, DeadStoresRemovedBy, Stored};
 ghost use Rattle.dead_store.specs.Without.{without, without_procs};
 
-use crate::blocks::Leaving;
-use crate::left::variables_gone;
+use crate::blocks::DeadCellRemover;
+use crate::left::removed_variables;
 use crate::sites::staying_sites;
 use grin_meaning::Pass;
 use grin_syntax::{Grin, Proc};
@@ -32,7 +32,7 @@ use std::collections::BTreeSet;
 pub struct DeadStores;
 
 impl Pass for DeadStores {
-    ghost takes = { λ g. OfVectors (program_of g) × IsFetchedByWords (program_of g) };
+    ghost takes = { λ g. IsVectorForm (program_of g) × IsFetchedByWords (program_of g) };
 
     ghost gives = { λ g h. Stored (program_of g) (program_of h) };
 
@@ -45,10 +45,10 @@ impl Pass for DeadStores {
 
 /// The same by a solution of the program's flow system that is at hand.
 pub fn without_dead_stores(alloc: Global, g: Grin, flow: &Flow) -> Result<Grin, AllocError>
-    requires of_vectors { OfVectors (program_of g) }
+    requires of_vectors { IsVectorForm (program_of g) }
     requires by_words { IsFetchedByWords (program_of g) }
     requires solves { Solves (tables (program_of g)) (system (program_of g)) (found flow.now) }
-    ensures shape { IfOk result (λ h. StoredBy (found flow.now) (program_of g) (program_of h)) }
+    ensures shape { IfOk result (λ h. DeadStoresRemovedBy (found flow.now) (program_of g) (program_of h)) }
     ensures meaning { IfOk result (λ h. Keeps (program_of g) (program_of h)) }
 {
     let h = without_unread(alloc, g, flow)?;
@@ -57,7 +57,7 @@ pub fn without_dead_stores(alloc: Global, g: Grin, flow: &Flow) -> Result<Grin, 
 
 // What is made of any program by any solution, whatever its runs do.
 fn without_unread(alloc: Global, g: Grin, flow: &Flow) -> Result<Grin, AllocError>
-    ensures { IfOk result (λ h. LeftBy (found flow.now) (program_of g) (program_of h)) }
+    ensures { IfOk result (λ h. KeepsOnlyStayingCells (found flow.now) (program_of g) (program_of h)) }
 {
     let sites = staying_sites(alloc, &g, flow)?;
     let h = with_cells_of(alloc, g, &sites)?;
@@ -66,18 +66,22 @@ fn without_unread(alloc: Global, g: Grin, flow: &Flow) -> Result<Grin, AllocErro
 
 // The program with the cells of these sites alone.
 fn with_cells_of(alloc: Global, g: Grin, sites: &BTreeSet<u32>) -> Result<Grin, AllocError>
-    ensures { IfOk result (λ h. program_of h ≡ without (holds sites.now.keys) (program_of g)) }
+    ensures { IfOk result (λ h. program_of h ≡ without (set_holds sites.now.keys) (program_of g)) }
 {
-    let gone = variables_gone(alloc, sites, g.procs.as_slice())?;
-    let leaving = Leaving { sites, gone: &gone };
+    let gone = removed_variables(alloc, sites, g.procs.as_slice())?;
+    let leaving = DeadCellRemover { sites, gone: &gone };
     let procs = with_bodies(alloc, &leaving, g.procs)?;
     Ok(Grin { procs, ..g })
 }
 
 // The procedures with what stays of their bodies.
-fn with_bodies(alloc: Global, leaving: &Leaving, procs: Seq<Proc>) -> Result<Seq<Proc>, AllocError>
+fn with_bodies(
+    alloc: Global,
+    leaving: &DeadCellRemover,
+    procs: Seq<Proc>,
+) -> Result<Seq<Proc>, AllocError>
     ensures { IfOk result (λ made. map procedure_of made
-        ≡ without_procs (holds leaving.now.sites.now.keys) (holds leaving.now.gone.now.keys)
+        ≡ without_procs (set_holds leaving.now.sites.now.keys) (set_holds leaving.now.gone.now.keys)
         (map procedure_of procs)) }
 {
     let mut made = Seq::new(alloc);

@@ -3,7 +3,7 @@
 
 ghost use Rattle.std.specs.Prelude.{◌≡◌, ◌++◌, [], ◌∷◌, map, IfOk, OnOk};
 ghost use Rattle.grin_syntax.specs.Tree.{Code, act_of, before_of, arms_of, arm_of, code_of, procedure_of};
-ghost use Rattle.dead_store.specs.Holding.{holds};
+ghost use Rattle.dead_store.specs.Holding.{set_holds};
 ghost use Rattle.dead_store.specs.Reads.{is_one_of, update_reads, act_reads, code_reads, arms_reads, reads_of};
 
 use grin_syntax::{Alt, Block, Op, Proc, Stmt, Word};
@@ -13,7 +13,7 @@ use std::collections::BTreeSet;
 
 /// Whether a word is one of these variables.
 pub(crate) fn is_one_of(variables: &BTreeSet<u32>, word: Word) -> bool
-    ensures { result ≡ is_one_of (holds variables.now.keys) word }
+    ensures { result ≡ is_one_of (set_holds variables.now.keys) word }
 {
     match word {
         Word::Var(x) => variables.contains(&x.0),
@@ -32,7 +32,7 @@ fn none_read(words: &mut Seq<Word>) -> Result<(), AllocError>
 
 // The word of an update, but where a store binds it.
 fn update_reads(stored: &BTreeSet<u32>, word: Word, words: &mut Seq<Word>) -> Result<(), AllocError>
-    ensures { OnOk result (words.new ≡ words.old ++ update_reads (holds stored.now.keys) word) }
+    ensures { OnOk result (words.new ≡ words.old ++ update_reads (set_holds stored.now.keys) word) }
 {
     if is_one_of(stored, word) {
         return none_read(words);
@@ -43,7 +43,7 @@ fn update_reads(stored: &BTreeSet<u32>, word: Word, words: &mut Seq<Word>) -> Re
 // The word of an operation that reads a cell.
 #[cycle(reads)]
 fn op_reads(stored: &BTreeSet<u32>, op: &Op, words: &mut Seq<Word>) -> Result<(), AllocError>
-    ensures { OnOk result (words.new ≡ words.old ++ act_reads (holds stored.now.keys) (act_of op.now)) }
+    ensures { OnOk result (words.new ≡ words.old ++ act_reads (set_holds stored.now.keys) (act_of op.now)) }
 {
     match op {
         Op::Fetch(a) => words.push(*a),
@@ -64,7 +64,7 @@ fn op_reads(stored: &BTreeSet<u32>, op: &Op, words: &mut Seq<Word>) -> Result<()
 
 #[cycle(reads)]
 fn alts_read(stored: &BTreeSet<u32>, alts: &[Alt], words: &mut Seq<Word>) -> Result<(), AllocError>
-    ensures { OnOk result (words.new ≡ words.old ++ arms_reads (holds stored.now.keys) (arms_of (map arm_of alts.now))) }
+    ensures { OnOk result (words.new ≡ words.old ++ arms_reads (set_holds stored.now.keys) (arms_of (map arm_of alts.now))) }
 {
     for alt in alts {
         block_reads(stored, &alt.body, words)?;
@@ -74,8 +74,8 @@ fn alts_read(stored: &BTreeSet<u32>, alts: &[Alt], words: &mut Seq<Word>) -> Res
 
 #[cycle(reads)]
 fn stmt_reads(stored: &BTreeSet<u32>, stmt: &Stmt, words: &mut Seq<Word>) -> Result<(), AllocError>
-    ensures { OnOk result ((c : Code) → words.old ++ code_reads (holds stored.now.keys) (before_of stmt.now c) ≡ words.new
-        ++ code_reads (holds stored.now.keys) c) }
+    ensures { OnOk result ((c : Code) → words.old ++ code_reads (set_holds stored.now.keys) (before_of stmt.now c) ≡ words.new
+        ++ code_reads (set_holds stored.now.keys) c) }
 {
     match stmt {
         Stmt::Store(_) => Ok(()),
@@ -92,7 +92,7 @@ fn block_reads(
     block: &Block,
     words: &mut Seq<Word>,
 ) -> Result<(), AllocError>
-    ensures { OnOk result (words.new ≡ words.old ++ code_reads (holds stored.now.keys) (code_of block.now)) }
+    ensures { OnOk result (words.new ≡ words.old ++ code_reads (set_holds stored.now.keys) (code_of block.now)) }
 {
     for stmt in block.stmts.as_slice() {
         stmt_reads(stored, stmt, words)?;
@@ -108,7 +108,7 @@ pub(crate) fn words_read(
     stored: &BTreeSet<u32>,
     procs: &[Proc],
 ) -> Result<Seq<Word>, AllocError>
-    ensures { IfOk result (λ ws. ws ≡ reads_of (holds stored.now.keys)
+    ensures { IfOk result (λ ws. ws ≡ reads_of (set_holds stored.now.keys)
         (map procedure_of procs.now)) }
 {
     let mut words = Seq::new(alloc);

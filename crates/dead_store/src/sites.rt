@@ -5,10 +5,10 @@ ghost use Rattle.std.specs.Prelude.{[], ◌∷◌, map, IfOk, OnOk};
 ghost use Rattle.grin_syntax.specs.Tree.{program_of};
 ghost use Rattle.points_to.specs.Found.{found};
 ghost use Rattle.points_to.specs.Joined.{Joined};
-ghost use Rattle.dead_store.specs.Holding.{holds};
+ghost use Rattle.dead_store.specs.Holding.{set_holds};
 ghost use Rattle.dead_store.specs.Staying.{AreStaying, CellsJoin};
 
-use crate::left::variables_stored;
+use crate::left::stored_variables;
 use crate::reads::words_read;
 use grin_syntax::{GlobalCell, Grin, Site, Word};
 use points_to::Flow;
@@ -63,10 +63,10 @@ pub(crate) fn staying_sites(
     flow: &Flow,
 ) -> Result<BTreeSet<u32>, AllocError>
     ensures { IfOk result (λ sites.
-        AreStaying (found flow.now) (program_of g.now) (holds sites.keys)) }
+        AreStaying (found flow.now) (program_of g.now) (set_holds sites.keys)) }
 {
     let procs = g.procs.as_slice();
-    let stored = variables_stored(alloc, procs)?;
+    let stored = stored_variables(alloc, procs)?;
     let words = words_read(alloc, &stored, procs)?;
     let mut sites = BTreeSet::new(alloc);
     put_globals(g.globals.as_slice(), &mut sites)?;

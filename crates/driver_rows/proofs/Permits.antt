@@ -2,10 +2,10 @@
 use Rattle.std.proofs.Common.{ℕ, List, Option, Some, None}
 use Rattle.std.specs.Prelude.{IfSome}
 use Rattle.command_line.specs.Commands.{CommandLine, RunFile, CheckFile, ListFile, BuildFile, ExecImage, GenRun, LinkFiles, LiftFile, MatchFile, TypesFile, SidesFile, PointsFile}
-use Rattle.grin_driver.specs.Answer.{OfNamed}
+use Rattle.grin_driver.specs.Answer.{HoldsOfNamedFiles}
 
 -- it permits every name, so that of every command
-pub any_command : (command : Option CommandLine) → IfSome command (OfNamed (λ (name : List ℕ). Unit {0}))
+pub any_command : (command : Option CommandLine) → IfSome command (HoldsOfNamedFiles (λ (name : List ℕ). Unit {0}))
 any_command None = tt
 any_command (Some (RunFile file cells stack steps stats)) = tt
 any_command (Some (CheckFile file)) = tt

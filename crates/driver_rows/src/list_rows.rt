@@ -4,7 +4,9 @@ use crate::outside::{Ended, LISTS, Object, Outside, program_answers};
 use std::alloc::{AllocError, Global};
 use std::fmt::Write;
 use std::test::Fail;
-use worked_texts::many_delayed;
+use worked_texts::{
+    EMPTY_TRANSLATED, TAKE_TWICE, TAKE_TWICE_BY_WORDS, TAKE_TWICE_INLINED, many_delayed,
+};
 
 /// What `list` of a text behind `LISTS` after a pass answers.
 fn listed(alloc: Global, text: &str, after: &str) -> Result<Ended, AllocError> {
@@ -31,97 +33,8 @@ fn has_line_alone(
     Ok(ended.is_done() && ended.has_line(line) && !ended.has_line(no_line))
 }
 
-/// What all programs print with: the list is evaluated, then its head, which is written, and then
-/// the tail is printed.
-const EMPTY: &str = "global main = (Fmain)
-
-main =
-  unit (CNil)
-
-@print v0 =
-  v1 <- eval v0
-  case v1 of
-    (CNil) ->
-      unit (CNil)
-    (CCons v2 v3) ->
-      v4 <- eval v2
-      case v4 of
-        (CInt v5) ->
-          write v5
-          call @print v3
-        else ->
-          fail
-    else ->
-      fail
-";
-
-/// The program that takes a list twice, with its evaluations inlined.
-const TAKES: &str = "global main = (Fmain)
-
-take v0 =
-  v1 <- fetch v0
-  v2 <- case v1 of
-    (CNil) ->
-      unit v1
-    (CCons v3 v4) ->
-      unit v1
-    (Ftake v5) ->
-      v6 <- call take v5
-      update v0 v6
-      unit v6
-  case v2 of
-    (CNil) ->
-      unit (CNil)
-    (CCons v7 v8) ->
-      store
-        v9 = (Ftake v8)
-      unit (CCons v7 v9)
-    else ->
-      fail
-
-main =
-  store
-    v0 = (CInt 65)
-    v1 = (CNil)
-    v2 = (CCons v0 v1)
-    v3 = (Ftake v2)
-  call take v3
-
-@print v0 =
-  v1 <- fetch v0
-  v2 <- case v1 of
-    (CNil) ->
-      unit v1
-    (CCons v3 v4) ->
-      unit v1
-    (Ftake v5) ->
-      v6 <- call take v5
-      update v0 v6
-      unit v6
-    (Fmain) ->
-      v7 <- call main
-      update v0 v7
-      unit v7
-  case v2 of
-    (CNil) ->
-      unit (CNil)
-    (CCons v8 v9) ->
-      v10 <- fetch v8
-      v11 <- case v10 of
-        (CInt v12) ->
-          unit v10
-      case v11 of
-        (CInt v13) ->
-          write v13
-          call @print v9
-        else ->
-          fail
-    else ->
-      fail
-";
-
-/// The same program with vectors in place of its node variables: each has a tag and two fields, as
-/// the longest nodes have.
+/// The program that takes a list twice, with vectors in place of its node variables: each has a tag
+/// and two fields, as the longest nodes have.
 const TAKES_IN_VECTORS: &str = "global main = (Fmain)
 
 take v0 =
@@ -180,81 +93,6 @@ main =
         (CInt) ->
           write v17
           call @print v6
-        else ->
-          fail
-    else ->
-      fail
-";
-
-// After fetches of words: no line fetches a node.
-const TAKES_BY_WORDS: &str = "global main = (Fmain)
-
-take v0 =
-  v1 <- fetch v0 0
-  [v2 v3 v4] <- case [v1 0 0] of
-    (CNil) ->
-      v5 <- fetch v0 1
-      v6 <- fetch v0 2
-      unit [v1 v5 v6]
-    (CCons) ->
-      v7 <- fetch v0 1
-      v8 <- fetch v0 2
-      unit [v1 v7 v8]
-    (Ftake) ->
-      v9 <- fetch v0 1
-      [v10 v11 v12] <- call take v9
-      update v0 [v10 v11 v12]
-      unit [v10 v11 v12]
-  case [v2 v3 v4] of
-    (CNil) ->
-      unit (CNil)
-    (CCons) ->
-      store
-        v13 = (Ftake v4)
-      unit (CCons v3 v13)
-    else ->
-      fail
-
-main =
-  store
-    v0 = (CInt 65)
-    v1 = (CNil)
-    v2 = (CCons v0 v1)
-    v3 = (Ftake v2)
-  call take v3
-
-@print v0 =
-  v1 <- fetch v0 0
-  [v2 v3 v4] <- case [v1 0 0] of
-    (CNil) ->
-      v5 <- fetch v0 1
-      v6 <- fetch v0 2
-      unit [v1 v5 v6]
-    (CCons) ->
-      v7 <- fetch v0 1
-      v8 <- fetch v0 2
-      unit [v1 v7 v8]
-    (Ftake) ->
-      v9 <- fetch v0 1
-      [v10 v11 v12] <- call take v9
-      update v0 [v10 v11 v12]
-      unit [v10 v11 v12]
-    (Fmain) ->
-      [v13 v14 v15] <- call main
-      update v0 [v13 v14 v15]
-      unit [v13 v14 v15]
-  case [v2 v3 v4] of
-    (CNil) ->
-      unit (CNil)
-    (CCons) ->
-      v16 <- fetch v3 0
-      v17 <- fetch v3 1
-      v18 <- fetch v3 2
-      [v19 v20 v21] <- unit [v16 v17 v18]
-      case [v19 v20 v21] of
-        (CInt) ->
-          write v20
-          call @print v4
         else ->
           fail
     else ->
@@ -421,10 +259,6 @@ main =
       fail
 ";
 
-/// A program that takes a list twice. It applies no unknown function.
-const TAKES_TEXT: &str =
-    "take xs = case xs of { Nil -> Nil; Cons h t -> Cons h (take t) }; main = take (take (Cons 65 Nil));";
-
 /// What prints a list of one element after the cases were simplified: the case over a number, whose
 /// one alternative gives back what it is over, is a unit.
 const ONE_SIMPLER: &str = "global main = (Fmain)
@@ -475,19 +309,19 @@ fn listings(rt: HostRuntime) -> Result<(), Fail> {
             "read",
             "data Nil 0;\ndata Cons 2;\nmain = foo;\n",
         ),
-        ("main = Nil;", "translate", EMPTY),
+        ("main = Nil;", "translate", EMPTY_TRANSLATED),
         ("main = Cons 65 Nil;", "simplify", ONE_SIMPLER),
-        (TAKES_TEXT, "eval", TAKES),
-        (TAKES_TEXT, "apply", TAKES),
-        (TAKES_TEXT, "vectorise", TAKES_IN_VECTORS),
-        (TAKES_TEXT, "fetch", TAKES_BY_WORDS),
-        (TAKES_TEXT, "copy", TAKES_WITHOUT_COPIES),
-        (TAKES_TEXT, "update", TAKES_WITH_TAGS),
+        (TAKE_TWICE, "eval", TAKE_TWICE_INLINED),
+        (TAKE_TWICE, "apply", TAKE_TWICE_INLINED),
+        (TAKE_TWICE, "vectorise", TAKES_IN_VECTORS),
+        (TAKE_TWICE, "fetch", TAKE_TWICE_BY_WORDS),
+        (TAKE_TWICE, "copy", TAKES_WITHOUT_COPIES),
+        (TAKE_TWICE, "update", TAKES_WITH_TAGS),
         // No procedure gives numbers alone, and each parameter's cell is updated.
-        (TAKES_TEXT, "unbox", TAKES_WITH_TAGS),
-        (TAKES_TEXT, "raise", TAKES_WITH_TAGS),
+        (TAKE_TWICE, "unbox", TAKES_WITH_TAGS),
+        (TAKE_TWICE, "raise", TAKES_WITH_TAGS),
         // It has no nested block.
-        (TAKES_TEXT, "flat", TAKES_WITH_TAGS),
+        (TAKE_TWICE, "flat", TAKES_WITH_TAGS),
     ];
     for (text, after, out) in rows {
         assert!(rt; lists(rt.alloc(), text, after, out)?, "{text} {after}");
@@ -499,10 +333,10 @@ fn listings(rt: HostRuntime) -> Result<(), Fail> {
 const HEAD_TEXT: &str =
     "hd c = case c of { Cons h t -> h }; main = case hd (Cons 65 Nil) of { x -> Cons x Nil };";
 
-/// A line that a stage of `HEAD_TEXT` has, and one that it doesn't have. The parameter of `hd` gives
-/// place to its two fields. Then its call is in a nested block with the cell of which they are
-/// fetched; the number that it gives gets its tag; the fields are the two cells stored before; and
-/// nobody fetches from the cell.
+/// A line that a stage of `HEAD_TEXT` has, and one that it doesn't have. The parameter of `hd`
+/// gives place to its two fields. Then its call is in a nested block with the cell of which they
+/// are fetched; the number that it gives gets its tag; the fields are the two cells stored before;
+/// and nobody fetches from the cell.
 #[test]
 fn lines_of_each_stage(rt: HostRuntime) -> Result<(), Fail> {
     let rows = [

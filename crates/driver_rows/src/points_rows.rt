@@ -2,42 +2,15 @@
 
 use crate::outside::{LISTS, Outside};
 use std::test::Fail;
-
-/// A list that is taken twice.
-const TAKES: &str = "take xs = case xs of { Nil -> Nil; Cons h t -> Cons h (take t) };\n\
-                     main = take (take (Cons 65 Nil));\n";
-
-const TAKES_FOUND: &str = "global main = (CNil) (CCons {&main.v0} {&take.v4}) (Fmain)
-
-take: (CNil) (CCons {&main.v0} {&take.v4})
-  v0: &take.v4 &main.v1 &main.v2 &main.v3
-  v1: (CNil) (CCons {&main.v0} {&take.v4 &main.v1})
-  v2: &main.v0
-  v3: &take.v4 &main.v1
-  v4 = (CNil) (CCons {&main.v0} {&take.v4}) (Ftake {&take.v4 &main.v1})
-
-main: (CNil) (CCons {&main.v0} {&take.v4})
-  v0 = (CInt {number})
-  v1 = (CNil)
-  v2 = (CCons {&main.v0} {&main.v1})
-  v3 = (CNil) (CCons {&main.v0} {&take.v4}) (Ftake {&main.v2})
-
-@print: (CNil)
-  v0: &main &take.v4
-  v1: (CNil) (CCons {&main.v0} {&take.v4})
-  v2: &main.v0
-  v3: &take.v4
-  v4: (CInt {number})
-  v5: number
-";
+use worked_texts::{TAKE_TWICE, TAKE_TWICE_POINTS};
 
 #[test]
 fn what_is_found_of_a_list_taken_twice(rt: HostRuntime) -> Result<(), Fail> {
     let mut text = String::from_str(rt.alloc(), LISTS)?;
-    text.push_str(TAKES)?;
+    text.push_str(TAKE_TWICE)?;
     let words = ["grinc", "points", "a"];
     let outside = Outside::of(text.as_bytes());
-    let is_found = outside.answers(rt.alloc(), &words, 0, TAKES_FOUND, "")?;
+    let is_found = outside.answers(rt.alloc(), &words, 0, TAKE_TWICE_POINTS, "")?;
     assert!(rt; is_found);
     Ok(())
 }

@@ -5,6 +5,7 @@ use grin_driver::run_text;
 use grin_io::{MemSink, MemSource};
 use std::alloc::{AllocError, Global};
 use std::test::Fail;
+use worked_texts::TAKE_TWICE;
 
 #[test]
 fn programs_that_end(rt: HostRuntime) -> Result<(), Fail> {
@@ -30,10 +31,7 @@ fn programs_that_end(rt: HostRuntime) -> Result<(), Fail> {
             "k x y = x; main = case k 65 of { p -> Cons (p Nil) Nil };",
             "A",
         ),
-        (
-            "take xs = case xs of { Nil -> Nil; Cons h t -> Cons h (take t) }; main = take (take (Cons 65 Nil));",
-            "A",
-        ),
+        (TAKE_TWICE, "A"),
         // The cell of the list is taken apart by the caller.
         (
             "hd c = case c of { Cons h t -> h }; main = case hd (Cons 65 Nil) of { x -> Cons x Nil };",

@@ -151,8 +151,8 @@ fn sides_under_another_rule(rt: HostRuntime) -> Result<(), Fail> {
     Ok(())
 }
 
-/// Pairs of which each holds the one before it twice, before what `main` gives: the type of the last
-/// one, `x60`, is written with 2^60 names.
+/// Pairs of which each holds the one before it twice, before what `main` gives: the type of the
+/// last one, `x60`, is written with 2^60 names.
 fn pairs(alloc: Global) -> Result<String, AllocError> {
     let mut text = format!(in alloc; "{LIST}type Pair a b = Pair a b; main = let x0 = 1")?;
     for k in 0..60u32 {

@@ -5,7 +5,7 @@ use Rattle.elf32.specs.declared.header.ProgramHeader.{ProgramHeader}
 use Rattle.elf32.specs.declared.refusal.ElfRefusal.{ElfRefusal}
 use Rattle.elf32.specs.declared.refusal.ElfRefusal.TheVariants.{ImageTooLong, TooShort, NotElf, NotRiscv32Exec, HeaderOutside, SegmentOutside, SegmentsOverlap, EntryOutside, SegmentsTooLarge, Memory}
 use Rattle.elf32.specs.Headers.{entry_of, headers_offset, header_count, headers_of}
-use Rattle.elf32.specs.Rules.{IsRiscv32Exec, IsOutside, IsLeast, header, Overlaps, MayEnter, loaded_size, Breaks, rule, KeepsBelow}
+use Rattle.elf32.specs.Rules.{IsRiscv32Exec, SegmentIsOutOfBounds, IsLeast, header, Overlaps, IsExecutableAtEntry, loaded_size, Breaks, rule, KeepsBelow}
 
 -- no rule has a smaller number than the first one
 pub below40 : (file : List ℕ) → KeepsBelow 40 file
@@ -53,7 +53,7 @@ below45 file below inside = next 44 file below here
     here HeaderOutside e b = inside b
     here _ e b = absurd (omega arith)
 
-pub below46 : (file : List ℕ) → KeepsBelow 45 file → ((i : ℕ) → IsOutside (length file) (header (headers_of file) i) → ⊥) → KeepsBelow 46 file
+pub below46 : (file : List ℕ) → KeepsBelow 45 file → ((i : ℕ) → SegmentIsOutOfBounds (length file) (header (headers_of file) i) → ⊥) → KeepsBelow 46 file
 below46 file below inside = next 45 file below here
   where
     here : (r : ElfRefusal) → rule r ≡ 45 → Breaks r file → ⊥
@@ -67,7 +67,7 @@ below47 file below apart = next 46 file below here
     here (SegmentsOverlap j) e b = apart j b.0
     here _ e b = absurd (omega arith)
 
-pub below48 : (file : List ℕ) → KeepsBelow 47 file → Any (MayEnter (entry_of file)) (headers_of file) → KeepsBelow 48 file
+pub below48 : (file : List ℕ) → KeepsBelow 47 file → Any (IsExecutableAtEntry (entry_of file)) (headers_of file) → KeepsBelow 48 file
 below48 file below entered = next 47 file below here
   where
     here : (r : ElfRefusal) → rule r ≡ 47 → Breaks r file → ⊥
@@ -91,13 +91,13 @@ some_of (Some y) x P Q h e = let same : y ≡ x = cc in subst Q same h
 
 -- what the searches through the headers say
 abbrev Outside : List ℕ → List ProgramHeader → Option ℕ → Type 0
-Outside file hs o = MatchOption o ((i : ℕ) → IsOutside (length file) (header hs i) → ⊥) (λ i. IsLeast (λ k. IsOutside (length file) (header hs k)) i)
+Outside file hs o = MatchOption o ((i : ℕ) → SegmentIsOutOfBounds (length file) (header hs i) → ⊥) (λ i. IsLeast (λ k. SegmentIsOutOfBounds (length file) (header hs k)) i)
 
 abbrev Overlapping : List ProgramHeader → Option ℕ → Type 0
 Overlapping hs o = MatchOption o ((j : ℕ) → Overlaps hs j → ⊥) (λ j. IsLeast (Overlaps hs) j)
 
 pub all_inside : (file : List ℕ) (hs : List ProgramHeader) (o : Option ℕ) → hs ≡ headers_of file → Outside file hs o → ((x : ℕ) → o ≡ Some x → ⊥)
-    → (i : ℕ) → IsOutside (length file) (header (headers_of file) i) → ⊥
+    → (i : ℕ) → SegmentIsOutOfBounds (length file) (header (headers_of file) i) → ⊥
 all_inside file hs o same found none = none_of o _ _ (subst (λ (l : List ProgramHeader). Outside file l o) same found) none
 
 pub all_apart : (file : List ℕ) (hs : List ProgramHeader) (o : Option ℕ) → hs ≡ headers_of file → Overlapping hs o → ((x : ℕ) → o ≡ Some x → ⊥)

@@ -7,7 +7,7 @@ use Rattle.seq.proofs.Order.{lt_or_le, compared}
 use Rattle.elf32.specs.declared.header.ProgramHeader.{ProgramHeader}
 use Rattle.elf32.specs.Headers.{is_loadable}
 use Rattle.elf32.specs.Rules.{Overlaps, Covers, header, no_header, IsLeast}
-use Rattle.elf32.specs.Ends.{IsLast, Tracks}
+use Rattle.elf32.specs.Ends.{IsLastSegmentBelow, AreSegmentEnds}
 
 pub less : (s t : ℕ) → s < t → nat_cmp s t ≡ Less
 less s t h = sym (nat_cmp_is s t Less h)
@@ -22,7 +22,7 @@ pub other_key : (k q : ℕ) → (q ≡ k → ⊥) → is_eq (nat_cmp k q) ≡ fa
 other_key k q h = elim (compared k q) [ inl lt ↦ ap is_eq (less k q lt) | inr more ↦ elim more [ inl e ↦ absurd (h (sym e)) | inr gt ↦ ap is_eq (greater k q gt) ] ]
 
 -- an earlier segment that begins before this one's end and ends after its start shares an address with it
-pub hit : (hs : List ProgramHeader) (j : ℕ) (ends : ℕ → Option ℕ) (s e : ℕ) → Tracks hs j ends → IsTrue (is_loadable (header hs j)) → 0 < (header hs j).memory_size
+pub hit : (hs : List ProgramHeader) (j : ℕ) (ends : ℕ → Option ℕ) (s e : ℕ) → AreSegmentEnds hs j ends → IsTrue (is_loadable (header hs j)) → 0 < (header hs j).memory_size
     → ends s ≡ Some e → s < (header hs j).addr + (header hs j).memory_size → (header hs j).addr < e → Overlaps hs j
 hit hs j ends s e t load some at below above =
     let f = t.found s e at in
@@ -33,15 +33,15 @@ hit hs j ends s e t load some at below above =
     ]
 
 -- two of the first n segments that share an address
-shared : (hs : List ProgramHeader) (n i k a : ℕ) (ends : ℕ → Option ℕ) → Tracks hs n ends → i < n → k < n → Covers (header hs i) a → Covers (header hs k) a → i ≡ k
+shared : (hs : List ProgramHeader) (n i k a : ℕ) (ends : ℕ → Option ℕ) → AreSegmentEnds hs n ends → i < n → k < n → Covers (header hs i) a → Covers (header hs k) a → i ≡ k
 shared hs n i k a ends t hi hk ci ck = elim (compared i k) [
   | inl lt ↦ absurd (t.apart k hk (i, a, lt, ci, ck))
   | inr more ↦ elim more [ inl e ↦ e | inr gt ↦ absurd (t.apart i hi (k, a, gt, ck, ci)) ]
 ]
 
 -- where the last segment that begins before this one's end ends before its start, there is no shared address
-pub miss : (hs : List ProgramHeader) (j : ℕ) (ends : ℕ → Option ℕ) (s e : ℕ) → Tracks hs j ends
-    → IsLast ends ((header hs j).addr + (header hs j).memory_size) s e → e ≤ (header hs j).addr → Overlaps hs j → ⊥
+pub miss : (hs : List ProgramHeader) (j : ℕ) (ends : ℕ → Option ℕ) (s e : ℕ) → AreSegmentEnds hs j ends
+    → IsLastSegmentBelow ends ((header hs j).addr + (header hs j).memory_size) s e → e ≤ (header hs j).addr → Overlaps hs j → ⊥
 miss hs j ends s e t l le (i, a, lt, ci, cj) =
     let f = t.found s e l.ends_there in
     let k = f.0 in
@@ -64,7 +64,7 @@ miss hs j ends s e t l le (i, a, lt, ci, cj) =
           omega arith
     ]
 
-pub none_below : (hs : List ProgramHeader) (j : ℕ) (ends : ℕ → Option ℕ) → Tracks hs j ends
+pub none_below : (hs : List ProgramHeader) (j : ℕ) (ends : ℕ → Option ℕ) → AreSegmentEnds hs j ends
     → ((t : ℕ) → t < (header hs j).addr + (header hs j).memory_size → ends t ≡ None) → Overlaps hs j → ⊥
 none_below hs j ends t none (i, a, lt, ci, cj) =
     let there = t.listed i lt ci.0 (omega arith) in
@@ -72,8 +72,8 @@ none_below hs j ends t none (i, a, lt, ci, cj) =
     cc
 
 -- a header without addresses changes nothing
-pub passed : (hs : List ProgramHeader) (j : ℕ) (ends : ℕ → Option ℕ) → Tracks hs j ends
-    → (IsTrue (is_loadable (header hs j)) → 0 < (header hs j).memory_size → ⊥) → Tracks hs (j + 1) ends
+pub passed : (hs : List ProgramHeader) (j : ℕ) (ends : ℕ → Option ℕ) → AreSegmentEnds hs j ends
+    → (IsTrue (is_loadable (header hs j)) → 0 < (header hs j).memory_size → ⊥) → AreSegmentEnds hs (j + 1) ends
 passed hs j ends t empty = record {
   found = λ s e at. let f = t.found s e at in (f.0, omega arith, f.2, f.3, f.4, f.5);
   listed = λ k lt load some. elim (lt_or_le k j) [
@@ -87,9 +87,9 @@ passed hs j ends t empty = record {
 }
 
 -- one more segment
-pub added : (hs : List ProgramHeader) (j : ℕ) (ends ends' : ℕ → Option ℕ) → Tracks hs j ends → IsTrue (is_loadable (header hs j)) → 0 < (header hs j).memory_size
+pub added : (hs : List ProgramHeader) (j : ℕ) (ends ends' : ℕ → Option ℕ) → AreSegmentEnds hs j ends → IsTrue (is_loadable (header hs j)) → 0 < (header hs j).memory_size
     → (Overlaps hs j → ⊥) → ends' (header hs j).addr ≡ Some ((header hs j).addr + (header hs j).memory_size)
-    → ((q : ℕ) → (q ≡ (header hs j).addr → ⊥) → ends' q ≡ ends q) → Tracks hs (j + 1) ends'
+    → ((q : ℕ) → (q ≡ (header hs j).addr → ⊥) → ends' q ≡ ends q) → AreSegmentEnds hs (j + 1) ends'
 added hs j ends ends' t load some fresh here others = record {
   found = λ s e at. elim (same_or_not s (header hs j).addr) [
     | inl same ↦
@@ -112,7 +112,7 @@ added hs j ends ends' t load some fresh here others = record {
     same_or_not a b = elim (compared a b) [ inl lt ↦ inr (λ e. omega arith) | inr more ↦ elim more [ inl e ↦ inl e | inr gt ↦ inr (λ e. omega arith) ] ]
 
 -- the first header that overlaps
-pub least : (hs : List ProgramHeader) (j : ℕ) (ends : ℕ → Option ℕ) → Tracks hs j ends → Overlaps hs j → IsLeast (Overlaps hs) j
+pub least : (hs : List ProgramHeader) (j : ℕ) (ends : ℕ → Option ℕ) → AreSegmentEnds hs j ends → Overlaps hs j → IsLeast (Overlaps hs) j
 least hs j ends t o = (o, λ k lt. t.apart k lt)
 
 header_past : (hs : List ProgramHeader) (j : ℕ) → length hs ≤ j → header hs j ≡ no_header
@@ -125,14 +125,14 @@ header_past (x ∷ xs) (suc j) h = header_past xs j (omega arith)
 pub past : (hs : List ProgramHeader) (j : ℕ) → length hs ≤ j → Overlaps hs j → ⊥
 past hs j le (i, a, lt, ci, cj) = let e = header_past hs j le in let k : IsTrue (is_loadable no_header) = subst (λ (h : ProgramHeader). IsTrue (is_loadable h)) e cj.0 in cc
 
-pub none : (hs : List ProgramHeader) (n : ℕ) (ends : ℕ → Option ℕ) → Tracks hs n ends → length hs ≤ n → (j : ℕ) → Overlaps hs j → ⊥
+pub none : (hs : List ProgramHeader) (n : ℕ) (ends : ℕ → Option ℕ) → AreSegmentEnds hs n ends → length hs ≤ n → (j : ℕ) → Overlaps hs j → ⊥
 none hs n ends t le j o = elim (lt_or_le j n) [ inl lt ↦ t.apart j lt o | inr not ↦ past hs j (omega arith) o ]
 
 -- the answer of a search among the earlier ends
-pub earlier : (hs : List ProgramHeader) (j : ℕ) (ends : ℕ → Option ℕ) (b : Bool) → Tracks hs j ends
+pub earlier : (hs : List ProgramHeader) (j : ℕ) (ends : ℕ → Option ℕ) (b : Bool) → AreSegmentEnds hs j ends
     → IsTrue (is_loadable (header hs j)) → 0 < (header hs j).memory_size
-    → (IsTrue b → (s : ℕ) × (e : ℕ) × IsLast ends ((header hs j).addr + (header hs j).memory_size) s e × ((header hs j).addr < e))
-    → (b ≡ false → ((s : ℕ) → s < (header hs j).addr + (header hs j).memory_size → ends s ≡ None) ⊎ ((s : ℕ) × (e : ℕ) × IsLast ends ((header hs j).addr + (header hs j).memory_size) s e × (e ≤ (header hs j).addr)))
+    → (IsTrue b → (s : ℕ) × (e : ℕ) × IsLastSegmentBelow ends ((header hs j).addr + (header hs j).memory_size) s e × ((header hs j).addr < e))
+    → (b ≡ false → ((s : ℕ) → s < (header hs j).addr + (header hs j).memory_size → ends s ≡ None) ⊎ ((s : ℕ) × (e : ℕ) × IsLastSegmentBelow ends ((header hs j).addr + (header hs j).memory_size) s e × (e ≤ (header hs j).addr)))
     → IsTrue b ↔ Overlaps hs j
 earlier hs j ends true t load some found missed = (λ _. let h = found refl in hit hs j ends h.0 h.1 t load some h.2.ends_there h.2.below h.3, λ _. refl)
 earlier hs j ends false t load some found missed =

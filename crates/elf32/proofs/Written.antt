@@ -6,9 +6,9 @@ use Rattle.std.proofs.Math.Seq.{drop-append_seam}
 use Rattle.byteorder.specs.Endian.{little_number, little_bytes}
 use Rattle.byteorder.specs.Numbers.{little_number-reads_back}
 use Rattle.elf32.specs.declared.header.ProgramHeader.{ProgramHeader}
-use Rattle.elf32.specs.File.{words, headers, file_of, program, FitsLayout}
+use Rattle.elf32.specs.File.{words, headers, file_of, program, SizesFitLayout}
 use Rattle.elf32.specs.Headers.{entry_of, header_at, headers_of, is_loadable, part_of, image_of}
-use Rattle.elf32.specs.Rules.{IsOutside, Covers, header, Overlaps, MayEnter, loaded_size, KeepsBelow, Loads}
+use Rattle.elf32.specs.Rules.{SegmentIsOutOfBounds, Covers, header, Overlaps, IsExecutableAtEntry, loaded_size, KeepsBelow, Loads}
 use Rattle.elf32.proofs.Chain.{below41, below42, below43, below44, below45, below46, below47, below48, below49}
 
 length_words : (numbers : List ℕ) → length (words numbers) ≡ 4 * length numbers
@@ -50,7 +50,7 @@ record Regions (n h s : ℕ) : Type 0 where
   pub code : n ≤ 1073741824
   pub memory : 0x50000000 + h + s ≤ 0x78000000
 
-inside : (n h s i : ℕ) → Regions n h s → IsOutside (4096 + n) (header (three n h s) i) → ⊥
+inside : (n h s i : ℕ) → Regions n h s → SegmentIsOutOfBounds (4096 + n) (header (three n h s) i) → ⊥
 inside n h s zero r (load, inl past) = omega arith
 inside n h s zero r (load, inr (inl more)) = omega arith
 inside n h s zero r (load, inr (inr high)) = omega arith
@@ -87,7 +87,7 @@ apart n h s j r (i, a, lt, ci, cj) =
     let e = same_region s i j a (omega arith) (region n h s i a r ci) (region n h s j a r cj) in
     omega arith
 
-entered : (n h s : ℕ) → Regions n h s → Any (MayEnter 0x00010000) (three n h s)
+entered : (n h s : ℕ) → Regions n h s → Any (IsExecutableAtEntry 0x00010000) (three n h s)
 entered n h s r = (0, code_header n, omega arith, refl, (refl, (refl, omega arith, omega arith)))
 
 small : (n h s : ℕ) → Regions n h s → loaded_size (three n h s) ≤ 2147483648
@@ -129,10 +129,10 @@ kept h s code r =
     let b42 = below42 file (below41 file (omega (arith, long))) (omega (arith, long)) in
     let b44 = below44 file (below43 file b42 refl) (record { class = refl; order = refl; type = refl; machine = refl; headers = λ _. refl }) in
     let b45 = below45 file b44 (λ p. let past = p.1 in omega (arith, long, past)) in
-    let b46 = below46 file b45 (subst (λ (hs : List ProgramHeader). (i : ℕ) → IsOutside (length file) (header hs i) → ⊥) (sym same)
-    (subst (λ (l : ℕ). (i : ℕ) → IsOutside l (header (three n h s) i) → ⊥) (sym long) (λ i. inside n h s i r))) in
+    let b46 = below46 file b45 (subst (λ (hs : List ProgramHeader). (i : ℕ) → SegmentIsOutOfBounds (length file) (header hs i) → ⊥) (sym same)
+    (subst (λ (l : ℕ). (i : ℕ) → SegmentIsOutOfBounds l (header (three n h s) i) → ⊥) (sym long) (λ i. inside n h s i r))) in
     let b47 = below47 file b46 (subst (λ (hs : List ProgramHeader). (j : ℕ) → Overlaps hs j → ⊥) (sym same) (λ j. apart n h s j r)) in
-    let b48 = below48 file b47 (subst (λ (hs : List ProgramHeader). Any (MayEnter (entry_of file)) hs) (sym same) (entered n h s r)) in
+    let b48 = below48 file b47 (subst (λ (hs : List ProgramHeader). Any (IsExecutableAtEntry (entry_of file)) hs) (sym same) (entered n h s r)) in
     below49 file b48 (subst (λ (hs : List ProgramHeader). loaded_size hs ≤ 2147483648) (sym same) (small n h s r))
 
 image : (h s : ℕ) (code : List ℕ) → Regions (4 * length code) h s → program code h s ≡ image_of (headers (4 * length code) h s ++ tail code)
@@ -152,7 +152,7 @@ image h s code r =
     let turned = sym all in
     λ k. record { entry = 0x00010000; segments = turned k }
 
-pub loads : (code : List ℕ) (h s : ℕ) → FitsLayout code h s → Loads (file_of code h s) (program code h s)
+pub loads : (code : List ℕ) (h s : ℕ) → SizesFitLayout code h s → Loads (file_of code h s) (program code h s)
 unfolding file_of
 loads code h s fits =
     let r : Regions (4 * length code) h s = let a = fits.some in let b = fits.code_fits in let d = fits.data_fits in record { some = omega arith; code = omega arith; memory = omega arith } in

@@ -5,10 +5,11 @@ use Rattle.std.specs.Prelude.{ℕ, ◌+◌, ◌-◌, ◌*◌, ◌<◌, ◌≤◌
 use Rattle.std.specs.List.{flat_map}
 use Rattle.byteorder.specs.Endian.{little_bytes}
 use Rattle.elf32.specs.Image.{Image}
+use Rattle.limits.specs.Limits.{code_start, heap_start, stack_end, most_code}
 
 -- numbers of two bytes each, and of four, the least byte first
-abbrev pub halves : List ℕ → List ℕ
-halves numbers = flat_map (little_bytes 2) numbers
+abbrev pub halfword_bytes : List ℕ → List ℕ
+halfword_bytes numbers = flat_map (little_bytes 2) numbers
 
 abbrev pub words : List ℕ → List ℕ
 words numbers = flat_map (little_bytes 4) numbers
@@ -17,14 +18,15 @@ words numbers = flat_map (little_bytes 4) numbers
 abbrev pub identification : List ℕ
 identification = 0x7F ∷ 0x45 ∷ 0x4C ∷ 0x46 ∷ 1 ∷ 1 ∷ 1 ∷ 0 ∷ 0 ∷ 0 ∷ 0 ∷ 0 ∷ 0 ∷ 0 ∷ 0 ∷ 0 ∷ []
 
--- type 2 is an executable, machine 243 RISC-V, version 1; the entry is 0x00010000, and three
--- program headers of 32 bytes begin at offset 52; there are no sections and no flags
+-- type 2 is an executable, machine 243 RISC-V, version 1; the entry is where the code
+-- starts, and three program headers of 32 bytes begin at offset 52; there are no sections and no
+-- flags
 abbrev pub elf_header : List ℕ
 elf_header =
     identification
-    ++ halves (2 ∷ 243 ∷ [])
-    ++ words (1 ∷ 0x00010000 ∷ 52 ∷ 0 ∷ 0 ∷ [])
-    ++ halves (52 ∷ 32 ∷ 3 ∷ 0 ∷ 0 ∷ 0 ∷ [])
+    ++ halfword_bytes (2 ∷ 243 ∷ [])
+    ++ words (1 ∷ code_start ∷ 52 ∷ 0 ∷ 0 ∷ [])
+    ++ halfword_bytes (52 ∷ 32 ∷ 3 ∷ 0 ∷ 0 ∷ 0 ∷ [])
 
 -- a loadable segment, whose physical address is its virtual one
 abbrev pub program_header : (offset addr file_size memory_size flags align : ℕ) → List ℕ
@@ -35,36 +37,36 @@ program_header offset addr file_size memory_size flags align =
 abbrev pub headers : (code_size heap_bytes stack_bytes : ℕ) → List ℕ
 headers code_size heap_bytes stack_bytes =
     elf_header
-    ++ program_header 4096 0x00010000 code_size code_size 5 4096
-    ++ program_header 0 0x50000000 0 heap_bytes 6 4
-    ++ program_header 0 (0x78000000 - stack_bytes) 0 stack_bytes 6 4
+    ++ program_header 4096 code_start code_size code_size 5 4096
+    ++ program_header 0 heap_start 0 heap_bytes 6 4
+    ++ program_header 0 (stack_end - stack_bytes) 0 stack_bytes 6 4
 
 -- the headers have 148 bytes, so the code begins at offset 4096
 unfoldable pub file_of : (code : List ℕ) (heap_bytes stack_bytes : ℕ) → List ℕ
 file_of code heap_bytes stack_bytes =
     headers (4 * length code) heap_bytes stack_bytes ++ replicate 3948 0 ++ words code
 
--- there is code, of at most 2^28 words, and the heap ends before the stack begins
-pub record FitsLayout (code : List ℕ) (heap_bytes stack_bytes : ℕ) : Type 0 where
+-- there is code, of at most so many words, and the heap ends before the stack begins
+pub record SizesFitLayout (code : List ℕ) (heap_bytes stack_bytes : ℕ) : Type 0 where
   pub some : 0 < length code
-  pub code_fits : length code ≤ 268435456
-  pub data_fits : 0x50000000 + heap_bytes + stack_bytes ≤ 0x78000000
+  pub code_fits : length code ≤ most_code
+  pub data_fits : heap_start + heap_bytes + stack_bytes ≤ stack_end
 
 -- the program that the file stands for: the code, a heap of zeros and a stack of zeros
 abbrev pub program : (code : List ℕ) (heap_bytes stack_bytes : ℕ) → Image
 program code heap_bytes stack_bytes = record {
-  entry = 0x00010000;
+  entry = code_start;
   segments =
       record {
-        addr = 0x00010000;
+        addr = code_start;
         size = 4 * length code;
         bytes = words code;
         write = false;
         exec = true;
       }
-      ∷ record { addr = 0x50000000; size = heap_bytes; bytes = []; write = true; exec = false }
+      ∷ record { addr = heap_start; size = heap_bytes; bytes = []; write = true; exec = false }
       ∷ record {
-        addr = 0x78000000 - stack_bytes;
+        addr = stack_end - stack_bytes;
         size = stack_bytes;
         bytes = [];
         write = true;

@@ -2,7 +2,7 @@
 use Rattle.std.specs.Prelude.{ℕ, zero, suc, ◌+◌, ◌/◌, ◌%◌, List, [], ◌∷◌, Bool, nat_eq, take, drop, map, filter}
 use Rattle.byteorder.specs.Endian.{little_number}
 use Rattle.elf32.specs.declared.header.ProgramHeader.{ProgramHeader}
-use Rattle.elf32.specs.Image.{Part, Image}
+use Rattle.elf32.specs.Image.{ImageSegment, Image}
 
 -- the number of two bytes, and of four, at an offset
 abbrev pub half_at : List ℕ → ℕ → ℕ
@@ -47,7 +47,7 @@ abbrev pub is_loadable : ProgramHeader → Bool
 is_loadable h = nat_eq h.kind 1
 
 -- PF_X is bit 0 of the flags, PF_W bit 1
-abbrev pub part_of : List ℕ → ProgramHeader → Part
+abbrev pub part_of : List ℕ → ProgramHeader → ImageSegment
 part_of file h = record {
   addr = h.addr;
   size = h.memory_size;

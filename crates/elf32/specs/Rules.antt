@@ -15,8 +15,8 @@ pub record IsRiscv32Exec (file : List ℕ) : Type 0 where
   pub headers : 0 < header_count file → header_size file ≡ 32
 
 -- bytes past the file's end, more bytes in the file than in memory, or addresses past 2^32
-abbrev pub IsOutside : ℕ → ProgramHeader → Type 0
-IsOutside len h =
+abbrev pub SegmentIsOutOfBounds : ℕ → ProgramHeader → Type 0
+SegmentIsOutOfBounds len h =
     IsTrue (is_loadable h)
     × (((0 < h.file_size) × (len < h.offset + h.file_size))
     ⊎ ((h.memory_size < h.file_size) ⊎ (2 ^ 32 < h.addr + h.memory_size)))
@@ -42,8 +42,8 @@ abbrev pub IsLeast : (ℕ → Type 0) → ℕ → Type 0
 IsLeast P i = P i × ((k : ℕ) → k < i → P k → ⊥)
 
 -- the segment may be executed (PF_X) and has the entry
-abbrev pub MayEnter : ℕ → ProgramHeader → Type 0
-MayEnter entry h = (h.flags % 2 ≡ 1) × Covers h entry
+abbrev pub IsExecutableAtEntry : ℕ → ProgramHeader → Type 0
+IsExecutableAtEntry entry h = (h.flags % 2 ≡ 1) × Covers h entry
 
 -- the sizes of the loadable segments in memory, added up
 abbrev pub loaded_size : List ProgramHeader → ℕ
@@ -58,9 +58,9 @@ Breaks NotRiscv32Exec file = IsRiscv32Exec file → ⊥
 Breaks HeaderOutside file =
     (0 < header_count file) × (length file < headers_offset file + 32 * header_count file)
 Breaks (SegmentOutside i) file =
-    IsLeast (λ k. IsOutside (length file) (header (headers_of file) k)) i
+    IsLeast (λ k. SegmentIsOutOfBounds (length file) (header (headers_of file) k)) i
 Breaks (SegmentsOverlap j) file = IsLeast (Overlaps (headers_of file)) j
-Breaks EntryOutside file = Any (MayEnter (entry_of file)) (headers_of file) → ⊥
+Breaks EntryOutside file = Any (IsExecutableAtEntry (entry_of file)) (headers_of file) → ⊥
 Breaks SegmentsTooLarge file = 2147483648 < loaded_size (headers_of file)
 Breaks (Memory e) file = ⊥
 
@@ -83,15 +83,15 @@ KeepsBelow n file = (r : ElfRefusal) → rule r < n → Breaks r file → ⊥
 
 -- the segments of the headers are as a program needs them
 pub record IsSound (file : List ℕ) : Type 0 where
-  pub inside : (i : ℕ) → IsOutside (length file) (header (headers_of file) i) → ⊥
+  pub inside : (i : ℕ) → SegmentIsOutOfBounds (length file) (header (headers_of file) i) → ⊥
   pub apart : (j : ℕ) → Overlaps (headers_of file) j → ⊥
-  pub entered : Any (MayEnter (entry_of file)) (headers_of file)
+  pub entered : Any (IsExecutableAtEntry (entry_of file)) (headers_of file)
   pub small : loaded_size (headers_of file) ≤ 2147483648
 
 -- a refusal names the broken rule with the smallest number; want of memory may come at any point
-abbrev pub Refuses : ElfRefusal → List ℕ → Type 0
-Refuses (Memory e) file = Unit {0}
-Refuses r file = Breaks r file × KeepsBelow (rule r) file
+abbrev pub NamesLeastBrokenRule : ElfRefusal → List ℕ → Type 0
+NamesLeastBrokenRule (Memory e) file = Unit {0}
+NamesLeastBrokenRule r file = Breaks r file × KeepsBelow (rule r) file
 
 -- the file breaks no rule, and this is the program that its headers say
 pub record Loads (file : List ℕ) (image : Image) : Type 0 where

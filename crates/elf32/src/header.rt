@@ -2,7 +2,7 @@
 
 ghost use Rattle.std.specs.Prelude.{◌≡◌, ◌+◌, ◌*◌, ◌^◌, ◌<◌, ◌≤◌, ◌⊎◌, ◌↔◌, IsTrue, length, vec_len, IfOk};
 ghost use Rattle.elf32.specs.Headers.{half_at, word_at, is_loadable, header_at, headers_from};
-ghost use Rattle.elf32.specs.Rules.{IsOutside, MayEnter};
+ghost use Rattle.elf32.specs.Rules.{SegmentIsOutOfBounds, IsExecutableAtEntry};
 
 use byteorder::{ByteOrder, LittleEndian};
 use std::alloc::{AllocError, Global};
@@ -38,7 +38,7 @@ impl ProgramHeader {
     /// Whether it is loadable and has bytes past the end of a file of `len` bytes, more bytes in
     /// the file than in memory, or addresses past 2^32.
     pub fn is_outside(&self, len: usize) -> bool
-        ensures { IsTrue result ↔ IsOutside len self.now }
+        ensures { IsTrue result ↔ SegmentIsOutOfBounds len self.now }
     {
         self.is_loadable() && (self.passes_file(len) || self.passes_memory())
     }
@@ -61,7 +61,7 @@ impl ProgramHeader {
 
     /// Whether the segment may be executed and has the address `entry`.
     pub fn may_enter(&self, entry: u32) -> bool
-        ensures { IsTrue result ↔ MayEnter entry self.now }
+        ensures { IsTrue result ↔ IsExecutableAtEntry entry self.now }
     {
         let end = self.addr as u64 + self.memory_size as u64;
         self.is_loadable() && self.flags % 2 == 1 && self.addr <= entry && (entry as u64) < end

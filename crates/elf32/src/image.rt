@@ -16,9 +16,9 @@ pub struct Segment {
 }
 
 impl Model for Segment {
-    ghost use Rattle.elf32.specs.Image.{Part, IsPart};
+    ghost use Rattle.elf32.specs.Image.{ImageSegment, IsSoundSegment};
 
-    ghost Value = { Part };
+    ghost Value = { ImageSegment };
 
     ghost view = { λ s. record {
       addr = s.addr;
@@ -28,7 +28,7 @@ impl Model for Segment {
       exec = s.exec;
     } };
 
-    ghost invariant = { λ s. IsPart (record {
+    ghost invariant = { λ s. IsSoundSegment (record {
       addr = s.addr;
       size = s.size;
       bytes = s.bytes;

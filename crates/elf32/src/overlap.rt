@@ -4,7 +4,7 @@ ghost use Rattle.std.specs.Prelude.{◌≡◌, ℕ, ◌+◌, ◌<◌, ◌≤◌,
 ghost use Rattle.std.specs.Ordering.{nat_cmp};
 ghost use Rattle.std.specs.BTreeMap.{get};
 ghost use Rattle.elf32.specs.Rules.{Overlaps, IsLeast};
-ghost use Rattle.elf32.specs.Ends.{IsLast, Tracks};
+ghost use Rattle.elf32.specs.Ends.{IsLastSegmentBelow, AreSegmentEnds};
 
 use crate::header::ProgramHeader;
 use std::alloc::{AllocError, Global};
@@ -33,7 +33,7 @@ pub fn first_overlap(alloc: Global, headers: &[ProgramHeader]) -> Result<Option<
 /// end.
 fn overlaps_earlier(headers: &[ProgramHeader], j: usize, ends: &BTreeMap<u64, u64>) -> bool
     requires header { j < length headers.now }
-    requires tracks { Tracks headers.now j (get nat_cmp ends.now) }
+    requires tracks { AreSegmentEnds headers.now j (get nat_cmp ends.now) }
     ensures { IsTrue result ↔ Overlaps headers.now j }
 {
     let header = &headers[j];
@@ -51,9 +51,9 @@ fn track(
     ends: &mut BTreeMap<u64, u64>,
 ) -> Result<(), AllocError>
     requires header { j < length headers.now }
-    requires tracks { Tracks headers.now j (get nat_cmp ends.old) }
+    requires tracks { AreSegmentEnds headers.now j (get nat_cmp ends.old) }
     requires apart { Overlaps headers.now j → ⊥ }
-    ensures { OnOk result (Tracks headers.now (j + 1) (get nat_cmp ends.new)) }
+    ensures { OnOk result (AreSegmentEnds headers.now (j + 1) (get nat_cmp ends.new)) }
 {
     let header = &headers[j];
     if header.has_addresses() {
@@ -65,10 +65,10 @@ fn track(
 
 /// Whether of the segments that begin before `limit`, the one that begins last ends after `start`.
 fn ends_after(ends: &BTreeMap<u64, u64>, limit: u64, start: u64) -> bool
-    ensures hit { IsTrue result → (s : ℕ) × (e : ℕ) × IsLast (get nat_cmp ends.now) limit s e
+    ensures hit { IsTrue result → (s : ℕ) × (e : ℕ) × IsLastSegmentBelow (get nat_cmp ends.now) limit s e
         × (start < e) }
     ensures miss { result ≡ false → ((s : ℕ) → s < limit → get nat_cmp ends.now s ≡ None)
-        ⊎ ((s : ℕ) × (e : ℕ) × IsLast (get nat_cmp ends.now) limit s e × (e ≤ start)) }
+        ⊎ ((s : ℕ) × (e : ℕ) × IsLastSegmentBelow (get nat_cmp ends.now) limit s e × (e ≤ start)) }
 {
     match last_end(ends, limit) {
         Some(end) => end > start,
@@ -79,7 +79,7 @@ fn ends_after(ends: &BTreeMap<u64, u64>, limit: u64, start: u64) -> bool
 /// Where of the segments that begin before `limit`, the one that begins last ends.
 fn last_end(ends: &BTreeMap<u64, u64>, limit: u64) -> Option<u64>
     ensures { MatchOption result ((s : ℕ) → s < limit → get nat_cmp ends.now s ≡ None) (λ e. (s : ℕ)
-        × IsLast (get nat_cmp ends.now) limit s e) }
+        × IsLastSegmentBelow (get nat_cmp ends.now) limit s e) }
 {
     let (_, end) = ends.range(..limit).next_back()?;
     Some(*end)

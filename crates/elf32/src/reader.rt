@@ -1,9 +1,9 @@
 //! The program of an ELF file.
 
 ghost use Rattle.std.specs.Prelude.{◌≡◌, ℕ, ◌<◌, ◌≤◌, ◌+◌, ◌*◌, ◌↔◌, IsTrue, All, Any, IfOk, IfErr, OnOk, MatchOption, length, vec_len, map, filter, take, drop, [], ◌∷◌};
-ghost use Rattle.elf32.specs.Image.{Part};
+ghost use Rattle.elf32.specs.Image.{ImageSegment};
 ghost use Rattle.elf32.specs.Headers.{header_count, headers_offset, headers_of, is_loadable, part_of};
-ghost use Rattle.elf32.specs.Rules.{IsRiscv32Exec, IsOutside, IsLeast, header, MayEnter, loaded_size, KeepsBelow, IsSound, Loads, Refuses};
+ghost use Rattle.elf32.specs.Rules.{IsRiscv32Exec, SegmentIsOutOfBounds, IsLeast, header, IsExecutableAtEntry, loaded_size, KeepsBelow, IsSound, Loads, NamesLeastBrokenRule};
 
 use crate::header::{ProgramHeader, half_at, headers_from, word_at};
 use crate::image::{Loaded, Segment};
@@ -29,7 +29,7 @@ pub fn too_long(len: u64) -> bool
 /// program headers and all sections are passed over.
 pub fn read(alloc: Global, file: &[u8]) -> Result<Loaded, ElfRefusal>
     ensures ok { IfOk result (λ image. Loads file.now image) }
-    ensures refused { IfErr result (λ refusal. Refuses refusal file.now) }
+    ensures refused { IfErr result (λ refusal. NamesLeastBrokenRule refusal file.now) }
 {
     check_file(file)?;
     let headers = program_headers(alloc, file)?;
@@ -42,7 +42,7 @@ pub fn read(alloc: Global, file: &[u8]) -> Result<Loaded, ElfRefusal>
 /// The rules 40 to 44, which need no program header.
 fn check_file(file: &[u8]) -> Result<(), ElfRefusal>
     ensures ok { OnOk result ((52 ≤ length file.now) × KeepsBelow 45 file.now) }
-    ensures refused { IfErr result (λ refusal. Refuses refusal file.now) }
+    ensures refused { IfErr result (λ refusal. NamesLeastBrokenRule refusal file.now) }
 {
     if too_long(file.len() as u64) {
         return Err(ElfRefusal::ImageTooLong);
@@ -70,7 +70,7 @@ fn check_segments(alloc: Global, file: &[u8], headers: &[ProgramHeader]) -> Resu
     requires below { KeepsBelow 45 file.now }
     ensures ok { OnOk result (KeepsBelow 49 file.now) }
     ensures sound { OnOk result (IsSound file.now) }
-    ensures refused { IfErr result (λ refusal. Refuses refusal file.now) }
+    ensures refused { IfErr result (λ refusal. NamesLeastBrokenRule refusal file.now) }
 {
     if let Some(i) = first_outside(headers, file.len()) {
         return Err(ElfRefusal::SegmentOutside(i));
@@ -130,8 +130,8 @@ fn program_headers(alloc: Global, file: &[u8]) -> Result<Vec<ProgramHeader>, All
 /// or into memory.
 fn first_outside(headers: &[ProgramHeader], len: usize) -> Option<u32>
     requires { length headers.now < 65536 }
-    ensures { MatchOption result ((i : ℕ) → IsOutside len (header headers.now i)
-        → ⊥) (λ i. IsLeast (λ k. IsOutside len (header headers.now k)) i) }
+    ensures { MatchOption result ((i : ℕ) → SegmentIsOutOfBounds len (header headers.now i)
+        → ⊥) (λ i. IsLeast (λ k. SegmentIsOutOfBounds len (header headers.now k)) i) }
 {
     for (i, header) in headers.iter().enumerate() {
         if header.is_outside(len) {
@@ -143,7 +143,7 @@ fn first_outside(headers: &[ProgramHeader], len: usize) -> Option<u32>
 
 /// Whether the entry lies in a segment that may be executed.
 fn is_entered(headers: &[ProgramHeader], entry: u32) -> bool
-    ensures { IsTrue result ↔ Any (MayEnter entry) headers.now }
+    ensures { IsTrue result ↔ Any (IsExecutableAtEntry entry) headers.now }
 {
     headers.iter().any(|header| header.may_enter(entry))
 }
@@ -168,7 +168,7 @@ fn segments(
     file: &[u8],
     headers: &[ProgramHeader],
 ) -> Result<Seq<Segment>, AllocError>
-    requires { (i : ℕ) → IsOutside (length file.now) (header headers.now i) → ⊥ }
+    requires { (i : ℕ) → SegmentIsOutOfBounds (length file.now) (header headers.now i) → ⊥ }
     ensures { IfOk result (λ segments. segments
         ≡ map (part_of file.now) (filter is_loadable headers.now)) }
 {
@@ -184,7 +184,7 @@ fn segments(
 /// The segment of a loadable header: its bytes in the file, and then zeros.
 fn segment(alloc: Global, file: &[u8], header: &ProgramHeader) -> Result<Segment, AllocError>
     requires loadable { IsTrue (is_loadable header.now) }
-    requires inside { IsOutside (length file.now) header.now → ⊥ }
+    requires inside { SegmentIsOutOfBounds (length file.now) header.now → ⊥ }
     ensures { IfOk result (λ segment. segment ≡ part_of file.now header.now) }
 {
     let bytes = Seq::from_slice(alloc, file_bytes(file, header))?;

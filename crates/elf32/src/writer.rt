@@ -1,18 +1,13 @@
 //! The file of a compiled program.
 
 ghost use Rattle.std.specs.Prelude.{◌≡◌, ◌-◌, ◌++◌, ◌≤◌, length, replicate, IfOk, OnOk};
-ghost use Rattle.elf32.specs.File.{halves, words, elf_header, headers, file_of, program, FitsLayout};
+ghost use Rattle.elf32.specs.File.{halfword_bytes, words, elf_header, headers, file_of, program, SizesFitLayout};
 ghost use Rattle.elf32.specs.Rules.{Loads};
+ghost use Rattle.limits.specs.Limits.{stack_end};
 
 use byteorder::{ByteOrder, LittleEndian};
+use limits::{CODE_START, HEAP_START, STACK_END};
 use std::alloc::{AllocError, Global};
-
-/// The first address of the code, which is the entry.
-const CODE: u32 = 0x0001_0000;
-/// The first address of the heap.
-const HEAP: u32 = 0x5000_0000;
-/// The address where the stack ends.
-const STACK_END: u32 = 0x7800_0000;
 
 /// The file of a program of these words of code, with a heap and a stack of so many bytes of zeros.
 /// It has 4096 bytes of headers, and then the code. `AllocError` where memory is wanting.
@@ -23,7 +18,7 @@ pub fn write(
     heap_bytes: u32,
     stack_bytes: u32,
 ) -> Result<Vec<u8>, AllocError>
-    requires { FitsLayout code.now heap_bytes stack_bytes }
+    requires { SizesFitLayout code.now heap_bytes stack_bytes }
     ensures bytes { IfOk result (λ file. file.items ≡ file_of code.now heap_bytes stack_bytes) }
     ensures loads { IfOk result (λ file.
         Loads file.items (program code.now heap_bytes stack_bytes)) }
@@ -41,14 +36,16 @@ fn put_headers(
     heap_bytes: u32,
     stack_bytes: u32,
 ) -> Result<(), AllocError>
-    requires { stack_bytes ≤ 0x78000000 }
+    requires { stack_bytes ≤ stack_end }
     ensures { OnOk result (file.new.items ≡ file.old.items
         ++ headers code_size heap_bytes stack_bytes) }
 {
+    let code = CODE_START;
+    let heap = HEAP_START;
     let stack = STACK_END - stack_bytes;
     put_elf_header(file)?;
-    put_words(file, &[1, 4096, CODE, CODE, code_size, code_size, 5, 4096])?;
-    put_words(file, &[1, 0, HEAP, HEAP, 0, heap_bytes, 6, 4])?;
+    put_words(file, &[1, 4096, code, code, code_size, code_size, 5, 4096])?;
+    put_words(file, &[1, 0, heap, heap, 0, heap_bytes, 6, 4])?;
     put_words(file, &[1, 0, stack, stack, 0, stack_bytes, 6, 4])
 }
 
@@ -67,13 +64,13 @@ fn put_elf_header(file: &mut Vec<u8>) -> Result<(), AllocError>
 {
     file.extend_from_slice(&[0x7F, 0x45, 0x4C, 0x46, 1, 1, 1, 0, 0, 0, 0, 0, 0, 0, 0, 0])?;
     put_halves(file, &[2, 243])?;
-    put_words(file, &[1, CODE, 52, 0, 0])?;
+    put_words(file, &[1, CODE_START, 52, 0, 0])?;
     put_halves(file, &[52, 32, 3, 0, 0, 0])
 }
 
 /// Appends numbers of two bytes each, the low byte first.
 fn put_halves(file: &mut Vec<u8>, numbers: &[u16]) -> Result<(), AllocError>
-    ensures { OnOk result (file.new.items ≡ file.old.items ++ halves numbers.now) }
+    ensures { OnOk result (file.new.items ≡ file.old.items ++ halfword_bytes numbers.now) }
 {
     for number in numbers {
         let mut bytes = [0; 2];

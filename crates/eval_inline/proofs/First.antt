@@ -9,10 +9,10 @@ use Rattle.std.proofs.lemmas.Option.{slice_get_cases}
 use Rattle.seq.proofs.Truth.{or_true}
 use Rattle.grin_syntax.specs.declared.program.TagId.{TagId}
 use Rattle.points_to.specs.Wanted.{is_in}
-use Rattle.eval_inline.specs.Met.{IsFirst, none, first, FirstInRange}
+use Rattle.eval_inline.specs.Met.{IsLeastSatisfying, none, first, FirstInRange}
 use Rattle.seq.specs.Lists.{those}
 
-pub same_first : (test test' : ℕ → Bool) (from : ℕ) (o : Option TagId) → ((t : ℕ) → test t ≡ test' t) → IsFirst test from o → IsFirst test' from o
+pub same_first : (test test' : ℕ → Bool) (from : ℕ) (o : Option TagId) → ((t : ℕ) → test t ≡ test' t) → IsLeastSatisfying test from o → IsLeastSatisfying test' from o
 same_first test test' from None h (none f) = none (λ t le. sym (h t) ∙ f t le)
 same_first test test' from (Some r) h (first le e f) = first le (sym (h r.0) ∙ e) (λ t a b. sym (h t) ∙ f t a b)
 
@@ -35,7 +35,7 @@ module _ (test : ℕ → Bool) where
       let more : those test (suc from) (j + suc k) ≡ r ∷ those test (suc r) k = one_next j (suc from) (j + suc k) k r refl m (λ t x y. h t (omega arith) y) e in
       ap (those test from) d ∙ ap (λ b. cond b (from ∷ those test (suc from) (j + suc k)) (those test (suc from) (j + suc k))) a ∙ more
 
-  pub next_in : (from end : ℕ) (t : TagId) → IsFirst test from (Some t) → t.0 < end → FirstInRange test from end (Some t)
+  pub next_in : (from end : ℕ) (t : TagId) → IsLeastSatisfying test from (Some t) → t.0 < end → FirstInRange test from end (Some t)
   next_in from end t (first le e f) lt = record {
     next = let n : end - from ≡ (t.0 - from) + suc (end - suc t.0) = omega arith in
         let r : t.0 ≡ from + (t.0 - from) = omega arith in
@@ -43,13 +43,13 @@ module _ (test : ℕ → Bool) where
     within = (le, lt);
   }
 
-  pub next_past : (from end : ℕ) (t : TagId) → IsFirst test from (Some t) → end ≤ t.0 → FirstInRange test from end None
+  pub next_past : (from end : ℕ) (t : TagId) → IsLeastSatisfying test from (Some t) → end ≤ t.0 → FirstInRange test from end None
   next_past from end t (first le e f) past = record {
     next = none_among (end - from) from (λ u a b. f u a (omega arith));
     within = tt;
   }
 
-  pub next_none : (from end : ℕ) → IsFirst test from None → FirstInRange test from end None
+  pub next_none : (from end : ℕ) → IsLeastSatisfying test from None → FirstInRange test from end None
   next_none from end (none f) = record {
     next = none_among (end - from) from (λ u a b. f u a);
     within = tt;
@@ -113,7 +113,7 @@ module _ (ts : List TagId) (from at : ℕ) (rising : IsStrictlyIncreasing (map (
           let h : get_or ns at 0 < get_or ns j 0 = AllPairs-from_increasing ns rising at j 0 (omega arith) (omega arith) in
           absurd (omega arith)
 
-  first_here : (r : TagId) → at < length ts → slice_get ts at ≡ Some r → get_or ts at r ≡ r → IsFirst (λ t. is_in t ns) from (Some r)
+  first_here : (r : TagId) → at < length ts → slice_get ts at ≡ Some r → get_or ts at r ≡ r → IsLeastSatisfying (λ t. is_in t ns) from (Some r)
   first_here r lt e same =
       let n : get_or ns at 0 ≡ r.0 = number_at at r lt ∙ ap (λ t. t.0) same in
       let h : from ≤ (get_or ts at r).0 = ltb-false _ _ (high at r (omega arith) lt) in
@@ -121,13 +121,13 @@ module _ (ts : List TagId) (from at : ℕ) (rising : IsStrictlyIncreasing (map (
       let l : length ns ≡ length ts = length-map ts (λ t. t.0) in
       first (omega arith) (at_is_in ns at r.0 (omega arith) n) (λ t a b. no_such t r a (λ j c d g. not_less r.0 t j b n c d g))
 
-  none_past : length ts ≤ at → IsFirst (λ t. is_in t ns) from None
+  none_past : length ts ≤ at → IsLeastSatisfying (λ t. is_in t ns) from None
   none_past le = none (λ t a. no_such t (record { 0 = 0 }) a (λ j c d g. absurd (omega arith)))
 
-  pub found_first : (o : Option TagId) → o ≡ slice_get ts at → IsFirst (λ t. is_in t ns) from o
+  pub found_first : (o : Option TagId) → o ≡ slice_get ts at → IsLeastSatisfying (λ t. is_in t ns) from o
   found_first o e = ⊎_elim
-      (λ s. let r : slice_get ts at ≡ Some s.0 = s.2 in subst (IsFirst (λ t. is_in t ns) from) (sym (e ∙ r)) (first_here s.0 s.1 r s.3))
-      (λ s. subst (IsFirst (λ t. is_in t ns) from) (sym (e ∙ s.1)) (none_past s.0))
+      (λ s. let r : slice_get ts at ≡ Some s.0 = s.2 in subst (IsLeastSatisfying (λ t. is_in t ns) from) (sym (e ∙ r)) (first_here s.0 s.1 r s.3))
+      (λ s. subst (IsLeastSatisfying (λ t. is_in t ns) from) (sym (e ∙ s.1)) (none_past s.0))
       (slice_get_cases ts at).1
 
 pub rising_tags : (ts : List TagId) → IsStrictlyIncreasing (map (λ t. t.0) ts) → IsNonDecreasingBy (λ t. t.0) ts

@@ -12,12 +12,12 @@ use Rattle.flow_system.specs.declared.fact.Element.TheVariants.{Cell, Tag as tag
 use Rattle.flow_system.specs.declared.fact.Place.TheVariants.{Site as site, Var as var}
 use Rattle.flow_system.specs.declared.fact.Part.TheVariants.{Tags as tags, Word as word}
 use Rattle.flow_system.specs.Solution.{Solution, among, At}
-use Rattle.inlining.specs.Evaluations.{some_of, cells_in, site_of, sites_of}
+use Rattle.inlining.specs.Evaluations.{any_satisfies, cells_in, site_of, sites_of}
 use Rattle.seq.specs.Lists.{In, there}
 use Rattle.points_to.specs.Wanted.{is_in}
 use Rattle.seq.proofs.Truth.{both_ways, or_cases, or_false, or_from}
 use Rattle.seq.proofs.Order.{eq_self}
-use Rattle.eval_inline.specs.Met.{IsFirst, none}
+use Rattle.eval_inline.specs.Met.{IsLeastSatisfying, none}
 use Rattle.inlining.proofs.CellTags.{some_cell}
 use Rattle.eval_inline.proofs.First.{same_first}
 use Rattle.points_to.proofs.Read.{in-is_in, is_in-in}
@@ -30,12 +30,12 @@ tags_met A s ts exact t = both_ways _ _ (λ e. ((exact t).0 (is_in-in t ts e)).t
 
 -- ---- the cells of a variable
 
-cell_some : (test : ℕ → Bool) (p : Program) (A : Solution) (us : List Element) → some_of test (cells_in p A us) ≡ true → (s : ℕ) × (among (Cell s) us ≡ true) × (test s ≡ true)
+cell_some : (test : ℕ → Bool) (p : Program) (A : Solution) (us : List Element) → any_satisfies test (cells_in p A us) ≡ true → (s : ℕ) × (among (Cell s) us ≡ true) × (test s ≡ true)
 cell_some test p A [] e = cc
 cell_some test p A (Cell s ∷ us) e = ⊎_elim
     (λ a. (s, or_from (nat_eq s s) (among (Cell s) us) (inl (eq_self s)), a))
     (λ b. let r = cell_some test p A us b in (r.0, or_from (nat_eq r.0 s) (among (Cell r.0) us) (inr r.1), r.2))
-    (or_cases (test s) (some_of test (cells_in p A us)) e)
+    (or_cases (test s) (any_satisfies test (cells_in p A us)) e)
 cell_some test p A (tag t ∷ us) e = cell_some test p A us e
 cell_some test p A (Number ∷ us) e = cell_some test p A us e
 
@@ -43,7 +43,7 @@ cell_some test p A (Number ∷ us) e = cell_some test p A us e
 
 -- whether the solution has a tag at one of the sites
 abbrev pub has_tag : Solution → List ℕ → ℕ → Bool
-has_tag A ss t = some_of (λ s. among (tag t) (A (site s) tags)) ss
+has_tag A ss t = any_satisfies (λ s. among (tag t) (A (site s) tags)) ss
 
 -- the tags in the cells of a variable
 tags_in_cells : (p : Program) (A : Solution) (x : ℕ) (ts : List ℕ)
@@ -57,17 +57,17 @@ tags_in_cells p A x ts exact t =
     (λ e. let r = cell_some test p A us e in in-is_in t ts ((exact t).1 (r.0, record { there = r.1 }, record { there = r.2 })))
 
 module _ (A : Solution) (from : ℕ) (o : Option TagId) where
-  pub global_meets : (p : Program) (i : ℕ) (c : GlobalCell) → slice_get p.globals i ≡ Some c → IsFirst (λ t. among (tag t) (A (site c.site.0) tags)) from o → IsFirst (has_tag A (sites_of p A (of_word.Global i))) from o
+  pub global_meets : (p : Program) (i : ℕ) (c : GlobalCell) → slice_get p.globals i ≡ Some c → IsLeastSatisfying (λ t. among (tag t) (A (site c.site.0) tags)) from o → IsLeastSatisfying (has_tag A (sites_of p A (of_word.Global i))) from o
   global_meets p i c e = same_first _ _ from o (λ t. sym (or_false (among (tag t) (A (site c.site.0) tags))) ∙ ap (λ g. has_tag A (site_of p A g) t) (sym e))
 
   pub variable_meets : (p : Program) (x : VarId) (a : W.Word) (ts : List ℕ) → a ≡ of_word.Var x
       → ((t : ℕ) → In t ts ↔ ((s : ℕ) × At A (var x.0) (word 0) (Cell s) × At A (site s) tags (tag t)))
-      → IsFirst (λ t. is_in t ts) from o → IsFirst (has_tag A (sites_of p A a)) from o
+      → IsLeastSatisfying (λ t. is_in t ts) from o → IsLeastSatisfying (has_tag A (sites_of p A a)) from o
   variable_meets p x a ts e exact = same_first _ _ from o (λ t. tags_in_cells p A x.0 ts exact t ∙ ap (λ w. has_tag A (sites_of p A w) t) (sym e))
 
-  pub same_word_meets : (p : Program) (a b : W.Word) → a ≡ b → IsFirst (has_tag A (sites_of p A b)) from o → IsFirst (has_tag A (sites_of p A a)) from o
-  same_word_meets p a b e h = subst (λ w. IsFirst (has_tag A (sites_of p A w)) from o) (sym e) h
+  pub same_word_meets : (p : Program) (a b : W.Word) → a ≡ b → IsLeastSatisfying (has_tag A (sites_of p A b)) from o → IsLeastSatisfying (has_tag A (sites_of p A a)) from o
+  same_word_meets p a b e h = subst (λ w. IsLeastSatisfying (has_tag A (sites_of p A w)) from o) (sym e) h
 
 -- where there are no cells, nothing is met
-pub nothing_met : (A : Solution) (from : ℕ) (ss : List ℕ) (o : Option TagId) → ss ≡ [] → o ≡ None → IsFirst (has_tag A ss) from o
-nothing_met A from ss o e n = subst (λ r. IsFirst (has_tag A ss) from r) (sym n) (none (λ t le. ap (λ l. has_tag A l t) e))
+pub nothing_met : (A : Solution) (from : ℕ) (ss : List ℕ) (o : Option TagId) → ss ≡ [] → o ≡ None → IsLeastSatisfying (has_tag A ss) from o
+nothing_met A from ss o e n = subst (λ r. IsLeastSatisfying (has_tag A ss) from r) (sym n) (none (λ t le. ap (λ l. has_tag A l t) e))

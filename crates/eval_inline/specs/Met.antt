@@ -7,21 +7,21 @@ use Rattle.flow_system.specs.declared.fact.Element.TheVariants.{Tag as tag}
 use Rattle.flow_system.specs.declared.fact.Place.TheVariants.{Site as site}
 use Rattle.flow_system.specs.declared.fact.Part.TheVariants.{Tags as tags}
 use Rattle.flow_system.specs.Solution.{Solution, among}
-use Rattle.inlining.specs.Evaluations.{some_of, sites_of}
+use Rattle.inlining.specs.Evaluations.{any_satisfies, sites_of}
 use Rattle.seq.specs.Lists.{those}
 
 -- the tags, from one on, that a solution has at the cells that a word may stand for; from 0 on they
 -- are `tags_of`
-abbrev pub tags_from : Program → Solution → W.Word → ℕ → List ℕ
-tags_from p A a from =
-    those (λ t. some_of (λ s. among (tag t) (A (site s) tags)) (sites_of p A a))
+abbrev pub cell_tags_from : Program → Solution → W.Word → ℕ → List ℕ
+cell_tags_from p A a from =
+    those (λ t. any_satisfies (λ s. among (tag t) (A (site s) tags)) (sites_of p A a))
     from (length p.tags - from)
 
 -- the least number, from one on, for which a test holds
-pub data IsFirst (test : ℕ → Bool) (from : ℕ) : Option TagId → Type 0 where
-  none : ((t : ℕ) → from ≤ t → test t ≡ false) → IsFirst test from None
+pub data IsLeastSatisfying (test : ℕ → Bool) (from : ℕ) : Option TagId → Type 0 where
+  none : ((t : ℕ) → from ≤ t → test t ≡ false) → IsLeastSatisfying test from None
   first : {r : TagId} → from ≤ r.0 → test r.0 ≡ true
-      → ((t : ℕ) → from ≤ t → t < r.0 → test t ≡ false) → IsFirst test from (Some r)
+      → ((t : ℕ) → from ≤ t → t < r.0 → test t ≡ false) → IsLeastSatisfying test from (Some r)
 
 -- the numbers below `end`, from `from` on, for which a test holds: none, or this one and those
 -- after it

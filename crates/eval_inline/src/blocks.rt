@@ -22,12 +22,12 @@ use std::alloc::{AllocError, Global};
 /// What decides how evaluations are inlined: the program's tags and global cells, whatever
 /// procedures it has, and the solution.
 #[derive(Drop)]
-pub(crate) struct Inlining<'a> {
+pub(crate) struct EvalInliner<'a> {
     pub program: &'a Grin,
     pub flow: &'a Flow,
 }
 
-impl Inlining<'_> {
+impl EvalInliner<'_> {
     /// A block with its evaluations inlined.
     #[cycle(inline)]
     pub(crate) fn block(

@@ -13,7 +13,7 @@ ghost use Rattle.inlining.specs.Without.{HasNoEval};
 mod blocks;
 pub mod met;
 
-use blocks::Inlining;
+use blocks::EvalInliner;
 use grin_syntax::fresh::Fresh;
 use grin_syntax::{Grin, Proc};
 use points_to::Flow;
@@ -33,7 +33,7 @@ pub fn inline(alloc: Global, mut g: Grin, flow: &Flow) -> Result<Grin, AllocErro
 {
     let mut fresh = Fresh::past(g.procs.as_slice());
     let procs = mem::replace(&mut g.procs, Seq::new(alloc));
-    let inlining = Inlining { program: &g, flow };
+    let inlining = EvalInliner { program: &g, flow };
     let mut made = Seq::new(alloc);
     for proc in procs.into_vec() {
         let body = inlining.block(alloc, &mut fresh, proc.body)?;

@@ -7,10 +7,10 @@ ghost use Rattle.flow_system.specs.Solution.{among};
 ghost use Rattle.flow_system.specs.declared.fact.Element.TheVariants.{Tag as tag};
 ghost use Rattle.flow_system.specs.declared.fact.Place.TheVariants.{Site as site};
 ghost use Rattle.flow_system.specs.declared.fact.Part.TheVariants.{Tags as tags};
-ghost use Rattle.inlining.specs.Evaluations.{some_of, sites_of};
+ghost use Rattle.inlining.specs.Evaluations.{any_satisfies, sites_of};
 ghost use Rattle.points_to.specs.Found.{found};
 ghost use Rattle.points_to.specs.Wanted.{is_in};
-ghost use Rattle.eval_inline.specs.Met.{tags_from, IsFirst, FirstInRange};
+ghost use Rattle.eval_inline.specs.Met.{cell_tags_from, IsLeastSatisfying, FirstInRange};
 
 use grin_syntax::{Grin, Site, TagId, Word};
 use points_to::Flow;
@@ -18,9 +18,9 @@ use points_to::Flow;
 /// The first tag of the program, from number `from` on, that the solution has at a cell that the
 /// word may stand for.
 pub fn next_tag(g: &Grin, flow: &Flow, word: &Word, from: usize) -> Option<TagId>
-    ensures next { MatchOption result (tags_from (program_of g.now) (found flow.now) word.now from
-        ≡ []) (λ t. tags_from (program_of g.now) (found flow.now) word.now from ≡ t.0
-        ∷ tags_from (program_of g.now) (found flow.now) word.now (suc t.0)) }
+    ensures next { MatchOption result (cell_tags_from (program_of g.now) (found flow.now) word.now from
+        ≡ []) (λ t. cell_tags_from (program_of g.now) (found flow.now) word.now from ≡ t.0
+        ∷ cell_tags_from (program_of g.now) (found flow.now) word.now (suc t.0)) }
     ensures within { IfSome result (λ t. (from ≤ t.0) × (t.0 < length g.now.tags)) }
 {
     let first = match word {
@@ -34,7 +34,7 @@ pub fn next_tag(g: &Grin, flow: &Flow, word: &Word, from: usize) -> Option<TagId
 
 // The first tag, from number `from` on, at a global cell.
 fn first_of_global(g: &Grin, flow: &Flow, global: u32, from: usize) -> Option<TagId>
-    ensures { IsFirst (λ t. some_of (λ s. among (tag t) (found flow.now (site s) tags))
+    ensures { IsLeastSatisfying (λ t. any_satisfies (λ s. among (tag t) (found flow.now (site s) tags))
         (sites_of (program_of g.now) (found flow.now) (Word.Global global))) from result }
 {
     match g.globals.get(global as usize) {
@@ -45,7 +45,7 @@ fn first_of_global(g: &Grin, flow: &Flow, global: u32, from: usize) -> Option<Ta
 
 // The first tag, from number `from` on, at the cells of a site.
 fn first_at(flow: &Flow, at: Site, from: usize) -> Option<TagId>
-    ensures { IsFirst (λ t. among (tag t) (found flow.now (site at.0) tags)) from result }
+    ensures { IsLeastSatisfying (λ t. among (tag t) (found flow.now (site at.0) tags)) from result }
 {
     first_from(flow.tags_at(at), from)
 }
@@ -53,7 +53,7 @@ fn first_at(flow: &Flow, at: Site, from: usize) -> Option<TagId>
 // The first of some ascending tags, from number `from` on.
 fn first_from(ascending: &[TagId], from: usize) -> Option<TagId>
     requires { IsStrictlyIncreasing (map (λ t. t.0) ascending.now) }
-    ensures { IsFirst (λ t. is_in t (map (λ t. t.0) ascending.now)) from result }
+    ensures { IsLeastSatisfying (λ t. is_in t (map (λ t. t.0) ascending.now)) from result }
 {
     let at = ascending.partition_point(|t| (t.0 as usize) < from);
     if at < ascending.len() {
@@ -65,7 +65,7 @@ fn first_from(ascending: &[TagId], from: usize) -> Option<TagId>
 
 // A tag, where it is below this number.
 fn below(tag: Option<TagId>, end: usize) -> Option<TagId>
-    ensures { (test : ℕ → Bool) (from : ℕ) → IsFirst test from tag
+    ensures { (test : ℕ → Bool) (from : ℕ) → IsLeastSatisfying test from tag
         → FirstInRange test from end result }
 {
     match tag {

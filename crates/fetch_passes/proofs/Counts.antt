@@ -14,9 +14,9 @@ use Rattle.grin_syntax.proofs.Unbound.{past_procs_none}
 use Rattle.grin_meaning.specs.Ready.{most_fields}
 use Rattle.pass_ground.specs.Uses.{code_uses}
 use Rattle.fetch_passes.specs.Windows.{outside}
-use Rattle.fetch_passes.specs.Names.{Names, Wait, as_word, as_cells}
-use Rattle.fetch_passes.specs.Waits.{waits_after}
-use Rattle.fetch_passes.specs.Split.{fetched_if, word_fetches, front, front_names, names_after, cell_after, all_words, node_arms, whole_node, split_act, split_code, split_arms, split_procs, made_act, made_code, made_arms}
+use Rattle.fetch_passes.specs.Names.{Names, DeferredField, as_word, as_cells}
+use Rattle.fetch_passes.specs.Waits.{deferred_fields_after}
+use Rattle.fetch_passes.specs.Split.{fetched_if, word_fetches, front, front_names, names_after, cell_after, fetch_all_words, node_arms, whole_node, split_act, split_code, split_arms, split_procs, made_act, made_code, made_arms}
 use Rattle.seq.specs.Lists.{times}
 use Rattle.seq.proofs.Counted.{counts, times_append}
 
@@ -33,7 +33,7 @@ module _ (ts : List Tag) (u : ℕ) where
       let k : times u (code_vars (word_fetches t b a (suc i) xs c)) ≤ times u (numbers_of xs) + times u (code_vars c) = words_count t b a (suc i) xs c in
       omega (arith, h, k)
 
-  front_counts : (a : W.Word) (n : ℕ) (ps : List Wait) (b c : Code) → times u (code_vars (front a n ps b c)) ≤ fresh u n (length ps) + times u (code_vars c)
+  front_counts : (a : W.Word) (n : ℕ) (ps : List DeferredField) (b c : Code) → times u (code_vars (front a n ps b c)) ≤ fresh u n (length ps) + times u (code_vars c)
   front_counts a n [] b c = omega arith
   front_counts a n (p ∷ ps) b c =
       let h : times u (code_vars (fetched_if (code_uses p.var.0 b) (variable n) a p.place (front a (suc n) ps b c))) ≤ counts (nat_eq u n) + times u (code_vars (front a (suc n) ps b c)) = fetch_counts (code_uses p.var.0 b) (variable n) a p.place (front a (suc n) ps b c) in
@@ -41,10 +41,10 @@ module _ (ts : List Tag) (u : ℕ) where
       let e : fresh u n (suc (length ps)) ≡ counts (nat_eq u n) + fresh u (suc n) (length ps) = fresh_next u n (length ps) in
       omega (arith, h, k, e)
 
-  all_counts : (a : W.Word) (i : ℕ) (xs : List VarId) (c : Code) → times u (code_vars (all_words a i xs c)) ≡ times u (numbers_of xs) + times u (code_vars c)
+  all_counts : (a : W.Word) (i : ℕ) (xs : List VarId) (c : Code) → times u (code_vars (fetch_all_words a i xs c)) ≡ times u (numbers_of xs) + times u (code_vars c)
   unfolding act_vars
   all_counts a i [] c = omega arith
-  all_counts a i (x ∷ xs) c = let h : times u (code_vars (all_words a (suc i) xs c)) ≡ times u (numbers_of xs) + times u (code_vars c) = all_counts a (suc i) xs c in omega (arith, h)
+  all_counts a i (x ∷ xs) c = let h : times u (code_vars (fetch_all_words a (suc i) xs c)) ≡ times u (numbers_of xs) + times u (code_vars c) = all_counts a (suc i) xs c in omega (arith, h)
 
   nodes_count : (xs : List VarId) (i : ℕ) (us : List Tag) → times u (arms_vars (node_arms xs i us)) ≡ 0
   unfolding act_vars
@@ -90,12 +90,12 @@ module _ (ts : List Tag) (u : ℕ) where
   mutual
     unfolding split_act act_vars made_act
 
-    act_counts : (o : Act) (ks : Names) (a : W.Word) (ps : List Wait) (n : ℕ) → times u (act_vars (split_act ts ks a ps n o)) ≤ times u (act_vars o) + fresh u n (made_act ts ps o)
+    act_counts : (o : Act) (ks : Names) (a : W.Word) (ps : List DeferredField) (n : ℕ) → times u (act_vars (split_act ts ks a ps n o)) ≤ times u (act_vars o) + fresh u n (made_act ts ps o)
     act_counts (case v as') ks a ps n = arms_count as' ks a ps n
     act_counts (nested b) ks a ps n = code_counts b ks a [] n
     act_counts o ks a ps n = omega arith
 
-    code_counts : (b : Code) (ks : Names) (a : W.Word) (ps : List Wait) (n : ℕ) → times u (code_vars (split_code ts ks a ps n b)) ≤ times u (code_vars b) + fresh u n (made_code ts ps b)
+    code_counts : (b : Code) (ks : Names) (a : W.Word) (ps : List DeferredField) (n : ℕ) → times u (code_vars (split_code ts ks a ps n b)) ≤ times u (code_vars b) + fresh u n (made_code ts ps b)
     code_counts (end (fetch c)) ks a ps n = subst (λ k. times u (code_vars (whole_node ts n (as_word ks c))) ≤ 0 + fresh u n k) (let e : suc (most_fields ts) ≡ suc (most_fields ts) + 0 = omega arith in e) (let h : times u (code_vars (whole_node ts n (as_word ks c))) ≤ fresh u n (suc (most_fields ts)) = whole_counts n (as_word ks c) in omega (arith, h))
     code_counts (end o) ks a ps n = subst (λ k. times u (act_vars (split_act ts ks a ps n o)) ≤ times u (act_vars o) + fresh u n k) (let e : made_act ts ps o ≡ 0 + made_act ts ps o = omega arith in e) (act_counts o ks a ps n)
     code_counts (store cs b) ks a ps n =
@@ -105,16 +105,16 @@ module _ (ts : List Tag) (u : ℕ) where
         let f : times u (cell_vars cs ++ code_vars b) ≡ times u (cell_vars cs) + times u (code_vars b) = times_append u (cell_vars cs) (code_vars b) in
         omega (arith, h, k, e, f)
     code_counts (bind (to.Vector (x ∷ xs)) (fetch c) b) ks a ps n =
-        node_count n (made_code ts (waits_after (fetch c) (to.Vector (x ∷ xs)) b ps) b) x xs b (as_word ks c) (split_code ts (names_after (fetch c) (to.Vector (x ∷ xs)) b ks) (cell_after ks (fetch c) (to.Vector (x ∷ xs)) b a) (waits_after (fetch c) (to.Vector (x ∷ xs)) b ps) (n + 0) b)
-        (code_counts b (names_after (fetch c) (to.Vector (x ∷ xs)) b ks) (cell_after ks (fetch c) (to.Vector (x ∷ xs)) b a) (waits_after (fetch c) (to.Vector (x ∷ xs)) b ps) (n + 0))
+        node_count n (made_code ts (deferred_fields_after (fetch c) (to.Vector (x ∷ xs)) b ps) b) x xs b (as_word ks c) (split_code ts (names_after (fetch c) (to.Vector (x ∷ xs)) b ks) (cell_after ks (fetch c) (to.Vector (x ∷ xs)) b a) (deferred_fields_after (fetch c) (to.Vector (x ∷ xs)) b ps) (n + 0) b)
+        (code_counts b (names_after (fetch c) (to.Vector (x ∷ xs)) b ks) (cell_after ks (fetch c) (to.Vector (x ∷ xs)) b a) (deferred_fields_after (fetch c) (to.Vector (x ∷ xs)) b ps) (n + 0))
     code_counts (bind (to.Vector []) (fetch c) b) ks a ps n = from_zero n (made_code ts ps b) (code_vars (split_code ts ks a ps (n + 0) b)) (code_vars b) (code_counts b ks a ps (n + 0))
     code_counts (bind to.Nothing (fetch c) b) ks a ps n = from_zero n (made_code ts ps b) (code_vars (split_code ts ks a ps (n + 0) b)) (code_vars b) (code_counts b ks a ps (n + 0))
     code_counts (bind (to.One y) (fetch c) b) ks a ps n = from_zero n (made_code ts ps b) (y.0 ∷ code_vars (split_code ts ks a ps (n + 0) b)) (y.0 ∷ code_vars b) (same_first (n + 0) (y.0 ∷ []) (code_vars (split_code ts ks a ps (n + 0) b)) (code_vars b) (made_code ts ps b) (code_counts b ks a ps (n + 0)))
     code_counts (bind (to.Node y) (fetch c) b) ks a ps n = from_zero n (made_code ts ps b) (y.0 ∷ code_vars (split_code ts ks a ps (n + 0) b)) (y.0 ∷ code_vars b) (same_first (n + 0) (y.0 ∷ []) (code_vars (split_code ts ks a ps (n + 0) b)) (code_vars b) (made_code ts ps b) (code_counts b ks a ps (n + 0)))
-    code_counts (bind t o b) ks a ps n = same_first n (target_vars t) (act_vars (split_act ts ks a ps n o) ++ code_vars (split_code ts (names_after o t b ks) (cell_after ks o t b a) (waits_after o t b ps) (n + made_act ts ps o) b)) (act_vars o ++ code_vars b) (made_act ts ps o + made_code ts (waits_after o t b ps) b)
-        (one_more n (act_vars (split_act ts ks a ps n o)) (act_vars o) (code_vars (split_code ts (names_after o t b ks) (cell_after ks o t b a) (waits_after o t b ps) (n + made_act ts ps o) b)) (code_vars b) (made_act ts ps o) (made_code ts (waits_after o t b ps) b) (act_counts o ks a ps n) (code_counts b (names_after o t b ks) (cell_after ks o t b a) (waits_after o t b ps) (n + made_act ts ps o)))
+    code_counts (bind t o b) ks a ps n = same_first n (target_vars t) (act_vars (split_act ts ks a ps n o) ++ code_vars (split_code ts (names_after o t b ks) (cell_after ks o t b a) (deferred_fields_after o t b ps) (n + made_act ts ps o) b)) (act_vars o ++ code_vars b) (made_act ts ps o + made_code ts (deferred_fields_after o t b ps) b)
+        (one_more n (act_vars (split_act ts ks a ps n o)) (act_vars o) (code_vars (split_code ts (names_after o t b ks) (cell_after ks o t b a) (deferred_fields_after o t b ps) (n + made_act ts ps o) b)) (code_vars b) (made_act ts ps o) (made_code ts (deferred_fields_after o t b ps) b) (act_counts o ks a ps n) (code_counts b (names_after o t b ks) (cell_after ks o t b a) (deferred_fields_after o t b ps) (n + made_act ts ps o)))
 
-    arms_count : (as' : Arms) (ks : Names) (a : W.Word) (ps : List Wait) (n : ℕ) → times u (arms_vars (split_arms ts ks a ps n as')) ≤ times u (arms_vars as') + fresh u n (made_arms ts ps as')
+    arms_count : (as' : Arms) (ks : Names) (a : W.Word) (ps : List DeferredField) (n : ℕ) → times u (arms_vars (split_arms ts ks a ps n as')) ≤ times u (arms_vars as') + fresh u n (made_arms ts ps as')
     arms_count no_arm ks a ps n = omega arith
     arms_count (arm s b as') ks a ps n = same_first n (shape_vars s) (code_vars (front a n ps b (split_code ts (front_names n ps b ks) a [] (n + length ps) b)) ++ arms_vars (split_arms ts ks a ps (n + length ps + made_code ts [] b) as')) (code_vars b ++ arms_vars as') (length ps + made_code ts [] b + made_arms ts ps as')
         (one_more n (code_vars (front a n ps b (split_code ts (front_names n ps b ks) a [] (n + length ps) b))) (code_vars b) (arms_vars (split_arms ts ks a ps (n + length ps + made_code ts [] b) as')) (arms_vars as') (length ps + made_code ts [] b) (made_arms ts ps as')

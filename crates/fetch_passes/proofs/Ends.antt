@@ -13,27 +13,27 @@ use Rattle.grin_syntax.specs.declared.program.Target.TheVariants as to
 use Rattle.grin_syntax.specs.declared.program.Stmt.{Stmt}
 use Rattle.grin_syntax.specs.Tree.{Code, end, bind, unit, fetch_word, Arms, no_arm, arm, before_of, arm_of, all_before, arms_of}
 use Rattle.grin_syntax.specs.Tags.{tag_id}
-use Rattle.fetch_passes.specs.Split.{all_words, node_arms}
+use Rattle.fetch_passes.specs.Split.{fetch_all_words, node_arms}
 
-words_push : (a : W.Word) (i : ℕ) (xs : List VarId) (x : VarId) (c : Code) → all_words a i (xs ++ x ∷ []) c ≡ all_words a i xs (bind (to.One x) (fetch_word a (i + length xs)) c)
+words_push : (a : W.Word) (i : ℕ) (xs : List VarId) (x : VarId) (c : Code) → fetch_all_words a i (xs ++ x ∷ []) c ≡ fetch_all_words a i xs (bind (to.One x) (fetch_word a (i + length xs)) c)
 words_push a i [] x c = ap (λ k. bind (to.One x) (fetch_word a k) c) (let e : i ≡ i + 0 = omega arith in e)
-words_push a i (y ∷ xs) x c = ap (bind (to.One y) (fetch_word a i)) (words_push a (suc i) xs x c ∙ ap (λ k. all_words a (suc i) xs (bind (to.One x) (fetch_word a k) c)) (let e : suc i + length xs ≡ i + suc (length xs) = omega arith in e))
+words_push a i (y ∷ xs) x c = ap (bind (to.One y) (fetch_word a i)) (words_push a (suc i) xs x c ∙ ap (λ k. fetch_all_words a (suc i) xs (bind (to.One x) (fetch_word a k) c)) (let e : suc i + length xs ≡ i + suc (length xs) = omega arith in e))
 
 pub record AllWords (a : W.Word) (xs : List VarId) (old made : List Stmt) : Type 0 where
-  pub by : (c : Code) → all_before (map before_of made) c ≡ all_before (map before_of old) (all_words a 0 xs c)
+  pub by : (c : Code) → all_before (map before_of made) c ≡ all_before (map before_of old) (fetch_all_words a 0 xs c)
 
 pub no_words : (a : W.Word) (old : List Stmt) → AllWords a [] old old
 no_words a old = record { by = λ c. refl }
 
 pub words_next : (a : W.Word) (xs : List VarId) (i : ℕ) (d : VarId) (old made made' : List Stmt) → i < length xs → AllWords a (take i xs) old made → ((c : Code) → all_before (map before_of made') c ≡ all_before (map before_of made) (bind (to.One (get_or xs i d)) (fetch_word a i) c)) → AllWords a (take (i + 1) xs) old made'
 words_next a xs i d old made made' lt f s = subst (λ l. AllWords a l old made') (sym (take_more xs i d lt))
-    (record { by = λ c. s c ∙ f.by _ ∙ ap (λ k. all_before (map before_of old) (all_words a 0 (take i xs) (bind (to.One (get_or xs i d)) (fetch_word a k) c))) at ∙ ap (all_before (map before_of old)) (sym (words_push a 0 (take i xs) (get_or xs i d) c)) })
+    (record { by = λ c. s c ∙ f.by _ ∙ ap (λ k. all_before (map before_of old) (fetch_all_words a 0 (take i xs) (bind (to.One (get_or xs i d)) (fetch_word a k) c))) at ∙ ap (all_before (map before_of old)) (sym (words_push a 0 (take i xs) (get_or xs i d) c)) })
   where
     at : i ≡ 0 + length (take i xs)
     at = let h : length (take i xs) ≡ i = omega (arith, length-take i xs) in omega (arith, h)
 
-pub words_all : (a : W.Word) (xs : List VarId) (i : ℕ) (old made : List Stmt) → length xs ≤ i → AllWords a (take i xs) old made → (c : Code) → all_before (map before_of made) c ≡ all_before (map before_of old) (all_words a 0 xs c)
-words_all a xs i old made le f c = f.by c ∙ ap (λ l. all_before (map before_of old) (all_words a 0 l c)) (take_all i xs le)
+pub words_all : (a : W.Word) (xs : List VarId) (i : ℕ) (old made : List Stmt) → length xs ≤ i → AllWords a (take i xs) old made → (c : Code) → all_before (map before_of made) c ≡ all_before (map before_of old) (fetch_all_words a 0 xs c)
+words_all a xs i old made le f c = f.by c ∙ ap (λ l. all_before (map before_of old) (fetch_all_words a 0 l c)) (take_all i xs le)
 
 arms_add : Arms → Arms → Arms
 arms_add no_arm r = r

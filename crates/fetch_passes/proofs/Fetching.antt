@@ -19,7 +19,7 @@ use Rattle.grin_meaning.proofs.Procedures.{side_by_side}
 use Rattle.grin_meaning.proofs.OneSided.{right_follows}
 use Rattle.pass_ground.specs.Uses.{word_is, code_uses}
 use Rattle.fetch_passes.specs.Windows.{outside}
-use Rattle.fetch_passes.specs.Names.{Names, Wait, as_word, named_if}
+use Rattle.fetch_passes.specs.Names.{Names, DeferredField, as_word, named_if}
 use Rattle.fetch_passes.specs.Split.{fetched_if, word_fetches, front, front_names}
 use Rattle.fetch_passes.proofs.Found.{is_var, naming}
 use Rattle.fetch_passes.proofs.Near.{Sound, sound_more, Held, held_more, Waits, Near, waits_more}
@@ -70,7 +70,7 @@ module _ (g : Program) (procs : List Procedure) (c c' : Calls) (cb : CallsBack (
   cells_same b = same_is b.heaps
 
   -- the second fetches a word alone
-  pub right_word : {R R' : Relation} (x : VarId) (a : W.Word) (p : Wait) (b b' : Code) → CodeFollows it R' Same b b'
+  pub right_word : {R R' : Relation} (x : VarId) (a : W.Word) (p : DeferredField) (b b' : Code) → CodeFollows it R' Same b b'
       → ((cells : List HeapCell) (env env' : Env) → R cells env env' → (w : Waits g a cells env env' p) × R' cells env (plus x.0 (node_word w.y.node p.place) env')) → CodeFollows it R Same b (bind (to.One x) (fetch_word a p.place) b')
   right_word {R} {R'} x a p b b' f r = right_follows it {R = R} {R' = R'} {V = Same} (to.One x) (fetch_word a p.place) b b' f (λ h.
       let z : (w : Waits g a h.w.cells h.env h.env' p) × R' h.w.cells h.env (plus x.0 (node_word w.y.node p.place) h.env') = r h.w.cells h.env h.env' h.related in
@@ -84,20 +84,20 @@ module _ (g : Program) (procs : List Procedure) (c c' : Calls) (cb : CallsBack (
       })
 
   module _ (base n : ℕ) (zs : List ℕ) (low : (y : ℕ) → InScope zs y → y < base) where
-    module _ (ks : Names) (sound : Sound base n zs ks) (a a2 : W.Word) (ps : List Wait) where
+    module _ (ks : Names) (sound : Sound base n zs ks) (a a2 : W.Word) (ps : List DeferredField) where
       -- the second lacks these, and has not fetched these words of the cell a
-      abbrev pub Mid : List ℕ → List Wait → Relation
+      abbrev pub Mid : List ℕ → List DeferredField → Relation
       Mid lacks ws = λ cells env env'. Near g zs ks lacks a2 ps cells env env' × AllOf (Waits g a cells env env') ws
 
-      waits_on : (x : VarId) (d : Datum) (b : W.Word) (cells : List HeapCell) (env env' : Env) → ((y : ℕ) → word_is y b ≡ true → y ≢ x.0) → (ws : List Wait) → AllOf (Waits g b cells env env') ws → AllOf (Waits g b cells env (plus x.0 d env')) ws
+      waits_on : (x : VarId) (d : Datum) (b : W.Word) (cells : List HeapCell) (env env' : Env) → ((y : ℕ) → word_is y b ≡ true → y ≢ x.0) → (ws : List DeferredField) → AllOf (Waits g b cells env env') ws → AllOf (Waits g b cells env (plus x.0 d env')) ws
       waits_on x d b cells env env' f ws h = waits_more g b cells env env' env (plus x.0 d env') (λ y k. plus_out x.0 d env' y (f y k)) ws (all_same ws) h
         where
-          all_same : (qs : List Wait) → AllOf (λ p. env p.var.0 ≡ env p.var.0) qs
+          all_same : (qs : List DeferredField) → AllOf (λ p. env p.var.0 ≡ env p.var.0) qs
           all_same [] = tt
           all_same (q ∷ qs) = (refl, all_same qs)
 
       -- the second fetches the next word
-      pub kept_follows : (x : VarId) (k : ℕ) (lacks : List ℕ) (ws : List Wait) (b b' : Code) → x.0 < base → as_word ks (Var x) ≡ Var x → ((y : ℕ) → word_is y a ≡ true → y ≢ x.0) → ((y : ℕ) → word_is y a2 ≡ true → y ≢ x.0)
+      pub kept_follows : (x : VarId) (k : ℕ) (lacks : List ℕ) (ws : List DeferredField) (b b' : Code) → x.0 < base → as_word ks (Var x) ≡ Var x → ((y : ℕ) → word_is y a ≡ true → y ≢ x.0) → ((y : ℕ) → word_is y a2 ≡ true → y ≢ x.0)
           → CodeFollows it (Mid lacks ws) Same b b' → CodeFollows it (Mid (x.0 ∷ lacks) (record { var = x; place = k } ∷ ws)) Same b (bind (to.One x) (fetch_word a k) b')
       kept_follows x k lacks ws b b' lt own f f2 h = right_word {R = Mid (x.0 ∷ lacks) (record { var = x; place = k } ∷ ws)} {R' = Mid lacks ws} x a (record { var = x; place = k }) b b' h (λ cells env env' r. (
         r.1.0,
@@ -132,7 +132,7 @@ module _ (g : Program) (procs : List Procedure) (c c' : Calls) (cb : CallsBack (
               (λ cells env env' m. (near_hidden g zs ks x (numbers_of xs) a2 ps cells env env' (gone x first q) m.0, m.1.1)) (λ v v' u. u) r
 
   -- at the front of an alternative
-  pub front_follows : (base n : ℕ) (zs : List ℕ) (low : (y : ℕ) → InScope zs y → y < base) (ks : Names) (a : W.Word) (ps : List Wait) (bt b b' : Code) → Sound base n zs ks → base ≤ n → Held base n zs a → AllOf (λ p. InScope zs p.var.0) ps
+  pub front_follows : (base n : ℕ) (zs : List ℕ) (low : (y : ℕ) → InScope zs y → y < base) (ks : Names) (a : W.Word) (ps : List DeferredField) (bt b b' : Code) → Sound base n zs ks → base ≤ n → Held base n zs a → AllOf (λ p. InScope zs p.var.0) ps
       → CodeFollows it (λ cells. Near g zs (front_names n ps bt ks) [] a [] cells) Same b b' → CodeFollows it (λ cells. Near g zs ks [] a ps cells) Same b (front a n ps bt b')
   front_follows base n zs low ks a [] bt b b' s le held i f = f
   front_follows base n zs low ks a (p ∷ ps) bt b b' s le held i f = go (code_uses p.var.0 bt)

@@ -9,9 +9,9 @@ use Rattle.grin_syntax.proofs.Unbound.{past_vars_none, past_code_none}
 use Rattle.grin_meaning.specs.Values.{Datum, Value, HeapCell, Binding, with_vars, one_each}
 use Rattle.grin_meaning.specs.Run.{Calls}
 use Rattle.grin_meaning.specs.Checks.{is_given}
-use Rattle.grin_meaning.specs.Ready.{EachCode, IsVectorised, EachBody, inlined_kind, vectorised_kind}
+use Rattle.grin_meaning.specs.Ready.{EachCode, IsVectorised, EveryBodyIsOfKind, inlined_kind, vectorised_kind}
 use Rattle.grin_meaning.specs.Keeps.{Keeps}
-use Rattle.grin_meaning.specs.Looking.{look, LooksNeverMissing}
+use Rattle.grin_meaning.specs.Looking.{checked_run, CheckedRunsNeverMissing}
 use Rattle.grin_meaning.specs.Follows.{Same, same}
 use Rattle.grin_meaning.specs.Full.{FullState}
 use Rattle.grin_meaning.proofs.Back.{CallsBack}
@@ -35,7 +35,7 @@ split_count g n (q ∷ qs) = ap suc (split_count g (n + made_code g.tags [] q.bo
 
 -- what a piece binds is below the first variable that is past it
 
-module _ (g : Program) (formed : Formed g) (never : LooksNeverMissing g) (inlined : EachBody inlined_kind g.procs) (bare : IsVectorised g) where
+module _ (g : Program) (formed : Formed g) (never : CheckedRunsNeverMissing g) (inlined : EveryBodyIsOfKind inlined_kind g.procs) (bare : IsVectorised g) where
   abbrev base : ℕ
   base = past_procs g.procs
 
@@ -77,7 +77,7 @@ module _ (g : Program) (formed : Formed g) (never : LooksNeverMissing g) (inline
       given = λ v v' u seen. given_too u seen;
     }
 
-    bodies_go : (f n : ℕ) (qs : List Procedure) → base ≤ n → AllOf (ProcedureFormed g) qs → EachBody inlined_kind qs → EachBody vectorised_kind qs → ((y : ℕ) → times y (procs_vars qs) ≤ 1) → past_procs qs ≤ base
+    bodies_go : (f n : ℕ) (qs : List Procedure) → base ≤ n → AllOf (ProcedureFormed g) qs → EveryBodyIsOfKind inlined_kind qs → EveryBodyIsOfKind vectorised_kind qs → ((y : ℕ) → times y (procs_vars qs) ≤ 1) → past_procs qs ≤ base
         → BodiesFollow (it g procs c c' cb cf) f qs (split_procs g.tags n qs)
     bodies_go f n [] le fq iq bq once past = no_more
     bodies_go f n (q ∷ qs) le fq iq bq once past = one_more {f = f} {q = q} {r = record q { body = split_code g.tags [] (Lit (pos 0)) [] n q.body }} (body_goes f n q le fq.0 iq.0 bq.0 here (omega (arith, past)) (omega (arith, past)))
@@ -91,9 +91,9 @@ module _ (g : Program) (formed : Formed g) (never : LooksNeverMissing g) (inline
 
   -- ---- the whole program
 
-  goes_likewise : (i : List ℕ) (n : ℕ) → Likewise no_deeper Same (look g i n) (look (split g) i n)
+  goes_likewise : (i : List ℕ) (n : ℕ) → Likewise no_deeper Same (checked_run g i n) (checked_run (split g) i n)
   goes_likewise i n = run_follows (plan_of g procs) (λ c c' cb cf. bodies_go c c' cb cf 0 base g.procs (omega arith) formed.procedures inlined bare formed.variables_once (omega arith)) i n
       same same (nodes_full g formed true i n).passed
 
-  pub split_kept : LooksNeverMissing (split g) × Keeps g (split g)
-  split_kept = looking_kept g (split g) never (λ i n. likewise_kept no_deeper Same (look g i n) (look (split g) i n) (goes_likewise i n))
+  pub split_kept : CheckedRunsNeverMissing (split g) × Keeps g (split g)
+  split_kept = looking_kept g (split g) never (λ i n. likewise_kept no_deeper Same (checked_run g i n) (checked_run (split g) i n) (goes_likewise i n))

@@ -13,8 +13,8 @@ use Rattle.grin_syntax.specs.declared.program.Word.TheVariants.{Var}
 use Rattle.grin_syntax.specs.Tree.{Code, end, unit, fetch, fetch_word, case, Procedure, Program}
 use Rattle.grin_syntax.specs.Tags.{tag_id}
 use Rattle.grin_syntax.specs.Fresh.{variable, variables}
-use Rattle.grin_meaning.specs.Values.{Datum, Node, Value, node, words, Env, HeapCell, World, gives, need, and_then, only_word, with_vars, Fit, fits, fits_not, unclear, node_fit, made_node, as_node, fit_of, word_of, words_of, value_of}
-use Rattle.grin_meaning.specs.Run.{Calls, act_by, code_by, arms_by, choose, passing, node_word, nth_or_zero, place_of}
+use Rattle.grin_meaning.specs.Values.{Datum, Node, Value, node, words, Env, HeapCell, World, gives, need, and_then, only_word, with_vars, MatchOutcome, fits, fits_not, unclear, node_fit, made_node, as_node, fit_of, word_of, words_of, value_of}
+use Rattle.grin_meaning.specs.Run.{Calls, act_by, code_by, arms_by, choose, with_state_seen, node_word, nth_or_zero, place_of}
 use Rattle.grin_meaning.specs.Ready.{most_fields}
 use Rattle.grin_meaning.specs.Follows.{Same, same}
 use Rattle.grin_meaning.specs.Full.{FullState, FullCell, FullNode}
@@ -22,7 +22,7 @@ use Rattle.grin_meaning.proofs.Back.{CallsBack}
 use Rattle.grin_meaning.proofs.Beside.{no_deeper, beside, gives_too, Sim, need_first}
 use Rattle.grin_meaning.proofs.Rules.{Relation, Here, Setting, CallsFollow, ActFollows, CodeFollows, end_follows}
 use Rattle.grin_meaning.proofs.OneSided.{right_follows}
-use Rattle.fetch_passes.specs.Split.{all_words, node_arms, whole_node}
+use Rattle.fetch_passes.specs.Split.{fetch_all_words, node_arms, whole_node}
 use Rattle.fetch_passes.proofs.Steps.{plus, plus_out, plus_in}
 use Rattle.fetch_passes.proofs.Fetching.{fetches, plan_of, it, cells_same}
 use Rattle.grin_meaning.proofs.Fields.{fields_fit}
@@ -92,9 +92,9 @@ module _ (g : Program) where
         there x i y e r = ap (λ o. need o x.w (λ i. need (slice_get x.w.cells i) x.w (λ y. gives (node y.node) x.w))) e ∙ ap (λ o. need o x.w (λ y. gives (node y.node) x.w)) r
 
     -- the second fetches the words
-    words_follow : (n m j z : ℕ) → z ≡ n + j → ((env' : Env) (x : ℕ) (e : Datum) → n ≤ x → word_of g (plus x e env') a ≡ word_of g env' a) → (b b' : Code) → CodeFollows st (Known n (j + m)) Same b b' → CodeFollows st (Known n j) Same b (all_words a j (variables z m) b')
+    words_follow : (n m j z : ℕ) → z ≡ n + j → ((env' : Env) (x : ℕ) (e : Datum) → n ≤ x → word_of g (plus x e env') a ≡ word_of g env' a) → (b b' : Code) → CodeFollows st (Known n (j + m)) Same b b' → CodeFollows st (Known n j) Same b (fetch_all_words a j (variables z m) b')
     words_follow n zero j z e kept b b' f = subst (λ k. CodeFollows st (Known n k) Same b b') (let q : j + 0 ≡ j = omega arith in q) f
-    words_follow n (suc m) j z e kept b b' f = right_follows st {R = Known n j} {R' = Known n (suc j)} {V = Same} (to.One (variable z)) (fetch_word a j) b (all_words a (suc j) (variables (suc z) m) b')
+    words_follow n (suc m) j z e kept b b' f = right_follows st {R = Known n j} {R' = Known n (suc j)} {V = Same} (to.One (variable z)) (fetch_word a j) b (fetch_all_words a (suc j) (variables (suc z) m) b')
         (words_follow n m (suc j) (suc z) (omega (arith, e)) kept b b' (subst (λ k. CodeFollows st (Known n k) Same b b') (let q : j + suc m ≡ suc j + m = omega arith in q) f))
         (λ x.
         let y : HeapCell = x.related.y in
@@ -169,20 +169,20 @@ module _ (g : Program) where
       v' = words (words_from y 0 (suc M))
 
       -- one of the alternatives gives the node
-      arms_give : (ts : List Tag) (i k : ℕ) (t : Tag) (d' : ℕ) (w : World) → y.tag ≡ i + k → slice_get ts k ≡ Some t → t.fields ≡ length y.fields → arms_by h c' true env' d' v' (node_arms xs i ts) w ≡ gives (node y) (passing env' w)
+      arms_give : (ts : List Tag) (i k : ℕ) (t : Tag) (d' : ℕ) (w : World) → y.tag ≡ i + k → slice_get ts k ≡ Some t → t.fields ≡ length y.fields → arms_by h c' true env' d' v' (node_arms xs i ts) w ≡ gives (node y) (with_state_seen env' w)
       unfolding act_by
       arms_give [] i k t d' w e r f = cc
       arms_give (u ∷ ts) i zero t d' w e r f =
           let s : u ≡ t = cc in
           let q : i ≡ y.tag = omega (arith, e) in
           let z : fit_of h (shape.Node (tag_id i) []) v' ≡ fits [] = ap (λ o. fit_at o) vector_is ∙ ap (λ b. cond b (fits []) fits_not) (ap (nat_eq y.tag) q ∙ eq_self y.tag) in
-          ap (λ o. choose o w (λ bs. code_by h c' true (with_vars bs env') d' (end (unit (NodeVal (tag_id i) (map Var (take u.fields xs))))) (passing (with_vars bs env') w)) (arms_by h c' true env' d' v' (node_arms xs (suc i) ts) w)) z
-          ∙ ap (λ o. need o (passing env' w) (λ x. gives x (passing env' w))) (made i q u (ap (λ t. t.fields) s ∙ f))
+          ap (λ o. choose o w (λ bs. code_by h c' true (with_vars bs env') d' (end (unit (NodeVal (tag_id i) (map Var (take u.fields xs))))) (with_state_seen (with_vars bs env') w)) (arms_by h c' true env' d' v' (node_arms xs (suc i) ts) w)) z
+          ∙ ap (λ o. need o (with_state_seen env' w) (λ x. gives x (with_state_seen env' w))) (made i q u (ap (λ t. t.fields) s ∙ f))
         where
-          fit_at : Option Node → Fit
+          fit_at : Option Node → MatchOutcome
           fit_at o = elim o [ None ↦ unclear | Some m ↦ cond (nat_eq m.tag i) (fits []) fits_not ]
       arms_give (u ∷ ts) i (suc k) t d' w e r f =
-          ap (λ o. choose o w (λ bs. code_by h c' true (with_vars bs env') d' (end (unit (NodeVal (tag_id i) (map Var (take u.fields xs))))) (passing (with_vars bs env') w)) (arms_by h c' true env' d' v' (node_arms xs (suc i) ts) w))
+          ap (λ o. choose o w (λ bs. code_by h c' true (with_vars bs env') d' (end (unit (NodeVal (tag_id i) (map Var (take u.fields xs))))) (with_state_seen (with_vars bs env') w)) (arms_by h c' true env' d' v' (node_arms xs (suc i) ts) w))
           (ap (λ o. node_fit i [] o) vector_is ∙ ap (λ b. cond b (fits []) fits_not) (eq_false y.tag i (λ q. omega (arith, q, e))))
           ∙ arms_give ts (suc i) k t d' w (omega (arith, e)) r f
 
@@ -203,7 +203,7 @@ module _ (g : Program) where
             let t : (t : Tag) × (slice_get g.tags y.node.tag ≡ Some t) × (t.fields ≡ length y.node.fields) = tag_there y.node (slice_get g.tags y.node.tag) refl full in
             let first : act_by g c true x.env x.d (fetch d) x.w ≡ gives (node y.node) x.w
             = ap (λ o. need o x.w (λ i. need (slice_get x.w.cells i) x.w (λ y. gives (node y.node) x.w))) r.first ∙ ap (λ o. need o x.w (λ y. gives (node y.node) x.w)) r.there in
-            let second : act_by h c' true x.env' x.d' (case (Vector (map Var (variables n (suc (most_fields g.tags))))) (node_arms (variables (suc n) (most_fields g.tags)) 0 g.tags)) (beside x.b) ≡ gives (node y.node) (passing x.env' (beside x.b))
+            let second : act_by h c' true x.env' x.d' (case (Vector (map Var (variables n (suc (most_fields g.tags))))) (node_arms (variables (suc n) (most_fields g.tags)) 0 g.tags)) (beside x.b) ≡ gives (node y.node) (with_state_seen x.env' (beside x.b))
             = ap (λ o. need (and_then o (λ ds. Some (words ds))) (beside x.b) (λ v. arms_by h c' true x.env' x.d' v (node_arms (variables (suc n) (most_fields g.tags)) 0 g.tags) (beside x.b))) (all_there n x.env' y.node full r.have)
             ∙ arms_give n x.env' y.node full r.have g.tags 0 y.node.tag t.0 x.d' (beside x.b) (omega arith) t.1 t.2 in
             subst (λ q. Sim (FullState g) no_deeper Same q (act_by h c' true x.env' x.d' (case (Vector (map Var (variables n (suc (most_fields g.tags))))) (node_arms (variables (suc n) (most_fields g.tags)) 0 g.tags)) (beside x.b))) (sym first)

@@ -14,10 +14,10 @@ pub mod Grows
 pub mod Pushed
 pub mod Ends
 pub mod Splits
-pub mod Shape
+pub mod Gives
 pub mod Counts
 pub mod Scoped
-pub mod PassContract
+pub mod Contract
 pub mod Used
 pub mod Placing
 pub mod Fronting

@@ -9,7 +9,7 @@ use Rattle.grin_syntax.specs.Formed.{AllOf, InScope}
 use Rattle.grin_meaning.specs.Values.{Datum, Env, HeapCell, and_then, only_word, Binding, with_vars, word_of}
 use Rattle.grin_meaning.specs.Run.{node_word, place_of}
 use Rattle.pass_ground.specs.Uses.{word_is}
-use Rattle.fetch_passes.specs.Names.{Names, Wait, as_word}
+use Rattle.fetch_passes.specs.Names.{Names, DeferredField, as_word}
 use Rattle.pass_ground.proofs.Bound.{names_of, vars_out, vars_in}
 use Rattle.fetch_passes.proofs.Found.{is_var}
 use Rattle.seq.specs.Lists.{times}
@@ -59,7 +59,7 @@ held_as base n xs ks (Var x) s f = go (as_word ks (Var x)) (s x)
 
 module _ (g : Program) where
   -- word `place` of the node in the cell that a is in the second program
-  pub record Waits (a : W.Word) (c : List HeapCell) (env env' : Env) (p : Wait) : Type 0 where
+  pub record Waits (a : W.Word) (c : List HeapCell) (env env' : Env) (p : DeferredField) : Type 0 where
     pub i : ℕ
     pub y : HeapCell
     pub place : and_then (word_of g env' a) place_of ≡ Some i
@@ -67,7 +67,7 @@ module _ (g : Program) where
     pub word : word_of g env (Var p.var) ≡ Some (node_word y.node p.place)
 
   -- each variable in scope is there by its name, but for those that the second program lacks; and the words that wait are words of the cell a
-  pub record Near (xs : List ℕ) (ks : Names) (lacks : List ℕ) (a : W.Word) (ps : List Wait) (c : List HeapCell) (env env' : Env) : Type 0 where
+  pub record Near (xs : List ℕ) (ks : Names) (lacks : List ℕ) (a : W.Word) (ps : List DeferredField) (c : List HeapCell) (env env' : Env) : Type 0 where
     pub named : (z : VarId) (d : Datum) → InScope xs z.0 → times z.0 lacks ≡ 0 → is_var (as_word ks (Var z)) ≡ true → word_of g env (Var z) ≡ Some d → word_of g env' (as_word ks (Var z)) ≡ Some d
     pub waits : AllOf (Waits a c env env') ps
 
@@ -83,7 +83,7 @@ module _ (g : Program) where
   abbrev pub Apart : W.Word → List ℕ → Type 0
   Apart a ys = (y : ℕ) → word_is y a ≡ true → times y ys ≡ 0
 
-  pub waits_more : (a : W.Word) (c : List HeapCell) (env env' env1 env1' : Env) → ((y : ℕ) → word_is y a ≡ true → env1' y ≡ env' y) → (ps : List Wait) → AllOf (λ p. env1 p.var.0 ≡ env p.var.0) ps → AllOf (Waits a c env env') ps → AllOf (Waits a c env1 env1') ps
+  pub waits_more : (a : W.Word) (c : List HeapCell) (env env' env1 env1' : Env) → ((y : ℕ) → word_is y a ≡ true → env1' y ≡ env' y) → (ps : List DeferredField) → AllOf (λ p. env1 p.var.0 ≡ env p.var.0) ps → AllOf (Waits a c env env') ps → AllOf (Waits a c env1 env1') ps
   waits_more a c env env' env1 env1' f [] s h = tt
   waits_more a c env env' env1 env1' f (p ∷ ps) s h = (
     record { i = h.0.i; y = h.0.y; place = ap (λ o. and_then o place_of) (word_kept env' env1' a f) ∙ h.0.place; there = h.0.there; word = ap (λ o. and_then o only_word) s.0 ∙ h.0.word },
@@ -92,7 +92,7 @@ module _ (g : Program) where
 
   module _ (base n : ℕ) (xs : List ℕ) (ks : Names) (sound : Sound base n xs ks) (low : (y : ℕ) → InScope xs y → y < base) where
     -- both bind the same
-    pub near_bind : (a : W.Word) (ps : List Wait) (c : List HeapCell) (env env' : Env) (bs : List Binding) (ys : List ℕ) → names_of bs ≡ ys → ((y : ℕ) → InScope ys y → times y xs ≡ 0 × y < base)
+    pub near_bind : (a : W.Word) (ps : List DeferredField) (c : List HeapCell) (env env' : Env) (bs : List Binding) (ys : List ℕ) → names_of bs ≡ ys → ((y : ℕ) → InScope ys y → times y xs ≡ 0 × y < base)
         → Held base n xs a → AllOf (λ p. InScope xs p.var.0) ps → Near xs ks [] a ps c env env' → Near (ys ++ xs) ks [] a ps c (with_vars bs env) (with_vars bs env')
     near_bind a ps c env env' bs ys e new held wait r = record { named = λ z d i l v w. go z d i v w (times z.0 ys) refl; waits = waits_more a c env env' (with_vars bs env) (with_vars bs env') apart ps (old ps wait) r.waits }
       where
@@ -120,7 +120,7 @@ module _ (g : Program) where
             at (inl i) = out env' y (not_new y i)
             at (inr k) = out env' y (not_high y k.0)
 
-        old : (qs : List Wait) → AllOf (λ p. InScope xs p.var.0) qs → AllOf (λ p. with_vars bs env p.var.0 ≡ env p.var.0) qs
+        old : (qs : List DeferredField) → AllOf (λ p. InScope xs p.var.0) qs → AllOf (λ p. with_vars bs env p.var.0 ≡ env p.var.0) qs
         old [] h = tt
         old (p ∷ qs) h = (out env p.var.0 (not_new p.var.0 h.0), old qs h.1)
 

@@ -12,10 +12,10 @@ use Rattle.grin_syntax.specs.declared.program.Val.TheVariants.{NodeVar, Node, Ve
 use Rattle.grin_syntax.specs.Tree.{Code, end, store, bind, Act, unit, fetch, fetch_word, update, eval, apply, call, prim, read, write, case, nested, fail, Arms, no_arm, arm}
 use Rattle.pass_ground.specs.Uses.{word_is, words_use, val_uses, cells_use, act_uses, code_uses, arms_use, act_mentions}
 use Rattle.variable_uses.specs.Uses.{IsUsedWithin}
-use Rattle.variable_uses.specs.Stands.{Stands}
+use Rattle.variable_uses.specs.Stands.{ListSegmentAt}
 use Rattle.variable_uses.proofs.Standing.{stands_first, stands_rest, stands_all, used_among, among_used}
-use Rattle.fetch_passes.specs.Notes.{Size, Place, Trace, joined, size_of, sized, only, word_used, words_used, val_used, cells_used, act_trace, code_trace, arms_trace, Here, size_at, inside, IsPast, Answers}
-use Rattle.fetch_passes.specs.Asked.{Span, Spans, Follows}
+use Rattle.fetch_passes.specs.Notes.{Size, Place, Trace, joined_traces, size_of, with_own_size, only, word_used, words_used, val_used, cells_used, act_trace, code_trace, arms_trace, Here, size_at, inside, IsPlaceAfterPiece, Answers}
+use Rattle.fetch_passes.specs.Asked.{Span, SpanCoversBlock, Follows}
 
 -- ---- what is used is among the uses
 
@@ -81,21 +81,21 @@ answered n x from to used h us s e = both_ways used (is_among x us) (λ t. used_
 -- ---- places
 
 pub here_whole : (t : Trace) (p : Place) → p.at ≡ 0 → p.piece ≡ 0 → Here t p t
-here_whole t p a b = record { used = subst (λ k. Stands t.used k t.used) (sym a) (stands_all t.used); sizes = subst (λ k. Stands t.sizes k t.sizes) (sym b) (stands_all t.sizes) }
+here_whole t p a b = record { used = subst (λ k. ListSegmentAt t.used k t.used) (sym a) (stands_all t.used); sizes = subst (λ k. ListSegmentAt t.sizes k t.sizes) (sym b) (stands_all t.sizes) }
 
 module _ (n : Trace) where
-  pub here_first : (p : Place) (s t : Trace) → Here n p (joined s t) → Here n p s
+  pub here_first : (p : Place) (s t : Trace) → Here n p (joined_traces s t) → Here n p s
   here_first p s t h = record { used = stands_first n.used p.at s.used t.used h.used; sizes = stands_first n.sizes p.piece s.sizes t.sizes h.sizes }
 
-  pub here_inside : (p q : Place) (s : Trace) → inside p q → Here n p (sized s) → Here n q s
+  pub here_inside : (p q : Place) (s : Trace) → inside p q → Here n p (with_own_size s) → Here n q s
   here_inside p q s e h =
       let k : p.piece + 1 ≡ q.piece = let f = e.1 in omega (arith, f) in
       record {
-        used = subst (λ k. Stands n.used k s.used) (sym e.0) h.used;
-        sizes = subst (λ k. Stands n.sizes k s.sizes) k (stands_rest n.sizes p.piece (size_of s ∷ []) s.sizes h.sizes);
+        used = subst (λ k. ListSegmentAt n.used k s.used) (sym e.0) h.used;
+        sizes = subst (λ k. ListSegmentAt n.sizes k s.sizes) k (stands_rest n.sizes p.piece (size_of s ∷ []) s.sizes h.sizes);
       }
 
-  size_first : (ss : List Size) (i : ℕ) (z : Size) (rest : List Size) → Stands ss i (z ∷ rest) → size_at ss i ≡ z
+  size_first : (ss : List Size) (i : ℕ) (z : Size) (rest : List Size) → ListSegmentAt ss i (z ∷ rest) → size_at ss i ≡ z
   size_first ss i z rest s = go ss i s.after s.is
     where
       go : (ss : List Size) (i : ℕ) (after : List Size) → drop i ss ≡ (z ∷ rest) ++ after → size_at ss i ≡ z
@@ -104,46 +104,46 @@ module _ (n : Trace) where
       go (y ∷ ss) zero after e = cc
       go (y ∷ ss) (suc i) after e = go ss i after e
 
-  pub size_here : (p : Place) (s : Trace) → Here n p (sized s) → size_at n.sizes p.piece ≡ size_of s
+  pub size_here : (p : Place) (s : Trace) → Here n p (with_own_size s) → size_at n.sizes p.piece ≡ size_of s
   size_here p s h = size_first n.sizes p.piece (size_of s) s.sizes h.sizes
 
-  pub here_within : (p : Place) (s : Trace) → Here n p (sized s) → p.piece < length n.sizes
+  pub here_within : (p : Place) (s : Trace) → Here n p (with_own_size s) → p.piece < length n.sizes
   here_within p s h =
-      let e : length n.sizes - p.piece ≡ suc (length s.sizes) + length h.sizes.after = sym (length-drop p.piece n.sizes) ∙ ap length h.sizes.is ∙ length-append (sized s).sizes h.sizes.after in
+      let e : length n.sizes - p.piece ≡ suc (length s.sizes) + length h.sizes.after = sym (length-drop p.piece n.sizes) ∙ ap length h.sizes.is ∙ length-append (with_own_size s).sizes h.sizes.after in
       omega (arith, e)
 
-  pub past_at : (p q : Place) (s : Trace) → IsPast n p q → Here n p (sized s) → q.at ≡ p.at + length s.used
+  pub past_at : (p q : Place) (s : Trace) → IsPlaceAfterPiece n p q → Here n p (with_own_size s) → q.at ≡ p.at + length s.used
   past_at p q s e h = e.at ∙ ap (λ z. p.at + z.uses) (size_here p s h)
 
-  pub here_past : (p q : Place) (s t : Trace) → IsPast n p q → Here n p (joined (sized s) t) → Here n q t
+  pub here_past : (p q : Place) (s t : Trace) → IsPlaceAfterPiece n p q → Here n p (joined_traces (with_own_size s) t) → Here n q t
   here_past p q s t e h =
-      let f : Here n p (sized s) = here_first p (sized s) t h in
+      let f : Here n p (with_own_size s) = here_first p (with_own_size s) t h in
       let k : q.piece ≡ suc (p.piece + length s.sizes) = e.piece ∙ ap (λ z. suc (p.piece + z.pieces)) (size_here p s f) in
       let m : p.piece + suc (length s.sizes) ≡ q.piece = omega (arith, k) in
       record {
-        used = subst (λ k. Stands n.used k t.used) (sym (past_at p q s e f)) (stands_rest n.used p.at s.used t.used h.used);
-        sizes = subst (λ k. Stands n.sizes k t.sizes) m (stands_rest n.sizes p.piece (sized s).sizes t.sizes h.sizes);
+        used = subst (λ k. ListSegmentAt n.used k t.used) (sym (past_at p q s e f)) (stands_rest n.used p.at s.used t.used h.used);
+        sizes = subst (λ k. ListSegmentAt n.sizes k t.sizes) m (stands_rest n.sizes p.piece (with_own_size s).sizes t.sizes h.sizes);
       }
 
   -- what a block uses that begins here
-  pub block_answer : (p q : Place) (x : ℕ) (b : Code) (used : Bool) → Here n p (sized (code_trace b)) → IsPast n p q → Answers n x p.at q.at used → used ≡ code_uses x b
+  pub block_answer : (p q : Place) (x : ℕ) (b : Code) (used : Bool) → Here n p (with_own_size (code_trace b)) → IsPlaceAfterPiece n p q → Answers n x p.at q.at used → used ≡ code_uses x b
   block_answer p q x b used h e a = a (code_trace b).used h.used (past_at p q (code_trace b) e h) ∙ code_among x b
 
   -- ---- the rest of a block
 
-  pub block_spans : (p q : Place) (s : Span) (b : Code) → inside p s.place → IsPast n p q → s.end ≡ q.at → Here n p (sized (code_trace b)) → Spans n s b
+  pub block_spans : (p q : Place) (s : Span) (b : Code) → inside p s.place → IsPlaceAfterPiece n p q → s.end ≡ q.at → Here n p (with_own_size (code_trace b)) → SpanCoversBlock n s b
   block_spans p q s b i e f h =
       let k : q.at ≡ p.at + length (code_trace b).used = past_at p q (code_trace b) e h in
       record { here = here_inside p s.place (code_trace b) i h; ends = f ∙ k ∙ ap (λ m. m + length (code_trace b).used) (sym i.0) }
 
-  pub rest_follows : (s next : Span) → IsPast n s.place next.place → next.end ≡ s.end → Follows n s next
+  pub rest_follows : (s next : Span) → IsPlaceAfterPiece n s.place next.place → next.end ≡ s.end → Follows n s next
   rest_follows s next e f whole c t is h =
-      let j : Here n s.place (joined (sized t) (code_trace c)) = subst (Here n s.place) is h.here in
-      let k : next.place.at ≡ s.place.at + length t.used = past_at s.place next.place t e (here_first s.place (sized t) (code_trace c) j) in
+      let j : Here n s.place (joined_traces (with_own_size t) (code_trace c)) = subst (Here n s.place) is h.here in
+      let k : next.place.at ≡ s.place.at + length t.used = past_at s.place next.place t e (here_first s.place (with_own_size t) (code_trace c) j) in
       let m : length (code_trace whole).used ≡ length t.used + length (code_trace c).used = ap (λ z. length z.used) is ∙ length-append t.used (code_trace c).used in
       let l : s.end ≡ s.place.at + length (code_trace whole).used = h.ends in
       record { here = here_past s.place next.place t (code_trace c) e j; ends = omega (arith, f, k, l, m) }
 
-  pub alts_here : (p q r : Place) (v : V.Val) (as' : Arms) → inside p q → IsPast n q r → Here n p (sized (act_trace (case v as'))) → Here n r (arms_trace as')
+  pub alts_here : (p q r : Place) (v : V.Val) (as' : Arms) → inside p q → IsPlaceAfterPiece n q r → Here n p (with_own_size (act_trace (case v as'))) → Here n r (arms_trace as')
   unfolding act_trace
   alts_here p q r v as' i e h = here_past q r (only (val_used v)) (arms_trace as') e (here_inside p q (act_trace (case v as')) i h)

@@ -15,14 +15,14 @@ use Rattle.grin_syntax.specs.Binders.{numbers_of, target_vars, shape_vars, cell_
 use Rattle.grin_syntax.specs.Formed.{AllOf, InScope}
 use Rattle.grin_syntax.specs.Fresh.{variable, variables, past_code, past_procs}
 use Rattle.grin_syntax.proofs.Unbound.{past_code_none}
-use Rattle.grin_meaning.specs.Ready.{NoNodeVar, EachAct, EachCode, EachArms, most_fields, EachBody, vectorised_kind}
+use Rattle.grin_meaning.specs.Ready.{NoNodeVar, EachAct, EachCode, EachArms, most_fields, EveryBodyIsOfKind, vectorised_kind}
 use Rattle.pass_ground.specs.Uses.{word_is, val_uses, code_uses, arms_use, act_mentions}
-use Rattle.fetch_passes.specs.Windows.{begins_with, is_int, tests_number, vector_uses, act_owns, owns, act_outside, outside}
-use Rattle.fetch_passes.specs.Names.{Names, Wait, as_word, as_val, hiding}
-use Rattle.fetch_passes.specs.Waits.{waits_of}
-use Rattle.fetch_passes.specs.Split.{fetched_if, word_fetches, front, front_names, all_words, node_arms, whole_node, split_act, split_code, split_arms, split_procs, made_act, made_code}
-use Rattle.fetch_passes.specs.Placed.{by_nodes_kind}
-use Rattle.fetch_passes.specs.Positions.{Tagged, Position, after_tag, at_front, elsewhere, GiveNodes, GivesNode, ActPlaced, CodePlaced, ArmsPlaced}
+use Rattle.fetch_passes.specs.Windows.{begins_with, is_int, tests_number, vector_uses, is_case_on_tag, owns, act_outside, outside}
+use Rattle.fetch_passes.specs.Names.{Names, DeferredField, as_word, as_val, with_hidden}
+use Rattle.fetch_passes.specs.Waits.{deferred_fields_of}
+use Rattle.fetch_passes.specs.Split.{fetched_if, word_fetches, front, front_names, fetch_all_words, node_arms, whole_node, split_act, split_code, split_arms, split_procs, made_act, made_code}
+use Rattle.fetch_passes.specs.Placed.{no_word_fetch_kind}
+use Rattle.fetch_passes.specs.Positions.{FetchedCell, Position, after_tag, at_front, elsewhere, ArmsReturnNodes, ReturnsNodeByWords, ActPlaced, CodePlaced, ArmsPlaced}
 use Rattle.pass_ground.proofs.Tests.{never_both}
 use Rattle.fetch_passes.proofs.Found.{is_waiting, hiding_is}
 use Rattle.fetch_passes.proofs.Near.{At, itself, renamed, gone, Sound, sound_more}
@@ -40,7 +40,7 @@ record Alone (ks : Names) (t : VarId) : Type 0 where
   own : as_word ks (Var t) ≡ Var t
   other : (z : VarId) → as_word ks (Var z) ≡ Var t → z.0 ≡ t.0
 
-hiding_alone : (ps : List Wait) (ks : Names) (t : VarId) → is_waiting ps t.0 ≡ false → Alone ks t → Alone (hiding ps ks) t
+hiding_alone : (ps : List DeferredField) (ks : Names) (t : VarId) → is_waiting ps t.0 ≡ false → Alone ks t → Alone (with_hidden ps ks) t
 hiding_alone ps ks t h x = record { own = hiding_stays ps ks t t h x.own; other = λ z e. go z (is_waiting ps z.0) (sym (hiding_is ps ks z) ∙ e) }
   where
     go : (z : VarId) (s : Bool) → cond s (Lit (pos 0)) (as_word ks (Var z)) ≡ Var t → z.0 ≡ t.0
@@ -107,7 +107,7 @@ owns_words : (t u : ℕ) (b : Code) (a : W.Word) (i : ℕ) (xs : List VarId) (c 
 owns_words t u b a i [] c = refl
 owns_words t u b a i (x ∷ xs) c = owns_fetch t (outside u x.0 b) x a i (word_fetches u b a (suc i) xs c) ∙ owns_words t u b a (suc i) xs c
 
-owns_all : (t : ℕ) (a : W.Word) (i : ℕ) (xs : List VarId) (c : Code) → owns t (all_words a i xs c) ≡ owns t c
+owns_all : (t : ℕ) (a : W.Word) (i : ℕ) (xs : List VarId) (c : Code) → owns t (fetch_all_words a i xs c) ≡ owns t c
 unfolding owns
 owns_all t a i [] c = refl
 owns_all t a i (x ∷ xs) c = owns_all t a (suc i) xs c
@@ -124,24 +124,24 @@ outside_words t y u b a i (x ∷ xs) c h = outside_fetch t y (outside u x.0 b) x
 module _ (ts : List Tag) where
   -- ---- the case that comes next, and what is used outside its alternatives, stay
 
-  owned_stays : (o : Act) (ks : Names) (a : W.Word) (ps : List Wait) (n : ℕ) (t : VarId) → Alone ks t → act_owns t.0 (split_act ts ks a ps n o) ≡ act_owns t.0 o
+  owned_stays : (o : Act) (ks : Names) (a : W.Word) (ps : List DeferredField) (n : ℕ) (t : VarId) → Alone ks t → is_case_on_tag t.0 (split_act ts ks a ps n o) ≡ is_case_on_tag t.0 o
   unfolding split_act
   owned_stays (case v as') ks a ps n t x = begins_stays ks t x v
   owned_stays o ks a ps n t x = refl
 
-  tests_stay : (as' : Arms) (ks : Names) (a : W.Word) (ps : List Wait) (n : ℕ) → tests_number (split_arms ts ks a ps n as') ≡ tests_number as'
+  tests_stay : (as' : Arms) (ks : Names) (a : W.Word) (ps : List DeferredField) (n : ℕ) → tests_number (split_arms ts ks a ps n as') ≡ tests_number as'
   unfolding split_act
   tests_stay no_arm ks a ps n = refl
   tests_stay (arm s b as') ks a ps n = ap (λ r. is_int s || r) (tests_stay as' ks a ps (n + length ps + made_code ts [] b))
 
-  owns_stays : (b : Code) (ks : Names) (a : W.Word) (ps : List Wait) (n : ℕ) (t : VarId) → Alone ks t → times t.0 (code_vars b) ≡ 0 → t.0 < n → EachCode vectorised_kind b → EachCode by_nodes_kind b → owns t.0 (split_code ts ks a ps n b) ≡ owns t.0 b
+  owns_stays : (b : Code) (ks : Names) (a : W.Word) (ps : List DeferredField) (n : ℕ) (t : VarId) → Alone ks t → times t.0 (code_vars b) ≡ 0 → t.0 < n → EachCode vectorised_kind b → EachCode no_word_fetch_kind b → owns t.0 (split_code ts ks a ps n b) ≡ owns t.0 b
   unfolding split_act owns code_vars EachAct made_act
   owns_stays (end (fetch c)) ks a ps n t x h lt e k = owns_all t.0 (as_word ks c) 1 (variables (suc n) (most_fields ts)) _ ∙ eq_false n t.0 (λ q. omega (arith, q, lt))
   owns_stays (end o) ks a ps n t x h lt e k = owned_stays o ks a ps n t x
   owns_stays (store cs b) ks a ps n t x h lt e k = refl
   owns_stays (bind (to.Vector (v ∷ vs)) (fetch c) b) ks a ps n t x h lt e k =
       let q : (times t.0 (numbers_of (v ∷ vs)) ≡ 0) × (times t.0 (code_vars b) ≡ 0) = not_here t.0 (numbers_of (v ∷ vs)) ([] ++ code_vars b) h in
-      owns_words t.0 v.0 b (as_word ks c) 1 vs _ ∙ owns_stays b (hiding (waits_of v.0 b 1 vs) ks) _ _ (n + 0) t (hiding_alone (waits_of v.0 b 1 vs) ks t (not_waiting v.0 b 1 vs t.0 (omega (arith, q.0))) x) q.1 (omega (arith, lt)) e.2 k.2
+      owns_words t.0 v.0 b (as_word ks c) 1 vs _ ∙ owns_stays b (with_hidden (deferred_fields_of v.0 b 1 vs) ks) _ _ (n + 0) t (hiding_alone (deferred_fields_of v.0 b 1 vs) ks t (not_waiting v.0 b 1 vs t.0 (omega (arith, q.0))) x) q.1 (omega (arith, lt)) e.2 k.2
   owns_stays (bind (to.Vector []) (fetch c) b) ks a ps n t x h lt e k = owns_stays b ks a ps (n + 0) t x h (omega (arith, lt)) e.2 k.2
   owns_stays (bind to.Nothing (fetch c) b) ks a ps n t x h lt e k = owns_stays b ks a ps (n + 0) t x h (omega (arith, lt)) e.2 k.2
   owns_stays (bind (to.One u) (fetch c) b) ks a ps n t x h lt e k = owns_stays b ks a ps (n + 0) t x (not_here t.0 (u.0 ∷ []) (code_vars b) h).1 (omega (arith, lt)) e.2 k.2
@@ -149,7 +149,7 @@ module _ (ts : List Tag) where
   owns_stays (bind u (fetch_word c i) b) ks a ps n t x h lt e k = absurd k.1
   owns_stays (bind u o b) ks a ps n t x h lt e k = owned_stays o ks a ps n t x
 
-  act_outside_stays : (o : Act) (ks : Names) (a : W.Word) (ps : List Wait) (n : ℕ) (t z y : VarId) → Alone ks t → as_word ks (Var z) ≡ Var y → is_waiting ps z.0 ≡ false → times z.0 (act_vars o) ≡ 0 → EachAct vectorised_kind o → act_outside t.0 z.0 o ≡ true → act_outside t.0 y.0 (split_act ts ks a ps n o) ≡ true
+  act_outside_stays : (o : Act) (ks : Names) (a : W.Word) (ps : List DeferredField) (n : ℕ) (t z y : VarId) → Alone ks t → as_word ks (Var z) ≡ Var y → is_waiting ps z.0 ≡ false → times z.0 (act_vars o) ≡ 0 → EachAct vectorised_kind o → act_outside t.0 z.0 o ≡ true → act_outside t.0 y.0 (split_act ts ks a ps n o) ≡ true
   unfolding split_act act_mentions act_vars EachAct
   act_outside_stays (case v as') ks a ps n t z y x is w h e u =
       ap (λ s. cond s (vector_uses (tests_number (split_arms ts ks a ps n as')) y.0 (as_val ks v)) (val_uses y.0 (as_val ks v) || arms_use y.0 (split_arms ts ks a ps n as'))) (begins_stays ks t x v) ∙ go (begins_with t.0 v) u
@@ -159,7 +159,7 @@ module _ (ts : List Tag) where
       go false k = act_used ts (case v as') ks a ps n z y is w h e k
   act_outside_stays o ks a ps n t z y x is w h e u = act_used ts o ks a ps n z y is w h e u
 
-  outside_stays : (b : Code) (ks : Names) (a : W.Word) (ps : List Wait) (n : ℕ) (t z y : VarId) → Alone ks t → as_word ks (Var z) ≡ Var y → is_waiting ps z.0 ≡ false → times t.0 (code_vars b) ≡ 0 → times z.0 (code_vars b) ≡ 0 → EachCode vectorised_kind b → EachCode by_nodes_kind b
+  outside_stays : (b : Code) (ks : Names) (a : W.Word) (ps : List DeferredField) (n : ℕ) (t z y : VarId) → Alone ks t → as_word ks (Var z) ≡ Var y → is_waiting ps z.0 ≡ false → times t.0 (code_vars b) ≡ 0 → times z.0 (code_vars b) ≡ 0 → EachCode vectorised_kind b → EachCode no_word_fetch_kind b
       → outside t.0 z.0 b ≡ true → outside t.0 y.0 (split_code ts ks a ps n b) ≡ true
   unfolding split_act outside act_mentions code_vars EachAct made_act
   outside_stays (end (fetch c)) ks a ps n t z y x is w h v0 e k u = or_left (word_is y.0 (as_word ks c)) _ (word_used ks z y is c u)
@@ -168,12 +168,12 @@ module _ (ts : List Tag) where
   outside_stays (bind (to.Vector (v ∷ vs)) (fetch c) b) ks a ps n t z y x is w h v0 e k u =
       let q : (times t.0 (numbers_of (v ∷ vs)) ≡ 0) × (times t.0 (code_vars b) ≡ 0) = not_here t.0 (numbers_of (v ∷ vs)) ([] ++ code_vars b) h in
       let r : (times z.0 (numbers_of (v ∷ vs)) ≡ 0) × (times z.0 (code_vars b) ≡ 0) = not_here z.0 (numbers_of (v ∷ vs)) ([] ++ code_vars b) v0 in
-      let none : is_waiting (waits_of v.0 b 1 vs) z.0 ≡ false = not_waiting v.0 b 1 vs z.0 (omega (arith, r.0)) in
-      both_or (word_is z.0 c) (outside t.0 z.0 b) (word_is y.0 (as_word ks c)) (outside t.0 y.0 (word_fetches v.0 b (as_word ks c) 1 vs (split_code ts (hiding (waits_of v.0 b 1 vs) ks) (cond (owns v.0 b) (as_word ks c) a) (cond (owns v.0 b) (waits_of v.0 b 1 vs) ps) (n + 0) b))) (word_used ks z y is c)
-      (λ j. outside_words t.0 y.0 v.0 b (as_word ks c) 1 vs _ (outside_stays b (hiding (waits_of v.0 b 1 vs) ks) _ _ (n + 0) t z y (hiding_alone (waits_of v.0 b 1 vs) ks t (not_waiting v.0 b 1 vs t.0 (omega (arith, q.0))) x)
-      (hiding_stays (waits_of v.0 b 1 vs) ks z y none is) (go none (owns v.0 b)) q.1 r.1 e.2 k.2 j)) u
+      let none : is_waiting (deferred_fields_of v.0 b 1 vs) z.0 ≡ false = not_waiting v.0 b 1 vs z.0 (omega (arith, r.0)) in
+      both_or (word_is z.0 c) (outside t.0 z.0 b) (word_is y.0 (as_word ks c)) (outside t.0 y.0 (word_fetches v.0 b (as_word ks c) 1 vs (split_code ts (with_hidden (deferred_fields_of v.0 b 1 vs) ks) (cond (owns v.0 b) (as_word ks c) a) (cond (owns v.0 b) (deferred_fields_of v.0 b 1 vs) ps) (n + 0) b))) (word_used ks z y is c)
+      (λ j. outside_words t.0 y.0 v.0 b (as_word ks c) 1 vs _ (outside_stays b (with_hidden (deferred_fields_of v.0 b 1 vs) ks) _ _ (n + 0) t z y (hiding_alone (deferred_fields_of v.0 b 1 vs) ks t (not_waiting v.0 b 1 vs t.0 (omega (arith, q.0))) x)
+      (hiding_stays (deferred_fields_of v.0 b 1 vs) ks z y none is) (go none (owns v.0 b)) q.1 r.1 e.2 k.2 j)) u
     where
-      go : is_waiting (waits_of v.0 b 1 vs) z.0 ≡ false → (o : Bool) → is_waiting (cond o (waits_of v.0 b 1 vs) ps) z.0 ≡ false
+      go : is_waiting (deferred_fields_of v.0 b 1 vs) z.0 ≡ false → (o : Bool) → is_waiting (cond o (deferred_fields_of v.0 b 1 vs) ps) z.0 ≡ false
       go none true = none
       go none false = w
   outside_stays (bind (to.Vector []) (fetch c) b) ks a ps n t z y x is w h v0 e k u = both_or (word_is z.0 c) (outside t.0 z.0 b) (word_is y.0 (as_word ks c)) (outside t.0 y.0 (split_code ts ks a ps (n + 0) b)) (word_used ks z y is c) (λ j. outside_stays b ks a ps (n + 0) t z y x is w h v0 e.2 k.2 j) u
@@ -189,30 +189,30 @@ module _ (ts : List Tag) where
 -- ---- places
 
 -- the places of these words are i or more, each larger than the one before
-abbrev pub Rising : ℕ → List Wait → Type 0
+abbrev pub Rising : ℕ → List DeferredField → Type 0
 Rising i [] = Unit {0}
 Rising i (p ∷ ps) = (i ≤ p.place) × Rising (suc p.place) ps
 
-rising_from : (i j : ℕ) (ps : List Wait) → i ≤ j → Rising j ps → Rising i ps
+rising_from : (i j : ℕ) (ps : List DeferredField) → i ≤ j → Rising j ps → Rising i ps
 rising_from i j [] le h = tt
 rising_from i j (p ∷ ps) le h = (omega (arith, le, h.0), h.1)
 
-waits_rise : (t : ℕ) (b : Code) (i : ℕ) (xs : List VarId) → Rising i (waits_of t b i xs)
+waits_rise : (t : ℕ) (b : Code) (i : ℕ) (xs : List VarId) → Rising i (deferred_fields_of t b i xs)
 waits_rise t b i [] = tt
 waits_rise t b i (x ∷ xs) = go (outside t x.0 b) (waits_rise t b (suc i) xs)
   where
-    go : (o : Bool) → Rising (suc i) (waits_of t b (suc i) xs) → Rising i (cond o (waits_of t b (suc i) xs) (record { var = x; place = i } ∷ waits_of t b (suc i) xs))
-    go true h = rising_from i (suc i) (waits_of t b (suc i) xs) (omega arith) h
+    go : (o : Bool) → Rising (suc i) (deferred_fields_of t b (suc i) xs) → Rising i (cond o (deferred_fields_of t b (suc i) xs) (record { var = x; place = i } ∷ deferred_fields_of t b (suc i) xs))
+    go true h = rising_from i (suc i) (deferred_fields_of t b (suc i) xs) (omega arith) h
     go false h = (omega arith, h)
 
 -- none of these words is one of those
-abbrev pub Apart : List ℕ → List Wait → Type 0
+abbrev pub Apart : List ℕ → List DeferredField → Type 0
 Apart is = AllOf (λ p. times p.place is ≡ 0)
 
 other_place : (i j : ℕ) → i < j → counts (nat_eq j i) ≡ 0
 other_place i j lt = ap counts (eq_false j i (λ q. omega (arith, q, lt)))
 
-apart_more : (i : ℕ) (is : List ℕ) (ps : List Wait) → Rising (suc i) ps → Apart is ps → Apart (i ∷ is) ps
+apart_more : (i : ℕ) (is : List ℕ) (ps : List DeferredField) → Rising (suc i) ps → Apart is ps → Apart (i ∷ is) ps
 apart_more i is [] r h = tt
 apart_more i is (p ∷ ps) r h = (let c : counts (nat_eq p.place i) ≡ 0 = other_place i p.place (omega (arith, r.0)) in let k : times p.place is ≡ 0 = h.0 in omega (arith, c, k), apart_more i is ps (rising_from (suc i) (suc p.place) ps (omega (arith, r.0)) r.1) h.1)
 
@@ -229,21 +229,21 @@ kept_before t b i (x ∷ xs) is j lt = kept_before t b (suc i) xs (cond (outside
     go true = let c : counts (nat_eq j i) ≡ 0 = ap counts (eq_false j i (λ q. omega (arith, q, lt))) in omega (arith, c)
     go false = refl
 
-waits_apart : (t : ℕ) (b : Code) (i : ℕ) (xs : List VarId) (is : List ℕ) → ((j : ℕ) → i ≤ j → times j is ≡ 0) → Apart (kept t b i xs is) (waits_of t b i xs)
+waits_apart : (t : ℕ) (b : Code) (i : ℕ) (xs : List VarId) (is : List ℕ) → ((j : ℕ) → i ≤ j → times j is ≡ 0) → Apart (kept t b i xs is) (deferred_fields_of t b i xs)
 waits_apart t b i [] is f = tt
 waits_apart t b i (x ∷ xs) is f = go (outside t x.0 b) (λ js h. waits_apart t b (suc i) xs js h)
   where
     more : (j : ℕ) → suc i ≤ j → times j (i ∷ is) ≡ 0
     more j le = let c : counts (nat_eq j i) ≡ 0 = other_place i j (omega (arith, le)) in let k : times j is ≡ 0 = f j (omega (arith, le)) in omega (arith, c, k)
 
-    go : (o : Bool) → ((js : List ℕ) → ((j : ℕ) → suc i ≤ j → times j js ≡ 0) → Apart (kept t b (suc i) xs js) (waits_of t b (suc i) xs))
-        → Apart (kept t b (suc i) xs (cond o (i ∷ is) is)) (cond o (waits_of t b (suc i) xs) (record { var = x; place = i } ∷ waits_of t b (suc i) xs))
+    go : (o : Bool) → ((js : List ℕ) → ((j : ℕ) → suc i ≤ j → times j js ≡ 0) → Apart (kept t b (suc i) xs js) (deferred_fields_of t b (suc i) xs))
+        → Apart (kept t b (suc i) xs (cond o (i ∷ is) is)) (cond o (deferred_fields_of t b (suc i) xs) (record { var = x; place = i } ∷ deferred_fields_of t b (suc i) xs))
     go true k = k (i ∷ is) more
     go false k = (kept_before t b (suc i) xs is i (omega arith) ∙ f i (omega arith), k is (λ j le. f j (omega (arith, le))))
 
 -- ---- fetches of words, each where it should be
 
-abbrev pub tagged : W.Word → ℕ → List ℕ → Tagged
+abbrev pub tagged : W.Word → ℕ → List ℕ → FetchedCell
 tagged a t is = record { cell = a; tag = t; fetched = is }
 
 settle : (o o' : Bool) (x y z : Position) → o' ≡ o → cond o' x (cond o y z) ≡ cond o x z
@@ -293,7 +293,7 @@ module _ (first : ℕ) where
   front_word x a t zero is c le h r = absurd (omega (arith, le))
   front_word x a t (suc k) is c le h r = ((refl, h), tt, r)
 
-  front_placed : (a : W.Word) (n i : ℕ) (ps : List Wait) (b c : Code) (t : ℕ) (is : List ℕ) → 1 ≤ i → Rising i ps → Apart is ps → ((here : Position) → CodePlaced first here elsewhere c) → CodePlaced first (at_front (tagged a t is)) elsewhere (front a n ps b c)
+  front_placed : (a : W.Word) (n i : ℕ) (ps : List DeferredField) (b c : Code) (t : ℕ) (is : List ℕ) → 1 ≤ i → Rising i ps → Apart is ps → ((here : Position) → CodePlaced first here elsewhere c) → CodePlaced first (at_front (tagged a t is)) elsewhere (front a n ps b c)
   front_placed a n i [] b c t is le r h f = f (at_front (tagged a t is))
   front_placed a n i (p ∷ ps) b c t is le r h f = go (code_uses p.var.0 b) (λ js k. front_placed a (suc n) (suc p.place) ps b c t js (omega arith) r.1 k f)
     where
@@ -302,7 +302,7 @@ module _ (first : ℕ) where
       go false k = k is h.1
 
   -- where a fetch ended a block
-  all_placed : (a : W.Word) (i : ℕ) (xs : List VarId) (c : Code) (t : ℕ) (is : List ℕ) (next : Position) → first ≤ t → ((j : ℕ) → suc i ≤ j → times j is ≡ 0) → ((here next : Position) → CodePlaced first here next c) → CodePlaced first (after_tag (tagged a t is)) next (all_words a (suc i) xs c)
+  all_placed : (a : W.Word) (i : ℕ) (xs : List VarId) (c : Code) (t : ℕ) (is : List ℕ) (next : Position) → first ≤ t → ((j : ℕ) → suc i ≤ j → times j is ≡ 0) → ((here next : Position) → CodePlaced first here next c) → CodePlaced first (after_tag (tagged a t is)) next (fetch_all_words a (suc i) xs c)
   unfolding CodePlaced
   all_placed a i [] c t is next le f h = h (after_tag (tagged a t is)) next
   all_placed a i (x ∷ xs) c t is next le f h = (((refl, f (suc i) (omega arith)), inr le), tt, all_placed a (suc i) xs c t (suc i ∷ is) _ le more h)
@@ -310,11 +310,11 @@ module _ (first : ℕ) where
       more : (j : ℕ) → suc (suc i) ≤ j → times j (suc i ∷ is) ≡ 0
       more j l = let e : counts (nat_eq j (suc i)) ≡ 0 = other_place (suc i) j (omega (arith, l)) in let k : times j is ≡ 0 = f j (omega (arith, l)) in omega (arith, e, k)
 
-  gives_all : (t : ℕ) (a : W.Word) (i : ℕ) (xs : List VarId) (c : Code) → GivesNode t c → GivesNode t (all_words a i xs c)
+  gives_all : (t : ℕ) (a : W.Word) (i : ℕ) (xs : List VarId) (c : Code) → ReturnsNodeByWords t c → ReturnsNodeByWords t (fetch_all_words a i xs c)
   gives_all t a i [] c h = h
   gives_all t a i (x ∷ xs) c h = gives_all t a (suc i) xs c h
 
-  give_nodes : (xs : List VarId) (i : ℕ) (us : List Tag) → GiveNodes (node_arms xs i us)
+  give_nodes : (xs : List VarId) (i : ℕ) (us : List Tag) → ArmsReturnNodes (node_arms xs i us)
   give_nodes xs i [] = tt
   give_nodes xs i (u ∷ us) = (refl, give_nodes xs (suc i) us)
 
@@ -334,22 +334,22 @@ module _ (first : ℕ) where
 -- ---- what is known where a piece stands
 
 -- the words that wait are those of the cell a, in this order, and not fetched before
-record Ready (next : Position) (a : W.Word) (ps : List Wait) : Type 0 where
+record Ready (next : Position) (a : W.Word) (ps : List DeferredField) : Type 0 where
   tag : ℕ
   fetched : List ℕ
   at : next ≡ at_front (tagged a tag fetched)
   apart : Apart fetched ps
   rising : Rising 1 ps
 
-abbrev Waits : Position → W.Word → List Wait → Type 0
+abbrev Waits : Position → W.Word → List DeferredField → Type 0
 Waits next a ps = (ps ≡ []) ⊎ Ready next a ps
 
 -- they wait for the case on a tag that is in scope
-abbrev Owned : List Wait → List ℕ → Code → Type 0
+abbrev Owned : List DeferredField → List ℕ → Code → Type 0
 Owned ps zs b = (ps ≡ []) ⊎ ((t : ℕ) × (owns t b ≡ true) × InScope zs t)
 
 -- a piece with these variables, which are those of the program before, where others are in scope
-record Walk (base : ℕ) (zs : List ℕ) (ks : Names) (ps : List Wait) (n : ℕ) (vars : List ℕ) : Type 0 where
+record Walk (base : ℕ) (zs : List ℕ) (ks : Names) (ps : List DeferredField) (n : ℕ) (vars : List ℕ) : Type 0 where
   sound : Sound base n zs ks
   inside : (z : ℕ) → is_waiting ps z ≡ true → InScope zs z
   from : base ≤ n
@@ -357,29 +357,29 @@ record Walk (base : ℕ) (zs : List ℕ) (ks : Names) (ps : List Wait) (n : ℕ)
   low : (y : ℕ) → InScope vars y → y < base
 
 module _ (base : ℕ) (zs : List ℕ) (ks : Names) where
-  walk_none : (ps : List Wait) (n : ℕ) (vars : List ℕ) → Walk base zs ks ps n vars → Walk base zs ks [] n vars
+  walk_none : (ps : List DeferredField) (n : ℕ) (vars : List ℕ) → Walk base zs ks ps n vars → Walk base zs ks [] n vars
   walk_none ps n vars x = record { sound = x.sound; inside = λ z e. cc; from = x.from; once = x.once; low = x.low }
 
-  walk_left : (ps : List Wait) (n : ℕ) (xs ys : List ℕ) → Walk base zs ks ps n (xs ++ ys) → Walk base zs ks ps n xs
+  walk_left : (ps : List DeferredField) (n : ℕ) (xs ys : List ℕ) → Walk base zs ks ps n (xs ++ ys) → Walk base zs ks ps n xs
   walk_left ps n xs ys x = record { sound = x.sound; inside = x.inside; from = x.from; once = once_before [] zs xs ys x.once; low = λ y i. x.low y (scope_left xs ys y i) }
 
-  walk_right : (ps : List Wait) (n : ℕ) (xs ys : List ℕ) → Walk base zs ks ps n (xs ++ ys) → Walk base zs ks ps n ys
+  walk_right : (ps : List DeferredField) (n : ℕ) (xs ys : List ℕ) → Walk base zs ks ps n (xs ++ ys) → Walk base zs ks ps n ys
   walk_right ps n xs ys x = record { sound = x.sound; inside = x.inside; from = x.from; once = once_after [] zs xs ys x.once; low = λ y i. x.low y (scope_right xs ys y i) }
 
-  walk_on : (ps : List Wait) (n m : ℕ) (vars : List ℕ) → n ≤ m → Walk base zs ks ps n vars → Walk base zs ks ps m vars
+  walk_on : (ps : List DeferredField) (n m : ℕ) (vars : List ℕ) → n ≤ m → Walk base zs ks ps n vars → Walk base zs ks ps m vars
   walk_on ps n m vars le x = record { sound = sound_more base n m zs zs ks le (λ y i. i) x.sound; inside = x.inside; from = omega (arith, le, x.from); once = x.once; low = x.low }
 
-  walk_front : (ps : List Wait) (n : ℕ) (b : Code) (vars : List ℕ) → Walk base zs ks ps n vars → Walk base zs (front_names n ps b ks) [] (n + length ps) vars
+  walk_front : (ps : List DeferredField) (n : ℕ) (b : Code) (vars : List ℕ) → Walk base zs ks ps n vars → Walk base zs (front_names n ps b ks) [] (n + length ps) vars
   walk_front ps n b vars x = record { sound = front_sound base n zs ks ps b x.sound x.from (all_in [] zs ps x.inside); inside = λ z e. cc; from = omega (arith, x.from); once = x.once; low = x.low }
 
-  arms_front : (ps : List Wait) (n : ℕ) (a : W.Word) (next : Position) (b c : Code) → Waits next a ps → ((here : Position) → CodePlaced base here elsewhere c) → CodePlaced base next elsewhere (front a n ps b c)
+  arms_front : (ps : List DeferredField) (n : ℕ) (a : W.Word) (next : Position) (b c : Code) → Waits next a ps → ((here : Position) → CodePlaced base here elsewhere c) → CodePlaced base next elsewhere (front a n ps b c)
   arms_front ps n a next b c (inl e) f = subst (λ qs. CodePlaced base next elsewhere (front a n qs b c)) (sym e) (f next)
   arms_front ps n a next b c (inr r) f = subst (λ p. CodePlaced base p elsewhere (front a n ps b c)) (sym r.at) (front_placed base a n 1 ps b c r.tag r.fetched (omega arith) r.rising r.apart f)
 
 -- after a fetch of a node
-module _ (base : ℕ) (v : VarId) (vs : List VarId) (b : Code) (zs : List ℕ) (ks : Names) (ps : List Wait) (n : ℕ) (x : Walk base zs ks ps n (numbers_of (v ∷ vs) ++ code_vars b)) where
-  abbrev ws : List Wait
-  ws = waits_of v.0 b 1 vs
+module _ (base : ℕ) (v : VarId) (vs : List VarId) (b : Code) (zs : List ℕ) (ks : Names) (ps : List DeferredField) (n : ℕ) (x : Walk base zs ks ps n (numbers_of (v ∷ vs) ++ code_vars b)) where
+  abbrev ws : List DeferredField
+  ws = deferred_fields_of v.0 b 1 vs
 
   abbrev ys : List ℕ
   ys = numbers_of (v ∷ vs)
@@ -396,13 +396,13 @@ module _ (base : ℕ) (v : VarId) (vs : List VarId) (b : Code) (zs : List ℕ) (
   v_new : (times v.0 zs ≡ 0) × (times v.0 (numbers_of vs) ≡ 0) × (times v.0 (code_vars b) ≡ 0)
   v_new = let o : times v.0 zs + times v.0 ys + times v.0 (code_vars b) ≤ 1 = all_once v.0 in let e : counts (nat_eq v.0 v.0) ≡ 1 = one_at v.0 in (omega (arith, o, e), omega (arith, o, e), omega (arith, o, e))
 
-  v_alone : Alone (hiding ws ks) v
+  v_alone : Alone (with_hidden ws ks) v
   v_alone = hiding_alone ws ks v (not_waiting v.0 b 1 vs v.0 v_new.1) (alone_new base n zs ks v x.sound v_new.0 v_low)
 
   ws_in : (z : ℕ) → is_waiting ws z ≡ true → InScope (ys ++ zs) z
   ws_in z e = let k : InScope (numbers_of vs) z = waits_in v.0 b 1 vs z e in scope_left ys zs z (omega (arith, k))
 
-  walk_node : Walk base (ys ++ zs) (hiding ws ks) (cond (owns v.0 b) ws ps) (n + 0) (code_vars b)
+  walk_node : Walk base (ys ++ zs) (with_hidden ws ks) (cond (owns v.0 b) ws ps) (n + 0) (code_vars b)
   walk_node = record {
     sound = sound_hiding base (n + 0) (ys ++ zs) ks ws (sound_more base n (n + 0) zs (ys ++ zs) ks (omega arith) (scope_right ys zs) x.sound) ws_in;
     inside = λ z e. inside (owns v.0 b) z e;
@@ -430,8 +430,8 @@ module _ (base : ℕ) (v : VarId) (vs : List VarId) (b : Code) (zs : List ℕ) (
       go false q (inl e) = inl e
       go false q (inr r) = inr (r.0, r.1, scope_right ys zs r.0 r.2)
 
-  kept_outside : (ts : List Tag) (a : W.Word) → EachCode vectorised_kind b → EachCode by_nodes_kind b → (y : VarId) → InScope (numbers_of vs) y.0 → outside v.0 y.0 b ≡ true → outside v.0 y.0 (split_code ts (hiding ws ks) a (cond (owns v.0 b) ws ps) (n + 0) b) ≡ true
-  kept_outside ts a e k y i o = outside_stays ts b (hiding ws ks) a (cond (owns v.0 b) ws ps) (n + 0) v y y v_alone (hiding_stays ws ks y y mine (sound_new base n zs ks x.sound y (let q : times y.0 zs + times y.0 ys + times y.0 (code_vars b) ≤ 1 = all_once y.0 in omega (arith, q, i)))) (go (owns v.0 b)) v_new.2
+  kept_outside : (ts : List Tag) (a : W.Word) → EachCode vectorised_kind b → EachCode no_word_fetch_kind b → (y : VarId) → InScope (numbers_of vs) y.0 → outside v.0 y.0 b ≡ true → outside v.0 y.0 (split_code ts (with_hidden ws ks) a (cond (owns v.0 b) ws ps) (n + 0) b) ≡ true
+  kept_outside ts a e k y i o = outside_stays ts b (with_hidden ws ks) a (cond (owns v.0 b) ws ps) (n + 0) v y y v_alone (hiding_stays ws ks y y mine (sound_new base n zs ks x.sound y (let q : times y.0 zs + times y.0 ys + times y.0 (code_vars b) ≤ 1 = all_once y.0 in omega (arith, q, i)))) (go (owns v.0 b)) v_new.2
       (let q : times y.0 zs + times y.0 ys + times y.0 (code_vars b) ≤ 1 = all_once y.0 in omega (arith, q, i)) e k o
     where
       mine : is_waiting ws y.0 ≡ false
@@ -450,7 +450,7 @@ module _ (base : ℕ) (v : VarId) (vs : List VarId) (b : Code) (zs : List ℕ) (
       go false = old (is_waiting ps y.0) refl
 
 -- after a fetch that goes to one variable
-one_waits : (u : ℕ) (zs : List ℕ) (ps : List Wait) (a : W.Word) (b : Code) (p next : Position) (o : Bool) → o ≡ owns u b → times u zs ≡ 0 → Owned ps zs b → Waits next a ps → Waits (cond o p next) a ps
+one_waits : (u : ℕ) (zs : List ℕ) (ps : List DeferredField) (a : W.Word) (b : Code) (p next : Position) (o : Bool) → o ≡ owns u b → times u zs ≡ 0 → Owned ps zs b → Waits next a ps → Waits (cond o p next) a ps
 one_waits u zs ps a b p next o e h (inl q) w = inl q
 one_waits u zs ps a b p next true e h (inr r) w = (let q : r.0 ≡ u = both_own r.0 u b r.1 (sym e) in let i : InScope zs r.0 = r.2 in let k : times r.0 zs ≡ 0 = ap (λ m. times m zs) q ∙ h in absurd (omega (arith, i, k)))
 one_waits u zs ps a b p next false e h (inr r) w = w
@@ -461,22 +461,22 @@ module _ (ts : List Tag) (base : ℕ) where
   mutual
     unfolding split_act CodePlaced act_vars EachAct made_act owns
 
-    act_placed : (o : Act) (zs : List ℕ) (ks : Names) (a : W.Word) (ps : List Wait) (n : ℕ) (next : Position) → Walk base zs ks ps n (act_vars o) → Waits next a ps → EachAct vectorised_kind o → EachAct by_nodes_kind o → ActPlaced base next (split_act ts ks a ps n o)
+    act_placed : (o : Act) (zs : List ℕ) (ks : Names) (a : W.Word) (ps : List DeferredField) (n : ℕ) (next : Position) → Walk base zs ks ps n (act_vars o) → Waits next a ps → EachAct vectorised_kind o → EachAct no_word_fetch_kind o → ActPlaced base next (split_act ts ks a ps n o)
     act_placed (case v as') zs ks a ps n next x w e k = arms_placed as' zs ks a ps n next x w e.2 k.2
     act_placed (nested b) zs ks a ps n next x w e k = code_placed b zs ks a [] n elsewhere elsewhere (walk_none base zs ks ps n (code_vars b) x) (inl refl) (inl refl) e.1 k.1
     act_placed o zs ks a ps n next x w e k = tt
 
-    code_placed : (b : Code) (zs : List ℕ) (ks : Names) (a : W.Word) (ps : List Wait) (n : ℕ) (here next : Position) → Walk base zs ks ps n (code_vars b) → Waits next a ps → Owned ps zs b → EachCode vectorised_kind b → EachCode by_nodes_kind b → CodePlaced base here next (split_code ts ks a ps n b)
+    code_placed : (b : Code) (zs : List ℕ) (ks : Names) (a : W.Word) (ps : List DeferredField) (n : ℕ) (here next : Position) → Walk base zs ks ps n (code_vars b) → Waits next a ps → Owned ps zs b → EachCode vectorised_kind b → EachCode no_word_fetch_kind b → CodePlaced base here next (split_code ts ks a ps n b)
     code_placed (end (fetch c)) zs ks a ps n here next x w o e k = whole_placed base ts n (as_word ks c) here next x.from
     code_placed (end (fetch_word c i)) zs ks a ps n here next x w o e k = absurd k
     code_placed (end o') zs ks a ps n here next x w o e k = (tt, act_placed o' zs ks a ps n next x w e k)
     code_placed (store cs b) zs ks a ps n here next x w o e k = code_placed b zs ks a [] n elsewhere elsewhere (walk_none base zs ks ps n (code_vars b) (walk_right base zs ks ps n (cell_vars cs) (code_vars b) x)) (inl refl) (inl refl) e.1 k.1
     code_placed (bind (to.Vector (v ∷ vs)) (fetch c) b) zs ks a ps n here next x w o e k =
-        node_placed base v vs b (as_word ks c) (split_code ts (hiding (waits_of v.0 b 1 vs) ks) (cond (owns v.0 b) (as_word ks c) a) (cond (owns v.0 b) (waits_of v.0 b 1 vs) ps) (n + 0) b) here next (v_low base v vs b zs ks ps n x)
+        node_placed base v vs b (as_word ks c) (split_code ts (with_hidden (deferred_fields_of v.0 b 1 vs) ks) (cond (owns v.0 b) (as_word ks c) a) (cond (owns v.0 b) (deferred_fields_of v.0 b 1 vs) ps) (n + 0) b) here next (v_low base v vs b zs ks ps n x)
         (kept_outside base v vs b zs ks ps n x ts (cond (owns v.0 b) (as_word ks c) a) e.2 k.2)
-        (code_placed b (numbers_of (v ∷ vs) ++ zs) (hiding (waits_of v.0 b 1 vs) ks) (cond (owns v.0 b) (as_word ks c) a) (cond (owns v.0 b) (waits_of v.0 b 1 vs) ps) (n + 0) _ _ (walk_node base v vs b zs ks ps n x)
-        (subst (λ s. Waits (cond s (at_front (tagged (as_word ks c) v.0 (kept v.0 b 1 vs []))) next) (cond (owns v.0 b) (as_word ks c) a) (cond (owns v.0 b) (waits_of v.0 b 1 vs) ps))
-        (sym (owns_stays ts b (hiding (waits_of v.0 b 1 vs) ks) (cond (owns v.0 b) (as_word ks c) a) (cond (owns v.0 b) (waits_of v.0 b 1 vs) ps) (n + 0) v (v_alone base v vs b zs ks ps n x) (v_new base v vs b zs ks ps n x).2 (let l : v.0 < base = v_low base v vs b zs ks ps n x in omega (arith, l, x.from)) e.2 k.2))
+        (code_placed b (numbers_of (v ∷ vs) ++ zs) (with_hidden (deferred_fields_of v.0 b 1 vs) ks) (cond (owns v.0 b) (as_word ks c) a) (cond (owns v.0 b) (deferred_fields_of v.0 b 1 vs) ps) (n + 0) _ _ (walk_node base v vs b zs ks ps n x)
+        (subst (λ s. Waits (cond s (at_front (tagged (as_word ks c) v.0 (kept v.0 b 1 vs []))) next) (cond (owns v.0 b) (as_word ks c) a) (cond (owns v.0 b) (deferred_fields_of v.0 b 1 vs) ps))
+        (sym (owns_stays ts b (with_hidden (deferred_fields_of v.0 b 1 vs) ks) (cond (owns v.0 b) (as_word ks c) a) (cond (owns v.0 b) (deferred_fields_of v.0 b 1 vs) ps) (n + 0) v (v_alone base v vs b zs ks ps n x) (v_new base v vs b zs ks ps n x).2 (let l : v.0 < base = v_low base v vs b zs ks ps n x in omega (arith, l, x.from)) e.2 k.2))
         (waits_node base v vs b zs ks ps n x next a (as_word ks c) w)) (owned_node base v vs b zs ks ps n x o) e.2 k.2)
     code_placed (bind (to.Vector []) (fetch c) b) zs ks a ps n here next x w o e k = (tt, tt, code_placed b zs ks a ps (n + 0) elsewhere next (walk_on base zs ks ps n (n + 0) (code_vars b) (omega arith) x) w o e.2 k.2)
     code_placed (bind to.Nothing (fetch c) b) zs ks a ps n here next x w o e k = (tt, tt, code_placed b zs ks a ps (n + 0) elsewhere next (walk_on base zs ks ps n (n + 0) (code_vars b) (omega arith) x) w o e.2 k.2)
@@ -497,7 +497,7 @@ module _ (ts : List Tag) (base : ℕ) where
           code_placed b zs ks a [] (n + made_act ts ps o') elsewhere elsewhere (walk_on base zs ks [] n (n + made_act ts ps o') (code_vars b) (omega arith) (walk_none base zs ks ps n (code_vars b) (walk_right base zs ks ps n (act_vars o') (code_vars b) y))) (inl refl) (inl refl) e.2 k.2,
         )
 
-    arms_placed : (as' : Arms) (zs : List ℕ) (ks : Names) (a : W.Word) (ps : List Wait) (n : ℕ) (next : Position) → Walk base zs ks ps n (arms_vars as') → Waits next a ps → EachArms vectorised_kind as' → EachArms by_nodes_kind as' → ArmsPlaced base next (split_arms ts ks a ps n as')
+    arms_placed : (as' : Arms) (zs : List ℕ) (ks : Names) (a : W.Word) (ps : List DeferredField) (n : ℕ) (next : Position) → Walk base zs ks ps n (arms_vars as') → Waits next a ps → EachArms vectorised_kind as' → EachArms no_word_fetch_kind as' → ArmsPlaced base next (split_arms ts ks a ps n as')
     arms_placed no_arm zs ks a ps n next x w e k = tt
     arms_placed (arm s b as') zs ks a ps n next x w e k =
         let y : Walk base zs ks ps n (code_vars b ++ arms_vars as') = walk_right base zs ks ps n (shape_vars s) (code_vars b ++ arms_vars as') x in (
@@ -506,7 +506,7 @@ module _ (ts : List Tag) (base : ℕ) where
           arms_placed as' zs ks a ps (n + length ps + made_code ts [] b) next (walk_on base zs ks ps n (n + length ps + made_code ts [] b) (arms_vars as') (omega arith) (walk_right base zs ks ps n (code_vars b) (arms_vars as') y)) w e.2 k.2,
         )
 
-  pub procs_placed : (qs : List Procedure) (n : ℕ) → base ≤ n → past_procs qs ≤ base → ((y : ℕ) → times y (procs_vars qs) ≤ 1) → EachBody vectorised_kind qs → EachBody by_nodes_kind qs
+  pub procs_placed : (qs : List Procedure) (n : ℕ) → base ≤ n → past_procs qs ≤ base → ((y : ℕ) → times y (procs_vars qs) ≤ 1) → EveryBodyIsOfKind vectorised_kind qs → EveryBodyIsOfKind no_word_fetch_kind qs
       → AllOf (λ q. CodePlaced base elsewhere elsewhere q.body) (split_procs ts n qs)
   procs_placed [] n le past once e k = tt
   procs_placed (q ∷ qs) n le past once e k = (

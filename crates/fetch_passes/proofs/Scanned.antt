@@ -12,7 +12,7 @@ use Rattle.grin_syntax.specs.declared.program.Op.{Op}
 use Rattle.grin_syntax.specs.Tree.{Code, end, Arms, no_arm, arm, act_of, before_of, arm_of, code_of, arms_of}
 use Rattle.grin_syntax.proofs.TreeOf.{code_of-parts}
 use Rattle.grin_syntax.proofs.Pieces.{all_arms, all_arms_none, all_arms_push}
-use Rattle.fetch_passes.specs.Notes.{Size, Trace, size_of, sized, word_used, words_used, val_used, cells_used, code_trace, arms_trace, act_trace}
+use Rattle.fetch_passes.specs.Notes.{Size, Trace, size_of, with_own_size, word_used, words_used, val_used, cells_used, code_trace, arms_trace, act_trace}
 use Rattle.fetch_passes.proofs.Firsts.{code_from, code_at, code_none}
 
 -- ---- words and cells
@@ -93,7 +93,7 @@ pub arm_used : (a : Alt) (r : Arms) → (arms_trace (arm a.pattern (code_of a.bo
 unfolding act_trace
 arm_used a r = refl
 
-pub arm_sizes : (a : Alt) (r : Arms) → (arms_trace (arm a.pattern (code_of a.body) r)).sizes ≡ (sized (code_trace (code_of a.body))).sizes ++ (arms_trace r).sizes
+pub arm_sizes : (a : Alt) (r : Arms) → (arms_trace (arm a.pattern (code_of a.body) r)).sizes ≡ (with_own_size (code_trace (code_of a.body))).sizes ++ (arms_trace r).sizes
 unfolding act_trace
 arm_sizes a r = refl
 
@@ -109,6 +109,6 @@ pub end_used : (o : Op) → (code_trace (end (act_of o))).used ≡ (act_trace (a
 unfolding act_trace
 end_used o = refl
 
-pub end_sizes : (o : Op) → (code_trace (end (act_of o))).sizes ≡ (sized (act_trace (act_of o))).sizes
+pub end_sizes : (o : Op) → (code_trace (end (act_of o))).sizes ≡ (with_own_size (act_trace (act_of o))).sizes
 unfolding act_trace
 end_sizes o = refl

@@ -12,15 +12,15 @@ use Rattle.grin_syntax.specs.declared.program.Target as T
 use Rattle.grin_syntax.specs.declared.program.Target.TheVariants as to
 use Rattle.grin_syntax.specs.Tree.{Code, end, store, bind, Act, unit, fetch, fetch_word, update, eval, apply, call, prim, read, write, case, nested, fail, Arms, no_arm, arm, Procedure, Program}
 use Rattle.grin_syntax.specs.Binders.{numbers_of, target_vars, cell_vars}
-use Rattle.grin_syntax.specs.Formed.{AllOf, Scope, InScope, with_words, with_target, params_scope, WordFormed, ValFormed, CellFormed, ActFormed, CodeFormed, ArmsFormed, ProcedureFormed}
+use Rattle.grin_syntax.specs.Formed.{AllOf, Scope, InScope, with_word_variables, with_target, params_scope, WordFormed, ValFormed, CellFormed, ActFormed, CodeFormed, ArmsFormed, ProcedureFormed}
 use Rattle.grin_syntax.specs.Fresh.{variable, variables}
 use Rattle.grin_syntax.proofs.Scopes.{with_procs, known_again, shape_stays}
-use Rattle.grin_meaning.specs.Ready.{NoNodeTarget, NoNodeVar, EachAct, EachCode, EachArms, most_fields, EachBody, vectorised_kind}
+use Rattle.grin_meaning.specs.Ready.{NoNodeTarget, NoNodeVar, EachAct, EachCode, EachArms, most_fields, EveryBodyIsOfKind, vectorised_kind}
 use Rattle.pass_ground.specs.Uses.{code_uses}
 use Rattle.fetch_passes.specs.Windows.{owns, outside}
-use Rattle.fetch_passes.specs.Names.{Names, Wait, as_word, as_words, as_val, as_cells, hiding, named_if}
-use Rattle.fetch_passes.specs.Waits.{waits_of, waits_after}
-use Rattle.fetch_passes.specs.Split.{fetched_if, word_fetches, front, front_names, names_after, cell_after, all_words, node_arms, whole_node, split_act, split_code, split_arms, split_procs, made_act, made_code}
+use Rattle.fetch_passes.specs.Names.{Names, DeferredField, as_word, as_words, as_val, as_cells, with_hidden, named_if}
+use Rattle.fetch_passes.specs.Waits.{deferred_fields_of, deferred_fields_after}
+use Rattle.fetch_passes.specs.Split.{fetched_if, word_fetches, front, front_names, names_after, cell_after, fetch_all_words, node_arms, whole_node, split_act, split_code, split_arms, split_procs, made_act, made_code}
 use Rattle.pass_ground.proofs.Tests.{never_both}
 use Rattle.fetch_passes.proofs.Found.{is_waiting, hiding_is, naming_is}
 use Rattle.fetch_passes.proofs.Waiting.{waits_too}
@@ -151,11 +151,11 @@ module _ (g : Program) (procs : List Procedure) (same_count : length procs ≡ l
       go y j false = j
 
   -- at the front of an alternative
-  front_words : (n : ℕ) → List Wait → Code → List ℕ → List ℕ
+  front_words : (n : ℕ) → List DeferredField → Code → List ℕ → List ℕ
   front_words n [] b ws = ws
   front_words n (p ∷ ps) b ws = front_words (suc n) ps b (cond (code_uses p.var.0 b) (n ∷ ws) ws)
 
-  front_formed : (a : W.Word) (n : ℕ) (ps : List Wait) (b c : Code) (zs ws : List ℕ) (ks : Names) → Fits zs ws ks a → (Fits zs (front_words n ps b ws) (front_names n ps b ks) a → CodeFormed after (In (front_words n ps b ws)) c) → CodeFormed after (In ws) (front a n ps b c)
+  front_formed : (a : W.Word) (n : ℕ) (ps : List DeferredField) (b c : Code) (zs ws : List ℕ) (ks : Names) → Fits zs ws ks a → (Fits zs (front_words n ps b ws) (front_names n ps b ks) a → CodeFormed after (In (front_words n ps b ws)) c) → CodeFormed after (In ws) (front a n ps b c)
   unfolding front_words
   front_formed a n [] b c zs ws ks x k = k x
   front_formed a n (p ∷ ps) b c zs ws ks x k = fetch_formed (code_uses p.var.0 b) (variable n) a p.place ws (front a (suc n) ps b c) x.cell
@@ -184,15 +184,15 @@ module _ (g : Program) (procs : List Procedure) (same_count : length procs ≡ l
 
   -- after a fetch of a node
   fits_node : (zs ws : List ℕ) (ks : Names) (a a' : W.Word) (v : VarId) (vs : List VarId) (b : Code) → Fits zs ws ks a → WordFormed after (In ws) a'
-      → Fits (numbers_of (v ∷ vs) ++ zs) (kept_words v.0 b vs (v.0 ∷ ws)) (hiding (waits_of v.0 b 1 vs) ks) (cond (owns v.0 b) a' a)
+      → Fits (numbers_of (v ∷ vs) ++ zs) (kept_words v.0 b vs (v.0 ∷ ws)) (with_hidden (deferred_fields_of v.0 b 1 vs) ks) (cond (owns v.0 b) a' a)
   fits_node zs ws ks a a' v vs b x h = record {
     names = λ z. subst (λ w. (w ≡ Var z) ⊎ WordFormed after (In us) w) (sym (hiding_is ps ks z)) (name z (is_waiting ps z.0) (x.names z));
     own = λ z i e. mine z i (is_waiting ps z.0) refl (sym (hiding_is ps ks z) ∙ e);
     cell = go (owns v.0 b);
   }
     where
-      ps : List Wait
-      ps = waits_of v.0 b 1 vs
+      ps : List DeferredField
+      ps = deferred_fields_of v.0 b 1 vs
 
       us : List ℕ
       us = kept_words v.0 b vs (v.0 ∷ ws)
@@ -205,7 +205,7 @@ module _ (g : Program) (procs : List Procedure) (same_count : length procs ≡ l
       name z false (inl e) = inl e
       name z false (inr f) = inr (word_more ws us (as_word ks (Var z)) more f)
 
-      kept : (z : VarId) → is_waiting (waits_of v.0 b 1 vs) z.0 ≡ false → as_word ks (Var z) ≡ Var z → (m k : ℕ) → counts (nat_eq z.0 v.0) ≡ m → times z.0 (numbers_of vs) ≡ k → InScope (numbers_of (v ∷ vs) ++ zs) z.0 → InScope us z.0
+      kept : (z : VarId) → is_waiting (deferred_fields_of v.0 b 1 vs) z.0 ≡ false → as_word ks (Var z) ≡ Var z → (m k : ℕ) → counts (nat_eq z.0 v.0) ≡ m → times z.0 (numbers_of vs) ≡ k → InScope (numbers_of (v ∷ vs) ++ zs) z.0 → InScope us z.0
       kept z w e (suc m) k p q i = kept_more v.0 b vs (v.0 ∷ ws) z.0 (omega (arith, p))
       kept z w e zero (suc k) p q i = kept_in v.0 b vs (v.0 ∷ ws) z.0 (omega (arith, q)) (out (outside v.0 z.0 b) refl)
         where
@@ -214,7 +214,7 @@ module _ (g : Program) (procs : List Procedure) (same_count : length procs ≡ l
           out false r = never_both (waits_too v.0 b 1 vs z.0 (omega (arith, q)) r) w
       kept z w e zero zero p q i = more z.0 (x.own z (let t : times z.0 (numbers_of (v ∷ vs) ++ zs) ≡ times z.0 (numbers_of (v ∷ vs)) + times z.0 zs = times_append z.0 (numbers_of (v ∷ vs)) zs in omega (arith, t, i, p, q)) e)
 
-      mine : (z : VarId) → InScope (numbers_of (v ∷ vs) ++ zs) z.0 → (s : Bool) → is_waiting (waits_of v.0 b 1 vs) z.0 ≡ s → cond s (Lit (pos 0)) (as_word ks (Var z)) ≡ Var z → InScope us z.0
+      mine : (z : VarId) → InScope (numbers_of (v ∷ vs) ++ zs) z.0 → (s : Bool) → is_waiting (deferred_fields_of v.0 b 1 vs) z.0 ≡ s → cond s (Lit (pos 0)) (as_word ks (Var z)) ≡ Var z → InScope us z.0
       mine z i true q e = cc
       mine z i false q e = kept z q e (counts (nat_eq z.0 v.0)) (times z.0 (numbers_of vs)) refl refl i
 
@@ -228,7 +228,7 @@ module _ (g : Program) (procs : List Procedure) (same_count : length procs ≡ l
   vars_formed [] ws f = tt
   vars_formed (x ∷ xs) ws f = (f x.0 (let e : counts (nat_eq x.0 x.0) ≡ 1 = one_at x.0 in omega (arith, e)), vars_formed xs ws (λ y i. f y (omega (arith, i))))
 
-  all_formed : (a : W.Word) (i : ℕ) (xs : List VarId) (ws : List ℕ) (c : Code) → WordFormed after (In ws) a → ((vs : List ℕ) → ((y : ℕ) → InScope ws y → InScope vs y) → ((y : ℕ) → InScope (numbers_of xs) y → InScope vs y) → CodeFormed after (In vs) c) → CodeFormed after (In ws) (all_words a i xs c)
+  all_formed : (a : W.Word) (i : ℕ) (xs : List VarId) (ws : List ℕ) (c : Code) → WordFormed after (In ws) a → ((vs : List ℕ) → ((y : ℕ) → InScope ws y → InScope vs y) → ((y : ℕ) → InScope (numbers_of xs) y → InScope vs y) → CodeFormed after (In vs) c) → CodeFormed after (In ws) (fetch_all_words a i xs c)
   unfolding ActFormed
   all_formed a i [] ws c h k = k ws (λ y j. j) (λ y j. absurd (omega (arith, j)))
   all_formed a i (x ∷ xs) ws c h k = (h, all_formed a (suc i) xs (x.0 ∷ ws) c (word_more ws (x.0 ∷ ws) a (in_more (x.0 ∷ []) ws) h) (λ vs f e. k vs (λ y j. f y (in_more (x.0 ∷ []) ws y j)) (λ y j. at vs f e y j (counts (nat_eq y x.0)) refl)))
@@ -282,7 +282,7 @@ module _ (g : Program) (procs : List Procedure) (same_count : length procs ≡ l
   mutual
     unfolding split_act ActFormed EachAct made_act
 
-    act_formed : (o : Act) (scope : Scope) (ws : List ℕ) (ks : Names) (a : W.Word) (ps : List Wait) (n : ℕ) → Fits scope.words ws ks a → EachAct vectorised_kind o → ActFormed g scope o → ActFormed after (In ws) (split_act g.tags ks a ps n o)
+    act_formed : (o : Act) (scope : Scope) (ws : List ℕ) (ks : Names) (a : W.Word) (ps : List DeferredField) (n : ℕ) → Fits scope.words ws ks a → EachAct vectorised_kind o → ActFormed g scope o → ActFormed after (In ws) (split_act g.tags ks a ps n o)
     act_formed (case v as') scope ws ks a ps n x e h = (val_formed scope ws ks a x v e.1 h.0, arms_formed as' scope ws ks a ps n x e.2 h.1)
     act_formed (nested b) scope ws ks a ps n x e h = code_formed b scope ws ks a [] n x e.1 h
     act_formed (unit v) scope ws ks a ps n x e h = val_formed scope ws ks a x v e.1 h
@@ -297,41 +297,41 @@ module _ (g : Program) (procs : List Procedure) (same_count : length procs ≡ l
     act_formed (write c) scope ws ks a ps n x e h = word_formed scope ws ks a x c h
     act_formed fail scope ws ks a ps n x e h = tt
 
-    pub code_formed : (b : Code) (scope : Scope) (ws : List ℕ) (ks : Names) (a : W.Word) (ps : List Wait) (n : ℕ) → Fits scope.words ws ks a → EachCode vectorised_kind b → CodeFormed g scope b → CodeFormed after (In ws) (split_code g.tags ks a ps n b)
+    pub code_formed : (b : Code) (scope : Scope) (ws : List ℕ) (ks : Names) (a : W.Word) (ps : List DeferredField) (n : ℕ) → Fits scope.words ws ks a → EachCode vectorised_kind b → CodeFormed g scope b → CodeFormed after (In ws) (split_code g.tags ks a ps n b)
     code_formed (end (fetch c)) scope ws ks a ps n x e h = whole_formed n (as_word ks c) ws (word_formed scope ws ks a x c h)
     code_formed (end o) scope ws ks a ps n x e h = act_formed o scope ws ks a ps n x e h
     code_formed (store cs b) scope ws ks a ps n x e h =
         let y : Fits (cell_vars cs ++ scope.words) (cell_vars cs ++ ws) ks a = fits_both (cell_vars cs) scope.words ws ks a x in
         let s : cell_vars cs ++ ws ≡ cell_vars (as_cells ks cs) ++ ws = ap (λ l. l ++ ws) (sym (cells_names ks cs)) in (
-          subst (λ l. AllOf (CellFormed after (In l)) (as_cells ks cs)) s (cells_formed (with_words (cell_vars cs) scope) (cell_vars cs ++ ws) ks a y cs e.0 h.0),
-          subst (λ l. CodeFormed after (In l) (split_code g.tags ks a [] n b)) s (code_formed b (with_words (cell_vars cs) scope) (cell_vars cs ++ ws) ks a [] n y e.1 h.1),
+          subst (λ l. AllOf (CellFormed after (In l)) (as_cells ks cs)) s (cells_formed (with_word_variables (cell_vars cs) scope) (cell_vars cs ++ ws) ks a y cs e.0 h.0),
+          subst (λ l. CodeFormed after (In l) (split_code g.tags ks a [] n b)) s (code_formed b (with_word_variables (cell_vars cs) scope) (cell_vars cs ++ ws) ks a [] n y e.1 h.1),
         )
     code_formed (bind (to.Vector (v ∷ vs)) (fetch c) b) scope ws ks a ps n x e h = (
       word_formed scope ws ks a x c h.0,
       words_formed_too v.0 b (as_word ks c) 1 vs (v.0 ∷ ws) _ (word_more ws (v.0 ∷ ws) (as_word ks c) (in_more (v.0 ∷ []) ws) (word_formed scope ws ks a x c h.0))
-          (code_formed b (with_words (numbers_of (v ∷ vs)) scope) (kept_words v.0 b vs (v.0 ∷ ws)) _ _ _ (n + 0) (fits_node scope.words ws ks a (as_word ks c) v vs b x (word_formed scope ws ks a x c h.0)) e.2 h.1),
+          (code_formed b (with_word_variables (numbers_of (v ∷ vs)) scope) (kept_words v.0 b vs (v.0 ∷ ws)) _ _ _ (n + 0) (fits_node scope.words ws ks a (as_word ks c) v vs b x (word_formed scope ws ks a x c h.0)) e.2 h.1),
     )
     code_formed (bind (to.Vector []) (fetch c) b) scope ws ks a ps n x e h = (word_formed scope ws ks a x c h.0, code_formed b scope ws ks a ps (n + 0) x e.2 h.1)
     code_formed (bind to.Nothing (fetch c) b) scope ws ks a ps n x e h = (word_formed scope ws ks a x c h.0, code_formed b scope ws ks a ps (n + 0) x e.2 h.1)
-    code_formed (bind (to.One y) (fetch c) b) scope ws ks a ps n x e h = (word_formed scope ws ks a x c h.0, code_formed b (with_words (y.0 ∷ []) scope) (y.0 ∷ ws) ks a ps (n + 0) (fits_both (y.0 ∷ []) scope.words ws ks a x) e.2 h.1)
+    code_formed (bind (to.One y) (fetch c) b) scope ws ks a ps n x e h = (word_formed scope ws ks a x c h.0, code_formed b (with_word_variables (y.0 ∷ []) scope) (y.0 ∷ ws) ks a ps (n + 0) (fits_both (y.0 ∷ []) scope.words ws ks a x) e.2 h.1)
     code_formed (bind (to.Node y) (fetch c) b) scope ws ks a ps n x e h = absurd e.0
     code_formed (bind t o b) scope ws ks a ps n x e h = (
       act_formed o scope ws ks a ps n x e.1 h.0,
-      subst (λ s. CodeFormed after s (split_code g.tags (names_after o t b ks) (cell_after ks o t b a) (waits_after o t b ps) (n + made_act g.tags ps o) b)) (sym (target_in t ws e.0))
+      subst (λ s. CodeFormed after s (split_code g.tags (names_after o t b ks) (cell_after ks o t b a) (deferred_fields_after o t b ps) (n + made_act g.tags ps o) b)) (sym (target_in t ws e.0))
           (code_formed b (with_target t scope) (target_vars t ++ ws) ks a _ (n + made_act g.tags ps o) (fits_scope (target_vars t ++ scope.words) (with_target t scope).words (target_vars t ++ ws) ks a (sym (target_is t scope e.0)) (fits_both (target_vars t) scope.words ws ks a x)) e.2 h.1),
     )
 
-    arms_formed : (as' : Arms) (scope : Scope) (ws : List ℕ) (ks : Names) (a : W.Word) (ps : List Wait) (n : ℕ) → Fits scope.words ws ks a → EachArms vectorised_kind as' → ArmsFormed g scope as' → ArmsFormed after (In ws) (split_arms g.tags ks a ps n as')
+    arms_formed : (as' : Arms) (scope : Scope) (ws : List ℕ) (ks : Names) (a : W.Word) (ps : List DeferredField) (n : ℕ) → Fits scope.words ws ks a → EachArms vectorised_kind as' → ArmsFormed g scope as' → ArmsFormed after (In ws) (split_arms g.tags ks a ps n as')
     arms_formed no_arm scope ws ks a ps n x e h = tt
     arms_formed (arm s b as') scope ws ks a ps n x e h = (
       shape_stays g procs same_count s h.0,
-      subst (λ l. CodeFormed after (with_words l (In ws)) (front a n ps b (split_code g.tags (front_names n ps b ks) a [] (n + length ps) b))) (sym e.0)
+      subst (λ l. CodeFormed after (with_word_variables l (In ws)) (front a n ps b (split_code g.tags (front_names n ps b ks) a [] (n + length ps) b))) (sym e.0)
           (front_formed a n ps b (split_code g.tags (front_names n ps b ks) a [] (n + length ps) b) scope.words ws ks x
-          (λ y. code_formed b scope (front_words n ps b ws) (front_names n ps b ks) a [] (n + length ps) y e.1 (subst (λ l. CodeFormed g (with_words l scope) b) e.0 h.1))),
+          (λ y. code_formed b scope (front_words n ps b ws) (front_names n ps b ks) a [] (n + length ps) y e.1 (subst (λ l. CodeFormed g (with_word_variables l scope) b) e.0 h.1))),
       arms_formed as' scope ws ks a ps (n + length ps + made_code g.tags [] b) x e.2 h.2,
     )
 
-  pub bodies_formed : (qs : List Procedure) (n : ℕ) → EachBody vectorised_kind qs → AllOf (ProcedureFormed g) qs → AllOf (ProcedureFormed after) (split_procs g.tags n qs)
+  pub bodies_formed : (qs : List Procedure) (n : ℕ) → EveryBodyIsOfKind vectorised_kind qs → AllOf (ProcedureFormed g) qs → AllOf (ProcedureFormed after) (split_procs g.tags n qs)
   bodies_formed [] n e h = tt
   bodies_formed (q ∷ qs) n e h = (
     code_formed q.body (params_scope q) (numbers_of q.params) [] (Lit (pos 0)) [] n (record { names = λ z. inl refl; own = λ z i k. i; cell = tt }) e.0 h.0,

@@ -12,7 +12,7 @@ use Rattle.grin_syntax.specs.declared.program.Word as W
 use Rattle.grin_syntax.specs.declared.program.Word.TheVariants.{Lit, Var, Global, TagWord}
 use Rattle.grin_syntax.specs.Tree.{Code, end, store, bind, Act, unit, fetch, fetch_word, update, eval, apply, call, prim, read, write, case, nested, fail, Arms, no_arm, arm, Procedure, Program}
 use Rattle.grin_syntax.specs.Binders.{numbers_of, target_vars, shape_vars, cell_vars, act_vars, code_vars, arms_vars}
-use Rattle.grin_syntax.specs.Formed.{AllOf, Scope, InScope, with_words, with_target, WordFormed, ValFormed, CellFormed, ActFormed, CodeFormed, ArmsFormed}
+use Rattle.grin_syntax.specs.Formed.{AllOf, Scope, InScope, with_word_variables, with_target, WordFormed, ValFormed, CellFormed, ActFormed, CodeFormed, ArmsFormed}
 use Rattle.grin_meaning.specs.Values.{Datum, tag, cell, Node, Value, node, words, Env, HeapCell, and_then, padded, Binding, with_vars, fits, word_of, value_of, bindings_of}
 use Rattle.grin_meaning.specs.Run.{Calls, places, cells_of, place_of}
 use Rattle.grin_meaning.specs.Checks.{has_block, is_given, all_fill, is_bound_well}
@@ -25,8 +25,8 @@ use Rattle.grin_meaning.proofs.Plain.{then_has}
 use Rattle.grin_meaning.proofs.OneSided.{left_follows}
 use Rattle.pass_ground.specs.Uses.{word_is, words_use, val_uses, cells_use, act_uses, code_uses, arms_use, act_mentions}
 use Rattle.fetch_passes.specs.Windows.{begins_with, is_passed, owns, tests_number, vector_uses, act_outside, outside}
-use Rattle.fetch_passes.specs.Names.{Names, Wait, as_word, as_words, as_val, as_cells, hiding}
-use Rattle.fetch_passes.specs.Waits.{waits_of}
+use Rattle.fetch_passes.specs.Names.{Names, DeferredField, as_word, as_words, as_val, as_cells, with_hidden}
+use Rattle.fetch_passes.specs.Waits.{deferred_fields_of}
 use Rattle.fetch_passes.specs.Split.{front, front_names, word_fetches, whole_node, split_act, split_code, split_arms, made_act, made_code}
 use Rattle.pass_ground.proofs.Tests.{never_both}
 use Rattle.pass_ground.proofs.Bound.{bound_names, places_names}
@@ -55,7 +55,7 @@ bound_too g (to.Vector xs) o o' v n b h = ap (λ x. cond x (is_given g v) true &
 bound_too g (to.Node x) o o' v n b h = absurd n
 
 -- what doesn't wait and what waits
-by_waiting : (ks : Names) (ps : List Wait) (u : ℕ → Bool) → ((z : VarId) → is_var (as_word ks (Var z)) ≡ false → is_waiting ps z.0 ≡ false → u z.0 ≡ false) → ((z : ℕ) → is_waiting ps z ≡ true → u z ≡ false) → Clear ks u
+by_waiting : (ks : Names) (ps : List DeferredField) (u : ℕ → Bool) → ((z : VarId) → is_var (as_word ks (Var z)) ≡ false → is_waiting ps z.0 ≡ false → u z.0 ≡ false) → ((z : ℕ) → is_waiting ps z ≡ true → u z ≡ false) → Clear ks u
 by_waiting ks ps u h k z e = go (is_waiting ps z.0) refl
   where
     go : (b : Bool) → is_waiting ps z.0 ≡ b → u z.0 ≡ false
@@ -64,7 +64,7 @@ by_waiting ks ps u h k z e = go (is_waiting ps z.0) refl
 
 module _ (g : Program) (base : ℕ) (procs : List Procedure) (same_count : length procs ≡ length g.procs) where
   -- what holds of the names and of the words that wait
-  pub record Ctx (zs : List ℕ) (ks : Names) (a : W.Word) (ps : List Wait) (n : ℕ) : Type 0 where
+  pub record Ctx (zs : List ℕ) (ks : Names) (a : W.Word) (ps : List DeferredField) (n : ℕ) : Type 0 where
     pub low : (y : ℕ) → InScope zs y → y < base
     pub sound : Sound base n zs ks
     pub from : base ≤ n
@@ -72,7 +72,7 @@ module _ (g : Program) (base : ℕ) (procs : List Procedure) (same_count : lengt
     pub waiting : AllOf (λ p. InScope zs p.var.0) ps
 
   -- of the variables that a piece uses: those that are hidden wait, and what waits for the case on t is used in its alternatives alone
-  pub record Window (zs : List ℕ) (ks : Names) (ps : List Wait) (t : ℕ) (uses outer : ℕ → Bool) : Type 0 where
+  pub record Window (zs : List ℕ) (ks : Names) (ps : List DeferredField) (t : ℕ) (uses outer : ℕ → Bool) : Type 0 where
     pub hidden : (z : VarId) → is_var (as_word ks (Var z)) ≡ false → is_waiting ps z.0 ≡ false → uses z.0 ≡ false
     pub waits : (z : ℕ) → is_waiting ps z ≡ true → outer z ≡ false
     pub tagged : (z : ℕ) → is_waiting ps z ≡ true → InScope zs t
@@ -98,14 +98,14 @@ module _ (g : Program) (base : ℕ) (procs : List Procedure) (same_count : lengt
     pub once : (y : ℕ) → times y scope.words + times y (arms_vars as') ≤ 1
     pub below : (y : ℕ) → InScope (arms_vars as') y → y < base
 
-  ctx_on : (zs zs2 : List ℕ) (ks : Names) (a : W.Word) (ps : List Wait) (n m : ℕ) → n ≤ m → ((y : ℕ) → InScope zs y → InScope zs2 y) → ((y : ℕ) → InScope zs2 y → y < base) → Ctx zs ks a ps n → Ctx zs2 ks a ps m
+  ctx_on : (zs zs2 : List ℕ) (ks : Names) (a : W.Word) (ps : List DeferredField) (n m : ℕ) → n ≤ m → ((y : ℕ) → InScope zs y → InScope zs2 y) → ((y : ℕ) → InScope zs2 y → y < base) → Ctx zs ks a ps n → Ctx zs2 ks a ps m
   ctx_on zs zs2 ks a ps n m le f low x = record { low = low; sound = sound_more base n m zs zs2 ks le f x.sound; from = omega (arith, le, x.from); held = held_more base n m zs zs2 a le f x.held; waiting = go ps x.waiting }
     where
-      go : (qs : List Wait) → AllOf (λ p. InScope zs p.var.0) qs → AllOf (λ p. InScope zs2 p.var.0) qs
+      go : (qs : List DeferredField) → AllOf (λ p. InScope zs p.var.0) qs → AllOf (λ p. InScope zs2 p.var.0) qs
       go [] h = tt
       go (p ∷ qs) h = (f p.var.0 h.0, go qs h.1)
 
-  ctx_none : (zs : List ℕ) (ks : Names) (a : W.Word) (ps : List Wait) (n : ℕ) → Ctx zs ks a ps n → Ctx zs ks a [] n
+  ctx_none : (zs : List ℕ) (ks : Names) (a : W.Word) (ps : List DeferredField) (n : ℕ) → Ctx zs ks a ps n → Ctx zs ks a [] n
   ctx_none zs ks a ps n x = record { low = x.low; sound = x.sound; from = x.from; held = x.held; waiting = tt }
 
   none_waits : (zs : List ℕ) (ks : Names) (t : ℕ) (uses outer : ℕ → Bool) → Clear ks uses → Window zs ks [] t uses outer
@@ -167,7 +167,7 @@ module _ (g : Program) (base : ℕ) (procs : List Procedure) (same_count : lengt
           let k : times y (target_vars t ++ code_vars b) ≡ times y (target_vars t) + times y (code_vars b) = times_append y (target_vars t) (code_vars b) in
           omega (arith, e, f, k, h)
 
-  ctx_after : (t : Target) (scope : Scope) (ks : Names) (a : W.Word) (ps : List Wait) (n m : ℕ) → n ≤ m → NoNodeTarget t → ((y : ℕ) → InScope (target_vars t) y → y < base) → Ctx scope.words ks a ps n → Ctx (with_target t scope).words ks a ps m
+  ctx_after : (t : Target) (scope : Scope) (ks : Names) (a : W.Word) (ps : List DeferredField) (n m : ℕ) → n ≤ m → NoNodeTarget t → ((y : ℕ) → InScope (target_vars t) y → y < base) → Ctx scope.words ks a ps n → Ctx (with_target t scope).words ks a ps m
   ctx_after t scope ks a ps n m le nt f x = subst (λ zs. Ctx zs ks a ps m) (sym (target_words t scope nt)) (ctx_on scope.words (target_vars t ++ scope.words) ks a ps n m le (in_more (target_vars t) scope.words) (low_more (target_vars t) scope.words f x.low) x)
 
   first_act : (t : Target) (o : Act) (b : Code) (scope : Scope) → PieceCode scope (bind t o b) → PieceAct scope o
@@ -188,13 +188,13 @@ module _ (g : Program) (base : ℕ) (procs : List Procedure) (same_count : lengt
     abbrev pub st : Setting
     st = it g procs c c' cb cf
 
-    abbrev pub NearR : List ℕ → Names → W.Word → List Wait → Relation
+    abbrev pub NearR : List ℕ → Names → W.Word → List DeferredField → Relation
     NearR zs ks a ps = λ cells. Near g zs ks [] a ps cells
 
     -- ---- statements
 
     -- an operation that may change the heap: nothing waits after it
-    plain_bind : (t : Target) (o o' : Act) (b b' : Code) (scope : Scope) (ks : Names) (a : W.Word) (ps : List Wait) (n : ℕ) → Ctx scope.words ks a ps n → NoNodeTarget t → ((y : ℕ) → InScope (target_vars t) y → times y scope.words ≡ 0 × y < base) → has_block o' ≡ has_block o
+    plain_bind : (t : Target) (o o' : Act) (b b' : Code) (scope : Scope) (ks : Names) (a : W.Word) (ps : List DeferredField) (n : ℕ) → Ctx scope.words ks a ps n → NoNodeTarget t → ((y : ℕ) → InScope (target_vars t) y → times y scope.words ≡ 0 × y < base) → has_block o' ≡ has_block o
         → ActFollows st (NearR scope.words ks a ps) Same o o' → CodeFollows st (NearR (with_target t scope).words ks a []) Same b b' → CodeFollows st (NearR scope.words ks a ps) Same (bind t o b) (bind t o' b')
     plain_bind t o o' b b' scope ks a ps n x nt new bl f k = bind_follows st {R = NearR scope.words ks a ps} {R' = NearR (with_target t scope).words ks a []} {U = Same} {V = Same} t t o o' b b' f k
         (λ h y. on h.w.cells y.w.cells h.env h.env' y.bs y.values (y.seen refl) y.binds h.related)
@@ -209,7 +209,7 @@ module _ (g : Program) (base : ℕ) (procs : List Procedure) (same_count : lengt
         }
 
     -- a fetch of a word
-    passed_bind : (t : Target) (d : W.Word) (i : ℕ) (b b' : Code) (scope : Scope) (ks : Names) (a : W.Word) (ps : List Wait) (n : ℕ) → Ctx scope.words ks a ps n → NoNodeTarget t → ((y : ℕ) → InScope (target_vars t) y → times y scope.words ≡ 0 × y < base)
+    passed_bind : (t : Target) (d : W.Word) (i : ℕ) (b b' : Code) (scope : Scope) (ks : Names) (a : W.Word) (ps : List DeferredField) (n : ℕ) → Ctx scope.words ks a ps n → NoNodeTarget t → ((y : ℕ) → InScope (target_vars t) y → times y scope.words ≡ 0 × y < base)
         → ActFollows st (NearR scope.words ks a ps) Same (fetch_word d i) (fetch_word (as_word ks d) i) → CodeFollows st (NearR (with_target t scope).words ks a ps) Same b b'
         → CodeFollows st (NearR scope.words ks a ps) Same (bind t (fetch_word d i) b) (bind t (fetch_word (as_word ks d) i) b')
     passed_bind t d i b b' scope ks a ps n x nt new f k = bind_follows st {R = NearR scope.words ks a ps} {R' = NearR (with_target t scope).words ks a ps} {U = Same} {V = Same} t t (fetch_word d i) (fetch_word (as_word ks d) i) b b' f k
@@ -234,7 +234,7 @@ module _ (g : Program) (base : ℕ) (procs : List Procedure) (same_count : lengt
     places_stay ks i [] = refl
     places_stay ks i (d ∷ cs) = ap (λ l. (d.var.0, words (cell i ∷ [])) ∷ l) (places_stay ks (suc i) cs)
 
-    stores : (cs : List Cell) (b b' : Code) (scope : Scope) (ks : Names) (a : W.Word) (ps : List Wait) (n : ℕ) → Ctx scope.words ks a ps n → AllOf (CellFormed g (with_words (cell_vars cs) scope)) cs → AllOf (λ d. NoNodeVar d.val) cs → Clear ks (λ z. cells_use z cs)
+    stores : (cs : List Cell) (b b' : Code) (scope : Scope) (ks : Names) (a : W.Word) (ps : List DeferredField) (n : ℕ) → Ctx scope.words ks a ps n → AllOf (CellFormed g (with_word_variables (cell_vars cs) scope)) cs → AllOf (λ d. NoNodeVar d.val) cs → Clear ks (λ z. cells_use z cs)
         → ((y : ℕ) → InScope (cell_vars cs) y → times y scope.words ≡ 0 × y < base) → CodeFollows st (NearR (cell_vars cs ++ scope.words) ks a []) Same b b' → CodeFollows st (NearR scope.words ks a ps) Same (store cs b) (store (as_cells ks cs) b')
     stores cs b b' scope ks a ps n x fc nc clear new k = store_follows st {R = NearR scope.words ks a ps} {R' = NearR (cell_vars cs ++ scope.words) ks a []} {V = Same} cs (as_cells ks cs) b b' k (λ h y.
         let many : length h.w.cells ≡ length h.b.cells = ap length (sym (cells_same g procs c c' cb cf h.b)) in
@@ -242,7 +242,7 @@ module _ (g : Program) (base : ℕ) (procs : List Procedure) (same_count : lengt
         let same_places : places (length h.b.cells) (as_cells ks cs) ≡ bs = places_stay ks (length h.b.cells) cs ∙ ap (λ i. places i cs) (sym many) in
         let r : Near g (cell_vars cs ++ scope.words) ks [] a [] (h.w.cells ++ y.hs) (with_vars bs h.env) (with_vars bs h.env')
         = near_bind g base n scope.words ks x.sound x.low a [] (h.w.cells ++ y.hs) h.env h.env' bs (cell_vars cs) (places_names (length h.w.cells) cs) new x.held tt (near_heap g scope.words ks [] a a ps h.w.cells (h.w.cells ++ y.hs) h.env h.env' h.related) in
-        let scope1 : Scope = with_words (cell_vars cs) scope in
+        let scope1 : Scope = with_word_variables (cell_vars cs) scope in
         let s : Sound base n scope1.words ks = sound_more base n n scope.words (cell_vars cs ++ scope.words) ks (omega arith) (in_more (cell_vars cs) scope.words) x.sound in
         record {
           hs' = y.hs;
@@ -254,7 +254,7 @@ module _ (g : Program) (base : ℕ) (procs : List Procedure) (same_count : lengt
 
     -- ---- operations without blocks
 
-    module _ (scope : Scope) (ks : Names) (a : W.Word) (ps : List Wait) (n : ℕ) (x : Ctx scope.words ks a ps n) where
+    module _ (scope : Scope) (ks : Names) (a : W.Word) (ps : List DeferredField) (n : ℕ) (x : Ctx scope.words ks a ps n) where
       abbrev R : Relation
       R = NearR scope.words ks a ps
 
@@ -316,10 +316,10 @@ module _ (g : Program) (base : ℕ) (procs : List Procedure) (same_count : lengt
 
     -- ---- a fetch of a whole node
 
-    module _ (scope : Scope) (ks : Names) (a : W.Word) (ps : List Wait) (n : ℕ) (x : Ctx scope.words ks a ps n) (t : ℕ) (v : VarId) (vs : List VarId) (d : W.Word) (b : Code)
+    module _ (scope : Scope) (ks : Names) (a : W.Word) (ps : List DeferredField) (n : ℕ) (x : Ctx scope.words ks a ps n) (t : ℕ) (v : VarId) (vs : List VarId) (d : W.Word) (b : Code)
         (q : PieceCode scope (bind (to.Vector (v ∷ vs)) (fetch d) b)) (w : Window scope.words ks ps t (λ z. code_uses z (bind (to.Vector (v ∷ vs)) (fetch d) b)) (λ z. outside t z (bind (to.Vector (v ∷ vs)) (fetch d) b))) where
-      abbrev ws : List Wait
-      ws = waits_of v.0 b 1 vs
+      abbrev ws : List DeferredField
+      ws = deferred_fields_of v.0 b 1 vs
 
       abbrev ys : List ℕ
       ys = numbers_of (v ∷ vs)
@@ -328,7 +328,7 @@ module _ (g : Program) (base : ℕ) (procs : List Procedure) (same_count : lengt
       zs = ys ++ scope.words
 
       abbrev ks2 : Names
-      ks2 = hiding ws ks
+      ks2 = with_hidden ws ks
 
       abbrev own : Bool
       own = owns v.0 b
@@ -336,7 +336,7 @@ module _ (g : Program) (base : ℕ) (procs : List Procedure) (same_count : lengt
       abbrev a2 : W.Word
       a2 = cond own (as_word ks d) a
 
-      abbrev ps2 : List Wait
+      abbrev ps2 : List DeferredField
       ps2 = cond own ws ps
 
       abbrev t2 : ℕ
@@ -405,7 +405,7 @@ module _ (g : Program) (base : ℕ) (procs : List Procedure) (same_count : lengt
           go true = held_word
           go false = x.held
 
-      waiting_ws : (us : List VarId) (i : ℕ) → ((y : ℕ) → InScope (numbers_of us) y → InScope zs y) → AllOf (λ p. InScope zs p.var.0) (waits_of v.0 b i us)
+      waiting_ws : (us : List VarId) (i : ℕ) → ((y : ℕ) → InScope (numbers_of us) y → InScope zs y) → AllOf (λ p. InScope zs p.var.0) (deferred_fields_of v.0 b i us)
       waiting_ws us i f = waits_some (λ p. InScope zs p.var.0) v.0 b i us numbered (λ i x xs. refl) (all_in us i f)
         where
           all_in : (us : List VarId) (i : ℕ) → ((y : ℕ) → InScope (numbers_of us) y → InScope zs y) → AllOf (λ p. InScope zs p.var.0) (numbered i us)
@@ -421,7 +421,7 @@ module _ (g : Program) (base : ℕ) (procs : List Procedure) (same_count : lengt
         waiting = go own;
       }
         where
-          old : (qs : List Wait) → AllOf (λ p. InScope scope.words p.var.0) qs → AllOf (λ p. InScope zs p.var.0) qs
+          old : (qs : List DeferredField) → AllOf (λ p. InScope scope.words p.var.0) qs → AllOf (λ p. InScope zs p.var.0) qs
           old [] h = tt
           old (p ∷ qs) h = (in_more ys scope.words p.var.0 h.0, old qs h.1)
 
@@ -537,7 +537,7 @@ module _ (g : Program) (base : ℕ) (procs : List Procedure) (same_count : lengt
     unfolding ActFormed EachAct act_vars
     in_case v as' scope q = record { formed = q.formed.1; inlined = q.inlined.2; bare = q.bare.2; once = q.once; below = q.below }
 
-    in_store : (cs : List Cell) (b : Code) (scope : Scope) → PieceCode scope (store cs b) → PieceCode (with_words (cell_vars cs) scope) b
+    in_store : (cs : List Cell) (b : Code) (scope : Scope) → PieceCode scope (store cs b) → PieceCode (with_word_variables (cell_vars cs) scope) b
     unfolding CodeFormed EachAct act_vars
     in_store cs b scope q = record {
       formed = q.formed.1;
@@ -550,7 +550,7 @@ module _ (g : Program) (base : ℕ) (procs : List Procedure) (same_count : lengt
     in_arm : (s : Shape) (b : Code) (as' : Arms) (scope : Scope) → PieceArms scope (arm s b as') → PieceCode scope b
     unfolding ArmsFormed EachAct act_vars
     in_arm s b as' scope q = record {
-      formed = subst (λ xs. CodeFormed g (with_words xs scope) b) q.bare.0 q.formed.1;
+      formed = subst (λ xs. CodeFormed g (with_word_variables xs scope) b) q.bare.0 q.formed.1;
       inlined = q.inlined.1;
       bare = q.bare.1;
       once = once_left scope.words (code_vars b) (arms_vars as') (once_right scope.words (shape_vars s) (code_vars b ++ arms_vars as') q.once);
@@ -567,14 +567,14 @@ module _ (g : Program) (base : ℕ) (procs : List Procedure) (same_count : lengt
       below = below_right (code_vars b) (arms_vars as') (below_right (shape_vars s) (code_vars b ++ arms_vars as') q.below);
     }
 
-    abbrev ActWindow : Scope → Names → List Wait → ℕ → Act → Type 0
+    abbrev ActWindow : Scope → Names → List DeferredField → ℕ → Act → Type 0
     ActWindow scope ks ps t o = Window scope.words ks ps t (λ z. act_uses z o) (λ z. act_outside t z o)
 
-    abbrev pub CodeWindow : Scope → Names → List Wait → ℕ → Code → Type 0
+    abbrev pub CodeWindow : Scope → Names → List DeferredField → ℕ → Code → Type 0
     CodeWindow scope ks ps t b = Window scope.words ks ps t (λ z. code_uses z b) (λ z. outside t z b)
 
     -- of an operation that ends a window, and of what comes after it
-    act_window : (u : Target) (o : Act) (b : Code) (scope : Scope) (ks : Names) (ps : List Wait) (t : ℕ) → is_passed o ≡ false → CodeWindow scope ks ps t (bind u o b) → ActWindow scope ks ps t o
+    act_window : (u : Target) (o : Act) (b : Code) (scope : Scope) (ks : Names) (ps : List DeferredField) (t : ℕ) → is_passed o ≡ false → CodeWindow scope ks ps t (bind u o b) → ActWindow scope ks ps t o
     unfolding act_mentions outside
     act_window u o b scope ks ps t e w = record {
       hidden = λ z i j. neither_left (act_uses z.0 o) (code_uses z.0 b) (w.hidden z i j);
@@ -582,16 +582,16 @@ module _ (g : Program) (base : ℕ) (procs : List Procedure) (same_count : lengt
       tagged = w.tagged;
     }
 
-    clear_after : (u : Target) (o : Act) (b : Code) (scope : Scope) (ks : Names) (ps : List Wait) (t : ℕ) → is_passed o ≡ false → CodeWindow scope ks ps t (bind u o b) → Clear ks (λ z. code_uses z b)
+    clear_after : (u : Target) (o : Act) (b : Code) (scope : Scope) (ks : Names) (ps : List DeferredField) (t : ℕ) → is_passed o ≡ false → CodeWindow scope ks ps t (bind u o b) → Clear ks (λ z. code_uses z b)
     unfolding act_mentions outside
     clear_after u o b scope ks ps t e w = by_waiting ks ps (λ z. code_uses z b) (λ z i j. neither_right (act_uses z.0 o) (code_uses z.0 b) (w.hidden z i j))
         (λ z i. neither_right (act_outside t z o) (code_uses z b) (ap (λ p. cond p (act_uses z o || outside t z b) (act_outside t z o || code_uses z b)) (sym e) ∙ w.waits z i))
 
-    end_window : (o : Act) (scope : Scope) (ks : Names) (ps : List Wait) (t : ℕ) → CodeWindow scope ks ps t (end o) → ActWindow scope ks ps t o
+    end_window : (o : Act) (scope : Scope) (ks : Names) (ps : List DeferredField) (t : ℕ) → CodeWindow scope ks ps t (end o) → ActWindow scope ks ps t o
     unfolding act_mentions outside
     end_window o scope ks ps t w = record { hidden = w.hidden; waits = w.waits; tagged = w.tagged }
 
-    store_clear : (cs : List Cell) (b : Code) (scope : Scope) (ks : Names) (ps : List Wait) (t : ℕ) → CodeWindow scope ks ps t (store cs b) → Clear ks (λ z. cells_use z cs) × Clear ks (λ z. code_uses z b)
+    store_clear : (cs : List Cell) (b : Code) (scope : Scope) (ks : Names) (ps : List DeferredField) (t : ℕ) → CodeWindow scope ks ps t (store cs b) → Clear ks (λ z. cells_use z cs) × Clear ks (λ z. code_uses z b)
     unfolding act_mentions outside
     store_clear cs b scope ks ps t w = (
       by_waiting ks ps (λ z. cells_use z cs) (λ z i j. neither_left (cells_use z.0 cs) (code_uses z.0 b) (w.hidden z i j)) (λ z i. neither_left (cells_use z cs) (code_uses z b) (w.waits z i)),
@@ -599,7 +599,7 @@ module _ (g : Program) (base : ℕ) (procs : List Procedure) (same_count : lengt
     )
 
     -- of an operation that is no case
-    plain_clear : (o : Act) (scope : Scope) (ks : Names) (ps : List Wait) (t : ℕ) → ((z : ℕ) → act_outside t z o ≡ act_uses z o) → ActWindow scope ks ps t o → Clear ks (λ z. act_uses z o)
+    plain_clear : (o : Act) (scope : Scope) (ks : Names) (ps : List DeferredField) (t : ℕ) → ((z : ℕ) → act_outside t z o ≡ act_uses z o) → ActWindow scope ks ps t o → Clear ks (λ z. act_uses z o)
     plain_clear o scope ks ps t e w = by_waiting ks ps (λ z. act_uses z o) w.hidden (λ z i. sym (e z) ∙ w.waits z i)
 
     store_once : (cs : List Cell) (b : Code) (scope : Scope) → PieceCode scope (store cs b) → (y : ℕ) → times y scope.words + times y (cell_vars cs ++ code_vars b) ≤ 1
@@ -610,11 +610,11 @@ module _ (g : Program) (base : ℕ) (procs : List Procedure) (same_count : lengt
     unfolding act_vars
     store_below cs b scope q = q.below
 
-    passed_clear : (u : Target) (d : W.Word) (i : ℕ) (b : Code) (scope : Scope) (ks : Names) (ps : List Wait) (t : ℕ) → CodeWindow scope ks ps t (bind u (fetch_word d i) b) → Clear ks (λ z. word_is z d)
+    passed_clear : (u : Target) (d : W.Word) (i : ℕ) (b : Code) (scope : Scope) (ks : Names) (ps : List DeferredField) (t : ℕ) → CodeWindow scope ks ps t (bind u (fetch_word d i) b) → Clear ks (λ z. word_is z d)
     unfolding act_mentions outside
     passed_clear u d i b scope ks ps t w = by_waiting ks ps (λ z. word_is z d) (λ z e j. neither_left (word_is z.0 d) (code_uses z.0 b) (w.hidden z e j)) (λ z j. neither_left (word_is z d) (outside t z b) (w.waits z j))
 
-    passed_window : (u : Target) (d : W.Word) (i : ℕ) (b : Code) (scope : Scope) (ks : Names) (ps : List Wait) (t : ℕ) → NoNodeTarget u → CodeWindow scope ks ps t (bind u (fetch_word d i) b) → CodeWindow (with_target u scope) ks ps t b
+    passed_window : (u : Target) (d : W.Word) (i : ℕ) (b : Code) (scope : Scope) (ks : Names) (ps : List DeferredField) (t : ℕ) → NoNodeTarget u → CodeWindow scope ks ps t (bind u (fetch_word d i) b) → CodeWindow (with_target u scope) ks ps t b
     unfolding act_mentions outside
     passed_window u d i b scope ks ps t nt w = record {
       hidden = λ z e j. neither_right (word_is z.0 d) (code_uses z.0 b) (w.hidden z e j);
@@ -623,7 +623,7 @@ module _ (g : Program) (base : ℕ) (procs : List Procedure) (same_count : lengt
     }
 
     -- at the front of an alternative
-    arm_ctx : (scope : Scope) (ks : Names) (a : W.Word) (ps : List Wait) (n : ℕ) (b : Code) → Ctx scope.words ks a ps n → Ctx scope.words (front_names n ps b ks) a [] (n + length ps)
+    arm_ctx : (scope : Scope) (ks : Names) (a : W.Word) (ps : List DeferredField) (n : ℕ) (b : Code) → Ctx scope.words ks a ps n → Ctx scope.words (front_names n ps b ks) a [] (n + length ps)
     arm_ctx scope ks a ps n b x = record {
       low = x.low;
       sound = front_sound base n scope.words ks ps b x.sound x.from x.waiting;
@@ -632,7 +632,7 @@ module _ (g : Program) (base : ℕ) (procs : List Procedure) (same_count : lengt
       waiting = tt;
     }
 
-    arm_clear : (s : Shape) (b : Code) (as' : Arms) (ks : Names) (ps : List Wait) (n : ℕ) → ((z : VarId) → is_var (as_word ks (Var z)) ≡ false → is_waiting ps z.0 ≡ false → arms_use z.0 (arm s b as') ≡ false) → Clear (front_names n ps b ks) (λ z. code_uses z b)
+    arm_clear : (s : Shape) (b : Code) (as' : Arms) (ks : Names) (ps : List DeferredField) (n : ℕ) → ((z : VarId) → is_var (as_word ks (Var z)) ≡ false → is_waiting ps z.0 ≡ false → arms_use z.0 (arm s b as') ≡ false) → Clear (front_names n ps b ks) (λ z. code_uses z b)
     unfolding act_mentions
     arm_clear s b as' ks ps n w z e = (let k : (is_var (as_word ks (Var z)) ≡ false) × (is_waiting ps z.0 ≡ true → code_uses z.0 b ≡ false) = front_hidden n ks ps b z e in go k.0 k.1 (is_waiting ps z.0) refl)
       where
@@ -641,7 +641,7 @@ module _ (g : Program) (base : ℕ) (procs : List Procedure) (same_count : lengt
         go i f false j = neither_left (code_uses z.0 b) (arms_use z.0 as') (w z i j)
 
     -- a fetch that ends a block
-    ending : (scope : Scope) (ks : Names) (a : W.Word) (ps : List Wait) (n : ℕ) → Ctx scope.words ks a ps n → (d : W.Word) → WordFormed g scope d → Clear ks (λ z. word_is z d) → CodeFollows st (NearR scope.words ks a ps) Same (end (fetch d)) (whole_node g.tags n (as_word ks d))
+    ending : (scope : Scope) (ks : Names) (a : W.Word) (ps : List DeferredField) (n : ℕ) → Ctx scope.words ks a ps n → (d : W.Word) → WordFormed g scope d → Clear ks (λ z. word_is z d) → CodeFollows st (NearR scope.words ks a ps) Same (end (fetch d)) (whole_node g.tags n (as_word ks d))
     ending scope ks a ps n x d f clear = ending_follows g procs c c' cb cf d (as_word ks d) {R = NearR scope.words ks a ps} n
         (λ h i e. then_has (word_of g h.env d) (word_of g h.env' (as_word ks d)) place_of place_of i (word_goes g scope ks base n x.sound a ps h.w.cells h.env h.env' h.related d f clear) (λ d q. q) e)
         (λ env' y e le. word_kept g env' (plus y e env') (as_word ks d) (λ z k. plus_out y e env' z (other y le z (held_as base n scope.words ks d x.sound (in_scope d f) z k))))
@@ -657,13 +657,13 @@ module _ (g : Program) (base : ℕ) (procs : List Procedure) (same_count : lengt
         other y le z (inr k) s = let l : z < n = k.1 in omega (arith, l, le, s)
 
     -- over the value of a case
-    abbrev On : List ℕ → Names → W.Word → List Wait → Arms → Value → Value → Relation
+    abbrev On : List ℕ → Names → W.Word → List DeferredField → Arms → Value → Value → Relation
     On zs ks a ps as' v v' cells env env' = Near g zs ks [] a ps cells env env' × SameFits g as' v v'
 
     mutual
       unfolding split_act ActFormed EachAct act_mentions made_act
 
-      act_goes : (o : Act) (scope : Scope) (ks : Names) (a : W.Word) (ps : List Wait) (n t : ℕ) → Ctx scope.words ks a ps n → PieceAct scope o → ActWindow scope ks ps t o → ActFollows st (NearR scope.words ks a ps) Same o (split_act g.tags ks a ps n o)
+      act_goes : (o : Act) (scope : Scope) (ks : Names) (a : W.Word) (ps : List DeferredField) (n t : ℕ) → Ctx scope.words ks a ps n → PieceAct scope o → ActWindow scope ks ps t o → ActFollows st (NearR scope.words ks a ps) Same o (split_act g.tags ks a ps n o)
       act_goes (case v as') scope ks a ps n t x q w = case_follows st {R = NearR scope.words ks a ps} {U = On scope.words ks a ps as'} {V = Same} v (as_val ks v) as' (split_arms g.tags ks a ps n as')
           (arms_go as' scope ks a ps n x (in_case v as' scope q) (λ z i j. neither_right (val_uses z.0 v) (arms_use z.0 as') (w.hidden z i j)))
           (λ h y e. case_value scope ks a ps n x t v as' q w h y e)
@@ -686,19 +686,19 @@ module _ (g : Program) (base : ℕ) (procs : List Procedure) (same_count : lengt
       act_goes (write d) scope ks a ps n t x q w = write_follows st d (as_word ks d) (λ h. word_too scope ks a ps n x h d q.formed (plain_clear (write d) scope ks ps t (λ z. refl) w)) same
       act_goes fail scope ks a ps n t x q w = fail_follows st
 
-      pub code_goes : (b : Code) (scope : Scope) (ks : Names) (a : W.Word) (ps : List Wait) (n t : ℕ) → Ctx scope.words ks a ps n → PieceCode scope b → CodeWindow scope ks ps t b → CodeFollows st (NearR scope.words ks a ps) Same b (split_code g.tags ks a ps n b)
+      pub code_goes : (b : Code) (scope : Scope) (ks : Names) (a : W.Word) (ps : List DeferredField) (n t : ℕ) → Ctx scope.words ks a ps n → PieceCode scope b → CodeWindow scope ks ps t b → CodeFollows st (NearR scope.words ks a ps) Same b (split_code g.tags ks a ps n b)
       code_goes (end (fetch d)) scope ks a ps n t x q w = ending scope ks a ps n x d q.formed (plain_clear (fetch d) scope ks ps t (λ z. refl) (end_window (fetch d) scope ks ps t w))
       code_goes (end o) scope ks a ps n t x q w = end_follows st o (split_act g.tags ks a ps n o) (act_goes o scope ks a ps n t x (at_end o scope q) (end_window o scope ks ps t w))
       code_goes (store cs b) scope ks a ps n t x q w =
           let f : Clear ks (λ z. cells_use z cs) × Clear ks (λ z. code_uses z b) = store_clear cs b scope ks ps t w in
           let new : (y : ℕ) → InScope (cell_vars cs) y → times y scope.words ≡ 0 × y < base = λ y i. (new_left scope.words (cell_vars cs) (code_vars b) (store_once cs b scope q) y i, below_left (cell_vars cs) (code_vars b) (store_below cs b scope q) y i) in
           stores cs b (split_code g.tags ks a [] n b) scope ks a ps n x q.formed.0 q.bare.0 f.0 new
-          (code_goes b (with_words (cell_vars cs) scope) ks a [] n 0
+          (code_goes b (with_word_variables (cell_vars cs) scope) ks a [] n 0
           (ctx_on scope.words (cell_vars cs ++ scope.words) ks a [] n n (omega arith) (in_more (cell_vars cs) scope.words) (low_more (cell_vars cs) scope.words (λ y i. (new y i).1) x.low) (ctx_none scope.words ks a ps n x))
           (in_store cs b scope q) (none_waits (cell_vars cs ++ scope.words) ks 0 (λ z. code_uses z b) (λ z. outside 0 z b) f.1))
       code_goes (bind (to.Vector (v ∷ vs)) (fetch d) b) scope ks a ps n t x q w =
-          node_bind scope ks a ps n x t v vs d b q w (split_code g.tags (hiding (waits_of v.0 b 1 vs) ks) (cond (owns v.0 b) (as_word ks d) a) (cond (owns v.0 b) (waits_of v.0 b 1 vs) ps) (n + 0) b)
-          (code_goes b (with_target (to.Vector (v ∷ vs)) scope) (hiding (waits_of v.0 b 1 vs) ks) (cond (owns v.0 b) (as_word ks d) a) (cond (owns v.0 b) (waits_of v.0 b 1 vs) ps) (n + 0) (cond (owns v.0 b) v.0 t)
+          node_bind scope ks a ps n x t v vs d b q w (split_code g.tags (with_hidden (deferred_fields_of v.0 b 1 vs) ks) (cond (owns v.0 b) (as_word ks d) a) (cond (owns v.0 b) (deferred_fields_of v.0 b 1 vs) ps) (n + 0) b)
+          (code_goes b (with_target (to.Vector (v ∷ vs)) scope) (with_hidden (deferred_fields_of v.0 b 1 vs) ks) (cond (owns v.0 b) (as_word ks d) a) (cond (owns v.0 b) (deferred_fields_of v.0 b 1 vs) ps) (n + 0) (cond (owns v.0 b) v.0 t)
           (ctx2 scope ks a ps n x t v vs d b q w (n + 0) (omega arith)) (after_target (to.Vector (v ∷ vs)) (fetch d) b scope q) (window2 scope ks a ps n x t v vs d b q w))
       code_goes (bind (to.Vector []) (fetch d) b) scope ks a ps n t x q w = never_bind (to.Vector []) d b _ (λ m bs e. cc)
       code_goes (bind to.Nothing (fetch d) b) scope ks a ps n t x q w = never_bind to.Nothing d b _ (λ m bs e. cc)
@@ -714,7 +714,7 @@ module _ (g : Program) (base : ℕ) (procs : List Procedure) (same_count : lengt
           (code_goes b (with_target u scope) ks a [] (n + made_act g.tags ps o) 0 (ctx_after u scope ks a [] n (n + made_act g.tags ps o) (omega arith) q.bare.0 (λ y i. (target_new u o b scope q y i).1) (ctx_none scope.words ks a ps n x)) (after_target u o b scope q)
           (none_waits (with_target u scope).words ks 0 (λ z. code_uses z b) (λ z. outside 0 z b) (clear_after u o b scope ks ps t refl w)))
 
-      arms_go : (as' : Arms) (scope : Scope) (ks : Names) (a : W.Word) (ps : List Wait) (n : ℕ) → Ctx scope.words ks a ps n → PieceArms scope as' → ((z : VarId) → is_var (as_word ks (Var z)) ≡ false → is_waiting ps z.0 ≡ false → arms_use z.0 as' ≡ false) → ArmsFollow st (On scope.words ks a ps as') Same as' (split_arms g.tags ks a ps n as')
+      arms_go : (as' : Arms) (scope : Scope) (ks : Names) (a : W.Word) (ps : List DeferredField) (n : ℕ) → Ctx scope.words ks a ps n → PieceArms scope as' → ((z : VarId) → is_var (as_word ks (Var z)) ≡ false → is_waiting ps z.0 ≡ false → arms_use z.0 as' ≡ false) → ArmsFollow st (On scope.words ks a ps as') Same as' (split_arms g.tags ks a ps n as')
       arms_go no_arm scope ks a ps n x q w = no_arm_follows st no_arm
       arms_go (arm s b as') scope ks a ps n x q w =
           arm_follows st {U = On scope.words ks a ps (arm s b as')} {U' = On scope.words ks a ps as'} {R' = NearR scope.words ks a ps} {V = Same} s s b (front a n ps b (split_code g.tags (front_names n ps b ks) a [] (n + length ps) b)) as' (split_arms g.tags ks a ps (n + length ps + made_code g.tags [] b) as')

@@ -11,7 +11,7 @@ use Rattle.grin_syntax.specs.Fresh.{variable}
 use Rattle.grin_meaning.specs.Values.{Datum, tag, words, Env, HeapCell, and_then, only_word, padded, Binding, with_vars, one_each, word_of}
 use Rattle.grin_meaning.specs.Run.{node_word, nth_or_zero, place_of}
 use Rattle.pass_ground.specs.Uses.{word_is}
-use Rattle.fetch_passes.specs.Names.{Names, Wait, as_word, hiding}
+use Rattle.fetch_passes.specs.Names.{Names, DeferredField, as_word, with_hidden}
 use Rattle.pass_ground.proofs.Tests.{never_both}
 use Rattle.pass_ground.proofs.Bound.{names_of, vars_out, one_each_names}
 use Rattle.fetch_passes.proofs.Found.{is_var, is_waiting, hiding_is, naming, naming_is}
@@ -55,7 +55,7 @@ bound_each (x ∷ xs) (d ∷ ds) bs env e once = go (one_each xs ds) refl e (λ 
         (vars_out cs (plus x.0 d env) x.0 (ap (times x.0) (one_each_names xs ds cs q) ∙ none) ∙ plus_in x.0 d env, f cs q)
 
 -- these variables, by the places of their words
-abbrev pub numbered : ℕ → List VarId → List Wait
+abbrev pub numbered : ℕ → List VarId → List DeferredField
 numbered i [] = []
 numbered i (x ∷ xs) = record { var = x; place = i } ∷ numbered (suc i) xs
 
@@ -82,18 +82,18 @@ module _ (g : Program) where
 
   -- ---- from one relation to the next
 
-  pub near_with : (xs : List ℕ) (ks : Names) (lacks : List ℕ) (a a2 : W.Word) (ps ps2 : List Wait) (c : List HeapCell) (env env' : Env) → AllOf (Waits g a2 c env env') ps2 → Near g xs ks lacks a ps c env env' → Near g xs ks lacks a2 ps2 c env env'
+  pub near_with : (xs : List ℕ) (ks : Names) (lacks : List ℕ) (a a2 : W.Word) (ps ps2 : List DeferredField) (c : List HeapCell) (env env' : Env) → AllOf (Waits g a2 c env env') ps2 → Near g xs ks lacks a ps c env env' → Near g xs ks lacks a2 ps2 c env env'
   near_with xs ks lacks a a2 ps ps2 c env env' w r = record { named = r.named; waits = w }
 
   -- where nothing waits the heap may be any
-  pub near_heap : (xs : List ℕ) (ks : Names) (lacks : List ℕ) (a a2 : W.Word) (ps : List Wait) (c c2 : List HeapCell) (env env' : Env) → Near g xs ks lacks a ps c env env' → Near g xs ks lacks a2 [] c2 env env'
+  pub near_heap : (xs : List ℕ) (ks : Names) (lacks : List ℕ) (a a2 : W.Word) (ps : List DeferredField) (c c2 : List HeapCell) (env env' : Env) → Near g xs ks lacks a ps c env env' → Near g xs ks lacks a2 [] c2 env env'
   near_heap xs ks lacks a a2 ps c c2 env env' r = record { named = r.named; waits = tt }
 
-  pub near_dropped : (xs : List ℕ) (ks : Names) (lacks : List ℕ) (a : W.Word) (p : Wait) (ps : List Wait) (c : List HeapCell) (env env' : Env) → Near g xs ks lacks a (p ∷ ps) c env env' → Near g xs ks lacks a ps c env env'
+  pub near_dropped : (xs : List ℕ) (ks : Names) (lacks : List ℕ) (a : W.Word) (p : DeferredField) (ps : List DeferredField) (c : List HeapCell) (env env' : Env) → Near g xs ks lacks a (p ∷ ps) c env env' → Near g xs ks lacks a ps c env env'
   near_dropped xs ks lacks a p ps c env env' r = record { named = r.named; waits = r.waits.1 }
 
   -- what is hidden isn't lacked
-  pub near_hidden : (xs : List ℕ) (ks : Names) (x : VarId) (lacks : List ℕ) (a : W.Word) (ps : List Wait) (c : List HeapCell) (env env' : Env) → is_var (as_word ks (Var x)) ≡ false → Near g xs ks (x.0 ∷ lacks) a ps c env env' → Near g xs ks lacks a ps c env env'
+  pub near_hidden : (xs : List ℕ) (ks : Names) (x : VarId) (lacks : List ℕ) (a : W.Word) (ps : List DeferredField) (c : List HeapCell) (env env' : Env) → is_var (as_word ks (Var x)) ≡ false → Near g xs ks (x.0 ∷ lacks) a ps c env env' → Near g xs ks lacks a ps c env env'
   near_hidden xs ks x lacks a ps c env env' h r = record { named = λ z d i l v e. go z d i l v e (nat_eq z.0 x.0) refl; waits = r.waits }
     where
       go : (z : VarId) (d : Datum) → InScope xs z.0 → times z.0 lacks ≡ 0 → is_var (as_word ks (Var z)) ≡ true → word_of g env (Var z) ≡ Some d → (b : Bool) → nat_eq z.0 x.0 ≡ b → word_of g env' (as_word ks (Var z)) ≡ Some d
@@ -102,7 +102,7 @@ module _ (g : Program) where
 
   module _ (base n : ℕ) (xs : List ℕ) (ks : Names) (sound : Sound base n xs ks) (low : (y : ℕ) → InScope xs y → y < base) where
     -- the second program binds a word that it lacked
-    pub near_kept : (x : VarId) (k : ℕ) (lacks : List ℕ) (a b : W.Word) (ps : List Wait) (c : List HeapCell) (env env' : Env) (w : Waits g b c env env' (record { var = x; place = k })) → x.0 < base → as_word ks (Var x) ≡ Var x
+    pub near_kept : (x : VarId) (k : ℕ) (lacks : List ℕ) (a b : W.Word) (ps : List DeferredField) (c : List HeapCell) (env env' : Env) (w : Waits g b c env env' (record { var = x; place = k })) → x.0 < base → as_word ks (Var x) ≡ Var x
         → ((y : ℕ) → word_is y a ≡ true → y ≢ x.0) → Near g xs ks (x.0 ∷ lacks) a ps c env env' → Near g xs ks lacks a ps c env (plus x.0 (node_word w.y.node k) env')
     near_kept x k lacks a b ps c env env' w lt own apart r = record {
       named = λ z d i l v e. go z d i l v e (nat_eq z.0 x.0) refl;
@@ -112,7 +112,7 @@ module _ (g : Program) where
         env1 : Env
         env1 = plus x.0 (node_word w.y.node k) env'
 
-        all_same : (qs : List Wait) → AllOf (λ p. env p.var.0 ≡ env p.var.0) qs
+        all_same : (qs : List DeferredField) → AllOf (λ p. env p.var.0 ≡ env p.var.0) qs
         all_same [] = tt
         all_same (q ∷ qs) = (refl, all_same qs)
 
@@ -130,7 +130,7 @@ module _ (g : Program) where
         go z d i l v e false q = by z d (as_word ks (Var z)) (sound z) (λ s. never_both (ap (λ y. nat_eq y x.0) s ∙ eq_self x.0) q) (r.named z d i (let m : counts (nat_eq z.0 x.0) ≡ 0 = ap counts q in omega (arith, m, l)) v e)
 
     -- the second program binds a word that waits, by a new variable
-    pub near_named : (p : Wait) (a : W.Word) (ps : List Wait) (c : List HeapCell) (env env' : Env) (r : Near g xs ks [] a (p ∷ ps) c env env') → base ≤ n → Held base n xs a → Near g xs (naming p.var n ks) [] a ps c env (plus n (node_word r.waits.0.y.node p.place) env')
+    pub near_named : (p : DeferredField) (a : W.Word) (ps : List DeferredField) (c : List HeapCell) (env env' : Env) (r : Near g xs ks [] a (p ∷ ps) c env env') → base ≤ n → Held base n xs a → Near g xs (naming p.var n ks) [] a ps c env (plus n (node_word r.waits.0.y.node p.place) env')
     near_named p a ps c env env' r lt held = record {
       named = λ z d i l v e. go z d i v e (nat_eq p.var.0 z.0) refl;
       waits = waits_more g a c env env' env env1 (λ y h. plus_out n fetched env' y (apart y (held y h))) ps (all_same ps) r.waits.1;
@@ -142,7 +142,7 @@ module _ (g : Program) where
         env1 : Env
         env1 = plus n fetched env'
 
-        all_same : (qs : List Wait) → AllOf (λ p. env p.var.0 ≡ env p.var.0) qs
+        all_same : (qs : List DeferredField) → AllOf (λ p. env p.var.0 ≡ env p.var.0) qs
         all_same [] = tt
         all_same (q ∷ qs) = (refl, all_same qs)
 
@@ -166,8 +166,8 @@ module _ (g : Program) where
             ap (word_of g env1) same ∙ by z d (as_word ks (Var z)) i (sound z) (r.named z d i refl (ap is_var (sym same) ∙ v) e)
 
   -- the first program fetches a node
-  pub near_fetched : (xs : List ℕ) (ks : Names) (a : W.Word) (ps ws : List Wait) (c : List HeapCell) (env env' : Env) (bs : List Binding) (ys : List ℕ) → names_of bs ≡ ys → ((y : ℕ) → InScope xs y → times y ys ≡ 0) → AllOf (λ p. InScope xs p.var.0) ps
-      → Near g xs ks [] a ps c env env' → Near g (ys ++ xs) (hiding ws ks) ys a ps c (with_vars bs env) env'
+  pub near_fetched : (xs : List ℕ) (ks : Names) (a : W.Word) (ps ws : List DeferredField) (c : List HeapCell) (env env' : Env) (bs : List Binding) (ys : List ℕ) → names_of bs ≡ ys → ((y : ℕ) → InScope xs y → times y ys ≡ 0) → AllOf (λ p. InScope xs p.var.0) ps
+      → Near g xs ks [] a ps c env env' → Near g (ys ++ xs) (with_hidden ws ks) ys a ps c (with_vars bs env) env'
   near_fetched xs ks a ps ws c env env' bs ys e new wait r = record {
     named = λ z d i l v h. go z d (let t : times z.0 (ys ++ xs) ≡ times z.0 ys + times z.0 xs = times_append z.0 ys xs in omega (arith, t, i, l)) v (ap (λ o. and_then o only_word) (sym (out z.0 l)) ∙ h) (is_waiting ws z.0) refl;
     waits = waits_more g a c env env' (with_vars bs env) env' (λ y h. refl) ps (old ps wait) r.waits;
@@ -176,12 +176,12 @@ module _ (g : Program) where
       out : (y : ℕ) → times y ys ≡ 0 → with_vars bs env y ≡ env y
       out y h = vars_out bs env y (ap (times y) e ∙ h)
 
-      old : (qs : List Wait) → AllOf (λ p. InScope xs p.var.0) qs → AllOf (λ p. with_vars bs env p.var.0 ≡ env p.var.0) qs
+      old : (qs : List DeferredField) → AllOf (λ p. InScope xs p.var.0) qs → AllOf (λ p. with_vars bs env p.var.0 ≡ env p.var.0) qs
       old [] h = tt
       old (p ∷ qs) h = (out p.var.0 (new p.var.0 h.0), old qs h.1)
 
-      go : (z : VarId) (d : Datum) → InScope xs z.0 → is_var (as_word (hiding ws ks) (Var z)) ≡ true → word_of g env (Var z) ≡ Some d → (b : Bool) → is_waiting ws z.0 ≡ b → word_of g env' (as_word (hiding ws ks) (Var z)) ≡ Some d
+      go : (z : VarId) (d : Datum) → InScope xs z.0 → is_var (as_word (with_hidden ws ks) (Var z)) ≡ true → word_of g env (Var z) ≡ Some d → (b : Bool) → is_waiting ws z.0 ≡ b → word_of g env' (as_word (with_hidden ws ks) (Var z)) ≡ Some d
       go z d i v h true q = never_both v (ap is_var (hiding_is ws ks z ∙ ap (λ b. cond b (Lit (pos 0)) (as_word ks (Var z))) q))
       go z d i v h false q =
-          let same : as_word (hiding ws ks) (Var z) ≡ as_word ks (Var z) = hiding_is ws ks z ∙ ap (λ b. cond b (Lit (pos 0)) (as_word ks (Var z))) q in
+          let same : as_word (with_hidden ws ks) (Var z) ≡ as_word ks (Var z) = hiding_is ws ks z ∙ ap (λ b. cond b (Lit (pos 0)) (as_word ks (Var z))) q in
           ap (word_of g env') same ∙ r.named z d i refl (ap is_var (sym same) ∙ v) h

@@ -11,9 +11,9 @@ use Rattle.grin_syntax.specs.Binders.{numbers_of}
 use Rattle.grin_syntax.specs.Formed.{AllOf, InScope}
 use Rattle.grin_syntax.specs.Fresh.{variable}
 use Rattle.pass_ground.specs.Uses.{act_uses, code_uses, act_mentions}
-use Rattle.fetch_passes.specs.Windows.{begins_with, decides, act_owns, is_passed, owns, act_outside, outside}
-use Rattle.fetch_passes.specs.Names.{Names, Wait, as_word, hiding, named_if}
-use Rattle.fetch_passes.specs.Waits.{waits_of}
+use Rattle.fetch_passes.specs.Windows.{begins_with, decides, is_case_on_tag, is_passed, owns, act_outside, outside}
+use Rattle.fetch_passes.specs.Names.{Names, DeferredField, as_word, with_hidden, named_if}
+use Rattle.fetch_passes.specs.Waits.{deferred_fields_of}
 use Rattle.fetch_passes.specs.Split.{front_names}
 use Rattle.pass_ground.proofs.Tests.{never_both}
 use Rattle.fetch_passes.proofs.Found.{is_var, is_waiting, hiding_is, naming, naming_is}
@@ -25,64 +25,64 @@ use Rattle.grin_syntax.proofs.Placed.{same_var}
 -- ---- what waits
 
 -- a word that waits is used in the alternatives alone
-pub waits_outside : (t : ℕ) (b : Code) (i : ℕ) (xs : List VarId) (z : ℕ) → is_waiting (waits_of t b i xs) z ≡ true → outside t z b ≡ false
+pub waits_outside : (t : ℕ) (b : Code) (i : ℕ) (xs : List VarId) (z : ℕ) → is_waiting (deferred_fields_of t b i xs) z ≡ true → outside t z b ≡ false
 waits_outside t b i [] z h = cc
 waits_outside t b i (x ∷ xs) z h = go (outside t x.0 b) refl h (λ k. waits_outside t b (suc i) xs z k)
   where
-    here : (s : Bool) → nat_eq x.0 z ≡ s → outside t x.0 b ≡ false → (s || is_waiting (waits_of t b (suc i) xs) z) ≡ true → (is_waiting (waits_of t b (suc i) xs) z ≡ true → outside t z b ≡ false) → outside t z b ≡ false
+    here : (s : Bool) → nat_eq x.0 z ≡ s → outside t x.0 b ≡ false → (s || is_waiting (deferred_fields_of t b (suc i) xs) z) ≡ true → (is_waiting (deferred_fields_of t b (suc i) xs) z ≡ true → outside t z b ≡ false) → outside t z b ≡ false
     here true q o h f = ap (λ y. outside t y b) (sym (eq_from x.0 z q)) ∙ o
     here false q o h f = f h
 
-    go : (o : Bool) → outside t x.0 b ≡ o → is_waiting (cond o (waits_of t b (suc i) xs) (record { var = x; place = i } ∷ waits_of t b (suc i) xs)) z ≡ true → (is_waiting (waits_of t b (suc i) xs) z ≡ true → outside t z b ≡ false) → outside t z b ≡ false
+    go : (o : Bool) → outside t x.0 b ≡ o → is_waiting (cond o (deferred_fields_of t b (suc i) xs) (record { var = x; place = i } ∷ deferred_fields_of t b (suc i) xs)) z ≡ true → (is_waiting (deferred_fields_of t b (suc i) xs) z ≡ true → outside t z b ≡ false) → outside t z b ≡ false
     go true q h f = f h
     go false q h f = here (nat_eq x.0 z) refl q h f
 
-pub waits_in : (t : ℕ) (b : Code) (i : ℕ) (xs : List VarId) (z : ℕ) → is_waiting (waits_of t b i xs) z ≡ true → InScope (numbers_of xs) z
+pub waits_in : (t : ℕ) (b : Code) (i : ℕ) (xs : List VarId) (z : ℕ) → is_waiting (deferred_fields_of t b i xs) z ≡ true → InScope (numbers_of xs) z
 waits_in t b i [] z h = cc
 waits_in t b i (x ∷ xs) z h = go (outside t x.0 b) h (λ k. waits_in t b (suc i) xs z k)
   where
-    here : (s : Bool) → nat_eq x.0 z ≡ s → (s || is_waiting (waits_of t b (suc i) xs) z) ≡ true → (is_waiting (waits_of t b (suc i) xs) z ≡ true → InScope (numbers_of xs) z) → InScope (numbers_of (x ∷ xs)) z
+    here : (s : Bool) → nat_eq x.0 z ≡ s → (s || is_waiting (deferred_fields_of t b (suc i) xs) z) ≡ true → (is_waiting (deferred_fields_of t b (suc i) xs) z ≡ true → InScope (numbers_of xs) z) → InScope (numbers_of (x ∷ xs)) z
     here true q h f = let e : counts (nat_eq z x.0) ≡ 1 = ap (λ y. counts (nat_eq z y)) (eq_from x.0 z q) ∙ one_at z in omega (arith, e)
     here false q h f = let k : InScope (numbers_of xs) z = f h in omega (arith, k)
 
-    go : (o : Bool) → is_waiting (cond o (waits_of t b (suc i) xs) (record { var = x; place = i } ∷ waits_of t b (suc i) xs)) z ≡ true → (is_waiting (waits_of t b (suc i) xs) z ≡ true → InScope (numbers_of xs) z) → InScope (numbers_of (x ∷ xs)) z
+    go : (o : Bool) → is_waiting (cond o (deferred_fields_of t b (suc i) xs) (record { var = x; place = i } ∷ deferred_fields_of t b (suc i) xs)) z ≡ true → (is_waiting (deferred_fields_of t b (suc i) xs) z ≡ true → InScope (numbers_of xs) z) → InScope (numbers_of (x ∷ xs)) z
     go true h f = let k : InScope (numbers_of xs) z = f h in omega (arith, k)
     go false h f = here (nat_eq x.0 z) refl h f
 
 -- and each such word of the list does
-pub waits_too : (t : ℕ) (b : Code) (i : ℕ) (xs : List VarId) (z : ℕ) → InScope (numbers_of xs) z → outside t z b ≡ false → is_waiting (waits_of t b i xs) z ≡ true
+pub waits_too : (t : ℕ) (b : Code) (i : ℕ) (xs : List VarId) (z : ℕ) → InScope (numbers_of xs) z → outside t z b ≡ false → is_waiting (deferred_fields_of t b i xs) z ≡ true
 waits_too t b i [] z h e = absurd (omega (arith, h))
 waits_too t b i (x ∷ xs) z h e = go (outside t x.0 b) refl (λ k. waits_too t b (suc i) xs z k e)
   where
     later : nat_eq x.0 z ≡ false → InScope (numbers_of xs) z
     later q = let k : counts (nat_eq z x.0) ≡ 0 = ap counts (eq_false z x.0 (λ s. never_both (ap (nat_eq x.0) s ∙ eq_self x.0) q)) in omega (arith, k, h)
 
-    here : (s : Bool) → nat_eq x.0 z ≡ s → (InScope (numbers_of xs) z → is_waiting (waits_of t b (suc i) xs) z ≡ true) → (s || is_waiting (waits_of t b (suc i) xs) z) ≡ true
+    here : (s : Bool) → nat_eq x.0 z ≡ s → (InScope (numbers_of xs) z → is_waiting (deferred_fields_of t b (suc i) xs) z ≡ true) → (s || is_waiting (deferred_fields_of t b (suc i) xs) z) ≡ true
     here true q f = refl
     here false q f = f (later q)
 
-    other : (s : Bool) → nat_eq x.0 z ≡ s → outside t x.0 b ≡ true → (InScope (numbers_of xs) z → is_waiting (waits_of t b (suc i) xs) z ≡ true) → is_waiting (waits_of t b (suc i) xs) z ≡ true
+    other : (s : Bool) → nat_eq x.0 z ≡ s → outside t x.0 b ≡ true → (InScope (numbers_of xs) z → is_waiting (deferred_fields_of t b (suc i) xs) z ≡ true) → is_waiting (deferred_fields_of t b (suc i) xs) z ≡ true
     other true q o f = never_both (ap (λ y. outside t y b) (sym (eq_from x.0 z q)) ∙ o) e
     other false q o f = f (later q)
 
-    go : (o : Bool) → outside t x.0 b ≡ o → (InScope (numbers_of xs) z → is_waiting (waits_of t b (suc i) xs) z ≡ true) → is_waiting (cond o (waits_of t b (suc i) xs) (record { var = x; place = i } ∷ waits_of t b (suc i) xs)) z ≡ true
+    go : (o : Bool) → outside t x.0 b ≡ o → (InScope (numbers_of xs) z → is_waiting (deferred_fields_of t b (suc i) xs) z ≡ true) → is_waiting (cond o (deferred_fields_of t b (suc i) xs) (record { var = x; place = i } ∷ deferred_fields_of t b (suc i) xs)) z ≡ true
     go true q f = other (nat_eq x.0 z) refl q f
     go false q f = here (nat_eq x.0 z) refl f
 
 -- a fact of all the words holds of those that wait
-pub waits_some : (P : Wait → Type 0) (t : ℕ) (b : Code) (i : ℕ) (xs : List VarId) (all : ℕ → List VarId → List Wait) → ((i : ℕ) (x : VarId) (xs : List VarId) → all i (x ∷ xs) ≡ record { var = x; place = i } ∷ all (suc i) xs) → AllOf P (all i xs) → AllOf P (waits_of t b i xs)
+pub waits_some : (P : DeferredField → Type 0) (t : ℕ) (b : Code) (i : ℕ) (xs : List VarId) (all : ℕ → List VarId → List DeferredField) → ((i : ℕ) (x : VarId) (xs : List VarId) → all i (x ∷ xs) ≡ record { var = x; place = i } ∷ all (suc i) xs) → AllOf P (all i xs) → AllOf P (deferred_fields_of t b i xs)
 waits_some P t b i [] all e h = tt
 waits_some P t b i (x ∷ xs) all e h =
     let k : AllOf P (record { var = x; place = i } ∷ all (suc i) xs) = subst (AllOf P) (e i x xs) h in
     go (outside t x.0 b) k.0 (waits_some P t b (suc i) xs all e k.1)
   where
-    go : (o : Bool) → P (record { var = x; place = i }) → AllOf P (waits_of t b (suc i) xs) → AllOf P (cond o (waits_of t b (suc i) xs) (record { var = x; place = i } ∷ waits_of t b (suc i) xs))
+    go : (o : Bool) → P (record { var = x; place = i }) → AllOf P (deferred_fields_of t b (suc i) xs) → AllOf P (cond o (deferred_fields_of t b (suc i) xs) (record { var = x; place = i } ∷ deferred_fields_of t b (suc i) xs))
     go true h r = r
     go false h r = (h, r)
 
 -- ---- windows
 
-act_outside_uses : (t z : ℕ) (o : Act) → act_owns t o ≡ false → act_outside t z o ≡ act_uses z o
+act_outside_uses : (t z : ℕ) (o : Act) → is_case_on_tag t o ≡ false → act_outside t z o ≡ act_uses z o
 act_outside_uses t z o h = ap (λ b. cond b (decides z o) (act_uses z o)) h
 
 -- where the case on t doesn't come next, every use is outside
@@ -92,7 +92,7 @@ outside_uses t z (end o) h = act_outside_uses t z o h
 outside_uses t z (store cs b) h = refl
 outside_uses t z (bind u o b) h = go (is_passed o) h (λ k. outside_uses t z b k)
   where
-    go : (p : Bool) → cond p (owns t b) (act_owns t o) ≡ false → (owns t b ≡ false → outside t z b ≡ code_uses z b) → cond p (act_uses z o || outside t z b) (act_outside t z o || code_uses z b) ≡ (act_uses z o || code_uses z b)
+    go : (p : Bool) → cond p (owns t b) (is_case_on_tag t o) ≡ false → (owns t b ≡ false → outside t z b ≡ code_uses z b) → cond p (act_uses z o || outside t z b) (act_outside t z o || code_uses z b) ≡ (act_uses z o || code_uses z b)
     go true h f = ap (λ r. act_uses z o || r) (f h)
     go false h f = ap (λ r. r || code_uses z b) (act_outside_uses t z o h)
 
@@ -106,7 +106,7 @@ both_begin t u (NodeVar x) h k = cc
 both_begin t u (Node s ws) h k = cc
 both_begin t u (One a) h k = cc
 
-both_own_act : (t u : ℕ) (o : Act) → act_owns t o ≡ true → act_owns u o ≡ true → t ≡ u
+both_own_act : (t u : ℕ) (o : Act) → is_case_on_tag t o ≡ true → is_case_on_tag u o ≡ true → t ≡ u
 both_own_act t u (case v as') h k = both_begin t u v h k
 both_own_act t u (unit v) h k = cc
 both_own_act t u (fetch a) h k = cc
@@ -128,7 +128,7 @@ both_own t u (end o) h k = both_own_act t u o h k
 both_own t u (store cs b) h k = cc
 both_own t u (bind v o b) h k = go (is_passed o) h k (λ h k. both_own t u b h k)
   where
-    go : (p : Bool) → cond p (owns t b) (act_owns t o) ≡ true → cond p (owns u b) (act_owns u o) ≡ true → (owns t b ≡ true → owns u b ≡ true → t ≡ u) → t ≡ u
+    go : (p : Bool) → cond p (owns t b) (is_case_on_tag t o) ≡ true → cond p (owns u b) (is_case_on_tag u o) ≡ true → (owns t b ≡ true → owns u b ≡ true → t ≡ u) → t ≡ u
     go true h k f = f h k
     go false h k f = both_own_act t u o h k
 
@@ -152,7 +152,7 @@ sound_naming base n zs ks x s le i z = subst (At base (suc n) zs z.0) (sym (nami
     go true q = renamed (omega (arith, le)) (omega arith) (subst (InScope zs) (eq_from x.0 z.0 q) i)
     go false q = at_more (omega arith) (λ y k. k) (s z)
 
-pub sound_hiding : (base n : ℕ) (zs : List ℕ) (ks : Names) (ps : List Wait) → Sound base n zs ks → ((z : ℕ) → is_waiting ps z ≡ true → InScope zs z) → Sound base n zs (hiding ps ks)
+pub sound_hiding : (base n : ℕ) (zs : List ℕ) (ks : Names) (ps : List DeferredField) → Sound base n zs ks → ((z : ℕ) → is_waiting ps z ≡ true → InScope zs z) → Sound base n zs (with_hidden ps ks)
 sound_hiding base n zs ks ps s f z = subst (At base n zs z.0) (sym (hiding_is ps ks z)) (go (is_waiting ps z.0) refl)
   where
     go : (b : Bool) → is_waiting ps z.0 ≡ b → At base n zs z.0 (cond b (Lit (pos 0)) (as_word ks (Var z)))
@@ -160,7 +160,7 @@ sound_hiding base n zs ks ps s f z = subst (At base n zs z.0) (sym (hiding_is ps
     go false q = s z
 
 -- the names at the front of an alternative
-pub front_sound : (base n : ℕ) (zs : List ℕ) (ks : Names) (ps : List Wait) (b : Code) → Sound base n zs ks → base ≤ n → AllOf (λ p. InScope zs p.var.0) ps → Sound base (n + length ps) zs (front_names n ps b ks)
+pub front_sound : (base n : ℕ) (zs : List ℕ) (ks : Names) (ps : List DeferredField) (b : Code) → Sound base n zs ks → base ≤ n → AllOf (λ p. InScope zs p.var.0) ps → Sound base (n + length ps) zs (front_names n ps b ks)
 front_sound base n zs ks [] b s le i = λ z. at_more (omega arith) (λ y k. k) (s z)
 front_sound base n zs ks (p ∷ ps) b s le i =
     let e : suc n + length ps ≡ n + suc (length ps) = omega arith in
@@ -171,7 +171,7 @@ front_sound base n zs ks (p ∷ ps) b s le i =
     go false = λ z. at_more (omega arith) (λ y k. k) (s z)
 
 -- what they leave hidden was hidden, and isn't used where it waited
-pub front_hidden : (n : ℕ) (ks : Names) (ps : List Wait) (b : Code) (z : VarId) → is_var (as_word (front_names n ps b ks) (Var z)) ≡ false → (is_var (as_word ks (Var z)) ≡ false) × (is_waiting ps z.0 ≡ true → code_uses z.0 b ≡ false)
+pub front_hidden : (n : ℕ) (ks : Names) (ps : List DeferredField) (b : Code) (z : VarId) → is_var (as_word (front_names n ps b ks) (Var z)) ≡ false → (is_var (as_word ks (Var z)) ≡ false) × (is_waiting ps z.0 ≡ true → code_uses z.0 b ≡ false)
 front_hidden n ks [] b z h = (h, λ e. cc)
 front_hidden n ks (p ∷ ps) b z h = go (code_uses p.var.0 b) refl (front_hidden (suc n) (named_if (code_uses p.var.0 b) p.var n ks) ps b z h)
   where

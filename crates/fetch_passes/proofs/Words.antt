@@ -22,7 +22,7 @@ use Rattle.grin_meaning.specs.Ready.{NoNodeVar, EachAct, EachArms, vectorised_ki
 use Rattle.grin_meaning.proofs.Plain.{then_has}
 use Rattle.pass_ground.specs.Uses.{word_is, words_use, val_uses, cells_use}
 use Rattle.fetch_passes.specs.Windows.{is_int, tests_number, vector_uses}
-use Rattle.fetch_passes.specs.Names.{Names, Wait, as_word, as_words, as_val, as_cells}
+use Rattle.fetch_passes.specs.Names.{Names, DeferredField, as_word, as_words, as_val, as_cells}
 use Rattle.pass_ground.proofs.Tests.{never_both}
 use Rattle.fetch_passes.proofs.Found.{is_var}
 use Rattle.fetch_passes.proofs.Near.{At, Sound, Near}
@@ -92,7 +92,7 @@ module _ (g : Program) where
   shape_same (shape.Int k) n (cell j) ds ds' l f = refl
   shape_same shape.Else n d ds ds' l f = refl
 
-module _ (g : Program) (scope : Scope) (ks : Names) (base n : ℕ) (sound : Sound base n scope.words ks) (a : W.Word) (ps : List Wait) (c : List HeapCell) (env env' : Env) (r : Near g scope.words ks [] a ps c env env') where
+module _ (g : Program) (scope : Scope) (ks : Names) (base n : ℕ) (sound : Sound base n scope.words ks) (a : W.Word) (ps : List DeferredField) (c : List HeapCell) (env env' : Env) (r : Near g scope.words ks [] a ps c env env') where
   pub word_goes : (w : W.Word) → WordFormed g scope w → Clear ks (λ x. word_is x w) → (d : Datum) → word_of g env w ≡ Some d → word_of g env' (as_word ks w) ≡ Some d
   word_goes (Lit k) f h d e = e
   word_goes (Global k) f h d e = e

@@ -7,60 +7,61 @@ use Rattle.grin_syntax.specs.Tree.{Code, end, store, bind, Act, fetch, fetch_wor
 use Rattle.grin_syntax.specs.Formed.{AllOf}
 use Rattle.pass_ground.specs.Uses.{code_uses}
 use Rattle.fetch_passes.specs.Windows.{outside}
-use Rattle.fetch_passes.specs.Names.{Wait}
-use Rattle.fetch_passes.specs.Waits.{waits_after}
+use Rattle.fetch_passes.specs.Names.{DeferredField}
+use Rattle.fetch_passes.specs.Waits.{deferred_fields_after}
 
 -- word i is among the words that are fetched first in a block
-abbrev pub BeginsWith : ℕ → Code → Type 0
-BeginsWith i (bind t (fetch_word a (suc j)) b) = (i ≡ suc j) ⊎ BeginsWith i b
-BeginsWith i b = ⊥
+abbrev pub IsFetchedFirst : ℕ → Code → Type 0
+IsFetchedFirst i (bind t (fetch_word a (suc j)) b) = (i ≡ suc j) ⊎ IsFetchedFirst i b
+IsFetchedFirst i b = ⊥
 
 -- the block past those
-abbrev pub past_words : Code → Code
-past_words (bind t (fetch_word a (suc i)) b) = past_words b
-past_words b = b
+abbrev pub after_word_fetches : Code → Code
+after_word_fetches (bind t (fetch_word a (suc i)) b) = after_word_fetches b
+after_word_fetches b = b
 
 -- ---- a node with the tag t and these words from the i-th on, where the block b follows
 
 -- each that has a use outside the alternatives of the case on t is fetched first in c
-abbrev pub OutsideFetched : (t : ℕ) → Code → ℕ → List VarId → Code → Type 0
-OutsideFetched t b i [] c = Unit {0}
-OutsideFetched t b i (x ∷ xs) c =
-    (outside t x.0 b ≡ true → BeginsWith i c) × OutsideFetched t b (suc i) xs c
+abbrev pub OutsideUsesFetchedFirst : (t : ℕ) → Code → ℕ → List VarId → Code → Type 0
+OutsideUsesFetchedFirst t b i [] c = Unit {0}
+OutsideUsesFetchedFirst t b i (x ∷ xs) c =
+    (outside t x.0 b ≡ true → IsFetchedFirst i c) × OutsideUsesFetchedFirst t b (suc i) xs c
 
 -- ---- an operation that goes to a target, where the block b follows
 
 -- of the node that it fetches, in what follows the tag
-abbrev pub NodeFetched : Act → Target → (b c : Code) → Type 0
-NodeFetched (fetch a) (to.Vector (x ∷ xs)) b c = OutsideFetched x.0 b 1 xs c
-NodeFetched o t b c = Unit {0}
+abbrev pub NodeWordsFetchedFirst : Act → Target → (b c : Code) → Type 0
+NodeWordsFetchedFirst (fetch a) (to.Vector (x ∷ xs)) b c = OutsideUsesFetchedFirst x.0 b 1 xs c
+NodeWordsFetchedFirst o t b c = Unit {0}
 
 -- of what waits, an alternative b fetches first, in c, what it uses
-abbrev pub LeftFetched : List Wait → (b c : Code) → Type 0
-LeftFetched ps b c = AllOf (λ p. code_uses p.var.0 b ≡ true → BeginsWith p.place c) ps
+abbrev pub DeferredWordsFetched : List DeferredField → (b c : Code) → Type 0
+DeferredWordsFetched ps b c = AllOf (λ p. code_uses p.var.0 b ≡ true → IsFetchedFirst p.place c) ps
 
 -- ---- two pieces side by side, where these words wait
 
 unfoldable mutual
-  pub ActsFetch : List Wait → Act → Act → Type 0
+  pub ActsFetch : List DeferredField → Act → Act → Type 0
   ActsFetch ps (case v as') (case u bs') = ArmsFetch ps as' bs'
   ActsFetch ps (case v as') o = ⊥
   ActsFetch ps (nested b) (nested c) = CodesFetch [] b c
   ActsFetch ps (nested b) o = ⊥
   ActsFetch ps o o' = Unit {0}
 
-  pub CodesFetch : List Wait → Code → Code → Type 0
+  pub CodesFetch : List DeferredField → Code → Code → Type 0
   CodesFetch ps (end (fetch a)) c = Unit {0}
   CodesFetch ps (end o) (end o') = ActsFetch ps o o'
   CodesFetch ps (store cs b) (store ds c) = CodesFetch [] b c
   CodesFetch ps (bind t o b) (bind u o' c) =
-      ActsFetch ps o o' × NodeFetched o t b c × CodesFetch (waits_after o t b ps) b (past_words c)
+      ActsFetch ps o o' × NodeWordsFetchedFirst o t b c
+      × CodesFetch (deferred_fields_after o t b ps) b (after_word_fetches c)
   CodesFetch ps b c = ⊥
 
-  pub ArmsFetch : List Wait → Arms → Arms → Type 0
+  pub ArmsFetch : List DeferredField → Arms → Arms → Type 0
   ArmsFetch ps no_arm no_arm = Unit {0}
   ArmsFetch ps (arm s b as') (arm r c bs') =
-      LeftFetched ps b c × CodesFetch [] b (past_words c) × ArmsFetch ps as' bs'
+      DeferredWordsFetched ps b c × CodesFetch [] b (after_word_fetches c) × ArmsFetch ps as' bs'
   ArmsFetch ps as' bs' = ⊥
 
 abbrev pub ProcsFetch : List Procedure → List Procedure → Type 0

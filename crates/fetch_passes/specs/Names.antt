@@ -7,11 +7,11 @@ use Rattle.grin_syntax.specs.declared.program.Val as V
 use Rattle.grin_syntax.specs.declared.program.Val.TheVariants.{NodeVar, Node, Vector, One}
 use Rattle.grin_syntax.specs.declared.program.Cell.{Cell}
 use Rattle.grin_syntax.specs.Fresh.{variable}
-pub use Rattle.fetch_passes.specs.declared.names.Standing.{Standing}
-pub use Rattle.fetch_passes.specs.declared.names.Wait.{Wait}
+pub use Rattle.fetch_passes.specs.declared.names.Replacement.{Replacement}
+pub use Rattle.fetch_passes.specs.declared.names.DeferredField.{DeferredField}
 
 abbrev pub Names : Type 0
-Names = List Standing
+Names = List Replacement
 
 -- the word that stands for x by the last of these, else w
 abbrev pub stands : Names → W.Word → VarId → W.Word
@@ -36,11 +36,11 @@ abbrev pub as_cells : Names → List Cell → List Cell
 as_cells ks cs = map {A = Cell} (λ c. record c { val = as_val ks c.val }) cs
 
 -- a variable that waits is not bound, and 0 stands for it
-abbrev pub hidden : Wait → Standing
-hidden p = record { var = p.var; word = Lit (pos 0) }
+abbrev pub hidden_as_zero : DeferredField → Replacement
+hidden_as_zero p = record { var = p.var; word = Lit (pos 0) }
 
-abbrev pub hiding : List Wait → Names → Names
-hiding ps ks = ks ++ map hidden ps
+abbrev pub with_hidden : List DeferredField → Names → Names
+with_hidden ps ks = ks ++ map hidden_as_zero ps
 
 -- with a new variable for x, where it is used
 abbrev pub named_if : Bool → VarId → ℕ → Names → Names

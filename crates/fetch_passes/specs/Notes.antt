@@ -8,7 +8,7 @@ use Rattle.grin_syntax.specs.declared.program.Val as V
 use Rattle.grin_syntax.specs.declared.program.Val.TheVariants.{NodeVar, Node, Vector, One}
 use Rattle.grin_syntax.specs.declared.program.Cell.{Cell}
 use Rattle.grin_syntax.specs.Tree.{Code, end, store, bind, Act, unit, fetch, fetch_word, update, eval, apply, call, prim, read, write, case, nested, fail, Arms, no_arm, arm}
-use Rattle.variable_uses.specs.Stands.{Stands}
+use Rattle.variable_uses.specs.Stands.{ListSegmentAt}
 pub use Rattle.fetch_passes.specs.declared.notes.Size.{Size}
 pub use Rattle.fetch_passes.specs.declared.notes.Place.{Place}
 
@@ -20,16 +20,16 @@ pub record Trace : Type 0 where
 abbrev pub nothing : Trace
 nothing = record { used = []; sizes = [] }
 
-abbrev pub joined : Trace → Trace → Trace
-joined s t = record { used = s.used ++ t.used; sizes = s.sizes ++ t.sizes }
+abbrev pub joined_traces : Trace → Trace → Trace
+joined_traces s t = record { used = s.used ++ t.used; sizes = s.sizes ++ t.sizes }
 
 -- how many uses a piece has, and how many pieces are in it
 abbrev pub size_of : Trace → Size
 size_of t = record { uses = length t.used; pieces = length t.sizes }
 
 -- a piece with its own size in front
-abbrev pub sized : Trace → Trace
-sized t = record { used = t.used; sizes = size_of t ∷ t.sizes }
+abbrev pub with_own_size : Trace → Trace
+with_own_size t = record { used = t.used; sizes = size_of t ∷ t.sizes }
 
 abbrev pub only : List ℕ → Trace
 only us = record { used = us; sizes = [] }
@@ -67,27 +67,27 @@ unfoldable mutual
   act_trace (prim f a b) = only (word_used a ++ word_used b)
   act_trace read = nothing
   act_trace (write a) = only (word_used a)
-  act_trace (case v as') = joined (sized (only (val_used v))) (arms_trace as')
+  act_trace (case v as') = joined_traces (with_own_size (only (val_used v))) (arms_trace as')
   act_trace (nested b) = code_trace b
   act_trace fail = nothing
 
   -- the operations of a block and its stores, each with its size
   pub code_trace : Code → Trace
-  code_trace (end o) = sized (act_trace o)
-  code_trace (store cs b) = joined (sized (only (cells_used cs))) (code_trace b)
-  code_trace (bind t o b) = joined (sized (act_trace o)) (code_trace b)
+  code_trace (end o) = with_own_size (act_trace o)
+  code_trace (store cs b) = joined_traces (with_own_size (only (cells_used cs))) (code_trace b)
+  code_trace (bind t o b) = joined_traces (with_own_size (act_trace o)) (code_trace b)
 
   -- the alternatives, each with its size
   pub arms_trace : Arms → Trace
   arms_trace no_arm = nothing
-  arms_trace (arm s b as') = joined (sized (code_trace b)) (arms_trace as')
+  arms_trace (arm s b as') = joined_traces (with_own_size (code_trace b)) (arms_trace as')
 
 -- ---- places in what is noted of a procedure
 
 -- a piece begins at a place
 pub record Here (n : Trace) (p : Place) (t : Trace) : Type 0 where
-  pub used : Stands n.used p.at t.used
-  pub sizes : Stands n.sizes p.piece t.sizes
+  pub used : ListSegmentAt n.used p.at t.used
+  pub sizes : ListSegmentAt n.sizes p.piece t.sizes
 
 abbrev pub size_at : List Size → ℕ → Size
 size_at ss i = slice_index_or ss i (record { uses = 0; pieces = 0 })
@@ -96,11 +96,11 @@ size_at ss i = slice_index_or ss i (record { uses = 0; pieces = 0 })
 abbrev pub inside : (here next : Place) → Type 0
 inside here next = (next.at ≡ here.at) × (next.piece ≡ suc here.piece)
 
-pub record IsPast (n : Trace) (here next : Place) : Type 0 where
+pub record IsPlaceAfterPiece (n : Trace) (here next : Place) : Type 0 where
   pub at : next.at ≡ here.at + (size_at n.sizes here.piece).uses
   pub piece : next.piece ≡ suc (here.piece + (size_at n.sizes here.piece).pieces)
 
 -- x is used between two positions just where it is in whatever stands there
 abbrev pub Answers : Trace → (x from to : ℕ) → Bool → Type 0
 Answers n x from to used =
-    (us : List ℕ) → Stands n.used from us → to ≡ from + length us → used ≡ is_among x us
+    (us : List ℕ) → ListSegmentAt n.used from us → to ≡ from + length us → used ≡ is_among x us

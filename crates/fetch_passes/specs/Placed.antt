@@ -4,19 +4,19 @@ use Rattle.grin_syntax.specs.declared.program.Target.{Target}
 use Rattle.grin_syntax.specs.declared.program.Target.TheVariants as to
 use Rattle.grin_syntax.specs.Tree.{Code, end, store, bind, Act, fetch_word, case, nested, Arms, no_arm, arm, Program}
 use Rattle.grin_syntax.specs.Formed.{AllOf}
-use Rattle.grin_meaning.specs.Ready.{Kind, any_kind, EachBody}
+use Rattle.grin_meaning.specs.Ready.{PieceKind, any_kind, EveryBodyIsOfKind}
 use Rattle.pass_ground.specs.Uses.{code_uses}
 
 -- no fetch of a word
-abbrev pub ByNodes : Act → Type 0
-ByNodes (fetch_word a i) = ⊥
-ByNodes _ = Unit {0}
+abbrev pub IsNoWordFetch : Act → Type 0
+IsNoWordFetch (fetch_word a i) = ⊥
+IsNoWordFetch _ = Unit {0}
 
-abbrev pub by_nodes_kind : Kind
-by_nodes_kind = record any_kind { operation = ByNodes }
+abbrev pub no_word_fetch_kind : PieceKind
+no_word_fetch_kind = record any_kind { operation = IsNoWordFetch }
 
-abbrev pub IsFetchedByNodes : Program → Type 0
-IsFetchedByNodes g = EachBody by_nodes_kind g.procs
+abbrev pub HasNoWordFetches : Program → Type 0
+HasNoWordFetches g = EveryBodyIsOfKind no_word_fetch_kind g.procs
 
 -- a word after the tag that is fetched is used in the block that follows
 abbrev pub WordUsed : Act → Target → Code → Type 0

@@ -10,44 +10,44 @@ use Rattle.grin_syntax.specs.Tree.{Code, end, store, bind, Act, unit, fetch, fet
 use Rattle.grin_syntax.specs.Formed.{AllOf}
 use Rattle.grin_syntax.specs.Fresh.{past_procs}
 use Rattle.fetch_passes.specs.Windows.{begins_with, owns, outside}
-use Rattle.fetch_passes.specs.Placed.{ByNodes}
+use Rattle.fetch_passes.specs.Placed.{IsNoWordFetch}
 use Rattle.seq.specs.Lists.{times}
 
 -- a cell whose tag was fetched: the variable of the tag, and the words that were fetched since
-pub record Tagged : Type 0 where
+pub record FetchedCell : Type 0 where
   pub cell : W.Word
   pub tag : ℕ
   pub fetched : List ℕ
 
-abbrev pub only_tag : W.Word → VarId → Tagged
-only_tag a t = record { cell = a; tag = t.0; fetched = [] }
+abbrev pub fetched_tag_only : W.Word → VarId → FetchedCell
+fetched_tag_only a t = record { cell = a; tag = t.0; fetched = [] }
 
 -- with one word more
-abbrev pub with_fetched : ℕ → Tagged → Tagged
+abbrev pub with_fetched : ℕ → FetchedCell → FetchedCell
 with_fetched i m = record { cell = m.cell; tag = m.tag; fetched = i ∷ m.fetched }
 
 -- Where a statement stands, words of the same cell aside: directly after the fetch of a tag; at
 -- the front of an alternative of the case on a tag; or at neither.
 pub data Position : Type 0 where
-  after_tag : Tagged → Position
-  at_front : Tagged → Position
+  after_tag : FetchedCell → Position
+  at_front : FetchedCell → Position
   elsewhere : Position
 
 -- each alternative gives a node with the tag of its pattern
-abbrev pub GiveNodes : Arms → Type 0
-GiveNodes no_arm = Unit {0}
-GiveNodes (arm (shape.Node t xs) (end (unit (Node u ws))) as') = (t ≡ u) × GiveNodes as'
-GiveNodes (arm s b as') = ⊥
+abbrev pub ArmsReturnNodes : Arms → Type 0
+ArmsReturnNodes no_arm = Unit {0}
+ArmsReturnNodes (arm (shape.Node t xs) (end (unit (Node u ws))) as') = (t ≡ u) × ArmsReturnNodes as'
+ArmsReturnNodes (arm s b as') = ⊥
 
 -- the block gives the node of the tag t by its words, as in place of a fetch that ends a block
-abbrev pub GivesNode : (t : ℕ) → Code → Type 0
-GivesNode t (bind u (fetch_word a i) b) = GivesNode t b
-GivesNode t (end (case v as')) = (begins_with t v ≡ true) × GiveNodes as'
-GivesNode t b = ⊥
+abbrev pub ReturnsNodeByWords : (t : ℕ) → Code → Type 0
+ReturnsNodeByWords t (bind u (fetch_word a i) b) = ReturnsNodeByWords t b
+ReturnsNodeByWords t (end (case v as')) = (begins_with t v ≡ true) × ArmsReturnNodes as'
+ReturnsNodeByWords t b = ⊥
 
 -- word i of the cell a is one of this cell, and wasn't fetched before
-abbrev pub IsNew : Tagged → W.Word → ℕ → Type 0
-IsNew m a i = (a ≡ m.cell) × (times i m.fetched ≡ 0)
+abbrev pub IsNewFetch : FetchedCell → W.Word → ℕ → Type 0
+IsNewFetch m a i = (a ≡ m.cell) × (times i m.fetched ≡ 0)
 
 -- ---- after an operation that goes to a target, where the block b follows
 
@@ -58,7 +58,7 @@ after_word elsewhere i = elsewhere
 
 -- the position
 abbrev pub position_after : Act → Target → Position → Position
-position_after (fetch_word a zero) (to.One t) here = after_tag (only_tag a t)
+position_after (fetch_word a zero) (to.One t) here = after_tag (fetched_tag_only a t)
 position_after (fetch_word a zero) t here = elsewhere
 position_after (fetch_word a (suc i)) t here = after_word here (suc i)
 position_after o t here = elsewhere
@@ -70,7 +70,7 @@ front_with _ i b front = front
 -- that at which the alternatives of the case that comes next begin, fetches aside
 abbrev pub front_after : Act → Target → Position → Code → Position → Position
 front_after (fetch_word a zero) (to.One t) here b front =
-    cond (owns t.0 b) (at_front (only_tag a t)) front
+    cond (owns t.0 b) (at_front (fetched_tag_only a t)) front
 front_after (fetch_word a zero) t here b front = front
 front_after (fetch_word a (suc i)) t here b front = front_with here (suc i) b front
 front_after (fetch a) t here b front = front
@@ -83,13 +83,13 @@ module _ (first : ℕ) where
   -- alternatives of the tag's case, or if the tag is that of a fetch that ended a block.
   abbrev pub WordPlaced : Position → W.Word → ℕ → VarId → Code → Type 0
   WordPlaced (after_tag m) a i x b =
-      IsNew m a i × ((outside m.tag x.0 b ≡ true) ⊎ (first ≤ m.tag))
-  WordPlaced (at_front m) a i x b = IsNew m a i
+      IsNewFetch m a i × ((outside m.tag x.0 b ≡ true) ⊎ (first ≤ m.tag))
+  WordPlaced (at_front m) a i x b = IsNewFetch m a i
   WordPlaced elsewhere a i x b = ⊥
 
   -- a tag goes to a variable before the first new one, but for that of a fetch that ended a block
   abbrev pub FetchPlaced : Act → Target → Position → Code → Type 0
-  FetchPlaced (fetch_word a zero) (to.One t) here b = (t.0 < first) ⊎ GivesNode t.0 b
+  FetchPlaced (fetch_word a zero) (to.One t) here b = (t.0 < first) ⊎ ReturnsNodeByWords t.0 b
   FetchPlaced (fetch_word a (suc i)) (to.One x) here b = WordPlaced here a (suc i) x b
   FetchPlaced (fetch_word a (suc i)) t here b = ⊥
   FetchPlaced o t here b = Unit {0}
@@ -103,7 +103,7 @@ module _ (first : ℕ) where
     ActPlaced front _ = Unit {0}
 
     pub CodePlaced : (here front : Position) → Code → Type 0
-    CodePlaced here front (end o) = ByNodes o × ActPlaced front o
+    CodePlaced here front (end o) = IsNoWordFetch o × ActPlaced front o
     CodePlaced here front (store cs b) = CodePlaced elsewhere elsewhere b
     CodePlaced here front (bind t o b) =
         FetchPlaced o t here b × ActPlaced front o

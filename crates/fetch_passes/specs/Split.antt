@@ -14,8 +14,8 @@ use Rattle.grin_syntax.specs.Tags.{tag_id}
 use Rattle.grin_meaning.specs.Ready.{most_fields}
 use Rattle.pass_ground.specs.Uses.{code_uses}
 use Rattle.fetch_passes.specs.Windows.{owns, outside}
-use Rattle.fetch_passes.specs.Names.{Names, Wait, as_word, as_words, as_val, as_cells, hiding, named_if}
-use Rattle.fetch_passes.specs.Waits.{waits_of, waits_after}
+use Rattle.fetch_passes.specs.Names.{Names, DeferredField, as_word, as_words, as_val, as_cells, with_hidden, named_if}
+use Rattle.fetch_passes.specs.Waits.{deferred_fields_of, deferred_fields_after}
 
 -- ---- the words of a node that is fetched
 
@@ -31,19 +31,19 @@ word_fetches t b a i (x ∷ xs) c =
     fetched_if (outside t x.0 b) x a i (word_fetches t b a (suc i) xs c)
 
 -- at the front of an alternative: those that wait and that it uses, in variables from n on
-abbrev pub front : W.Word → ℕ → List Wait → Code → Code → Code
+abbrev pub front : W.Word → ℕ → List DeferredField → Code → Code → Code
 front a n [] b c = c
 front a n (p ∷ ps) b c =
     fetched_if (code_uses p.var.0 b) (variable n) a p.place (front a (suc n) ps b c)
 
-abbrev pub front_names : ℕ → List Wait → Code → Names → Names
+abbrev pub front_names : ℕ → List DeferredField → Code → Names → Names
 front_names n [] b ks = ks
 front_names n (p ∷ ps) b ks = front_names (suc n) ps b (named_if (code_uses p.var.0 b) p.var n ks)
 
 -- ---- after an operation that goes to a target, where a block follows
 
 abbrev pub names_after : Act → Target → Code → Names → Names
-names_after (fetch a) (to.Vector (x ∷ xs)) b ks = hiding (waits_of x.0 b 1 xs) ks
+names_after (fetch a) (to.Vector (x ∷ xs)) b ks = with_hidden (deferred_fields_of x.0 b 1 xs) ks
 names_after (fetch a) t b ks = ks
 names_after o t b ks = ks
 
@@ -67,9 +67,9 @@ bound o t b c = bind t o c
 
 -- ---- a fetch that ends a block
 
-abbrev pub all_words : W.Word → ℕ → List VarId → Code → Code
-all_words a i [] c = c
-all_words a i (x ∷ xs) c = bind (to.One x) (fetch_word a i) (all_words a (suc i) xs c)
+abbrev pub fetch_all_words : W.Word → ℕ → List VarId → Code → Code
+fetch_all_words a i [] c = c
+fetch_all_words a i (x ∷ xs) c = bind (to.One x) (fetch_word a i) (fetch_all_words a (suc i) xs c)
 
 -- the node of each tag, with as many of these variables as it has fields
 abbrev pub node_arms : List VarId → ℕ → List Tag → Arms
@@ -80,7 +80,7 @@ node_arms xs i (t ∷ ts) =
 
 abbrev pub whole_node : List Tag → ℕ → W.Word → Code
 whole_node ts n a =
-    all_words a 0 (variables n (suc (most_fields ts)))
+    fetch_all_words a 0 (variables n (suc (most_fields ts)))
     (end (case (Vector (map Var (variables n (suc (most_fields ts)))))
     (node_arms (variables (suc n) (most_fields ts)) 0 ts)))
 
@@ -88,31 +88,31 @@ abbrev pub end_with : List Tag → ℕ → Act → Code
 end_with ts n (fetch a) = whole_node ts n a
 end_with ts n o = end o
 
-abbrev pub made_end : List Tag → Act → ℕ
-made_end ts (fetch a) = suc (most_fields ts)
-made_end ts o = 0
+abbrev pub new_variables_of_end : List Tag → Act → ℕ
+new_variables_of_end ts (fetch a) = suc (most_fields ts)
+new_variables_of_end ts o = 0
 
 module _ (ts : List Tag) where
   -- how many new variables a piece takes, where these words wait
   unfoldable mutual
-    pub made_act : List Wait → Act → ℕ
+    pub made_act : List DeferredField → Act → ℕ
     made_act ps (case v as') = made_arms ps as'
     made_act ps (nested b) = made_code [] b
     made_act ps _ = 0
 
-    pub made_code : List Wait → Code → ℕ
-    made_code ps (end o) = made_end ts o + made_act ps o
+    pub made_code : List DeferredField → Code → ℕ
+    made_code ps (end o) = new_variables_of_end ts o + made_act ps o
     made_code ps (store cs b) = made_code [] b
-    made_code ps (bind t o b) = made_act ps o + made_code (waits_after o t b ps) b
+    made_code ps (bind t o b) = made_act ps o + made_code (deferred_fields_after o t b ps) b
 
-    pub made_arms : List Wait → Arms → ℕ
+    pub made_arms : List DeferredField → Arms → ℕ
     made_arms ps no_arm = 0
     made_arms ps (arm s b as') = length ps + made_code [] b + made_arms ps as'
 
   -- a piece with its fetches split: by these names; where the words ps of the cell a wait for the
   -- next case; with new variables from n on
   unfoldable mutual
-    pub split_act : Names → W.Word → List Wait → ℕ → Act → Act
+    pub split_act : Names → W.Word → List DeferredField → ℕ → Act → Act
     split_act ks a ps n (unit v) = unit (as_val ks v)
     split_act ks a ps n (fetch c) = fetch (as_word ks c)
     split_act ks a ps n (fetch_word c i) = fetch_word (as_word ks c) i
@@ -127,14 +127,14 @@ module _ (ts : List Tag) where
     split_act ks a ps n (nested b) = nested (split_code ks a [] n b)
     split_act ks a ps n fail = fail
 
-    pub split_code : Names → W.Word → List Wait → ℕ → Code → Code
+    pub split_code : Names → W.Word → List DeferredField → ℕ → Code → Code
     split_code ks a ps n (end o) = end_with ts n (split_act ks a ps n o)
     split_code ks a ps n (store cs b) = store (as_cells ks cs) (split_code ks a [] n b)
     split_code ks a ps n (bind t o b) =
         bound (split_act ks a ps n o) t b (split_code (names_after o t b ks)
-        (cell_after ks o t b a) (waits_after o t b ps) (n + made_act ps o) b)
+        (cell_after ks o t b a) (deferred_fields_after o t b ps) (n + made_act ps o) b)
 
-    pub split_arms : Names → W.Word → List Wait → ℕ → Arms → Arms
+    pub split_arms : Names → W.Word → List DeferredField → ℕ → Arms → Arms
     split_arms ks a ps n no_arm = no_arm
     split_arms ks a ps n (arm s b as') =
         arm s (front a n ps b (split_code (front_names n ps b ks) a [] (n + length ps) b))

@@ -28,9 +28,9 @@ vector_uses tests x (Vector (a ∷ (b ∷ ws))) = word_is x a || (tests && word_
 vector_uses tests x v = val_uses x v
 
 -- the operation is a case on the vector of t
-abbrev pub act_owns : ℕ → Act → Bool
-act_owns t (case v as') = begins_with t v
-act_owns t _ = false
+abbrev pub is_case_on_tag : ℕ → Act → Bool
+is_case_on_tag t (case v as') = begins_with t v
+is_case_on_tag t _ = false
 
 abbrev pub is_passed : Act → Bool
 is_passed (fetch a) = true
@@ -39,9 +39,9 @@ is_passed _ = false
 
 -- the case on the vector of t comes next, fetches aside
 unfoldable pub owns : ℕ → Code → Bool
-owns t (end o) = act_owns t o
+owns t (end o) = is_case_on_tag t o
 owns t (store cs b) = false
-owns t (bind u o b) = cond (is_passed o) (owns t b) (act_owns t o)
+owns t (bind u o b) = cond (is_passed o) (owns t b) (is_case_on_tag t o)
 
 -- x decides which alternative of a case is taken; of another operation, x is used in it
 abbrev pub decides : ℕ → Act → Bool
@@ -49,7 +49,7 @@ decides x (case v as') = vector_uses (tests_number as') x v
 decides x o = act_uses x o
 
 abbrev pub act_outside : (t x : ℕ) → Act → Bool
-act_outside t x o = cond (act_owns t o) (decides x o) (act_uses x o)
+act_outside t x o = cond (is_case_on_tag t o) (decides x o) (act_uses x o)
 
 -- x is used in a block, outside the alternatives of the case on the vector of t where that comes
 -- next

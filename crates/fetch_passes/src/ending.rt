@@ -10,7 +10,7 @@ ghost use Rattle.grin_syntax.specs.Tags.{tag_id};
 ghost use Rattle.grin_syntax.specs.Tree.{Code, end, bind, unit, fetch_word, act_of, before_of, arms_of, arm_of, all_before};
 ghost use Rattle.grin_syntax.specs.Fresh.{variables};
 ghost use Rattle.grin_meaning.specs.Ready.{most_fields};
-ghost use Rattle.fetch_passes.specs.Split.{all_words, node_arms, whole_node, end_with, made_end};
+ghost use Rattle.fetch_passes.specs.Split.{fetch_all_words, node_arms, whole_node, end_with, new_variables_of_end};
 
 use grin_syntax::fresh::Fresh;
 use grin_syntax::{Alt, Block, Op, Shape, Stmt, Tag, TagId, Target, Val, VarId, Word};
@@ -50,9 +50,9 @@ fn word_fetch(cell: Word, var: VarId, at: usize, made: &mut Seq<Stmt>) -> Result
 }
 
 // A fetch of each word, the tag first.
-fn all_words(cell: Word, vars: &[VarId], made: &mut Seq<Stmt>) -> Result<(), AllocError>
+fn fetch_all_words(cell: Word, vars: &[VarId], made: &mut Seq<Stmt>) -> Result<(), AllocError>
     ensures { OnOk result ((c : Code) → all_before (map before_of made.new) c
-        ≡ all_before (map before_of made.old) (all_words cell 0 vars.now c)) }
+        ≡ all_before (map before_of made.old) (fetch_all_words cell 0 vars.now c)) }
 {
     for at in 0..vars.len() {
         word_fetch(cell, vars[at], at, made)?;
@@ -118,7 +118,7 @@ fn whole_node(
     let mut vars = Seq::new(alloc);
     vars.push(tag)?;
     vars.append(fields)?;
-    all_words(cell, vars.as_slice(), made)?;
+    fetch_all_words(cell, vars.as_slice(), made)?;
     let words = as_words(alloc, vars.as_slice())?;
     Ok(Op::Case(Val::Vector(words), alts))
 }
@@ -133,7 +133,7 @@ pub(crate) fn end_with(
 ) -> Result<Op, AllocError>
     ensures is { IfOk result (λ o. all_before (map before_of made.new) (end (act_of o))
         ≡ all_before (map before_of made.old) (end_with tags.now fresh.old.next (act_of op))) }
-    ensures next { OnOk result (fresh.new.next ≡ fresh.old.next + made_end tags.now (act_of op)) }
+    ensures next { OnOk result (fresh.new.next ≡ fresh.old.next + new_variables_of_end tags.now (act_of op)) }
 {
     match op {
         Op::Fetch(cell) => whole_node(alloc, tags, fresh, cell, made),

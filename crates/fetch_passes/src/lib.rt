@@ -11,4 +11,4 @@ mod scan;
 mod split;
 mod windows;
 
-pub use pass::{Fetches, with_words};
+pub use pass::{Fetches, with_word_fetches};

@@ -12,26 +12,26 @@ use std::alloc::{AllocError, Global};
 /// A variable of the input, and the word that stands for it: another variable, or 0 where it is not
 /// bound.
 #[derive(Clone, Copy, Debug)]
-pub(crate) struct Standing {
+pub(crate) struct Replacement {
     pub var: VarId,
     pub word: Word,
 }
 
 /// A variable that waits for the alternatives of a case, and the place of its word in the node.
 #[derive(Clone, Copy, Debug)]
-pub(crate) struct Wait {
+pub(crate) struct DeferredField {
     pub var: VarId,
     pub place: u32,
 }
 
 // The word of a variable: this one where the name is its own, else that one.
-fn word_by(name: &Standing, x: VarId, word: Word) -> Word
+fn word_by(name: &Replacement, x: VarId, word: Word) -> Word
     ensures { result ≡ cond (nat_eq name.now.var.0 x.0) name.now.word word }
 {
     if name.var.0 == x.0 { name.word } else { word }
 }
 
-fn stands(names: &[Standing], x: VarId) -> Word
+fn stands(names: &[Replacement], x: VarId) -> Word
     ensures { result ≡ stands names.now (Var x) x }
 {
     let mut word = Word::Var(x);
@@ -42,7 +42,7 @@ fn stands(names: &[Standing], x: VarId) -> Word
 }
 
 /// The word that a word becomes.
-pub(crate) fn as_word(names: &[Standing], word: Word) -> Word
+pub(crate) fn as_word(names: &[Replacement], word: Word) -> Word
     ensures { result ≡ as_word names.now word }
 {
     match word {
@@ -56,7 +56,7 @@ pub(crate) fn as_word(names: &[Standing], word: Word) -> Word
 /// The words that these words become.
 pub(crate) fn as_words(
     alloc: Global,
-    names: &[Standing],
+    names: &[Replacement],
     words: &[Word],
 ) -> Result<Seq<Word>, AllocError>
     ensures { IfOk result (λ made. made ≡ as_words names.now words.now) }
@@ -69,7 +69,7 @@ pub(crate) fn as_words(
 }
 
 /// The value that a value becomes.
-pub(crate) fn as_val(alloc: Global, names: &[Standing], v: &Val) -> Result<Val, AllocError>
+pub(crate) fn as_val(alloc: Global, names: &[Replacement], v: &Val) -> Result<Val, AllocError>
     ensures { IfOk result (λ made. made ≡ as_val names.now v.now) }
 {
     match v {
@@ -83,7 +83,7 @@ pub(crate) fn as_val(alloc: Global, names: &[Standing], v: &Val) -> Result<Val, 
 /// The cells that these cells become.
 pub(crate) fn as_cells(
     alloc: Global,
-    names: &[Standing],
+    names: &[Replacement],
     cells: &[Cell],
 ) -> Result<Seq<Cell>, AllocError>
     ensures { IfOk result (λ made. made ≡ as_cells names.now cells.now) }

@@ -7,13 +7,13 @@ ghost use Rattle.grin_syntax.specs.declared.program.Word.TheVariants.{Lit};
 ghost use Rattle.grin_syntax.specs.Tree.{Code, before_of, code_of, all_before};
 ghost use Rattle.grin_syntax.specs.Fresh.{variable};
 ghost use Rattle.pass_ground.specs.Uses.{code_uses};
-ghost use Rattle.fetch_passes.specs.Notes.{Here, sized, code_trace};
+ghost use Rattle.fetch_passes.specs.Notes.{Here, with_own_size, code_trace};
 ghost use Rattle.fetch_passes.specs.Asked.{IsWindow};
-ghost use Rattle.fetch_passes.specs.Names.{hiding, named_if};
-ghost use Rattle.fetch_passes.specs.Waits.{waits_of};
+ghost use Rattle.fetch_passes.specs.Names.{with_hidden, named_if};
+ghost use Rattle.fetch_passes.specs.Waits.{deferred_fields_of};
 ghost use Rattle.fetch_passes.specs.Split.{fetched_if, word_fetches, front, front_names};
 
-use crate::names::{Standing, Wait};
+use crate::names::{DeferredField, Replacement};
 use crate::notes::{Notes, Place};
 use crate::windows::{Window, outside};
 use grin_syntax::fresh::Fresh;
@@ -38,11 +38,16 @@ fn fetched_if(
     Ok(())
 }
 
-fn named_if(used: bool, var: VarId, by: VarId, names: &mut Seq<Standing>) -> Result<(), AllocError>
+fn named_if(
+    used: bool,
+    var: VarId,
+    by: VarId,
+    names: &mut Seq<Replacement>,
+) -> Result<(), AllocError>
     ensures { OnOk result (names.new ≡ named_if used var by.0 names.old) }
 {
     if used {
-        names.push(Standing {
+        names.push(Replacement {
             var,
             word: Word::Var(by),
         })?;
@@ -50,12 +55,17 @@ fn named_if(used: bool, var: VarId, by: VarId, names: &mut Seq<Standing>) -> Res
     Ok(())
 }
 
-fn wait_unless(kept: bool, var: VarId, place: u32, waits: &mut Seq<Wait>) -> Result<(), AllocError>
+fn wait_unless(
+    kept: bool,
+    var: VarId,
+    place: u32,
+    waits: &mut Seq<DeferredField>,
+) -> Result<(), AllocError>
     ensures { OnOk result (waits.new ≡ waits.old
         ++ cond kept [] (record { var = var; place = place } ∷ [])) }
 {
     if !kept {
-        waits.push(Wait { var, place })?;
+        waits.push(DeferredField { var, place })?;
     }
     Ok(())
 }
@@ -65,14 +75,14 @@ fn wait_unless(kept: bool, var: VarId, place: u32, waits: &mut Seq<Wait>) -> Res
 fn front_word(
     notes: &Notes,
     fresh: &mut Fresh,
-    names: &mut Seq<Standing>,
+    names: &mut Seq<Replacement>,
     cell: Word,
-    wait: Wait,
+    wait: DeferredField,
     body: &Block,
     here: Place,
     made: &mut Seq<Stmt>,
 ) -> Result<(), AllocError>
-    requires { Here notes.now here (sized (code_trace (code_of body.now))) }
+    requires { Here notes.now here (with_own_size (code_trace (code_of body.now))) }
     ensures stmts { OnOk result ((c : Code) → all_before (map before_of made.new) c
         ≡ all_before (map before_of made.old)
         (fetched_if (code_uses wait.var.0 (code_of body.now)) (variable fresh.old.next) cell
@@ -94,13 +104,13 @@ pub(crate) fn front(
     alloc: Global,
     notes: &Notes,
     fresh: &mut Fresh,
-    names: &mut Seq<Standing>,
+    names: &mut Seq<Replacement>,
     cell: Word,
-    waits: &[Wait],
+    waits: &[DeferredField],
     body: &Block,
     here: Place,
 ) -> Result<Seq<Stmt>, AllocError>
-    requires { Here notes.now here (sized (code_trace (code_of body.now))) }
+    requires { Here notes.now here (with_own_size (code_trace (code_of body.now))) }
     ensures stmts { IfOk result (λ ss. (c : Code) → all_before (map before_of ss) c
         ≡ front cell fresh.old.next waits.now (code_of body.now) c) }
     ensures names { OnOk result (names.new
@@ -122,7 +132,7 @@ fn node_word(
     var: VarId,
     at: usize,
     made: &mut Seq<Stmt>,
-    waits: &mut Seq<Wait>,
+    waits: &mut Seq<DeferredField>,
 ) -> Result<(), AllocError>
     ensures stmts { OnOk result ((c : Code) → all_before (map before_of made.new) c
         ≡ all_before (map before_of made.old) (fetched_if kept var cell at c)) }
@@ -147,12 +157,12 @@ pub(crate) fn words(
     vars: &[VarId],
     window: Window,
     made: &mut Seq<Stmt>,
-) -> Result<Seq<Wait>, AllocError>
+) -> Result<Seq<DeferredField>, AllocError>
     ensures stmts { OnOk result ((b : Code) → IsWindow notes.now tag.0 b window → (c : Code)
         → all_before (map before_of made.new) c
         ≡ all_before (map before_of made.old) (word_fetches tag.0 b cell 1 vars.now c)) }
     ensures waits { IfOk result (λ ws. (b : Code) → IsWindow notes.now tag.0 b window
-        → ws ≡ waits_of tag.0 b 1 vars.now) }
+        → ws ≡ deferred_fields_of tag.0 b 1 vars.now) }
 {
     let mut waits = Seq::new(alloc);
     for at in 0..vars.len() {
@@ -163,11 +173,14 @@ pub(crate) fn words(
 }
 
 /// Hides what waits: 0 stands for it.
-pub(crate) fn hide(names: &mut Seq<Standing>, waits: &[Wait]) -> Result<(), AllocError>
-    ensures { OnOk result (names.new ≡ hiding waits.now names.old) }
+pub(crate) fn hide_deferred(
+    names: &mut Seq<Replacement>,
+    waits: &[DeferredField],
+) -> Result<(), AllocError>
+    ensures { OnOk result (names.new ≡ with_hidden waits.now names.old) }
 {
     for wait in waits {
-        names.push(Standing {
+        names.push(Replacement {
             var: wait.var,
             word: Word::Lit(0),
         })?;

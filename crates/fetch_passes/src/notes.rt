@@ -4,8 +4,8 @@
 ghost use Rattle.std.specs.Prelude.{◌≡◌, ◌+◌, ◌<◌, IfOk};
 ghost use Rattle.grin_syntax.specs.Tree.{Code, case, Arms, code_of};
 ghost use Rattle.pass_ground.specs.Uses.{code_uses};
-ghost use Rattle.fetch_passes.specs.Notes.{Here, sized, act_trace, code_trace, arms_trace, size_at, inside, IsPast, Answers};
-ghost use Rattle.fetch_passes.specs.Asked.{Spans, Follows};
+ghost use Rattle.fetch_passes.specs.Notes.{Here, with_own_size, act_trace, code_trace, arms_trace, size_at, inside, IsPlaceAfterPiece, Answers};
+ghost use Rattle.fetch_passes.specs.Asked.{SpanCoversBlock, Follows};
 ghost use Rattle.grin_syntax.specs.declared.program.Val.{Val};
 
 use crate::scan::{Scan, number};
@@ -77,7 +77,7 @@ impl Place {
 impl Notes {
     /// Notes the body of a procedure.
     pub(crate) fn of(alloc: Global, body: &Block) -> Result<Notes, AllocError>
-        ensures { IfOk result (λ n. n ≡ sized (code_trace (code_of body.now))) }
+        ensures { IfOk result (λ n. n ≡ with_own_size (code_trace (code_of body.now))) }
     {
         let mut scan = Scan::new(alloc);
         scan.inner(body)?;
@@ -98,7 +98,7 @@ impl Notes {
 
     /// Where the piece ends that begins here, and the next one begins.
     pub(crate) fn past(&self, here: Place) -> Result<Place, AllocError>
-        ensures { IfOk result (λ p. IsPast self.now here p) }
+        ensures { IfOk result (λ p. IsPlaceAfterPiece self.now here p) }
     {
         let size = self.size_at(here.piece);
         let at = sum(here.at, size.uses)?;
@@ -108,8 +108,8 @@ impl Notes {
 
     /// Where the block stands that begins here.
     pub(crate) fn block(&self, here: Place) -> Result<Span, AllocError>
-        ensures spans { IfOk result (λ s. (b : Code) → Here self.now here (sized (code_trace b))
-            → Spans self.now s b) }
+        ensures spans { IfOk result (λ s. (b : Code) → Here self.now here (with_own_size (code_trace b))
+            → SpanCoversBlock self.now s b) }
         ensures inside { IfOk result (λ s. inside here s.place) }
     {
         let place = here.inside()?;
@@ -123,7 +123,7 @@ impl Notes {
     /// Where the rest of a block stands, past its first piece.
     pub(crate) fn rest(&self, span: Span) -> Result<Span, AllocError>
         ensures follows { IfOk result (λ s. Follows self.now span s) }
-        ensures past { IfOk result (λ s. IsPast self.now span.place s.place) }
+        ensures past { IfOk result (λ s. IsPlaceAfterPiece self.now span.place s.place) }
     {
         let place = self.past(span.place)?;
         Ok(Span {
@@ -135,7 +135,7 @@ impl Notes {
     /// Where the alternatives begin of the case that begins here.
     pub(crate) fn alts(&self, here: Place) -> Result<Place, AllocError>
         ensures alts { IfOk result (λ p. (v : Val) (as' : Arms)
-            → Here self.now here (sized (act_trace (case v as')))
+            → Here self.now here (with_own_size (act_trace (case v as')))
             → Here self.now p (arms_trace as')) }
         ensures later { IfOk result (λ p. here.piece < p.piece) }
     {
@@ -153,7 +153,7 @@ impl Notes {
 
     /// Whether the block that begins here uses a variable.
     pub(crate) fn block_uses(&self, x: VarId, body: &Block, here: Place) -> Result<bool, AllocError>
-        requires { Here self.now here (sized (code_trace (code_of body.now))) }
+        requires { Here self.now here (with_own_size (code_trace (code_of body.now))) }
         ensures { IfOk result (λ used. used ≡ code_uses x.0 (code_of body.now)) }
     {
         let next = self.past(here)?;

@@ -4,12 +4,12 @@
 ghost use Rattle.std.specs.Prelude.{◌≡◌, map, IfOk};
 ghost use Rattle.grin_syntax.specs.Tree.{program_of, procedure_of};
 ghost use Rattle.grin_syntax.specs.Fresh.{past_procs};
-ghost use Rattle.pass_ground.specs.Vectors.{OfVectors};
+ghost use Rattle.pass_ground.specs.Vectors.{IsVectorForm};
 ghost use Rattle.fetch_passes.specs.Split.{split, split_procs};
 ghost use Rattle.fetch_passes.specs.Fetched.{Fetched};
 
 use crate::notes::{Notes, Place};
-use crate::split::Splitting;
+use crate::split::FetchSplitter;
 use grin_meaning::Pass;
 use grin_syntax::fresh::Fresh;
 use grin_syntax::{Grin, Proc, Tag, Word};
@@ -23,12 +23,12 @@ use std::alloc::{AllocError, Global};
 pub struct Fetches;
 
 impl Pass for Fetches {
-    ghost takes = { λ g. OfVectors (program_of g) };
+    ghost takes = { λ g. IsVectorForm (program_of g) };
 
     ghost gives = { λ g h. Fetched (program_of g) (program_of h) };
 
     fn apply(&self, alloc: Global, g: Grin) -> Result<Grin, AllocError> {
-        let h = with_words(alloc, g)?;
+        let h = with_word_fetches(alloc, g)?;
         Ok(h)
     }
 }
@@ -45,7 +45,7 @@ fn split_procs(alloc: Global, tags: &Seq<Tag>, procs: &[Proc]) -> Result<Seq<Pro
         let none = Seq::new(alloc);
         let before = Seq::new(alloc);
         let notes = Notes::of(alloc, &proc.body)?;
-        let splitting = Splitting {
+        let splitting = FetchSplitter {
             tags,
             notes: &notes,
         };
@@ -62,7 +62,7 @@ fn split_procs(alloc: Global, tags: &Seq<Tag>, procs: &[Proc]) -> Result<Seq<Pro
 }
 
 /// What the pass makes of any program, whatever its runs do.
-pub fn with_words(alloc: Global, g: Grin) -> Result<Grin, AllocError>
+pub fn with_word_fetches(alloc: Global, g: Grin) -> Result<Grin, AllocError>
     ensures { IfOk result (λ h. program_of h ≡ split (program_of g)) }
 {
     let procs = split_procs(alloc, &g.tags, g.procs.as_slice())?;

@@ -3,13 +3,14 @@
 
 ghost use Rattle.std.specs.Prelude.{◌≡◌, ◌++◌, ◌-◌, [], ◌∷◌, map, length, List, IfOk, OnOk};
 ghost use Rattle.grin_syntax.specs.Tree.{Code, act_of, before_of, arms_of, arm_of, code_of};
-ghost use Rattle.fetch_passes.specs.Notes.{Trace, sized, only, word_used, words_used, val_used, cells_used, act_trace, code_trace, arms_trace};
+ghost use Rattle.fetch_passes.specs.Notes.{Trace, with_own_size, only, word_used, words_used, val_used, cells_used, act_trace, code_trace, arms_trace};
 
 use crate::notes::Size;
 use grin_syntax::{Alt, Block, Cell, Op, Stmt, Val, Word};
 use std::alloc::{AllocError, Global};
 
-/// The variables that are used, in the order of the text, and of each piece, as it begins, its size.
+/// The variables that are used, in the order of the text, and of each piece, as it begins, its
+/// size.
 #[derive(Drop)]
 pub(crate) struct Scan {
     pub used: Vec<u32>,
@@ -111,7 +112,7 @@ impl Scan {
         ensures sizes { OnOk result ((s t : Trace) → at ≡ length s.used → piece ≡ length s.sizes
             → self.old.used.items ≡ s.used ++ t.used
             → self.old.sizes.items ≡ s.sizes ++ record { uses = 0; pieces = 0 } ∷ t.sizes
-            → self.new.sizes.items ≡ s.sizes ++ (sized t).sizes) }
+            → self.new.sizes.items ≡ s.sizes ++ (with_own_size t).sizes) }
     {
         let uses = number(less(self.used.len(), at))?;
         let pieces = number(less(less(self.sizes.len(), piece), 1))?;
@@ -125,7 +126,7 @@ impl Scan {
     fn tested(&mut self, v: &Val) -> Result<(), AllocError>
         ensures used { OnOk result (self.new.used.items ≡ self.old.used.items ++ val_used v.now) }
         ensures sizes { OnOk result (self.new.sizes.items
-            ≡ self.old.sizes.items ++ (sized (only (val_used v.now))).sizes) }
+            ≡ self.old.sizes.items ++ (with_own_size (only (val_used v.now))).sizes) }
     {
         let (at, piece) = self.begin()?;
         self.val(v)?;
@@ -137,7 +138,7 @@ impl Scan {
         ensures used { OnOk result (self.new.used.items
             ≡ self.old.used.items ++ cells_used cells.now) }
         ensures sizes { OnOk result (self.new.sizes.items
-            ≡ self.old.sizes.items ++ (sized (only (cells_used cells.now))).sizes) }
+            ≡ self.old.sizes.items ++ (with_own_size (only (cells_used cells.now))).sizes) }
     {
         let (at, piece) = self.begin()?;
         self.cells(cells)?;
@@ -187,7 +188,7 @@ impl Scan {
         ensures used { OnOk result (self.new.used.items
             ≡ self.old.used.items ++ (act_trace (act_of op.now)).used) }
         ensures sizes { OnOk result (self.new.sizes.items
-            ≡ self.old.sizes.items ++ (sized (act_trace (act_of op.now))).sizes) }
+            ≡ self.old.sizes.items ++ (with_own_size (act_trace (act_of op.now))).sizes) }
     {
         let (at, piece) = self.begin()?;
         self.inside(op)?;
@@ -244,7 +245,7 @@ impl Scan {
         ensures used { OnOk result (self.new.used.items
             ≡ self.old.used.items ++ (code_trace (code_of block.now)).used) }
         ensures sizes { OnOk result (self.new.sizes.items
-            ≡ self.old.sizes.items ++ (sized (code_trace (code_of block.now))).sizes) }
+            ≡ self.old.sizes.items ++ (with_own_size (code_trace (code_of block.now))).sizes) }
     {
         let (at, piece) = self.begin()?;
         self.block(block)?;

@@ -4,19 +4,19 @@
 ghost use Rattle.std.specs.Prelude.{◌≡◌, ◌+◌, [], ◌∷◌, cond, length, map, IfOk, OnOk};
 ghost use Rattle.grin_syntax.specs.Tree.{Code, end, bind, fetch, fetch_word, act_of, before_of, code_of, all_before};
 ghost use Rattle.grin_syntax.specs.declared.program.Target.TheVariants.{Vector};
-ghost use Rattle.fetch_passes.specs.Waits.{waits_after};
-ghost use Rattle.fetch_passes.specs.Notes.{sized, act_trace, code_trace, Here};
-ghost use Rattle.fetch_passes.specs.Asked.{Spans};
+ghost use Rattle.fetch_passes.specs.Waits.{deferred_fields_after};
+ghost use Rattle.fetch_passes.specs.Notes.{with_own_size, act_trace, code_trace, Here};
+ghost use Rattle.fetch_passes.specs.Asked.{SpanCoversBlock};
 ghost use Rattle.fetch_passes.specs.Split.{front, front_names, names_after, cell_from, bound, made_act, made_code, split_act, split_code};
 
 use crate::ending::end_with;
-use crate::names::{Standing, Wait, as_cells, as_val, as_word, as_words};
-use crate::nodes::{front, hide, words};
+use crate::names::{DeferredField, Replacement, as_cells, as_val, as_word, as_words};
+use crate::nodes::{front, hide_deferred, words};
 use crate::notes::{Notes, Place, Span};
 use crate::windows::open_window;
-use grin_syntax::copies::copy_target;
+use grin_syntax::copies::{copy_shape, copy_target};
 use grin_syntax::fresh::Fresh;
-use grin_syntax::{Alt, Block, Op, Shape, Stmt, Tag, Target, VarId, Word};
+use grin_syntax::{Alt, Block, Op, Stmt, Tag, Target, VarId, Word};
 use seq::Seq;
 use std::alloc::{AllocError, Global};
 
@@ -24,9 +24,9 @@ use std::alloc::{AllocError, Global};
 // case.
 #[derive(Drop)]
 struct Passing {
-    names: Seq<Standing>,
+    names: Seq<Replacement>,
     cell: Word,
-    waits: Seq<Wait>,
+    waits: Seq<DeferredField>,
 }
 
 // An operation that may change the heap.
@@ -63,18 +63,8 @@ fn fetch_word(
     Ok(())
 }
 
-fn copy_shape(alloc: Global, pattern: &Shape) -> Result<Shape, AllocError>
-    ensures { IfOk result (λ copy. copy ≡ pattern.now) }
-{
-    match pattern {
-        Shape::Node(tag, vars) => Ok(Shape::Node(*tag, Seq::from_slice(alloc, vars.as_slice())?)),
-        Shape::Int(k) => Ok(Shape::Int(*k)),
-        Shape::Else => Ok(Shape::Else),
-    }
-}
-
 // What waits, for the case that comes next.
-fn pass_on(now: &mut Passing, own: bool, cell: Word, waits: Seq<Wait>)
+fn pass_on(now: &mut Passing, own: bool, cell: Word, waits: Seq<DeferredField>)
     ensures names { now.new.names ≡ now.old.names }
     ensures cell { now.new.cell ≡ cond own cell now.old.cell }
     ensures waits { now.new.waits ≡ cond own waits now.old.waits }
@@ -99,7 +89,7 @@ fn fetch_vector(
     span: Span,
     made: &mut Seq<Stmt>,
 ) -> Result<(), AllocError>
-    requires { Spans notes.now span (all_before (map before_of rest.now) (end (act_of last.now))) }
+    requires { SpanCoversBlock notes.now span (all_before (map before_of rest.now) (end (act_of last.now))) }
     ensures stmts { OnOk result ((c : Code) → all_before (map before_of made.new) c
         ≡ all_before (map before_of made.old)
         (bound (fetch cell) (Vector (tag ∷ vars.now))
@@ -111,13 +101,13 @@ fn fetch_vector(
         ≡ cell_from (fetch cell) (Vector (tag ∷ vars.now))
         (all_before (map before_of rest.now) (end (act_of last.now))) now.old.cell) }
     ensures waits { OnOk result (now.new.waits
-        ≡ waits_after (fetch cell) (Vector (tag ∷ vars.now))
+        ≡ deferred_fields_after (fetch cell) (Vector (tag ∷ vars.now))
         (all_before (map before_of rest.now) (end (act_of last.now))) now.old.waits) }
 {
     made.push(Stmt::Bind(Target::One(tag), Op::FetchWord(cell, 0)))?;
     let window = open_window(notes, tag, rest, last, span)?;
     let waits = words(alloc, notes, tag, cell, vars, window, made)?;
-    hide(&mut now.names, waits.as_slice())?;
+    hide_deferred(&mut now.names, waits.as_slice())?;
     pass_on(now, window.owned, cell, waits);
     Ok(())
 }
@@ -134,7 +124,7 @@ fn bind(
     span: Span,
     made: &mut Seq<Stmt>,
 ) -> Result<(), AllocError>
-    requires { Spans notes.now span (all_before (map before_of rest.now) (end (act_of last.now))) }
+    requires { SpanCoversBlock notes.now span (all_before (map before_of rest.now) (end (act_of last.now))) }
     ensures stmts { OnOk result ((c : Code) → all_before (map before_of made.new) c
         ≡ all_before (map before_of made.old)
         (bound (act_of op) target.now (all_before (map before_of rest.now) (end (act_of last.now)))
@@ -146,7 +136,7 @@ fn bind(
         ≡ cell_from (act_of op) target.now
         (all_before (map before_of rest.now) (end (act_of last.now))) now.old.cell) }
     ensures waits { OnOk result (now.new.waits
-        ≡ waits_after (act_of op) target.now
+        ≡ deferred_fields_after (act_of op) target.now
         (all_before (map before_of rest.now) (end (act_of last.now))) now.old.waits) }
 {
     match op {
@@ -180,24 +170,24 @@ fn bind(
 
 /// Splits the fetches of a procedure, of which this is noted, in a program with these tags.
 #[derive(Drop)]
-pub(crate) struct Splitting<'a> {
+pub(crate) struct FetchSplitter<'a> {
     pub tags: &'a Seq<Tag>,
     pub notes: &'a Notes,
 }
 
-impl Splitting<'_> {
+impl FetchSplitter<'_> {
     #[cycle(split)]
     fn op(
         &self,
         alloc: Global,
         fresh: &mut Fresh,
-        names: &[Standing],
+        names: &[Replacement],
         cell: Word,
-        waits: &[Wait],
+        waits: &[DeferredField],
         op: &Op,
         here: Place,
     ) -> Result<Op, AllocError>
-        requires { Here self.now.notes.now here (sized (act_trace (act_of op.now))) }
+        requires { Here self.now.notes.now here (with_own_size (act_trace (act_of op.now))) }
         ensures is { IfOk result (λ o. act_of o
             ≡ split_act self.now.tags.now names.now cell waits.now fresh.old.next (act_of op.now)) }
         ensures next { OnOk result (fresh.new.next
@@ -239,13 +229,13 @@ impl Splitting<'_> {
         &self,
         alloc: Global,
         fresh: &mut Fresh,
-        names: &[Standing],
+        names: &[Replacement],
         cell: Word,
-        waits: &[Wait],
+        waits: &[DeferredField],
         alt: &Alt,
         here: Place,
     ) -> Result<Alt, AllocError>
-        requires { Here self.now.notes.now here (sized (code_trace (code_of alt.now.body))) }
+        requires { Here self.now.notes.now here (with_own_size (code_trace (code_of alt.now.body))) }
         ensures pattern { IfOk result (λ a. a.pattern ≡ alt.now.pattern) }
         ensures body { IfOk result (λ a. code_of a.body
             ≡ front cell fresh.old.next waits.now (code_of alt.now.body)
@@ -278,7 +268,7 @@ impl Splitting<'_> {
         span: Span,
         made: &mut Seq<Stmt>,
     ) -> Result<(), AllocError>
-        requires { Spans self.now.notes.now span
+        requires { SpanCoversBlock self.now.notes.now span
             (before_of stmt.now (all_before (map before_of rest.now) (end (act_of last.now)))) }
         ensures is { OnOk result
             (all_before (map before_of made.new)
@@ -318,12 +308,12 @@ impl Splitting<'_> {
         alloc: Global,
         fresh: &mut Fresh,
         block: &Block,
-        names: Seq<Standing>,
+        names: Seq<Replacement>,
         cell: Word,
         before: Seq<Stmt>,
         here: Place,
     ) -> Result<Block, AllocError>
-        requires { Here self.now.notes.now here (sized (code_trace (code_of block.now))) }
+        requires { Here self.now.notes.now here (with_own_size (code_trace (code_of block.now))) }
         ensures is { IfOk result (λ b. code_of b
             ≡ all_before (map before_of before)
             (split_code self.now.tags.now names cell [] fresh.old.next (code_of block.now))) }

@@ -5,9 +5,9 @@ ghost use Rattle.std.specs.Prelude.{◌≡◌, ◌||◌, ◌&&◌, ℕ, Bool, tr
 ghost use Rattle.grin_syntax.specs.declared.program.Val.TheVariants.{Vector};
 ghost use Rattle.grin_syntax.specs.Tree.{Code, act_of, before_of, arms_of, arm_of, all_before, end};
 ghost use Rattle.pass_ground.specs.Uses.{word_is};
-ghost use Rattle.fetch_passes.specs.Windows.{begins_with, is_int, tests_number, vector_uses, act_owns, is_passed, decides, outside};
+ghost use Rattle.fetch_passes.specs.Windows.{begins_with, is_int, tests_number, vector_uses, is_case_on_tag, is_passed, decides, outside};
 ghost use Rattle.fetch_passes.specs.Notes.{Trace};
-ghost use Rattle.fetch_passes.specs.Asked.{Spans, is_var, IsWindow, Passed, BeginsBy};
+ghost use Rattle.fetch_passes.specs.Asked.{SpanCoversBlock, is_var, IsWindow, FetchesSkipped, BeginsWithAct};
 
 use crate::notes::{Notes, Span};
 use grin_syntax::{Alt, Op, Shape, Stmt, Val, VarId, Word};
@@ -83,7 +83,7 @@ fn is_tested(tested: Option<VarId>, x: VarId) -> bool
 }
 
 fn op_owns(t: VarId, op: &Op) -> bool
-    ensures { result ≡ act_owns t.0 (act_of op.now) }
+    ensures { result ≡ is_case_on_tag t.0 (act_of op.now) }
 {
     match op {
         Op::Case(v, _) => begins_with(t, v),
@@ -157,7 +157,7 @@ fn tested_by(words: &[Word], tests: bool) -> Option<VarId>
 
 // The variable that decides which alternative of a case is taken, beside the tag.
 fn tested(op: &Op) -> Option<VarId>
-    ensures { (t x : ℕ) → act_owns t (act_of op.now) ≡ true
+    ensures { (t x : ℕ) → is_case_on_tag t (act_of op.now) ≡ true
         → decides x (act_of op.now) ≡ (nat_eq t x || is_var x result) }
 {
     match op {
@@ -220,7 +220,7 @@ fn window_at(
     now: Span,
 ) -> Result<Window, AllocError>
     ensures { IfOk result (λ w. (whole left : Code) (r : Trace)
-        → Passed notes.now tag.0 whole span now left → BeginsBy tag.0 (act_of op.now) left r
+        → FetchesSkipped notes.now tag.0 whole span now left → BeginsWithAct tag.0 (act_of op.now) left r
         → IsWindow notes.now tag.0 whole w) }
 {
     if !op_owns(tag, op) {
@@ -246,7 +246,7 @@ pub(crate) fn open_window(
     last: &Op,
     span: Span,
 ) -> Result<Window, AllocError>
-    requires { Spans notes.now span (all_before (map before_of stmts.now) (end (act_of last.now))) }
+    requires { SpanCoversBlock notes.now span (all_before (map before_of stmts.now) (end (act_of last.now))) }
     ensures { IfOk result (λ w. IsWindow notes.now tag.0
         (all_before (map before_of stmts.now) (end (act_of last.now))) w) }
 {

@@ -11,7 +11,7 @@ use Rattle.grin_syntax.specs.Binders.{target_vars, cell_vars}
 use Rattle.grin_syntax.specs.Formed.{Scope, InScope, with_target}
 use Rattle.grin_meaning.specs.Values.{Value, Env, HeapCell, World, Answer, gives, stops, then_do, need, Binding, with_vars, bindings_of}
 use Rattle.grin_meaning.specs.Checks.{has_block, is_node_target, is_fetch, not_delayed, is_given, all_fill, is_bound_well}
-use Rattle.grin_meaning.specs.Run.{Calls, act_by, code_by, looking, passing, places, cells_of, with_cells}
+use Rattle.grin_meaning.specs.Run.{Calls, act_by, code_by, require_if_checked, with_state_seen, places, cells_of, with_cells}
 use Rattle.grin_meaning.specs.Follows.{Same, same}
 use Rattle.grin_meaning.specs.Names.{CellsOk}
 use Rattle.grin_meaning.specs.Ready.{NoNodeTarget}
@@ -32,7 +32,7 @@ then_need : {A : Type 0} (o : Option A) (w : World) (k : A → Answer) (r : Valu
 then_need None w k r = refl
 then_need (Some a) w k r = refl
 
-then_looking : (looks b : Bool) (w : World) (a : Answer) (r : Value → World → Answer) → looking looks b w (then_do a r) ≡ then_do (looking looks b w a) r
+then_looking : (looks b : Bool) (w : World) (a : Answer) (r : Value → World → Answer) → require_if_checked looks b w (then_do a r) ≡ then_do (require_if_checked looks b w a) r
 then_looking false b w a r = refl
 then_looking true true w a r = refl
 then_looking true false w a r = refl
@@ -119,7 +119,7 @@ module _ (g : Program) (procs : List Procedure) where
 
     -- what the second does with the value of a bound operation
     abbrev goes_on : Target → Act → Code → Env → ℕ → Value → World → Answer
-    goes_on t o b env d v w = looking true (is_bound_well h t o v) w (need (bindings_of h t v) w (λ bs. code_by h c' true (with_vars bs env) d b (passing (with_vars bs env) w)))
+    goes_on t o b env d v w = require_if_checked true (is_bound_well h t o v) w (need (bindings_of h t v) w (λ bs. code_by h c' true (with_vars bs env) d b (with_state_seen (with_vars bs env) w)))
 
     -- what waits for a value in the first: the second binds the value, by whatever operation, and goes on, whatever else it has than the variables in scope
     pub record Waits (ws : List ℕ) (kf : Value → World → Answer) (t : Target) (k : Code) (env' : Env) (d' : ℕ) : Type 0 where
@@ -160,14 +160,14 @@ module _ (g : Program) (procs : List Procedure) where
         → Apart ws (target_vars u) → (is_bound_well g u o v ≡ true → is_bound_well g u o' v ≡ true) → SplicesTo (target_vars u ++ ws) b b'
         → Has (InScope ws) env env' → suc d' ≤ d → Waits ws kf t k env' d' → Sims (then_do (rest it u o b env d v w) kf) (goes_on u o' (spliced b' t k) env' d' v (beside n))
     bound_inside ws u o o' b b' t k kf env env' d d' v w n apart well f has nest wait =
-        let body : List Binding → Answer = λ bs. code_by g c true (with_vars bs env) d b (passing (with_vars bs env) w) in
+        let body : List Binding → Answer = λ bs. code_by g c true (with_vars bs env) d b (with_state_seen (with_vars bs env) w) in
         sim_first (then_looking true (is_bound_well g u o v) w (need (bindings_of g u v) w body) kf)
-        (sim_first (ap (looking true (is_bound_well g u o v) w) (then_need (bindings_of g u v) w body kf))
+        (sim_first (ap (require_if_checked true (is_bound_well g u o v) w) (then_need (bindings_of g u v) w body kf))
         (looked_need_sim AnyState no_deeper Same true (is_bound_well g u o v) (is_bound_well h u o' v) (bindings_of g u v) (bindings_of h u v) w (beside n) (λ bs. then_do (body bs) kf) _ (λ bs e seen all. (
           (λ l. well (seen l)),
           bs,
           e,
-          f.by t k kf (with_vars bs env) (with_vars bs env') d d' (passing (with_vars bs env) w)
+          f.by t k kf (with_vars bs env) (with_vars bs env') d d' (with_state_seen (with_vars bs env) w)
               (record { cells = n.cells; seen = n.seen ++ record { env = with_vars bs env'; heap = n.cells } ∷ []; depth = n.depth; heaps = n.heaps; deep = n.deep })
               (has_more (target_vars u) ws bs env env' (bound_names g u v bs e) has) nest
               (waits_on ws (target_vars u) kf t k env' (with_vars bs env') d' (still_bound ws (target_vars u) bs env' (bound_names g u v bs e) apart) wait) all,
@@ -223,15 +223,15 @@ module _ (g : Program) (procs : List Procedure) where
       by = λ t k kf env env' d d' w n has nest wait.
           let env1 : Env = with_vars (places (length w.cells) cs) env in
           let env2 : Env = with_vars (places (length n.cells) cs) env' in
-          let first : List HeapCell → Answer = λ hs. code_by g c true env1 d b (passing env1 (with_cells hs w)) in
-          sim_first (then_need (cells_of g env1 cs) w (λ hs. looking true (all_fill g env1 cs) w (first hs)) kf)
+          let first : List HeapCell → Answer = λ hs. code_by g c true env1 d b (with_state_seen env1 (with_cells hs w)) in
+          sim_first (then_need (cells_of g env1 cs) w (λ hs. require_if_checked true (all_fill g env1 cs) w (first hs)) kf)
           (sim_first (λ i. need (cells_of g env1 cs) w (λ hs. then_looking true (all_fill g env1 cs) w (first hs) kf i))
           (need_looked_sim AnyState no_deeper Same true (all_fill g env1 cs) (all_fill h env2 cs) (cells_of g env1 cs) (cells_of h env2 cs) w (beside n) (λ hs. then_do (first hs) kf) _ (λ hs e seen all.
           let s = stores_alike ws cs env env' w n hs ok has e seen in (
             s.0,
             hs,
             s.1,
-            f.by t k kf env1 env2 d d' (passing env1 (with_cells hs w))
+            f.by t k kf env1 env2 d d' (with_state_seen env1 (with_cells hs w))
                 (record { cells = n.cells ++ hs; seen = n.seen ++ record { env = env2; heap = n.cells ++ hs } ∷ []; depth = n.depth; heaps = is_same _ _ (ap (λ l. l ++ hs) (same_is n.heaps)); deep = n.deep }) s.2 nest
                 (waits_on ws (cell_vars cs) kf t k env' env2 d' (still_bound ws (cell_vars cs) (places (length n.cells) cs) env' (places_names (length n.cells) cs) apart) wait) all,
           ))));

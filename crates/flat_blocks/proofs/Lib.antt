@@ -1,7 +1,7 @@
 pub mod Loops
 pub mod Inside
-pub mod Shape
+pub mod Gives
 pub mod Sizes
-pub mod Well
-pub mod Same
-pub mod PassContract
+pub mod Formed
+pub mod Simulated
+pub mod Contract

@@ -6,7 +6,7 @@ use Rattle.grin_syntax.specs.Formed.{AllOf}
 use Rattle.grin_meaning.specs.Slim.{target_weight, act_weight, code_weight, arms_weight, procs_weight, act_calls, code_calls, arms_calls, procs_calls, node_words, end_words, inner_words, code_words, arms_words, procedure_words}
 use Rattle.grin_meaning.specs.Spliced.{spliced}
 use Rattle.flat_blocks.specs.Flat.{flat_act, flat_code, flat_arms}
-use Rattle.flat_blocks.proofs.Shape.{flat_procedure}
+use Rattle.flat_blocks.proofs.Gives.{flat_procedure}
 
 -- ---- the weight
 

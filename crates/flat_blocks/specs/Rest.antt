@@ -7,6 +7,6 @@ pub data Rest : Type 0 where
   nothing : Rest
   to : Target → Code → Rest
 
-abbrev pub with_rest : Rest → Code → Code
-with_rest nothing c = c
-with_rest (to t k) c = spliced c t k
+abbrev pub with_continuation : Rest → Code → Code
+with_continuation nothing c = c
+with_continuation (to t k) c = spliced c t k

@@ -4,7 +4,7 @@
 ghost use Rattle.std.specs.Prelude.{◌≡◌, map, IfOk, OnOk};
 ghost use Rattle.grin_syntax.specs.Tree.{Code, end, act_of, before_of, arm_of, code_of, all_before};
 ghost use Rattle.flat_blocks.specs.Flat.{flat_act, flat_code, flat_arm};
-ghost use Rattle.flat_blocks.specs.Rest.{Rest, with_rest};
+ghost use Rattle.flat_blocks.specs.Rest.{Rest, with_continuation};
 
 use grin_syntax::{Alt, Block, Op, Stmt};
 use seq::Seq;
@@ -16,8 +16,8 @@ use std::alloc::{AllocError, Global};
 #[tactic(auto, using(grin_syntax::proofs::TreeOf::tree_of, crate::proofs::Loops::case_flat), unfolding(crate::specs::Flat::flat_act))]
 fn put_op(alloc: Global, op: Op, made: &mut Seq<Stmt>) -> Result<Op, AllocError>
     ensures { IfOk result (λ o. (r : Rest)
-        → all_before (map before_of made.new) (with_rest r (end (act_of o)))
-        ≡ all_before (map before_of made.old) (with_rest r (flat_act (act_of op)))) }
+        → all_before (map before_of made.new) (with_continuation r (end (act_of o)))
+        ≡ all_before (map before_of made.old) (with_continuation r (flat_act (act_of op)))) }
 {
     match op {
         Op::Nested(block) => put_block(alloc, Box::into_inner(block), made),
@@ -55,8 +55,8 @@ fn flat_alt(alloc: Global, alt: Alt) -> Result<Alt, AllocError>
 #[cycle(flat)]
 fn put_stmt(alloc: Global, stmt: Stmt, made: &mut Seq<Stmt>) -> Result<(), AllocError>
     ensures { OnOk result ((c : Code) (r : Rest)
-        → all_before (map before_of made.new) (with_rest r (flat_code c))
-        ≡ all_before (map before_of made.old) (with_rest r (flat_code (before_of stmt c)))) }
+        → all_before (map before_of made.new) (with_continuation r (flat_code c))
+        ≡ all_before (map before_of made.old) (with_continuation r (flat_code (before_of stmt c)))) }
 {
     match stmt {
         Stmt::Store(cells) => {
@@ -75,8 +75,8 @@ fn put_stmt(alloc: Global, stmt: Stmt, made: &mut Seq<Stmt>) -> Result<(), Alloc
 #[cycle(flat)]
 fn put_block(alloc: Global, block: Block, made: &mut Seq<Stmt>) -> Result<Op, AllocError>
     ensures { IfOk result (λ o. (r : Rest)
-        → all_before (map before_of made.new) (with_rest r (end (act_of o)))
-        ≡ all_before (map before_of made.old) (with_rest r (flat_code (code_of block)))) }
+        → all_before (map before_of made.new) (with_continuation r (end (act_of o)))
+        ≡ all_before (map before_of made.old) (with_continuation r (flat_code (code_of block)))) }
 {
     for stmt in block.stmts.into_vec() {
         put_stmt(alloc, stmt, made)?;

@@ -3,7 +3,7 @@
 
 ghost use Rattle.std.specs.Prelude.{◌≡◌, IfOk};
 ghost use Rattle.grin_syntax.specs.Tree.{program_of};
-ghost use Rattle.pass_ground.specs.Vectors.{OfVectors};
+ghost use Rattle.pass_ground.specs.Vectors.{IsVectorForm};
 ghost use Rattle.flat_blocks.specs.Flat.{flat};
 ghost use Rattle.flat_blocks.specs.Flattened.{Flattened};
 
@@ -18,7 +18,7 @@ use std::alloc::{AllocError, Global};
 pub struct Flatten;
 
 impl Pass for Flatten {
-    ghost takes = { λ g. OfVectors (program_of g) };
+    ghost takes = { λ g. IsVectorForm (program_of g) };
 
     ghost gives = { λ g h. Flattened (program_of g) (program_of h) };
 

@@ -6,28 +6,28 @@ use Rattle.seq.specs.Lists.{In, here, there}
 use Rattle.seq.proofs.Member.{none_in, cons_in}
 use Rattle.seq.proofs.Order.{eq_from, differs_from, lt_from, le_from}
 use Rattle.seq.proofs.Those.{Ascends, ascends}
-use Rattle.flow_listing.specs.Ascending.{put_in, ascending}
+use Rattle.flow_listing.specs.Ascending.{inserted_ascending, ascending}
 
 -- ---- members
 
-pub put_has : (x n : ℕ) (ms : List ℕ) → (x ≡ n) ⊎ In x ms → In x (put_in n ms)
+pub put_has : (x n : ℕ) (ms : List ℕ) → (x ≡ n) ⊎ In x ms → In x (inserted_ascending n ms)
 put_has x n [] (inl e) = subst (λ m. In x (m ∷ [])) e here
 put_has x n [] (inr h) = none_in h
 put_has x n (m ∷ ms) h = go (nat_lt n m) (nat_eq n m) refl (λ k. put_has x n ms k)
   where
-    go : (b c : Bool) → nat_eq n m ≡ c → ((x ≡ n) ⊎ In x ms → In x (put_in n ms)) → In x (cond b (n ∷ m ∷ ms) (cond c (m ∷ ms) (m ∷ put_in n ms)))
+    go : (b c : Bool) → nat_eq n m ≡ c → ((x ≡ n) ⊎ In x ms → In x (inserted_ascending n ms)) → In x (cond b (n ∷ m ∷ ms) (cond c (m ∷ ms) (m ∷ inserted_ascending n ms)))
     go true c q later = ⊎_elim (λ e. subst (λ k. In x (k ∷ m ∷ ms)) e here) (λ i. there i) h
     go false true q later = ⊎_elim (λ e. subst (λ k. In x (k ∷ ms)) (e ∙ eq_from n m q) here) (λ i. i) h
-    go false false q later = ⊎_elim (λ e. there (later (inl e))) (λ i. ⊎_elim (λ e. subst (λ k. In x (k ∷ put_in n ms)) e here) (λ j. there (later (inr j))) (cons_in m ms i)) h
+    go false false q later = ⊎_elim (λ e. there (later (inl e))) (λ i. ⊎_elim (λ e. subst (λ k. In x (k ∷ inserted_ascending n ms)) e here) (λ j. there (later (inr j))) (cons_in m ms i)) h
 
-pub put_only : (x n : ℕ) (ms : List ℕ) → In x (put_in n ms) → (x ≡ n) ⊎ In x ms
+pub put_only : (x n : ℕ) (ms : List ℕ) → In x (inserted_ascending n ms) → (x ≡ n) ⊎ In x ms
 put_only x n [] h = cons_in n [] h
 put_only x n (m ∷ ms) h = go (nat_lt n m) (nat_eq n m) (λ k. put_only x n ms k) h
   where
-    go : (b c : Bool) → (In x (put_in n ms) → (x ≡ n) ⊎ In x ms) → In x (cond b (n ∷ m ∷ ms) (cond c (m ∷ ms) (m ∷ put_in n ms))) → (x ≡ n) ⊎ In x (m ∷ ms)
+    go : (b c : Bool) → (In x (inserted_ascending n ms) → (x ≡ n) ⊎ In x ms) → In x (cond b (n ∷ m ∷ ms) (cond c (m ∷ ms) (m ∷ inserted_ascending n ms))) → (x ≡ n) ⊎ In x (m ∷ ms)
     go true c later i = cons_in n (m ∷ ms) i
     go false true later i = inr i
-    go false false later i = ⊎_elim (λ e. inr (subst (λ k. In x (k ∷ ms)) e here)) (λ j. ⊎_elim (λ e. inl e) (λ k. inr (there k)) (later j)) (cons_in m (put_in n ms) i)
+    go false false later i = ⊎_elim (λ e. inr (subst (λ k. In x (k ∷ ms)) e here)) (λ j. ⊎_elim (λ e. inl e) (λ k. inr (there k)) (later j)) (cons_in m (inserted_ascending n ms) i)
 
 pub has : (x : ℕ) (ns : List ℕ) → In x ns → In x (ascending ns)
 has x [] h = none_in h
@@ -45,11 +45,11 @@ above n m ge ne = grind (arith, ge, ne)
 just_above : (n m : ℕ) → n < m → suc n ≤ m
 just_above n m lt = omega (arith, lt)
 
-pub put_ascends : (i n : ℕ) (ms : List ℕ) → i ≤ n → Ascends i ms → Ascends i (put_in n ms)
+pub put_ascends : (i n : ℕ) (ms : List ℕ) → i ≤ n → Ascends i ms → Ascends i (inserted_ascending n ms)
 put_ascends i n [] le a = (le, tt)
 put_ascends i n (m ∷ ms) le a = go (nat_lt n m) refl (nat_eq n m) refl (λ l. put_ascends (suc m) n ms l a.1)
   where
-    go : (b : Bool) → nat_lt n m ≡ b → (c : Bool) → nat_eq n m ≡ c → (suc m ≤ n → Ascends (suc m) (put_in n ms)) → Ascends i (cond b (n ∷ m ∷ ms) (cond c (m ∷ ms) (m ∷ put_in n ms)))
+    go : (b : Bool) → nat_lt n m ≡ b → (c : Bool) → nat_eq n m ≡ c → (suc m ≤ n → Ascends (suc m) (inserted_ascending n ms)) → Ascends i (cond b (n ∷ m ∷ ms) (cond c (m ∷ ms) (m ∷ inserted_ascending n ms)))
     go true p c q later = (le, (just_above n m (lt_from n m p), a.1))
     go false p true q later = a
     go false p false q later = (a.0, later (above n m (le_from n m p) (differs_from n m q)))

@@ -6,32 +6,32 @@ use Rattle.std.specs.List.{flat_map}
 use Rattle.seq.specs.Lists.{numbers_from}
 use Rattle.seq.proofs.Lists.{append_nil, take_next}
 use Rattle.grin_syntax.specs.Listing.{spaced}
-use Rattle.flow_listing.specs.Ascending.{flat_from}
+use Rattle.flow_listing.specs.Ascending.{flat_map_indexed}
 
 module _ {A B : Type 0} (f : ℕ → A → List B) where
-  flat_push : (k : ℕ) (xs : List A) (x : A) → flat_from f k (xs ++ x ∷ []) ≡ flat_from f k xs ++ f (k + length xs) x
+  flat_push : (k : ℕ) (xs : List A) (x : A) → flat_map_indexed f k (xs ++ x ∷ []) ≡ flat_map_indexed f k xs ++ f (k + length xs) x
   flat_push k [] x = append_nil (f k x) ∙ (let e : k ≡ k + 0 = omega arith in ap (λ n. f n x) e)
   flat_push k (y ∷ ys) x =
-      ap (λ l. f k y ++ l) (flat_push (suc k) ys x) ∙ sym (append_assoc (f k y) (flat_from f (suc k) ys) (f (suc k + length ys) x))
-      ∙ (let e : suc k + length ys ≡ k + length (y ∷ ys) = omega arith in ap (λ n. (f k y ++ flat_from f (suc k) ys) ++ f n x) e)
+      ap (λ l. f k y ++ l) (flat_push (suc k) ys x) ∙ sym (append_assoc (f k y) (flat_map_indexed f (suc k) ys) (f (suc k + length ys) x))
+      ∙ (let e : suc k + length ys ≡ k + length (y ∷ ys) = omega arith in ap (λ n. (f k y ++ flat_map_indexed f (suc k) ys) ++ f n x) e)
 
   -- one item more
-  pub flat_next : (xs : List A) (i n : ℕ) (x : A) (t0 t t' : List B) → i < length xs → x ≡ get_or xs i x → n ≡ i → t ≡ t0 ++ flat_from f 0 (take i xs) → t' ≡ t ++ f n x → t' ≡ t0 ++ flat_from f 0 (take (i + 1) xs)
+  pub flat_next : (xs : List A) (i n : ℕ) (x : A) (t0 t t' : List B) → i < length xs → x ≡ get_or xs i x → n ≡ i → t ≡ t0 ++ flat_map_indexed f 0 (take i xs) → t' ≡ t ++ f n x → t' ≡ t0 ++ flat_map_indexed f 0 (take (i + 1) xs)
   flat_next xs i n x t0 t t' lt e c h step =
       let l : length (take i xs) ≡ i = length-take-le i xs (omega (arith, lt)) in
-      step ∙ ap (λ s. s ++ f n x) h ∙ append_assoc t0 (flat_from f 0 (take i xs)) (f n x)
-      ∙ ap (λ m. t0 ++ (flat_from f 0 (take i xs) ++ f m x)) (let e : n ≡ 0 + length (take i xs) = omega (arith, c, l) in e)
+      step ∙ ap (λ s. s ++ f n x) h ∙ append_assoc t0 (flat_map_indexed f 0 (take i xs)) (f n x)
+      ∙ ap (λ m. t0 ++ (flat_map_indexed f 0 (take i xs) ++ f m x)) (let e : n ≡ 0 + length (take i xs) = omega (arith, c, l) in e)
       ∙ ap (λ s. t0 ++ s) (sym (flat_push 0 (take i xs) x))
-      ∙ ap (λ ys. t0 ++ flat_from f 0 ys) (sym (take_next xs i x lt e))
+      ∙ ap (λ ys. t0 ++ flat_map_indexed f 0 ys) (sym (take_next xs i x lt e))
 
-  pub flat_more : (xs : List A) (i n : ℕ) (d : A) (t0 t t' : List B) → i < length xs → n ≡ i → t ≡ t0 ++ flat_from f 0 (take i xs) → t' ≡ t ++ f n (get_or xs i d) → t' ≡ t0 ++ flat_from f 0 (take (i + 1) xs)
+  pub flat_more : (xs : List A) (i n : ℕ) (d : A) (t0 t t' : List B) → i < length xs → n ≡ i → t ≡ t0 ++ flat_map_indexed f 0 (take i xs) → t' ≡ t ++ f n (get_or xs i d) → t' ≡ t0 ++ flat_map_indexed f 0 (take (i + 1) xs)
   flat_more xs i n d t0 t t' lt c h step = flat_next xs i n (get_or xs i d) t0 t t' lt (get_or_default xs i d (get_or xs i d) lt) c h step
 
-  pub flat_done : (xs : List A) (i : ℕ) (t0 t : List B) → length xs ≤ i → t ≡ t0 ++ flat_from f 0 (take i xs) → t ≡ t0 ++ flat_from f 0 xs
-  flat_done xs i t0 t le h = h ∙ ap (λ ys. t0 ++ flat_from f 0 ys) (take_all i xs le)
+  pub flat_done : (xs : List A) (i : ℕ) (t0 t : List B) → length xs ≤ i → t ≡ t0 ++ flat_map_indexed f 0 (take i xs) → t ≡ t0 ++ flat_map_indexed f 0 xs
+  flat_done xs i t0 t le h = h ∙ ap (λ ys. t0 ++ flat_map_indexed f 0 ys) (take_all i xs le)
 
 -- items that stand for others
-pub flat_from_map : {A B C : Type 0} (g : A → B) (f : ℕ → B → List C) (k : ℕ) (xs : List A) → flat_from f k (map g xs) ≡ flat_from (λ n x. f n (g x)) k xs
+pub flat_from_map : {A B C : Type 0} (g : A → B) (f : ℕ → B → List C) (k : ℕ) (xs : List A) → flat_map_indexed f k (map g xs) ≡ flat_map_indexed (λ n x. f n (g x)) k xs
 flat_from_map g f k [] = refl
 flat_from_map g f k (x ∷ xs) = ap (λ l. f k (g x) ++ l) (flat_from_map g f (suc k) xs)
 

@@ -20,9 +20,9 @@ use Rattle.seq.specs.Lists.{numbers_from}
 use Rattle.seq.proofs.Truth.{both_ways}
 use Rattle.points_to.specs.Wanted.{tag_in, site_in}
 use Rattle.flow_listing.specs.declared.names.CellName.{CellName}
-use Rattle.flow_listing.specs.Ascending.{ascending, flat_from}
+use Rattle.flow_listing.specs.Ascending.{ascending, flat_map_indexed}
 use Rattle.flow_listing.specs.Binders.{procedure_binders}
-use Rattle.flow_listing.specs.Text.{tags_among, sites_among, in_order, variable_text, field_count, word_text, place_text, bound_text, procedure_text, name_among, cells, points}
+use Rattle.flow_listing.specs.Text.{tags_among, sites_among, ordered_words, variable_text, field_count, word_text, place_text, bound_text, procedure_text, name_of_site, cells, points}
 use Rattle.flow_listing.proofs.Ascending.{same_list, ascending_ascends, has, only}
 use Rattle.flow_listing.proofs.Sets.{tag_there, there_tag, site_there, there_site}
 
@@ -50,7 +50,7 @@ module _ (A B : Solution) (same : SameAt A B) where
       both_ways (among num (A q part)) (among num (B q part))
       (λ e. ((same q part num).0 (record { there = e })).there) (λ e. ((same q part num).1 (record { there = e })).there)
 
-  same_words : (q : Place) (part : Part) → in_order (A q part) ≡ in_order (B q part)
+  same_words : (q : Place) (part : Part) → ordered_words (A q part) ≡ ordered_words (B q part)
   same_words q part = λ i. map cell_of (same_sites q part i) ++ (map tag (same_tags q part i) ++ cond (same_number q part i) (num ∷ []) [])
 
   module _ (p : Program) (name : ℕ → Option CellName) where
@@ -68,12 +68,12 @@ module _ (A B : Solution) (same : SameAt A B) where
     same_procedure : (f : ℕ) (q : Procedure) → procedure_text p name A f q ≡ procedure_text p name B f q
     same_procedure f q = λ j.
         codes "\n" ++ q.name ++ codes ":" ++ same_place (result f) j
-        ++ flat_from (λ k b. codes "  " ++ variable_text k ++ same_bound b.var b.site j) 0 (procedure_binders q)
+        ++ flat_map_indexed (λ k b. codes "  " ++ variable_text k ++ same_bound b.var b.site j) 0 (procedure_binders q)
 
   same_text : (p : Program) → points p A ≡ points p B
   same_text p = λ j.
-      flat_map (λ c. codes "global " ++ c.name ++ codes " =" ++ same_place p (name_among (cells p)) (site c.site.0) j) p.globals
-      ++ flat_from (λ f q. same_procedure p (name_among (cells p)) f q j) 0 p.procs
+      flat_map (λ c. codes "global " ++ c.name ++ codes " =" ++ same_place p (name_of_site (cells p)) (site c.site.0) j) p.globals
+      ++ flat_map_indexed (λ f q. same_procedure p (name_of_site (cells p)) f q j) 0 p.procs
 
 pub one_text : (p : Program) (t : Tables) (cs : List Inclusion) (A B : Solution) → IsLeast t cs A → IsLeast t cs B → points p A ≡ points p B
 one_text p t cs A B a b = same_text A B (λ q part u. (a.least B b.solves q part u, b.least A a.solves q part u)) p

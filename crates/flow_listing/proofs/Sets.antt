@@ -19,7 +19,7 @@ use Rattle.seq.specs.Lists.{In, here}
 use Rattle.seq.proofs.Member.{none_in, one_in, in_flat, flat_in}
 use Rattle.seq.proofs.Truth.{both_ways}
 use Rattle.flow_listing.specs.Ascending.{ascending}
-use Rattle.flow_listing.specs.Text.{in_order}
+use Rattle.flow_listing.specs.Text.{ordered_words}
 use Rattle.flow_listing.proofs.Ascending.{is_ascending}
 use Rattle.flow_listing.proofs.Numbered.{flat_map_map}
 
@@ -63,7 +63,7 @@ module _ (A : Solution) (q : Place) (part : Part) where
       → IsStrictlyIncreasing (map (λ s. s.0) ss) → ((s : ℕ) → In s (map (λ s. s.0) ss) ↔ At A q part (Cell s))
       → IsStrictlyIncreasing (map (λ t. t.0) ts) → ((t : ℕ) → In t (map (λ t. t.0) ts) ↔ At A q part (Tag t))
       → (IsTrue b ↔ At A q part Number)
-      → o0 ≡ [] → o1 ≡ o0 ++ map (λ s. Cell s.0) ss → o2 ≡ o1 ++ map (λ t. Tag t.0) ts → o3 ≡ o2 ++ cond b (Number ∷ []) [] → o3 ≡ in_order (A q part)
+      → o0 ≡ [] → o1 ≡ o0 ++ map (λ s. Cell s.0) ss → o2 ≡ o1 ++ map (λ t. Tag t.0) ts → o3 ≡ o2 ++ cond b (Number ∷ []) [] → o3 ≡ ordered_words (A q part)
   all_words ss ts b o0 o1 o2 o3 os same os' same' number e0 e1 e2 e3 =
       let cells : map (λ s. Cell s.0) ss ≡ map Cell (ascending (flat_map site_in (A q part))) = sym (map-map Cell (λ (s : Site). s.0) ss) ∙ ap (map Cell) (all_sites (map (λ s. s.0) ss) os same) in
       let tags : map (λ t. Tag t.0) ts ≡ map Tag (ascending (flat_map tag_in (A q part))) = sym (map-map Tag (λ (t : TagId). t.0) ts) ∙ ap (map Tag) (all_tags (map (λ t. t.0) ts) os' same') in
@@ -77,11 +77,11 @@ module _ (A : Solution) (q : Place) (part : Part) where
 
 -- what may be at a place, after all is put
 pub place_put : (A : Solution) (q : Place) (f : ℕ → List ℕ) (g : Element → List ℕ) (rest : List ℕ) (ts : List TagId) (us : List Element) (t0 t1 t2 t3 : List ℕ)
-    → IsStrictlyIncreasing (map (λ t. t.0) ts) → ((t : ℕ) → In t (map (λ t. t.0) ts) ↔ At A q Tags (Tag t)) → us ≡ in_order (A q (Word 0))
+    → IsStrictlyIncreasing (map (λ t. t.0) ts) → ((t : ℕ) → In t (map (λ t. t.0) ts) ↔ At A q Tags (Tag t)) → us ≡ ordered_words (A q (Word 0))
     → t1 ≡ t0 ++ spaced (λ t. f t.0) ts → t2 ≡ t1 ++ spaced g us → t3 ≡ t2 ++ rest
-    → t3 ≡ t0 ++ ((spaced f (ascending (flat_map tag_in (A q Tags))) ++ spaced g (in_order (A q (Word 0)))) ++ rest)
+    → t3 ≡ t0 ++ ((spaced f (ascending (flat_map tag_in (A q Tags))) ++ spaced g (ordered_words (A q (Word 0)))) ++ rest)
 place_put A q f g rest ts us t0 t1 t2 t3 os same w e1 e2 e3 =
     let nodes = spaced f (ascending (flat_map tag_in (A q Tags))) in
-    let words = spaced g (in_order (A q (Word 0))) in
+    let words = spaced g (ordered_words (A q (Word 0))) in
     e3 ∙ (λ i. e2 i ++ rest) ∙ (λ i. (e1 i ++ spaced g (w i)) ++ rest) ∙ (λ i. ((t0 ++ tags_put A q Tags f ts os same i) ++ words) ++ rest)
     ∙ ap (λ l. l ++ rest) (append_assoc t0 nodes words) ∙ append_assoc t0 (nodes ++ words) rest

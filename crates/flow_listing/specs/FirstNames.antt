@@ -3,6 +3,6 @@ use Rattle.std.specs.Prelude.{Option, Some, None}
 use Rattle.flow_listing.specs.declared.names.CellName.{CellName}
 
 -- the first of two that is there
-abbrev pub either_name : Option CellName → Option CellName → Option CellName
-either_name (Some n) o = Some n
-either_name None o = o
+abbrev pub first_present_name : Option CellName → Option CellName → Option CellName
+first_present_name (Some n) o = Some n
+first_present_name None o = o

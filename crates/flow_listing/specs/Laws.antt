@@ -14,8 +14,8 @@ use Rattle.flow_listing.specs.Binders.{procedure_binders}
 use Rattle.flow_listing.specs.Text.{variable_text, points}
 
 -- a system has one text, whichever of its least solutions is listed
-abbrev pub OneText : Type 0
-OneText =
+abbrev pub ListingIsUnique : Type 0
+ListingIsUnique =
     (p : Program) (t : Tables) (cs : List Inclusion) (A B : Solution)
     → IsLeast t cs A → IsLeast t cs B → points p A ≡ points p B
 

@@ -21,7 +21,7 @@ use Rattle.flow_listing.specs.declared.binder.Binder.{Binder}
 use Rattle.flow_listing.specs.declared.names.CellName.{CellName}
 use Rattle.flow_listing.specs.declared.names.CellName.TheVariants.{Global, Local}
 use Rattle.flow_listing.specs.declared.names.NamedCell.{NamedCell}
-use Rattle.flow_listing.specs.Ascending.{ascending, flat_from}
+use Rattle.flow_listing.specs.Ascending.{ascending, flat_map_indexed}
 use Rattle.flow_listing.specs.Binders.{procedure_binders}
 
 -- ---- the names of cells
@@ -38,16 +38,16 @@ local_cell f k None = []
 local_cell f k (Some s) = record { site = s; name = Local f k } ∷ []
 
 abbrev pub local_cells : ℕ → Procedure → List NamedCell
-local_cells f q = flat_from (λ k b. local_cell f k b.site) 0 (procedure_binders q)
+local_cells f q = flat_map_indexed (λ k b. local_cell f k b.site) 0 (procedure_binders q)
 
 -- the cells of a program, in the order of its text
 abbrev pub cells : Program → List NamedCell
-cells p = flat_from global_cell 0 p.globals ++ flat_from local_cells 0 p.procs
+cells p = flat_map_indexed global_cell 0 p.globals ++ flat_map_indexed local_cells 0 p.procs
 
 -- the name of the cells of a site
-abbrev pub name_among : List NamedCell → ℕ → Option CellName
-name_among [] s = None
-name_among (c ∷ cs) s = cond (nat_eq s c.site.0) (Some c.name) (name_among cs s)
+abbrev pub name_of_site : List NamedCell → ℕ → Option CellName
+name_of_site [] s = None
+name_of_site (c ∷ cs) s = cond (nat_eq s c.site.0) (Some c.name) (name_of_site cs s)
 
 -- ---- the sets
 
@@ -59,8 +59,8 @@ abbrev pub sites_among : List Element → List ℕ
 sites_among us = ascending (flat_map site_in us)
 
 -- a set of words in its order: cells, tags, a number
-abbrev pub in_order : List Element → List Element
-in_order us =
+abbrev pub ordered_words : List Element → List Element
+ordered_words us =
     map cell_of (sites_among us) ++ (map tag (tags_among us) ++ cond (among num us) (num ∷ []) [])
 
 -- ---- the text
@@ -86,7 +86,8 @@ module _ (p : Program) where
     module _ (A : Solution) where
       -- `{&cell number}`: what may stand in a field
       abbrev pub field_text : Place → ℕ → ℕ → List ℕ
-      field_text q t i = codes "{" ++ joined word_text (in_order (A q (field t i))) ++ codes "}"
+      field_text q t i =
+          codes "{" ++ joined word_text (ordered_words (A q (field t i))) ++ codes "}"
 
       -- `(TAG {..} {..})`: the nodes of a tag, field by field
       abbrev pub node_text : Place → ℕ → List ℕ
@@ -98,7 +99,8 @@ module _ (p : Program) where
       -- what may be at a place: its nodes, and the words where it is of one word
       abbrev pub place_text : Place → List ℕ
       place_text q =
-          spaced (node_text q) (tags_among (A q tags)) ++ spaced word_text (in_order (A q (word 0)))
+          spaced (node_text q) (tags_among (A q tags))
+          ++ spaced word_text (ordered_words (A q (word 0)))
           ++ codes "\n"
 
       -- `global NAME = ..`: what the cell may hold
@@ -118,9 +120,9 @@ module _ (p : Program) where
       abbrev pub procedure_text : ℕ → Procedure → List ℕ
       procedure_text f q =
           codes "\n" ++ q.name ++ codes ":" ++ place_text (result f)
-          ++ flat_from binder_line 0 (procedure_binders q)
+          ++ flat_map_indexed binder_line 0 (procedure_binders q)
 
   abbrev pub points : Solution → List ℕ
   points A =
-      let name : ℕ → Option CellName = name_among (cells p) in
-      flat_map (global_line name A) p.globals ++ flat_from (procedure_text name A) 0 p.procs
+      let name : ℕ → Option CellName = name_of_site (cells p) in
+      flat_map (global_line name A) p.globals ++ flat_map_indexed (procedure_text name A) 0 p.procs

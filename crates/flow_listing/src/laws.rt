@@ -1,11 +1,11 @@
 //! Laws on the texts of solutions, about definitions alone: functions without a body.
 #![tactic(auto)]
 
-ghost use Rattle.flow_listing.specs.Laws.{OneText, NamedAsListed};
+ghost use Rattle.flow_listing.specs.Laws.{ListingIsUnique, NamedAsListed};
 
 /// A system has one text, whichever of its least solutions is listed.
-pub fn one_text()
-    ensures { OneText }
+pub fn listing_is_unique()
+    ensures { ListingIsUnique }
 {}
 
 /// The variable of each line has the name that it has in the program's listing.

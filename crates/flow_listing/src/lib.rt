@@ -9,4 +9,4 @@ mod names;
 mod points;
 mod words;
 
-pub use points::listed;
+pub use points::listing_text;

@@ -5,9 +5,9 @@ ghost use Rattle.std.specs.Prelude.{◌≡◌, ◌++◌, [], ◌∷◌, ℕ, con
 ghost use Rattle.std.specs.Ordering.{nat_cmp};
 ghost use Rattle.std.specs.BTreeMap as tree;
 ghost use Rattle.grin_syntax.specs.Tree.{program_of, procedure_of};
-ghost use Rattle.flow_listing.specs.Ascending.{flat_from};
-ghost use Rattle.flow_listing.specs.Text.{global_cell, local_cell, local_cells, cells, name_among};
-ghost use Rattle.flow_listing.specs.FirstNames.{either_name};
+ghost use Rattle.flow_listing.specs.Ascending.{flat_map_indexed};
+ghost use Rattle.flow_listing.specs.Text.{global_cell, local_cell, local_cells, cells, name_of_site};
+ghost use Rattle.flow_listing.specs.FirstNames.{first_present_name};
 
 use crate::binder::{Binder, binders};
 use grin_syntax::program::{GlobalCell, Grin, Site};
@@ -36,7 +36,7 @@ pub type Names = BTreeMap<u32, CellName>;
 /// The names of the cells of a program.
 pub fn names(alloc: Global, g: &Grin) -> Result<Names, AllocError>
     ensures { IfOk result (λ names. tree.get nat_cmp names
-        ≡ name_among (cells (program_of g.now))) }
+        ≡ name_of_site (cells (program_of g.now))) }
 {
     let mut named = Seq::new(alloc);
     let globals = g.globals.as_slice();
@@ -57,7 +57,7 @@ fn note_global(out: &mut Seq<NamedCell>, at: u32, cell: &GlobalCell) -> Result<(
 }
 
 fn note_globals(out: &mut Seq<NamedCell>, globals: &[GlobalCell]) -> Result<(), AllocError>
-    ensures { OnOk result (out.new ≡ out.old ++ flat_from global_cell 0 globals.now) }
+    ensures { OnOk result (out.new ≡ out.old ++ flat_map_indexed global_cell 0 globals.now) }
 {
     let mut at: u32 = 0;
     for cell in globals {
@@ -86,7 +86,7 @@ fn note_cell(
 
 fn note_cells(out: &mut Seq<NamedCell>, proc: u32, binders: &[Binder]) -> Result<(), AllocError>
     ensures { OnOk result (out.new ≡ out.old
-        ++ flat_from (λ k b. local_cell proc k b.site) 0 binders.now) }
+        ++ flat_map_indexed (λ k b. local_cell proc k b.site) 0 binders.now) }
 {
     let mut at: u32 = 0;
     for binder in binders {
@@ -98,7 +98,7 @@ fn note_cells(out: &mut Seq<NamedCell>, proc: u32, binders: &[Binder]) -> Result
 
 fn note_procs(alloc: Global, out: &mut Seq<NamedCell>, g: &Grin) -> Result<(), AllocError>
     ensures { OnOk result (out.new ≡ out.old
-        ++ flat_from (λ f q. local_cells f (procedure_of q)) 0 g.now.procs) }
+        ++ flat_map_indexed (λ f q. local_cells f (procedure_of q)) 0 g.now.procs) }
 {
     let mut at: u32 = 0;
     for proc in g.procs.as_slice() {
@@ -111,7 +111,7 @@ fn note_procs(alloc: Global, out: &mut Seq<NamedCell>, g: &Grin) -> Result<(), A
 }
 
 fn by_sites(alloc: Global, named: &[NamedCell]) -> Result<Names, AllocError>
-    ensures { IfOk result (λ names. tree.get nat_cmp names ≡ name_among named.now) }
+    ensures { IfOk result (λ names. tree.get nat_cmp names ≡ name_of_site named.now) }
 {
     let mut names = BTreeMap::new(alloc);
     for cell in named {
@@ -123,7 +123,7 @@ fn by_sites(alloc: Global, named: &[NamedCell]) -> Result<Names, AllocError>
 // A site that has no name yet gets this one.
 fn note_name(names: &mut Names, cell: NamedCell) -> Result<(), AllocError>
     ensures { OnOk result ((s : ℕ) → tree.get nat_cmp names.new s
-        ≡ either_name (tree.get nat_cmp names.old s)
+        ≡ first_present_name (tree.get nat_cmp names.old s)
         (cond (nat_eq s cell.site.0) (Some cell.name) None)) }
 {
     if names.contains_key(&cell.site.0) {

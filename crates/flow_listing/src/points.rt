@@ -9,7 +9,7 @@ ghost use Rattle.seq.specs.Lists.{numbers_from};
 ghost use Rattle.grin_syntax.specs.Tree.{program_of, procedure_of};
 ghost use Rattle.grin_syntax.specs.Listing.{spaced, joined, tag_name, procedure_name};
 ghost use Rattle.points_to.specs.Found.{found};
-ghost use Rattle.flow_listing.specs.Ascending.{flat_from};
+ghost use Rattle.flow_listing.specs.Ascending.{flat_map_indexed};
 ghost use Rattle.flow_listing.specs.Text.{variable_text, field_count, cell_text, word_text, field_text, node_text, place_text, global_line, bound_text, binder_line, procedure_text, points};
 
 use crate::binder::{Binder, binders};
@@ -25,7 +25,7 @@ use std::alloc::{AllocError, Global};
 /// line for what it may give and one for each variable that it binds. Time is linear in the program
 /// and the text, but for the ordered table of the sites and for what the solution's readers take.
 /// Running out of numbers for variables or procedures counts as want of memory.
-pub fn listed(alloc: Global, g: &Grin, flow: &Flow) -> Result<Vec<u8>, AllocError>
+pub fn listing_text(alloc: Global, g: &Grin, flow: &Flow) -> Result<Vec<u8>, AllocError>
     ensures { IfOk result (λ text. text.items ≡ points (program_of g.now) (found flow.now)) }
 {
     let names = names(alloc, g)?;
@@ -340,7 +340,7 @@ fn put_binders(
     binders: &[Binder],
 ) -> Result<(), AllocError>
     ensures { OnOk result (text.new ≡ text.old
-        ++ flat_from (binder_line (program_of g.now) (tree.get nat_cmp names.now)
+        ++ flat_map_indexed (binder_line (program_of g.now) (tree.get nat_cmp names.now)
         (found flow.now)) 0 binders.now) }
 {
     let mut at: u32 = 0;
@@ -380,7 +380,7 @@ fn put_procs(
     names: &Names,
 ) -> Result<(), AllocError>
     ensures { OnOk result (text.new ≡ text.old
-        ++ flat_from (λ f q. procedure_text (program_of g.now) (tree.get nat_cmp names.now)
+        ++ flat_map_indexed (λ f q. procedure_text (program_of g.now) (tree.get nat_cmp names.now)
         (found flow.now) f (procedure_of q)) 0 g.now.procs) }
 {
     let mut at: u32 = 0;

@@ -3,7 +3,7 @@
 
 ghost use Rattle.std.specs.Prelude.{◌≡◌, ◌++◌, [], ◌∷◌, cond, map, OnOk, IfOk};
 ghost use Rattle.points_to.specs.Found.{found};
-ghost use Rattle.flow_listing.specs.Text.{in_order};
+ghost use Rattle.flow_listing.specs.Text.{ordered_words};
 
 use flow_system::fact::{Element, Part, Place};
 use grin_syntax::program::{Site, TagId};
@@ -18,7 +18,7 @@ pub fn words(
     place: Place,
     part: Part,
 ) -> Result<Seq<Element>, AllocError>
-    ensures { IfOk result (λ us. us ≡ in_order (found flow.now place part)) }
+    ensures { IfOk result (λ us. us ≡ ordered_words (found flow.now place part)) }
 {
     let cells = flow.sites_in(alloc, place, part)?;
     let nodes = flow.tags_in(alloc, place, part)?;

@@ -5,7 +5,7 @@ use Rattle.std.proofs.lemmas.Option.{slice_get_within}
 use Rattle.seq.proofs.Truth.{true_not_false}
 use Rattle.grin_syntax.specs.declared.program.Tag.{Tag}
 use Rattle.grin_syntax.specs.Tags.{is_part, is_part_kind, is_proc, part_from}
-use Rattle.flow_system.specs.Starts.{SearchStarts}
+use Rattle.flow_system.specs.Starts.{NoPartTagBeforeStart}
 
 from_tag : (ts : List Tag) (i : ℕ) (t : Tag) → slice_get ts i ≡ Some t → drop i ts ≡ t ∷ drop (suc i) ts
 from_tag [] i t e = cc
@@ -44,7 +44,7 @@ set_there (x ∷ starts) zero at (suc f) ne = refl
 set_there (x ∷ starts) (suc g) at zero ne = refl
 set_there (x ∷ starts) (suc g) at (suc f) ne = set_there starts g at f (λ e. ne (ap suc e))
 
-pub noted : (ts : List Tag) (starts : List ℕ) (at g : ℕ) (t : Tag) → slice_get ts at ≡ Some t → ((f r : ℕ) → f ≢ g → is_part f r t ≡ false) → SearchStarts ts starts (suc at) → SearchStarts ts (slice_set starts g at) at
+pub noted : (ts : List Tag) (starts : List ℕ) (at g : ℕ) (t : Tag) → slice_get ts at ≡ Some t → ((f r : ℕ) → f ≢ g → is_part f r t ≡ false) → NoPartTagBeforeStart ts starts (suc at) → NoPartTagBeforeStart ts (slice_set starts g at) at
 noted ts starts at g t e other b f r s h = go (nat_eq f g) refl
   where
     go : (c : Bool) → nat_eq f g ≡ c → part_from at (drop at ts) f r ≡ part_from s (drop s ts) f r
@@ -56,8 +56,8 @@ noted ts starts at g t e other b f r s h = go (nat_eq f g) refl
         let ne : f ≢ g = λ w. let z : nat_eq f g ≡ true = grind (arith, nat_tests) in absurd (true_not_false (sym z ∙ q)) in
         part_later ts at f r t e (other f r ne) ∙ b f r s (sym (set_there starts g at f ne) ∙ h)
 
-pub passed : (ts : List Tag) (starts : List ℕ) (at : ℕ) (t : Tag) → slice_get ts at ≡ Some t → ((f r : ℕ) → f < length starts → is_part f r t ≡ false) → SearchStarts ts starts (suc at) → SearchStarts ts starts at
+pub passed : (ts : List Tag) (starts : List ℕ) (at : ℕ) (t : Tag) → slice_get ts at ≡ Some t → ((f r : ℕ) → f < length starts → is_part f r t ≡ false) → NoPartTagBeforeStart ts starts (suc at) → NoPartTagBeforeStart ts starts at
 passed ts starts at t e other b f r s h = part_later ts at f r t e (other f r (slice_get_within starts f s h)) ∙ b f r s h
 
-pub unnoted : (ts : List Tag) (starts : List ℕ) (n : ℕ) → ((f s : ℕ) → slice_get starts f ≡ Some s → s ≡ n) → SearchStarts ts starts n
+pub unnoted : (ts : List Tag) (starts : List ℕ) (n : ℕ) → ((f s : ℕ) → slice_get starts f ≡ Some s → s ≡ n) → NoPartTagBeforeStart ts starts n
 unnoted ts starts n all f r s h = ap (λ k. part_from k (drop k ts) f r) (sym (all f s h))

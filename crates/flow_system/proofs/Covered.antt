@@ -17,15 +17,15 @@ use Rattle.grin_syntax.specs.declared.program.Word.TheVariants.{Global}
 use Rattle.grin_syntax.specs.declared.program.Val.{Val}
 use Rattle.grin_syntax.specs.declared.program.Val.TheVariants.{Vector as VectorVal, Node as NodeVal}
 use Rattle.grin_syntax.specs.Tree.{Code, end, store, bind, Act, unit, fetch, fetch_word, update, eval, apply, call, prim, read, write, case, nested, fail, Arms, no_arm, arm, Procedure, Program}
-use Rattle.grin_meaning.specs.Values.{Datum, number, tag as tag', cell, Node, Value, node, words, Env, HeapCell, World, Answer, gives, stops, then_do, need, and_then, Binding, with_vars, one_each, Fit, fits, fits_not, unclear, fit_of, fits_if, fields_fit, node_fit, number_fit, int_fit, fields_of, made_node, as_node, word_of, words_of, value_of, node_of, bindings_of}
-use Rattle.grin_meaning.specs.Run.{Calls, act, code, arms, calls, run, choose, spend, spent, passing, places, cells_of, with_cells, with_node, place_of, number_of, on_numbers, byte_or_end, after_read, node_word, eval_cell, eval_tag, updated, apply_part, is_fun_kind, is_part_kind, is_evaluated, is_some_and, part_from, start_words, start_world, global_cells, nth_or_zero}
+use Rattle.grin_meaning.specs.Values.{Datum, number, tag as tag', cell, Node, Value, node, words, Env, HeapCell, World, Answer, gives, stops, then_do, need, and_then, Binding, with_vars, one_each, MatchOutcome, fits, fits_not, unclear, fit_of, fits_if, fields_fit, node_fit, number_fit, int_fit, fields_of, made_node, as_node, word_of, words_of, value_of, node_of, bindings_of}
+use Rattle.grin_meaning.specs.Run.{Calls, act, code, arms, calls, run, choose, spend, spent, with_state_seen, places, cells_of, with_cells, with_node, place_of, number_of, apply_arithmetic, byte_or_end, after_read, node_word, eval_cell, eval_tag, updated, apply_part, is_fun_kind, is_part_kind, is_evaluated, is_some_and, part_from, start_words, start_world, global_cells, nth_or_zero}
 use Rattle.grin_meaning.specs.Keeps.{world_of}
-use Rattle.grin_meaning.specs.Follows.{Every}
+use Rattle.grin_meaning.specs.Follows.{HoldsInEveryState}
 use Rattle.flow_system.specs.Tables.{tables, params_of}
-use Rattle.flow_system.specs.Inclusions.{cell_of, tag, site, var, result, tags, field, word, value, a_number, held, nodes_at, word_at, evaluated, extended, arguments, Sink, to, into_site, into_result, flows, applies}
+use Rattle.flow_system.specs.Inclusions.{cell_of, tag, site, var, result, tags, field, word, value, a_number, held, nodes_at, word_at, evaluated, extended, arguments, FlowSink, to, into_site, into_result, flows, applies}
 use Rattle.flow_system.specs.System.{system, act_evals, code_evals, arms_eval, procs_eval, has_eval, cells_flow, site_flows, shape_flows, act_flows, code_flows, arms_flow, globals_flow, procs_flow, start_flows}
 use Rattle.flow_system.specs.Solution.{Solution, Sets, At, one_word, AsNodes, node_tag, node_field, AsWords, word_word, IsEvaluated, evaluated_tag, evaluated_field, Waits, StandsFor, WordAmong, first, ValueGives, FetchGives, its_tag, extended_tag, extended_field, extended_last, ArgumentsGive, field_argument, word_argument, of_node, of_words, global, width, Gives, FlowsTo, Meets, AllMet, Solves}
-use Rattle.flow_system.specs.Covers.{site_at, DatumIn, AllIn, NodeIn, ValueIn, GlobalsThere, Lies, Started, Covers, SolutionsCover}
+use Rattle.flow_system.specs.Covers.{site_at, DatumIn, WordsAreInSets, NodeIn, ValueIn, GlobalCellsComeFirst, StateIsCovered, CanBeStarted, Covers, SolutionsCover}
 use Rattle.flow_system.proofs.Lying.{from_some, if_map, if_is, datum_mono, all_mono, all_snoc, Extends, extends_self, extends_on, node_on, value_on, node_mono, Narrow, value_as_node, made_if, BindingsLie, words_bound, Lands, lands, nothing_lands, ArgumentsLie, parameters_lie, nth_lies, EnvLies, env_with, WordsLie, GivenIn, word_lies, words_lie, value_lies, node_lies, place_lies}
 use Rattle.flow_system.proofs.Heap.{set_extends, set_cells, append_extends, append_cells, EachCell, SitesAre, has_sites, sites_are, CellLies, cell_on, met_front, met_back, places_lie, cells_lie, forced}
 use Rattle.grin_meaning.proofs.Fullness.{every_and}
@@ -40,8 +40,8 @@ module _ (p : Program) (A : Solution) where
   -- a run has come this far, and all lies in the solution
   pub record Good (w : World) : Type 0 where
     pub cells_good : (a : ℕ) → IfSome (slice_get w.cells a) (CellLies p A w.cells)
-    pub globals_there : GlobalsThere p w.cells
-    pub seen_good : Every (Lies p A) w.seen
+    pub globals_there : GlobalCellsComeFirst p w.cells
+    pub seen_good : HoldsInEveryState (StateIsCovered p A) w.seen
 
   -- an answer, whose value is as Y says
   abbrev Goes : (List HeapCell → Value → Type 0) → World → Answer → Type 0
@@ -72,17 +72,17 @@ module _ (p : Program) (A : Solution) where
   cond_goes Y w true x y f g = f refl
   cond_goes Y w false x y f g = g refl
 
-  pass : (env : Env) (w : World) → Good w → EnvLies p w.cells A env → Good (passing env w)
+  pass : (env : Env) (w : World) → Good w → EnvLies p w.cells A env → Good (with_state_seen env w)
   pass env w g el = record {
     cells_good = g.cells_good;
     globals_there = g.globals_there;
-    seen_good = every_and (Lies p A) w.seen _ g.seen_good (record { variables = el; cells = λ a. if_map (CellLies p A w.cells) (λ c. NodeIn p w.cells (At A (site c.site)) c.node) (slice_get w.cells a) (g.cells_good a) (λ c l. l.0); globals = g.globals_there });
+    seen_good = every_and (StateIsCovered p A) w.seen _ g.seen_good (record { variables = el; cells = λ a. if_map (CellLies p A w.cells) (λ c. NodeIn p w.cells (At A (site c.site)) c.node) (slice_get w.cells a) (g.cells_good a) (λ c l. l.0); globals = g.globals_there });
   }
 
   env_on : (h h' : List HeapCell) → Extends h h' → (env : Env) → EnvLies p h A env → EnvLies p h' A env
   env_on h h' e env el x = if_map (ValueIn p h (At A (var x))) (ValueIn p h' (At A (var x))) (env x) (el x) (value_on h h' e p (At A (var x)))
 
-  there_on : (h h' : List HeapCell) → Extends h h' → GlobalsThere p h → GlobalsThere p h'
+  there_on : (h h' : List HeapCell) → Extends h h' → GlobalCellsComeFirst p h → GlobalCellsComeFirst p h'
   there_on h h' e g i = if_map (λ c. site_at h i ≡ Some c.site.0) (λ c. site_at h' i ≡ Some c.site.0) (slice_get p.globals i) (g i) (λ c q. e.by i c.site.0 q)
 
   here : (w : World) (i : ℕ) (c : HeapCell) → Good w → slice_get w.cells i ≡ Some c → CellLies p A w.cells c
@@ -103,7 +103,7 @@ module _ (p : Program) (A : Solution) where
   abbrev Returns : ℕ → List HeapCell → Value → Type 0
   Returns f h v = ValueIn p h (At A (result f)) v
 
-  abbrev At_sink : Sink → List HeapCell → Value → Type 0
+  abbrev At_sink : FlowSink → List HeapCell → Value → Type 0
   At_sink k h v = Lands p h A v k
 
   record CallsGo (c : Calls) : Type 0 where
@@ -122,7 +122,7 @@ module _ (p : Program) (A : Solution) where
 
   module _ (c : Calls) (cg : CallsGo c) where
     -- a cell's node is evaluated
-    eval_goes : (a : Word) (k : Sink) (env : Env) (d : ℕ) (w : World) → Good w → EnvLies p w.cells A env → Meets (tables p) A (flows (evaluated (nodes_at a)) k) → IsTrue (has_eval p) → Goes (At_sink k) w (need (and_then (word_of p env a) place_of) w (λ i. eval_cell p c d i w))
+    eval_goes : (a : Word) (k : FlowSink) (env : Env) (d : ℕ) (w : World) → Good w → EnvLies p w.cells A env → Meets (tables p) A (flows (evaluated (nodes_at a)) k) → IsTrue (has_eval p) → Goes (At_sink k) w (need (and_then (word_of p env a) place_of) w (λ i. eval_cell p c d i w))
     eval_goes a k env d w g el m ev = need_goes _ (At_sink k) w (and_then (word_of p env a) place_of) _ g (place_lies p w.cells A g.globals_there env el a) (λ i pl. need_is (At_sink k) w (slice_get w.cells i) _ g (λ x q. need_is (At_sink k) w (slice_get p.tags x.node.tag) _ g (on i pl x q)))
       where
         -- an evaluated node that lies at the site is as the sink wants it
@@ -175,7 +175,7 @@ module _ (p : Program) (A : Solution) where
                             (e', set_good w' i y n g' u at_y, given _ x.site n st ise (node_on w'.cells _ e' p (At A (site x.site)) n at_x))
 
     -- a function takes one argument more
-    part_goes : (v : Val) (a : Word) (k : Sink) (d : ℕ) (n : Node) (x : Datum) (w : World) → Good w → Meets (tables p) A (flows (extended v a) k) → Meets (tables p) A (applies v a k)
+    part_goes : (v : Val) (a : Word) (k : FlowSink) (d : ℕ) (n : Node) (x : Datum) (w : World) → Good w → Meets (tables p) A (flows (extended v a) k) → Meets (tables p) A (applies v a k)
         → NodeIn p w.cells (AsNodes (tables p) (width (value v)) (ValueGives (tables p) A v)) n → DatumIn w.cells (StandsFor (tables p) A a) x → (f : ProcId) (t : Tag) → slice_get p.tags n.tag ≡ Some t → is_part_kind t.kind ≡ true → t.proc ≡ Some f
         → (r : ℕ) → t.missing ≡ r → Goes (At_sink k) w (apply_part p c d n x f.0 r w)
     part_goes v a k d n x w g m m' l y f t e e' e'' zero q = g
@@ -183,7 +183,7 @@ module _ (p : Program) (A : Solution) where
         let ws : Waits (tables p) n.tag f.0 1 = record { info = t; is_tag = e; waiting = e'; proc = f; is_proc = e''; is_f = refl; is_missing = q } in
         let X = AsNodes (tables p) (width (value v)) (ValueGives (tables p) A v) in
         let Y = Gives (tables p) A (arguments (value v) n.tag (a ∷ [])) in
-        let fields : AllIn w.cells (λ j. Y (word j)) 0 n.fields = all_mono w.cells (λ i. X (field n.tag i)) (λ j. Y (word j)) (λ j u b. field_argument l.tag_in b) 0 n.fields l.fields_in in
+        let fields : WordsAreInSets w.cells (λ j. Y (word j)) 0 n.fields = all_mono w.cells (λ i. X (field n.tag i)) (λ j. Y (word j)) (λ j u b. field_argument l.tag_in b) 0 n.fields l.fields_in in
         let last : DatumIn w.cells (Y (word (length n.fields))) x = datum_mono w.cells (StandsFor (tables p) A a) (Y (word (length n.fields))) (λ u b. word_argument {j = 0} l.tag_in l.full (first b) (omega arith)) x y in
         goes_map (Returns f.0) (At_sink k) w (c f.0 (n.fields ++ x ∷ []) d w)
         (cg.by f.0 (n.fields ++ x ∷ []) d w g (parameters_lie p w.cells A (Some 1) Y f.0 (n.fields ++ x ∷ []) (m' n.tag f.0 l.tag_in ws).0 (all_snoc w.cells (λ j. Y (word j)) 0 (length n.fields) n.fields x (omega arith) fields last)))
@@ -209,12 +209,12 @@ module _ (p : Program) (A : Solution) where
         }
 
     -- what a pattern binds
-    abbrev FitLies : List HeapCell → Fit → Type 0
+    abbrev FitLies : List HeapCell → MatchOutcome → Type 0
     FitLies h (fits bs) = BindingsLie p h A bs
     FitLies h fits_not = Unit {0}
     FitLies h unclear = Unit {0}
 
-    choose_goes : (Y : List HeapCell → Value → Type 0) (f : Fit) (w : World) (k : List Binding → Answer) (other : Answer) → Good w → FitLies w.cells f → ((bs : List Binding) → BindingsLie p w.cells A bs → Goes Y w (k bs)) → Goes Y w other → Goes Y w (choose f w k other)
+    choose_goes : (Y : List HeapCell → Value → Type 0) (f : MatchOutcome) (w : World) (k : List Binding → Answer) (other : Answer) → Good w → FitLies w.cells f → ((bs : List Binding) → BindingsLie p w.cells A bs → Goes Y w (k bs)) → Goes Y w other → Goes Y w (choose f w k other)
     choose_goes Y (fits bs) w k other g l f o = f bs l
     choose_goes Y fits_not w k other g l f o = o
     choose_goes Y unclear w k other g l f o = g
@@ -273,14 +273,14 @@ module _ (p : Program) (A : Solution) where
         on None z = tt
         on (Some n) z = tested n z (nat_eq n.tag t.0) refl
 
-    calculated : (f : PrimOp) (x y : Datum) (h : List HeapCell) → IfSome (on_numbers f x y) (λ v. ValueIn p h (Gives (tables p) A a_number) v × Narrow (Some 1) v)
+    calculated : (f : PrimOp) (x y : Datum) (h : List HeapCell) → IfSome (apply_arithmetic f x y) (λ v. ValueIn p h (Gives (tables p) A a_number) v × Narrow (Some 1) v)
     calculated f (number i) (number j) h = ((one_word refl, tt), omega arith)
     calculated f (number i) (tag' t) h = tt
     calculated f (number i) (cell a) h = tt
     calculated f (tag' t) y h = tt
     calculated f (cell a) y h = tt
 
-    reading_goes : (k : Sink) (bs : List ℕ) (w : World) → Good w → Meets (tables p) A (flows a_number k) → Goes (At_sink k) w (gives (words (number (byte_or_end bs) ∷ [])) (after_read bs w))
+    reading_goes : (k : FlowSink) (bs : List ℕ) (w : World) → Good w → Meets (tables p) A (flows a_number k) → Goes (At_sink k) w (gives (words (number (byte_or_end bs) ∷ [])) (after_read bs w))
     reading_goes k [] w g m = (extends_self w.cells, g, lands p w.cells A (Some 1) (Gives (tables p) A a_number) k _ m (one_word refl, tt) (omega arith))
     reading_goes k (b ∷ bs) w g m = (extends_self w.cells, record { cells_good = g.cells_good; globals_there = g.globals_there; seen_good = g.seen_good }, lands p w.cells A (Some 1) (Gives (tables p) A a_number) k _ m (one_word refl, tt) (omega arith))
 
@@ -304,7 +304,7 @@ module _ (p : Program) (A : Solution) where
         let env' : Env = with_vars (places (length w.cells) cs) env in
         let h' : List HeapCell = w.cells ++ hs in
         let e : Extends w.cells h' = append_extends w.cells hs in
-        let gs : GlobalsThere p h' = there_on w.cells h' e g.globals_there in
+        let gs : GlobalCellsComeFirst p h' = there_on w.cells h' e g.globals_there in
         let el' : EnvLies p h' A env' = env_with p h' A (places (length w.cells) cs) env (env_on w.cells h' e env el) (places_lie p A h' (length w.cells) cs met (has_sites w.cells cs hs (from_some (SitesAre cs) (cells_of p env' cs) hs (sites_are p env' cs) q))) in
         let new : EachCell (CellLies p A h') hs = from_some (EachCell (CellLies p A h')) (cells_of p env' cs) hs (cells_lie p A h' gs env' el' cs met) q in (
           record {
@@ -318,7 +318,7 @@ module _ (p : Program) (A : Solution) where
     mutual
       unfolding act act_flows act_evals
 
-      act_goes : (k : Sink) (o : Act) (env : Env) (d : ℕ) (w : World) → Good w → EnvLies p w.cells A env → AllMet (tables p) A (act_flows p k o) → (IsTrue (act_evals o) → IsTrue (has_eval p)) → Goes (At_sink k) w (act p c env d o w)
+      act_goes : (k : FlowSink) (o : Act) (env : Env) (d : ℕ) (w : World) → Good w → EnvLies p w.cells A env → AllMet (tables p) A (act_flows p k o) → (IsTrue (act_evals o) → IsTrue (has_eval p)) → Goes (At_sink k) w (act p c env d o w)
       act_goes k (unit v) env d w g el m ev = need_goes (GivenIn p w.cells A g.globals_there env el v) (At_sink k) w (value_of p env v) _ g (value_lies p w.cells A g.globals_there env el v)
           (λ x l. (extends_self w.cells, g, lands p w.cells A (width (value v)) (ValueGives (tables p) A v) k x m.0 l.0 l.1))
       act_goes k (fetch a) env d w g el m ev = need_goes _ (At_sink k) w (and_then (word_of p env a) place_of) _ g (place_lies p w.cells A g.globals_there env el a) (λ i pl. need_is (At_sink k) w (slice_get w.cells i) _ g
@@ -345,7 +345,7 @@ module _ (p : Program) (A : Solution) where
           (λ v w' b. lands p w'.cells A None (At A (result f.0)) k v m.1.0 b (any v)))
       act_goes k (prim f a b) env d w g el m ev = need_goes (DatumIn w.cells (StandsFor (tables p) A a)) (At_sink k) w (word_of p env a) _ g (word_lies p w.cells A g.globals_there env el a)
           (λ x _. need_goes (DatumIn w.cells (StandsFor (tables p) A b)) (At_sink k) w (word_of p env b) _ g (word_lies p w.cells A g.globals_there env el b)
-          (λ y _. need_goes _ (At_sink k) w (on_numbers f x y) _ g (calculated f x y w.cells)
+          (λ y _. need_goes _ (At_sink k) w (apply_arithmetic f x y) _ g (calculated f x y w.cells)
           (λ v l. (extends_self w.cells, g, lands p w.cells A (Some 1) (Gives (tables p) A a_number) k v m.0 l.0 l.1))))
       act_goes k read env d w g el m ev = reading_goes k w.input w g m.0
       act_goes k (write a) env d w g el m ev = need_is (At_sink k) w (and_then (word_of p env a) number_of) _ g (λ i _. (extends_self w.cells, record { cells_good = g.cells_good; globals_there = g.globals_there; seen_good = g.seen_good }, nothing_lands p _ A k))
@@ -354,26 +354,26 @@ module _ (p : Program) (A : Solution) where
       act_goes k (nested b) env d w g el m ev = code_goes k b env d w g el m ev
       act_goes k fail env d w g el m ev = g
 
-      code_goes : (k : Sink) (b : Code) (env : Env) (d : ℕ) (w : World) → Good w → EnvLies p w.cells A env → AllMet (tables p) A (code_flows p k b) → (IsTrue (code_evals b) → IsTrue (has_eval p)) → Goes (At_sink k) w (code p c env d b w)
+      code_goes : (k : FlowSink) (b : Code) (env : Env) (d : ℕ) (w : World) → Good w → EnvLies p w.cells A env → AllMet (tables p) A (code_flows p k b) → (IsTrue (code_evals b) → IsTrue (has_eval p)) → Goes (At_sink k) w (code p c env d b w)
       code_goes k (end o) env d w g el m ev = act_goes k o env d w g el m ev
       code_goes k (store cs b) env d w g el m ev = need_is (At_sink k) w (cells_of p (with_vars (places (length w.cells) cs) env) cs) _ g (λ hs q.
           let env' = with_vars (places (length w.cells) cs) env in
           let new = stored cs env w g el (met_front p A (cells_flow p cs) (code_flows p k b) m) hs q in
-          goes_on (At_sink k) w (with_cells hs w) (code p c env' d b (passing env' (with_cells hs w))) (append_extends w.cells hs)
-          (code_goes k b env' d (passing env' (with_cells hs w)) (pass env' (with_cells hs w) new.0 new.1) new.1 (met_back p A (cells_flow p cs) (code_flows p k b) m) ev))
+          goes_on (At_sink k) w (with_cells hs w) (code p c env' d b (with_state_seen env' (with_cells hs w))) (append_extends w.cells hs)
+          (code_goes k b env' d (with_state_seen env' (with_cells hs w)) (pass env' (with_cells hs w) new.0 new.1) new.1 (met_back p A (cells_flow p cs) (code_flows p k b) m) ev))
       code_goes k (bind t o b) env d w g el m ev = then_goes (At_sink (to t)) (At_sink k) w (act p c env (suc d) o w) _
           (act_goes (to t) o env (suc d) w g el (met_front p A (act_flows p (to t) o) (code_flows p k b) m) (λ e. ev (true_left (act_evals o) (code_evals b) e)))
           (λ v w' e g' l. need_goes (BindingsLie p w'.cells A) (At_sink k) w' (bindings_of p t v) _ g' l
           (λ bs bl. let el' : EnvLies p w'.cells A (with_vars bs env) = env_with p w'.cells A bs env (env_on w.cells w'.cells e env el) bl in
-          code_goes k b (with_vars bs env) d (passing (with_vars bs env) w') (pass (with_vars bs env) w' g' el') el' (met_back p A (act_flows p (to t) o) (code_flows p k b) m) (λ e. ev (true_right (act_evals o) (code_evals b) e))))
+          code_goes k b (with_vars bs env) d (with_state_seen (with_vars bs env) w') (pass (with_vars bs env) w' g' el') el' (met_back p A (act_flows p (to t) o) (code_flows p k b) m) (λ e. ev (true_right (act_evals o) (code_evals b) e))))
 
-      arms_go : (k : Sink) (v : Val) (as' : Arms) (env : Env) (d : ℕ) (x : Value) (w : World) → Good w → EnvLies p w.cells A env → ValueIn p w.cells (ValueGives (tables p) A v) x → Narrow (width (value v)) x → AllMet (tables p) A (arms_flow p k v as') → (IsTrue (arms_eval as') → IsTrue (has_eval p)) → Goes (At_sink k) w (arms p c env d x as' w)
+      arms_go : (k : FlowSink) (v : Val) (as' : Arms) (env : Env) (d : ℕ) (x : Value) (w : World) → Good w → EnvLies p w.cells A env → ValueIn p w.cells (ValueGives (tables p) A v) x → Narrow (width (value v)) x → AllMet (tables p) A (arms_flow p k v as') → (IsTrue (arms_eval as') → IsTrue (has_eval p)) → Goes (At_sink k) w (arms p c env d x as' w)
       arms_go k v no_arm env d x w g el l nw m ev = g
       arms_go k v (arm s b as') env d x w g el l nw m ev =
           let m1 : AllMet (tables p) A (code_flows p k b ++ arms_flow p k v as') = met_back p A (shape_flows v s) (code_flows p k b ++ arms_flow p k v as') m in
           choose_goes (At_sink k) (fit_of p s x) w _ _ g (fit_lies w.cells v s x (met_front p A (shape_flows v s) (code_flows p k b ++ arms_flow p k v as') m) l nw)
           (λ bs bl. let el' : EnvLies p w.cells A (with_vars bs env) = env_with p w.cells A bs env el bl in
-          code_goes k b (with_vars bs env) d (passing (with_vars bs env) w) (pass (with_vars bs env) w g el') el' (met_front p A (code_flows p k b) (arms_flow p k v as') m1) (λ e. ev (true_left (code_evals b) (arms_eval as') e)))
+          code_goes k b (with_vars bs env) d (with_state_seen (with_vars bs env) w) (pass (with_vars bs env) w g el') el' (met_front p A (code_flows p k b) (arms_flow p k v as') m1) (λ e. ev (true_left (code_evals b) (arms_eval as') e)))
           (arms_go k v as' env d x w g el l nw (met_back p A (code_flows p k b) (arms_flow p k v as') m1) (λ e. ev (true_right (code_evals b) (arms_eval as') e)))
 
   spend_goes : (Y : List HeapCell → Value → Type 0) (l : ℕ) (w : World) (k : ℕ → Answer) → Good w → ((m : ℕ) → Goes Y w (k m)) → Goes Y w (spend l w k)
@@ -402,9 +402,9 @@ module _ (p : Program) (A : Solution) where
   }
     where
       body : (f d left : ℕ) (w : World) → Good w → (q : Procedure) → slice_get p.procs f ≡ Some q → (env : Env) → EnvLies p w.cells A env → CallsGo (calls p n)
-          → Goes (Returns f) w (code p (calls p n) env d q.body (passing env (spent f d left w)))
+          → Goes (Returns f) w (code p (calls p n) env d q.body (with_state_seen env (spent f d left w)))
       body f d left w g q e env el cg =
-          code_goes (calls p n) cg (into_result f) q.body env d (passing env (spent f d left w)) (pass env (spent f d left w) (record { cells_good = g.cells_good; globals_there = g.globals_there; seen_good = g.seen_good }) el) el
+          code_goes (calls p n) cg (into_result f) q.body env d (with_state_seen env (spent f d left w)) (pass env (spent f d left w) (record { cells_good = g.cells_good; globals_there = g.globals_there; seen_good = g.seen_good }) el) el
           (from_some (λ q. AllMet (tables p) A (code_flows p (into_result f) q.body)) (slice_get p.procs f) q (body_met p.procs 0 m f f (omega arith)) e)
           (from_some (λ q. IsTrue (code_evals q.body) → IsTrue (procs_eval p.procs)) (slice_get p.procs f) q (body_evals p.procs f) e)
 
@@ -420,7 +420,7 @@ module _ (p : Program) (A : Solution) where
   globals_good h (c ∷ cs) m z zero = (record { full = z zero; tag_in = m.0 tags (tag c.tag.0) (node_tag of_node); fields_in = tt }, forced p A c.site.0 (has_eval p) (met_front p A (site_flows p c.site.0 (NodeVal c.tag [])) (globals_flow p cs) m).1)
   globals_good h (c ∷ cs) m z (suc a) = globals_good h cs (met_back p A (site_flows p c.site.0 (NodeVal c.tag [])) (globals_flow p cs) m) (λ i. z (suc i)) a
 
-  argument_lies : (h : List HeapCell) → GlobalsThere p h → (o : Option ℕ) → AllMet (tables p) A (start_flows p o) → IfSome o (λ i. (c : GlobalCell) × (slice_get p.globals i ≡ Some c)) → (f : ℕ) → f ≡ p.start.0 → (o ≡ None → ArgumentsLie p h A f []) → ArgumentsLie p h A f (start_words o)
+  argument_lies : (h : List HeapCell) → GlobalCellsComeFirst p h → (o : Option ℕ) → AllMet (tables p) A (start_flows p o) → IfSome o (λ i. (c : GlobalCell) × (slice_get p.globals i ≡ Some c)) → (f : ℕ) → f ≡ p.start.0 → (o ≡ None → ArgumentsLie p h A f []) → ArgumentsLie p h A f (start_words o)
   argument_lies h gs None m there f e none = none refl
   argument_lies h gs (Some i) m there f e none = parameters_lie p h A (Some 1) (ValueGives (tables p) A (VectorVal (Global i ∷ []))) f (cell i ∷ []) (subst (λ f. FlowsTo (tables p) A (value (VectorVal (Global i ∷ []))) (to (params_of (tables p) f))) (sym e) m.0)
       ((there.0.site.0, from_some (λ c. site_at h i ≡ Some c.site.0) (slice_get p.globals i) there.0 (gs i) there.1, of_words (first (global there.1))), tt)
@@ -440,18 +440,18 @@ module _ (p : Program) (A : Solution) where
   goes_good Y w (gives v w') g = g.1
   goes_good Y w (stops s w') g = g
 
-  run_good : Started p → Solves (tables p) (system p) A → (i : List ℕ) (n : ℕ) → Good (world_of (run p i n))
+  run_good : CanBeStarted p → Solves (tables p) (system p) A → (i : List ℕ) (n : ℕ) → Good (world_of (run p i n))
   unfolding run
   run_good s m i n =
       let start = start_flows p p.argument in
       let rest = globals_flow p p.globals ++ procs_flow p 0 p.procs in
       let m1 : AllMet (tables p) A rest = met_back p A start rest m in
-      let gs : GlobalsThere p (global_cells p) = global_sites p.globals in
+      let gs : GlobalCellsComeFirst p (global_cells p) = global_sites p.globals in
       let g : Good (start_world p i n) = record { cells_good = globals_good (global_cells p) p.globals (met_front p A (globals_flow p p.globals) (procs_flow p 0 p.procs) m1) s.no_fields; globals_there = gs; seen_good = tt } in
       goes_good (Returns p.start.0) (start_world p i n) _ ((calls_go (met_back p A (globals_flow p p.globals) (procs_flow p 0 p.procs) m1) n).by p.start.0 (start_words p.argument) 0 (start_world p i n) g
       (argument_lies (global_cells p) gs p.argument (met_front p A start rest m) s.argument_there p.start.0 refl (λ _. no_arguments (global_cells p) p.start.0)))
 
-  pub covers : Started p → Solves (tables p) (system p) A → Covers p A
+  pub covers : CanBeStarted p → Solves (tables p) (system p) A → Covers p A
   covers s m = record {
     passed = λ i n. (run_good s m i n).seen_good;
     at_end = λ i n a. if_map (CellLies p A (world_of (run p i n)).cells) (λ c. NodeIn p (world_of (run p i n)).cells (At A (site c.site)) c.node) (slice_get (world_of (run p i n)).cells a) ((run_good s m i n).cells_good a) (λ c l. l.0);

@@ -9,7 +9,7 @@ use Rattle.flow_system.specs.Tables.{tables}
 use Rattle.flow_system.specs.Inclusions.{cell_of, site, tags, field, value, Inclusion, forces}
 use Rattle.flow_system.specs.System.{has_eval, cells_flow, site_flows}
 use Rattle.flow_system.specs.Solution.{Solution, At, one_word, AsNodes, ValueGives, width, Meets, AllMet}
-use Rattle.flow_system.specs.Covers.{site_at, NodeIn, GlobalsThere}
+use Rattle.flow_system.specs.Covers.{site_at, NodeIn, GlobalCellsComeFirst}
 use Rattle.flow_system.proofs.Lying.{Extends, node_on, node_mono, BindingsLie, EnvLies, node_lies}
 use Rattle.grin_meaning.proofs.Fullness.{if_and}
 
@@ -110,7 +110,7 @@ module _ (p : Program) (A : Solution) where
   places_lie h a [] m s = tt
   places_lie h a (c ∷ cs) m s = (((c.site.0, s.0, m.0 (cell_of c.site.0) (one_word refl)), tt), places_lie h (suc a) cs (met_back (site_flows p c.site.0 c.val) (cells_flow p cs) m.1) s.1)
 
-  pub cells_lie : (h : List HeapCell) → GlobalsThere p h → (env : Env) → EnvLies p h A env → (cs : List Cell) → AllMet (tables p) A (cells_flow p cs) → IfSome (cells_of p env cs) (EachCell (CellLies h))
+  pub cells_lie : (h : List HeapCell) → GlobalCellsComeFirst p h → (env : Env) → EnvLies p h A env → (cs : List Cell) → AllMet (tables p) A (cells_flow p cs) → IfSome (cells_of p env cs) (EachCell (CellLies h))
   cells_lie h gs env el [] m = tt
   cells_lie h gs env el (c ∷ cs) m = if_and (CellLies h) (EachCell (CellLies h)) (and_then (node_of p env c.val) (λ n. Some (record { site = c.site.0; node = n }))) _ one
       (λ x l. if_and (EachCell (CellLies h)) (EachCell (CellLies h)) (cells_of p env cs) _ (cells_lie h gs env el cs (met_back (site_flows p c.site.0 c.val) (cells_flow p cs) m.1)) (λ hs k. (l, k)))

@@ -4,7 +4,7 @@ use Rattle.grin_syntax.specs.declared.program.VarId.{VarId}
 use Rattle.grin_syntax.specs.declared.program.Word.{Word}
 use Rattle.grin_syntax.specs.declared.program.Val.{Val}
 use Rattle.grin_syntax.specs.declared.program.Target.TheVariants.{Nothing, Node as NodeTarget, One as OneTarget, Vector as VectorTarget}
-use Rattle.flow_system.specs.Inclusions.{AbstractWord, Place, site, var, result, Part, tags, word, Source, value, a_cell, a_number, held, nodes_at, word_at, evaluated, extended, arguments, Sink, to, into_site, into_result, cells_at, Inclusion, flows, forces, applies}
+use Rattle.flow_system.specs.Inclusions.{AbstractWord, Place, site, var, result, Part, tags, word, Source, value, a_cell, a_number, held, nodes_at, word_at, evaluated, extended, arguments, FlowSink, to, into_site, into_result, cells_at, Inclusion, flows, forces, applies}
 use Rattle.flow_system.specs.Tables.{Tables, params_of}
 use Rattle.flow_system.specs.Solution.{Solution, Sets, At, OneWord, one_word, AsNodes, node_tag, node_field, words_tag, words_field, AsWords, word_word, tag_word, field_word, zero_word, Evaluated, evaluated_tag, evaluated_field, StandsFor, literal, variable, global, tag_itself, WordAmong, first, later, ValueGives, of_variable as value_variable, of_node, of_field, of_words, of_word, FetchGives, its_tag, its_field, its_zero, ExtendGives, extended_tag, extended_field, extended_last, ArgumentsGive, field_argument, word_argument, width, Gives, WordsTo, Reaches, FlowsTo, Meets, AllMet, Solves, IsLeast}
 use Rattle.flow_system.specs.Demands.{Asks, of_node_variable, of_variable, of_vector, of_site, of_result, of_cells, AsksFlow, Demands, by_flow, by_delayed, by_evaluated, by_argument, by_applied, Content}
@@ -84,7 +84,7 @@ module _ (p : Tables) where
     words_have X Y w i (z ∷ xs) m x (suc j) u e y = words_have X Y w (suc i) xs m.1 x j u e (subst (λ k. AsWords p X k u) (omega arith) y)
 
     -- what A asks for is in B, where B has what it asks for itself
-    asked : (k : Option ℕ) (X Y : Sets) → Within X Y → (s : Sink) (q : Place) (part : Part) (u : AbstractWord) → Reaches p B k Y s → Asks p A k X s q part u → At B q part u
+    asked : (k : Option ℕ) (X Y : Sets) → Within X Y → (s : FlowSink) (q : Place) (part : Part) (u : AbstractWord) → Reaches p B k Y s → Asks p A k X s q part u → At B q part u
     asked k X Y w s q part u r (of_node_variable x) = r _ _ (as_nodes_mono k X Y w _ _ x)
     asked k X Y w s q part u r (of_variable x) = r _ (w _ _ x)
     asked k X Y w s q part u r (of_vector {xs = xs} {x = x} {j = j} e y) = words_have X Y w 0 xs r x j u e (subst (λ k. AsWords p X k u) (omega arith) y)
@@ -92,7 +92,7 @@ module _ (p : Tables) where
     asked k X Y w s q part u r (of_result x) = r _ _ (w _ _ x)
     asked k X Y w s q part u r (of_cells st x) = r _ (stands_mono _ _ st) _ _ (as_nodes_mono k X Y w _ _ x)
 
-    flow_asked : (s : Source) (k : Sink) (q : Place) (part : Part) (u : AbstractWord) → FlowsTo p B s k → AsksFlow p A s k q part u → At B q part u
+    flow_asked : (s : Source) (k : FlowSink) (q : Place) (part : Part) (u : AbstractWord) → FlowsTo p B s k → AsksFlow p A s k q part u → At B q part u
     flow_asked s k q part u m x = asked (width s) (Gives p A s) (Gives p B s) (gives_mono s) k q part u m x
 
     pub demanded : (c : Inclusion) (q : Place) (part : Part) (u : AbstractWord) → Meets p B c → Demands p A c q part u → At B q part u
@@ -111,7 +111,7 @@ module _ (p : Tables) where
       words_reach k X all c (suc j) xs (λ i z e. subst (λ n. slice_get all n ≡ Some z) (omega arith) (f (suc i) z e)),
     )
 
-    reached : (k : Option ℕ) (X : Sets) (s : Sink) → ((q : Place) (part : Part) (u : AbstractWord) → Asks p A k X s q part u → At A q part u) → Reaches p A k X s
+    reached : (k : Option ℕ) (X : Sets) (s : FlowSink) → ((q : Place) (part : Part) (u : AbstractWord) → Asks p A k X s q part u → At A q part u) → Reaches p A k X s
     reached k X (to Nothing) c = tt
     reached k X (to (NodeTarget x)) c = λ part u y. c (var x.0) part u (of_node_variable y)
     reached k X (to (OneTarget x)) c = λ u y. c (var x.0) (word 0) u (of_variable y)

@@ -14,9 +14,9 @@ use Rattle.grin_syntax.specs.Tree.{Procedure, Program}
 use Rattle.grin_meaning.specs.Values.{Datum, number, tag as tag', cell, Node, Value, node, words, Env, HeapCell, and_then, Binding, with_vars, one_each, padded, only_word, fields_of, made_node, as_node, word_of, words_of, value_of, bindings_of}
 use Rattle.grin_meaning.specs.Run.{place_of, nth_or_zero}
 use Rattle.flow_system.specs.Tables.{tables, target_of, params_of}
-use Rattle.flow_system.specs.Inclusions.{AbstractWord, cell_of, tag, num, Place, site, var, result, Part, tags, field, word, value, Sink, to, into_site, into_result, cells_at}
-use Rattle.flow_system.specs.Solution.{Solution, Sets, At, Enough, AsNodes, node_tag, node_field, words_tag, words_field, AsWords, word_word, tag_word, field_word, zero_word, StandsFor, literal, variable, global, tag_itself, WordAmong, first, later, ValueGives, of_variable, of_node, of_field, of_words, of_word, FetchGives, its_field, its_zero, width, WordsTo, NodesTo, ReachesTarget, Reaches}
-use Rattle.flow_system.specs.Covers.{site_at, DatumIn, AllIn, NodeIn, ValueIn, GlobalsThere}
+use Rattle.flow_system.specs.Inclusions.{AbstractWord, cell_of, tag, num, Place, site, var, result, Part, tags, field, word, value, FlowSink, to, into_site, into_result, cells_at}
+use Rattle.flow_system.specs.Solution.{Solution, Sets, At, EnoughWordsForTag, AsNodes, node_tag, node_field, words_tag, words_field, AsWords, word_word, tag_word, field_word, zero_word, StandsFor, literal, variable, global, tag_itself, WordAmong, first, later, ValueGives, of_variable, of_node, of_field, of_words, of_word, FetchGives, its_field, its_zero, width, WordsTo, NodesTo, ReachesTarget, Reaches}
+use Rattle.flow_system.specs.Covers.{site_at, DatumIn, WordsAreInSets, NodeIn, ValueIn, GlobalCellsComeFirst}
 use Rattle.grin_meaning.proofs.Fullness.{if_and}
 
 -- of what may be there
@@ -36,29 +36,29 @@ datum_mono h S T f (number k) x = f num x
 datum_mono h S T f (tag' t) x = f (tag t) x
 datum_mono h S T f (cell a) x = (x.0, x.1, f (cell_of x.0) x.2)
 
-pub all_mono : (h : List HeapCell) (W W' : ℕ → AbstractWord → Type 0) → ((j : ℕ) (u : AbstractWord) → W j u → W' j u) → (i : ℕ) (ds : List Datum) → AllIn h W i ds → AllIn h W' i ds
+pub all_mono : (h : List HeapCell) (W W' : ℕ → AbstractWord → Type 0) → ((j : ℕ) (u : AbstractWord) → W j u → W' j u) → (i : ℕ) (ds : List Datum) → WordsAreInSets h W i ds → WordsAreInSets h W' i ds
 all_mono h W W' f i [] x = tt
 all_mono h W W' f i (d ∷ ds) x = (datum_mono h (W i) (W' i) (f i) d x.0, all_mono h W W' f (suc i) ds x.1)
 
 -- the same of words that are fewer than m
-pub all_below : (h : List HeapCell) (W W' : ℕ → AbstractWord → Type 0) (m : ℕ) → ((j : ℕ) (u : AbstractWord) → j < m → W j u → W' j u) → (i : ℕ) (ds : List Datum) → i + length ds ≤ m → AllIn h W i ds → AllIn h W' i ds
+pub all_below : (h : List HeapCell) (W W' : ℕ → AbstractWord → Type 0) (m : ℕ) → ((j : ℕ) (u : AbstractWord) → j < m → W j u → W' j u) → (i : ℕ) (ds : List Datum) → i + length ds ≤ m → WordsAreInSets h W i ds → WordsAreInSets h W' i ds
 all_below h W W' m f i [] le x = tt
 all_below h W W' m f i (d ∷ ds) le x = (datum_mono h (W i) (W' i) (λ u. f i u (omega arith)) d x.0, all_below h W W' m f (suc i) ds (omega arith) x.1)
 
-pub all_later : (h : List HeapCell) (W W' : ℕ → AbstractWord → Type 0) → ((j : ℕ) (u : AbstractWord) → W j u → W' (suc j) u) → (i : ℕ) (ds : List Datum) → AllIn h W i ds → AllIn h W' (suc i) ds
+pub all_later : (h : List HeapCell) (W W' : ℕ → AbstractWord → Type 0) → ((j : ℕ) (u : AbstractWord) → W j u → W' (suc j) u) → (i : ℕ) (ds : List Datum) → WordsAreInSets h W i ds → WordsAreInSets h W' (suc i) ds
 all_later h W W' f i [] x = tt
 all_later h W W' f i (d ∷ ds) x = (datum_mono h (W i) (W' (suc i)) (f i) d x.0, all_later h W W' f (suc i) ds x.1)
 
-pub all_earlier : (h : List HeapCell) (W W' : ℕ → AbstractWord → Type 0) → ((j : ℕ) (u : AbstractWord) → W (suc j) u → W' j u) → (i : ℕ) (ds : List Datum) → AllIn h W (suc i) ds → AllIn h W' i ds
+pub all_earlier : (h : List HeapCell) (W W' : ℕ → AbstractWord → Type 0) → ((j : ℕ) (u : AbstractWord) → W (suc j) u → W' j u) → (i : ℕ) (ds : List Datum) → WordsAreInSets h W (suc i) ds → WordsAreInSets h W' i ds
 all_earlier h W W' f i [] x = tt
 all_earlier h W W' f i (d ∷ ds) x = (datum_mono h (W (suc i)) (W' i) (f i) d x.0, all_earlier h W W' f (suc i) ds x.1)
 
-all_take : (h : List HeapCell) (W : ℕ → AbstractWord → Type 0) (m i : ℕ) (ds : List Datum) → AllIn h W i ds → AllIn h W i (take m ds)
+all_take : (h : List HeapCell) (W : ℕ → AbstractWord → Type 0) (m i : ℕ) (ds : List Datum) → WordsAreInSets h W i ds → WordsAreInSets h W i (take m ds)
 all_take h W zero i ds x = tt
 all_take h W (suc m) i [] x = tt
 all_take h W (suc m) i (d ∷ ds) x = (x.0, all_take h W m (suc i) ds x.1)
 
-pub all_snoc : (h : List HeapCell) (W : ℕ → AbstractWord → Type 0) (i n : ℕ) (ds : List Datum) (d : Datum) → n ≡ i + length ds → AllIn h W i ds → DatumIn h (W n) d → AllIn h W i (ds ++ d ∷ [])
+pub all_snoc : (h : List HeapCell) (W : ℕ → AbstractWord → Type 0) (i n : ℕ) (ds : List Datum) (d : Datum) → n ≡ i + length ds → WordsAreInSets h W i ds → DatumIn h (W n) d → WordsAreInSets h W i (ds ++ d ∷ [])
 all_snoc h W i n [] d e x y = (subst (λ k. DatumIn h (W k) d) (omega arith) y, tt)
 all_snoc h W i n (d' ∷ ds) d e x y = (x.0, all_snoc h W (suc i) n ds d (omega arith) x.1 y)
 
@@ -78,7 +78,7 @@ module _ (h h' : List HeapCell) (e : Extends h h') where
   datum_on S (tag' t) x = x
   datum_on S (cell a) x = (x.0, e.by a x.0 x.1, x.2)
 
-  pub all_on : (W : ℕ → AbstractWord → Type 0) (i : ℕ) (ds : List Datum) → AllIn h W i ds → AllIn h' W i ds
+  pub all_on : (W : ℕ → AbstractWord → Type 0) (i : ℕ) (ds : List Datum) → WordsAreInSets h W i ds → WordsAreInSets h' W i ds
   all_on W i [] x = tt
   all_on W i (d ∷ ds) x = (datum_on (W i) d x.0, all_on W (suc i) ds x.1)
 
@@ -106,7 +106,7 @@ module _ (p : Program) (h : List HeapCell) where
   pub node_as_node : (k : Option ℕ) (X : Sets) (n : Node) → NodeIn p h X n → NodeIn p h (AsNodes (tables p) k X) n
   node_as_node k X n x = node_mono p h X (AsNodes (tables p) k X) n node_tag (λ i u. node_field) x
 
-  enough : (k : Option ℕ) (d : Datum) (ds : List Datum) (m : ℕ) → Narrow k (words (d ∷ ds)) → m ≤ length ds → Enough k m
+  enough : (k : Option ℕ) (d : Datum) (ds : List Datum) (m : ℕ) → Narrow k (words (d ∷ ds)) → m ≤ length ds → EnoughWordsForTag k m
   enough None d ds m x le = tt
   enough (Some k) d ds m x le = omega arith
 
@@ -124,7 +124,7 @@ module _ (p : Program) (h : List HeapCell) where
           on false q = tt
           on true q =
               let le : m ≤ length ds = nat_le-true m (length ds) q in
-              let en : Enough k m = enough k (tag' t) ds m w le in
+              let en : EnoughWordsForTag k m = enough k (tag' t) ds m w le in
               record {
                 full = e ∙ ap Some (omega (arith, length-take m ds));
                 tag_in = words_tag x.0 e en;
@@ -158,23 +158,23 @@ module _ (p : Program) (h : List HeapCell) where
     BindingsLie [] = Unit {0}
     BindingsLie (b ∷ bs) = ValueIn p h (At A (var b.0)) b.1 × BindingsLie bs
 
-    pub words_bound : (X : Sets) (j : ℕ) (xs : List VarId) (ds : List Datum) → WordsTo (tables p) A X j xs → AllIn h (AsWords (tables p) X) j ds → IfSome (one_each xs ds) BindingsLie
+    pub words_bound : (X : Sets) (j : ℕ) (xs : List VarId) (ds : List Datum) → WordsTo (tables p) A X j xs → WordsAreInSets h (AsWords (tables p) X) j ds → IfSome (one_each xs ds) BindingsLie
     words_bound X j [] [] r x = tt
     words_bound X j [] (d ∷ ds) r x = tt
     words_bound X j (y ∷ xs) [] r x = tt
     words_bound X j (y ∷ xs) (d ∷ ds) r x = if_and BindingsLie BindingsLie (one_each xs ds) _ (words_bound X (suc j) xs ds r.1 x.1) (λ bs l. ((datum_mono h (AsWords (tables p) X j) (At A (var y.0) (word 0)) r.0 d x.0, tt), l))
 
-    zeros_lie : (X : Sets) (t m k i : ℕ) → X tags (tag t) → fields_of p t ≡ Some m → m ≤ i → AllIn h (AsWords (tables p) X) (suc i) (padded k [])
+    zeros_lie : (X : Sets) (t m k i : ℕ) → X tags (tag t) → fields_of p t ≡ Some m → m ≤ i → WordsAreInSets h (AsWords (tables p) X) (suc i) (padded k [])
     zeros_lie X t m zero i y e le = tt
     zeros_lie X t m (suc k) i y e le = (zero_word y e le, zeros_lie X t m k (suc i) y e (omega arith))
 
-    fields_lie : (X : Sets) (t m k i : ℕ) (ds : List Datum) → X tags (tag t) → fields_of p t ≡ Some m → m ≡ i + length ds → AllIn h (λ j. X (field t j)) i ds → AllIn h (AsWords (tables p) X) (suc i) (padded k ds)
+    fields_lie : (X : Sets) (t m k i : ℕ) (ds : List Datum) → X tags (tag t) → fields_of p t ≡ Some m → m ≡ i + length ds → WordsAreInSets h (λ j. X (field t j)) i ds → WordsAreInSets h (AsWords (tables p) X) (suc i) (padded k ds)
     fields_lie X t m zero i [] y e q x = tt
     fields_lie X t m zero i (d ∷ ds) y e q x = (datum_mono h (X (field t i)) (AsWords (tables p) X (suc i)) (λ u z. field_word {j = i} y e (omega arith) z) d x.0, fields_lie X t m zero (suc i) ds y e (omega arith) x.1)
     fields_lie X t m (suc k) i [] y e q x = zeros_lie X t m (suc k) i y e (omega arith)
     fields_lie X t m (suc k) i (d ∷ ds) y e q x = (datum_mono h (X (field t i)) (AsWords (tables p) X (suc i)) (λ u z. field_word {j = i} y e (omega arith) z) d x.0, fields_lie X t m k (suc i) ds y e (omega arith) x.1)
 
-    node_padded : (X : Sets) (k : ℕ) (n : Node) → NodeIn p h X n → AllIn h (AsWords (tables p) X) 0 (padded k (tag' n.tag ∷ n.fields))
+    node_padded : (X : Sets) (k : ℕ) (n : Node) → NodeIn p h X n → WordsAreInSets h (AsWords (tables p) X) 0 (padded k (tag' n.tag ∷ n.fields))
     node_padded X zero n x = (tag_word x.tag_in, fields_lie X n.tag (length n.fields) zero 0 n.fields x.tag_in x.full (omega arith) x.fields_in)
     node_padded X (suc k) n x = (tag_word x.tag_in, fields_lie X n.tag (length n.fields) k 0 n.fields x.tag_in x.full (omega arith) x.fields_in)
 
@@ -192,7 +192,7 @@ module _ (p : Program) (h : List HeapCell) where
     target_lies k X (VectorTarget xs) (words ds) r x w = words_bound X 0 xs ds r (all_mono h (λ j. X (word j)) (AsWords (tables p) X) (λ j u. word_word) 0 ds x)
 
     -- a value is as a sink wants it
-    abbrev pub Lands : Value → Sink → Type 0
+    abbrev pub Lands : Value → FlowSink → Type 0
     Lands v (to t) = IfSome (bindings_of p t v) BindingsLie
     Lands v (into_site s) = IfSome (as_node p v) (NodeIn p h (At A (site s)))
     Lands v (into_result f) = ValueIn p h (At A (result f)) v
@@ -201,14 +201,14 @@ module _ (p : Program) (h : List HeapCell) where
     node_lands : (k : Option ℕ) (X : Sets) (q : Place) (v : Value) → NodesTo (tables p) A k X q → ValueIn p h X v → Narrow k v → IfSome (as_node p v) (NodeIn p h (At A q))
     node_lands k X q v r x w = if_map (NodeIn p h (AsNodes (tables p) k X)) (NodeIn p h (At A q)) (as_node p v) (value_as_node k X v x w) (λ n. node_mono p h (AsNodes (tables p) k X) (At A q) n (r tags (tag n.tag)) (λ i. r (field n.tag i)))
 
-    pub lands : (k : Option ℕ) (X : Sets) (s : Sink) (v : Value) → Reaches (tables p) A k X s → ValueIn p h X v → Narrow k v → Lands v s
+    pub lands : (k : Option ℕ) (X : Sets) (s : FlowSink) (v : Value) → Reaches (tables p) A k X s → ValueIn p h X v → Narrow k v → Lands v s
     lands k X (to t) v r x w = target_lies k X t v r x w
     lands k X (into_site s) v r x w = node_lands k X (site s) v r x w
     lands k X (into_result f) v r x w = value_mono p h X (At A (result f)) r v x
     lands k X (cells_at a) v r x w = λ s y. node_lands k X (site s) v (r s y) x w
 
     -- no words land anywhere
-    pub nothing_lands : (s : Sink) → Lands (words []) s
+    pub nothing_lands : (s : FlowSink) → Lands (words []) s
     nothing_lands (to Nothing) = tt
     nothing_lands (to (NodeTarget x)) = tt
     nothing_lands (to (OneTarget x)) = tt
@@ -227,13 +227,13 @@ module _ (p : Program) (h : List HeapCell) where
     params_at (x ∷ qs) zero q e = let same : x ≡ q = cc in ap (λ y. Some y.params) same
     params_at (x ∷ qs) (suc f) q e = params_at qs f q e
 
-    pub parameters_lie : (k : Option ℕ) (X : Sets) (f : ℕ) (xs : List Datum) → ReachesTarget (tables p) A k X (params_of (tables p) f) → AllIn h (λ j. X (word j)) 0 xs → ArgumentsLie f xs
+    pub parameters_lie : (k : Option ℕ) (X : Sets) (f : ℕ) (xs : List Datum) → ReachesTarget (tables p) A k X (params_of (tables p) f) → WordsAreInSets h (λ j. X (word j)) 0 xs → ArgumentsLie f xs
     parameters_lie k X f xs r x = if_is (λ q. IfSome (one_each q.params xs) BindingsLie) (slice_get p.procs f) (λ q e.
         words_bound X 0 q.params xs (subst (λ o. ReachesTarget (tables p) A k X (target_of o)) (params_at p.procs f q e) r) (all_mono h (λ j. X (word j)) (AsWords (tables p) X) (λ j u. word_word) 0 xs x))
 
     -- word i of a node, or zero
     pub nth_lies : (a : W.Word) (s t m l j i : ℕ) (ds : List Datum) → StandsFor (tables p) A a (cell_of s) → At A (site s) tags (tag t) → fields_of p t ≡ Some m → m ≡ j + length ds → l ≡ j + i
-        → AllIn h (λ i. At A (site s) (field t i)) j ds → DatumIn h (FetchGives (tables p) A a (suc l)) (nth_or_zero ds i)
+        → WordsAreInSets h (λ i. At A (site s) (field t i)) j ds → DatumIn h (FetchGives (tables p) A a (suc l)) (nth_or_zero ds i)
     nth_lies a s t m l j i [] y z e q r x = its_zero y z e (omega arith)
     nth_lies a s t m l j zero (d ∷ ds) y z e q r x = datum_mono h (At A (site s) (field t j)) (FetchGives (tables p) A a (suc l)) (λ u k. its_field {i = l} y z e (omega arith) (subst (λ i. At A (site s) (field t i) u) (omega arith) k)) d x.0
     nth_lies a s t m l j (suc i) (d ∷ ds) y z e q r x = nth_lies a s t m l (suc j) i ds y z e (omega arith) (omega arith) x.1
@@ -252,7 +252,7 @@ module _ (p : Program) (h : List HeapCell) where
         one y true q = subst (λ z. ValueIn p h (At A (var z)) b.1) (same y q) l.0
         one y false q = e y
 
-    module _ (gs : GlobalsThere p h) (env : Env) (el : EnvLies env) where
+    module _ (gs : GlobalCellsComeFirst p h) (env : Env) (el : EnvLies env) where
       only_lies : (x : VarId) (v : Value) → ValueIn p h (At A (var x.0)) v → IfSome (only_word v) (DatumIn h (StandsFor (tables p) A (Var x)))
       only_lies x (node n) l = tt
       only_lies x (words []) l = tt
@@ -268,7 +268,7 @@ module _ (p : Program) (h : List HeapCell) where
       word_lies (TagWord t) = tag_itself
 
       abbrev pub WordsLie : List W.Word → List Datum → Type 0
-      WordsLie ws ds = AllIn h (WordAmong (tables p) A ws) 0 ds × (length ds ≡ length ws)
+      WordsLie ws ds = WordsAreInSets h (WordAmong (tables p) A ws) 0 ds × (length ds ≡ length ws)
 
       abbrev pub GivenIn : V.Val → Value → Type 0
       GivenIn v x = ValueIn p h (ValueGives (tables p) A v) x × Narrow (width (value v)) x

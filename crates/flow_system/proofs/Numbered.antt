@@ -20,7 +20,7 @@ use Rattle.flow_system.specs.declared.inclusion.Inclusion as TheInclusion
 use Rattle.flow_system.specs.Written.{inclusion_of, shown}
 use Rattle.flow_system.specs.contracts.fact.PlaceOrd.TheImpl as place_ord
 use Rattle.flow_system.specs.Readers.{named, named_sources, same_place, is_one_of, with_set, sets, readers_from, readers}
-use Rattle.flow_system.specs.Rows.{Numbers, RowsAre, Indexed, Earlier, Ends, with_reader, NotesSet, NotesSets}
+use Rattle.flow_system.specs.Rows.{Numbers, RowBelongsToSet, IsReaderIndex, AreEarlierInclusions, AppendsReader, with_reader, RecordsReader, RecordsReaderOfAll}
 
 -- ---- places
 
@@ -164,7 +164,7 @@ set_other xs i j y x apart e =
     slice_get-get_or (slice_set xs i y) j x l ∙ ap Some (get_or-set_other xs i j y x apart ∙ get_or_from_slice_get xs j x x e)
 
 -- rows under another name
-pub rows_same : (ps : List Place) (of of' : Place → List ℕ) (rows : List (List ℕ)) → ((q : Place) → of q ≡ of' q) → RowsAre ps of rows → RowsAre ps of' rows
+pub rows_same : (ps : List Place) (of of' : Place → List ℕ) (rows : List (List ℕ)) → ((q : Place) → of q ≡ of' q) → RowBelongsToSet ps of rows → RowBelongsToSet ps of' rows
 rows_same ps of of' rows same h = record { as_many = h.as_many; row = λ n q e. h.row n q e ∙ ap Some (same q) }
 
 -- where the set has a row
@@ -176,7 +176,7 @@ module _ (ps : List Place) (n : ℕ) (q : Place) (o : Option ℕ) (number : (k :
   same_reader : (of : Place → List ℕ) (qs : List Place) (p : Place) → (p ≡ q → ⊥) → with_reader of n qs p ≡ with_reader of n (qs ++ q ∷ []) p
   same_reader of qs p apart = ap (λ b. of p ++ cond b (n ∷ []) []) (apart_from qs p (same_place p q) refl apart)
 
-  pub set_noted : (old : List (List ℕ)) (at : ℕ) (row' row : List ℕ) → o ≡ Some at → slice_get old at ≡ Some row → Ends n row row' → NotesSet ps n q old (slice_set old at row')
+  pub set_noted : (old : List (List ℕ)) (at : ℕ) (row' row : List ℕ) → o ≡ Some at → slice_get old at ≡ Some row → AppendsReader n row row' → RecordsReader ps n q old (slice_set old at row')
   set_noted old at row' row is there ends = record {
     as_many = length-set old at row';
     notes = λ of qs earlier h. record {
@@ -189,7 +189,7 @@ module _ (ps : List Place) (n : ℕ) (q : Place) (o : Option ℕ) (number : (k :
     };
   }
     where
-      mine : (of : Place → List ℕ) (qs : List Place) → ((p : Place) → Earlier n (of p)) → RowsAre ps (with_reader of n qs) old → (k : ℕ) (p : Place) → slice_get ps k ≡ Some p → k ≡ at
+      mine : (of : Place → List ℕ) (qs : List Place) → ((p : Place) → AreEarlierInclusions n (of p)) → RowBelongsToSet ps (with_reader of n qs) old → (k : ℕ) (p : Place) → slice_get ps k ≡ Some p → k ≡ at
           → slice_get (slice_set old at row') k ≡ Some (with_reader of n (qs ++ q ∷ []) p)
       mine of qs earlier h k p e same =
           let here : slice_get ps at ≡ Some q = (number at).0 is in
@@ -201,7 +201,7 @@ module _ (ps : List Place) (n : ℕ) (q : Place) (o : Option ℕ) (number : (k :
           ap (slice_get (slice_set old at row')) same ∙ get_set old at row' (slice_get_within old at row there) ∙ ap Some now ∙ ap (λ p. Some (with_reader of n (qs ++ q ∷ []) p)) p_is
 
   -- where it has none
-  pub none_noted : (old : List (List ℕ)) → o ≡ None → NotesSet ps n q old old
+  pub none_noted : (old : List (List ℕ)) → o ≡ None → RecordsReader ps n q old old
   none_noted old is = record {
     as_many = refl;
     notes = λ of qs earlier h. record {
@@ -211,17 +211,17 @@ module _ (ps : List Place) (n : ℕ) (q : Place) (o : Option ℕ) (number : (k :
   }
 
 -- no set is noted yet
-pub none_so_far : (ps : List Place) (n : ℕ) (old : List (List ℕ)) → NotesSets ps n [] old old
+pub none_so_far : (ps : List Place) (n : ℕ) (old : List (List ℕ)) → RecordsReaderOfAll ps n [] old old
 none_so_far ps n old = record { as_many = refl; notes = λ of earlier h. rows_same ps of (with_reader of n []) old (λ q. sym (append-nil (of q))) h }
 
 -- one set more
-pub sets_more : (ps : List Place) (n : ℕ) (qs qs' : List Place) (q : Place) (old new newer : List (List ℕ)) → qs' ≡ qs ++ q ∷ [] → NotesSets ps n qs old new → NotesSet ps n q new newer → NotesSets ps n qs' old newer
+pub sets_more : (ps : List Place) (n : ℕ) (qs qs' : List Place) (q : Place) (old new newer : List (List ℕ)) → qs' ≡ qs ++ q ∷ [] → RecordsReaderOfAll ps n qs old new → RecordsReader ps n q new newer → RecordsReaderOfAll ps n qs' old newer
 sets_more ps n qs qs' q old new newer e h t =
-    subst (λ qs. NotesSets ps n qs old newer) (sym e)
+    subst (λ qs. RecordsReaderOfAll ps n qs old newer) (sym e)
     (record { as_many = t.as_many ∙ h.as_many; notes = λ of earlier r. t.notes of qs earlier (h.notes of earlier r) })
 
 -- rows without readers
-pub empty_are : (ps : List Place) (count : ℕ) (rows : List (List ℕ)) → count ≡ length ps → rows ≡ replicate count [] → RowsAre ps (λ q. readers_from 0 q []) rows
+pub empty_are : (ps : List Place) (count : ℕ) (rows : List (List ℕ)) → count ≡ length ps → rows ≡ replicate count [] → RowBelongsToSet ps (λ q. readers_from 0 q []) rows
 empty_are ps count rows many is = record {
   as_many = ap length is ∙ length-replicate count [] ∙ many;
   row = λ n q e.
@@ -239,11 +239,11 @@ readers_more n q (x ∷ cs) c =
     let e : suc n + length cs ≡ n + suc (length cs) = omega arith in
     ap (λ t. mine ++ t) (readers_more (suc n) q cs c ∙ ap (λ m. readers_from (suc n) q cs ++ last m) e) ∙ sym (append_assoc mine (readers_from (suc n) q cs) (last (n + suc (length cs))))
 
-earlier_readers : (n m : ℕ) (q : Place) (cs : List Inclusion) → n + length cs ≤ m → Earlier m (readers_from n q cs)
+earlier_readers : (n m : ℕ) (q : Place) (cs : List Inclusion) → n + length cs ≤ m → AreEarlierInclusions m (readers_from n q cs)
 earlier_readers n m q [] l = All-nil (λ k. k < m)
 earlier_readers n m q (c ∷ cs) l = go (is_one_of (named_sources c) q) (earlier_readers (suc n) m q cs (omega (arith, l)))
   where
-    go : (b : Bool) → Earlier m (readers_from (suc n) q cs) → Earlier m (cond b (n ∷ []) [] ++ readers_from (suc n) q cs)
+    go : (b : Bool) → AreEarlierInclusions m (readers_from (suc n) q cs) → AreEarlierInclusions m (cond b (n ∷ []) [] ++ readers_from (suc n) q cs)
     go true h = All-cons (λ k. k < m) n (readers_from (suc n) q cs) (omega (arith, l)) h
     go false h = h
 
@@ -254,7 +254,7 @@ pub many_shown : (xs : List TheInclusion.Inclusion) (i : ℕ) → i ≤ length x
 many_shown xs i l = sym (length-map (take i xs) inclusion_of ∙ length-take-le i xs l)
 
 pub inclusion_noted : (ps : List Place) (n : ℕ) (cs cs' : List Inclusion) (c : Inclusion) (qs : List Place) (old new : List (List ℕ)) → n ≡ length cs → cs' ≡ cs ++ c ∷ [] → qs ≡ named_sources c
-    → RowsAre ps (λ q. readers_from 0 q cs) old → NotesSets ps n qs old new → RowsAre ps (λ q. readers_from 0 q cs') new
+    → RowBelongsToSet ps (λ q. readers_from 0 q cs) old → RecordsReaderOfAll ps n qs old new → RowBelongsToSet ps (λ q. readers_from 0 q cs') new
 inclusion_noted ps n cs cs' c qs old new many more names h t =
     let m : 0 + length cs ≡ n = omega (arith, many) in
     rows_same ps (with_reader (λ q. readers_from 0 q cs) n qs) (λ q. readers_from 0 q cs') new
@@ -268,7 +268,7 @@ none_past [] n e = omega arith
 none_past (x ∷ xs) zero e = cc
 none_past (x ∷ xs) (suc n) e = omega (arith, none_past xs n e)
 
-pub row_there : (cs : List Inclusion) (ps : List Place) (rows : List (List ℕ)) (n : ℕ) (row : List ℕ) → Indexed cs ps rows → slice_get rows n ≡ Some row → row ≡ readers cs n
+pub row_there : (cs : List Inclusion) (ps : List Place) (rows : List (List ℕ)) (n : ℕ) (row : List ℕ) → IsReaderIndex cs ps rows → slice_get rows n ≡ Some row → row ≡ readers cs n
 unfolding readers
 row_there cs ps rows n row h e = go (slice_get ps n) refl
   where
@@ -278,7 +278,7 @@ row_there cs ps rows n row h e = go (slice_get ps n) refl
         same ∙ ap (λ o. unwrap_or (option_map (λ q. readers_from 0 q cs) o) []) (sym s ∙ ap (λ ps. slice_get ps n) h.listed)
     go None s = absurd (omega (arith, slice_get_within rows n row e, none_past ps n s, h.noted.as_many))
 
-pub no_row_there : (cs : List Inclusion) (ps : List Place) (rows : List (List ℕ)) (n : ℕ) → Indexed cs ps rows → slice_get rows n ≡ None → [] ≡ readers cs n
+pub no_row_there : (cs : List Inclusion) (ps : List Place) (rows : List (List ℕ)) (n : ℕ) → IsReaderIndex cs ps rows → slice_get rows n ≡ None → [] ≡ readers cs n
 unfolding readers
 no_row_there cs ps rows n h e = go (slice_get ps n) refl
   where
@@ -287,11 +287,11 @@ no_row_there cs ps rows n h e = go (slice_get ps n) refl
     go None s = ap (λ o. unwrap_or (option_map (λ q. readers_from 0 q cs) o) []) (sym s ∙ ap (λ ps. slice_get ps n) h.listed)
 
 -- what `system` makes
-pub indexed : (cs cs' : List Inclusion) (names ps ps' : List Place) (rows rows' : List (List ℕ)) → RowsAre ps' (λ q. readers_from 0 q cs') rows → names ≡ flat_map named cs → ps ≡ fold with_set [] names
-    → cs' ≡ cs → ps' ≡ ps → rows' ≡ rows → Indexed cs ps rows'
+pub indexed : (cs cs' : List Inclusion) (names ps ps' : List Place) (rows rows' : List (List ℕ)) → RowBelongsToSet ps' (λ q. readers_from 0 q cs') rows → names ≡ flat_map named cs → ps ≡ fold with_set [] names
+    → cs' ≡ cs → ps' ≡ ps → rows' ≡ rows → IsReaderIndex cs ps rows'
 unfolding sets
 indexed cs cs' names ps ps' rows rows' noted e listed same_cs same_ps same_rows = record {
   listed = listed ∙ ap (fold with_set []) e;
-  noted = subst (λ rows. RowsAre ps (λ q. readers_from 0 q cs) rows) (sym same_rows)
-      (subst (λ ps. RowsAre ps (λ q. readers_from 0 q cs) rows) same_ps (subst (λ cs. RowsAre ps' (λ q. readers_from 0 q cs) rows) same_cs noted));
+  noted = subst (λ rows. RowBelongsToSet ps (λ q. readers_from 0 q cs) rows) (sym same_rows)
+      (subst (λ ps. RowBelongsToSet ps (λ q. readers_from 0 q cs) rows) same_ps (subst (λ cs. RowBelongsToSet ps' (λ q. readers_from 0 q cs) rows) same_cs noted));
 }

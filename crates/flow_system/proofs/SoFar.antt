@@ -21,7 +21,7 @@ use Rattle.grin_syntax.specs.declared.program.Cell.{Cell}
 use Rattle.grin_syntax.specs.declared.program.Proc.{Proc}
 use Rattle.grin_syntax.specs.declared.program.GlobalCell.{GlobalCell}
 use Rattle.grin_syntax.specs.Tree.{Program, Procedure, procedure_of}
-use Rattle.flow_system.specs.Inclusions.{Inclusion, Sink, to, into_result}
+use Rattle.flow_system.specs.Inclusions.{Inclusion, FlowSink, to, into_result}
 use Rattle.flow_system.specs.System.{act_evals, code_evals, arms_eval, procs_eval, cells_flow, shape_flows, act_flows, code_flows, arms_flow, globals_flow, procs_flow}
 
 pub record EvalsSoFar (ss : List Stmt) (found : Bool) : Type 0 where
@@ -101,35 +101,35 @@ procs_done ps i found le f =
     sym (or_false found) ∙ sym (g.by []) ∙ ap procs_eval (append_nil (map procedure_of ps))
 
 -- inclusions, from those that were there
-pub record FlowsSoFar (p : Program) (k : Sink) (old new : List Inclusion) (ss : List Stmt) : Type 0 where
+pub record FlowsSoFar (p : Program) (k : FlowSink) (old new : List Inclusion) (ss : List Stmt) : Type 0 where
   pub by : (c : Code) → old ++ code_flows p k (all_before (map before_of ss) c) ≡ new ++ code_flows p k c
 
-pub record ArmsFlowSoFar (p : Program) (k : Sink) (v : Val) (old new : List Inclusion) (as' : List Alt) : Type 0 where
+pub record ArmsFlowSoFar (p : Program) (k : FlowSink) (v : Val) (old new : List Inclusion) (as' : List Alt) : Type 0 where
   pub by : (rest : List (Shape × Code)) → old ++ arms_flow p k v (arms_of (map arm_of as' ++ rest)) ≡ new ++ arms_flow p k v (arms_of rest)
 
 pub record CellsFlowSoFar (p : Program) (old new : List Inclusion) (cs : List Cell) : Type 0 where
   pub by : (rest : List Cell) → old ++ cells_flow p (cs ++ rest) ≡ new ++ cells_flow p rest
 
-pub no_flows : (p : Program) (k : Sink) (old : List Inclusion) → FlowsSoFar p k old old []
+pub no_flows : (p : Program) (k : FlowSink) (old : List Inclusion) → FlowsSoFar p k old old []
 no_flows p k old = record { by = λ c. refl }
 
-pub no_arms_flow : (p : Program) (k : Sink) (v : Val) (old : List Inclusion) → ArmsFlowSoFar p k v old old []
+pub no_arms_flow : (p : Program) (k : FlowSink) (v : Val) (old : List Inclusion) → ArmsFlowSoFar p k v old old []
 no_arms_flow p k v old = record { by = λ rest. refl }
 
 pub no_cells_flow : (p : Program) (old : List Inclusion) → CellsFlowSoFar p old old []
 no_cells_flow p old = record { by = λ rest. refl }
 
-pub flows_next : (p : Program) (k : Sink) (old new newer : List Inclusion) (ss : List Stmt) (i : ℕ) (s : Stmt) → i < length ss → s ≡ get_or ss i s → FlowsSoFar p k old new (take i ss)
+pub flows_next : (p : Program) (k : FlowSink) (old new newer : List Inclusion) (ss : List Stmt) (i : ℕ) (s : Stmt) → i < length ss → s ≡ get_or ss i s → FlowsSoFar p k old new (take i ss)
     → ((c : Code) → new ++ code_flows p k (before_of s c) ≡ newer ++ code_flows p k c) → FlowsSoFar p k old newer (take (i + 1) ss)
 flows_next p k old new newer ss i s lt e f h = rw (take_next ss i s lt e) (record { by = λ c. ap (λ b. old ++ code_flows p k b) (all_before_push (take i ss) s c) ∙ f.by (before_of s c) ∙ h c })
 
-pub flows_done : (p : Program) (k : Sink) (old new last : List Inclusion) (b : Block) (i : ℕ) → length b.stmts ≤ i → FlowsSoFar p k old new (take i b.stmts) → last ≡ new ++ act_flows p k (act_of b.last.value) → last ≡ old ++ code_flows p k (code_of b)
+pub flows_done : (p : Program) (k : FlowSink) (old new last : List Inclusion) (b : Block) (i : ℕ) → length b.stmts ≤ i → FlowsSoFar p k old new (take i b.stmts) → last ≡ new ++ act_flows p k (act_of b.last.value) → last ≡ old ++ code_flows p k (code_of b)
 unfolding act_flows
 flows_done p k old new last b i le f h =
     let g : FlowsSoFar p k old new b.stmts = subst (FlowsSoFar p k old new) (take_all i b.stmts le) f in
     h ∙ sym (g.by (end (act_of b.last.value))) ∙ ap (λ c. old ++ code_flows p k c) (sym (code_of-parts b))
 
-pub arms_flow_next : (p : Program) (k : Sink) (v : Val) (old new one newer : List Inclusion) (as' : List Alt) (i : ℕ) (a : Alt) → i < length as' → a ≡ get_or as' i a → ArmsFlowSoFar p k v old new (take i as')
+pub arms_flow_next : (p : Program) (k : FlowSink) (v : Val) (old new one newer : List Inclusion) (as' : List Alt) (i : ℕ) (a : Alt) → i < length as' → a ≡ get_or as' i a → ArmsFlowSoFar p k v old new (take i as')
     → one ≡ new ++ shape_flows v a.pattern → newer ≡ one ++ code_flows p k (code_of a.body) → ArmsFlowSoFar p k v old newer (take (i + 1) as')
 unfolding act_flows
 arms_flow_next p k v old new one newer as' i a lt e f h h' = rw (take_next as' i a lt e) (record {
@@ -138,7 +138,7 @@ arms_flow_next p k v old new one newer as' i a lt e f h h' = rw (take_next as' i
       ∙ sym (append_assoc one (code_flows p k (code_of a.body)) (arms_flow p k v (arms_of rest))) ∙ ap (λ l. l ++ arms_flow p k v (arms_of rest)) (sym h');
 })
 
-pub arms_flow_done : (p : Program) (k : Sink) (v : Val) (old new : List Inclusion) (as' : List Alt) (i : ℕ) → length as' ≤ i → ArmsFlowSoFar p k v old new (take i as') → new ≡ old ++ arms_flow p k v (arms_of (map arm_of as'))
+pub arms_flow_done : (p : Program) (k : FlowSink) (v : Val) (old new : List Inclusion) (as' : List Alt) (i : ℕ) → length as' ≤ i → ArmsFlowSoFar p k v old new (take i as') → new ≡ old ++ arms_flow p k v (arms_of (map arm_of as'))
 unfolding act_flows
 arms_flow_done p k v old new as' i le f =
     let g : ArmsFlowSoFar p k v old new as' = subst (ArmsFlowSoFar p k v old new) (take_all i as' le) f in
@@ -149,12 +149,12 @@ cells_done p old new cs i le f =
     let g : CellsFlowSoFar p old new cs = subst (CellsFlowSoFar p old new) (take_all i cs le) f in
     sym (append_nil new) ∙ sym (g.by []) ∙ ap (λ l. old ++ cells_flow p l) (append_nil cs)
 
-pub store_flows : (p : Program) (k : Sink) (old new : List Inclusion) (s : Stmt) (cs : List Cell) → s ≡ Store cs → new ≡ old ++ cells_flow p cs → (c : Code) → old ++ code_flows p k (before_of s c) ≡ new ++ code_flows p k c
+pub store_flows : (p : Program) (k : FlowSink) (old new : List Inclusion) (s : Stmt) (cs : List Cell) → s ≡ Store cs → new ≡ old ++ cells_flow p cs → (c : Code) → old ++ code_flows p k (before_of s c) ≡ new ++ code_flows p k c
 unfolding act_flows
 store_flows p k old new s cs e h c =
     ap (λ s. old ++ code_flows p k (before_of s c)) e ∙ ap (λ b. old ++ code_flows p k b) (ap (λ f. f c) (before_of-Store cs)) ∙ sym (append_assoc old (cells_flow p cs) (code_flows p k c)) ∙ ap (λ l. l ++ code_flows p k c) (sym h)
 
-pub bind_flows : (p : Program) (k : Sink) (old new : List Inclusion) (s : Stmt) (t : Target) (o : Op) → s ≡ Bind t o → new ≡ old ++ act_flows p (to t) (act_of o) → (c : Code) → old ++ code_flows p k (before_of s c) ≡ new ++ code_flows p k c
+pub bind_flows : (p : Program) (k : FlowSink) (old new : List Inclusion) (s : Stmt) (t : Target) (o : Op) → s ≡ Bind t o → new ≡ old ++ act_flows p (to t) (act_of o) → (c : Code) → old ++ code_flows p k (before_of s c) ≡ new ++ code_flows p k c
 unfolding act_flows
 bind_flows p k old new s t o e h c =
     ap (λ s. old ++ code_flows p k (before_of s c)) e ∙ ap (λ b. old ++ code_flows p k b) (ap (λ f. f c) (before_of-Bind t o)) ∙ sym (append_assoc old (act_flows p (to t) (act_of o)) (code_flows p k c)) ∙ ap (λ l. l ++ code_flows p k c) (sym h)

@@ -7,7 +7,7 @@ use Rattle.grin_syntax.specs.declared.program.GlobalCell.{GlobalCell}
 use Rattle.grin_syntax.specs.Tree.{Program}
 use Rattle.grin_syntax.specs.Formed.{GlobalFormed, ArgumentKnown, Formed}
 use Rattle.grin_meaning.specs.Values.{and_then, fields_of}
-use Rattle.flow_system.specs.Covers.{FormedProgramsAreStarted}
+use Rattle.flow_system.specs.Covers.{FormedProgramsCanStart}
 
 module _ (p : Program) (f : Formed p) where
   no_fields : (i : ℕ) → IfSome (slice_get p.globals i) (λ c. fields_of p c.tag.0 ≡ Some 0)
@@ -27,5 +27,5 @@ module _ (p : Program) (f : Formed p) where
       on (inl s) = (s.0, s.2)
       on (inr n) = absurd (omega (arith, h, n.0))
 
-pub formed_is_started : FormedProgramsAreStarted
+pub formed_is_started : FormedProgramsCanStart
 formed_is_started p f = record { no_fields = no_fields p f; argument_there = there p f p.argument f.argument }

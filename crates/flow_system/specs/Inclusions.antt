@@ -30,16 +30,16 @@ pub data Source : Type 0 where
 
 -- where it flows to: the variables of a target; the cells of a site; the result of a procedure; the
 -- cells of a word
-pub data Sink : Type 0 where
-  to : Target → Sink
-  into_site : ℕ → Sink
-  into_result : ℕ → Sink
-  cells_at : Word → Sink
+pub data FlowSink : Type 0 where
+  to : Target → FlowSink
+  into_site : ℕ → FlowSink
+  into_result : ℕ → FlowSink
+  cells_at : Word → FlowSink
 
 pub data Inclusion : Type 0 where
   -- what the source gives is at the sink
-  flows : Source → Sink → Inclusion
+  flows : Source → FlowSink → Inclusion
   -- the delayed calls in the cells of the site are evaluated
   forces : ℕ → Inclusion
   -- the functions that wait for one argument are called with it, and their results are at the sink
-  applies : Val → Word → Sink → Inclusion
+  applies : Val → Word → FlowSink → Inclusion

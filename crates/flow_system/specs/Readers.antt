@@ -8,7 +8,7 @@ use Rattle.grin_syntax.specs.declared.program.Val.{Val}
 use Rattle.grin_syntax.specs.declared.program.Val.TheVariants.{NodeVar, Node as NodeVal, Vector as VectorVal, One as OneVal}
 use Rattle.grin_syntax.specs.declared.program.Target.{Target}
 use Rattle.grin_syntax.specs.declared.program.Target.TheVariants.{Nothing, Node as NodeTarget, One as OneTarget, Vector as VectorTarget}
-use Rattle.flow_system.specs.Inclusions.{Place, site, var, result, Source, value, a_cell, a_number, held, nodes_at, word_at, evaluated, extended, arguments, Sink, to, into_site, into_result, cells_at, Inclusion, flows, forces, applies}
+use Rattle.flow_system.specs.Inclusions.{Place, site, var, result, Source, value, a_cell, a_number, held, nodes_at, word_at, evaluated, extended, arguments, FlowSink, to, into_site, into_result, cells_at, Inclusion, flows, forces, applies}
 
 -- the set that a word names: that of a variable
 abbrev pub named_word : W.Word → List Place
@@ -37,7 +37,7 @@ named_source (extended v a) = named_value v ++ named_word a
 named_source (arguments s t ws) = named_source s ++ flat_map named_word ws
 
 -- the set that says at which places a sink is
-abbrev pub named_condition : Sink → List Place
+abbrev pub named_condition : FlowSink → List Place
 named_condition (to t) = []
 named_condition (into_site s) = []
 named_condition (into_result f) = []
@@ -51,7 +51,7 @@ named_variables (OneTarget x) = var x.0 ∷ []
 named_variables (VectorTarget xs) = map (λ x. var x.0) xs
 
 -- the sets that a sink adds to
-abbrev pub named_sink : Sink → List Place
+abbrev pub named_sink : FlowSink → List Place
 named_sink (to t) = named_variables t
 named_sink (into_site s) = site s ∷ []
 named_sink (into_result f) = result f ∷ []

@@ -12,7 +12,7 @@ use Rattle.grin_syntax.specs.declared.program.Val.TheVariants.{NodeVar, Node as 
 use Rattle.grin_syntax.specs.declared.program.Target.{Target}
 use Rattle.grin_syntax.specs.declared.program.Target.TheVariants.{Nothing, Node as NodeTarget, One as OneTarget, Vector as VectorTarget}
 use Rattle.grin_meaning.specs.Run.{is_part_kind, is_fun_kind, part_from}
-use Rattle.flow_system.specs.Inclusions.{AbstractWord, cell_of, tag, num, Place, site, var, result, Part, tags, field, word, Source, value, a_cell, a_number, held, nodes_at, word_at, evaluated, extended, arguments, Sink, to, into_site, into_result, cells_at, Inclusion, flows, forces, applies}
+use Rattle.flow_system.specs.Inclusions.{AbstractWord, cell_of, tag, num, Place, site, var, result, Part, tags, field, word, Source, value, a_cell, a_number, held, nodes_at, word_at, evaluated, extended, arguments, FlowSink, to, into_site, into_result, cells_at, Inclusion, flows, forces, applies}
 use Rattle.flow_system.specs.Tables.{Tables, fields_of, params_of}
 
 -- what may be at each place, part by part: finite sets, as lists
@@ -42,16 +42,16 @@ pub data OneWord (S : AbstractWord → Type 0) : Part → AbstractWord → Type 
   one_word : {u : AbstractWord} → S u → OneWord S (word 0) u
 
 -- how many words stand side by side: at most so many, or, for `None`, any number
-abbrev pub AtMost : Type 0
-AtMost = Option ℕ
+abbrev pub WordBound : Type 0
+WordBound = Option ℕ
 
 -- so many words are enough for a tag and m fields
-abbrev pub Enough : AtMost → ℕ → Type 0
-Enough None m = Unit {0}
-Enough (Some k) m = m < k
+abbrev pub EnoughWordsForTag : WordBound → ℕ → Type 0
+EnoughWordsForTag None m = Unit {0}
+EnoughWordsForTag (Some k) m = m < k
 
 -- how many words a source has; of what is held any number
-abbrev pub width : Source → AtMost
+abbrev pub width : Source → WordBound
 width (value (VectorVal ws)) = Some (length ws)
 width (value (NodeVar x)) = None
 width (held q) = None
@@ -59,13 +59,13 @@ width _ = Some 1
 
 module _ (p : Tables) where
   -- what stands there as nodes: the nodes, and a node for each tag in the first set of k words
-  pub data AsNodes (k : AtMost) (X : Sets) : Part → AbstractWord → Type 0 where
+  pub data AsNodes (k : WordBound) (X : Sets) : Part → AbstractWord → Type 0 where
     node_tag : {u : AbstractWord} → X tags u → AsNodes k X tags u
     node_field : {t i : ℕ} {u : AbstractWord} → X (field t i) u → AsNodes k X (field t i) u
     words_tag : {t m : ℕ} → X (word 0) (tag t) → fields_of p t ≡ Some m
-        → Enough k m → AsNodes k X tags (tag t)
+        → EnoughWordsForTag k m → AsNodes k X tags (tag t)
     words_field : {t m i : ℕ} {u : AbstractWord} → X (word 0) (tag t) → fields_of p t ≡ Some m
-        → Enough k m → i < m → X (word (suc i)) u → AsNodes k X (field t i) u
+        → EnoughWordsForTag k m → i < m → X (word (suc i)) u → AsNodes k X (field t i) u
 
   -- what stands there as words: the words, and for each node its tag, its fields, and numbers after
   -- them
@@ -179,24 +179,24 @@ module _ (p : Tables) where
     WordsTo X j (x ∷ xs) =
         ((u : AbstractWord) → AsWords X j u → At A (var x.0) (word 0) u) × WordsTo X (suc j) xs
 
-    abbrev pub NodesTo : AtMost → Sets → Place → Type 0
+    abbrev pub NodesTo : WordBound → Sets → Place → Type 0
     NodesTo k X q = (part : Part) (u : AbstractWord) → AsNodes k X part u → At A q part u
 
-    abbrev pub ReachesTarget : AtMost → Sets → Target → Type 0
+    abbrev pub ReachesTarget : WordBound → Sets → Target → Type 0
     ReachesTarget k X Nothing = Unit {0}
     ReachesTarget k X (NodeTarget x) = NodesTo k X (var x.0)
     ReachesTarget k X (OneTarget x) = (u : AbstractWord) → X (word 0) u → At A (var x.0) (word 0) u
     ReachesTarget k X (VectorTarget xs) = WordsTo X 0 xs
 
     -- what is given is at the sink; a result has nodes and words, each as given
-    abbrev pub Reaches : AtMost → Sets → Sink → Type 0
+    abbrev pub Reaches : WordBound → Sets → FlowSink → Type 0
     Reaches k X (to t) = ReachesTarget k X t
     Reaches k X (into_site s) = NodesTo k X (site s)
     Reaches k X (into_result f) =
         (part : Part) (u : AbstractWord) → X part u → At A (result f) part u
     Reaches k X (cells_at w) = (s : ℕ) → StandsFor w (cell_of s) → NodesTo k X (site s)
 
-    abbrev pub FlowsTo : Source → Sink → Type 0
+    abbrev pub FlowsTo : Source → FlowSink → Type 0
     FlowsTo s k = Reaches (width s) (Gives s) k
 
     abbrev pub Meets : Inclusion → Type 0

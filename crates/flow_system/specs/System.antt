@@ -10,7 +10,7 @@ use Rattle.grin_syntax.specs.declared.program.Cell.{Cell}
 use Rattle.grin_syntax.specs.declared.program.GlobalCell.{GlobalCell}
 use Rattle.grin_syntax.specs.Tree.{Code, end, store, bind, Act, unit, fetch, fetch_word, update, eval, apply, call, prim, read, write, case, nested, fail, Arms, no_arm, arm, Procedure, Program}
 use Rattle.flow_system.specs.Tables.{tables, params_of}
-use Rattle.flow_system.specs.Inclusions.{result, value, a_cell, a_number, held, nodes_at, word_at, evaluated, extended, arguments, Sink, to, into_site, into_result, cells_at, Inclusion, flows, forces, applies}
+use Rattle.flow_system.specs.Inclusions.{result, value, a_cell, a_number, held, nodes_at, word_at, evaluated, extended, arguments, FlowSink, to, into_site, into_result, cells_at, Inclusion, flows, forces, applies}
 
 -- whether a program has an eval
 unfoldable mutual
@@ -54,7 +54,7 @@ module _ (p : Program) where
 
   unfoldable mutual
     -- an operation whose value goes to k
-    pub act_flows : Sink → Act → List Inclusion
+    pub act_flows : FlowSink → Act → List Inclusion
     act_flows k (unit v) = flows (value v) k ∷ []
     act_flows k (fetch a) = flows (nodes_at a) k ∷ []
     act_flows k (fetch_word a i) = flows (word_at a i) k ∷ []
@@ -71,12 +71,12 @@ module _ (p : Program) where
     act_flows k (nested b) = code_flows k b
     act_flows k fail = []
 
-    pub code_flows : Sink → Code → List Inclusion
+    pub code_flows : FlowSink → Code → List Inclusion
     code_flows k (end o) = act_flows k o
     code_flows k (store cs b) = cells_flow cs ++ code_flows k b
     code_flows k (bind t o b) = act_flows (to t) o ++ code_flows k b
 
-    pub arms_flow : Sink → Val → Arms → List Inclusion
+    pub arms_flow : FlowSink → Val → Arms → List Inclusion
     arms_flow k v no_arm = []
     arms_flow k v (arm s b as') = shape_flows v s ++ (code_flows k b ++ arms_flow k v as')
 

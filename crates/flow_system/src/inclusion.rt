@@ -2,8 +2,8 @@
 
 ghost use Rattle.std.specs.Prelude.{◌≡◌, IfOk};
 ghost use Rattle.flow_system.specs.Written.{shown};
-ghost use Rattle.flow_system.specs.Rows.{Indexed};
-ghost use Rattle.flow_system.specs.Starts.{SearchStarts};
+ghost use Rattle.flow_system.specs.Rows.{IsReaderIndex};
+ghost use Rattle.flow_system.specs.Starts.{NoPartTagBeforeStart};
 
 use crate::sets::Sets;
 use grin_syntax::copies::copy_target;
@@ -31,7 +31,7 @@ pub enum Source<'a> {
 /// Where it flows to: the variables of a target, the result of a procedure, the cells of a site, or
 /// the cells that a word may stand for.
 #[derive(Drop)]
-pub enum Sink {
+pub enum FlowSink {
     To(Target),
     Result(ProcId),
     Site(Site),
@@ -43,9 +43,9 @@ pub enum Sink {
 /// called with this one, and their results flow to a sink.
 #[derive(Drop)]
 pub enum Inclusion<'a> {
-    Flows(Source<'a>, Sink),
+    Flows(Source<'a>, FlowSink),
     Forces(Site),
-    Applies(Val, Word, Sink),
+    Applies(Val, Word, FlowSink),
 }
 
 /// The flow system of a program: its tags, its global cells and the parameters of its procedures,
@@ -62,18 +62,18 @@ pub struct FlowSystem<'a> {
     pub(crate) starts: Vec<usize>,
     pub(crate) sets: Sets,
     pub(crate) rows: Seq<Seq<u32>>,
-    ghost begin: { SearchStarts tags.now starts.items 0 },
-    ghost indexed: { Indexed (shown inclusions) sets rows },
+    ghost begin: { NoPartTagBeforeStart tags.now starts.items 0 },
+    ghost indexed: { IsReaderIndex (shown inclusions) sets rows },
 }
 
 /// The same sink again.
-pub fn copy_sink(alloc: Global, sink: &Sink) -> Result<Sink, AllocError>
+pub fn copy_sink(alloc: Global, sink: &FlowSink) -> Result<FlowSink, AllocError>
     ensures { IfOk result (λ c. c ≡ sink.now) }
 {
     match sink {
-        Sink::To(target) => Ok(Sink::To(copy_target(alloc, target)?)),
-        Sink::Result(f) => Ok(Sink::Result(*f)),
-        Sink::Site(s) => Ok(Sink::Site(*s)),
-        Sink::CellsAt(w) => Ok(Sink::CellsAt(*w)),
+        FlowSink::To(target) => Ok(FlowSink::To(copy_target(alloc, target)?)),
+        FlowSink::Result(f) => Ok(FlowSink::Result(*f)),
+        FlowSink::Site(s) => Ok(FlowSink::Site(*s)),
+        FlowSink::CellsAt(w) => Ok(FlowSink::CellsAt(*w)),
     }
 }

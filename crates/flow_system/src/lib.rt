@@ -3,7 +3,7 @@
 //! of a program, `readers` the inclusions that read a set.
 #![tactic(auto)]
 
-ghost use Rattle.flow_system.specs.Covers.{SolutionsCover, FormedProgramsAreStarted};
+ghost use Rattle.flow_system.specs.Covers.{SolutionsCover, FormedProgramsCanStart};
 
 pub mod fact;
 pub mod inclusion;
@@ -15,8 +15,8 @@ pub mod starts;
 pub mod system;
 
 pub use fact::{Element, Part, Place};
-pub use inclusion::{FlowSystem, Inclusion, Sink, Source};
-pub use reading::{readers, set_of};
+pub use inclusion::{FlowSink, FlowSystem, Inclusion, Source};
+pub use reading::{readers, set_number_at};
 
 /// A solution of a program's flow system covers each run of the program.
 pub fn solutions_cover()
@@ -25,6 +25,6 @@ pub fn solutions_cover()
 
 /// A well-formed program can be started: its global cells have no fields, and the argument of its
 /// start is one of them.
-pub fn formed_programs_are_started()
-    ensures { FormedProgramsAreStarted }
+pub fn formed_programs_can_start()
+    ensures { FormedProgramsCanStart }
 {}

@@ -7,7 +7,7 @@ ghost use Rattle.flow_system.specs.Written.{source_of, sink_of, inclusion_of, sh
 ghost use Rattle.flow_system.specs.Readers.{named_word, named_value, named_source, named_condition, named_variables, named_sink, named_sources, named_targets, named};
 
 use crate::fact::Place;
-use crate::inclusion::{Inclusion, Sink, Source};
+use crate::inclusion::{FlowSink, Inclusion, Source};
 use grin_syntax::program::{Target, Val, VarId, Word};
 use seq::Seq;
 use std::alloc::{AllocError, Global};
@@ -68,14 +68,14 @@ fn put_source(source: &Source, out: &mut Seq<Place>) -> Result<(), AllocError>
     }
 }
 
-fn put_condition(sink: &Sink, out: &mut Seq<Place>) -> Result<(), AllocError>
+fn put_condition(sink: &FlowSink, out: &mut Seq<Place>) -> Result<(), AllocError>
     ensures { OnOk result (out.new ≡ out.old ++ named_condition (sink_of sink.now)) }
 {
     match sink {
-        Sink::To(_) => put_nothing(out),
-        Sink::Result(_) => put_nothing(out),
-        Sink::Site(_) => put_nothing(out),
-        Sink::CellsAt(word) => put_word(*word, out),
+        FlowSink::To(_) => put_nothing(out),
+        FlowSink::Result(_) => put_nothing(out),
+        FlowSink::Site(_) => put_nothing(out),
+        FlowSink::CellsAt(word) => put_word(*word, out),
     }
 }
 
@@ -99,14 +99,14 @@ fn put_variables(target: &Target, out: &mut Seq<Place>) -> Result<(), AllocError
     }
 }
 
-fn put_sink(sink: &Sink, out: &mut Seq<Place>) -> Result<(), AllocError>
+fn put_sink(sink: &FlowSink, out: &mut Seq<Place>) -> Result<(), AllocError>
     ensures { OnOk result (out.new ≡ out.old ++ named_sink (sink_of sink.now)) }
 {
     match sink {
-        Sink::To(target) => put_variables(target, out),
-        Sink::Result(f) => out.push(Place::Result(f.0)),
-        Sink::Site(s) => out.push(Place::Site(s.0)),
-        Sink::CellsAt(_) => put_nothing(out),
+        FlowSink::To(target) => put_variables(target, out),
+        FlowSink::Result(f) => out.push(Place::Result(f.0)),
+        FlowSink::Site(s) => out.push(Place::Site(s.0)),
+        FlowSink::CellsAt(_) => put_nothing(out),
     }
 }
 
@@ -154,7 +154,10 @@ pub(crate) fn named_sources(alloc: Global, inclusion: &Inclusion) -> Result<Seq<
 }
 
 /// All sets that these inclusions name, in order and with repeats.
-pub(crate) fn all_named(alloc: Global, inclusions: &[Inclusion]) -> Result<Seq<Place>, AllocError>
+pub(crate) fn all_named_sets(
+    alloc: Global,
+    inclusions: &[Inclusion],
+) -> Result<Seq<Place>, AllocError>
     ensures { IfOk result (λ places. places ≡ flat_map named (shown inclusions.now)) }
 {
     let mut places = Seq::new(alloc);

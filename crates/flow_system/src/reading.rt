@@ -9,7 +9,7 @@ ghost use Rattle.flow_system.specs.Readers.{sets, readers};
 
 use crate::fact::Place;
 use crate::inclusion::FlowSystem;
-use crate::starts::part_tag;
+use crate::starts::partial_tag;
 use grin_syntax::program::{ProcId, TagId};
 use std::alloc::AllocError;
 
@@ -27,7 +27,7 @@ pub fn readers<'a>(s: &'a FlowSystem<'_>, set: u32) -> &'a [u32]
 }
 
 /// The number of the set at a place, or `None` where no inclusion names it.
-pub fn set_of(s: &FlowSystem, place: Place) -> Option<u32>
+pub fn set_number_at(s: &FlowSystem, place: Place) -> Option<u32>
     ensures { (n : ℕ) → (result ≡ Some n)
         ↔ (slice_get (sets (inclusions_of s.now)) n ≡ Some place) }
 {
@@ -36,11 +36,15 @@ pub fn set_of(s: &FlowSystem, place: Place) -> Option<u32>
 
 /// The first tag of a procedure that lacks so many arguments, if there is one. Past the numbers of
 /// 32 bits there is none, which counts as want of memory.
-pub fn tag_lacking(s: &FlowSystem, f: ProcId, missing: u32) -> Result<Option<TagId>, AllocError>
+pub fn first_tag_lacking(
+    s: &FlowSystem,
+    f: ProcId,
+    missing: u32,
+) -> Result<Option<TagId>, AllocError>
     ensures { IfOk result (λ found. option_map (λ t. t.0) found
         ≡ part_from 0 s.now.tags.now f.0 missing) }
 {
-    part_tag(s.tags.as_slice(), search_start(s, f), f, missing)
+    partial_tag(s.tags.as_slice(), search_start(s, f), f, missing)
 }
 
 // A tag before which there is none of a procedure that lacks arguments.

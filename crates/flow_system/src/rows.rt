@@ -3,7 +3,7 @@
 ghost use Rattle.std.specs.Prelude.{◌≡◌, [], length, vec_len, replicate, IfOk, OnOk};
 ghost use Rattle.flow_system.specs.Written.{inclusion_of, shown};
 ghost use Rattle.flow_system.specs.Readers.{readers_from, named_sources};
-ghost use Rattle.flow_system.specs.Rows.{RowsAre, Ends, NotesSet, NotesSets};
+ghost use Rattle.flow_system.specs.Rows.{RowBelongsToSet, AppendsReader, RecordsReader, RecordsReaderOfAll};
 
 use crate::fact::Place;
 use crate::inclusion::Inclusion;
@@ -17,7 +17,7 @@ pub type Rows = Vec<Seq<u32>>;
 
 // The inclusion stands at the end of a row once, although it may name the set more than once.
 fn note_in_row(row: &mut Seq<u32>, number: u32) -> Result<(), AllocError>
-    ensures { OnOk result (Ends number row.old row.new) }
+    ensures { OnOk result (AppendsReader number row.old row.new) }
 {
     if let Some(last) = row.as_slice().last() {
         if *last == number {
@@ -30,7 +30,7 @@ fn note_in_row(row: &mut Seq<u32>, number: u32) -> Result<(), AllocError>
 // The inclusion of this number reads a set.
 fn note_set(sets: &Sets, place: Place, number: u32, rows: &mut Rows) -> Result<(), AllocError>
     requires { vec_len rows.old ≡ length sets.now }
-    ensures { OnOk result (NotesSet sets.now number place rows.old.items rows.new.items) }
+    ensures { OnOk result (RecordsReader sets.now number place rows.old.items rows.new.items) }
 {
     match sets.number(place) {
         Some(at) => {
@@ -44,7 +44,7 @@ fn note_set(sets: &Sets, place: Place, number: u32, rows: &mut Rows) -> Result<(
 // The inclusion of this number reads the sets at these places.
 fn note_sets(sets: &Sets, places: &[Place], number: u32, rows: &mut Rows) -> Result<(), AllocError>
     requires { vec_len rows.old ≡ length sets.now }
-    ensures { OnOk result (NotesSets sets.now number places.now rows.old.items rows.new.items) }
+    ensures { OnOk result (RecordsReaderOfAll sets.now number places.now rows.old.items rows.new.items) }
 {
     for place in places {
         note_set(sets, *place, number, rows)?;
@@ -65,7 +65,7 @@ fn empty_rows(alloc: Global, count: usize) -> Result<Rows, AllocError>
 /// The readers of each set among these inclusions. Running out of numbers counts as want of memory.
 pub fn rows(alloc: Global, sets: &Sets, inclusions: &[Inclusion]) -> Result<Rows, AllocError>
     ensures { IfOk result
-        (λ rows. RowsAre sets.now (λ q. readers_from 0 q (shown inclusions.now)) rows.items) }
+        (λ rows. RowBelongsToSet sets.now (λ q. readers_from 0 q (shown inclusions.now)) rows.items) }
 {
     let mut rows = empty_rows(alloc, sets.len())?;
     let mut number: u32 = 0;

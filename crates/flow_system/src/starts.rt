@@ -6,14 +6,18 @@ ghost use Rattle.std.specs.Option.{option_map};
 ghost use Rattle.grin_syntax.specs.declared.program.Tag.{Tag as Tag'};
 ghost use Rattle.std.specs.Prelude.{List};
 ghost use Rattle.grin_syntax.specs.Tags.{part_from, is_part, is_part_kind};
-ghost use Rattle.flow_system.specs.Starts.{SearchStarts};
+ghost use Rattle.flow_system.specs.Starts.{NoPartTagBeforeStart};
 
 use grin_syntax::{ProcId, Tag, TagId, TagKind};
 use std::alloc::{AllocError, Global};
 
 /// For each of so many procedures where its tags begin that lack arguments.
-pub fn part_starts(alloc: Global, tags: &[Tag], procs: usize) -> Result<Vec<usize>, AllocError>
-    ensures { IfOk result (λ starts. SearchStarts tags.now starts.items 0) }
+pub fn partial_tag_starts(
+    alloc: Global,
+    tags: &[Tag],
+    procs: usize,
+) -> Result<Vec<usize>, AllocError>
+    ensures { IfOk result (λ starts. NoPartTagBeforeStart tags.now starts.items 0) }
 {
     let mut starts = vec![in alloc; tags.len(); procs]?;
     let mut at = tags.len();
@@ -27,7 +31,7 @@ pub fn part_starts(alloc: Global, tags: &[Tag], procs: usize) -> Result<Vec<usiz
 // Notes a tag that stands before those that were noted.
 fn note(starts: &mut Vec<usize>, tag: &Tag, at: usize)
     ensures { (tags : List Tag') → slice_get tags at ≡ Some tag.now
-        → SearchStarts tags starts.old.items (suc at) → SearchStarts tags starts.new.items at }
+        → NoPartTagBeforeStart tags starts.old.items (suc at) → NoPartTagBeforeStart tags starts.new.items at }
 {
     if let Some(f) = lacking(tag) {
         let f = f.0 as usize;
@@ -47,7 +51,7 @@ fn lacking(tag: &Tag) -> Option<ProcId>
 
 /// The first tag of a procedure that lacks so many arguments, where none stands before `start`.
 /// Past the numbers of 32 bits there is none, which counts as want of memory.
-pub fn part_tag(
+pub fn partial_tag(
     tags: &[Tag],
     start: usize,
     f: ProcId,

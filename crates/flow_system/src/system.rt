@@ -8,11 +8,11 @@ ghost use Rattle.flow_system.specs.System.{act_evals, code_evals, arms_eval, has
 ghost use Rattle.flow_system.specs.Tables.{tables, params_of};
 ghost use Rattle.flow_system.specs.Shown.{source_of, sink_of, shown, tables_of, inclusions_of};
 
-use crate::inclusion::{FlowSystem, Inclusion, Sink, Source, copy_sink};
-use crate::named::all_named;
+use crate::inclusion::{FlowSink, FlowSystem, Inclusion, Source, copy_sink};
+use crate::named::all_named_sets;
 use crate::rows::rows;
 use crate::sets::numbered;
-use crate::starts::part_starts;
+use crate::starts::partial_tag_starts;
 use grin_syntax::copies::{copy_target, copy_val};
 use grin_syntax::program::{
     Alt, Block, Cell, Grin, Op, Proc, ProcId, Shape, Site, Stmt, Target, Val, VarId, Word,
@@ -94,7 +94,11 @@ fn has_eval(g: &Grin) -> bool
 }
 
 // One inclusion more.
-fn add<'a>(out: &mut Seq<Inclusion<'a>>, source: Source<'a>, sink: Sink) -> Result<(), AllocError>
+fn add<'a>(
+    out: &mut Seq<Inclusion<'a>>,
+    source: Source<'a>,
+    sink: FlowSink,
+) -> Result<(), AllocError>
     ensures { OnOk result
         (shown out.new ≡ shown out.old ++ flows (source_of source.entry) (sink_of sink) ∷ []) }
 {
@@ -115,7 +119,7 @@ fn site_flows(evals: bool, s: Site, node: Val, out: &mut Seq<Inclusion>) -> Resu
     ensures { OnOk result (shown out.new
         ≡ shown out.old ++ flows (value node) (into_site s.0) ∷ cond evals (forces s.0 ∷ []) []) }
 {
-    add(out, Source::Value(node), Sink::Site(s))?;
+    add(out, Source::Value(node), FlowSink::Site(s))?;
     if evals {
         out.push(Inclusion::Forces(s))?;
     }
@@ -137,7 +141,7 @@ fn cells_flow(
         add(
             out,
             Source::ACell(cell.site),
-            Sink::To(Target::One(cell.var)),
+            FlowSink::To(Target::One(cell.var)),
         )?;
         site_flows(evals, cell.site, copy_val(alloc, &cell.val)?, out)?;
     }
@@ -156,7 +160,7 @@ fn shape_flows<'a>(
         Shape::Node(tag, xs) => add(
             out,
             Source::FieldsOf(v, *tag),
-            Sink::To(Target::Vector(Seq::from_slice(alloc, xs.as_slice())?)),
+            FlowSink::To(Target::Vector(Seq::from_slice(alloc, xs.as_slice())?)),
         ),
         Shape::Int(_) => Ok(()),
         Shape::Else => Ok(()),
@@ -169,7 +173,7 @@ fn op_flows<'a>(
     alloc: Global,
     g: &Grin,
     evals: bool,
-    sink: &Sink,
+    sink: &FlowSink,
     op: &'a Op,
     out: &mut Seq<Inclusion<'a>>,
 ) -> Result<(), AllocError>
@@ -186,7 +190,11 @@ fn op_flows<'a>(
         ),
         Op::Fetch(w) => add(out, Source::NodesAt(*w), copy_sink(alloc, sink)?),
         Op::FetchWord(w, i) => add(out, Source::WordAt(*w, *i), copy_sink(alloc, sink)?),
-        Op::Update(w, v) => add(out, Source::Value(copy_val(alloc, v)?), Sink::CellsAt(*w)),
+        Op::Update(w, v) => add(
+            out,
+            Source::Value(copy_val(alloc, v)?),
+            FlowSink::CellsAt(*w),
+        ),
         Op::Eval(w) => add(out, Source::EvaluatedAt(*w), copy_sink(alloc, sink)?),
         Op::Apply(v, w) => apply_flows(alloc, sink, v, *w, out),
         Op::Call(f, words) => call_flows(alloc, g, sink, *f, words.as_slice(), out),
@@ -208,7 +216,7 @@ fn add_none(out: &mut Seq<Inclusion>) -> Result<(), AllocError>
 
 fn apply_flows(
     alloc: Global,
-    sink: &Sink,
+    sink: &FlowSink,
     v: &Val,
     w: Word,
     out: &mut Seq<Inclusion>,
@@ -229,7 +237,7 @@ fn apply_flows(
 fn call_flows(
     alloc: Global,
     g: &Grin,
-    sink: &Sink,
+    sink: &FlowSink,
     f: ProcId,
     words: &[Word],
     out: &mut Seq<Inclusion>,
@@ -241,7 +249,7 @@ fn call_flows(
 {
     let params = params_of(alloc, g, f)?;
     let args = Seq::from_slice(alloc, words)?;
-    add(out, Source::Value(Val::Vector(args)), Sink::To(params))?;
+    add(out, Source::Value(Val::Vector(args)), FlowSink::To(params))?;
     add(out, Source::Result(f), copy_sink(alloc, sink)?)
 }
 
@@ -250,7 +258,7 @@ fn alts_flow<'a>(
     alloc: Global,
     g: &Grin,
     evals: bool,
-    sink: &Sink,
+    sink: &FlowSink,
     v: &'a Val,
     alts: &'a [Alt],
     out: &mut Seq<Inclusion<'a>>,
@@ -274,7 +282,7 @@ fn stmt_flows<'a>(
     alloc: Global,
     g: &Grin,
     evals: bool,
-    sink: &Sink,
+    sink: &FlowSink,
     stmt: &'a Stmt,
     out: &mut Seq<Inclusion<'a>>,
 ) -> Result<(), AllocError>
@@ -311,7 +319,7 @@ fn bind_flows<'a>(
         (shown out.new ≡ shown out.old
         ++ act_flows (program_of g.now) (to target.now) (act_of op.now)) }
 {
-    let bound = Sink::To(copy_target(alloc, target)?);
+    let bound = FlowSink::To(copy_target(alloc, target)?);
     op_flows(alloc, g, evals, &bound, op, out)
 }
 
@@ -320,7 +328,7 @@ fn block_flows<'a>(
     alloc: Global,
     g: &Grin,
     evals: bool,
-    sink: &Sink,
+    sink: &FlowSink,
     block: &'a Block,
     out: &mut Seq<Inclusion<'a>>,
 ) -> Result<(), AllocError>
@@ -368,7 +376,14 @@ fn procs_flow<'a>(
 {
     let mut f: u32 = 0;
     for proc in procs {
-        block_flows(alloc, g, evals, &Sink::Result(ProcId(f)), &proc.body, out)?;
+        block_flows(
+            alloc,
+            g,
+            evals,
+            &FlowSink::Result(ProcId(f)),
+            &proc.body,
+            out,
+        )?;
         f = f.checked_add(1).ok_or(AllocError)?;
     }
     Ok(())
@@ -384,7 +399,7 @@ fn start_flows(alloc: Global, g: &Grin, out: &mut Seq<Inclusion>) -> Result<(), 
             let params = params_of(alloc, g, g.start)?;
             let mut args = Seq::new(alloc);
             args.push(Word::Global(i))?;
-            add(out, Source::Value(Val::Vector(args)), Sink::To(params))
+            add(out, Source::Value(Val::Vector(args)), FlowSink::To(params))
         }
     }
 }
@@ -412,7 +427,7 @@ pub fn system(alloc: Global, g: &Grin) -> Result<FlowSystem<'_>, AllocError>
     globals_flow(alloc, g, evals, &mut inclusions)?;
     procs_flow(alloc, g, evals, g.procs.as_slice(), &mut inclusions)?;
     let listed = inclusions.as_slice();
-    let places = all_named(alloc, listed)?;
+    let places = all_named_sets(alloc, listed)?;
     let sets = numbered(alloc, places.as_slice())?;
     let rows = rows(alloc, &sets, listed)?;
     Ok(FlowSystem {
@@ -420,7 +435,7 @@ pub fn system(alloc: Global, g: &Grin) -> Result<FlowSystem<'_>, AllocError>
         globals: &g.globals,
         params: copied_params(alloc, g)?,
         inclusions,
-        starts: part_starts(alloc, g.tags.as_slice(), g.procs.len())?,
+        starts: partial_tag_starts(alloc, g.tags.as_slice(), g.procs.len())?,
         sets,
         rows: Seq::from_vec(rows),
     })

@@ -1,6 +1,6 @@
 -- The state and the lines, one round more at a time.
 use Rattle.std.proofs.Common.{◌≡◌, ℕ, suc, ◌+◌, ◌++◌, List, ap, ◌∙◌, append_assoc, arith, refl}
-use Rattle.generator.specs.declared.draws.Round.{Round}
+use Rattle.generator.specs.declared.draws.DrawnRound.{DrawnRound}
 use Rattle.generator.specs.Generated.{round_from, after_round, state_at, round_lines, rounds, first_lines}
 
 next_number : (n : ℕ) → n + 1 ≡ suc n
@@ -12,7 +12,7 @@ pub state_after : (seed n state state' : ℕ) → state' ≡ after_round state �
 state_after seed n state state' drawn at = rw (next_number n, drawn, at) refl
 
 -- the lines of one round more
-pub lines_after : (seed n state : ℕ) (text text' : List ℕ) (round : Round)
+pub lines_after : (seed n state : ℕ) (text text' : List ℕ) (round : DrawnRound)
     → state ≡ state_at seed n → round ≡ round_from state
     → text ≡ first_lines ++ rounds seed n → text' ≡ text ++ round_lines round n
     → text' ≡ first_lines ++ rounds seed (n + 1)

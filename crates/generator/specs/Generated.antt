@@ -2,7 +2,7 @@
 -- and what they are given.
 use Rattle.std.specs.Prelude.{ℕ, zero, suc, ◌+◌, ◌*◌, ◌/◌, ◌%◌, ◌^◌}
 use Rattle.std.specs.Prelude.{List, [], ◌++◌, codes, decimal}
-use Rattle.generator.specs.declared.draws.Round.{Round}
+use Rattle.generator.specs.declared.draws.DrawnRound.{DrawnRound}
 
 -- ---- draws
 
@@ -15,7 +15,7 @@ drawn state = state / 65536
 
 -- Four draws in order: the kind of a function, the number in it, and the two numbers that it
 -- is given.
-abbrev pub round_from : (state : ℕ) → Round
+abbrev pub round_from : (state : ℕ) → DrawnRound
 round_from state = record {
   kind = drawn (next state) % 4;
   number = drawn (next (next state)) % 1000;
@@ -51,19 +51,19 @@ body (suc (suc zero)) j c =
 body (suc (suc (suc _))) j c = called (codes "mul (f") j (codes " ") c ++ codes " x) 3"
 
 -- function j + 1
-unfoldable pub function_line : Round → (j : ℕ) → List ℕ
+unfoldable pub function_line : DrawnRound → (j : ℕ) → List ℕ
 function_line r j =
     named (codes "f") (suc j) ++ codes " x y = " ++ body r.kind j r.number ++ codes ";\n"
 
 -- list j + 1: what function j + 1 gives, and list j after it
-unfoldable pub list_line : Round → (j : ℕ) → List ℕ
+unfoldable pub list_line : DrawnRound → (j : ℕ) → List ℕ
 list_line r j =
     named (codes "m") (suc j) ++ named (codes " = Cons (f") (suc j)
     ++ named (codes " ") r.left ++ named (codes " ") r.right
     ++ named (codes ") m") j ++ codes ";\n"
 
 -- the lines of a round
-abbrev pub round_lines : Round → (j : ℕ) → List ℕ
+abbrev pub round_lines : DrawnRound → (j : ℕ) → List ℕ
 round_lines r j = function_line r j ++ list_line r j
 
 -- the lines of the first n rounds

@@ -5,7 +5,7 @@ ghost use Rattle.generator.specs.Generated.{next, drawn, round_from, after_round
 
 /// What the draws of a round choose.
 #[derive(Clone, Copy, Debug)]
-pub(crate) struct Round {
+pub(crate) struct DrawnRound {
     /// The kind of its function: 0 to 3.
     pub(crate) kind: u32,
     /// The number in its function, below 1,000 as the next two.
@@ -18,11 +18,11 @@ pub(crate) struct Round {
 
 /// The state of the draws, at first the seed.
 #[derive(Clone, Copy, Debug)]
-pub(crate) struct Draws {
+pub(crate) struct DrawState {
     pub(crate) state: u32,
 }
 
-impl Draws {
+impl DrawState {
     /// Draws a number below the given one.
     fn below(&mut self, most: u32) -> u32
         requires { 0 < most }
@@ -35,7 +35,7 @@ impl Draws {
     }
 
     /// Draws what a round needs.
-    pub(crate) fn round(&mut self) -> Round
+    pub(crate) fn round(&mut self) -> DrawnRound
         ensures state { self.new.state ≡ after_round self.old.state }
         ensures round { result ≡ round_from self.old.state }
     {
@@ -43,7 +43,7 @@ impl Draws {
         let number = self.below(1_000);
         let left = self.below(1_000);
         let right = self.below(1_000);
-        Round {
+        DrawnRound {
             kind,
             number,
             left,

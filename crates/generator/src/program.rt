@@ -4,7 +4,7 @@ ghost use Rattle.std.specs.Prelude.{◌≡◌, ◌<◌, ◌^◌, ◌-◌, ◌++�
 ghost use Rattle.generator.specs.Generated.{body, function_line, list_line};
 ghost use Rattle.generator.specs.Generated.{round_lines, first_lines, last_line, generated};
 
-use crate::draws::{Draws, Round};
+use crate::draws::{DrawState, DrawnRound};
 use crate::text::Text;
 use std::alloc::{AllocError, Global};
 
@@ -36,7 +36,7 @@ fn put_body(text: &mut Text, kind: u32, before: u32, number: u32) -> Result<(), 
 
 /// Puts the line of the function after the function of the number `before`.
 #[tactic(auto, unfolding(crate::specs::Generated::function_line))]
-fn put_function(text: &mut Text, round: Round, before: u32) -> Result<(), AllocError>
+fn put_function(text: &mut Text, round: DrawnRound, before: u32) -> Result<(), AllocError>
     requires { before < 2 ^ 32 - 1 }
     ensures { OnOk result (text.new ≡ text.old ++ function_line round before) }
 {
@@ -48,7 +48,7 @@ fn put_function(text: &mut Text, round: Round, before: u32) -> Result<(), AllocE
 
 /// Puts the line of the list after the list of the number `before`.
 #[tactic(auto, unfolding(crate::specs::Generated::list_line))]
-fn put_list(text: &mut Text, round: Round, before: u32) -> Result<(), AllocError>
+fn put_list(text: &mut Text, round: DrawnRound, before: u32) -> Result<(), AllocError>
     requires { before < 2 ^ 32 - 1 }
     ensures { OnOk result (text.new ≡ text.old ++ list_line round before) }
 {
@@ -61,7 +61,7 @@ fn put_list(text: &mut Text, round: Round, before: u32) -> Result<(), AllocError
 }
 
 /// Puts the two lines of a round.
-fn put_round(text: &mut Text, round: Round, before: u32) -> Result<(), AllocError>
+fn put_round(text: &mut Text, round: DrawnRound, before: u32) -> Result<(), AllocError>
     requires { before < 2 ^ 32 - 1 }
     ensures { OnOk result (text.new ≡ text.old ++ round_lines round before) }
 {
@@ -94,7 +94,7 @@ pub fn generated(alloc: Global, seed: u32, size: u32) -> Result<Vec<u8>, AllocEr
     ensures { IfOk result (λ text. text.items ≡ generated seed size) }
 {
     let mut text = begun(alloc)?;
-    let mut draws = Draws { state: seed };
+    let mut draws = DrawState { state: seed };
     for before in 0..size {
         let round = draws.round();
         put_round(&mut text, round, before)?;

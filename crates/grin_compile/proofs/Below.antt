@@ -8,8 +8,8 @@ use Rattle.grin_syntax.specs.Formed.{AllOf}
 use Rattle.grin_syntax.specs.SameOutside.{names_of}
 use Rattle.low_code.specs.Tree as low
 use Rattle.low_code.specs.Formed as low_formed
-use Rattle.low_code.specs.Size.{low_all, calls_of}
-use Rattle.low_translate.specs.Lowers.{Lowers, LowersSmall}
+use Rattle.low_code.specs.Size.{program_size, calls_of}
+use Rattle.low_translate.specs.Lowers.{Lowers, LoweredIsSmall}
 use Rattle.register_alloc.specs.Assignment.{Assignment}
 use Rattle.register_alloc.specs.Fits.{Fits, UsesRegisters}
 use Rattle.register_alloc.specs.Gathered.{HaveFewParameters, HaveFewResults}
@@ -20,7 +20,7 @@ use Rattle.rv32_items.specs.Laws.{addresses_of}
 use Rattle.rv32_steps.specs.Trace.{is_one_of}
 use Rattle.rv32_layout.specs.Places.{AllDecode}
 use Rattle.rv32_select.specs.IsSelected.{IsSelected}
-use Rattle.rv32_select.specs.Laws.{SelectedItemsDo}
+use Rattle.rv32_select.specs.Laws.{SelectionRefines}
 use Rattle.rv32_select.specs.Selectable.{Selectable}
 use Rattle.rv32_select.specs.Selects.{Selects}
 use Rattle.grin_compile.specs.declared.layers.Layers.{Layers}
@@ -54,7 +54,7 @@ numbered from (suc count) k le lt = elim (cases_eq k from) [
     or_true false = refl
 
 module _ (g : grin.Program) (l : low.Program) (a : Assignment) (cells stack : ℕ) (lowerable : IsLowerable g) (formed : low_formed.Formed l)
-    (lowers : Lowers g l) (small : LowersSmall g l) (fits : Fits l a) (sizes : AreSizes cells stack) where
+    (lowers : Lowers g l) (small : LoweredIsSmall g l) (fits : Fits l a) (sizes : AreSizes cells stack) where
   few_globals : length l.globals ≤ 4096
   few_globals = omega (arith, ap length lowers.globals, length-map g.globals (λ c. c.tag.0), lowerable.few_globals)
 
@@ -73,7 +73,7 @@ module _ (g : grin.Program) (l : low.Program) (a : Assignment) (cells stack : �
     stack_bytes = (sizes.range.some_stack, sizes.range.small_stack, sizes.words);
   }
 
-  module _ (items : List Item) (law : SelectedItemsDo) (selected : IsSelected l a cells stack items) where
+  module _ (items : List Item) (law : SelectionRefines) (selected : IsSelected l a cells stack items) where
     pub selects : Selects l a cells stack items
     selects = law l a cells stack items selectable (low_never_missing g l lowers lowerable.ready.never_missing) selected
 
@@ -84,9 +84,9 @@ module _ (g : grin.Program) (l : low.Program) (a : Assignment) (cells stack : �
     pub items_fit : size_of items ≤ 268435456
     items_fit =
         let procs : length l.procs ≤ lowerable.size = omega (arith, lowers.procs, lowerable.few_procs) in
-        let light : low_all l ≤ 192 * lowerable.size = omega (arith, small.light, lowerable.slim.light) in
+        let light : program_size l ≤ 192 * lowerable.size = omega (arith, small.light, lowerable.slim.light) in
         let calls : calls_of l ≤ lowerable.size = omega (arith, small.few_calls, lowerable.slim.few_calls) in
-        few_words (length l.procs) (length l.globals) (low_all l) (calls_of l) lowerable.size (size_of items) (size_of items) lowerable.fits procs few_globals light calls
+        few_words (length l.procs) (length l.globals) (program_size l) (calls_of l) lowerable.size (size_of items) (size_of items) lowerable.fits procs few_globals light calls
         (selects.few small.few_tests) (omega arith)
 
 -- the addresses of the first labels are those of the labels of procedures
@@ -95,7 +95,7 @@ pub starts_by : (lay : Layout) (items : List Item) (begins starts : List ℕ) (l
 starts_by lay items begins starts labels procs are same at =
     at ∙ ap (λ n. addresses_of lay items (range_with_len 0 n)) same ∙ ap (addresses_of lay items) (sym are)
 
-pub has_layers : (g : grin.Program) (cells stack : ℕ) (m : Layers) (items : List Item) → low_formed.Formed (low.program_of m.low) → Lowers g (low.program_of m.low) → LowersSmall g (low.program_of m.low)
+pub has_layers : (g : grin.Program) (cells stack : ℕ) (m : Layers) (items : List Item) → low_formed.Formed (low.program_of m.low) → Lowers g (low.program_of m.low) → LoweredIsSmall g (low.program_of m.low)
     → Fits (low.program_of m.low) m.places → (selects : Selects (low.program_of m.low) m.places cells stack items) → (placed : Placed items m.code.items)
     → m.starts.items ≡ addresses_of placed.lay items selects.begins → m.names.items ≡ names_of g.procs
     → AllDecode m.code.items → size_of items ≤ 268435456 → UsesRegisters (low.program_of m.low) m.places → HasLayers g cells stack m

@@ -7,7 +7,7 @@ use Rattle.grin_syntax.specs.Formed.{AllOf}
 use Rattle.grin_meaning.specs.Slim.{procedure_words, Slim}
 use Rattle.low_code.specs.Tree as low
 use Rattle.low_code.specs.Formed.{variables}
-use Rattle.low_translate.specs.Lowers.{EachPair, LowersSmall}
+use Rattle.low_translate.specs.Lowers.{EachProcedurePair, LoweredIsSmall}
 use Rattle.register_alloc.specs.Assignment.{Assignment, words_at}
 use Rattle.register_alloc.specs.Fits.{Fits}
 
@@ -21,7 +21,7 @@ over stack d x y most more frames levels =
 
 -- a procedure at whose place stands one of few words has few variables
 few_variables : (most : ℕ) (gs : List grin.Procedure) (ls : List low.Procedure) → AllOf (λ q. procedure_words q ≤ most) gs
-    → EachPair (λ q r. length (variables r) ≤ procedure_words q) gs ls
+    → EachProcedurePair (λ q r. length (variables r) ≤ procedure_words q) gs ls
     → (f : ℕ) (r : low.Procedure) → slice_get ls f ≡ Some r → length (variables r) ≤ most
 few_variables most [] [] all pairs f r e = cc
 few_variables most [] (l ∷ ls) all pairs f r e = absurd pairs
@@ -37,7 +37,7 @@ nothing_past (q ∷ qs) [] f l e = refl
 nothing_past (q ∷ qs) (w ∷ ws) zero l e = cc
 nothing_past (q ∷ qs) (w ∷ ws) (suc f) l e = nothing_past qs ws f (omega (arith, l)) e
 
-pub few_frame_words : (size most : ℕ) (g : grin.Program) (l : low.Program) (a : Assignment) → Slim size most g → LowersSmall g l → Fits l a
+pub few_frame_words : (size most : ℕ) (g : grin.Program) (l : low.Program) (a : Assignment) → Slim size most g → LoweredIsSmall g l → Fits l a
     → (f : ℕ) → words_at a f ≤ 1 + 20 * most
 few_frame_words size most g l a slim small fits f = go (slice_get l.procs f) refl
   where

@@ -12,11 +12,11 @@ use Rattle.rv32_items.specs.declared.Item.{Item}
 use Rattle.rv32_items.specs.declared.Item.TheVariants.{Label}
 use Rattle.rv32_items.specs.Course.{Layout, state_at}
 use Rattle.rv32_items.specs.Placed.{is_instruction, Placed}
-use Rattle.rv32_items.specs.Laws.{address_of, addresses_of, StandOnce, BeforeInstructions}
-use Rattle.rv32_items.specs.Flows.{is_begin}
+use Rattle.rv32_items.specs.Laws.{address_of, addresses_of, LabelsOccurOnce, BeforeInstructions}
+use Rattle.rv32_items.specs.Flows.{begins_procedure}
 use Rattle.rv32_items.proofs.Addresses.{addresses_rise}
 use Rattle.rv32_items.proofs.Stands.{stands}
-use Rattle.rv32_select.specs.Selects.{zeros, start_at, BelowHeap}
+use Rattle.rv32_select.specs.Selects.{zeros, start_point, BelowHeap}
 use Rattle.grin_compile.specs.Code.{IsInCode}
 use Rattle.rv32_layout.proofs.Steps.{words_length}
 
@@ -35,7 +35,7 @@ module _ (items : List Item) (words : List ℕ) (placed : Placed items words) wh
           → record { first = 65536; write = false; exec = true; bytes = words_bytes words ++ replicate (4 * length words - length (words_bytes words)) 0 } ≡ c
       parts c f w x b = λ i. record { first = sym f i; write = sym w i; exec = sym x i; bytes = b i }
 
-  pub starts : (width cells stack : ℕ) → start_of (program words (4 * width * cells) stack) ≡ state_at lay items (start_at width cells stack lay)
+  pub starts : (width cells stack : ℕ) → start_of (program words (4 * width * cells) stack) ≡ state_at lay items (start_point width cells stack lay)
   starts width cells stack =
       let pc : 65536 ≡ lay.address 0 = sym placed.at_first ∙ sym placed.rises.first in
       let heap : stretch_of (record { addr = 0x50000000; size = 4 * width * cells; bytes = []; write = true; exec = false }) ≡ zeros 0x50000000 (4 * width * cells) = zeros_of 0x50000000 (4 * width * cells) in
@@ -59,7 +59,7 @@ module _ (items : List Item) (words : List ℕ) (placed : Placed items words) wh
   pub below_heap : length words ≤ 268435456 → BelowHeap lay
   below_heap few = let ends = code_ends in omega (arith, ends, few)
 
-  module _ (begins : List ℕ) (stand : StandOnce begins items) (behind : BeforeInstructions begins items) where
+  module _ (begins : List ℕ) (stand : LabelsOccurOnce begins items) (behind : BeforeInstructions begins items) where
     -- where a label of a procedure stands: with an instruction right behind it
     record At (b : ℕ) : Type 0 where
       pub item : ℕ
@@ -82,7 +82,7 @@ module _ (items : List Item) (words : List ℕ) (placed : Placed items words) wh
     stands_at : (b : ℕ) → is_one_of begins b ≡ true → At b
     stands_at b one =
         let s = stands b items (stand b one) in
-        let is : is_begin begins (slice_get items s.0) ≡ true = ap (is_begin begins) s.1.1.here ∙ one in
+        let is : begins_procedure begins (slice_get items s.0) ≡ true = ap (begins_procedure begins) s.1.1.here ∙ one in
         let i = instruction_there (slice_get items (suc s.0)) (behind s.0 is) in
         record {
           item = s.0;

@@ -2,29 +2,29 @@
 use Rattle.std.proofs.Common.{◌≡◌, ℕ, ◌+◌, ◌*◌, ◌≤◌, None, List, [], ◌∷◌, ◌++◌, length, refl, sym, ap, ◌∙◌, subst, arith}
 use Rattle.std.proofs.lemmas.Grind.{common_steps}
 use Rattle.seq.proofs.Lists.{length_map}
-use Rattle.headline.specs.Carries.{IsBytes, Begins, Told, Meaning, Reaches, Comes, Carries, Tells}
+use Rattle.headline.specs.Carries.{IsBytes, IsPrefixOf, MeaningResult, Meaning, ReachesResult, Comes, Carries, MeaningRefines}
 use Rattle.elf32.specs.File.{program}
 use Rattle.low_code.specs.Tree.{Program}
 use Rattle.low_code.specs.Run.{run, limited, world_of, NeverMissing}
-use Rattle.low_code.specs.Told.{of_low, entered_by_low}
+use Rattle.low_code.specs.Told.{meaning_of_low, entered_by_low}
 use Rattle.low_code.proofs.Limits.{limits_only_stop}
 use Rattle.low_code.proofs.MoreUnits.{one_entry_a_unit}
 use Rattle.register_alloc.specs.Assignment.{Assignment, words_at}
 use Rattle.rv32_machine.specs.Steps.{State, start_of}
-use Rattle.rv32_steps.specs.Seen.{of_machine}
+use Rattle.rv32_steps.specs.Seen.{observed_machine}
 use Rattle.rv32_steps.specs.Trace.{trace, procedures_at}
 use Rattle.rv32_items.specs.declared.Item.{Item}
 use Rattle.rv32_items.specs.Course.{Layout, Point, state_at, course, NeverTrapsOn}
 use Rattle.rv32_items.specs.Placed.{Placed}
-use Rattle.rv32_items.specs.Told.{of_items}
-use Rattle.rv32_items.specs.Laws.{addresses_of, Meets}
+use Rattle.rv32_items.specs.Told.{observed_items}
+use Rattle.rv32_items.specs.Laws.{addresses_of, MachineMeetsItems}
 use Rattle.rv32_items.proofs.Enters.{items_enter}
 use Rattle.rv32_items.proofs.Reached.{items_are_reached}
 use Rattle.rv32_items.proofs.Forward.{items_go_forward}
 use Rattle.rv32_items.proofs.LastStep.{items_leave, stops_are_behind, stops_are_last}
 use Rattle.rv32_select.specs.Selects as select
-use Rattle.rv32_select.specs.Selects.{Selects, BelowHeap, start_at}
-use Rattle.grin_compile.specs.Limits.{HeapOver, FramesOver, StackOver}
+use Rattle.rv32_select.specs.Selects.{Selects, BelowHeap, start_point}
+use Rattle.grin_compile.specs.Limits.{HeapIsExceeded, FramesAreExceeded, StackIsExceeded}
 use Rattle.grin_compile.specs.Code.{TellsLastStep, Runs, IsCodeFor}
 use Rattle.grin_compile.specs.Layers.{LowCodeIsCarried, LayersCompose}
 use Rattle.grin_compile.proofs.Composed.{reaches_kept, comes_kept}
@@ -32,7 +32,7 @@ use Rattle.grin_compile.proofs.Selected.{comes, reaches}
 use Rattle.grin_compile.proofs.Images.{starts, code_ends, below_heap, different, in_code}
 
 -- a front that is as long as the whole
-whole : (xs ys : List ℕ) → Begins xs ys → length ys ≤ length xs → ys ≡ xs
+whole : (xs ys : List ℕ) → IsPrefixOf xs ys → length ys ≤ length xs → ys ≡ xs
 whole xs ys b l = b.1 ∙ ap (λ z. xs ++ z) (none b.0 (omega (arith, added xs b.0, ap length b.1, l))) ∙ nothing_more xs
   where
     none : (zs : List ℕ) → length zs ≡ 0 → zs ≡ []
@@ -45,16 +45,16 @@ whole xs ys b l = b.1 ∙ ap (λ z. xs ++ z) (none b.0 (omega (arith, added xs b
     nothing_more : (xs : List ℕ) → xs ++ [] ≡ xs
     nothing_more xs = grind (arith, common_steps)
 
-module _ (told : Meaning) (entered : List ℕ → ℕ → List ℕ) (StackFull : Told → Type 0) (l : Program) (a : Assignment) (cells stack : ℕ) (items : List Item) (words : List ℕ)
-    (tells : (i : List ℕ) → IsBytes i → (n : ℕ) → Tells (told i n) (of_low l (words_at a) i n))
+module _ (told : Meaning) (entered : List ℕ → ℕ → List ℕ) (StackFull : MeaningResult → Type 0) (l : Program) (a : Assignment) (cells stack : ℕ) (items : List Item) (words : List ℕ)
+    (tells : (i : List ℕ) → IsBytes i → (n : ℕ) → MeaningRefines (told i n) (meaning_of_low l (words_at a) i n))
     (enters : (i : List ℕ) → IsBytes i → (n : ℕ) → entered_by_low l (words_at a) i n ≡ entered i n)
-    (frames : (i : List ℕ) → IsBytes i → (n : ℕ) → FramesOver stack (of_low l (words_at a) i n) → StackFull (told i n))
+    (frames : (i : List ℕ) → IsBytes i → (n : ℕ) → FramesAreExceeded stack (meaning_of_low l (words_at a) i n) → StackFull (told i n))
     (never : NeverMissing l) (s : Selects l a cells stack items) (placed : Placed items words) (few : length words ≤ 268435456) where
   abbrev lay : Layout
   lay = placed.lay
 
   abbrev start : Point
-  start = start_at l.width cells stack lay
+  start = start_point l.width cells stack lay
 
   abbrev addresses : List ℕ
   addresses = addresses_of lay items s.begins
@@ -64,28 +64,28 @@ module _ (told : Meaning) (entered : List ℕ → ℕ → List ℕ) (StackFull :
 
   module _ (i : List ℕ) (bytes : IsBytes i) where
     never_traps : NeverTrapsOn lay items i start
-    never_traps n kind e = subst (select.Finishes i (limited l (words_at a) cells stack i (length (procedures_at s.begins (course lay items n i start).passed))) (course lay items n i start)) e (s.follows lay placed.rises below i bytes n).finish
+    never_traps n kind e = subst (select.EndsLikeRun i (limited l (words_at a) cells stack i (length (procedures_at s.begins (course lay items n i start).passed))) (course lay items n i start)) e (s.follows lay placed.rises below i bytes n).finish
 
-    meets : (m : ℕ) → (n : ℕ) × Meets lay items s.begins i start m n
+    meets : (m : ℕ) → (n : ℕ) × MachineMeetsItems lay items s.begins i start m n
     meets m = items_enter items words placed start i s.begins (_, refl) never_traps refl s.stand s.flows.instruction_behind m
 
-    kept : (n : ℕ) → HeapOver cells (of_low l (words_at a) i n) → HeapOver cells (told i n)
+    kept : (n : ℕ) → HeapIsExceeded cells (meaning_of_low l (words_at a) i n) → HeapIsExceeded cells (told i n)
     kept n h = let t = (tells i bytes n).cells in omega (arith, h, t)
 
-    framed : (n : ℕ) → FramesOver stack (of_low l (words_at a) i n) → StackFull (told i n)
+    framed : (n : ℕ) → FramesAreExceeded stack (meaning_of_low l (words_at a) i n) → StackFull (told i n)
     framed n h = frames i bytes n h
 
     -- what so many steps show is what as many units tell as procedures were met
-    shown : (m : ℕ) → Comes (HeapOver cells) StackFull (told i) (length (procedures_at addresses (trace m i (state_at lay items start)))) (of_machine (state_at lay items start) i m)
+    shown : (m : ℕ) → Comes (HeapIsExceeded cells) StackFull (told i) (length (procedures_at addresses (trace m i (state_at lay items start)))) (observed_machine (state_at lay items start) i m)
     shown m =
         let k = meets m in
         let c = course lay items k.0 i start in
         let n = length (procedures_at s.begins c.passed) in
         let low = comes l a cells stack never i bytes s.begins c (s.follows lay placed.rises below i bytes k.0) in
-        let up = comes_kept (told i) (of_low l (words_at a) i) (HeapOver cells) StackFull (HeapOver cells) (FramesOver stack) n (of_items lay items start i k.0) (tells i bytes) (kept n) (framed n) low in
+        let up = comes_kept (told i) (meaning_of_low l (words_at a) i) (HeapIsExceeded cells) StackFull (HeapIsExceeded cells) (FramesAreExceeded stack) n (observed_items lay items start i k.0) (tells i bytes) (kept n) (framed n) low in
         let count : n ≡ length (procedures_at addresses (trace m i (state_at lay items start))) = ap length (sym k.1.entered) in
-        subst (λ j. Comes (HeapOver cells) StackFull (told i) j (of_machine (state_at lay items start) i m)) count
-        (subst (Comes (HeapOver cells) StackFull (told i) n) (sym k.1.seen) up)
+        subst (λ j. Comes (HeapIsExceeded cells) StackFull (told i) j (observed_machine (state_at lay items start) i m)) count
+        (subst (Comes (HeapIsExceeded cells) StackFull (told i) n) (sym k.1.seen) up)
 
     -- the procedures that were met are those that low code enters
     met : (m : ℕ) → let ps = procedures_at addresses (trace m i (state_at lay items start)) in ps ≡ entered i (length ps)
@@ -102,12 +102,12 @@ module _ (told : Meaning) (entered : List ℕ → ℕ → List ℕ) (StackFull :
         let ps : procedures_at s.begins c.passed ≡ entered i n = f.entered ∙ sym same ∙ enters i bytes n in
         subst (λ qs. qs ≡ entered i (length qs)) (sym k.1.entered) ps
 
-    reached : (n : ℕ) → (m : ℕ) × Reaches (told i n) (of_machine (state_at lay items start) i m)
+    reached : (n : ℕ) → (m : ℕ) × ReachesResult (told i n) (observed_machine (state_at lay items start) i m)
     reached n =
         let r = s.arrives lay placed.rises below i bytes n in
         let low = reaches l a cells stack never i bytes s.begins n (course lay items r.0 i start) r.1 in
         let m = items_are_reached items words placed start i (_, refl) never_traps r.0 in
-        (m.0, subst (Reaches (told i n)) (sym m.1.1) (reaches_kept (told i n) (of_low l (words_at a) i n) (of_items lay items start i r.0) (tells i bytes n) low))
+        (m.0, subst (ReachesResult (told i n)) (sym m.1.1) (reaches_kept (told i n) (meaning_of_low l (words_at a) i n) (observed_items lay items start i r.0) (tells i bytes n) low))
 
   abbrev image : State
   image = start_of (program words (4 * l.width * cells) stack)
@@ -115,7 +115,7 @@ module _ (told : Meaning) (entered : List ℕ → ℕ → List ℕ) (StackFull :
   begun : state_at lay items start ≡ image
   begun = sym (starts items words placed l.width cells stack)
 
-  pub code_for : IsCodeFor (HeapOver cells) StackFull told entered (length l.procs) words image addresses
+  pub code_for : IsCodeFor (HeapIsExceeded cells) StackFull told entered (length l.procs) words image addresses
   code_for = record {
     one_each = length_map _ s.begins ∙ s.one_each;
     different = different items words placed s.begins s.stand s.flows.instruction_behind s.different;
@@ -125,11 +125,11 @@ module _ (told : Meaning) (entered : List ℕ → ℕ → List ℕ) (StackFull :
     before_stops = stops_are_behind items words placed s.begins s.stand s.flows;
     tells_last = λ i bytes m. subst (λ t. TellsLastStep (lay.address s.flows.stops) t i m) begun
         (items_leave items words placed start i s.flows.stops 5 3 (_, refl) (never_traps i bytes) (s.leaves lay placed.rises below i bytes) m);
-    carries = subst (λ t. Carries (HeapOver cells) StackFull told (of_machine t)) begun (record {
+    carries = subst (λ t. Carries (HeapIsExceeded cells) StackFull told (observed_machine t)) begun (record {
       reaches = reached;
       comes = λ i bytes m. (length (procedures_at addresses (trace m i (state_at lay items start))), shown i bytes m);
     });
-    runs = λ i bytes m. subst (λ t. Runs (HeapOver cells) StackFull told entered addresses t i m) begun (record {
+    runs = λ i bytes m. subst (λ t. Runs (HeapIsExceeded cells) StackFull told entered addresses t i m) begun (record {
       enters = met i bytes m;
       comes = shown i bytes m;
       forward = items_go_forward items words placed start i s.begins (_, refl) refl (λ n. s.home lay placed.rises below i bytes n) s.stand s.flows m;
@@ -138,13 +138,13 @@ module _ (told : Meaning) (entered : List ℕ → ℕ → List ℕ) (StackFull :
 
 pub low_code_is_carried : LowCodeIsCarried
 low_code_is_carried l a cells stack items words never s placed few =
-    code_for (of_low l (words_at a)) (entered_by_low l (words_at a)) (FramesOver stack) l a cells stack items words
-    (λ i bytes n. tells_itself (of_low l (words_at a) i n)) (λ i bytes n. refl) (λ i bytes n h. h) never s placed few
+    code_for (meaning_of_low l (words_at a)) (entered_by_low l (words_at a)) (FramesAreExceeded stack) l a cells stack items words
+    (λ i bytes n. tells_itself (meaning_of_low l (words_at a) i n)) (λ i bytes n. refl) (λ i bytes n h. h) never s placed few
   where
-    tells_itself : (t : Told) → Tells t t
+    tells_itself : (t : MeaningResult) → MeaningRefines t t
     tells_itself t = record { out = refl; end = refl; used = refl; cells = omega arith }
 
 pub layers_compose : LayersCompose
 layers_compose told entered l a frame cells stack items words tells enters frames never s placed few =
-    code_for told entered (StackOver frame stack) l a cells stack items words tells enters
+    code_for told entered (StackIsExceeded frame stack) l a cells stack items words tells enters
     (λ i bytes n h. let f = frames i bytes n in omega (arith, h, f)) never s placed few

@@ -10,5 +10,6 @@ pub mod FromLayers
 pub mod Narrow
 pub mod Stepped
 pub mod Staged
+pub mod Ended
 pub mod Below
 pub mod CompiledProgram

@@ -9,10 +9,10 @@ use Rattle.grin_syntax.specs.declared.program.TagKind.{TagKind}
 use Rattle.grin_syntax.specs.declared.program.TagKind.TheVariants as kind
 use Rattle.grin_syntax.specs.Tree.{Code, end, store, bind, Act, unit, fetch, fetch_word, update, eval, apply, call, prim, read, write, case, nested, fail, Arms, no_arm, arm, Procedure, Program}
 use Rattle.grin_meaning.specs.Checks.{is_fetch}
-use Rattle.grin_meaning.specs.Ready.{EachAct, EachCode, EachArms, most_fields, value_fields, most_value_fields, Ready, EachBody, narrow_kind}
-use Rattle.vectorise.specs.Whole.{NoVectorTarget, IsWhole, whole_kind}
+use Rattle.grin_meaning.specs.Ready.{EachAct, EachCode, EachArms, most_fields, value_fields, most_value_fields, Ready, EveryBodyIsOfKind, narrow_kind}
+use Rattle.vectorise.specs.Whole.{NoVectorTarget, UsesWholeNodes, whole_node_kind}
 use Rattle.vectorise.specs.Widened.{Width, ActWidths, CodeWidths, ArmsWidths, Widths, Widened}
-use Rattle.low_translate.specs.Lowers.{IsNarrow}
+use Rattle.low_translate.specs.Lowers.{TargetsFitCells}
 use Rattle.inlining.proofs.NoEvaluations.{any_cells}
 use Rattle.low_translate.proofs.Sizes.{IsFew}
 
@@ -30,7 +30,7 @@ module _ (most most_value : ℕ) (few : most ≤ 13) (few_value : most_value ≤
   mutual
     unfolding EachAct ActWidths
 
-    act_narrow : (o o' : Act) → EachAct whole_kind o → ActWidths most most_value o o' → EachAct (narrow_kind 14) o'
+    act_narrow : (o o' : Act) → EachAct whole_node_kind o → ActWidths most most_value o o' → EachAct (narrow_kind 14) o'
     act_narrow o (unit v') e w = (tt, tt)
     act_narrow o (fetch a') e w = tt
     act_narrow o (fetch_word a' k') e w = tt
@@ -69,7 +69,7 @@ module _ (most most_value : ℕ) (few : most ≤ 13) (few_value : most_value ≤
     act_narrow fail (nested b'') e w = absurd w
     act_narrow (case v as') (nested b'') e w = absurd w
 
-    code_narrow : (b b' : Code) → EachCode whole_kind b → CodeWidths most most_value b b' → EachCode (narrow_kind 14) b'
+    code_narrow : (b b' : Code) → EachCode whole_node_kind b → CodeWidths most most_value b b' → EachCode (narrow_kind 14) b'
     code_narrow (end o) (end o') e w = act_narrow o o' e w
     code_narrow (end o) (store cs' b') e w = absurd w
     code_narrow (end o) (bind t' o' b') e w = absurd w
@@ -80,20 +80,20 @@ module _ (most most_value : ℕ) (few : most ≤ 13) (few_value : most_value ≤
     code_narrow (bind t o b) (store cs' b') e w = absurd w
     code_narrow (bind t o b) (bind t' o' b') e w = (narrow_target (is_fetch o) t t' e.0 w.0, act_narrow o o' e.1 w.1, code_narrow b b' e.2 w.2)
 
-    arms_narrow : (as' bs' : Arms) → EachArms whole_kind as' → ArmsWidths most most_value as' bs' → EachArms (narrow_kind 14) bs'
+    arms_narrow : (as' bs' : Arms) → EachArms whole_node_kind as' → ArmsWidths most most_value as' bs' → EachArms (narrow_kind 14) bs'
     arms_narrow no_arm no_arm e w = tt
     arms_narrow no_arm (arm s' b' bs') e w = absurd w
     arms_narrow (arm s b as') no_arm e w = absurd w
     arms_narrow (arm s b as') (arm s' b' bs') e w = (tt, code_narrow b b' e.1 w.0, arms_narrow as' bs' e.2 w.1)
 
-  procs_narrow : (qs rs : List Procedure) → EachBody whole_kind qs → Widths most most_value qs rs
-      → EachBody (narrow_kind 14) rs
+  procs_narrow : (qs rs : List Procedure) → EveryBodyIsOfKind whole_node_kind qs → Widths most most_value qs rs
+      → EveryBodyIsOfKind (narrow_kind 14) rs
   procs_narrow [] [] e w = tt
   procs_narrow [] (r ∷ rs) e w = absurd w
   procs_narrow (q ∷ qs) [] e w = absurd w
   procs_narrow (q ∷ qs) (r ∷ rs) e w = (code_narrow q.body r.body e.0 w.0, procs_narrow qs rs e.1 w.1)
 
-pub narrow : (g h : Program) → Ready g → IsWhole g → Widened g h → IsNarrow h
+pub narrow : (g h : Program) → Ready g → UsesWholeNodes g → Widened g h → TargetsFitCells h
 narrow g h ready whole widened =
     procs_narrow (most_fields g.tags) (most_value_fields g.tags) ready.few_fields (omega (arith, ready.few_fields, few_value_fields g.tags)) g.procs h.procs whole widened.widths
   where

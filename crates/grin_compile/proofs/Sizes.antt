@@ -4,24 +4,23 @@ use Rattle.std.specs.Prelude.{◌==◌, if◌then◌else◌}
 use Rattle.std.proofs.lemmas.List.{length-map, length-append}
 use Rattle.arity_check.specs.Program as core
 use Rattle.grin_syntax.specs.Tree.{Code, end, store, bind, Act, unit, fetch, fetch_word, update, eval, apply, call, prim, read, write, case, nested, fail, Procedure, Program}
-use Rattle.grin_syntax.specs.SameOutside.{names_of, SameOutside}
+use Rattle.grin_syntax.specs.SameOutside.{names_of, DifferOnlyInBodies}
 use Rattle.grin_meaning.specs.Slim.{Slim}
 use Rattle.grin_syntax.specs.Fresh.{past_procs}
 use Rattle.flow_system.specs.Solution.{Solution}
 use Rattle.inlining.specs.Evaluations.{eval_procs, code_room, eval_inlined}
 use Rattle.inlining.specs.Applications.{apply_procs, apply_code_room, inlined}
 use Rattle.inlining.specs.Size.{act_size, code_size, procedure_size, total, largest, size, largest_procedure}
-use Rattle.grin_opt.specs.declared.pass.PassName.{PassName}
-use Rattle.grin_opt.specs.declared.pass.PassName.TheVariants.{Translate, Eval, Apply, Vectorise, Simplify, Fetch, Copy, Update, Unbox, Raise, Flat, Known, Cells, Dead}
-use Rattle.grin_opt.specs.Schedule.{shape_of}
+use Rattle.stage_names.specs.declared.PassName.{PassName}
+use Rattle.grin_opt.proofs.Gives.{gives}
 use Rattle.grin_translate.specs.declared.tags.Delay.{Delay}
 use Rattle.grin_translate.specs.declared.tags.Delay.TheVariants.{Calls}
 use Rattle.grin_translate.specs.declared.tags.Kind.TheVariants.{Waits}
 use Rattle.grin_translate.specs.Tags.{tag, delays}
 use Rattle.grin_translate.specs.Translation.{global_cells, delayed_procs, print_procs, span, tr}
 use Rattle.low_code.specs.Tree as low
-use Rattle.low_code.specs.Size.{low_all, calls_of}
-use Rattle.low_translate.specs.Lowers.{Lowers, LowersSmall}
+use Rattle.low_code.specs.Size.{program_size, calls_of}
+use Rattle.low_translate.specs.Lowers.{Lowers, LoweredIsSmall}
 use Rattle.grin_compile.specs.Stages.{AreStages}
 use Rattle.pass_ground.proofs.Vectors.{outside_again}
 use Rattle.seq.specs.Lists.{numbers_from}
@@ -29,35 +28,19 @@ use Rattle.seq.proofs.Counted.{length_numbers}
 
 -- ---- the procedures and global cells of a stage
 
-outside_itself : (g : Program) → SameOutside g g
+outside_itself : (g : Program) → DifferOnlyInBodies g g
 outside_itself g = record { same_tags = refl; same_globals = refl; same_start = refl; same_argument = refl; same_names = refl }
 
-shaped_outside : (k : PassName) (g h : Program) → shape_of k g h → SameOutside g h
-shaped_outside Translate g h s = absurd s
-shaped_outside Eval g h s = absurd s
-shaped_outside Apply g h s = absurd s
-shaped_outside Vectorise g h s = s.outside
-shaped_outside Simplify g h s = s.stays.outside
-shaped_outside Fetch g h s = s.outside
-shaped_outside Copy g h s = s.stays.outside
-shaped_outside Update g h s = s.stays.outside
-shaped_outside Unbox g h s = s.stays.outside
-shaped_outside Raise g h s = s.outside
-shaped_outside Flat g h s = s.stays.outside
-shaped_outside Known g h s = s.stays.outside
-shaped_outside Cells g h s = s.stays.outside
-shaped_outside Dead g h s = s.stays.outside
-
 pub stages_outside : (p : core.Program) (ks : List PassName) (g : Program) (hs : List Program) → AreStages p ks g hs
-    → (k : ℕ) (h : Program) → slice_get hs k ≡ Some h → SameOutside g h
+    → (k : ℕ) (h : Program) → slice_get hs k ≡ Some h → DifferOnlyInBodies g h
 stages_outside p [] g [] are k h there = cc
 stages_outside p [] g (x ∷ hs) are k h there = absurd are
 stages_outside p (a ∷ ks) g [] are k h there = absurd are
-stages_outside p (a ∷ ks) g (x ∷ hs) are zero h there = let e : x ≡ h = cc in subst (SameOutside g) e (shaped_outside a g x are.1.0)
+stages_outside p (a ∷ ks) g (x ∷ hs) are zero h there = let e : x ≡ h = cc in subst (DifferOnlyInBodies g) e (gives a g x are.1.0).outside
 stages_outside p (a ∷ ks) g (x ∷ hs) are (suc k) h there =
-    outside_again g x h (shaped_outside a g x are.1.0) (stages_outside p ks x hs are.1.1 k h there)
+    outside_again g x h (gives a g x are.1.0).outside (stages_outside p ks x hs are.1.1 k h there)
 
-pub as_many_procs : (g h : Program) → SameOutside g h → length h.procs ≡ length g.procs
+pub as_many_procs : (g h : Program) → DifferOnlyInBodies g h → length h.procs ≡ length g.procs
 as_many_procs g h s = sym (named h.procs) ∙ ap length s.same_names ∙ named g.procs
   where
     named : (qs : List Procedure) → length (names_of qs) ≡ length qs
@@ -149,11 +132,11 @@ functions_inlined p A =
 pub record FewParts (inlined : Program) (functions : ℕ) (l : low.Program) : Type 0 where
   pub procs : length l.procs ≤ size inlined
   pub globals : length l.globals ≤ functions
-  pub light : low_all l ≤ 192 * size inlined
+  pub light : program_size l ≤ 192 * size inlined
   pub calls : calls_of l ≤ size inlined
 
 pub few_parts : (p : core.Program) (inlined g : Program) (l : low.Program) (most : ℕ) → inlined.globals ≡ (tr p).globals
-    → SameOutside inlined g → Slim (size inlined) most g → Lowers g l → LowersSmall g l → FewParts inlined (length p.funs) l
+    → DifferOnlyInBodies inlined g → Slim (size inlined) most g → Lowers g l → LoweredIsSmall g l → FewParts inlined (length p.funs) l
 few_parts p inlined g l most same outside slim lowers small = record {
   procs = omega (arith, lowers.procs, as_many_procs inlined g outside, few_procs inlined.procs);
   globals =
@@ -164,13 +147,13 @@ few_parts p inlined g l most same outside slim lowers small = record {
   calls = omega (arith, small.few_calls, slim.few_calls);
 }
 
-pub few_words : (procs globals low_all calls size : ℕ) (words items : ℕ) → size ≤ 131072 → procs ≤ size → globals ≤ 4096
-    → low_all ≤ 192 * size → calls ≤ size
-    → items ≤ 64 * (procs + globals + 1) + 8 * low_all + 256 * calls → words ≤ items → words ≤ 268435456
-few_words procs globals low_all calls size words items fits some few light called bound placed =
+pub few_words : (procs globals program_size calls size : ℕ) (words items : ℕ) → size ≤ 131072 → procs ≤ size → globals ≤ 4096
+    → program_size ≤ 192 * size → calls ≤ size
+    → items ≤ 64 * (procs + globals + 1) + 8 * program_size + 256 * calls → words ≤ items → words ≤ 268435456
+few_words procs globals program_size calls size words items fits some few light called bound placed =
     omega (arith, fits, some, few, light, called, bound, placed)
 
 -- at most 1,920 for each unit of the size
-pub few_steps : (procs globals low_all calls size items : ℕ) → procs ≤ size → globals + 1 ≤ size → low_all ≤ 192 * size → calls ≤ size
-    → items ≤ 64 * (procs + globals + 1) + 8 * low_all + 256 * calls → items ≤ 1920 * size
-few_steps procs globals low_all calls size items some few light called bound = omega (arith, some, few, light, called, bound)
+pub few_steps : (procs globals program_size calls size items : ℕ) → procs ≤ size → globals + 1 ≤ size → program_size ≤ 192 * size → calls ≤ size
+    → items ≤ 64 * (procs + globals + 1) + 8 * program_size + 256 * calls → items ≤ 1920 * size
+few_steps procs globals program_size calls size items some few light called bound = omega (arith, some, few, light, called, bound)

@@ -1,14 +1,12 @@
 -- The stages of a program, and the last of them, of which code can be made.
-use Rattle.std.proofs.Common.{◌≡◌, ℕ, ◌≤◌, [], ◌∷◌, length, refl, sym, ap, ◌∙◌, subst, arith}
+use Rattle.std.proofs.Common.{◌≡◌, ℕ, ◌≤◌, List, length, refl, sym, ap, ◌∙◌, subst, arith}
 use Rattle.arity_check.specs.Accepted.{IsValid}
 use Rattle.arity_check.specs.Program as core
-use Rattle.grin_syntax.specs.declared.program.Grin.{Grin}
-use Rattle.grin_syntax.specs.Tree.{Program, program_of}
+use Rattle.grin_syntax.specs.Tree.{Program}
 use Rattle.grin_syntax.specs.Formed.{AllOf, Formed}
-use Rattle.grin_syntax.specs.SameOutside.{SameOutside}
+use Rattle.grin_syntax.specs.SameOutside.{DifferOnlyInBodies}
 use Rattle.grin_meaning.specs.Keeps.{Keeps}
 use Rattle.grin_meaning.specs.Slim.{Slim}
-use Rattle.grin_meaning.proofs.Kept.{keeps_again}
 use Rattle.flow_system.specs.Solution.{Solution}
 use Rattle.inlining.specs.Applications.{inlined, inlined_size}
 use Rattle.inlining.specs.Size.{size, largest_procedure}
@@ -16,33 +14,36 @@ use Rattle.vectorised_form.specs.Laws.{VectoriseTakesInlined}
 use Rattle.grin_measure.specs.declared.measure.Sizes.{Sizes}
 use Rattle.grin_measure.specs.Within.{HasSizes}
 use Rattle.grin_translate.specs.Translation.{tr}
-use Rattle.grin_opt.specs.declared.pass.PassName.{PassName}
-use Rattle.grin_opt.specs.declared.pass.PassName.TheVariants.{Translate, Eval, Apply, Vectorise, Simplify, Fetch, Copy, Update, Unbox, Raise, Flat, Known, Cells, Dead}
-use Rattle.grin_opt.specs.Schedule.{IsTaken, shape_of}
-use Rattle.grin_stages.specs.Stage.{Analyses, IsStage, translated, evaluations_inlined, both_inlined, by_pass, Fits, OneExpandedSize, VectorisedIsSlim}
-use Rattle.grin_compile.specs.declared.later.Later.{Later}
-use Rattle.grin_compile.specs.Parts.{HasStages}
-use Rattle.grin_compile.specs.Passed.{ArePassed, later_after, programs_of, SlimBeside}
-use Rattle.grin_compile.specs.Stages.{passes, AreStages, IsLastOf, IsLastSlim}
+use Rattle.stage_names.specs.declared.PassName.{PassName}
+use Rattle.stage_names.specs.declared.PassName.TheVariants.{Apply, Vectorise}
+use Rattle.grin_opt.specs.Schedule.{IsFirstPassInput, pass_relation}
+use Rattle.grin_stages.specs.Stage.{IsLeastOfTranslation, IsStage, translated, evaluations_inlined, both_inlined, by_pass, Fits, ExpandedSizeIsUnique, VectorisedIsSlim}
+use Rattle.grin_compile.specs.Parts.{HasLast}
+use Rattle.grin_compile.specs.Passed.{SlimBeside}
+use Rattle.grin_compile.specs.Stages.{passes, AreStages, IsLastStageWith, IsLastSlim}
 use Rattle.translated_form.proofs.Limits.{valid_is_limited}
 use Rattle.grin_compile.proofs.Sizes.{as_many_procs, few_procs, few_globals, largest_is_small}
-use Rattle.grin_compile.proofs.Stepped.{can_be_lowered, are_stages}
+use Rattle.grin_compile.proofs.Stepped.{CanBeLowered, can_be_lowered, in_all, all_formed}
 
 -- the solution by which a stage is inlined
 pub record InlinedBy (p : core.Program) (a : Program) : Type 0 where
   pub solution : Solution
-  pub least : Analyses p solution
+  pub least : IsLeastOfTranslation p solution
   pub is : a ≡ inlined solution (tr p)
 
 pub inlined_by : (p : core.Program) (k : PassName) (a : Program) → IsStage p k a → k ≡ Apply → InlinedBy p a
 inlined_by p k a translated e = cc
 inlined_by p k a (evaluations_inlined least) e = cc
 inlined_by p k a (both_inlined {A = A} least) e = record { solution = A; least = least; is = refl }
-inlined_by p k a (by_pass {g = b} stage shape keeps) e = absurd (subst (λ k. shape_of k b a) e shape)
+inlined_by p k a (by_pass {g = b} stage shape keeps) e = absurd (subst (λ k. pass_relation k b a) e shape)
 
 -- the passes after the inlining take the inlined program
-pub taken_by : VectoriseTakesInlined → (p : core.Program) → IsValid p → (a : Program) → IsStage p Apply a → IsTaken a
-taken_by taken p valid a stage = let by = inlined_by p Apply a stage refl in subst IsTaken (sym by.is) (taken p valid by.solution by.least.solves)
+pub taken_by : VectoriseTakesInlined → (p : core.Program) → IsValid p → (a : Program) → IsStage p Apply a → IsFirstPassInput a
+taken_by taken p valid a stage = let by = inlined_by p Apply a stage refl in subst IsFirstPassInput (sym by.is) (taken p valid by.solution by.least.solves)
+
+-- each stage after the inlining is well formed
+pub later_formed : VectoriseTakesInlined → (p : core.Program) → IsValid p → (a : Program) → IsStage p Apply a → (hs : List Program) → AreStages p passes a hs → AllOf Formed hs
+later_formed taken p valid a stage hs are = all_formed a hs (can_be_lowered p a (taken_by taken p valid a stage) hs are)
 
 -- the sizes of a program that is not too large are as they were measured
 record AreMeasured (a : Program) (s : Sizes) : Type 0 where
@@ -54,13 +55,11 @@ measured a s has small =
     let program = has.program in let largest = has.largest in
     record { program = omega arith; largest = omega (arith, program, largest, small, largest_is_small a) }
 
-small_once : OneExpandedSize → (p : core.Program) → Fits p → (A : Solution) → Analyses p A → inlined_size A (tr p) ≤ 131072
+small_once : ExpandedSizeIsUnique → (p : core.Program) → Fits p → (A : Solution) → IsLeastOfTranslation p A → inlined_size A (tr p) ≤ 131072
 small_once one p fits A least =
     subst (λ n. n ≤ 131072) (one p fits.size (inlined_size A (tr p)) fits.expanded (record { solution = A; least = least; is_size = refl })) fits.small
 
-module _ (taken : VectoriseTakesInlined) (slim : VectorisedIsSlim) (one : OneExpandedSize) (p : core.Program) (valid : IsValid p) (fits : Fits p)
-    (a : Program) (stage : IsStage p Apply a) (kept : Keeps (tr p) a) (l : Later) (passed : ArePassed passes a (programs_of l))
-    (s : Sizes) (sizes : HasSizes a s) where
+module _ (one : ExpandedSizeIsUnique) (p : core.Program) (fits : Fits p) (a : Program) (stage : IsStage p Apply a) (s : Sizes) (sizes : HasSizes a s) where
   by : InlinedBy p a
   by = inlined_by p Apply a stage refl
 
@@ -70,14 +69,14 @@ module _ (taken : VectoriseTakesInlined) (slim : VectorisedIsSlim) (one : OneExp
   small : inlined_size A (tr p) ≤ 131072
   small = small_once one p fits A by.least
 
-  are : AreMeasured a s
-  are = measured a s sizes (subst (λ g. size g ≤ 131072) (sym by.is) small)
+  are_measured : AreMeasured a s
+  are_measured = measured a s sizes (subst (λ g. size g ≤ 131072) (sym by.is) small)
 
   program_is : s.program ≡ inlined_size A (tr p)
-  program_is = are.program ∙ ap size by.is
+  program_is = are_measured.program ∙ ap size by.is
 
   largest_is : s.largest ≡ largest_procedure (inlined A (tr p))
-  largest_is = are.largest ∙ ap largest_procedure by.is
+  largest_is = are_measured.largest ∙ ap largest_procedure by.is
 
   pub small_program : s.program ≤ 131072
   small_program = subst (λ n. n ≤ 131072) (sym program_is) small
@@ -85,59 +84,48 @@ module _ (taken : VectoriseTakesInlined) (slim : VectorisedIsSlim) (one : OneExp
   pub small_largest : s.largest ≤ 131072
   small_largest = omega (arith, largest_is, small, largest_is_small (inlined A (tr p)))
 
-  keeps : Keeps (tr p) (program_of l.vectorised)
-  keeps = keeps_again (tr p) a (program_of l.vectorised) kept passed.0.keeps
-
-  slim_beside : Slim (inlined_size A (tr p)) (largest_procedure (inlined A (tr p))) (program_of l.vectorised)
-  slim_beside = slim p (program_of l.vectorised) (by_pass {k = Vectorise} stage passed.0.shape keeps) A by.least
-
   -- slim beside the sizes that were measured, and beside those of the inlined program
   abbrev Beside : (size largest : ℕ) → Program → Type 0
   Beside n m g = Slim n m g
 
-  pub vectors_are_slim : SlimBeside s (program_of l.vectorised)
-  vectors_are_slim =
-      subst (λ n. Slim n s.largest (program_of l.vectorised)) (sym program_is)
-      (subst (λ m. Slim (inlined_size A (tr p)) m (program_of l.vectorised)) (sym largest_is) slim_beside)
+  -- the first stage is slim
+  pub vectors_are_slim : VectorisedIsSlim → (h : Program) → pass_relation Vectorise a h → Keeps (tr p) h → SlimBeside s h
+  vectors_are_slim slim h shape keeps =
+      subst (λ n. Slim n s.largest h) (sym program_is)
+      (subst (λ m. Slim (inlined_size A (tr p)) m h) (sym largest_is) (slim p h (by_pass {k = Vectorise} stage shape keeps) A by.least))
 
-  -- each stage after the inlining is well formed
-  later_formed : AllOf Formed (programs_of l)
-  later_formed = (formed Vectorise, (formed Simplify, (formed Fetch, (formed Copy, (formed Update, (formed Unbox, (formed Raise, (formed Flat, (formed Known, (formed Cells, (formed Dead, tt)))))))))))
-    where
-      formed : (k : PassName) → Formed (later_after l k)
-      formed k = (can_be_lowered a (taken_by taken p valid a stage) l passed k).of_vectors.formed
+  -- the last slim one of the stages can be lowered
+  module _ (taken : VectoriseTakesInlined) (valid : IsValid p) (hs : List Program) (are : AreStages p passes a hs) (g : Program) (last : IsLastStageWith (SlimBeside s) hs g) where
+    all : AllOf (CanBeLowered a) hs
+    all = can_be_lowered p a (taken_by taken p valid a stage) hs are
 
-  pub has_stages : (t e : Grin) (k : PassName) → IsStage p Translate (program_of t) → IsStage p Eval (program_of e) → (b : Grin) → program_of b ≡ a
-      → AllOf Formed (program_of t ∷ program_of e ∷ program_of b ∷ [])
-      → IsLastOf (SlimBeside s) (programs_of l) (later_after l k)
-      → HasStages p (record { translated = t; evaluated = e; applied = b; later = l; last = k })
-  has_stages t e k first second b is formed last =
-      let can = can_be_lowered a (taken_by taken p valid a stage) l passed k in
-      let last_slim : IsLastSlim p A (programs_of l) (later_after l k) =
-      subst (λ n. IsLastOf (Beside n (largest_procedure (inlined A (tr p)))) (programs_of l) (later_after l k)) program_is
-      (subst (λ m. IsLastOf (Beside s.program m) (programs_of l) (later_after l k)) largest_is last) in
-      let outside : SameOutside (inlined A (tr p)) (later_after l k) = subst (λ g. SameOutside g (later_after l k)) by.is can.outside in
-      record {
-        translated = first;
-        evaluated = second;
-        solution = A;
-        least = by.least;
-        applied = is ∙ by.is;
-        fits = small;
-        later = subst (λ g. AreStages p passes g (programs_of l)) by.is (are_stages p passes a (programs_of l) kept passed);
-        last = last_slim;
-        formed = (formed.0, (formed.1.0, (formed.1.1.0, later_formed)));
-        lowerable = record {
-          formed = can.of_vectors.formed;
-          ready = can.of_vectors.ready;
-          vectorised = can.of_vectors.vectorised;
-          narrow = can.narrow;
-          size = inlined_size A (tr p);
-          largest = largest_procedure (inlined A (tr p));
-          slim = last_slim.slim;
+    is_last_slim : IsLastSlim p A hs g
+    is_last_slim =
+        subst (λ n. IsLastStageWith (Beside n (largest_procedure (inlined A (tr p)))) hs g) program_is
+        (subst (λ m. IsLastStageWith (Beside s.program m) hs g) largest_is last)
+
+    pub has_last : HasLast p a hs g
+    has_last =
+        let can = in_all (CanBeLowered a) hs last.at g all last.there in
+        let outside : DifferOnlyInBodies (inlined A (tr p)) g = subst (λ b. DifferOnlyInBodies b g) by.is can.outside in
+        record {
+          solution = A;
+          least = by.least;
+          applied = by.is;
           fits = small;
-          largest_fits = largest_is_small (inlined A (tr p));
-          few_procs = omega (arith, as_many_procs (inlined A (tr p)) (later_after l k) outside, few_procs (inlined A (tr p)).procs);
-          few_globals = omega (arith, ap length outside.same_globals, few_globals p p.funs 0, (valid_is_limited p valid).few_functions);
-        };
-      }
+          stages = subst (λ b. AreStages p passes b hs) by.is are;
+          last = is_last_slim;
+          lowerable = record {
+            formed = can.of_vectors.formed;
+            ready = can.of_vectors.ready;
+            vectorised = can.of_vectors.vectorised;
+            narrow = can.narrow;
+            size = inlined_size A (tr p);
+            largest = largest_procedure (inlined A (tr p));
+            slim = is_last_slim.slim;
+            fits = small;
+            largest_fits = largest_is_small (inlined A (tr p));
+            few_procs = omega (arith, as_many_procs (inlined A (tr p)) g outside, few_procs (inlined A (tr p)).procs);
+            few_globals = omega (arith, ap length outside.same_globals, few_globals p p.funs 0, (valid_is_limited p valid).few_functions);
+          };
+        }

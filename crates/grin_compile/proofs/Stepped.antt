@@ -1,44 +1,43 @@
 -- Stages that passes make, one after another, and the last of them that is as is asked.
 use Rattle.std.proofs.Common.{◌≡◌, ℕ, zero, suc, ◌≤◌, ◌<◌, List, [], ◌∷◌, drop, Some, slice_get, subst, arith}
 use Rattle.arity_check.specs.Program as core
-use Rattle.grin_syntax.specs.Tree.{Program, program_of}
-use Rattle.grin_syntax.specs.Formed.{AllOf}
-use Rattle.grin_syntax.specs.SameOutside.{SameOutside}
+use Rattle.grin_syntax.specs.Tree.{Program}
+use Rattle.grin_syntax.specs.Formed.{AllOf, Formed}
+use Rattle.grin_syntax.specs.SameOutside.{DifferOnlyInBodies}
 use Rattle.grin_meaning.specs.Keeps.{Keeps}
 use Rattle.grin_meaning.proofs.Kept.{keeps_again}
 use Rattle.grin_translate.specs.Translation.{tr}
-use Rattle.pass_ground.specs.Vectors.{OfVectors, NarrowTargets, StaysOfVectors}
-use Rattle.grin_opt.specs.declared.pass.PassName.{PassName}
-use Rattle.grin_opt.specs.declared.pass.PassName.TheVariants.{Translate, Eval, Apply, Vectorise, Simplify, Fetch, Copy, Update, Unbox, Raise, Flat, Known, Cells, Dead}
-use Rattle.grin_opt.specs.Schedule.{IsTaken}
-use Rattle.grin_compile.specs.declared.later.Later.{Later}
-use Rattle.grin_compile.specs.Passed.{ArePassed, later_after, programs_of}
-use Rattle.grin_compile.specs.Stages.{passes, AreStages, IsLastOf}
+use Rattle.pass_ground.specs.Vectors.{IsVectorForm, NarrowTargets, StaysVectorForm}
+use Rattle.stage_names.specs.declared.PassName.{PassName}
+use Rattle.stage_names.specs.declared.PassName.TheVariants.{Translate, Eval, Apply, Vectorise, Simplify, Fetch, Copy, Update, Unbox, Raise, Flat, Known, Cells, Dead}
+use Rattle.grin_opt.specs.Schedule.{IsFirstPassInput, pass_relation}
+use Rattle.grin_compile.specs.Passed.{AreResultsOfPasses}
+use Rattle.grin_compile.specs.Stages.{passes, AreStages, IsLastStageWith}
 use Rattle.grin_compile.proofs.Narrow.{narrow}
 use Rattle.pass_ground.proofs.Vectors.{outside_again}
 
 -- ---- the last one
 
+pub in_all : (P : Program → Type 0) (hs : List Program) (k : ℕ) (h : Program) → AllOf P hs → slice_get hs k ≡ Some h → P h
+in_all P [] k h all there = cc
+in_all P (x ∷ hs) zero h all there = let e : x ≡ h = cc in subst P e all.0
+in_all P (x ∷ hs) (suc k) h all there = in_all P hs k h all.1 there
+
 none_after : (P : Program → Type 0) (hs : List Program) (at k : ℕ) (h : Program) → AllOf (λ h. P h → ⊥) (drop (suc at) hs) → at < k
     → slice_get hs k ≡ Some h → P h → ⊥
 none_after P [] at k h all more there = cc
 none_after P (x ∷ hs) zero zero h all more there = absurd (omega (arith, more))
-none_after P (x ∷ hs) zero (suc k) h all more there = in_all hs k h all there
-  where
-    in_all : (hs : List Program) (k : ℕ) (h : Program) → AllOf (λ h. P h → ⊥) hs → slice_get hs k ≡ Some h → P h → ⊥
-    in_all [] k h all there = cc
-    in_all (x ∷ hs) zero h all there = let e : x ≡ h = cc in subst (λ h. P h → ⊥) e all.0
-    in_all (x ∷ hs) (suc k) h all there = in_all hs k h all.1 there
+none_after P (x ∷ hs) zero (suc k) h all more there = in_all (λ h. P h → ⊥) hs k h all there
 none_after P (x ∷ hs) (suc at) zero h all more there = absurd (omega (arith, more))
 none_after P (x ∷ hs) (suc at) (suc k) h all more there = none_after P hs at k h all (omega (arith, more)) there
 
 pub last_of : (Asked : Program → Type 0) (hs : List Program) (at : ℕ) (g : Program) → slice_get hs at ≡ Some g → Asked g
-    → AllOf (λ h. Asked h → ⊥) (drop (suc at) hs) → IsLastOf Asked hs g
+    → AllOf (λ h. Asked h → ⊥) (drop (suc at) hs) → IsLastStageWith Asked hs g
 last_of Asked hs at g there slim none = record { at = at; there = there; slim = slim; last = λ k h more there. none_after Asked hs at k h none more there }
 
 -- ---- all of them
 
-pub are_stages : (p : core.Program) (ks : List PassName) (g : Program) (hs : List Program) → Keeps (tr p) g → ArePassed ks g hs → AreStages p ks g hs
+pub are_stages : (p : core.Program) (ks : List PassName) (g : Program) (hs : List Program) → Keeps (tr p) g → AreResultsOfPasses ks g hs → AreStages p ks g hs
 are_stages p [] g [] kept passed = tt
 are_stages p [] g (h ∷ hs) kept passed = absurd passed
 are_stages p (k ∷ ks) g [] kept passed = absurd passed
@@ -48,11 +47,11 @@ are_stages p (k ∷ ks) g (h ∷ hs) kept passed =
 
 -- what the layers below ask of a stage
 pub record CanBeLowered (a h : Program) : Type 0 where
-  pub of_vectors : OfVectors h
+  pub of_vectors : IsVectorForm h
   pub narrow : NarrowTargets 14 h
-  pub outside : SameOutside a h
+  pub outside : DifferOnlyInBodies a h
 
-next_one : (a g h : Program) → CanBeLowered a g → StaysOfVectors g h → CanBeLowered a h
+next_one : (a g h : Program) → CanBeLowered a g → StaysVectorForm g h → CanBeLowered a h
 next_one a g h can stays = record {
   of_vectors = stays.of_vectors;
   narrow = stays.narrow 14 can.narrow;
@@ -60,7 +59,7 @@ next_one a g h can stays = record {
 }
 
 -- a pass that makes targets of one variable
-splitting_one : (a g h : Program) → CanBeLowered a g → OfVectors h → SameOutside g h → ((most : ℕ) → 1 ≤ most → NarrowTargets most g → NarrowTargets most h)
+splitting_one : (a g h : Program) → CanBeLowered a g → IsVectorForm h → DifferOnlyInBodies g h → ((most : ℕ) → 1 ≤ most → NarrowTargets most g → NarrowTargets most h)
     → CanBeLowered a h
 splitting_one a g h can vectors outside narrow = record {
   of_vectors = vectors;
@@ -68,58 +67,47 @@ splitting_one a g h can vectors outside narrow = record {
   outside = outside_again a g h can.outside outside;
 }
 
-module _ (a : Program) (taken : IsTaken a) (l : Later) (passed : ArePassed passes a (programs_of l)) where
-  vectorised : CanBeLowered a (program_of l.vectorised)
-  vectorised =
-      let wide = passed.0.shape in
-      record {
-        of_vectors = record { formed = wide.formed; ready = wide.ready; vectorised = wide.vectorised };
-        narrow = narrow a (program_of l.vectorised) taken.1 taken.2 wide;
-        outside = wide.outside;
-      }
+-- the passes after the first one
+abbrev IsLater : PassName → Type 0
+IsLater Vectorise = ⊥
+IsLater _ = Unit {0}
 
-  simplified : CanBeLowered a (program_of l.simplified)
-  simplified = next_one a _ _ vectorised passed.1.0.shape.stays
+next : (k : PassName) (a g h : Program) → IsLater k → pass_relation k g h → CanBeLowered a g → CanBeLowered a h
+next Translate a g h later shape can = absurd shape
+next Eval a g h later shape can = absurd shape
+next Apply a g h later shape can = absurd shape
+next Vectorise a g h later shape can = absurd later
+next Simplify a g h later shape can = next_one a g h can shape.stays
+next Fetch a g h later shape can = splitting_one a g h can shape.of_vectors shape.outside shape.narrow
+next Copy a g h later shape can = next_one a g h can shape.stays
+next Update a g h later shape can = next_one a g h can shape.stays
+next Unbox a g h later shape can = next_one a g h can shape.stays
+next Raise a g h later shape can = splitting_one a g h can shape.of_vectors shape.outside shape.narrow
+next Flat a g h later shape can = next_one a g h can shape.stays
+next Known a g h later shape can = next_one a g h can shape.stays
+next Cells a g h later shape can = next_one a g h can shape.stays
+next Dead a g h later shape can = next_one a g h can shape.stays
 
-  fetched : CanBeLowered a (program_of l.fetched)
-  fetched = splitting_one a _ _ simplified passed.1.1.0.shape.of_vectors passed.1.1.0.shape.outside passed.1.1.0.shape.narrow
+all_next : (p : core.Program) (ks : List PassName) (a g : Program) (hs : List Program) → AllOf IsLater ks → CanBeLowered a g → AreStages p ks g hs → AllOf (CanBeLowered a) hs
+all_next p [] a g [] later can are = tt
+all_next p [] a g (h ∷ hs) later can are = absurd are
+all_next p (k ∷ ks) a g [] later can are = absurd are
+all_next p (k ∷ ks) a g (h ∷ hs) later can are = let here = next k a g h later.0 are.1.0 can in (here, all_next p ks a h hs later.1 here are.1.1)
 
-  copied : CanBeLowered a (program_of l.copied)
-  copied = next_one a _ _ fetched passed.1.1.1.0.shape.stays
+abbrev later_passes : List PassName
+later_passes = Simplify ∷ Fetch ∷ Copy ∷ Update ∷ Unbox ∷ Raise ∷ Flat ∷ Known ∷ Cells ∷ Dead ∷ []
 
-  updated : CanBeLowered a (program_of l.updated)
-  updated = next_one a _ _ copied passed.1.1.1.1.0.shape.stays
+pub can_be_lowered : (p : core.Program) (a : Program) → IsFirstPassInput a → (hs : List Program) → AreStages p passes a hs → AllOf (CanBeLowered a) hs
+can_be_lowered p a taken [] are = absurd are
+can_be_lowered p a taken (h ∷ hs) are =
+    let wide = are.1.0 in
+    let first : CanBeLowered a h = record {
+      of_vectors = record { formed = wide.formed; ready = wide.ready; vectorised = wide.vectorised };
+      narrow = narrow a h taken.1 taken.2 wide;
+      outside = wide.outside;
+    } in
+    (first, all_next p later_passes a h hs (tt, (tt, (tt, (tt, (tt, (tt, (tt, (tt, (tt, (tt, tt)))))))))) first are.1.1)
 
-  unboxed : CanBeLowered a (program_of l.unboxed)
-  unboxed = next_one a _ _ updated passed.1.1.1.1.1.0.shape.stays
-
-  raised : CanBeLowered a (program_of l.raised)
-  raised = splitting_one a _ _ unboxed passed.1.1.1.1.1.1.0.shape.of_vectors passed.1.1.1.1.1.1.0.shape.outside passed.1.1.1.1.1.1.0.shape.narrow
-
-  flat : CanBeLowered a (program_of l.flat)
-  flat = next_one a _ _ raised passed.1.1.1.1.1.1.1.0.shape.stays
-
-  known : CanBeLowered a (program_of l.known)
-  known = next_one a _ _ flat passed.1.1.1.1.1.1.1.1.0.shape.stays
-
-  own : CanBeLowered a (program_of l.own)
-  own = next_one a _ _ known passed.1.1.1.1.1.1.1.1.1.0.shape.stays
-
-  dead : CanBeLowered a (program_of l.dead)
-  dead = next_one a _ _ own passed.1.1.1.1.1.1.1.1.1.1.0.shape.stays
-
-  pub can_be_lowered : (k : PassName) → CanBeLowered a (later_after l k)
-  can_be_lowered Translate = vectorised
-  can_be_lowered Eval = vectorised
-  can_be_lowered Apply = vectorised
-  can_be_lowered Vectorise = vectorised
-  can_be_lowered Simplify = simplified
-  can_be_lowered Fetch = fetched
-  can_be_lowered Copy = copied
-  can_be_lowered Update = updated
-  can_be_lowered Unbox = unboxed
-  can_be_lowered Raise = raised
-  can_be_lowered Flat = flat
-  can_be_lowered Known = known
-  can_be_lowered Cells = own
-  can_be_lowered Dead = dead
+pub all_formed : (a : Program) (hs : List Program) → AllOf (CanBeLowered a) hs → AllOf Formed hs
+all_formed a [] all = tt
+all_formed a (h ∷ hs) all = (all.0.of_vectors.formed, all_formed a hs all.1)

@@ -1,28 +1,28 @@
 -- What the stages and the low code tell of a program.
 use Rattle.std.proofs.Common.{◌≡◌, ◌≢◌, ℕ, zero, suc, ◌≤◌, List, [], ◌∷◌, Some, slice_get, refl, sym, ap, ◌∙◌, subst, arith}
 use Rattle.headline.specs.Carries as told
-use Rattle.headline.specs.Carries.{IsBytes, Tells}
+use Rattle.headline.specs.Carries.{MeaningRefines}
 use Rattle.arity_check.specs.Accepted.{IsValid}
 use Rattle.arity_check.specs.Program as core
 use Rattle.core_meaning.specs.Printing as core_end
 use Rattle.core_meaning.specs.Printing.{Done, Unaccepted, Going, printed}
 use Rattle.core_meaning.specs.Told as core_told
-use Rattle.core_meaning.specs.Told.{of_core}
+use Rattle.core_meaning.specs.Told.{core_program_meaning}
 use Rattle.grin_syntax.specs.Tree.{Program}
 use Rattle.grin_meaning.specs.Values.{no_alternative, out_of_units, missing}
 use Rattle.grin_meaning.specs.Run.{run}
-use Rattle.grin_meaning.specs.Keeps.{End, done, ended, end_of, Keeps}
-use Rattle.grin_meaning.specs.Told.{told_end, of_grin}
-use Rattle.grin_translate.specs.Same.{end_as, ValidTranslationDoesAs}
+use Rattle.grin_meaning.specs.Keeps.{RunEnd, done, ended, end_of, Keeps}
+use Rattle.grin_meaning.specs.Told.{told_end, meaning_of_grin}
+use Rattle.grin_translate.specs.Same.{grin_end_of, ValidTranslationPreservesRuns}
 use Rattle.grin_translate.specs.Translation.{tr}
-use Rattle.grin_opt.specs.declared.pass.PassName.{PassName}
+use Rattle.stage_names.specs.declared.PassName.{PassName}
 use Rattle.low_code.specs.Tree as low
 use Rattle.low_code.specs.Run as low_run
 use Rattle.low_code.specs.Told as low_told
 use Rattle.low_translate.specs.Lowers.{Lowers}
 use Rattle.grin_compile.specs.Stages.{AreStages}
 
-pub tells_both : (t u v : told.Told) → Tells t u → Tells u v → Tells t v
+pub tells_both : (t u v : told.MeaningResult) → MeaningRefines t u → MeaningRefines u v → MeaningRefines t v
 tells_both t u v a b = record {
   out = b.out ∙ a.out;
   end = b.end ∙ a.end;
@@ -30,12 +30,12 @@ tells_both t u v a b = record {
   cells = omega (arith, a.cells, b.cells);
 }
 
-same_end : (e : core_end.End) → told_end (end_as e) ≡ core_told.end_of e
+same_end : (e : core_end.PrintingEnd) → told_end (grin_end_of e) ≡ core_told.meaning_end e
 same_end Done = refl
 same_end Unaccepted = refl
 same_end Going = refl
 
-never : (e : core_end.End) → end_as e ≢ ended missing
+never : (e : core_end.PrintingEnd) → grin_end_of e ≢ ended missing
 never Done h = cc
 never Unaccepted h = cc
 never Going h = cc
@@ -49,7 +49,7 @@ stages_keep p (a ∷ ks) g [] are k h there = absurd are
 stages_keep p (a ∷ ks) g (x ∷ hs) are zero h there = let e : x ≡ h = cc in subst (Keeps (tr p)) e are.0
 stages_keep p (a ∷ ks) g (x ∷ hs) are (suc k) h there = stages_keep p ks x hs are.1.1 k h there
 
-module _ (does : ValidTranslationDoesAs) (p : core.Program) (valid : IsValid p) where
+module _ (does : ValidTranslationPreservesRuns) (p : core.Program) (valid : IsValid p) where
   not_missing : (i : List ℕ) (n : ℕ) → end_of (run (tr p) i n) ≢ ended missing
   not_missing i n h = never (printed p i n).end (sym (does p valid i n).same_end ∙ h)
 
@@ -58,7 +58,7 @@ module _ (does : ValidTranslationDoesAs) (p : core.Program) (valid : IsValid p) 
     stage_never_missing i n h = not_missing i n (sym (keeps.same_end i n (not_missing i n)) ∙ h)
 
     -- a stage tells what evaluation by need tells
-    pub stage_tells : (i : List ℕ) (n : ℕ) → Tells (of_core p i n) (of_grin g i n)
+    pub stage_tells : (i : List ℕ) (n : ℕ) → MeaningRefines (core_program_meaning p i n) (meaning_of_grin g i n)
     stage_tells i n =
         let d = does p valid i n in
         let m = not_missing i n in
@@ -70,10 +70,10 @@ module _ (does : ValidTranslationDoesAs) (p : core.Program) (valid : IsValid p) 
         }
 
     -- and goes no deeper
-    pub stage_no_deeper : (i : List ℕ) (n : ℕ) → (of_grin g i n).depth ≤ (of_core p i n).depth
+    pub stage_no_deeper : (i : List ℕ) (n : ℕ) → (meaning_of_grin g i n).depth ≤ (core_program_meaning p i n).depth
     stage_no_deeper i n = omega (arith, keeps.no_deeper i n (not_missing i n), (does p valid i n).no_deeper)
 
-is_missing : (e : End) → told_end e ≡ told.missing → e ≡ ended missing
+is_missing : (e : RunEnd) → told_end e ≡ told.missing → e ≡ ended missing
 is_missing done h = cc
 is_missing (ended no_alternative) h = cc
 is_missing (ended out_of_units) h = cc

@@ -1,19 +1,20 @@
 -- Words that are the code for a meaning.
 use Rattle.std.specs.Prelude.{◌≡◌, ℕ, ◌+◌, ◌-◌, ◌*◌, ◌≤◌, ◌<◌, true, List, [], length}
-use Rattle.headline.specs.Carries.{IsBytes, Told, Meaning, Comes, Carries}
+use Rattle.headline.specs.Carries.{IsBytes, MeaningResult, Meaning, Comes, Carries}
 use Rattle.elf32.specs.File.{program}
 use Rattle.rv32_machine.specs.Steps.{State, start_of}
 use Rattle.rv32_machine.specs.Runs.{Exited, run}
-use Rattle.rv32_steps.specs.Seen.{of_machine}
+use Rattle.rv32_steps.specs.Seen.{observed_machine}
 use Rattle.rv32_steps.specs.Trace.{trace, is_one_of, AllDifferent, procedures_at, IsLastBefore, Forward}
+use Rattle.limits.specs.Limits.{code_start}
 
 -- where the image of these words starts, with a heap and a stack of so many bytes
-abbrev pub start_with : (code : List ℕ) (heap_bytes stack : ℕ) → State
-start_with code heap_bytes stack = start_of (program code heap_bytes stack)
+abbrev pub image_start_state : (code : List ℕ) (heap_bytes stack : ℕ) → State
+image_start_state code heap_bytes stack = start_of (program code heap_bytes stack)
 
 -- an address within the code
 abbrev pub IsInCode : (code : List ℕ) → ℕ → Type 0
-IsInCode code b = (65536 ≤ b) × (b < 65536 + 4 * length code)
+IsInCode code b = (code_start ≤ b) × (b < code_start + 4 * length code)
 
 -- where a run has exited since it found no alternative, x5 is 4 behind the last of its steps that
 -- stood before `stops`
@@ -23,14 +24,15 @@ TellsLastStep stops start i m =
     → IsLastBefore stops (trace m i start) (s.regs 5 - 4)
 
 -- a meaning, and the procedures that it enters; and when what it tells needs more than was given
-module _ (HeapFull StackFull : Told → Type 0) (told : Meaning) (entered : List ℕ → ℕ → List ℕ) where
+module _ (HeapFull StackFull : MeaningResult → Type 0) (told : Meaning)
+    (entered : List ℕ → ℕ → List ℕ) where
   -- on an input, whatever the number of steps: the procedures at whose addresses the steps stood
   -- are those that are entered, so many units tell what is seen, and the run goes forward
   pub record Runs (addresses : List ℕ) (start : State) (i : List ℕ) (m : ℕ) : Type 0 where
     pub enters : let met = procedures_at addresses (trace m i start) in met ≡ entered i (length met)
     pub comes :
         let n = length (procedures_at addresses (trace m i start)) in
-        Comes HeapFull StackFull (told i) n (of_machine start i m)
+        Comes HeapFull StackFull (told i) n (observed_machine start i m)
     pub forward : Forward addresses m i start []
 
   -- the code carries the meaning and enters so many procedures in its order, each at an address
@@ -40,11 +42,11 @@ module _ (HeapFull StackFull : Told → Type 0) (told : Meaning) (entered : List
     pub one_each : length addresses ≡ procs
     pub different : AllDifferent addresses
     pub in_code : (b : ℕ) → is_one_of addresses b ≡ true → IsInCode code b
-    -- where the code of procedures ends: the last nine instructions are those by which an image stops
-    -- early
+    -- where the code of procedures ends: the last nine instructions are those by which an image
+    -- stops early
     pub stops : ℕ
-    pub nine_stop : stops + 4 * 9 ≡ 65536 + 4 * length code
+    pub nine_stop : stops + 4 * 9 ≡ code_start + 4 * length code
     pub before_stops : (b : ℕ) → is_one_of addresses b ≡ true → b < stops
     pub tells_last : (i : List ℕ) → IsBytes i → (m : ℕ) → TellsLastStep stops start i m
-    pub carries : Carries HeapFull StackFull told (of_machine start)
+    pub carries : Carries HeapFull StackFull told (observed_machine start)
     pub runs : (i : List ℕ) → IsBytes i → (m : ℕ) → Runs addresses start i m

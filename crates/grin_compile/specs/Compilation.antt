@@ -8,21 +8,21 @@ use Rattle.grin_syntax.specs.SameOutside.{names_of}
 use Rattle.flow_system.specs.Solution.{Solution}
 use Rattle.inlining.specs.Applications.{inlined}
 use Rattle.grin_translate.specs.Translation.{tr}
-use Rattle.grin_opt.specs.declared.pass.PassName.{PassName}
-use Rattle.grin_opt.specs.declared.pass.PassName.TheVariants.{Translate, Eval, Apply}
-use Rattle.grin_stages.specs.Stage.{Analyses, IsStage}
+use Rattle.stage_names.specs.declared.PassName.{PassName}
+use Rattle.stage_names.specs.declared.PassName.TheVariants.{Translate, Eval, Apply}
+use Rattle.grin_stages.specs.Stage.{IsLeastOfTranslation, IsStage}
 use Rattle.low_code.specs.Tree as low
 use Rattle.low_code.specs.Formed as low_formed
-use Rattle.low_code.specs.Told.{of_low, entered_by_low}
+use Rattle.low_code.specs.Told.{meaning_of_low, entered_by_low}
 use Rattle.register_alloc.specs.Assignment.{words_at}
 use Rattle.register_alloc.specs.Fits.{UsesRegisters}
 use Rattle.rv32_items.specs.declared.Item.{Item}
 use Rattle.rv32_layout.specs.Places.{AllDecode}
 use Rattle.grin_compile.specs.declared.compilation.Compiled.{Compiled}
-use Rattle.grin_compile.specs.Limits.{HeapOver, FramesOver, frame_bound, heap_bytes}
-use Rattle.grin_compile.specs.Code.{start_with, IsCodeFor}
+use Rattle.grin_compile.specs.Limits.{HeapIsExceeded, FramesAreExceeded, frame_bound, heap_bytes}
+use Rattle.grin_compile.specs.Code.{image_start_state, IsCodeFor}
 use Rattle.grin_compile.specs.Layers.{AreLayers}
-use Rattle.grin_compile.specs.Passed.{later_after}
+use Rattle.grin_compile.specs.Passed.{program_after_pass}
 use Rattle.grin_compile.specs.Stages.{passes, AreStages, IsLastSlim}
 use Rattle.grin_compile.specs.Made.{IsImageOf}
 
@@ -31,7 +31,7 @@ abbrev pub after : Compiled → PassName → grin.Program
 after c Translate = program_of c.stages.translated
 after c Eval = program_of c.stages.evaluated
 after c Apply = program_of c.stages.applied
-after c k = later_after c.stages.later k
+after c k = program_after_pass c.stages.later k
 
 -- the stages after the inlining
 abbrev pub later : Compiled → List grin.Program
@@ -46,7 +46,7 @@ pub record IsCompilation (p : core.Program) (cells stack : ℕ) (c : Compiled) :
   pub translated : IsStage p Translate (after c Translate)
   pub evaluated : IsStage p Eval (after c Eval)
   pub solution : Solution
-  pub least : Analyses p solution
+  pub least : IsLeastOfTranslation p solution
   pub applied : after c Apply ≡ inlined solution (tr p)
   pub stages : AreStages p passes (after c Apply) (later c)
   pub formed_stages :
@@ -65,6 +65,7 @@ pub record IsCompilation (p : core.Program) (cells stack : ℕ) (c : Compiled) :
   -- only where its frames are more
   pub within_frames :
       let l = low.program_of c.low in
-      IsCodeFor (HeapOver cells) (FramesOver stack) (of_low l (words_at c.places))
+      IsCodeFor (HeapIsExceeded cells) (FramesAreExceeded stack)
+      (meaning_of_low l (words_at c.places))
       (entered_by_low l (words_at c.places)) (length g.procs) c.code.items
-      (start_with c.code.items (heap_bytes g cells) stack) c.starts.items
+      (image_start_state c.code.items (heap_bytes g cells) stack) c.starts.items

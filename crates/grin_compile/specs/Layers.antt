@@ -1,6 +1,6 @@
 -- How the contracts of the layers below the stages compose.
 use Rattle.std.specs.Prelude.{◌≡◌, ℕ, ◌+◌, ◌*◌, ◌≤◌, List, length}
-use Rattle.headline.specs.Carries.{IsBytes, Meaning, Comes, Carries, KeepsPace, Tells}
+use Rattle.headline.specs.Carries.{IsBytes, Meaning, Comes, Carries, KeepsPace, MeaningRefines}
 use Rattle.arity_check.specs.Accepted.{IsValid}
 use Rattle.arity_check.specs.Program as core
 use Rattle.elf32.specs.File.{file_of, program}
@@ -9,39 +9,41 @@ use Rattle.grin_syntax.specs.Tree as grin
 use Rattle.flow_system.specs.Solution.{Solution}
 use Rattle.inlining.specs.Applications.{inlined, inlined_size}
 use Rattle.grin_translate.specs.Translation.{tr}
-use Rattle.grin_stages.specs.Stage.{Analyses}
+use Rattle.grin_stages.specs.Stage.{IsLeastOfTranslation}
 use Rattle.low_code.specs.Tree.{Program}
 use Rattle.low_code.specs.Run.{NeverMissing}
-use Rattle.low_code.specs.Told.{of_low, entered_by_low}
-use Rattle.low_translate.specs.Lowers.{Lowers, LowersSmall}
+use Rattle.low_code.specs.Told.{meaning_of_low, entered_by_low}
+use Rattle.low_translate.specs.Lowers.{Lowers, LoweredIsSmall}
 use Rattle.register_alloc.specs.Assignment.{Assignment, words_at}
 use Rattle.register_alloc.specs.Fits.{Fits}
 use Rattle.rv32_items.specs.declared.Item.{Item}
 use Rattle.rv32_items.specs.Course.{Layout, course}
-use Rattle.rv32_items.specs.Placed.{size_of, Rises, Placed}
-use Rattle.rv32_items.specs.Told.{of_items}
+use Rattle.rv32_items.specs.Placed.{size_of, AddressesRise, Placed}
+use Rattle.rv32_items.specs.Told.{observed_items}
 use Rattle.rv32_items.specs.Laws.{addresses_of}
-use Rattle.rv32_steps.specs.Seen.{of_machine}
+use Rattle.rv32_steps.specs.Seen.{observed_machine}
 use Rattle.rv32_steps.specs.Trace.{procedures_at}
-use Rattle.rv32_select.specs.Selects.{Selects, BelowHeap, start_at}
-use Rattle.grin_compile.specs.Limits.{HeapOver, FramesOver, StackOver, heap_bytes}
-use Rattle.grin_compile.specs.Code.{start_with, IsCodeFor}
+use Rattle.rv32_select.specs.Selects.{Selects, BelowHeap, start_point}
+use Rattle.grin_compile.specs.Limits.{HeapIsExceeded, FramesAreExceeded, StackIsExceeded, heap_bytes}
+use Rattle.grin_compile.specs.Code.{image_start_state, IsCodeFor}
 use Rattle.grin_compile.specs.Stages.{passes, AreStages, IsLastSlim}
 use Rattle.grin_compile.specs.Made.{IsImageOf}
+use Rattle.limits.specs.Limits.{largest_program, most_code}
 
 -- what was selected carries low code that is never missing, and the units of what it shows are the
 -- procedures that it passed
-abbrev pub SelectionCarries : Type 0
-SelectionCarries =
+abbrev pub SelectionCarriesLowCode : Type 0
+SelectionCarriesLowCode =
     (l : Program) (a : Assignment) (cells stack : ℕ) (items : List Item)
     → NeverMissing l → (s : Selects l a cells stack items)
-    → (lay : Layout) → Rises items lay → BelowHeap lay →
-    let start = start_at l.width cells stack lay in
-    Carries (HeapOver cells) (FramesOver stack) (of_low l (words_at a)) (of_items lay items start)
+    → (lay : Layout) → AddressesRise items lay → BelowHeap lay →
+    let start = start_point l.width cells stack lay in
+    Carries (HeapIsExceeded cells) (FramesAreExceeded stack)
+    (meaning_of_low l (words_at a)) (observed_items lay items start)
     × ((i : List ℕ) → IsBytes i → (k : ℕ) →
     let n = length (procedures_at s.begins (course lay items k i start).passed) in
-    Comes (HeapOver cells) (FramesOver stack) (of_low l (words_at a) i) n
-    (of_items lay items start i k))
+    Comes (HeapIsExceeded cells) (FramesAreExceeded stack) (meaning_of_low l (words_at a) i) n
+    (observed_items lay items start i k))
 
 -- Words that are placed for items that are selected for low code, at most 2^28, are code for what
 -- the low code tells. Its procedures are at the addresses of the labels at which theirs begin, and
@@ -50,10 +52,10 @@ abbrev pub LowCodeIsCarried : Type 0
 LowCodeIsCarried =
     (l : Program) (a : Assignment) (cells stack : ℕ) (items : List Item) (words : List ℕ)
     → NeverMissing l → (s : Selects l a cells stack items) → (placed : Placed items words)
-    → length words ≤ 268435456
-    → IsCodeFor (HeapOver cells) (FramesOver stack) (of_low l (words_at a))
+    → length words ≤ most_code
+    → IsCodeFor (HeapIsExceeded cells) (FramesAreExceeded stack) (meaning_of_low l (words_at a))
     (entered_by_low l (words_at a)) (length l.procs) words
-    (start_with words (4 * l.width * cells) stack) (addresses_of placed.lay items s.begins)
+    (image_start_state words (4 * l.width * cells) stack) (addresses_of placed.lay items s.begins)
 
 -- and for what tells the same and enters the same, where the frames are within a bound for each
 -- level of nesting
@@ -61,32 +63,35 @@ abbrev pub LayersCompose : Type 0
 LayersCompose =
     (told : Meaning) (entered : List ℕ → ℕ → List ℕ) (l : Program) (a : Assignment)
     (frame cells stack : ℕ) (items : List Item) (words : List ℕ)
-    → ((i : List ℕ) → IsBytes i → (n : ℕ) → Tells (told i n) (of_low l (words_at a) i n))
+    → ((i : List ℕ) → IsBytes i → (n : ℕ)
+    → MeaningRefines (told i n) (meaning_of_low l (words_at a) i n))
     → ((i : List ℕ) → IsBytes i → (n : ℕ) → entered_by_low l (words_at a) i n ≡ entered i n)
     → ((i : List ℕ) → IsBytes i → (n : ℕ) →
-    4 * (of_low l (words_at a) i n).depth ≤ frame * ((told i n).depth + 1))
+    4 * (meaning_of_low l (words_at a) i n).depth ≤ frame * ((told i n).depth + 1))
     → NeverMissing l → (s : Selects l a cells stack items) → (placed : Placed items words)
-    → length words ≤ 268435456
-    → IsCodeFor (HeapOver cells) (StackOver frame stack) told entered (length l.procs) words
-    (start_with words (4 * l.width * cells) stack) (addresses_of placed.lay items s.begins)
+    → length words ≤ most_code
+    → IsCodeFor (HeapIsExceeded cells) (StackIsExceeded frame stack)
+    told entered (length l.procs) words
+    (image_start_state words (4 * l.width * cells) stack) (addresses_of placed.lay items s.begins)
 
 -- the machine keeps pace with what the low code tells, where all items take no more words than
 -- there are steps for the start and for each unit
-abbrev pub LayersKeepPace : Type 0
-LayersKeepPace =
+abbrev pub LayersBoundSteps : Type 0
+LayersBoundSteps =
     (told : Meaning) (l : Program) (a : Assignment) (cells stack steps : ℕ) (items : List Item)
     (words : List ℕ)
-    → ((i : List ℕ) → IsBytes i → (n : ℕ) → Tells (told i n) (of_low l (words_at a) i n))
+    → ((i : List ℕ) → IsBytes i → (n : ℕ)
+    → MeaningRefines (told i n) (meaning_of_low l (words_at a) i n))
     → NeverMissing l → Selects l a cells stack items → Placed items words
-    → length words ≤ 268435456 → size_of items ≤ steps
-    → KeepsPace steps told (of_machine (start_with words (4 * l.width * cells) stack))
+    → length words ≤ most_code → size_of items ≤ steps
+    → KeepsPace steps told (observed_machine (image_start_state words (4 * l.width * cells) stack))
 
 -- what the layers below GRIN make of a program of GRIN: low code, places for its variables, items,
 -- and words
 pub record AreLayers (g : grin.Program) (l : Program) (a : Assignment) (cells stack : ℕ)
     (items : List Item) (words : List ℕ) : Type 0 where
   pub lowers : Lowers g l
-  pub small : LowersSmall g l
+  pub small : LoweredIsSmall g l
   pub fits : Fits l a
   pub selects : Selects l a cells stack items
   pub placed : Placed items words
@@ -97,7 +102,7 @@ abbrev pub MadeFromLayers : Type 0
 MadeFromLayers =
     (p : core.Program) (A : Solution) (stages : List grin.Program) (g : grin.Program) (l : Program)
     (a : Assignment) (cells stack : ℕ) (items : List Item) (words file : List ℕ)
-    → IsValid p → Analyses p A → inlined_size A (tr p) ≤ 131072
+    → IsValid p → IsLeastOfTranslation p A → inlined_size A (tr p) ≤ largest_program
     → AreStages p passes (inlined A (tr p)) stages → IsLastSlim p A stages g
     → (made : AreLayers g l a cells stack items words)
     → file ≡ file_of words (heap_bytes g cells) stack

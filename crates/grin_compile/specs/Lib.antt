@@ -7,3 +7,4 @@ pub mod Layers
 pub mod Lowerable
 pub mod Compilation
 pub mod Parts
+pub mod Built

@@ -5,15 +5,14 @@ ghost use Rattle.arity_check.specs.Accepted.{IsValid};
 ghost use Rattle.arity_check.specs.Program.{program};
 ghost use Rattle.grin_syntax.specs.Tree.{program_of};
 ghost use Rattle.low_code.specs.Tree as low;
-ghost use Rattle.grin_stages.specs.Stage.{Fits, IsLarge};
-ghost use Rattle.grin_compile.specs.Limits.{InRange, whole_words};
+ghost use Rattle.grin_stages.specs.Stage.{Fits, ExceedsSizeLimit};
+ghost use Rattle.grin_compile.specs.Limits.{SizesAreInRange, whole_words};
 ghost use Rattle.grin_compile.specs.Made.{Made};
 ghost use Rattle.grin_compile.specs.Compilation.{after, IsCompilation};
 
-use crate::layers::layers_below;
+use crate::layers::image_below;
 use crate::stages::{Stages, all_stages};
 use arity_check::normal::Checked;
-use elf32::write;
 use grin_opt::PassName;
 use grin_stages::CompileRefusal;
 use grin_syntax::Grin;
@@ -91,21 +90,19 @@ impl Compiled {
 /// applications are inlined, `Memory` where memory is wanting.
 pub fn compile(alloc: Global, p: &Checked, options: Options) -> Result<Compiled, CompileRefusal>
     requires valid { IsValid (program p.now) }
-    requires range { InRange options.cells options.stack }
+    requires range { SizesAreInRange options.cells options.stack }
     ensures made { IfOk result (λ c.
         Made (program p.now) options.cells (whole_words options.stack) c.image.items) }
     ensures parts { IfOk result
         (IsCompilation (program p.now) options.cells (whole_words options.stack)) }
     ensures fits { IfOk result (λ c. Fits (program p.now)) }
-    ensures refused { IfErr result (IsLarge (program p.now)) }
+    ensures refused { IfErr result (ExceedsSizeLimit (program p.now)) }
 {
     // A law: the translation does what the program means.
     translation_refines();
-    let stack = options.stack / 4 * 4;
     let stages = all_stages(alloc, p)?;
-    let layers = layers_below(alloc, stages.lowered_stage(), options.cells, stack)?;
-    let heap = 4 * layers.low.width * options.cells;
-    let image = write(alloc, layers.code.as_slice(), heap, stack)?;
+    let lowered = image_below(alloc, stages.lowered_stage(), options)?;
+    let layers = lowered.layers;
     Ok(Compiled {
         stages,
         low: layers.low,
@@ -113,6 +110,6 @@ pub fn compile(alloc: Global, p: &Checked, options: Options) -> Result<Compiled,
         code: layers.code,
         starts: layers.starts,
         names: layers.names,
-        image,
+        image: lowered.image,
     })
 }

@@ -2,13 +2,14 @@
 
 ghost use Rattle.std.specs.Prelude.{◌≡◌, ◌≤◌, IfOk};
 ghost use Rattle.grin_syntax.specs.Tree.{program_of};
-ghost use Rattle.grin_opt.specs.declared.pass.PassName.TheVariants.{Raise};
-ghost use Rattle.grin_opt.specs.Schedule.{IsTaken, IsOfStage, Takes, IsPassedBy};
-ghost use Rattle.grin_compile.specs.Stages.{passes, IsLastOf};
-ghost use Rattle.grin_compile.specs.Passed.{ArePassed, later_after, programs_of, last_passes, last_programs, SlimBeside};
+ghost use Rattle.stage_names.specs.declared.PassName.TheVariants.{Raise};
+ghost use Rattle.grin_opt.specs.Schedule.{IsFirstPassInput, IsOfStage, IsPassInput, IsPassResult};
+ghost use Rattle.grin_compile.specs.Stages.{passes, IsLastStageWith};
+ghost use Rattle.grin_compile.specs.Passed.{AreResultsOfPasses, program_after_pass, programs_of, last_passes, last_programs, SlimBeside};
+ghost use Rattle.limits.specs.Limits.{largest_program};
 
 use grin_measure::{Sizes, is_slim};
-use grin_opt::{PassName, passed};
+use grin_opt::{PassName, after_pass};
 use grin_syntax::{Grin, copy};
 use std::alloc::{AllocError, Global};
 
@@ -31,7 +32,7 @@ pub struct Later {
 impl Later {
     /// The program after a pass, and after the first one where the stage is none of a pass.
     pub fn after(&self, pass: PassName) -> &Grin
-        ensures { program_of result.now ≡ later_after self.now pass }
+        ensures { program_of result.now ≡ program_after_pass self.now pass }
     {
         match pass {
             PassName::Translate | PassName::Eval | PassName::Apply | PassName::Vectorise => {
@@ -52,10 +53,10 @@ impl Later {
 
     /// The last stage that is slim beside a program of these sizes, as the first one is.
     pub(crate) fn last_slim(&self, sizes: Sizes) -> PassName
-        requires program { sizes.program ≤ 131072 }
-        requires largest { sizes.largest ≤ 131072 }
+        requires program { sizes.program ≤ largest_program }
+        requires largest { sizes.largest ≤ largest_program }
         requires slim { SlimBeside sizes (program_of self.now.vectorised) }
-        ensures { IsLastOf (SlimBeside sizes) (programs_of self.now) (later_after self.now result) }
+        ensures { IsLastStageWith (SlimBeside sizes) (programs_of self.now) (program_after_pass self.now result) }
     {
         if is_slim(&self.dead, sizes) {
             PassName::Dead
@@ -85,12 +86,12 @@ impl Later {
 
 // The program that a pass makes of this one, which stays.
 fn passed_copy(alloc: Global, pass: PassName, g: &Grin) -> Result<Grin, AllocError>
-    requires { Takes pass (program_of g.now) }
-    ensures made { IfOk result (λ h. IsPassedBy pass (program_of g.now) (program_of h)) }
+    requires { IsPassInput pass (program_of g.now) }
+    ensures made { IfOk result (λ h. IsPassResult pass (program_of g.now) (program_of h)) }
     ensures stage { IfOk result (λ h. IsOfStage pass (program_of h)) }
 {
     let before = copy(alloc, g)?;
-    let after = passed(alloc, pass, before)?;
+    let after = after_pass(alloc, pass, before)?;
     Ok(after)
 }
 
@@ -106,7 +107,7 @@ struct Last {
 // The stages after that of raising.
 fn last_stages(alloc: Global, g: &Grin) -> Result<Last, AllocError>
     requires { IsOfStage Raise (program_of g.now) }
-    ensures { IfOk result (λ l. ArePassed last_passes (program_of g.now) (last_programs l)) }
+    ensures { IfOk result (λ l. AreResultsOfPasses last_passes (program_of g.now) (last_programs l)) }
 {
     let flat = passed_copy(alloc, PassName::Flat, g)?;
     let known = passed_copy(alloc, PassName::Known, &flat)?;
@@ -122,8 +123,8 @@ fn last_stages(alloc: Global, g: &Grin) -> Result<Last, AllocError>
 
 /// The stages after an inlined program.
 pub(crate) fn later_stages(alloc: Global, g: &Grin) -> Result<Later, AllocError>
-    requires { IsTaken (program_of g.now) }
-    ensures { IfOk result (λ l. ArePassed passes (program_of g.now) (programs_of l)) }
+    requires { IsFirstPassInput (program_of g.now) }
+    ensures { IfOk result (λ l. AreResultsOfPasses passes (program_of g.now) (programs_of l)) }
 {
     let vectorised = passed_copy(alloc, PassName::Vectorise, g)?;
     let simplified = passed_copy(alloc, PassName::Simplify, &vectorised)?;

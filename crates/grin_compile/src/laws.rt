@@ -1,13 +1,13 @@
 // Laws on the layers, about definitions alone: functions without a body.
 
-ghost use Rattle.grin_compile.specs.Layers.{LayersCompose, LayersKeepPace, LowCodeIsCarried, MadeFromLayers, SelectionCarries};
-ghost use Rattle.grin_translate.specs.Same.{ValidTranslationDoesAs};
+ghost use Rattle.grin_compile.specs.Layers.{LayersCompose, LayersBoundSteps, LowCodeIsCarried, MadeFromLayers, SelectionCarriesLowCode};
+ghost use Rattle.grin_translate.specs.Same.{ValidTranslationPreservesRuns};
 
 use grin_translate::translation_refines;
 
 /// What was selected carries low code that is never missing.
-pub fn selection_carries()
-    ensures { SelectionCarries }
+pub fn selection_carries_low_code()
+    ensures { SelectionCarriesLowCode }
 {}
 
 /// Words that are placed for items that are selected for low code are code for what the low code
@@ -22,8 +22,8 @@ pub fn layers_compose()
 {}
 
 /// The machine does no more steps for the start and for each unit than all items take words.
-pub fn layers_keep_pace()
-    ensures { LayersKeepPace }
+pub fn layers_bound_steps()
+    ensures { LayersBoundSteps }
 {}
 
 /// What the layers below GRIN make of the last slim stage of a program is an image of the program.

@@ -5,14 +5,18 @@ ghost use Rattle.grin_syntax.specs.Tree.{program_of, procedure_of};
 ghost use Rattle.grin_syntax.specs.SameOutside.{names_of};
 ghost use Rattle.low_code.specs.Tree as low;
 ghost use Rattle.grin_compile.specs.Lowerable.{IsLowerable};
-ghost use Rattle.grin_compile.specs.Parts.{AreSizes, HasLayers};
+ghost use Rattle.grin_compile.specs.Limits.{SizesAreInRange, whole_words};
+ghost use Rattle.grin_compile.specs.Parts.{AreSizes, HasLayers, HasImage};
+ghost use Rattle.limits.specs.Limits.{largest_program};
 
+use crate::compilation::Options;
+use elf32::write;
 use grin_syntax::{Grin, Proc};
 use low_code::Low;
 use low_translate::lower;
 use register_alloc::{Places, allocate};
 use rv32_layout::place;
-use rv32_select::{select, selected_items_do};
+use rv32_select::{select, selection_refines};
 use seq::{Seq, Text};
 use std::alloc::{AllocError, Global};
 
@@ -29,7 +33,7 @@ pub struct Layers {
 
 /// How many procedures there are.
 fn procedures(program: &Low) -> u32
-    requires { length (low.program_of program.now).procs ≤ 131072 }
+    requires { length (low.program_of program.now).procs ≤ largest_program }
     ensures { result ≡ length (low.program_of program.now).procs }
 {
     program.procs.len() as u32
@@ -54,7 +58,7 @@ pub fn layers_below(alloc: Global, g: &Grin, cells: u32, stack: u32) -> Result<L
     ensures { IfOk result (HasLayers (program_of g.now) cells stack) }
 {
     // A law: selected items do what the low code does.
-    selected_items_do();
+    selection_refines();
     let low = lower(alloc, g)?;
     let places = allocate(alloc, &low)?;
     let asm = select(alloc, &low, &places, cells, stack)?;
@@ -67,4 +71,25 @@ pub fn layers_below(alloc: Global, g: &Grin, cells: u32, stack: u32) -> Result<L
         starts: placement.addresses,
         names,
     })
+}
+
+/// The layers below a program, and the bytes of the image of the words that they come to.
+#[derive(Drop)]
+pub(crate) struct Lowered {
+    pub(crate) layers: Layers,
+    pub(crate) image: Vec<u8>,
+}
+
+/// The layers below a program and their image, whose stack has as many bytes as words fill.
+/// `AllocError` where memory is wanting.
+pub(crate) fn image_below(alloc: Global, g: &Grin, options: Options) -> Result<Lowered, AllocError>
+    requires lowerable { IsLowerable (program_of g.now) }
+    requires range { SizesAreInRange options.cells options.stack }
+    ensures { IfOk result (HasImage (program_of g.now) options.cells (whole_words options.stack)) }
+{
+    let stack = options.stack / 4 * 4;
+    let layers = layers_below(alloc, g, options.cells, stack)?;
+    let heap = 4 * layers.low.width * options.cells;
+    let image = write(alloc, layers.code.as_slice(), heap, stack)?;
+    Ok(Lowered { layers, image })
 }

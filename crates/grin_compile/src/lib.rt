@@ -2,12 +2,14 @@
 #![tactic(auto)]
 
 mod compilation;
+mod image;
 mod later;
 pub mod laws;
 mod layers;
 mod stages;
 
 pub use compilation::{Compiled, Options, compile};
+pub use image::{Built, build};
 pub use later::Later;
 pub use layers::{Layers, layers_below};
 pub use stages::Stages;

@@ -4,14 +4,14 @@ ghost use Rattle.std.specs.Prelude.{◌≡◌, IfOk, IfErr};
 ghost use Rattle.arity_check.specs.Accepted.{IsValid};
 ghost use Rattle.arity_check.specs.Program.{program};
 ghost use Rattle.grin_syntax.specs.Tree.{program_of};
-ghost use Rattle.grin_stages.specs.Stage.{Fits, IsLarge};
+ghost use Rattle.grin_stages.specs.Stage.{Fits, ExceedsSizeLimit};
 ghost use Rattle.grin_compile.specs.Parts.{HasStages, lowered_stage};
 
 use crate::later::{Later, later_stages};
 use arity_check::normal::Checked;
 use grin_measure::sizes_of;
 use grin_opt::PassName;
-use grin_stages::laws::{one_expanded_size, vectorised_is_slim};
+use grin_stages::laws::{expanded_size_is_unique, vectorised_is_slim};
 use grin_stages::{CompileRefusal, inlined_stages};
 use grin_syntax::Grin;
 use std::alloc::Global;
@@ -41,13 +41,13 @@ pub(crate) fn all_stages(alloc: Global, p: &Checked) -> Result<Stages, CompileRe
     requires valid { IsValid (program p.now) }
     ensures stages { IfOk result (HasStages (program p.now)) }
     ensures fits { IfOk result (λ s. Fits (program p.now)) }
-    ensures refused { IfErr result (IsLarge (program p.now)) }
+    ensures refused { IfErr result (ExceedsSizeLimit (program p.now)) }
 {
     // Laws: vectorising takes what is inlined, its stage is slim, and a program has one size once
     // it is inlined.
     vectorise_takes_inlined();
     vectorised_is_slim();
-    one_expanded_size();
+    expanded_size_is_unique();
     let inlined = inlined_stages(alloc, p)?;
     let later = later_stages(alloc, &inlined.applied)?;
     let last = later.last_slim(sizes_of(&inlined.applied));

@@ -8,31 +8,31 @@ use Rattle.grin_io.specs.Changes.{ShelfChange, SourceChange, SinkChange}
 use Rattle.command_line.specs.Commands.{RunFile, ExecImage}
 use Rattle.rv32_machine.specs.Steps.{State, Stand, IsAt, reg, start_of, state_of}
 use Rattle.rv32_machine.specs.Runs as runs
-use Rattle.rv32_machine.specs.Runs.{End, Going, Exited, Stopped, StandsAt, run}
+use Rattle.rv32_machine.specs.Runs.{MachineEnd, Going, Exited, Stopped, StandsAt, run}
 use Rattle.rv32_machine.specs.declared.machine.Stop.{Stop}
 use Rattle.rv32_machine.specs.declared.machine.Stop.TheVariants.{Steps, Exit, Trap}
 use Rattle.text_commands.specs.declared.status.Status.{Status}
 use Rattle.text_commands.specs.declared.status.Status.TheVariants as status
-use Rattle.text_commands.specs.Operands.{most_of_text}
+use Rattle.text_commands.specs.Operands.{text_read_limit}
 use Rattle.text_commands.specs.Reading.{IsRead, IsUnread}
 use Rattle.text_commands.proofs.Files.{of_file}
 use Rattle.text_commands.proofs.Texts.{accepted_short}
-use Rattle.grin_driver.specs.Answer.{most_of_image}
-use Rattle.grin_driver.specs.Execution.{IsUnloaded, OfGiven, Stops, status_of}
-use Rattle.grin_driver.specs.Outcome.{IsUnmade, named}
+use Rattle.grin_driver.specs.Answer.{image_read_limit}
+use Rattle.grin_driver.specs.Execution.{IsExecLoadFailure, OfGiven, Stops, status_of}
+use Rattle.grin_driver.specs.Outcome.{IsBuildFailure, status_of_exit}
 use Rattle.grin_driver.specs.Costs.{has_stopped, state_at, AreCounts, exec_cost, StopsWithin, CountsRun, Counted, CountsExecution, CostsExecution, CostsRun, CostsText, OfRun, CostOf}
-use Rattle.grin_driver.specs.declared.cost.Counts.{Counts}
+use Rattle.grin_driver.specs.declared.cost.RunCounts.{RunCounts}
 use Rattle.grin_driver.specs.declared.cost.Cost.{Cost}
 use Rattle.grin_driver.proofs.Execution.{stops_as}
 
 -- ---- statuses without a run that stopped
 
-pub unloaded_stays : (bytes : List ℕ) (s : Status) → IsUnloaded bytes s → has_stopped s ≡ false
+pub unloaded_stays : (bytes : List ℕ) (s : Status) → IsExecLoadFailure bytes s → has_stopped s ≡ false
 unloaded_stays bytes (status.Refused rule number) h = refl
 unloaded_stays bytes status.OutOfMemory h = refl
 unloaded_stays bytes _ h = absurd h
 
-pub unmade_stays : (text : List ℕ) (s : Status) → IsUnmade text s → has_stopped s ≡ false
+pub unmade_stays : (text : List ℕ) (s : Status) → IsBuildFailure text s → has_stopped s ≡ false
 unmade_stays text (status.Refused rule number) h = refl
 unmade_stays text status.OutOfMemory h = refl
 unmade_stays text _ h = absurd h
@@ -52,14 +52,14 @@ stop_stops (Trap kind pc) = refl
 
 -- ---- the machine's counts
 
-state_is : (e : End) (stop : Stop) (m : Stand) → StandsAt e stop m → state_at e ≡ state_of m
+state_is : (e : MachineEnd) (stop : Stop) (m : Stand) → StandsAt e stop m → state_at e ≡ state_of m
 state_is (Going s) stop m h = sym h.1.0
 state_is (Exited code s) stop m h = sym h.1.0
 state_is (Stopped kind s) stop m h = sym h.1.0
 
 module _ {I K : Type 0} (i : SourceChange I) (o : SinkChange K) where
   -- what the machine counts of a run from the start of a program
-  pub counted : (program : Image) (m new : Stand) (steps : ℕ) (stop : Stop) (c : Counts) → IsAt m (start_of program) false false
+  pub counted : (program : Image) (m new : Stand) (steps : ℕ) (stop : Stop) (c : RunCounts) → IsAt m (start_of program) false false
       → runs.Counted i o steps (state_of m) stop c.instructions new → c.next_cell ≡ reg (state_of new) 3 → c.link ≡ reg (state_of new) 5
       → OfGiven i o (λ given ended. Stops i o program steps stop given ended × AreCounts program steps given ended c)
   counted program m new steps stop c begins h x3 x5 =
@@ -82,15 +82,15 @@ module _ {I K : Type 0} (i : SourceChange I) (o : SinkChange K) where
       )
 
   -- the counts of a program are those of its bytes
-  pub counts_execution : (bytes : List ℕ) (program : Image) (steps : ℕ) → Loads bytes program → (s : Status) (counts : Option Counts)
+  pub counts_execution : (bytes : List ℕ) (program : Image) (steps : ℕ) → Loads bytes program → (s : Status) (counts : Option RunCounts)
       → CountsRun i o program steps s counts → CountsExecution i o bytes steps s counts
   counts_execution bytes program steps loads s None h = h
   counts_execution bytes program steps loads s (Some c) h = (program, loads, h)
 
-  within_stops : (program : Image) (steps : ℕ) (s : Status) (c : Counts) → StopsWithin i o program steps s c → has_stopped s ≡ true
+  within_stops : (program : Image) (steps : ℕ) (s : Status) (c : RunCounts) → StopsWithin i o program steps s c → has_stopped s ≡ true
   within_stops program steps s c h = ap has_stopped (sym h.1) ∙ stop_stops h.0
 
-  pub counted_stops : (bytes : List ℕ) (steps : ℕ) (s : Status) (c : Counts) → Counted i o bytes steps s c → has_stopped s ≡ true
+  pub counted_stops : (bytes : List ℕ) (steps : ℕ) (s : Status) (c : RunCounts) → Counted i o bytes steps s c → has_stopped s ≡ true
   counted_stops bytes steps s c h = within_stops h.0 steps s c h.2
 
   -- ---- the cost of a file
@@ -108,7 +108,7 @@ module _ {I K : Type 0} (i : SourceChange I) (o : SinkChange K) where
   of_run f most file front Costs s (Some cost) longer read h =
       (h.0, of_file f most file front (λ bytes. Costs bytes s cost) (λ bytes full long front. longer bytes full long cost front) read h.1)
 
-  pub costs_execution : (bytes : List ℕ) (steps : ℕ) (s : Status) (counts : Option Counts) → CountsExecution i o bytes steps s counts
+  pub costs_execution : (bytes : List ℕ) (steps : ℕ) (s : Status) (counts : Option RunCounts) → CountsExecution i o bytes steps s counts
       → OfBytes (λ bytes s cost. CostsExecution i o bytes steps s cost) bytes s (option_map exec_cost counts)
   costs_execution bytes steps s None h = h
   costs_execution bytes steps s (Some c) h = (counted_stops bytes steps s c h, (c, refl, h))
@@ -132,14 +132,14 @@ module _ {I K : Type 0} (i : SourceChange I) (o : SinkChange K) where
 
   module _ {F : Type 0} (f : ShelfChange F) where
     pub asked_run : (file : List ℕ) (cells stack steps : ℕ) (stats : Bool) (s : Status) (cost : Option Cost)
-        → (OfRun f i o most_of_text file (λ text s cost. CostsRun i o text cells stack steps s cost) s cost)
+        → (OfRun f i o text_read_limit file (λ text s cost. CostsRun i o text cells stack steps s cost) s cost)
         → CostOf f i o (Some (RunFile file cells stack steps stats)) s (if stats then cost else None)
     asked_run file cells stack steps true s None h = h
     asked_run file cells stack steps true s (Some cost) h = (refl, h)
     asked_run file cells stack steps false s cost h = refl
 
     pub asked_exec : (image : List ℕ) (steps : ℕ) (stats : Bool) (s : Status) (cost : Option Cost)
-        → (OfRun f i o most_of_image image (λ bytes s cost. CostsExecution i o bytes steps s cost) s cost)
+        → (OfRun f i o image_read_limit image (λ bytes s cost. CostsExecution i o bytes steps s cost) s cost)
         → CostOf f i o (Some (ExecImage image steps stats)) s (if stats then cost else None)
     asked_exec image steps true s None h = h
     asked_exec image steps true s (Some cost) h = (refl, h)

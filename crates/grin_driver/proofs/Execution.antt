@@ -4,10 +4,10 @@ use Rattle.elf32.specs.Image.{Image}
 use Rattle.elf32.specs.Rules.{Breaks, KeepsBelow, Loads, rule}
 use Rattle.elf32.specs.declared.refusal.ElfRefusal.{ElfRefusal}
 use Rattle.elf32.specs.declared.refusal.ElfRefusal.TheVariants.{ImageTooLong, Memory}
-use Rattle.grin_io.specs.Changes.{SourceChange, SinkChange, Raised}
+use Rattle.grin_io.specs.Changes.{SourceChange, SinkChange, FaultWasCounted}
 use Rattle.grin_io.specs.declared.outside.Fault.{Fault}
 use Rattle.rv32_machine.specs.Steps.{Stand, IsAt, start_of, state_of}
-use Rattle.rv32_machine.specs.Runs.{End, Going, Exited, Stopped, StandsAt, run, Answered, Interrupted}
+use Rattle.rv32_machine.specs.Runs.{MachineEnd, Going, Exited, Stopped, StandsAt, run, IsRunAnswer, BrokenByIoFault}
 use Rattle.rv32_machine.specs.declared.machine.Stop.{Stop}
 use Rattle.rv32_machine.specs.declared.machine.Stop.TheVariants.{Steps, Exit, Trap}
 use Rattle.text_commands.specs.declared.status.Status.{Status}
@@ -33,14 +33,14 @@ unloadable_long front bytes short long k at u = go u.refusal u.broken u.smallest
 -- ---- the statuses
 
 -- the end that an answer of the machine names
-stop_is : (e : End) (stop : Stop) (m : Stand) → StandsAt e stop m → stop_at e ≡ stop
+stop_is : (e : MachineEnd) (stop : Stop) (m : Stand) → StandsAt e stop m → stop_at e ≡ stop
 stop_is (Going s) stop m h = sym h.0
 stop_is (Exited code s) stop m h = sym h.0
 stop_is (Stopped kind s) stop m h = sym h.0
 
 module _ {I K : Type 0} (i : SourceChange I) (o : SinkChange K) where
   -- what the machine answers of a run from the start of a program
-  pub stops_as : (program : Image) (new : Stand) (steps : ℕ) (stop : Stop) → (a : Answered i o steps (start_of program) stop new)
+  pub stops_as : (program : Image) (new : Stand) (steps : ℕ) (stop : Stop) → (a : IsRunAnswer i o steps (start_of program) stop new)
       → Stops i o program steps stop a.given a.ended
   stops_as program new steps stop a = record {
     gave = a.gave;
@@ -69,9 +69,9 @@ module _ {I K : Type 0} (i : SourceChange I) (o : SinkChange K) where
   execution bytes program steps loads status h = (program, loads, h)
 
   pub failed : (program : Image) (m : Stand) (steps : ℕ) (fault : Fault) → IsAt m (start_of program) false false
-      → Raised fault i o → Interrupted i o steps (state_of m) fault → OfGiven i o (Fails i o program steps fault)
+      → FaultWasCounted fault i o → BrokenByIoFault i o steps (state_of m) fault → OfGiven i o (Fails i o program steps fault)
   failed program m steps fault begins raised h =
-      let a : Interrupted i o steps (start_of program) fault = subst (λ s. Interrupted i o steps s fault) begins.0 h in
+      let a : BrokenByIoFault i o steps (start_of program) fault = subst (λ s. BrokenByIoFault i o steps s fault) begins.0 h in
       (a.given, (a.ended, record { raised = raised; gave = a.gave; wanted = a.wanted; uses = a.uses; puts = a.puts }))
 
   pub execution_long : (front bytes : List ℕ) (steps : ℕ) → 1342177280 < length front → 1342177280 < length bytes → (status : Status)

@@ -3,10 +3,10 @@ use Rattle.std.proofs.Common.{◌≡◌, ℕ, ◌+◌, ◌-◌, ◌≤◌, List,
 use Rattle.std.specs.List.{concat}
 use Rattle.std.proofs.lemmas.List.{length-append, take-append-drop}
 use Rattle.std.proofs.lemmas.List.Folds.{concat-append}
-use Rattle.grin_io.specs.Changes.{SourceChange, SinkChange, TookAll, Broke}
+use Rattle.grin_io.specs.Changes.{SourceChange, SinkChange, TookExactly, SinkAtFault}
 use Rattle.grin_io.specs.declared.outside.Fault.{Fault}
 use Rattle.grin_io.specs.declared.outside.Fault.TheVariants.{Read, Write}
-use Rattle.headline.specs.Carries.{Begins}
+use Rattle.headline.specs.Carries.{IsPrefixOf}
 use Rattle.rv32_machine.specs.Steps.{State}
 use Rattle.rv32_machine.specs.Runs.{run, pieces, used}
 use Rattle.rv32_machine.proofs.Loops.{pieces_are_the_output}
@@ -15,10 +15,10 @@ use Rattle.low_code.proofs.Steady.{begins_on}
 
 -- ---- fronts
 
-front_begins : (front rest due : List (List ℕ)) → front ++ rest ≡ due → Begins (concat front) (concat due)
+front_begins : (front rest due : List (List ℕ)) → front ++ rest ≡ due → IsPrefixOf (concat front) (concat due)
 front_begins front rest due is = (concat rest, ap concat (sym is) ∙ concat-append front rest)
 
-part_begins : (front : List (List ℕ)) (piece : List ℕ) (rest due : List (List ℕ)) (k : ℕ) → front ++ (piece ∷ rest) ≡ due → Begins (concat front ++ take k piece) (concat due)
+part_begins : (front : List (List ℕ)) (piece : List ℕ) (rest due : List (List ℕ)) (k : ℕ) → front ++ (piece ∷ rest) ≡ due → IsPrefixOf (concat front ++ take k piece) (concat due)
 part_begins front piece rest due k is = (
   drop k piece ++ concat rest,
   ap concat (sym is) ∙ concat-append front (piece ∷ rest) ∙ ap (λ l. concat front ++ l) piece_is
@@ -32,7 +32,7 @@ part_begins front piece rest due k is = (
 
 module _ {I K : Type 0} (i : SourceChange I) (o : SinkChange K) (n : ℕ) (input : List ℕ) (s : State) where
   -- all that a run puts was taken
-  pub took_output : (Holds : List ℕ → Type 0) → TookAll o (pieces n input s) → Holds (run n input s).out → Took i o Holds
+  pub took_output : (Holds : List ℕ → Type 0) → TookExactly o (pieces n input s) → Holds (run n input s).out → Took i o Holds
   took_output Holds took holds = λ before is. (
     (run n input s).out,
     took.content before is ∙ ap (λ l. Some (before ++ l)) (pieces_are_the_output n input s),
@@ -47,15 +47,15 @@ module _ {I K : Type 0} (i : SourceChange I) (o : SinkChange K) (n : ℕ) (input
       subst Holds used_is holds
 
   -- what was put before a fault begins what the run puts
-  pub took_front : (fault : Fault) (out : List ℕ) → Broke fault o (pieces n input s) → Begins (run n input s).out out → Took i o (λ taken. Begins taken out)
+  pub took_front : (fault : Fault) (out : List ℕ) → SinkAtFault fault o (pieces n input s) → IsPrefixOf (run n input s).out out → Took i o (λ taken. IsPrefixOf taken out)
   took_front Read out broke begins = λ before is. (
     concat broke.front,
     broke.took.content before is,
-    begins_on (concat broke.front) (run n input s).out out (subst (λ l. Begins (concat broke.front) l) (pieces_are_the_output n input s) (front_begins broke.front broke.rest (pieces n input s) broke.due_is)) begins,
+    begins_on (concat broke.front) (run n input s).out out (subst (λ l. IsPrefixOf (concat broke.front) l) (pieces_are_the_output n input s) (front_begins broke.front broke.rest (pieces n input s) broke.due_is)) begins,
   )
   took_front Write out broke begins = λ before is.
       let part = broke.part before is in (
         concat broke.front ++ take part.0 broke.piece,
         part.1,
-        begins_on (concat broke.front ++ take part.0 broke.piece) (run n input s).out out (subst (λ l. Begins (concat broke.front ++ take part.0 broke.piece) l) (pieces_are_the_output n input s) (part_begins broke.front broke.piece broke.rest (pieces n input s) part.0 broke.due_is)) begins,
+        begins_on (concat broke.front ++ take part.0 broke.piece) (run n input s).out out (subst (λ l. IsPrefixOf (concat broke.front ++ take part.0 broke.piece) l) (pieces_are_the_output n input s) (part_begins broke.front broke.piece broke.rest (pieces n input s) part.0 broke.due_is)) begins,
       )

@@ -1,30 +1,30 @@
 -- Runs of images on no input and into a sink of 4,096 bytes.
 use Rattle.std.proofs.Common.{◌≡◌, ◌≢◌, ℕ, zero, suc, ◌+◌, ◌*◌, ◌<◌, ◌≤◌, Bool, List, [], length, take, drop, Option, Some, refl, sym, ap, ◌∙◌, subst, arith}
 use Rattle.std.specs.List.{concat}
-use Rattle.core_meaning.specs.Told.{of_core}
+use Rattle.core_meaning.specs.Told.{core_program_meaning}
 use Rattle.elf32.specs.Image.{Image}
 use Rattle.elf32.specs.Rules.{Loads}
-use Rattle.headline.specs.Carries.{Comes, Finishes, Reaches}
+use Rattle.headline.specs.Carries.{Comes, Finishes, ReachesResult}
 use Rattle.grin_io.specs.Memory.{Store, no_calls}
-use Rattle.grin_io.specs.Changes.{SourceChange, SinkChange, of_source, of_sink, BeginsWith}
+use Rattle.grin_io.specs.Changes.{SourceChange, SinkChange, source_change, sink_change, BeginsWith}
 use Rattle.rv32_machine.specs.Steps.{start_of}
 use Rattle.rv32_machine.specs.Runs.{run, pieces}
 use Rattle.rv32_machine.proofs.Loops.{pieces_are_the_output}
 use Rattle.rv32_machine.specs.declared.machine.Stop.{Stop}
 use Rattle.rv32_machine.specs.declared.machine.Stop.TheVariants.{Steps, Exit, Trap}
-use Rattle.grin_compile.specs.Limits.{HeapOver, StackOver, frame_bound, steps_each}
+use Rattle.grin_compile.specs.Limits.{HeapIsExceeded, StackIsExceeded, frame_bound, steps_per_unit}
 use Rattle.text_commands.specs.declared.status.Status.{Status}
 use Rattle.text_commands.specs.declared.status.Status.TheVariants.{Done, Refused, NoAlternative, HeapFull, StackFull, StepLimit, OutOfMemory, ReadFault, WriteFault}
 use Rattle.grin_driver.specs.Execution.{OfGiven, Stops, Execution, status_of}
-use Rattle.grin_driver.specs.Outcome.{named}
-use Rattle.grin_driver.specs.Generating.{IsDefaultImageOf, Ended, IsOutput, WritesTooMuch, IsUndone, seen_of, status_by}
+use Rattle.grin_driver.specs.Outcome.{status_of_exit}
+use Rattle.grin_driver.specs.Generating.{IsDefaultImageOf, EndedWithCost, IsOutput, WritesTooMuch, IsUndone, seen_of, status_by}
 use Rattle.grin_driver.proofs.Outcomes.{loadable, carried, paced, finish_at, finish_by, finishes}
 use Rattle.grin_driver.proofs.Stores.{Stores, Holds, puts_hold, broke_is_long}
 
 -- what a source in memory that never fails does
 abbrev pub no_input : (old new : List ℕ) → SourceChange (List ℕ)
 no_input old new =
-    of_source (λ (s : List ℕ) (room : ℕ) (answer : Option (List ℕ)) (t : List ℕ). (answer ≡ Some (take room s)) × (t ≡ drop room s)) (λ (s : List ℕ). Some s)
+    source_change (λ (s : List ℕ) (room : ℕ) (answer : Option (List ℕ)) (t : List ℕ). (answer ≡ Some (take room s)) × (t ≡ drop room s)) (λ (s : List ℕ). Some s)
     (λ (s : List ℕ). s ≡ []) (λ (s : List ℕ). 0) old new
 
 module _ (text file : List ℕ) (from : IsDefaultImageOf text file) (rest : List ℕ) (old new : Store) (begun : Holds old []) where
@@ -33,7 +33,7 @@ module _ (text file : List ℕ) (from : IsDefaultImageOf text file) (rest : List
   input = no_input [] rest
 
   abbrev sink : SinkChange Store
-  sink = of_sink Stores (λ (s : Store). Some s.taken) (λ (s : Store). s.calls.faults) old new
+  sink = sink_change Stores (λ (s : Store). Some s.taken) (λ (s : Store). s.calls.faults) old new
 
   -- what the status of the run says of the program of the image, and of the sink
   abbrev pub Came : Status → Type 0
@@ -56,19 +56,19 @@ module _ (text file : List ℕ) (from : IsDefaultImageOf text file) (rest : List
     few : length (seen_of image).out ≤ 4096
     few = subst (λ (l : List ℕ). length l ≤ 4096) (pieces_are_the_output 1000000000 [] (start_of image)) held.room
 
-    told : (n : ℕ) × Comes (HeapOver 1000000) (StackOver (frame_bound from.program from.made.solution) 1048576) (of_core from.program []) n (seen_of image)
+    told : (n : ℕ) × Comes (HeapIsExceeded 1000000) (StackIsExceeded (frame_bound from.program from.made.solution) 1048576) (core_program_meaning from.program []) n (seen_of image)
     told = (carried text 1000000 1048576 file from image loads).comes [] tt 1000000000
 
-    reaches : (n : ℕ) → steps_each from.program from.made.solution * (n + 1) ≤ 1000000000 → Reaches (of_core from.program [] n) (seen_of image)
+    reaches : (n : ℕ) → steps_per_unit from.program from.made.solution * (n + 1) ≤ 1000000000 → ReachesResult (core_program_meaning from.program [] n) (seen_of image)
     reaches n enough = paced text 1000000 1048576 file from image loads [] tt n 1000000000 enough
 
-    finish : Finishes (HeapOver 1000000) (StackOver (frame_bound from.program from.made.solution) 1048576) (of_core from.program []) told.0 (seen_of image) (finish_by stop)
+    finish : Finishes (HeapIsExceeded 1000000) (StackIsExceeded (frame_bound from.program from.made.solution) 1048576) (core_program_meaning from.program []) told.0 (seen_of image) (finish_by stop)
     finish =
-        finishes input sink (HeapOver 1000000) (StackOver (frame_bound from.program from.made.solution) 1048576) (of_core from.program []) image 1000000000 [] given told
-        (steps_each from.program from.made.solution) reaches stop
+        finishes input sink (HeapIsExceeded 1000000) (StackIsExceeded (frame_bound from.program from.made.solution) 1048576) (core_program_meaning from.program []) image 1000000000 [] given told
+        (steps_per_unit from.program from.made.solution) reaches stop
         (stops.stands [] begun_with).0
 
-    ended : (status : Status) → status_by (finish_by stop) ≡ Some status → Ended from status
+    ended : (status : Status) → status_by (finish_by stop) ≡ Some status → EndedWithCost from status
     ended status is = record {
       image = image;
       loads = loads;
@@ -79,7 +79,7 @@ module _ (text file : List ℕ) (from : IsDefaultImageOf text file) (rest : List
       keeps_pace = reaches;
     }
 
-  came_at : (image : Image) → Loads file image → (given : List ℕ) (over : Bool) (stop : Stop) → Stops input sink image 1000000000 stop given over → Came (named (status_of stop))
+  came_at : (image : Image) → Loads file image → (given : List ℕ) (over : Bool) (stop : Stop) → Stops input sink image 1000000000 stop given over → Came (status_of_exit (status_of stop))
   unfolding ended told
   came_at image loads given over Steps stops = ended image loads given over Steps stops StepLimit refl
   came_at image loads given over (Exit zero) stops = (
@@ -94,10 +94,10 @@ module _ (text file : List ℕ) (from : IsDefaultImageOf text file) (rest : List
   came_at image loads given over (Exit (suc (suc (suc (suc (suc (suc k))))))) stops = absurd (finish image loads given over (Exit (suc (suc (suc (suc (suc (suc k))))))) stops)
   came_at image loads given over (Trap kind pc) stops = absurd (finish image loads given over (Trap kind pc) stops)
 
-  came_to : (status : Status) → (image : Image) × Loads file image × ((stop : Stop) × (status_of stop ≡ status) × OfGiven input sink (Stops input sink image 1000000000 stop)) → Came (named status)
-  came_to status h = subst (λ (s : Status). Came (named s)) h.2.1 (came_at h.0 h.1 h.2.2.0 h.2.2.1.0 h.2.0 h.2.2.1.1)
+  came_to : (status : Status) → (image : Image) × Loads file image × ((stop : Stop) × (status_of stop ≡ status) × OfGiven input sink (Stops input sink image 1000000000 stop)) → Came (status_of_exit status)
+  came_to status h = subst (λ (s : Status). Came (status_of_exit s)) h.2.1 (came_at h.0 h.1 h.2.2.0 h.2.2.1.0 h.2.0 h.2.2.1.1)
 
-  pub came : (status : Status) → Execution input sink file 1000000000 status → Came (named status)
+  pub came : (status : Status) → Execution input sink file 1000000000 status → Came (status_of_exit status)
   came (Refused k at) h = absurd (loadable file _ k at from.made.image.loads h.0)
   came OutOfMemory h = tt
   came ReadFault h = absurd (omega (arith, h.2.1.1.raised))
@@ -116,7 +116,7 @@ module _ (text file : List ℕ) (from : IsDefaultImageOf text file) (rest : List
   other status is is' h = h
 
   pub came_from : (first : List ℕ) → first ≡ [] → (status : Status)
-      → Execution (no_input first rest) sink file 1000000000 status → Came (named status)
+      → Execution (no_input first rest) sink file 1000000000 status → Came (status_of_exit status)
   came_from first none status h =
       came status (subst (λ (l : List ℕ). Execution (no_input l rest) sink file 1000000000 status) none h)
 

@@ -3,46 +3,46 @@ use Rattle.std.proofs.Common.{◌≡◌, ℕ, zero, suc, ◌+◌, ◌-◌, ◌*�
 use mathlib.Core.Logic.{inl, inr}
 use Rattle.arity_check.specs.Program.{Program}
 use Rattle.core_meaning.specs.Evaluation.{params}
-use Rattle.core_meaning.specs.Told.{of_core}
+use Rattle.core_meaning.specs.Told.{core_program_meaning}
 use Rattle.elf32.specs.Image.{Image}
 use Rattle.elf32.specs.Rules.{Loads, rule}
 use Rattle.elf32.specs.declared.refusal.ElfRefusal.{ElfRefusal}
 use Rattle.elf32.specs.declared.refusal.ElfRefusal.TheVariants.{ImageTooLong, TooShort, NotElf, NotRiscv32Exec, HeaderOutside, SegmentOutside, SegmentsOverlap, EntryOutside, SegmentsTooLarge, Memory as OutOfMemory'}
-use Rattle.grin_io.specs.Changes.{SourceChange, SinkChange, Gave, no_read, next_byte, at_end, BeginsWith, GaveAll, TookAll}
+use Rattle.grin_io.specs.Changes.{SourceChange, SinkChange, ReadBytes, no_read, next_byte, at_end, BeginsWith, ReadExactly, TookExactly}
 use Rattle.grin_io.specs.declared.outside.Fault.{Fault}
 use Rattle.grin_io.specs.declared.outside.Fault.TheVariants.{Read, Write}
-use Rattle.grin_opt.specs.declared.pass.PassName.{PassName}
-use Rattle.grin_opt.specs.declared.pass.PassName.TheVariants.{Translate, Eval}
-use Rattle.grin_stages.specs.Stage.{IsTooLarge, IsLarge}
+use Rattle.stage_names.specs.declared.PassName.{PassName}
+use Rattle.stage_names.specs.declared.PassName.TheVariants.{Translate, Eval}
+use Rattle.grin_stages.specs.Stage.{StageExceedsLimit, ExceedsSizeLimit}
 use Rattle.grin_stages.specs.declared.refusal.CompileRefusal.{CompileRefusal}
 use Rattle.grin_stages.specs.declared.refusal.CompileRefusal.TheVariants.{ExpandedTooLarge, Memory}
 use Rattle.headline.specs.Carries as carries
-use Rattle.headline.specs.Carries.{Told as Telling, going, done, no_alternative, missing, Seen, Finish, runs, exits, traps, IsBytes, Begins, Matches, Reaches, After, Finishes, Comes, Carries, KeepsPace}
+use Rattle.headline.specs.Carries.{MeaningResult as Telling, going, done, no_alternative, missing, MachineObservation, MachineStatus, runs, exits, traps, IsBytes, IsPrefixOf, EndMatchesExit, ReachesResult, ExtendsShorterRun, Finishes, Comes, Carries, KeepsPace}
 use Rattle.rv32_machine.specs.Steps.{State, reg, start_of}
-use Rattle.rv32_machine.specs.Runs.{End, Going, Exited as exited, Stopped, run, pieces, used, AsksForMore}
+use Rattle.rv32_machine.specs.Runs.{MachineEnd, Going, Exited as exited, Stopped, run, pieces, used, AsksForMore}
 use Rattle.rv32_machine.specs.declared.machine.Stop.{Stop}
 use Rattle.rv32_machine.specs.declared.machine.Stop.TheVariants.{Steps, Exit, Trap}
-use Rattle.rv32_steps.specs.Seen.{seen, finish_of}
+use Rattle.rv32_steps.specs.Seen.{observed_image, finish_of}
 use Rattle.rv32_steps.specs.Trace.{trace, IsLastBefore}
 use Rattle.grin_compile.specs.Code.{TellsLastStep}
-use Rattle.grin_compile.specs.Limits.{heap_bytes, HeapOver, StackOver, frame_bound, steps_each, whole_words}
+use Rattle.grin_compile.specs.Limits.{heap_bytes, HeapIsExceeded, StackIsExceeded, frame_bound, steps_per_unit, whole_words}
 use Rattle.text_commands.specs.declared.status.Status.{Status}
 use Rattle.text_commands.specs.declared.status.Status.TheVariants.{Refused, NoAlternative, Exited, OutOfMemory, ReadFault, WriteFault}
-use Rattle.grin_driver.specs.Listing.{IsUnlisted}
+use Rattle.grin_driver.specs.Listing.{IsListFailure}
 use Rattle.rv32_machine.proofs.Sources.{itself}
 use Rattle.grin_driver.specs.Execution.{OfGiven, Stops, Fails, Execution, IsUnloadable, stop_at, status_of}
-use Rattle.grin_driver.specs.Outcome.{IsNotRun, IsImageOf, IsUnmade, named, RunsTo, Breaks, Says, Runs, Outcome}
+use Rattle.grin_driver.specs.Outcome.{IsRunRefusal, IsImageOf, IsBuildFailure, status_of_exit, RunsTo, Breaks, Says, Runs, Outcome}
 use Rattle.grin_syntax.specs.SameOutside.{names_of}
 use Rattle.grin_driver.specs.declared.cost.Cost.{Cost}
 use Rattle.grin_driver.specs.Costs.{has_stopped, state_at, AreCounts, IsRunCost, IsCostOf, Counted, CountsExecution, CostsRun, CostsText}
-use Rattle.grin_driver.specs.declared.cost.Counts.{Counts}
+use Rattle.grin_driver.specs.declared.cost.RunCounts.{RunCounts}
 use Rattle.grin_driver.proofs.Costs.{counted_stops}
 use Rattle.text_commands.proofs.Texts.{refused_long, accepted_short}
 use Rattle.grin_driver.proofs.Fronts.{took_output, gave_used, took_front}
 use Rattle.grin_driver.proofs.Unread.{takes_no_byte}
 
 -- a name of its own changes nothing of whether there was a run
-named_stops : (status : Status) → has_stopped (named status) ≡ has_stopped status
+named_stops : (status : Status) → has_stopped (status_of_exit status) ≡ has_stopped status
 named_stops (Exited zero) = refl
 named_stops (Exited (suc zero)) = refl
 named_stops (Exited (suc (suc zero))) = refl
@@ -59,11 +59,11 @@ is_translate Translate = true
 is_translate _ = false
 
 -- a program that is too large has no stage behind the translation
-pub too_large : (p : Program) (refusal : CompileRefusal) → IsLarge p refusal → IsTooLarge p Eval refusal
+pub too_large : (p : Program) (refusal : CompileRefusal) → ExceedsSizeLimit p refusal → StageExceedsLimit p Eval refusal
 too_large p (ExpandedTooLarge size) h = ((λ e. let c : false ≡ true = ap is_translate e in absurd cc), h.0, h.1)
 too_large p (Memory e) h = h
 
-pub unlisted_is_unmade : (text : List ℕ) (status : Status) → IsUnlisted text Eval status → IsUnmade text status
+pub unlisted_is_unmade : (text : List ℕ) (status : Status) → IsListFailure text Eval status → IsBuildFailure text status
 unlisted_is_unmade text (Refused k at) (inl h) = inl h
 unlisted_is_unmade text (Refused k at) (inr h) = inr (h.0, h.2)
 unlisted_is_unmade text OutOfMemory h = h
@@ -89,9 +89,9 @@ loadable file image k at loads u = loads.unbroken u.refusal (rule_below u.refusa
 
 -- whatever a text's file loads as carries the text's program
 pub carried : (text : List ℕ) (cells stack : ℕ) (file : List ℕ) (from : IsImageOf text cells stack file) (image : Image) → Loads file image
-    → Carries (HeapOver cells) (StackOver (frame_bound from.program from.made.solution) (whole_words stack)) (of_core from.program) (seen image)
+    → Carries (HeapIsExceeded cells) (StackIsExceeded (frame_bound from.program from.made.solution) (whole_words stack)) (core_program_meaning from.program) (observed_image image)
 carried text cells stack file from image loads =
-    subst (λ b. Carries (HeapOver cells) (StackOver (frame_bound from.program from.made.solution) (whole_words stack)) (of_core from.program) (seen b))
+    subst (λ b. Carries (HeapIsExceeded cells) (StackIsExceeded (frame_bound from.program from.made.solution) (whole_words stack)) (core_program_meaning from.program) (observed_image b))
     (from.made.image.loads.program ∙ sym loads.program) from.made.image.code_for.carries
 
 -- and where it exits with 3, x5 tells its last step in the code of the procedures
@@ -101,7 +101,7 @@ tells_last text cells stack file from image loads bytes are m =
     subst (λ b. TellsLastStep from.made.image.code_for.stops (start_of b) bytes m)
     (from.made.image.loads.program ∙ sym loads.program) (from.made.image.code_for.tells_last bytes are m)
 
-told_by : (e : End) (stops : ℕ) (way : List ℕ) (x5 : ℕ) → ((s : State) → e ≡ exited 3 s → IsLastBefore stops way (s.regs 5 - 4)) → stop_at e ≡ Exit 3 → reg (state_at e) 5 ≡ x5
+told_by : (e : MachineEnd) (stops : ℕ) (way : List ℕ) (x5 : ℕ) → ((s : State) → e ≡ exited 3 s → IsLastBefore stops way (s.regs 5 - 4)) → stop_at e ≡ Exit 3 → reg (state_at e) 5 ≡ x5
     → IsLastBefore stops way (x5 - 4)
 told_by (Going s) stops way x5 tells h x = cc
 told_by (exited code s) stops way x5 tells h x =
@@ -109,7 +109,7 @@ told_by (exited code s) stops way x5 tells h x =
     subst (λ r. IsLastBefore stops way (r - 4)) x (tells s (ap (λ c. exited c s) same))
 told_by (Stopped kind s) stops way x5 tells h x = cc
 
-exits_with_3 : (stop : Stop) → named (status_of stop) ≡ NoAlternative → stop ≡ Exit 3
+exits_with_3 : (stop : Stop) → status_of_exit (status_of stop) ≡ NoAlternative → stop ≡ Exit 3
 exits_with_3 Steps e = cc
 exits_with_3 (Exit zero) e = cc
 exits_with_3 (Exit (suc zero)) e = cc
@@ -122,16 +122,16 @@ exits_with_3 (Trap kind pc) e = cc
 
 -- and keeps pace with it
 pub paced : (text : List ℕ) (cells stack : ℕ) (file : List ℕ) (from : IsImageOf text cells stack file) (image : Image) → Loads file image
-    → KeepsPace (steps_each from.program from.made.solution) (of_core from.program) (seen image)
+    → KeepsPace (steps_per_unit from.program from.made.solution) (core_program_meaning from.program) (observed_image image)
 paced text cells stack file from image loads =
-    subst (λ b. KeepsPace (steps_each from.program from.made.solution) (of_core from.program) (seen b))
+    subst (λ b. KeepsPace (steps_per_unit from.program from.made.solution) (core_program_meaning from.program) (observed_image b))
     (from.made.image.loads.program ∙ sym loads.program) from.made.image.paced
 
 -- where a machine runs on, what it has come to has no end
-runs_on : (t : Telling) (s : Seen) → s.finish ≡ runs → Reaches t s → (t.end ≡ going) × Begins t.out s.out
+runs_on : (t : Telling) (s : MachineObservation) → s.finish ≡ runs → ReachesResult t s → (t.end ≡ going) × IsPrefixOf t.out s.out
 runs_on t s on (inl r) = (by_end t.end r.1, r.0)
   where
-    by_end : (e : carries.End) → Matches e t s → e ≡ going
+    by_end : (e : carries.End) → EndMatchesExit e t s → e ≡ going
     by_end going m = refl
     by_end done m = let no : exits 0 ≡ runs = sym m.1 ∙ on in cc
     by_end no_alternative m = let no : exits 3 ≡ runs = sym m.1 ∙ on in cc
@@ -142,27 +142,27 @@ runs_on t s on (inr (inr five, b)) = let no : exits 5 ≡ runs = sym five ∙ on
 -- ---- what the program says
 
 -- the finish that an answer of the machine names
-abbrev pub finish_by : Stop → Finish
+abbrev pub finish_by : Stop → MachineStatus
 finish_by Steps = runs
 finish_by (Exit code) = exits code
 finish_by (Trap kind pc) = traps
 
-pub finish_at : (e : End) → finish_of e ≡ finish_by (stop_at e)
+pub finish_at : (e : MachineEnd) → finish_of e ≡ finish_by (stop_at e)
 finish_at (Going s) = refl
 finish_at (exited code s) = refl
 finish_at (Stopped kind s) = refl
 
 module _ {I K : Type 0} (i : SourceChange I) (o : SinkChange K) (Heap Stack : Telling → Type 0) (told : ℕ → Telling) (image : Image) (steps : ℕ) (bytes given : List ℕ)
-    (c : (n : ℕ) × Comes Heap Stack told n (seen image bytes steps)) (each : ℕ) (reaches : (n : ℕ) → each * (n + 1) ≤ steps → Reaches (told n) (seen image bytes steps)) where
-  pub says_stopped : (stop : Stop) → (seen image bytes steps).finish ≡ finish_by stop → Finishes Heap Stack told c.0 (seen image bytes steps) (finish_by stop)
-      → TookAll o (pieces steps bytes (start_of image)) → bytes ≡ given ++ (run steps bytes (start_of image)).left
-      → Says i o Heap Stack told given each steps (named (status_of stop))
+    (c : (n : ℕ) × Comes Heap Stack told n (observed_image image bytes steps)) (each : ℕ) (reaches : (n : ℕ) → each * (n + 1) ≤ steps → ReachesResult (told n) (observed_image image bytes steps)) where
+  pub says_stopped : (stop : Stop) → (observed_image image bytes steps).finish ≡ finish_by stop → Finishes Heap Stack told c.0 (observed_image image bytes steps) (finish_by stop)
+      → TookExactly o (pieces steps bytes (start_of image)) → bytes ≡ given ++ (run steps bytes (start_of image)).left
+      → Says i o Heap Stack told given each steps (status_of_exit (status_of stop))
   says_stopped Steps is f took left = record {
     keeps_pace = λ n enough.
-        let r = runs_on (told n) (seen image bytes steps) is (reaches n enough) in
-        (r.0, took_output i o steps bytes (start_of image) (λ out. Begins (told n).out out) took r.1);
+        let r = runs_on (told n) (observed_image image bytes steps) is (reaches n enough) in
+        (r.0, took_output i o steps bytes (start_of image) (λ out. IsPrefixOf (told n).out out) took r.1);
     units = c.0;
-    took = took_output i o steps bytes (start_of image) (λ out. Begins out (told c.0).out) took c.1.output;
+    took = took_output i o steps bytes (start_of image) (λ out. IsPrefixOf out (told c.0).out) took c.1.output;
     gave = gave_used i o steps bytes (start_of image) given (λ count. count ≤ (told c.0).used) left c.1.used;
   }
   says_stopped (Exit zero) is f took left = record {
@@ -182,24 +182,24 @@ module _ {I K : Type 0} (i : SourceChange I) (o : SinkChange K) (Heap Stack : Te
   says_stopped (Exit (suc (suc (suc (suc zero))))) is f took left = record {
     units = c.0;
     needs = f.0;
-    took = took_output i o steps bytes (start_of image) (λ out. After told c.0 out × Begins out (told c.0).out) took (f.1, c.1.output);
+    took = took_output i o steps bytes (start_of image) (λ out. ExtendsShorterRun told c.0 out × IsPrefixOf out (told c.0).out) took (f.1, c.1.output);
     gave = gave_used i o steps bytes (start_of image) given (λ count. count ≤ (told c.0).used) left c.1.used;
   }
   says_stopped (Exit (suc (suc (suc (suc (suc zero)))))) is f took left = record {
     units = c.0;
     needs = f.0;
-    took = took_output i o steps bytes (start_of image) (λ out. After told c.0 out × Begins out (told c.0).out) took (f.1, c.1.output);
+    took = took_output i o steps bytes (start_of image) (λ out. ExtendsShorterRun told c.0 out × IsPrefixOf out (told c.0).out) took (f.1, c.1.output);
     gave = gave_used i o steps bytes (start_of image) given (λ count. count ≤ (told c.0).used) left c.1.used;
   }
   says_stopped (Exit (suc (suc (suc (suc (suc (suc k))))))) is f took left = absurd f
   says_stopped (Trap kind pc) is f took left = absurd f
 
-  pub finish_is : (stop : Stop) → stop_at (run steps bytes (start_of image)).end ≡ stop → (seen image bytes steps).finish ≡ finish_by stop
+  pub finish_is : (stop : Stop) → stop_at (run steps bytes (start_of image)).end ≡ stop → (observed_image image bytes steps).finish ≡ finish_by stop
   finish_is stop is = finish_at (run steps bytes (start_of image)).end ∙ ap finish_by is
 
-  pub finishes : (stop : Stop) → stop_at (run steps bytes (start_of image)).end ≡ stop → Finishes Heap Stack told c.0 (seen image bytes steps) (finish_by stop)
+  pub finishes : (stop : Stop) → stop_at (run steps bytes (start_of image)).end ≡ stop → Finishes Heap Stack told c.0 (observed_image image bytes steps) (finish_by stop)
   finishes stop is =
-      subst (λ f. Finishes Heap Stack told c.0 (seen image bytes steps) f)
+      subst (λ f. Finishes Heap Stack told c.0 (observed_image image bytes steps) f)
       (finish_is stop is) c.1.finish
 
 -- ---- what was given
@@ -209,7 +209,7 @@ one_byte_more [] b are small = (small, tt)
 one_byte_more (x ∷ bs) b are small = (are.0, one_byte_more bs b are.1 small)
 
 -- what reads gave are bytes
-pub are_bytes : {I : Type 0} (gives : I → ℕ → Option (List ℕ) → I → Type 0) (from to : I) (given : List ℕ) (ended : Bool) → Gave gives from given ended to → IsBytes given
+pub are_bytes : {I : Type 0} (gives : I → ℕ → Option (List ℕ) → I → Type 0) (from to : I) (given : List ℕ) (ended : Bool) → ReadBytes gives from given ended to → IsBytes given
 are_bytes gives from to given ended no_read = tt
 are_bytes gives from end all ended (next_byte {before} {given} {byte} {last} {to} g exactly small is) =
     subst IsBytes (sym is) (one_byte_more before byte (are_bytes gives from last before false g) small)
@@ -220,7 +220,7 @@ length_zero [] e = refl
 length_zero (b ∷ bs) e = cc
 
 -- where no bytes were given and the end wasn't met, there was no read
-no_reads : {I : Type 0} (gives : I → ℕ → Option (List ℕ) → I → Type 0) (from to : I) (given : List ℕ) (ended : Bool) → Gave gives from given ended to → given ≡ [] → ended ≡ false → to ≡ from
+no_reads : {I : Type 0} (gives : I → ℕ → Option (List ℕ) → I → Type 0) (from to : I) (given : List ℕ) (ended : Bool) → ReadBytes gives from given ended to → given ≡ [] → ended ≡ false → to ≡ from
 no_reads gives from to given ended no_read none goes_on = refl
 no_reads gives from end all ended (next_byte {before} {given} {byte} {last} {to} g exactly small is) none goes_on = absurd (some before (sym is ∙ none))
   where
@@ -262,21 +262,21 @@ module _ {I K : Type 0} (i : SourceChange I) (o : SinkChange K) (text : List ℕ
   abbrev Said : (given : List ℕ) → (ended : Bool) → Status → Type 0
   Said given ended status =
       (bytes : List ℕ) → BeginsWith given ended bytes → IsBytes bytes
-      → Says i o (HeapOver cells) (StackOver (frame_bound from.program from.made.solution) (whole_words stack)) (of_core from.program bytes) given
-      (steps_each from.program from.made.solution) steps status
+      → Says i o (HeapIsExceeded cells) (StackIsExceeded (frame_bound from.program from.made.solution) (whole_words stack)) (core_program_meaning from.program bytes) given
+      (steps_per_unit from.program from.made.solution) steps status
 
   module _ (image : Image) (loads : Loads file image) (given : List ℕ) (ended : Bool) where
-    said : (stop : Stop) → Stops i o image steps stop given ended → Said given ended (named (status_of stop))
+    said : (stop : Stop) → Stops i o image steps stop given ended → Said given ended (status_of_exit (status_of stop))
     said stop stops bytes begins are =
         let c = (carried text cells stack file from image loads).comes bytes are steps in
         let s = stops.stands bytes begins in
-        let each = steps_each from.program from.made.solution in
+        let each = steps_per_unit from.program from.made.solution in
         let reaches = λ (n : ℕ) (enough : each * (n + 1) ≤ steps). paced text cells stack file from image loads bytes are n steps enough in
-        let Heap = HeapOver cells in
-        let Stack = StackOver (frame_bound from.program from.made.solution) (whole_words stack) in
-        says_stopped i o Heap Stack (of_core from.program bytes) image steps bytes given c each reaches stop
-        (finish_is i o Heap Stack (of_core from.program bytes) image steps bytes given c each reaches stop s.0)
-        (finishes i o Heap Stack (of_core from.program bytes) image steps bytes given c each reaches stop s.0) (stops.took bytes begins) s.1
+        let Heap = HeapIsExceeded cells in
+        let Stack = StackIsExceeded (frame_bound from.program from.made.solution) (whole_words stack) in
+        says_stopped i o Heap Stack (core_program_meaning from.program bytes) image steps bytes given c each reaches stop
+        (finish_is i o Heap Stack (core_program_meaning from.program bytes) image steps bytes given c each reaches stop s.0)
+        (finishes i o Heap Stack (core_program_meaning from.program bytes) image steps bytes given c each reaches stop s.0) (stops.took bytes begins) s.1
 
     -- where `main` has no parameter nothing was read
     untouched : (stop : Stop) → Stops i o image steps stop given ended → params from.program from.program.main ≡ 0 → i.new ≡ i.old
@@ -302,82 +302,82 @@ module _ {I K : Type 0} (i : SourceChange I) (o : SinkChange K) (text : List ℕ
     }
 
     -- no program says this of the bytes that were given
-    never : (status : Status) → GaveAll i given ended → Said given ended status → Says i o (HeapOver cells) (StackOver (frame_bound from.program from.made.solution) (whole_words stack)) (of_core from.program given) given
-        (steps_each from.program from.made.solution) steps status
+    never : (status : Status) → ReadExactly i given ended → Said given ended status → Says i o (HeapIsExceeded cells) (StackIsExceeded (frame_bound from.program from.made.solution) (whole_words stack)) (core_program_meaning from.program given) given
+        (steps_per_unit from.program from.made.solution) steps status
     never status gave says = says given (itself given ended) (are_bytes i.gives i.old i.new given ended gave.reads)
 
     -- the run stopped
-    runs_to : (stop : Stop) → Stops i o image steps stop given ended → Said given ended (named (status_of stop)) → Outcome i o text cells stack steps (named (status_of stop))
-    runs_to Steps ran says = runs_from (named (status_of Steps)) Steps ran ran says
-    runs_to (Exit zero) ran says = runs_from (named (status_of (Exit 0))) (Exit 0) ran ran says
-    runs_to (Exit (suc zero)) ran says = absurd (never (named (status_of (Exit 1))) ran.gave says)
-    runs_to (Exit (suc (suc zero))) ran says = absurd (never (named (status_of (Exit 2))) ran.gave says)
-    runs_to (Exit (suc (suc (suc zero)))) ran says = runs_from (named (status_of (Exit 3))) (Exit 3) ran ran says
-    runs_to (Exit (suc (suc (suc (suc zero))))) ran says = runs_from (named (status_of (Exit 4))) (Exit 4) ran ran says
-    runs_to (Exit (suc (suc (suc (suc (suc zero)))))) ran says = runs_from (named (status_of (Exit 5))) (Exit 5) ran ran says
-    runs_to (Exit (suc (suc (suc (suc (suc (suc k))))))) ran says = absurd (never (named (status_of (Exit (suc (suc (suc (suc (suc (suc k))))))))) ran.gave says)
-    runs_to (Trap kind pc) ran says = absurd (never (named (status_of (Trap kind pc))) ran.gave says)
+    runs_to : (stop : Stop) → Stops i o image steps stop given ended → Said given ended (status_of_exit (status_of stop)) → Outcome i o text cells stack steps (status_of_exit (status_of stop))
+    runs_to Steps ran says = runs_from (status_of_exit (status_of Steps)) Steps ran ran says
+    runs_to (Exit zero) ran says = runs_from (status_of_exit (status_of (Exit 0))) (Exit 0) ran ran says
+    runs_to (Exit (suc zero)) ran says = absurd (never (status_of_exit (status_of (Exit 1))) ran.gave says)
+    runs_to (Exit (suc (suc zero))) ran says = absurd (never (status_of_exit (status_of (Exit 2))) ran.gave says)
+    runs_to (Exit (suc (suc (suc zero)))) ran says = runs_from (status_of_exit (status_of (Exit 3))) (Exit 3) ran ran says
+    runs_to (Exit (suc (suc (suc (suc zero))))) ran says = runs_from (status_of_exit (status_of (Exit 4))) (Exit 4) ran ran says
+    runs_to (Exit (suc (suc (suc (suc (suc zero)))))) ran says = runs_from (status_of_exit (status_of (Exit 5))) (Exit 5) ran ran says
+    runs_to (Exit (suc (suc (suc (suc (suc (suc k))))))) ran says = absurd (never (status_of_exit (status_of (Exit (suc (suc (suc (suc (suc (suc k))))))))) ran.gave says)
+    runs_to (Trap kind pc) ran says = absurd (never (status_of_exit (status_of (Trap kind pc))) ran.gave says)
 
     -- where its last step in the code of the procedures stood
-    stood : (stop : Stop) → Stops i o image steps stop given ended → (c : Counts) → AreCounts image steps given ended c → named (status_of stop) ≡ NoAlternative
+    stood : (stop : Stop) → Stops i o image steps stop given ended → (c : RunCounts) → AreCounts image steps given ended c → status_of_exit (status_of stop) ≡ NoAlternative
         → (bytes : List ℕ) → BeginsWith given ended bytes → IsBytes bytes → IsLastBefore from.made.image.code_for.stops (trace steps bytes (start_of image)) (c.link - 4)
     stood stop ran c are is bytes begins all =
         told_by (run steps bytes (start_of image)).end from.made.image.code_for.stops (trace steps bytes (start_of image)) c.link
         (tells_last text cells stack file from image loads bytes all steps) ((ran.stands bytes begins).0 ∙ exits_with_3 stop is) (are.x5 bytes begins)
 
     -- what it cost
-    costs_to : (stop : Stop) → Stops i o image steps stop given ended → Said given ended (named (status_of stop))
-        → (c : Counts) → AreCounts image steps given ended c → (cost : Cost) → IsRunCost (heap_bytes from.made.g 1) cells from.made.addresses (names_of from.made.g.procs) (named (status_of stop)) (c.link - 4) c cost
-        → CostsRun i o text cells stack steps (named (status_of stop)) cost
+    costs_to : (stop : Stop) → Stops i o image steps stop given ended → Said given ended (status_of_exit (status_of stop))
+        → (c : RunCounts) → AreCounts image steps given ended c → (cost : Cost) → IsRunCost (heap_bytes from.made.g 1) cells from.made.addresses (names_of from.made.g.procs) (status_of_exit (status_of stop)) (c.link - 4) c cost
+        → CostsRun i o text cells stack steps (status_of_exit (status_of stop)) cost
     unfolding runs_from
-    costs_to Steps ran says c are cost is = record { runs = runs_from (named (status_of Steps)) Steps ran ran says; counts = c; are = are; at = c.link - 4; stood = stood Steps ran c are; cost_is = is }
-    costs_to (Exit zero) ran says c are cost is = record { runs = runs_from (named (status_of (Exit 0))) (Exit 0) ran ran says; counts = c; are = are; at = c.link - 4; stood = stood (Exit zero) ran c are; cost_is = is }
-    costs_to (Exit (suc zero)) ran says c are cost is = absurd (never (named (status_of (Exit 1))) ran.gave says)
-    costs_to (Exit (suc (suc zero))) ran says c are cost is = absurd (never (named (status_of (Exit 2))) ran.gave says)
-    costs_to (Exit (suc (suc (suc zero)))) ran says c are cost is = record { runs = runs_from (named (status_of (Exit 3))) (Exit 3) ran ran says; counts = c; are = are; at = c.link - 4; stood = stood (Exit (suc (suc (suc zero)))) ran c are; cost_is = is }
-    costs_to (Exit (suc (suc (suc (suc zero))))) ran says c are cost is = record { runs = runs_from (named (status_of (Exit 4))) (Exit 4) ran ran says; counts = c; are = are; at = c.link - 4; stood = stood (Exit (suc (suc (suc (suc zero))))) ran c are; cost_is = is }
-    costs_to (Exit (suc (suc (suc (suc (suc zero)))))) ran says c are cost is = record { runs = runs_from (named (status_of (Exit 5))) (Exit 5) ran ran says; counts = c; are = are; at = c.link - 4; stood = stood (Exit (suc (suc (suc (suc (suc zero)))))) ran c are; cost_is = is }
-    costs_to (Exit (suc (suc (suc (suc (suc (suc k))))))) ran says c are cost is = absurd (never (named (status_of (Exit (suc (suc (suc (suc (suc (suc k))))))))) ran.gave says)
-    costs_to (Trap kind pc) ran says c are cost is = absurd (never (named (status_of (Trap kind pc))) ran.gave says)
+    costs_to Steps ran says c are cost is = record { runs = runs_from (status_of_exit (status_of Steps)) Steps ran ran says; counts = c; are = are; at = c.link - 4; stood = stood Steps ran c are; cost_is = is }
+    costs_to (Exit zero) ran says c are cost is = record { runs = runs_from (status_of_exit (status_of (Exit 0))) (Exit 0) ran ran says; counts = c; are = are; at = c.link - 4; stood = stood (Exit zero) ran c are; cost_is = is }
+    costs_to (Exit (suc zero)) ran says c are cost is = absurd (never (status_of_exit (status_of (Exit 1))) ran.gave says)
+    costs_to (Exit (suc (suc zero))) ran says c are cost is = absurd (never (status_of_exit (status_of (Exit 2))) ran.gave says)
+    costs_to (Exit (suc (suc (suc zero)))) ran says c are cost is = record { runs = runs_from (status_of_exit (status_of (Exit 3))) (Exit 3) ran ran says; counts = c; are = are; at = c.link - 4; stood = stood (Exit (suc (suc (suc zero)))) ran c are; cost_is = is }
+    costs_to (Exit (suc (suc (suc (suc zero))))) ran says c are cost is = record { runs = runs_from (status_of_exit (status_of (Exit 4))) (Exit 4) ran ran says; counts = c; are = are; at = c.link - 4; stood = stood (Exit (suc (suc (suc (suc zero))))) ran c are; cost_is = is }
+    costs_to (Exit (suc (suc (suc (suc (suc zero)))))) ran says c are cost is = record { runs = runs_from (status_of_exit (status_of (Exit 5))) (Exit 5) ran ran says; counts = c; are = are; at = c.link - 4; stood = stood (Exit (suc (suc (suc (suc (suc zero)))))) ran c are; cost_is = is }
+    costs_to (Exit (suc (suc (suc (suc (suc (suc k))))))) ran says c are cost is = absurd (never (status_of_exit (status_of (Exit (suc (suc (suc (suc (suc (suc k))))))))) ran.gave says)
+    costs_to (Trap kind pc) ran says c are cost is = absurd (never (status_of_exit (status_of (Trap kind pc))) ran.gave says)
 
-  costs : (status : Status) (c : Counts) → Counted i o file steps status c → (cost : Cost) → IsRunCost (heap_bytes from.made.g 1) cells from.made.addresses (names_of from.made.g.procs) (named status) (c.link - 4) c cost
-      → CostsRun i o text cells stack steps (named status) cost
+  costs : (status : Status) (c : RunCounts) → Counted i o file steps status c → (cost : Cost) → IsRunCost (heap_bytes from.made.g 1) cells from.made.addresses (names_of from.made.g.procs) (status_of_exit status) (c.link - 4) c cost
+      → CostsRun i o text cells stack steps (status_of_exit status) cost
   costs status c h cost is =
       let g = h.2.2 in
-      let is' = subst (λ s. IsRunCost (heap_bytes from.made.g 1) cells from.made.addresses (names_of from.made.g.procs) (named s) (c.link - 4) c cost) (sym h.2.1) is in
-      subst (λ s. CostsRun i o text cells stack steps (named s) cost) h.2.1
+      let is' = subst (λ s. IsRunCost (heap_bytes from.made.g 1) cells from.made.addresses (names_of from.made.g.procs) (status_of_exit s) (c.link - 4) c cost) (sym h.2.1) is in
+      subst (λ s. CostsRun i o text cells stack steps (status_of_exit s) cost) h.2.1
       (costs_to h.0 h.1 g.0 g.1.0 h.2.0 g.1.1.0 (said h.0 h.1 g.0 g.1.0 h.2.0 g.1.1.0) c g.1.1.1 cost is')
 
   -- the cost of the run of a text's file is that of the text
   pub costs_text : (cell_bytes : ℕ) (starts : List ℕ) (names : List (List ℕ)) → heap_bytes from.made.g 1 ≡ cell_bytes → starts ≡ from.made.addresses → names ≡ names_of from.made.g.procs
-      → (status : Status) (counts : Option Counts) → CountsExecution i o file steps status counts → (cost : Option Cost) → IsCostOf cell_bytes cells starts names (named status) counts cost
-      → CostsText i o text cells stack steps (named status) cost
+      → (status : Status) (counts : Option RunCounts) → CountsExecution i o file steps status counts → (cost : Option Cost) → IsCostOf cell_bytes cells starts names (status_of_exit status) counts cost
+      → CostsText i o text cells stack steps (status_of_exit status) cost
   costs_text cell_bytes starts names bytes are named' status None h None is = named_stops status ∙ h
   costs_text cell_bytes starts names bytes are named' status None h (Some cost) is = absurd is
   costs_text cell_bytes starts names bytes are named' status (Some c) h None is = absurd is
   costs_text cell_bytes starts names bytes are named' status (Some c) h (Some cost) is = (
     named_stops status ∙ counted_stops i o file steps status c h,
-    costs status c h cost (subst (λ n. IsRunCost n cells from.made.addresses (names_of from.made.g.procs) (named status) (c.link - 4) c cost) (sym bytes)
-        (subst (λ as'. IsRunCost cell_bytes cells as' (names_of from.made.g.procs) (named status) (c.link - 4) c cost) are
-        (subst (λ ns. IsRunCost cell_bytes cells starts ns (named status) (c.link - 4) c cost) named' is))),
+    costs status c h cost (subst (λ n. IsRunCost n cells from.made.addresses (names_of from.made.g.procs) (status_of_exit status) (c.link - 4) c cost) (sym bytes)
+        (subst (λ as'. IsRunCost cell_bytes cells as' (names_of from.made.g.procs) (status_of_exit status) (c.link - 4) c cost) are
+        (subst (λ ns. IsRunCost cell_bytes cells starts ns (status_of_exit status) (c.link - 4) c cost) named' is))),
   )
 
   stopped : (status : Status) → (image : Image) × Loads file image × ((stop : Stop) × (status_of stop ≡ status) × OfGiven i o (Stops i o image steps stop))
-      → Outcome i o text cells stack steps (named status)
+      → Outcome i o text cells stack steps (status_of_exit status)
   stopped status h =
       let g = h.2.2 in
-      subst (λ s. Outcome i o text cells stack steps (named s)) h.2.1 (runs_to h.0 h.1 g.0 g.1.0 h.2.0 g.1.1 (said h.0 h.1 g.0 g.1.0 h.2.0 g.1.1))
+      subst (λ s. Outcome i o text cells stack steps (status_of_exit s)) h.2.1 (runs_to h.0 h.1 g.0 g.1.0 h.2.0 g.1.1 (said h.0 h.1 g.0 g.1.0 h.2.0 g.1.1))
 
   -- a call failed
   broken : (fault : Fault) (image : Image) → Loads file image → (given : List ℕ) (ended : Bool) → IsBytes given → (f : Fails i o image steps fault given ended)
       → (bytes : List ℕ) → BeginsWith given ended bytes → IsBytes bytes
-      → Breaks i o (HeapOver cells) (StackOver (frame_bound from.program from.made.solution) (whole_words stack)) (of_core from.program bytes) given
+      → Breaks i o (HeapIsExceeded cells) (StackIsExceeded (frame_bound from.program from.made.solution) (whole_words stack)) (core_program_meaning from.program bytes) given
   broken fault image loads given ended are f bytes begins all =
       let c = (carried text cells stack file from image loads).comes bytes all steps in
-      record { units = c.0; took = took_front i o steps bytes (start_of image) fault (of_core from.program bytes c.0).out (f.puts bytes begins) c.1.output; gave = let uses = f.uses bytes begins in let most = c.1.used in omega (arith, uses, most) }
+      record { units = c.0; took = took_front i o steps bytes (start_of image) fault (core_program_meaning from.program bytes c.0).out (f.puts bytes begins) c.1.output; gave = let uses = f.uses bytes begins in let most = c.1.used in omega (arith, uses, most) }
 
   -- the status of the run of a text's file is that of the text, under its name
-  pub outcome : (status : Status) → Execution i o file steps status → Outcome i o text cells stack steps (named status)
+  pub outcome : (status : Status) → Execution i o file steps status → Outcome i o text cells stack steps (status_of_exit status)
   outcome (Refused k at) h = absurd (loadable file _ k at from.made.image.loads h.0)
   outcome OutOfMemory h = h
   outcome ReadFault h =
@@ -415,7 +415,7 @@ module _ {I K : Type 0} (i : SourceChange I) (o : SinkChange K) (text : List ℕ
 
 -- ---- texts that are too long
 
-pub not_run_long : (front text : List ℕ) → 1048576 < length front → 1048576 < length text → (k at : ℕ) → IsNotRun front k at → IsNotRun text k at
+pub not_run_long : (front text : List ℕ) → 1048576 < length front → 1048576 < length text → (k at : ℕ) → IsRunRefusal front k at → IsRunRefusal text k at
 not_run_long front text short long k at (inl h) = inl (refused_long front text short long k at h)
 not_run_long front text short long k at (inr h) = accepted_short front h.1.source h.1.program short h.1.accepted
 

@@ -5,14 +5,14 @@ use Rattle.std.specs.List.{concat}
 use Rattle.std.proofs.lemmas.Bool.Decides.{nat_tests}
 use Rattle.std.proofs.lemmas.List.{length-append, take_all}
 use Rattle.std.proofs.lemmas.List.Folds.{concat-append}
-use Rattle.grin_io.specs.Memory.{Calls, Store, raised, called, faulted, is_stored, after_put}
-use Rattle.grin_io.specs.Changes.{of_sink, Puts, BrokeOff}
+use Rattle.grin_io.specs.Memory.{CallSchedule, Store, raised, called, faulted, is_stored, after_put}
+use Rattle.grin_io.specs.Changes.{sink_change, PutsPieces, PutFailed}
 
 -- what the sink says of a put
 abbrev pub Stores : Store → List ℕ → Bool → Store → Type 0
 Stores s piece whole t = (whole ≡ is_stored s piece) × (t ≡ after_put s piece)
 
-abbrev pub calls_of : (made faults : ℕ) → Calls
+abbrev pub calls_of : (made faults : ℕ) → CallSchedule
 calls_of made faults = record { planned = []; made = made; faults = faults }
 
 abbrev pub store_of : (taken : List ℕ) (made faults : ℕ) → Store
@@ -58,14 +58,14 @@ put_short s t bytes piece h g =
 
 -- ---- puts one after the other
 
-pub puts_hold : (pieces : List (List ℕ)) (s t : Store) (bytes : List ℕ) → Holds s bytes → Puts Stores s pieces t → Holds t (bytes ++ concat pieces)
+pub puts_hold : (pieces : List (List ℕ)) (s t : Store) (bytes : List ℕ) → Holds s bytes → PutsPieces Stores s pieces t → Holds t (bytes ++ concat pieces)
 puts_hold [] s t bytes h e = subst (λ b. Holds t b) (sym (append-nil bytes)) (subst (λ (s : Store). Holds s bytes) e h)
 puts_hold (piece ∷ pieces) s t bytes h f =
     let next = puts_hold pieces f.0 t (bytes ++ piece) (put_whole s f.0 bytes piece h f.1) f.2 in
     subst (λ b. Holds t b) (append_assoc bytes piece (concat pieces)) next
 
 -- where a put of those that were due failed, they are more than 4,096 bytes
-pub broke_is_long : (old new : Store) (due : List (List ℕ)) → Holds old [] → BrokeOff (of_sink Stores (λ (s : Store). Some s.taken) (λ (s : Store). s.calls.faults) old new) due
+pub broke_is_long : (old new : Store) (due : List (List ℕ)) → Holds old [] → PutFailed (sink_change Stores (λ (s : Store). Some s.taken) (λ (s : Store). s.calls.faults) old new) due
     → 4096 < length (concat due)
 broke_is_long old new due h b =
     let held = puts_hold b.front old b.last [] h b.puts in

@@ -8,9 +8,9 @@ use Rattle.text_commands.specs.declared.accept.Accepted.{Accepted}
 use mathlib.Core.Logic.{inl, inr}
 use Rattle.text_commands.specs.declared.status.Status.{Status}
 use Rattle.text_commands.specs.declared.status.Status.TheVariants.{Done, Refused, OutOfMemory, WriteFault}
-use Rattle.text_commands.specs.Text.{IsAcceptedAs, IsUnaccepted}
-use Rattle.grin_driver.specs.Outcome.{IsUnmade}
-use Rattle.grin_driver.specs.Generating.{summary, IsDefaultImageOf, IsOutput, IsUndone, IsSummary, IsUnsummed, Generates}
+use Rattle.text_commands.specs.Text.{IsAcceptedAs, IsAcceptFailure}
+use Rattle.grin_driver.specs.Outcome.{IsBuildFailure}
+use Rattle.grin_driver.specs.Generating.{summary, IsDefaultImageOf, IsOutput, IsUndone, IsSummary, IsGenerateFailure, Generates}
 use Rattle.seq.specs.Lists.{sum_of}
 
 -- the summary, put together of named numbers
@@ -44,23 +44,23 @@ summary_from text file bytes out kept accepted from source_is program_is output 
 
 -- ---- why there is none
 
-pub unmade_is_unsummed : (text : List ℕ) (status : Status) → IsUnmade text status → IsUnsummed text status
+pub unmade_is_unsummed : (text : List ℕ) (status : Status) → IsBuildFailure text status → IsGenerateFailure text status
 unmade_is_unsummed text (Refused k at) h = inl h
 unmade_is_unsummed text OutOfMemory h = h
 unmade_is_unsummed text _ h = absurd h
 
-pub unaccepted_is_unsummed : (text : List ℕ) (status : Status) → IsUnaccepted text status → IsUnsummed text status
+pub unaccepted_is_unsummed : (text : List ℕ) (status : Status) → IsAcceptFailure text status → IsGenerateFailure text status
 unaccepted_is_unsummed text (Refused k at) h = inl (inl h)
 unaccepted_is_unsummed text OutOfMemory h = h
 unaccepted_is_unsummed text _ h = absurd h
 
-pub undone_is_unsummed : (text file : List ℕ) (from : IsDefaultImageOf text file) (status : Status) → IsUndone from status → IsUnsummed text status
+pub undone_is_unsummed : (text file : List ℕ) (from : IsDefaultImageOf text file) (status : Status) → IsUndone from status → IsGenerateFailure text status
 undone_is_unsummed text file from (Refused k at) h = inr (file, (from, h))
 undone_is_unsummed text file from OutOfMemory h = tt
 undone_is_unsummed text file from status h = (file, (from, h))
 
 -- nothing was put where there is none
-pub unsummed_is_generated : {K : Type 0} (o : SinkChange K) (text : List ℕ) (status : Status) → IsUnsummed text status → o.new ≡ o.old → Generates o text status
+pub unsummed_is_generated : {K : Type 0} (o : SinkChange K) (text : List ℕ) (status : Status) → IsGenerateFailure text status → o.new ≡ o.old → Generates o text status
 unsummed_is_generated o text Done h same = absurd h.1.1
 unsummed_is_generated o text WriteFault h same = absurd h.1.1
 unsummed_is_generated o text status h same = (h, same)

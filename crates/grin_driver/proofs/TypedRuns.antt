@@ -8,15 +8,15 @@ use Rattle.core_reader.specs.RulesOf as reading
 use Rattle.core_reader.proofs.Unbroken.{unbroken_is_readable}
 use Rattle.core_print.specs.Canonical.{canonical}
 use Rattle.core_print.specs.Same.{SameProgram}
-use Rattle.core_print.specs.Laws.{CanonicalStands}
+use Rattle.core_print.specs.Laws.{CanonicalTextReadsBack}
 use Rattle.core_types.specs.Source.{erased}
-use Rattle.arity_check.specs.One.{OneNormalForm}
+use Rattle.arity_check.specs.One.{NormalFormIsUnique}
 use Rattle.arity_check.specs.Program.{Program}
-use Rattle.core_meaning.specs.Told.{of_core, end_of}
+use Rattle.core_meaning.specs.Told.{core_program_meaning, meaning_end}
 use Rattle.core_meaning.specs.Printing as core
 use Rattle.core_meaning.specs.Printing.{Done, Unaccepted, Going, printed}
 use Rattle.core_link.proofs.Kept.{same_programs_print_the_same}
-use Rattle.headline.specs.Carries.{no_alternative, Told, Machine, IsBytes, Finishes, Carries, exits}
+use Rattle.headline.specs.Carries.{no_alternative, MeaningResult, Machine, IsBytes, Finishes, Carries, exits}
 use Rattle.type_meaning.specs.Laws.{NeverStuck}
 use Rattle.text_commands.specs.Text.{IsAccepted}
 use Rattle.text_commands.specs.Typing.{IsTypedText}
@@ -27,17 +27,17 @@ use Rattle.grin_driver.proofs.Outcomes.{carried}
 
 -- ---- machines
 
-unaccepted : (e : core.End) → end_of e ≡ no_alternative → e ≡ Unaccepted
+unaccepted : (e : core.PrintingEnd) → meaning_end e ≡ no_alternative → e ≡ Unaccepted
 unaccepted Going h = absurd cc
 unaccepted Done h = absurd cc
 unaccepted Unaccepted h = refl
 
 -- a machine that carries a program that is never stuck never exits with 3
-never_exits_with_3 : (HeapFull StackFull : Told → Type 0) (p : Program) (seen : Machine) → NeverStuck p → Carries HeapFull StackFull (of_core p) seen
+never_exits_with_3 : (HeapFull StackFull : MeaningResult → Type 0) (p : Program) (seen : Machine) → NeverStuck p → Carries HeapFull StackFull (core_program_meaning p) seen
     → (i : List ℕ) → IsBytes i → (m : ℕ) → (seen i m).finish ≢ exits 3
 never_exits_with_3 HeapFull StackFull p seen never carries i bytes m e =
     let comes = carries.comes i bytes m in
-    let h = subst (λ f. Finishes HeapFull StackFull (of_core p i) comes.0 (seen i m) f) e comes.1.finish in
+    let h = subst (λ f. Finishes HeapFull StackFull (core_program_meaning p i) comes.0 (seen i m) f) e comes.1.finish in
     never i comes.0 (unaccepted (printed p i comes.0).end h.2)
 
 -- ---- texts
@@ -50,7 +50,7 @@ accepted_is_short text read = elim (le_or_lt (length text) 1048576) [
 ]
 
 -- the written text stands for a program that puts out what the one with types does
-written_is_never_stuck : OneNormalForm → CanonicalStands → (text written : List ℕ) (typed : IsTypedText text written)
+written_is_never_stuck : NormalFormIsUnique → CanonicalTextReadsBack → (text written : List ℕ) (typed : IsTypedText text written)
     → (source : tree.Program) (p : Program) → IsAccepted written source p → NeverStuck p
 written_is_never_stuck one stands text written typed source p accepted i n stuck =
     let erased_program = erased typed.source in
@@ -61,6 +61,6 @@ written_is_never_stuck one stands text written typed source p accepted i n stuck
     let alike = same_programs_print_the_same one erased_program source same typed.readable readable typed.program p typed.normal accepted.normal i n in
     typed.never_stuck i n (ap (λ t. t.end) alike ∙ stuck)
 
-pub typed_never_exits : OneNormalForm → CanonicalStands → TypedNeverExits
+pub typed_never_exits : NormalFormIsUnique → CanonicalTextReadsBack → TypedNeverExits
 typed_never_exits one stands text written typed cells stack file from image loads =
     never_exits_with_3 _ _ from.program _ (written_is_never_stuck one stands text written typed from.source from.program from.accepted) (carried written cells stack file from image loads)

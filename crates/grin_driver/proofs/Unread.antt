@@ -7,10 +7,10 @@ use Rattle.arity_check.specs.declared.normal.Flat.{Flat}
 use Rattle.arity_check.specs.declared.normal.Flat.TheVariants as flat
 use Rattle.arity_check.specs.Program.{Program, Function, Term, App, Let, Case, Branches, NoMore, OnCon, OnInt, OnAny}
 use Rattle.core_meaning.specs.Heap.{Value, Int, Con, Part, Delayed, Call, Apply, Prim, Global, Input, Binding, Known, Waiting, Heap, Env, with_local, with_locals}
-use Rattle.core_meaning.specs.Numbers.{operate}
-use Rattle.core_meaning.specs.Evaluation.{State, Answer, Gives, NoAlternative, OutOfBound, and_then, with_number, is_con, fields_of, is_int, spend_of, spend, append, update, Onward, force_binding, force, give, give_all, apply, prim, form, eval, select, enter_body, parameters, proceed, within, with_group, binding, params, nil, cons, global, globals, start}
-use Rattle.core_meaning.specs.Printing.{Printed, End, Unaccepted, Going, stops, on_value, on_list, on_byte, print, printed_from_input, printed}
-use Rattle.core_meaning.specs.Told.{of_core}
+use Rattle.core_meaning.specs.Numbers.{primitive_result}
+use Rattle.core_meaning.specs.Evaluation.{State, Answer, Gives, NoAlternative, OutOfBound, and_then, with_number, is_con, fields_of, is_int, spend_of, spend, append, update, DelayedEvaluator, force_binding, force, give, give_all, apply, prim, form, eval, select, enter_body, parameters, proceed, within, with_group, binding, params, nil, cons, global, globals, start}
+use Rattle.core_meaning.specs.Printing.{PrintedRun, PrintingEnd, Unaccepted, Going, stops, on_value, on_list, on_byte, print, printed_from_input, printed}
+use Rattle.core_meaning.specs.Told.{core_program_meaning}
 
 -- ---- heaps in which nothing waits for the input
 
@@ -84,7 +84,7 @@ spend_dry : (n d : ℕ) (s : State) (go : State → Answer) → Dries go → Dry
 spend_dry zero d s go g h = h
 spend_dry (suc n) d s go g h = g _ (record { heap = h.heap; used = h.used })
 
-module _ (p : Program) (onward : Onward) (on : (t : Delayed) → IsOtherForm t → (d : ℕ) → Dries (onward t d)) where
+module _ (p : Program) (onward : DelayedEvaluator) (on : (t : Delayed) → IsOtherForm t → (d : ℕ) → Dries (onward t d)) where
   binding_dry : (b : Option Binding) → IsOtherThere b → (a d : ℕ) → Dries (force_binding p onward b a d)
   binding_dry None other a d s h = h
   binding_dry (Some (Known v)) other a d s h = h
@@ -168,16 +168,16 @@ within_dry p (suc n) t other d s h = spend_dry s.left d s (proceed p (within p n
 
 -- ---- the printing loop
 
-value_dry : (a : Answer) (out : List ℕ) (go : Value → State → Printed) → Dry (state_of a) → ((v : Value) (s : State) → Dry s → (go v s).used ≡ 0) → (on_value a out go).used ≡ 0
+value_dry : (a : Answer) (out : List ℕ) (go : Value → State → PrintedRun) → Dry (state_of a) → ((v : Value) (s : State) → Dry s → (go v s).used ≡ 0) → (on_value a out go).used ≡ 0
 value_dry (Gives v s) out go h g = g v s h
 value_dry (NoAlternative s) out go h g = h.used
 value_dry (OutOfBound s) out go h g = h.used
 
-if_used : (b : Bool) (x y : Printed) → x.used ≡ 0 → y.used ≡ 0 → (let r : Printed = elim b [ true ↦ x | false ↦ y ] in r.used) ≡ 0
+if_used : (b : Bool) (x y : PrintedRun) → x.used ≡ 0 → y.used ≡ 0 → (let r : PrintedRun = elim b [ true ↦ x | false ↦ y ] in r.used) ≡ 0
 if_used true x y h g = h
 if_used false x y h g = g
 
-list_dry : (n c : ℕ) (v : Value) (out : List ℕ) (s : State) (go : ℕ → ℕ → Printed) → Dry s → ((h t : ℕ) → (go h t).used ≡ 0) → (on_list n c v out s go).used ≡ 0
+list_dry : (n c : ℕ) (v : Value) (out : List ℕ) (s : State) (go : ℕ → ℕ → PrintedRun) → Dry s → ((h t : ℕ) → (go h t).used ≡ 0) → (on_list n c v out s go).used ≡ 0
 list_dry n c (Int k) out s go h g = h.used
 list_dry n c (Part f xs) out s go h g = h.used
 list_dry n c (Con d []) out s go h g = h.used
@@ -185,7 +185,7 @@ list_dry n c (Con d (x ∷ [])) out s go h g = h.used
 list_dry n c (Con d (x ∷ t ∷ [])) out s go h g = if_used (d == c) (go x t) (stops out Unaccepted s) (g x t) h.used
 list_dry n c (Con d (x ∷ t ∷ u ∷ xs)) out s go h g = h.used
 
-byte_dry : (v : Value) (out : List ℕ) (s : State) (go : ℕ → Printed) → Dry s → ((b : ℕ) → (go b).used ≡ 0) → (on_byte v out s go).used ≡ 0
+byte_dry : (v : Value) (out : List ℕ) (s : State) (go : ℕ → PrintedRun) → Dry s → ((b : ℕ) → (go b).used ≡ 0) → (on_byte v out s go).used ≡ 0
 byte_dry (Int k) out s go h g = g _
 byte_dry (Con c xs) out s go h g = h.used
 byte_dry (Part f xs) out s go h g = h.used
@@ -207,9 +207,9 @@ globals_other p (g ∷ fs) f = append_other _ (globals p fs (suc f)) (one (g.par
     one false = tt
 
 printed_dry : (p : Program) (i : List ℕ) (n : ℕ) (b : Bool) → b ≡ true
-    → (let r : Printed = elim b [ true ↦ print p n (global p p.main) [] (start p i n) | false ↦ printed_from_input p i n ] in r.used) ≡ 0
+    → (let r : PrintedRun = elim b [ true ↦ print p n (global p p.main) [] (start p i n) | false ↦ printed_from_input p i n ] in r.used) ≡ 0
 printed_dry p i n true e = print_dry p n (global p p.main) [] (start p i n) (record { heap = globals_other p p.funs 0; used = refl })
 printed_dry p i n false e = cc
 
-pub takes_no_byte : (p : Program) → params p p.main ≡ 0 → (i : List ℕ) (n : ℕ) → (of_core p i n).used ≡ 0
+pub takes_no_byte : (p : Program) → params p p.main ≡ 0 → (i : List ℕ) (n : ℕ) → (core_program_meaning p i n).used ≡ 0
 takes_no_byte p none i n = printed_dry p i n (params p p.main == 0) (λ j. none j == 0)

@@ -2,12 +2,12 @@
 use Rattle.std.specs.Prelude.{ℕ, List}
 use Rattle.grin_io.specs.Changes.{SinkChange}
 use Rattle.text_commands.specs.declared.status.Status.{Status}
-use Rattle.grin_driver.specs.Outcome.{IsNotRun, IsImageOf}
+use Rattle.grin_driver.specs.Outcome.{IsRunRefusal, IsImageOf}
 use Rattle.text_commands.specs.Writing.{Writes}
 
 -- The status of a text whose image is put, with so many cells and bytes of stack, and what became
 -- of the sink: puts of the image's pieces, and none at a refusal or for want of memory.
-abbrev pub Builds :
+abbrev pub IsBuildOutcome :
     {K : Type 0} → SinkChange K → (text : List ℕ) → (cells stack : ℕ) → Status → Type 0
-Builds o text cells stack status =
-    Writes (λ text. IsImageOf text cells stack) IsNotRun o text status
+IsBuildOutcome o text cells stack status =
+    Writes (λ text. IsImageOf text cells stack) IsRunRefusal o text status

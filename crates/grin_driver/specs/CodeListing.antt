@@ -2,12 +2,13 @@
 use Rattle.std.specs.Prelude.{◌≡◌, ℕ, ◌+◌, ◌/◌, ◌%◌, List, [], ◌∷◌, ◌++◌, codes, nat_lt, if◌then◌else◌, Option, Some, None}
 use Rattle.rv32_isa.specs.declared.instr.Instr.{Instr}
 use Rattle.rv32_isa.specs.Table.{instr_of}
-use Rattle.rv32_isa.specs.Text.{text_of}
+use Rattle.rv32_isa.specs.Text.{assembly_text}
 use Rattle.rv32_layout.specs.Places.{AllDecode}
 use Rattle.grin_io.specs.Changes.{SinkChange}
 use Rattle.text_commands.specs.declared.status.Status.{Status}
-use Rattle.grin_driver.specs.Outcome.{IsNotRun, IsImageOf}
+use Rattle.grin_driver.specs.Outcome.{IsRunRefusal, IsImageOf}
 use Rattle.text_commands.specs.Writing.{Writes}
+use Rattle.limits.specs.Limits.{code_start}
 
 -- ---- the lines
 
@@ -24,24 +25,24 @@ hex_word n =
     ∷ hex_digit (n / 0x10 % 16) ∷ hex_digit (n % 16) ∷ []
 
 -- the text of an instruction, if there is one
-abbrev pub shown : Option Instr → List ℕ
-shown None = []
-shown (Some i) = text_of i
+abbrev pub instr_text : Option Instr → List ℕ
+instr_text None = []
+instr_text (Some i) = assembly_text i
 
 -- the address of a word, the word, and the text of its instruction
 unfoldable pub code_line : (address word : ℕ) → List ℕ
 code_line address word =
     hex_word address ++ (codes " " ++ (hex_word word ++ (codes " "
-    ++ (shown (instr_of word) ++ codes "\n"))))
+    ++ (instr_text (instr_of word) ++ codes "\n"))))
 
 -- a line for each word, of which the first stands at this address
 abbrev pub lines_from : (address : ℕ) → List ℕ → List ℕ
 lines_from address [] = []
 lines_from address (word ∷ words) = code_line address word ++ lines_from (address + 4) words
 
--- the listing of the code of an image, which begins at 65536
+-- the listing of the code of an image
 abbrev pub code_listing : List ℕ → List ℕ
-code_listing words = lines_from 65536 words
+code_listing words = lines_from code_start words
 
 -- ---- of a text
 
@@ -62,7 +63,7 @@ pub record IsCodeListing (text : List ℕ) (cells stack : ℕ) (bytes : List ℕ
 
 -- The status of a text whose code is listed, and what became of the sink: puts of the listing's
 -- pieces, and none at a refusal or for want of memory.
-abbrev pub ListsCode :
+abbrev pub IsCodeListOutcome :
     {K : Type 0} → SinkChange K → (text : List ℕ) → (cells stack : ℕ) → Status → Type 0
-ListsCode o text cells stack status =
-    Writes (λ text. IsCodeListing text cells stack) IsNotRun o text status
+IsCodeListOutcome o text cells stack status =
+    Writes (λ text. IsCodeListing text cells stack) IsRunRefusal o text status

@@ -5,24 +5,25 @@ use Rattle.elf32.specs.Image.{Image}
 use Rattle.elf32.specs.Rules.{Loads}
 use Rattle.command_line.specs.Commands.{CommandLine, RunFile, ExecImage}
 use Rattle.headline.specs.Carries.{IsBytes}
-use Rattle.grin_io.specs.Causes.{Rose}
-use Rattle.grin_io.specs.Changes.{Told, ShelfChange, SourceChange, SinkChange, of_sink, BeginsWith}
+use Rattle.grin_io.specs.Causes.{CountGrew}
+use Rattle.grin_io.specs.Changes.{KnownContent, ShelfChange, SourceChange, SinkChange, sink_change, BeginsWith}
 use Rattle.grin_syntax.specs.SameOutside.{names_of}
 use Rattle.rv32_machine.specs.Steps.{State, reg, start_of}
-use Rattle.rv32_machine.specs.Runs.{End, Going, Exited as exited, Stopped, run, IsCount}
+use Rattle.rv32_machine.specs.Runs.{MachineEnd, Going, Exited as exited, Stopped, run, IsCount}
 use Rattle.rv32_machine.specs.declared.machine.Stop.{Stop}
 use Rattle.rv32_steps.specs.Trace.{trace, IsLastBefore}
 use Rattle.text_commands.specs.declared.status.Status.{Status}
 use Rattle.text_commands.specs.declared.status.Status.TheVariants.{Done, NoAlternative, HeapFull, StackFull, StepLimit, Exited, Trapped}
-use Rattle.text_commands.specs.Operands.{OfFile, most_of_text}
-use Rattle.text_commands.specs.Telling.{IsOnePut, IsTold}
+use Rattle.text_commands.specs.Operands.{HoldsOfFileBytes, text_read_limit}
+use Rattle.text_commands.specs.Telling.{IsSinglePut, StatusIsPrinted}
 use Rattle.grin_compile.specs.Limits.{heap_bytes}
-use Rattle.grin_driver.specs.Standing.{IsPlace}
+use Rattle.grin_driver.specs.Standing.{IsPlaceLine}
 use Rattle.grin_driver.specs.Execution.{OfGiven, Stops, status_of}
 use Rattle.grin_driver.specs.Outcome.{Runs}
-use Rattle.grin_driver.specs.Answer.{most_of_image}
-use Rattle.grin_driver.specs.declared.cost.Counts.{Counts}
+use Rattle.grin_driver.specs.Answer.{image_read_limit}
+use Rattle.grin_driver.specs.declared.cost.RunCounts.{RunCounts}
 use Rattle.grin_driver.specs.declared.cost.Cost.{Cost}
+use Rattle.limits.specs.Limits.{heap_start}
 
 -- the run came to its end, or all its steps are done
 abbrev pub has_stopped : Status → Bool
@@ -38,14 +39,14 @@ has_stopped _ = false
 -- ---- what is counted of a run
 
 -- the state in which a run stands
-abbrev pub state_at : End → State
+abbrev pub state_at : MachineEnd → State
 state_at (Going s) = s
 state_at (exited code s) = s
 state_at (Stopped kind s) = s
 
 -- On whatever input begins with the bytes that were given, so many instructions of the program's
 -- run are done, and at its end x3 and x5 are these.
-pub record AreCounts (program : Image) (steps : ℕ) (given : List ℕ) (ended : Bool) (c : Counts)
+pub record AreCounts (program : Image) (steps : ℕ) (given : List ℕ) (ended : Bool) (c : RunCounts)
     : Type 0 where
   pub done : (bytes : List ℕ) → BeginsWith given ended bytes
       → IsCount c.instructions steps bytes (start_of program)
@@ -64,64 +65,64 @@ StoodLast program steps given ended stops at =
 
 -- the cells that stand before an address; where the heap is full, x3 may be past its end
 abbrev pub cells_before : (cell_bytes cells next_cell : ℕ) → ℕ
-cells_before cell_bytes cells next_cell = min ((next_cell - 0x50000000) / cell_bytes) cells
+cells_before cell_bytes cells next_cell = min ((next_cell - heap_start) / cell_bytes) cells
 
 -- the cost of a run that ended so, by its counts, whose last step in the code of procedures stood
 -- at `at`. The image has so many bytes in a cell, and so many cells, and its procedures start at
 -- these addresses and have these names
 pub record IsRunCost (cell_bytes cells : ℕ) (starts : List ℕ) (names : List (List ℕ))
-    (status : Status) (at : ℕ) (c : Counts) (cost : Cost) : Type 0 where
+    (status : Status) (at : ℕ) (c : RunCounts) (cost : Cost) : Type 0 where
   pub instructions : cost.instructions ≡ c.instructions
   pub cells_bound : cost.cells ≡ Some (cells_before cell_bytes cells c.next_cell)
-  pub place : IsPlace starts names status at cost.place
+  pub place : IsPlaceLine starts names status at cost.place
 
 -- there is a cost just where there are counts, of which x5 tells the last step: it stood 4 before
 abbrev pub IsCostOf : (cell_bytes cells : ℕ) → (starts : List ℕ) → (names : List (List ℕ))
-    → Status → Option Counts → Option Cost → Type 0
+    → Status → Option RunCounts → Option Cost → Type 0
 IsCostOf cell_bytes cells starts names status None None = Unit {0}
 IsCostOf cell_bytes cells starts names status (Some c) (Some cost) =
     IsRunCost cell_bytes cells starts names status (c.link - 4) c cost
 IsCostOf cell_bytes cells starts names status _ _ = ⊥
 
 -- the cost of an executable, of whose cells and procedures nothing is known
-abbrev pub exec_cost : Counts → Cost
+abbrev pub exec_cost : RunCounts → Cost
 exec_cost c = record { instructions = c.instructions; cells = None; place = None }
 
 -- ---- a run from a source to a sink
 
 module _ {I K : Type 0} (i : SourceChange I) (o : SinkChange K) where
   -- the run of a program stopped as the status says, and has these counts
-  abbrev pub StopsWithin : (program : Image) → (steps : ℕ) → Status → Counts → Type 0
+  abbrev pub StopsWithin : (program : Image) → (steps : ℕ) → Status → RunCounts → Type 0
   StopsWithin program steps status c =
       (stop : Stop) × (status_of stop ≡ status)
       × OfGiven i o (λ given ended. Stops i o program steps stop given ended
       × AreCounts program steps given ended c)
 
   -- there are counts just where the run of a program stopped
-  abbrev pub CountsRun : (program : Image) → (steps : ℕ) → Status → Option Counts → Type 0
+  abbrev pub CountsRun : (program : Image) → (steps : ℕ) → Status → Option RunCounts → Type 0
   CountsRun program steps status None = has_stopped status ≡ false
   CountsRun program steps status (Some c) = StopsWithin program steps status c
 
   -- the counts of the program of a file
-  abbrev pub Counted : (bytes : List ℕ) → (steps : ℕ) → Status → Counts → Type 0
+  abbrev pub Counted : (bytes : List ℕ) → (steps : ℕ) → Status → RunCounts → Type 0
   Counted bytes steps status c =
       (program : Image) × Loads bytes program × StopsWithin program steps status c
 
-  abbrev pub CountsExecution : (bytes : List ℕ) → (steps : ℕ) → Status → Option Counts → Type 0
+  abbrev pub CountsExecution : (bytes : List ℕ) → (steps : ℕ) → Status → Option RunCounts → Type 0
   CountsExecution bytes steps status None = has_stopped status ≡ false
   CountsExecution bytes steps status (Some c) = Counted bytes steps status c
 
   -- what the run of the program of a file cost
   abbrev pub CostsExecution : (bytes : List ℕ) → (steps : ℕ) → Status → Cost → Type 0
   CostsExecution bytes steps status cost =
-      (c : Counts) × (cost ≡ exec_cost c) × Counted bytes steps status c
+      (c : RunCounts) × (cost ≡ exec_cost c) × Counted bytes steps status c
 
   -- What the run of a text cost, which is the one that the status speaks of. Where it found no
   -- alternative, its last step in the code of procedures, which ends at `stops`, stood at `at`.
   pub record CostsRun (text : List ℕ) (cells stack steps : ℕ) (status : Status) (cost : Cost)
       : Type 0 where
     pub runs : Runs i o text cells stack steps status
-    pub counts : Counts
+    pub counts : RunCounts
     pub are : AreCounts runs.image steps runs.given runs.ended counts
     pub at : ℕ
     pub stood : status ≡ NoAlternative → StoodLast runs.image steps runs.given runs.ended
@@ -150,16 +151,16 @@ module _ {F I K : Type 0} (f : ShelfChange F) (i : SourceChange I) (o : SinkChan
       → Status → Option Cost → Type 0
   OfRun most file Costs status None = has_stopped status ≡ false
   OfRun most file Costs status (Some cost) =
-      (has_stopped status ≡ true) × OfFile f most file (λ bytes. Costs bytes status cost)
+      (has_stopped status ≡ true) × HoldsOfFileBytes f most file (λ bytes. Costs bytes status cost)
 
   -- There is a cost just where one is asked for and the run stopped, and it is that of this run.
   abbrev pub CostOf : Option CommandLine → Status → Option Cost → Type 0
   CostOf command status None = (asks_cost command && has_stopped status) ≡ false
   CostOf (Some (RunFile file cells stack steps stats)) status (Some cost) =
-      (stats ≡ true) × OfRun most_of_text file
+      (stats ≡ true) × OfRun text_read_limit file
       (λ text status cost. CostsRun i o text cells stack steps status cost) status (Some cost)
   CostOf (Some (ExecImage image steps stats)) status (Some cost) =
-      (stats ≡ true) × OfRun most_of_image image
+      (stats ≡ true) × OfRun image_read_limit image
       (λ bytes status cost. CostsExecution i o bytes steps status cost) status (Some cost)
   CostOf _ status (Some cost) = ⊥
 
@@ -176,23 +177,24 @@ cost_line cost =
     ++ (decimal cost.instructions ++ (cells_text cost.cells ++ codes "\n"))
 
 -- A line is told: by one put, and where the sink's count did not rise it took just the line.
-pub record IsLineTold {K : Type 0} (o : SinkChange K) (line : List ℕ) : Type 0 where
-  pub puts : IsOnePut o line
+pub record LineIsPrinted {K : Type 0} (o : SinkChange K) (line : List ℕ) : Type 0 where
+  pub puts : IsSinglePut o line
   pub later : o.faults o.old ≤ o.faults o.new
-  pub took : Rose (o.faults o.old) (o.faults o.new)
-      ⊎ Told (o.taken o.old) (λ before. o.taken o.new ≡ Some (before ++ line))
+  pub took : CountGrew (o.faults o.old) (o.faults o.new)
+      ⊎ KnownContent (o.taken o.old) (λ before. o.taken o.new ≡ Some (before ++ line))
 
 -- a line is told, and behind it another one, where there is one
-abbrev pub TellsLines : {K : Type 0} → SinkChange K → List ℕ → Option (List ℕ) → Type 0
-TellsLines o line None = IsLineTold o line
-TellsLines {K} o line (Some more) =
-    (between : K) × IsLineTold (of_sink o.gives o.taken o.faults o.old between) line
-    × IsLineTold (of_sink o.gives o.taken o.faults between o.new) more
+abbrev pub LinesArePrinted : {K : Type 0} → SinkChange K → List ℕ → Option (List ℕ) → Type 0
+LinesArePrinted o line None = LineIsPrinted o line
+LinesArePrinted {K} o line (Some more) =
+    (between : K) × LineIsPrinted (sink_change o.gives o.taken o.faults o.old between) line
+    × LineIsPrinted (sink_change o.gives o.taken o.faults between o.new) more
 
 -- the line of the status is told, and behind it, where there is a cost, its line and that of the
 -- place where the image stood, if there is one
-abbrev pub TellsBoth : {K : Type 0} → SinkChange K → Status → Option Cost → Type 0
-TellsBoth {K} o status None = IsTold o status
-TellsBoth {K} o status (Some cost) =
-    (between : K) × IsTold (of_sink o.gives o.taken o.faults o.old between) status
-    × TellsLines (of_sink o.gives o.taken o.faults between o.new) (cost_line cost) cost.place
+abbrev pub StatusAndCostArePrinted : {K : Type 0} → SinkChange K → Status → Option Cost → Type 0
+StatusAndCostArePrinted {K} o status None = StatusIsPrinted o status
+StatusAndCostArePrinted {K} o status (Some cost) =
+    (between : K) × StatusIsPrinted (sink_change o.gives o.taken o.faults o.old between) status
+    × LinesArePrinted (sink_change o.gives o.taken o.faults between o.new)
+    (cost_line cost) cost.place

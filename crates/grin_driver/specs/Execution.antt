@@ -5,11 +5,11 @@ use Rattle.elf32.specs.Rules as elf
 use Rattle.elf32.specs.Rules.{Breaks, KeepsBelow, Loads}
 use Rattle.elf32.specs.declared.refusal.ElfRefusal.{ElfRefusal}
 use Rattle.elf32.specs.declared.refusal.ElfRefusal.TheVariants.{SegmentOutside, SegmentsOverlap}
-use Rattle.grin_io.specs.Changes.{SourceChange, SinkChange, BeginsWith, GaveAll, GaveTo, TookAll, Broke, Raised}
+use Rattle.grin_io.specs.Changes.{SourceChange, SinkChange, BeginsWith, ReadExactly, SourceAtFault, TookExactly, SinkAtFault, FaultWasCounted}
 use Rattle.grin_io.specs.declared.outside.Fault.{Fault}
 use Rattle.grin_io.specs.declared.outside.Fault.TheVariants.{Read, Write}
 use Rattle.rv32_machine.specs.Steps.{start_of}
-use Rattle.rv32_machine.specs.Runs.{End, Going, Exited as exited, Stopped, run, pieces, used, AsksForMore}
+use Rattle.rv32_machine.specs.Runs.{MachineEnd, Going, Exited as exited, Stopped, run, pieces, used, AsksForMore}
 use Rattle.rv32_machine.specs.declared.machine.Stop.{Stop}
 use Rattle.rv32_machine.specs.declared.machine.Stop.TheVariants.{Steps, Exit, Trap}
 use Rattle.text_commands.specs.declared.status.Status.{Status}
@@ -30,10 +30,10 @@ pub record IsUnloadable (bytes : List ℕ) (rule number : ℕ) : Type 0 where
   pub number_is : shown_number refusal ≡ number
 
 -- why there is no program
-abbrev pub IsUnloaded : (bytes : List ℕ) → Status → Type 0
-IsUnloaded bytes (Refused rule number) = IsUnloadable bytes rule number
-IsUnloaded bytes OutOfMemory = Unit {0}
-IsUnloaded bytes _ = ⊥
+abbrev pub IsExecLoadFailure : (bytes : List ℕ) → Status → Type 0
+IsExecLoadFailure bytes (Refused rule number) = IsUnloadable bytes rule number
+IsExecLoadFailure bytes OutOfMemory = Unit {0}
+IsExecLoadFailure bytes _ = ⊥
 
 -- the status that names an answer of the machine
 abbrev pub status_of : Stop → Status
@@ -43,7 +43,7 @@ status_of (Exit (suc code)) = Exited (suc code)
 status_of (Trap kind pc) = Trapped kind pc
 
 -- the machine's answer at the place where a run stands
-abbrev pub stop_at : End → Stop
+abbrev pub stop_at : MachineEnd → Stop
 stop_at (Going s) = Steps
 stop_at (exited code s) = Exit code
 stop_at (Stopped kind s) = Trap kind s.pc
@@ -56,30 +56,30 @@ module _ {I K : Type 0} (i : SourceChange I) (o : SinkChange K) where
   OfGiven Holds = (given : List ℕ) × ((ended : Bool) × Holds given ended)
 
   -- The source gave just these bytes, and the sink took just the pieces that the run puts: on
-  -- whatever input begins with these bytes, the run stopped so, and used just these. The end was met
-  -- only where the run asks for more.
+  -- whatever input begins with these bytes, the run stopped so, and used just these. The end was
+  -- met only where the run asks for more.
   pub record Stops (program : Image) (steps : ℕ) (stop : Stop) (given : List ℕ) (ended : Bool)
       : Type 0 where
-    pub gave : GaveAll i given ended
+    pub gave : ReadExactly i given ended
     pub wanted : ended ≡ true → AsksForMore steps (start_of program) given
     pub stands : (bytes : List ℕ) → BeginsWith given ended bytes
         → let r = run steps bytes (start_of program) in
         (stop_at r.end ≡ stop) × (bytes ≡ given ++ r.left)
     pub took : (bytes : List ℕ) → BeginsWith given ended bytes
-        → TookAll o (pieces steps bytes (start_of program))
+        → TookExactly o (pieces steps bytes (start_of program))
 
   -- A call of the source or the sink failed, which was the last one. Before it the source gave just
-  -- these bytes. On whatever input begins with them the run uses these, and the pieces that were put
-  -- were due. The end was met, or a read failed, only where the run asks for more.
+  -- these bytes. On whatever input begins with them the run uses these, and the pieces that were
+  -- put were due. The end was met, or a read failed, only where the run asks for more.
   pub record Fails (program : Image) (steps : ℕ) (fault : Fault) (given : List ℕ) (ended : Bool)
       : Type 0 where
-    pub raised : Raised fault i o
-    pub gave : GaveTo fault i given ended
+    pub raised : FaultWasCounted fault i o
+    pub gave : SourceAtFault fault i given ended
     pub wanted : (ended ≡ true) ⊎ (fault ≡ Read) → AsksForMore steps (start_of program) given
     pub uses : (bytes : List ℕ) → BeginsWith given ended bytes
         → length given ≤ used bytes (run steps bytes (start_of program))
     pub puts : (bytes : List ℕ) → BeginsWith given ended bytes
-        → Broke fault o (pieces steps bytes (start_of program))
+        → SinkAtFault fault o (pieces steps bytes (start_of program))
 
   abbrev pub IsUntouched : Type 0
   IsUntouched = (i.new ≡ i.old) × (o.new ≡ o.old)

@@ -1,13 +1,13 @@
--- What is kept of a compiled program.
+-- What is kept of a text's image.
 use Rattle.std.specs.Prelude.{◌≡◌, ℕ, ◌*◌, ◌≤◌, List}
 use Rattle.grin_syntax.specs.SameOutside.{names_of}
+use Rattle.grin_compile.specs.declared.image.Built.{Built}
 use Rattle.grin_compile.specs.Limits.{heap_bytes}
 use Rattle.grin_driver.specs.Outcome.{IsImageOf}
-use Rattle.grin_driver.specs.declared.image.Built.{Built}
 
 -- an image of the text, the words of a cell, and of each procedure the address at which it starts,
 -- and the name
-pub record IsKept (text : List ℕ) (cells stack : ℕ) (built : Built) : Type 0 where
+pub record IsBuiltImage (text : List ℕ) (cells stack : ℕ) (built : Built) : Type 0 where
   pub from : IsImageOf text cells stack built.image.items
   pub some_width : 1 ≤ built.width
   pub width : heap_bytes from.made.g 1 ≡ 4 * built.width

@@ -3,20 +3,20 @@ use Rattle.std.specs.Prelude.{◌≡◌, ◌≤◌, ◌⊎◌, ℕ, zero, suc, �
 use Rattle.core_reader.specs.Tree as tree
 use Rattle.arity_check.specs.Program.{Program}
 use Rattle.core_meaning.specs.Evaluation.{params}
-use Rattle.core_meaning.specs.Told.{of_core}
+use Rattle.core_meaning.specs.Told.{core_program_meaning}
 use Rattle.elf32.specs.Image.{Image}
 use Rattle.elf32.specs.Rules.{Loads}
-use Rattle.grin_io.specs.Changes.{Told, SourceChange, SinkChange, BeginsWith}
+use Rattle.grin_io.specs.Changes.{KnownContent, SourceChange, SinkChange, BeginsWith}
 use Rattle.grin_io.specs.declared.outside.Fault.TheVariants.{Read, Write}
-use Rattle.headline.specs.Carries.{End, going, done, no_alternative, Told as Telling, IsBytes, Begins, After}
+use Rattle.headline.specs.Carries.{End, going, done, no_alternative, MeaningResult as Telling, IsBytes, IsPrefixOf, ExtendsShorterRun}
 use Rattle.rv32_machine.specs.declared.machine.Stop.TheVariants.{Steps, Exit}
 use Rattle.grin_stages.specs.Stage.{Fits}
-use Rattle.grin_compile.specs.Limits.{HeapOver, StackOver, frame_bound, steps_each, whole_words}
+use Rattle.grin_compile.specs.Limits.{HeapIsExceeded, StackIsExceeded, frame_bound, steps_per_unit, whole_words}
 use Rattle.grin_compile.specs.Made.{Made}
 use Rattle.text_commands.specs.declared.status.Status.{Status}
 use Rattle.text_commands.specs.declared.status.Status.TheVariants.{Done, Refused, NoAlternative, HeapFull, StackFull, StepLimit, Exited, OutOfMemory, ReadFault, WriteFault}
 use Rattle.text_commands.specs.Text.{IsRefusedBy, IsAccepted}
-use Rattle.text_commands.specs.Writing.{IsUnwritten}
+use Rattle.text_commands.specs.Writing.{IsTransformFailure}
 use Rattle.grin_driver.specs.Listing.{IsLargeText}
 use Rattle.grin_driver.specs.Execution.{Stops, Fails, IsUntouched}
 
@@ -24,8 +24,9 @@ use Rattle.grin_driver.specs.Execution.{Stops, Fails, IsUntouched}
 
 -- which rule refuses a run: the first one that the text breaks, else rule 36, at the size of its
 -- program once it is inlined
-abbrev pub IsNotRun : (text : List ℕ) → (rule number : ℕ) → Type 0
-IsNotRun text rule number = IsRefusedBy text rule number ⊎ ((rule ≡ 36) × IsLargeText text number)
+abbrev pub IsRunRefusal : (text : List ℕ) → (rule number : ℕ) → Type 0
+IsRunRefusal text rule number =
+    IsRefusedBy text rule number ⊎ ((rule ≡ 36) × IsLargeText text number)
 
 -- The text breaks no rule, and this is the file of an image that is made of its program, with so
 -- many cells and so many bytes of stack, of which whole words are used.
@@ -37,15 +38,15 @@ pub record IsImageOf (text : List ℕ) (cells stack : ℕ) (file : List ℕ) : T
   pub made : Made program cells (whole_words stack) file
 
 -- why no image is made of a text
-abbrev pub IsUnmade : (text : List ℕ) → Status → Type 0
-IsUnmade text status = IsUnwritten IsNotRun text status
+abbrev pub IsBuildFailure : (text : List ℕ) → Status → Type 0
+IsBuildFailure text status = IsTransformFailure IsRunRefusal text status
 
 -- the status of a run by that of its image: three exits have names of their own
-abbrev pub named : Status → Status
-named (Exited (suc (suc (suc zero)))) = NoAlternative
-named (Exited (suc (suc (suc (suc zero))))) = HeapFull
-named (Exited (suc (suc (suc (suc (suc zero)))))) = StackFull
-named status = status
+abbrev pub status_of_exit : Status → Status
+status_of_exit (Exited (suc (suc (suc zero)))) = NoAlternative
+status_of_exit (Exited (suc (suc (suc (suc zero))))) = HeapFull
+status_of_exit (Exited (suc (suc (suc (suc (suc zero)))))) = StackFull
+status_of_exit status = status
 
 -- ---- its run from a source to a sink
 
@@ -63,7 +64,7 @@ module _ {I K : Type 0} (i : SourceChange I) (o : SinkChange K) where
 
   -- the sink took bytes of which this holds, where it tells what it takes
   abbrev pub Took : (List ℕ → Type 0) → Type 0
-  Took Holds = Told (o.taken o.old) (λ before.
+  Took Holds = KnownContent (o.taken o.old) (λ before.
       (out : List ℕ) × (o.taken o.new ≡ Some (before ++ out)) × Holds out)
 
   -- What a program tells within each number of units on an input that begins with the bytes that
@@ -82,7 +83,7 @@ module _ {I K : Type 0} (i : SourceChange I) (o : SinkChange K) where
     pub record Lacks (Needs : Telling → Type 0) : Type 0 where
       pub units : ℕ
       pub needs : Needs (told units)
-      pub took : Took (λ out. After told units out × Begins out (told units).out)
+      pub took : Took (λ out. ExtendsShorterRun told units out × IsPrefixOf out (told units).out)
       pub gave : length given ≤ (told units).used
 
     -- What was taken begins the program's output within some units, and no more was given than it
@@ -91,16 +92,16 @@ module _ {I K : Type 0} (i : SourceChange I) (o : SinkChange K) where
     -- what was taken.
     pub record Pauses (each steps : ℕ) : Type 0 where
       pub units : ℕ
-      pub took : Took (λ out. Begins out (told units).out)
+      pub took : Took (λ out. IsPrefixOf out (told units).out)
       pub gave : length given ≤ (told units).used
       pub keeps_pace : (n : ℕ) → each * (n + 1) ≤ steps
-          → ((told n).end ≡ going) × Took (λ out. Begins (told n).out out)
+          → ((told n).end ≡ going) × Took (λ out. IsPrefixOf (told n).out out)
 
     -- what was taken begins the program's output within some units, and no more was given than it
     -- used
     pub record Breaks : Type 0 where
       pub units : ℕ
-      pub took : Took (λ out. Begins out (told units).out)
+      pub took : Took (λ out. IsPrefixOf out (told units).out)
       pub gave : length given ≤ (told units).used
 
     -- what the program says of the end of a run; there is no other end
@@ -118,7 +119,8 @@ module _ {I K : Type 0} (i : SourceChange I) (o : SinkChange K) where
 
   -- There is an image of the text that loads. The source gave some bytes, one by one as they were
   -- asked for, and its end was met or not. The status is the end of the image's run, and it is what
-  -- the program says: on these bytes, and on whatever input begins with them, if its end wasn't met.
+  -- the program says: on these bytes, and on whatever input begins with them, if its end wasn't
+  -- met.
   pub record Runs (text : List ℕ) (cells stack steps : ℕ) (status : Status) : Type 0 where
     pub file : List ℕ
     pub from : IsImageOf text cells stack file
@@ -131,13 +133,14 @@ module _ {I K : Type 0} (i : SourceChange I) (o : SinkChange K) where
     pub unread : params from.program from.program.main ≡ 0 → i.new ≡ i.old
     pub ran : RunsTo image steps status given ended
     pub says : (bytes : List ℕ) → BeginsWith given ended bytes → IsBytes bytes
-        → Says (HeapOver cells) (StackOver (frame_bound from.program from.made.solution)
-        (whole_words stack)) (of_core from.program bytes) given
-        (steps_each from.program from.made.solution) steps status
+        → Says (HeapIsExceeded cells) (StackIsExceeded (frame_bound from.program from.made.solution)
+        (whole_words stack)) (core_program_meaning from.program bytes) given
+        (steps_per_unit from.program from.made.solution) steps status
 
   -- The status of a text, with so many cells, bytes of stack and steps. At a refusal and for want
   -- of memory nothing was touched.
   abbrev pub Outcome : (text : List ℕ) → (cells stack steps : ℕ) → Status → Type 0
-  Outcome text cells stack steps (Refused rule number) = IsNotRun text rule number × IsUntouched i o
+  Outcome text cells stack steps (Refused rule number) =
+      IsRunRefusal text rule number × IsUntouched i o
   Outcome text cells stack steps OutOfMemory = IsUntouched i o
   Outcome text cells stack steps status = Runs text cells stack steps status

@@ -5,16 +5,16 @@ use Rattle.arity_check.specs.Program.{Program}
 use Rattle.grin_translate.specs.Translation.{tr}
 use Rattle.flow_system.specs.Solution.{Solution}
 use Rattle.flow_listing.specs.Text.{points}
-use Rattle.grin_stages.specs.Stage.{Analyses}
+use Rattle.grin_stages.specs.Stage.{IsLeastOfTranslation}
 use Rattle.grin_io.specs.Changes.{SinkChange}
 use Rattle.text_commands.specs.declared.status.Status.{Status}
 use Rattle.text_commands.specs.Text.{IsRefusedBy, IsAccepted}
 use Rattle.text_commands.specs.Writing.{Writes}
 
 -- these bytes are the text of the least solution of the program's translation
-pub record IsLeastText (p : Program) (bytes : List ℕ) : Type 0 where
+pub record IsLeastSolutionText (p : Program) (bytes : List ℕ) : Type 0 where
   pub solution : Solution
-  pub least : Analyses p solution
+  pub least : IsLeastOfTranslation p solution
   pub is_text : bytes ≡ points (tr p) solution
 
 -- the text breaks no rule, and these bytes are what the analysis finds of its program
@@ -22,7 +22,7 @@ pub record IsPointsText (text bytes : List ℕ) : Type 0 where
   pub source : tree.Program
   pub program : Program
   pub accepted : IsAccepted text source program
-  pub found : IsLeastText program bytes
+  pub found : IsLeastSolutionText program bytes
 
 -- The status of a text, and what became of the sink: puts of the pieces of what is found, and none
 -- at a refusal or for want of memory.

@@ -4,7 +4,7 @@ use Rattle.text_commands.specs.declared.status.Status.{Status}
 use Rattle.text_commands.specs.declared.status.Status.TheVariants.{NoAlternative}
 
 -- procedure f is the last one that starts at or before an address
-pub record IsLast (starts : List ℕ) (at f : ℕ) : Type 0 where
+pub record IsLastStartBefore (starts : List ℕ) (at f : ℕ) : Type 0 where
   pub start : ℕ
   pub starts_there : slice_get starts f ≡ Some start
   pub before : start ≤ at
@@ -12,9 +12,9 @@ pub record IsLast (starts : List ℕ) (at f : ℕ) : Type 0 where
 
 -- in whose code an address lies, where procedures start at these: that of the last one that starts
 -- at or before it, and of none where all start behind it
-abbrev pub LiesIn : (starts : List ℕ) → (at : ℕ) → Option ℕ → Type 0
-LiesIn starts at None = (k start : ℕ) → slice_get starts k ≡ Some start → at < start
-LiesIn starts at (Some f) = IsLast starts at f
+abbrev pub LiesInProcedure : (starts : List ℕ) → (at : ℕ) → Option ℕ → Type 0
+LiesInProcedure starts at None = (k start : ℕ) → slice_get starts k ≡ Some start → at < start
+LiesInProcedure starts at (Some f) = IsLastStartBefore starts at f
 
 -- the line that names a procedure, of whose name at most a hundred bytes are shown
 abbrev pub place_line : (name : List ℕ) → List ℕ
@@ -22,14 +22,15 @@ place_line name =
     codes "grinc: no alternative in " ++ (take (min (length name) 100) name ++ codes "\n")
 
 -- the line names the procedure in whose code an address lies; there is none where it lies in none
-abbrev pub Names : (starts : List ℕ) → (names : List (List ℕ)) → (at : ℕ) → Option (List ℕ) → Type 0
-Names starts names at None = LiesIn starts at None
-Names starts names at (Some line) =
-    (f : ℕ) × LiesIn starts at (Some f)
+abbrev pub LineNamesProcedure : (starts : List ℕ) → (names : List (List ℕ))
+    → (at : ℕ) → Option (List ℕ) → Type 0
+LineNamesProcedure starts names at None = LiesInProcedure starts at None
+LineNamesProcedure starts names at (Some line) =
+    (f : ℕ) × LiesInProcedure starts at (Some f)
     × ((name : List ℕ) × (slice_get names f ≡ Some name) × (line ≡ place_line name))
 
 -- the line for a run that ended so, whose last step in the code of procedures stood here
-abbrev pub IsPlace :
+abbrev pub IsPlaceLine :
     (starts : List ℕ) → (names : List (List ℕ)) → Status → (at : ℕ) → Option (List ℕ) → Type 0
-IsPlace starts names NoAlternative at line = Names starts names at line
-IsPlace starts names _ at line = line ≡ None
+IsPlaceLine starts names NoAlternative at line = LineNamesProcedure starts names at line
+IsPlaceLine starts names _ at line = line ≡ None

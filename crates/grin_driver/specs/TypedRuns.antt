@@ -3,7 +3,7 @@ use Rattle.std.specs.Prelude.{◌≢◌, ℕ, List}
 use Rattle.elf32.specs.Image.{Image}
 use Rattle.elf32.specs.Rules.{Loads}
 use Rattle.headline.specs.Carries.{IsBytes, exits}
-use Rattle.rv32_steps.specs.Seen.{seen}
+use Rattle.rv32_steps.specs.Seen.{observed_image}
 use Rattle.text_commands.specs.Typing.{IsTypedText}
 use Rattle.grin_driver.specs.Outcome.{IsImageOf}
 
@@ -14,4 +14,4 @@ TypedNeverExits =
     (text written : List ℕ) → IsTypedText text written
     → (cells stack : ℕ) (file : List ℕ) → IsImageOf written cells stack file
     → (image : Image) → Loads file image
-    → (i : List ℕ) → IsBytes i → (m : ℕ) → (seen image i m).finish ≢ exits 3
+    → (i : List ℕ) → IsBytes i → (m : ℕ) → (observed_image image i m).finish ≢ exits 3

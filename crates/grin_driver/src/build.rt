@@ -1,9 +1,9 @@
 //! The image of a text, put out.
 
 ghost use Rattle.std.specs.Prelude.{◌≤◌};
-ghost use Rattle.grin_io.specs.Changes.{of_sink};
-ghost use Rattle.grin_compile.specs.Limits.{InRange};
-ghost use Rattle.grin_driver.specs.Building.{Builds};
+ghost use Rattle.grin_io.specs.Changes.{sink_change};
+ghost use Rattle.grin_compile.specs.Limits.{SizesAreInRange};
+ghost use Rattle.grin_driver.specs.Building.{IsBuildOutcome};
 
 use crate::image::compiled;
 use grin_compile::Options;
@@ -21,8 +21,8 @@ pub(crate) fn build_text<K: Sink>(
     options: Options,
     out: &mut K,
 ) -> Status
-    requires { InRange options.cells options.stack }
-    ensures builds { Builds (of_sink K.put_gives K.taken K.faults out.old out.new) text.now
+    requires { SizesAreInRange options.cells options.stack }
+    ensures builds { IsBuildOutcome (sink_change K.put_gives K.taken K.faults out.old out.new) text.now
         options.cells options.stack result }
     ensures later { K.faults out.old ≤ K.faults out.new }
 {

@@ -1,22 +1,21 @@
 //! The listing of a text's code.
 
 ghost use Rattle.std.specs.Prelude.{◌≡◌, ◌<◌, ◌≤◌, ◌+◌, ◌*◌, ◌++◌, length, IfOk, IfErr, OnOk};
-ghost use Rattle.grin_io.specs.Changes.{of_sink};
-ghost use Rattle.grin_compile.specs.Limits.{InRange};
+ghost use Rattle.grin_io.specs.Changes.{sink_change};
+ghost use Rattle.grin_compile.specs.Limits.{SizesAreInRange};
 ghost use Rattle.rv32_isa.specs.Table.{instr_of};
-ghost use Rattle.grin_driver.specs.Outcome.{IsUnmade};
-ghost use Rattle.grin_driver.specs.CodeListing.{hex_digit, hex_word, shown, code_line, code_listing, IsCodeListing, ListsCode};
+ghost use Rattle.grin_driver.specs.Outcome.{IsBuildFailure};
+ghost use Rattle.grin_driver.specs.CodeListing.{hex_digit, hex_word, instr_text, code_line, code_listing, IsCodeListing, IsCodeListOutcome};
+ghost use Rattle.limits.specs.Limits.{most_code, default_cells, default_stack};
 
 use crate::image::{DEFAULTS, compiled};
 use grin_compile::Options;
 use grin_io::Sink;
+use limits::CODE_START;
 use rv32_isa::{decode, show};
 use std::alloc::{AllocError, Global};
 use text_commands::pieces::put_pieces;
 use text_commands::status::Status;
-
-/// The address of the first word of the code.
-const FIRST: u32 = 65_536;
 
 /// A digit below 16, in lower case.
 fn hex_digit(number: u32) -> u8
@@ -48,8 +47,8 @@ fn hex_word(word: u32) -> [u8; 8]
 }
 
 /// The text of a word's instruction, or no text where it has none.
-fn shown(alloc: Global, word: u32) -> Result<Vec<u8>, AllocError>
-    ensures { IfOk result (λ text. text.items ≡ shown (instr_of word)) }
+fn instr_text(alloc: Global, word: u32) -> Result<Vec<u8>, AllocError>
+    ensures { IfOk result (λ text. text.items ≡ instr_text (instr_of word)) }
 {
     match decode(word) {
         Some(instr) => show(alloc, instr),
@@ -62,7 +61,7 @@ fn shown(alloc: Global, word: u32) -> Result<Vec<u8>, AllocError>
 fn push_line(alloc: Global, bytes: &mut Vec<u8>, address: u32, word: u32) -> Result<(), AllocError>
     ensures { OnOk result (bytes.new.items ≡ bytes.old.items ++ code_line address word) }
 {
-    let text = shown(alloc, word)?;
+    let text = instr_text(alloc, word)?;
     bytes.extend_from_slice(&hex_word(address))?;
     bytes.extend_from_slice(b" ")?;
     bytes.extend_from_slice(&hex_word(word))?;
@@ -73,11 +72,11 @@ fn push_line(alloc: Global, bytes: &mut Vec<u8>, address: u32, word: u32) -> Res
 
 /// The listing of code: a line for each word.
 fn code_listing(alloc: Global, code: &[u32]) -> Result<Vec<u8>, AllocError>
-    requires { length code.now ≤ 268435456 }
+    requires { length code.now ≤ most_code }
     ensures { IfOk result (λ bytes. bytes.items ≡ code_listing code.now) }
 {
     let mut bytes = Vec::new(alloc);
-    let mut address = FIRST;
+    let mut address = CODE_START;
     for word in code {
         push_line(alloc, &mut bytes, address, *word)?;
         address += 4;
@@ -87,10 +86,10 @@ fn code_listing(alloc: Global, code: &[u32]) -> Result<Vec<u8>, AllocError>
 
 /// The listing of the code of a text's image, or why there is none.
 fn listed_code(alloc: Global, text: &[u8], options: Options) -> Result<Vec<u8>, Status>
-    requires { InRange options.cells options.stack }
+    requires { SizesAreInRange options.cells options.stack }
     ensures listed { IfOk result (λ bytes.
         IsCodeListing text.now options.cells options.stack bytes.items) }
-    ensures unlisted { IfErr result (IsUnmade text.now) }
+    ensures unlisted { IfErr result (IsBuildFailure text.now) }
 {
     let compiled = compiled(alloc, text, options)?;
     match code_listing(alloc, compiled.code.as_slice()) {
@@ -102,8 +101,8 @@ fn listed_code(alloc: Global, text: &[u8], options: Options) -> Result<Vec<u8>, 
 /// Lists the code of a text's image with the heap and the stack that it has by default, in pieces
 /// of 4,096 bytes.
 pub(crate) fn list_code<K: Sink>(alloc: Global, text: &[u8], out: &mut K) -> Status
-    ensures lists { ListsCode (of_sink K.put_gives K.taken K.faults out.old out.new) text.now
-        1000000 1048576 result }
+    ensures lists { IsCodeListOutcome (sink_change K.put_gives K.taken K.faults out.old out.new) text.now
+        default_cells default_stack result }
     ensures later { K.faults out.old ≤ K.faults out.new }
 {
     match listed_code(alloc, text, DEFAULTS) {

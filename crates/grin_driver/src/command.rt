@@ -1,26 +1,26 @@
 //! The command line as a whole.
 
 ghost use Rattle.std.specs.Prelude.{◌≡◌, ◌≤◌, Option, Some, IfSome};
-ghost use Rattle.grin_io.specs.Changes.{of_shelf, of_source, of_sink};
+ghost use Rattle.grin_io.specs.Changes.{shelf_change, source_change, sink_change};
 ghost use Rattle.command_line.specs.Commands.{command_of, asked_by};
-ghost use Rattle.core_link.specs.Laws.{OrderIsFree, StillUnbroken, OneModuleKeeps};
-ghost use Rattle.lambda_lift.specs.Laws.{LiftingKeeps};
-ghost use Rattle.match_compile.specs.Laws.{IsSmall, BreaksOnlySize, SimpleStaysOne, MeansItsEquations};
-ghost use Rattle.grin_compile.specs.Limits.{InRange};
+ghost use Rattle.core_link.specs.Laws.{TextOrderIsIrrelevant, LinkingKeepsNameRules, SingleModuleKeepsMeaning};
+ghost use Rattle.lambda_lift.specs.Laws.{LiftingPreservesMeaning};
+ghost use Rattle.match_compile.specs.Laws.{SizeIsBounded, BreaksOnlySize, SimpleStaysOneFunction, TranslationKeepsMeaning};
+ghost use Rattle.grin_compile.specs.Limits.{SizesAreInRange};
 ghost use Rattle.grin_driver.specs.Outcome.{Outcome};
-ghost use Rattle.grin_driver.specs.Building.{Builds};
-ghost use Rattle.grin_driver.specs.After.{ListsAfter};
-ghost use Rattle.grin_driver.specs.Costs.{OfRun, CostsRun, CostsExecution, CostOf, TellsBoth};
+ghost use Rattle.grin_driver.specs.Building.{IsBuildOutcome};
+ghost use Rattle.grin_driver.specs.After.{IsListAfterOutcome};
+ghost use Rattle.grin_driver.specs.Costs.{OfRun, CostsRun, CostsExecution, CostOf, StatusAndCostArePrinted};
 ghost use Rattle.grin_driver.specs.declared.cost.Cost.{Cost};
 ghost use Rattle.grin_driver.specs.Execution.{Execution};
 ghost use Rattle.grin_driver.specs.TypedRuns.{TypedNeverExits};
-ghost use Rattle.text_commands.specs.Operands.{OfOperand, most_of_text};
-ghost use Rattle.grin_driver.specs.Answer.{Answers, IsWithin, OfNamed, most_of_image};
+ghost use Rattle.text_commands.specs.Operands.{HoldsOfOperandFile, text_read_limit};
+ghost use Rattle.grin_driver.specs.Answer.{Answers, SizesAreWithinLimits, HoldsOfNamedFiles, image_read_limit};
 ghost use Rattle.grin_driver.specs.Completeness.{NothingFailed, Gives};
 ghost use Rattle.text_commands.specs.declared.status.Status.TheVariants.{OutOfMemory};
 
 use crate::build::build_text;
-use crate::cost::{Cost, Ended};
+use crate::cost::{Cost, EndedWithCost};
 use crate::exec::exec_counted;
 use crate::generate::generate;
 use crate::laws::typed_never_exits;
@@ -28,11 +28,15 @@ use crate::list::list_after;
 use crate::points::Points;
 use crate::run::run_counted;
 use command_line::{Command, Line, Listing};
-use core_link::laws::{one_module_keeps, order_is_free, still_unbroken};
+use core_link::laws::{
+    linking_keeps_name_rules, single_module_keeps_meaning, text_order_is_irrelevant,
+};
 use grin_compile::Options;
 use grin_io::{Shelf, Sink, Source};
-use lambda_lift::laws::lifting_keeps;
-use match_compile::laws::{breaks_only_size, is_small, means_its_equations, simple_stays_one};
+use lambda_lift::laws::lifting_preserves_meaning;
+use match_compile::laws::{
+    breaks_only_size, simple_stays_one_function, size_is_bounded, translation_keeps_meaning,
+};
 use std::alloc::Global;
 use text_commands::equations::Equations;
 use text_commands::laws::one_accepted_program;
@@ -57,28 +61,28 @@ fn run_file<F: Shelf, I: Source, K: Sink>(
     shelf: &mut F,
     input: &mut I,
     out: &mut K,
-) -> Ended
+) -> EndedWithCost
     requires permitted { F.permitted file.now }
-    requires within { InRange options.cells options.stack }
-    ensures answer { OfOperand (of_shelf F.content F.faults shelf.old shelf.new) most_of_text
+    requires within { SizesAreInRange options.cells options.stack }
+    ensures answer { HoldsOfOperandFile (shelf_change F.content F.faults shelf.old shelf.new) text_read_limit
         ((input.new ≡ input.old)
         × (out.new ≡ out.old)) file.now (λ text status.
-        Outcome (of_source I.read_gives I.left I.is_over I.faults input.old input.new)
-        (of_sink K.put_gives K.taken K.faults out.old out.new) text options.cells options.stack
+        Outcome (source_change I.read_gives I.left I.is_over I.faults input.old input.new)
+        (sink_change K.put_gives K.taken K.faults out.old out.new) text options.cells options.stack
         steps status) result.status }
-    ensures cost { OfRun (of_shelf F.content F.faults shelf.old shelf.new)
-        (of_source I.read_gives I.left I.is_over I.faults input.old input.new)
-        (of_sink K.put_gives K.taken K.faults out.old out.new) most_of_text file.now
+    ensures cost { OfRun (shelf_change F.content F.faults shelf.old shelf.new)
+        (source_change I.read_gives I.left I.is_over I.faults input.old input.new)
+        (sink_change K.put_gives K.taken K.faults out.old out.new) text_read_limit file.now
         (λ text status cost.
-        CostsRun (of_source I.read_gives I.left I.is_over I.faults input.old input.new)
-        (of_sink K.put_gives K.taken K.faults out.old out.new) text options.cells options.stack
+        CostsRun (source_change I.read_gives I.left I.is_over I.faults input.old input.new)
+        (sink_change K.put_gives K.taken K.faults out.old out.new) text options.cells options.stack
         steps status cost) result.status result.cost }
     ensures later { (F.faults shelf.old ≤ F.faults shelf.new)
         × ((I.faults input.old ≤ I.faults input.new) × (K.faults out.old ≤ K.faults out.new)) }
 {
     match read_file(alloc, shelf, file, MOST_OF_TEXT) {
         Ok(text) => run_counted(alloc, text.as_slice(), options, steps, input, out),
-        Err(status) => Ended::of(status),
+        Err(status) => EndedWithCost::of(status),
     }
 }
 
@@ -91,9 +95,9 @@ fn list_file<F: Shelf, K: Sink>(
     out: &mut K,
 ) -> Status
     requires { F.permitted file.now }
-    ensures answer { OfOperand (of_shelf F.content F.faults shelf.old shelf.new) most_of_text
+    ensures answer { HoldsOfOperandFile (shelf_change F.content F.faults shelf.old shelf.new) text_read_limit
         (out.new ≡ out.old) file.now (λ text status.
-        ListsAfter (of_sink K.put_gives K.taken K.faults out.old out.new) text after status)
+        IsListAfterOutcome (sink_change K.put_gives K.taken K.faults out.old out.new) text after status)
         result }
     ensures later { (F.faults shelf.old ≤ F.faults shelf.new)
         × (K.faults out.old ≤ K.faults out.new) }
@@ -113,10 +117,10 @@ fn build_file<F: Shelf, K: Sink>(
     out: &mut K,
 ) -> Status
     requires permitted { F.permitted file.now }
-    requires within { InRange options.cells options.stack }
-    ensures answer { OfOperand (of_shelf F.content F.faults shelf.old shelf.new) most_of_text
+    requires within { SizesAreInRange options.cells options.stack }
+    ensures answer { HoldsOfOperandFile (shelf_change F.content F.faults shelf.old shelf.new) text_read_limit
         (out.new ≡ out.old) file.now (λ text status.
-        Builds (of_sink K.put_gives K.taken K.faults out.old out.new) text options.cells
+        IsBuildOutcome (sink_change K.put_gives K.taken K.faults out.old out.new) text options.cells
         options.stack status) result }
     ensures later { (F.faults shelf.old ≤ F.faults shelf.new)
         × (K.faults out.old ≤ K.faults out.new) }
@@ -135,19 +139,19 @@ fn exec_file<F: Shelf, I: Source, K: Sink>(
     shelf: &mut F,
     input: &mut I,
     out: &mut K,
-) -> Ended
+) -> EndedWithCost
     requires { F.permitted file.now }
-    ensures answer { OfOperand (of_shelf F.content F.faults shelf.old shelf.new) most_of_image
+    ensures answer { HoldsOfOperandFile (shelf_change F.content F.faults shelf.old shelf.new) image_read_limit
         ((input.new ≡ input.old)
         × (out.new ≡ out.old)) file.now (λ bytes status.
-        Execution (of_source I.read_gives I.left I.is_over I.faults input.old input.new)
-        (of_sink K.put_gives K.taken K.faults out.old out.new) bytes steps status) result.status }
-    ensures cost { OfRun (of_shelf F.content F.faults shelf.old shelf.new)
-        (of_source I.read_gives I.left I.is_over I.faults input.old input.new)
-        (of_sink K.put_gives K.taken K.faults out.old out.new) most_of_image file.now
+        Execution (source_change I.read_gives I.left I.is_over I.faults input.old input.new)
+        (sink_change K.put_gives K.taken K.faults out.old out.new) bytes steps status) result.status }
+    ensures cost { OfRun (shelf_change F.content F.faults shelf.old shelf.new)
+        (source_change I.read_gives I.left I.is_over I.faults input.old input.new)
+        (sink_change K.put_gives K.taken K.faults out.old out.new) image_read_limit file.now
         (λ bytes status cost.
-        CostsExecution (of_source I.read_gives I.left I.is_over I.faults input.old input.new)
-        (of_sink K.put_gives K.taken K.faults out.old out.new) bytes steps status cost)
+        CostsExecution (source_change I.read_gives I.left I.is_over I.faults input.old input.new)
+        (sink_change K.put_gives K.taken K.faults out.old out.new) bytes steps status cost)
         result.status result.cost }
     ensures later { (F.faults shelf.old ≤ F.faults shelf.new)
         × ((I.faults input.old ≤ I.faults input.new) × (K.faults out.old ≤ K.faults out.new)) }
@@ -155,12 +159,12 @@ fn exec_file<F: Shelf, I: Source, K: Sink>(
     match read_file(alloc, shelf, file, MOST_OF_IMAGE) {
         Ok(bytes) => {
             let ran = exec_counted(alloc, bytes.as_slice(), steps, input, out);
-            Ended {
+            EndedWithCost {
                 status: ran.status,
                 cost: Cost::of_exec(ran.counts),
             }
         }
-        Err(status) => Ended::of(status),
+        Err(status) => EndedWithCost::of(status),
     }
 }
 
@@ -171,16 +175,16 @@ fn run_command<F: Shelf, I: Source, K: Sink>(
     shelf: &mut F,
     input: &mut I,
     out: &mut K,
-) -> Ended
-    requires permitted { OfNamed F.permitted (asked_by command.now) }
-    requires within { IsWithin (asked_by command.now) }
-    ensures answer { Answers (of_shelf F.content F.faults shelf.old shelf.new)
-        (of_source I.read_gives I.left I.is_over I.faults input.old input.new)
-        (of_sink K.put_gives K.taken K.faults out.old out.new) (Some (asked_by command.now))
+) -> EndedWithCost
+    requires permitted { HoldsOfNamedFiles F.permitted (asked_by command.now) }
+    requires within { SizesAreWithinLimits (asked_by command.now) }
+    ensures answer { Answers (shelf_change F.content F.faults shelf.old shelf.new)
+        (source_change I.read_gives I.left I.is_over I.faults input.old input.new)
+        (sink_change K.put_gives K.taken K.faults out.old out.new) (Some (asked_by command.now))
         result.status }
-    ensures cost { CostOf (of_shelf F.content F.faults shelf.old shelf.new)
-        (of_source I.read_gives I.left I.is_over I.faults input.old input.new)
-        (of_sink K.put_gives K.taken K.faults out.old out.new) (Some (asked_by command.now))
+    ensures cost { CostOf (shelf_change F.content F.faults shelf.old shelf.new)
+        (source_change I.read_gives I.left I.is_over I.faults input.old input.new)
+        (sink_change K.put_gives K.taken K.faults out.old out.new) (Some (asked_by command.now))
         result.status result.cost }
     ensures later { (F.faults shelf.old ≤ F.faults shelf.new)
         × ((I.faults input.old ≤ I.faults input.new) × (K.faults out.old ≤ K.faults out.new)) }
@@ -204,22 +208,26 @@ fn run_command<F: Shelf, I: Source, K: Sink>(
             steps,
             stats,
         } => exec_file(alloc, image, *steps, shelf, input, out).asked(*stats),
-        Command::Check { file } => Ended::of(check_file(alloc, file, shelf, out)),
-        Command::List { file, after } => Ended::of(list_file(alloc, file, *after, shelf, out)),
+        Command::Check { file } => EndedWithCost::of(check_file(alloc, file, shelf, out)),
+        Command::List { file, after } => EndedWithCost::of(list_file(
+            alloc, file, *after, shelf, out,
+        )),
         Command::Build { file, cells, stack } => {
             let options = Options {
                 cells: *cells,
                 stack: *stack,
             };
-            Ended::of(build_file(alloc, file, options, shelf, out))
+            EndedWithCost::of(build_file(alloc, file, options, shelf, out))
         }
-        Command::Gen { seed, size } => Ended::of(generate(alloc, *seed, *size, out)),
-        Command::Link { files } => Ended::of(link_files(alloc, files, shelf, out)),
-        Command::Lift { file } => Ended::of(write_file(alloc, &Lift, file, shelf, out)),
-        Command::Match { file } => Ended::of(write_file(alloc, &Equations, file, shelf, out)),
-        Command::Types { file } => Ended::of(write_file(alloc, &Types, file, shelf, out)),
-        Command::Sides { file } => Ended::of(write_file(alloc, &Sides, file, shelf, out)),
-        Command::Points { file } => Ended::of(write_file(alloc, &Points, file, shelf, out)),
+        Command::Gen { seed, size } => EndedWithCost::of(generate(alloc, *seed, *size, out)),
+        Command::Link { files } => EndedWithCost::of(link_files(alloc, files, shelf, out)),
+        Command::Lift { file } => EndedWithCost::of(write_file(alloc, &Lift, file, shelf, out)),
+        Command::Match { file } => EndedWithCost::of(write_file(
+            alloc, &Equations, file, shelf, out,
+        )),
+        Command::Types { file } => EndedWithCost::of(write_file(alloc, &Types, file, shelf, out)),
+        Command::Sides { file } => EndedWithCost::of(write_file(alloc, &Sides, file, shelf, out)),
+        Command::Points { file } => EndedWithCost::of(write_file(alloc, &Points, file, shelf, out)),
     }
 }
 
@@ -230,21 +238,21 @@ fn run_line<F: Shelf, I: Source, K: Sink>(
     shelf: &mut F,
     input: &mut I,
     out: &mut K,
-) -> Ended
-    requires { IfSome (command_of line.now) (OfNamed F.permitted) }
-    ensures answer { Answers (of_shelf F.content F.faults shelf.old shelf.new)
-        (of_source I.read_gives I.left I.is_over I.faults input.old input.new)
-        (of_sink K.put_gives K.taken K.faults out.old out.new) (command_of line.now)
+) -> EndedWithCost
+    requires { IfSome (command_of line.now) (HoldsOfNamedFiles F.permitted) }
+    ensures answer { Answers (shelf_change F.content F.faults shelf.old shelf.new)
+        (source_change I.read_gives I.left I.is_over I.faults input.old input.new)
+        (sink_change K.put_gives K.taken K.faults out.old out.new) (command_of line.now)
         result.status }
-    ensures cost { CostOf (of_shelf F.content F.faults shelf.old shelf.new)
-        (of_source I.read_gives I.left I.is_over I.faults input.old input.new)
-        (of_sink K.put_gives K.taken K.faults out.old out.new) (command_of line.now) result.status
+    ensures cost { CostOf (shelf_change F.content F.faults shelf.old shelf.new)
+        (source_change I.read_gives I.left I.is_over I.faults input.old input.new)
+        (sink_change K.put_gives K.taken K.faults out.old out.new) (command_of line.now) result.status
         result.cost }
     ensures later { (F.faults shelf.old ≤ F.faults shelf.new)
         × ((I.faults input.old ≤ I.faults input.new) × (K.faults out.old ≤ K.faults out.new)) }
 {
     match line.command() {
-        None => Ended::of(Status::Usage),
+        None => EndedWithCost::of(Status::Usage),
         Some(command) => run_command(alloc, &command, shelf, input, out),
     }
 }
@@ -256,10 +264,10 @@ fn run_line<F: Shelf, I: Source, K: Sink>(
 /// input; `gen` runs a generated text and puts its summary, `link FILE..` puts the text that
 /// modules are together, `lift FILE` the text of Core that a text with lambdas and local functions
 /// stands for, `match FILE` that of a text of equations, `types FILE` that of a text with types,
-/// which fit, and `sides FILE` the two sides where they do not; `points FILE` puts what the analysis
-/// finds. With `--stats` the cost of the run of `run` or `exec` is put behind that line, where the
-/// run stopped. A file is read to its end, or up to the first byte past the longest one. A fault of
-/// `err` changes no status.
+/// which fit, and `sides FILE` the two sides where they do not; `points FILE` puts what the
+/// analysis finds. With `--stats` the cost of the run of `run` or `exec` is put behind that line,
+/// where the run stopped. A file is read to its end, or up to the first byte past the longest one.
+/// A fault of `err` changes no status.
 pub fn grinc_main<F: Shelf, I: Source, K: Sink, E: Sink>(
     alloc: Global,
     line: &Line,
@@ -268,23 +276,23 @@ pub fn grinc_main<F: Shelf, I: Source, K: Sink, E: Sink>(
     out: &mut K,
     err: &mut E,
 ) -> Status
-    requires permitted { IfSome (command_of line.now) (OfNamed F.permitted) }
-    ensures answer { Answers (of_shelf F.content F.faults shelf.old shelf.new)
-        (of_source I.read_gives I.left I.is_over I.faults input.old input.new)
-        (of_sink K.put_gives K.taken K.faults out.old out.new) (command_of line.now) result }
+    requires permitted { IfSome (command_of line.now) (HoldsOfNamedFiles F.permitted) }
+    ensures answer { Answers (shelf_change F.content F.faults shelf.old shelf.new)
+        (source_change I.read_gives I.left I.is_over I.faults input.old input.new)
+        (sink_change K.put_gives K.taken K.faults out.old out.new) (command_of line.now) result }
     ensures told { (cost : Option Cost)
-        × CostOf (of_shelf F.content F.faults shelf.old shelf.new)
-        (of_source I.read_gives I.left I.is_over I.faults input.old input.new)
-        (of_sink K.put_gives K.taken K.faults out.old out.new) (command_of line.now) result cost
-        × TellsBoth (of_sink E.put_gives E.taken E.faults err.old err.new) result cost }
-    ensures complete { NothingFailed (of_shelf F.content F.faults shelf.old shelf.new)
-        (of_source I.read_gives I.left I.is_over I.faults input.old input.new)
-        (of_sink K.put_gives K.taken K.faults out.old out.new)
-        → Gives (of_shelf F.content F.faults shelf.old shelf.new) (command_of line.now) result }
+        × CostOf (shelf_change F.content F.faults shelf.old shelf.new)
+        (source_change I.read_gives I.left I.is_over I.faults input.old input.new)
+        (sink_change K.put_gives K.taken K.faults out.old out.new) (command_of line.now) result cost
+        × StatusAndCostArePrinted (sink_change E.put_gives E.taken E.faults err.old err.new) result cost }
+    ensures complete { NothingFailed (shelf_change F.content F.faults shelf.old shelf.new)
+        (source_change I.read_gives I.left I.is_over I.faults input.old input.new)
+        (sink_change K.put_gives K.taken K.faults out.old out.new)
+        → Gives (shelf_change F.content F.faults shelf.old shelf.new) (command_of line.now) result }
     ensures memory { result ≡ OutOfMemory → out.new ≡ out.old }
-    ensures linking { OrderIsFree × (StillUnbroken × OneModuleKeeps) }
-    ensures lifting { LiftingKeeps }
-    ensures matching { (IsSmall × BreaksOnlySize) × (SimpleStaysOne × MeansItsEquations) }
+    ensures linking { TextOrderIsIrrelevant × (LinkingKeepsNameRules × SingleModuleKeepsMeaning) }
+    ensures lifting { LiftingPreservesMeaning }
+    ensures matching { (SizeIsBounded × BreaksOnlySize) × (SimpleStaysOneFunction × TranslationKeepsMeaning) }
     ensures typing { TypedNeverExits }
     ensures later { (F.faults shelf.old ≤ F.faults shelf.new)
         × ((I.faults input.old ≤ I.faults input.new) × (K.faults out.old ≤ K.faults out.new)) }
@@ -292,16 +300,16 @@ pub fn grinc_main<F: Shelf, I: Source, K: Sink, E: Sink>(
     // A law: each accepted text has one program, so what is accepted isn't refused.
     one_accepted_program();
     // Laws of what is linked.
-    order_is_free();
-    still_unbroken();
-    one_module_keeps();
+    text_order_is_irrelevant();
+    linking_keeps_name_rules();
+    single_module_keeps_meaning();
     // A law of what is lifted.
-    lifting_keeps();
+    lifting_preserves_meaning();
     // Laws of what equations become.
-    is_small();
+    size_is_bounded();
     breaks_only_size();
-    simple_stays_one();
-    means_its_equations();
+    simple_stays_one_function();
+    translation_keeps_meaning();
     // A law of what is made of a text with types.
     typed_never_exits();
     let ended = run_line(alloc, line, shelf, input, out);

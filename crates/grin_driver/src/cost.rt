@@ -2,21 +2,19 @@
 
 ghost use Rattle.std.specs.Prelude.{◌≡◌, ◌*◌, ◌≤◌, Some, None, length, if◌then◌else◌};
 ghost use Rattle.std.specs.Option.{option_map};
-ghost use Rattle.grin_io.specs.Changes.{of_sink};
-ghost use Rattle.grin_driver.specs.Costs.{IsCostOf, exec_cost, cost_line, cells_before, IsLineTold, TellsLines, TellsBoth};
+ghost use Rattle.grin_io.specs.Changes.{sink_change};
+ghost use Rattle.grin_driver.specs.Costs.{IsCostOf, exec_cost, cost_line, cells_before, LineIsPrinted, LinesArePrinted, StatusAndCostArePrinted};
 
-use crate::image::Built;
 use crate::standing::place;
+use grin_compile::Built;
 use grin_io::Sink;
+use limits::HEAP_START;
 use text_commands::note::Note;
 use text_commands::status::Status;
 
-/// Where the heap of an image begins.
-const HEAP: u32 = 0x5000_0000;
-
 /// What is counted of a run.
 #[derive(Clone, Copy, Drop)]
-pub(crate) struct Counts {
+pub(crate) struct RunCounts {
     /// The instructions that were done.
     pub(crate) instructions: u64,
     /// What x3 was at the end: in an image that was compiled, the address of the next cell.
@@ -30,7 +28,7 @@ pub(crate) struct Counts {
 #[derive(Clone, Copy, Drop)]
 pub(crate) struct Counted {
     pub(crate) status: Status,
-    pub(crate) counts: Option<Counts>,
+    pub(crate) counts: Option<RunCounts>,
 }
 
 /// What a run cost, and where it found no alternative.
@@ -47,7 +45,7 @@ pub(crate) struct Cost {
 
 /// How a command ended, and what its run cost, where that is told.
 #[derive(Drop)]
-pub(crate) struct Ended {
+pub(crate) struct EndedWithCost {
     pub(crate) status: Status,
     pub(crate) cost: Option<Cost>,
 }
@@ -57,25 +55,25 @@ fn cells_before(next_cell: u32, width: u32, cells: u32) -> u64
     requires { 1 ≤ width }
     ensures { result ≡ cells_before (4 * width) cells next_cell }
 {
-    let bytes = next_cell.saturating_sub(HEAP) as u64;
+    let bytes = next_cell.saturating_sub(HEAP_START) as u64;
     let bound = bytes / (4 * width as u64);
     bound.min(cells as u64)
 }
 
 /// Puts a line on the error output, as one put. A fault changes nothing else.
 fn put_line<E: Sink>(err: &mut E, line: &[u8])
-    ensures { IsLineTold (of_sink E.put_gives E.taken E.faults err.old err.new) line.now }
+    ensures { LineIsPrinted (sink_change E.put_gives E.taken E.faults err.old err.new) line.now }
 {
     let _told = err.put(line);
 }
 
 impl Cost {
-    /// What the run of a compiled image cost that ended so, by its counts, where the image was given
-    /// so many cells.
+    /// What the run of a compiled image cost that ended so, by its counts, where the image was
+    /// given so many cells.
     pub(crate) fn of_run(
         built: &Built,
         status: Status,
-        counts: Option<Counts>,
+        counts: Option<RunCounts>,
         cells: u32,
     ) -> Option<Cost>
         requires width { 1 ≤ built.now.width }
@@ -93,7 +91,7 @@ impl Cost {
     }
 
     /// What the run of an executable cost, by its counts.
-    pub(crate) fn of_exec(counts: Option<Counts>) -> Option<Cost>
+    pub(crate) fn of_exec(counts: Option<RunCounts>) -> Option<Cost>
         ensures { result ≡ option_map exec_cost counts }
     {
         let counts = counts?;
@@ -125,7 +123,7 @@ impl Cost {
 
     /// Puts the line on the error output, and behind it that of the place, if there is one.
     fn tell<E: Sink>(&self, err: &mut E)
-        ensures { TellsLines (of_sink E.put_gives E.taken E.faults err.old err.new)
+        ensures { LinesArePrinted (sink_change E.put_gives E.taken E.faults err.old err.new)
             (cost_line self.now) self.now.place }
     {
         match &self.place {
@@ -138,27 +136,31 @@ impl Cost {
     }
 }
 
-impl Ended {
+impl EndedWithCost {
     /// The end of a command of which no cost is told.
-    pub(crate) fn of(status: Status) -> Ended
+    pub(crate) fn of(status: Status) -> EndedWithCost
         ensures status { result.status ≡ status }
         ensures cost { result.cost ≡ None }
     {
-        Ended { status, cost: None }
+        EndedWithCost { status, cost: None }
     }
 
     /// The same end, of which the cost is told where it is asked for.
-    pub(crate) fn asked(self, stats: bool) -> Ended
+    pub(crate) fn asked(self, stats: bool) -> EndedWithCost
         ensures status { result.status ≡ self.status }
         ensures cost { result.cost ≡ (if stats then self.cost else None) }
     {
-        if stats { self } else { Ended::of(self.status) }
+        if stats {
+            self
+        } else {
+            EndedWithCost::of(self.status)
+        }
     }
 
     /// Puts the line of the status on the error output, and behind it that of the cost, where there
     /// is one.
     pub(crate) fn tell<E: Sink>(&self, err: &mut E)
-        ensures { TellsBoth (of_sink E.put_gives E.taken E.faults err.old err.new) self.now.status
+        ensures { StatusAndCostArePrinted (sink_change E.put_gives E.taken E.faults err.old err.new) self.now.status
             self.now.cost }
     {
         match &self.cost {

@@ -1,12 +1,12 @@
 //! The run of an executable from elsewhere.
 
 ghost use Rattle.std.specs.Prelude.{◌≡◌, ℕ, ◌≤◌, List};
-ghost use Rattle.elf32.specs.Rules.{Refuses};
-ghost use Rattle.grin_io.specs.Changes.{of_source, of_sink};
+ghost use Rattle.elf32.specs.Rules.{NamesLeastBrokenRule};
+ghost use Rattle.grin_io.specs.Changes.{source_change, sink_change};
 ghost use Rattle.grin_driver.specs.Costs.{CountsRun, CountsExecution};
-ghost use Rattle.grin_driver.specs.Execution.{Executes, Execution, IsUnloaded, status_of};
+ghost use Rattle.grin_driver.specs.Execution.{Executes, Execution, IsExecLoadFailure, status_of};
 
-use crate::cost::{Counted, Counts};
+use crate::cost::{Counted, RunCounts};
 use elf32::{ElfRefusal, Loaded, read};
 use grin_io::{Fault, Sink, Source};
 use rv32_isa::Reg;
@@ -16,7 +16,7 @@ use text_commands::status::{Status, refused};
 
 /// The status for bytes that are no executable.
 fn unloadable(refusal: &ElfRefusal) -> Status
-    ensures { (bytes : List ℕ) → Refuses refusal.now bytes → IsUnloaded bytes result }
+    ensures { (bytes : List ℕ) → NamesLeastBrokenRule refusal.now bytes → IsExecLoadFailure bytes result }
 {
     match refusal {
         ElfRefusal::ImageTooLong => refused(40, 0),
@@ -52,10 +52,10 @@ fn execute<I: Source, K: Sink>(
     input: &mut I,
     out: &mut K,
 ) -> Counted
-    ensures executes { Executes (of_source I.read_gives I.left I.is_over I.faults input.old input.new)
-        (of_sink K.put_gives K.taken K.faults out.old out.new) program.now steps result.status }
-    ensures counts { CountsRun (of_source I.read_gives I.left I.is_over I.faults input.old input.new)
-        (of_sink K.put_gives K.taken K.faults out.old out.new) program.now steps result.status
+    ensures executes { Executes (source_change I.read_gives I.left I.is_over I.faults input.old input.new)
+        (sink_change K.put_gives K.taken K.faults out.old out.new) program.now steps result.status }
+    ensures counts { CountsRun (source_change I.read_gives I.left I.is_over I.faults input.old input.new)
+        (sink_change K.put_gives K.taken K.faults out.old out.new) program.now steps result.status
         result.counts }
     ensures input_later { I.faults input.old ≤ I.faults input.new }
     ensures out_later { K.faults out.old ≤ K.faults out.new }
@@ -69,7 +69,7 @@ fn execute<I: Source, K: Sink>(
     match machine.run_counted(steps, input, out) {
         Ok(ran) => Counted {
             status: ended(&ran.stop),
-            counts: Some(Counts {
+            counts: Some(RunCounts {
                 instructions: ran.done,
                 next_cell: machine.register(Reg(3)),
                 link: machine.register(Reg(5)),
@@ -94,11 +94,11 @@ pub(crate) fn exec_counted<I: Source, K: Sink>(
     input: &mut I,
     out: &mut K,
 ) -> Counted
-    ensures executes { Execution (of_source I.read_gives I.left I.is_over I.faults input.old input.new)
-        (of_sink K.put_gives K.taken K.faults out.old out.new) bytes.now steps result.status }
+    ensures executes { Execution (source_change I.read_gives I.left I.is_over I.faults input.old input.new)
+        (sink_change K.put_gives K.taken K.faults out.old out.new) bytes.now steps result.status }
     ensures counts { CountsExecution
-        (of_source I.read_gives I.left I.is_over I.faults input.old input.new)
-        (of_sink K.put_gives K.taken K.faults out.old out.new) bytes.now steps result.status
+        (source_change I.read_gives I.left I.is_over I.faults input.old input.new)
+        (sink_change K.put_gives K.taken K.faults out.old out.new) bytes.now steps result.status
         result.counts }
     ensures input_later { I.faults input.old ≤ I.faults input.new }
     ensures out_later { K.faults out.old ≤ K.faults out.new }
@@ -120,8 +120,8 @@ pub(crate) fn exec_image<I: Source, K: Sink>(
     input: &mut I,
     out: &mut K,
 ) -> Status
-    ensures executes { Execution (of_source I.read_gives I.left I.is_over I.faults input.old input.new)
-        (of_sink K.put_gives K.taken K.faults out.old out.new) bytes.now steps result }
+    ensures executes { Execution (source_change I.read_gives I.left I.is_over I.faults input.old input.new)
+        (sink_change K.put_gives K.taken K.faults out.old out.new) bytes.now steps result }
     ensures input_later { I.faults input.old ≤ I.faults input.new }
     ensures out_later { K.faults out.old ≤ K.faults out.new }
 {

@@ -1,25 +1,23 @@
 //! A generated text: compiled and run, and its summary put.
 
 ghost use Rattle.std.specs.Prelude.{◌≡◌, ◌≤◌, ℕ, List, length, IfOk, IfErr};
-ghost use Rattle.grin_io.specs.Changes.{of_sink};
+ghost use Rattle.grin_io.specs.Changes.{sink_change};
 ghost use Rattle.generator.specs.Generated.{generated};
-ghost use Rattle.grin_driver.specs.Generating.{summary, Generates, IsDefaultImageOf, IsOutput, IsUndone, IsSummary, IsUnsummed};
+ghost use Rattle.grin_driver.specs.Generating.{summary, Generates, IsDefaultImageOf, IsOutput, IsUndone, IsSummary, IsGenerateFailure};
 ghost use Rattle.seq.specs.Lists.{sum_of};
 
 use crate::exec::exec_image;
-use crate::image::{DEFAULTS, kept};
-use crate::list::unstaged;
-use crate::run::named;
+use crate::image::DEFAULTS;
+use crate::list::no_stages_status;
+use crate::run::status_of_exit;
 use generator::generated;
-use grin_compile::compile;
+use grin_compile::build;
 use grin_io::{MemSink, Sink, SureSource};
+use limits::DEFAULT_STEPS;
 use std::alloc::Global;
 use text_commands::accept::accept;
 use text_commands::note::Note;
 use text_commands::status::Status;
-
-/// The instructions that a generated program may take.
-const STEPS: u64 = 1_000_000_000;
 
 /// The bytes that it may write.
 const MOST: usize = 4_096;
@@ -64,8 +62,8 @@ fn output(alloc: Global, image: &[u8]) -> Result<MemSink, Status>
         return Err(Status::OutOfMemory);
     };
     let mut input = SureSource::new(Vec::new(alloc));
-    let status = exec_image(alloc, image, STEPS, &mut input, &mut sink);
-    match named(status) {
+    let status = exec_image(alloc, image, DEFAULT_STEPS, &mut input, &mut sink);
+    match status_of_exit(status) {
         Status::Done => Ok(sink),
         // The sink is full.
         Status::WriteFault => Err(Status::Refused {
@@ -79,14 +77,14 @@ fn output(alloc: Global, image: &[u8]) -> Result<MemSink, Status>
 /// The summary of a text whose program is done; else the status that says why there is none.
 fn summed(alloc: Global, text: &[u8]) -> Result<Note, Status>
     ensures summed { IfOk result (IsSummary text.now) }
-    ensures unsummed { IfErr result (IsUnsummed text.now) }
+    ensures unsummed { IfErr result (IsGenerateFailure text.now) }
 {
     let accepted = accept(alloc, text)?;
-    let compiled = match compile(alloc, &accepted.program, DEFAULTS) {
-        Ok(compiled) => kept(compiled),
-        Err(refusal) => return Err(unstaged(&refusal)),
+    let built = match build(alloc, &accepted.program, DEFAULTS) {
+        Ok(built) => built,
+        Err(refusal) => return Err(no_stages_status(&refusal)),
     };
-    let sink = output(alloc, compiled.image.as_slice())?;
+    let sink = output(alloc, built.image.as_slice())?;
     let functions = accepted.program.funs.len();
     Ok(summary(text.len(), functions, accepted.size, sink.taken()))
 }
@@ -94,7 +92,7 @@ fn summed(alloc: Global, text: &[u8]) -> Result<Note, Status>
 /// Compiles and runs the text that is generated from a seed in so many rounds, and puts its summary
 /// in one put where its program is done. All else is had before that put.
 pub(crate) fn generate<K: Sink>(alloc: Global, seed: u32, size: u32, out: &mut K) -> Status
-    ensures generates { Generates (of_sink K.put_gives K.taken K.faults out.old out.new)
+    ensures generates { Generates (sink_change K.put_gives K.taken K.faults out.old out.new)
         (generated seed size) result }
     ensures later { K.faults out.old ≤ K.faults out.new }
 {

@@ -3,11 +3,11 @@
 ghost use Rattle.std.specs.Prelude.{◌≤◌, ℕ, List, IfOk, IfErr};
 ghost use Rattle.core_reader.specs.Tree as tree;
 ghost use Rattle.arity_check.specs.Program.{Program};
-ghost use Rattle.grin_io.specs.Changes.{of_sink};
-ghost use Rattle.grin_opt.specs.declared.pass.PassName.{PassName as PassName'};
-ghost use Rattle.grin_stages.specs.Stage.{IsTooLarge};
-ghost use Rattle.grin_driver.specs.Listing.{IsListing, IsUnlisted, Lists};
-ghost use Rattle.grin_driver.specs.After.{ListsAfter};
+ghost use Rattle.grin_io.specs.Changes.{sink_change};
+ghost use Rattle.stage_names.specs.declared.PassName.{PassName as PassName'};
+ghost use Rattle.grin_stages.specs.Stage.{StageExceedsLimit};
+ghost use Rattle.grin_driver.specs.Listing.{IsListing, IsListFailure, IsListOutcome};
+ghost use Rattle.grin_driver.specs.After.{IsListAfterOutcome};
 ghost use Rattle.text_commands.specs.Text.{IsAccepted};
 
 use crate::code::list_code;
@@ -26,12 +26,12 @@ use text_commands::writing::write_text;
 /// The listing of a text's program after a pass, or why there is none.
 fn listed(alloc: Global, text: &[u8], after: PassName) -> Result<Vec<u8>, Status>
     ensures listed { IfOk result (λ bytes. IsListing text.now after bytes.items) }
-    ensures unlisted { IfErr result (IsUnlisted text.now after) }
+    ensures unlisted { IfErr result (IsListFailure text.now after) }
 {
     let accepted = accept(alloc, text)?;
     let program = match stage(alloc, &accepted.program, after) {
         Ok(program) => program,
-        Err(refusal) => return Err(unstaged(&refusal)),
+        Err(refusal) => return Err(no_stages_status(&refusal)),
     };
     match list(alloc, &program) {
         Ok(bytes) => Ok(bytes),
@@ -40,9 +40,9 @@ fn listed(alloc: Global, text: &[u8], after: PassName) -> Result<Vec<u8>, Status
 }
 
 /// The status for a program that has no later stages.
-pub(crate) fn unstaged(refusal: &CompileRefusal) -> Status
+pub(crate) fn no_stages_status(refusal: &CompileRefusal) -> Status
     ensures { (text : List ℕ) (source : tree.Program) (p : Program) (after : PassName')
-        → IsAccepted text source p → IsTooLarge p after refusal.now → IsUnlisted text after result }
+        → IsAccepted text source p → StageExceedsLimit p after refusal.now → IsListFailure text after result }
 {
     match refusal {
         CompileRefusal::ExpandedTooLarge(size) => Status::Refused {
@@ -56,7 +56,7 @@ pub(crate) fn unstaged(refusal: &CompileRefusal) -> Status
 /// Lists a text's program after a pass, in pieces of 4,096 bytes. All memory is had before the
 /// first put.
 pub fn list_text<K: Sink>(alloc: Global, text: &[u8], after: PassName, out: &mut K) -> Status
-    ensures lists { Lists (of_sink K.put_gives K.taken K.faults out.old out.new) text.now after
+    ensures lists { IsListOutcome (sink_change K.put_gives K.taken K.faults out.old out.new) text.now after
         result }
     ensures later { K.faults out.old ≤ K.faults out.new }
 {
@@ -71,26 +71,13 @@ pub fn list_text<K: Sink>(alloc: Global, text: &[u8], after: PassName, out: &mut
 
 /// Lists a text's program after what the command line says.
 pub(crate) fn list_after<K: Sink>(alloc: Global, text: &[u8], after: Listing, out: &mut K) -> Status
-    ensures lists { ListsAfter (of_sink K.put_gives K.taken K.faults out.old out.new) text.now after
+    ensures lists { IsListAfterOutcome (sink_change K.put_gives K.taken K.faults out.old out.new) text.now after
         result }
     ensures later { K.faults out.old ≤ K.faults out.new }
 {
     match after {
         Listing::Read => write_text(alloc, &Canonical, text, out),
-        Listing::Translate => list_text(alloc, text, PassName::Translate, out),
-        Listing::Eval => list_text(alloc, text, PassName::Eval, out),
-        Listing::Apply => list_text(alloc, text, PassName::Apply, out),
-        Listing::Vectorise => list_text(alloc, text, PassName::Vectorise, out),
-        Listing::Simplify => list_text(alloc, text, PassName::Simplify, out),
-        Listing::Fetch => list_text(alloc, text, PassName::Fetch, out),
-        Listing::Copy => list_text(alloc, text, PassName::Copy, out),
-        Listing::Update => list_text(alloc, text, PassName::Update, out),
-        Listing::Unbox => list_text(alloc, text, PassName::Unbox, out),
-        Listing::Raise => list_text(alloc, text, PassName::Raise, out),
-        Listing::Flat => list_text(alloc, text, PassName::Flat, out),
-        Listing::Known => list_text(alloc, text, PassName::Known, out),
-        Listing::Cells => list_text(alloc, text, PassName::Cells, out),
-        Listing::Dead => list_text(alloc, text, PassName::Dead, out),
+        Listing::Stage(stage) => list_text(alloc, text, stage, out),
         Listing::Code => list_code(alloc, text, out),
     }
 }

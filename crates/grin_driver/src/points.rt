@@ -3,10 +3,10 @@
 ghost use Rattle.std.specs.Prelude.{ℕ, List, IfOk};
 ghost use Rattle.arity_check.specs.Program.{program};
 ghost use Rattle.text_commands.specs.Text.{IsRefusedBy};
-ghost use Rattle.grin_driver.specs.Pointing.{IsLeastText, IsPointsText};
+ghost use Rattle.grin_driver.specs.Pointing.{IsLeastSolutionText, IsPointsText};
 
 use arity_check::normal::Checked;
-use flow_listing::listed;
+use flow_listing::listing_text;
 use flow_system::system::system;
 use grin_translate::translate;
 use points_to::solve;
@@ -36,11 +36,11 @@ impl Maker for Points {
 
 /// The text of the least solution of a program's translation.
 fn found(alloc: Global, p: &Checked) -> Result<Vec<u8>, AllocError>
-    ensures { IfOk result (λ bytes. IsLeastText (program p.now) bytes.items) }
+    ensures { IfOk result (λ bytes. IsLeastSolutionText (program p.now) bytes.items) }
 {
     let translation = translate(alloc, p)?;
     let system = system(alloc, &translation)?;
     let flow = solve(alloc, &system)?;
-    let text = listed(alloc, &translation, &flow)?;
+    let text = listing_text(alloc, &translation, &flow)?;
     Ok(text)
 }

@@ -1,12 +1,12 @@
 //! The run of a text: accepted, compiled to an image, and run.
 
 ghost use Rattle.std.specs.Prelude.{◌≡◌, ◌≤◌};
-ghost use Rattle.grin_io.specs.Changes.{of_source, of_sink};
-ghost use Rattle.grin_compile.specs.Limits.{InRange};
+ghost use Rattle.grin_io.specs.Changes.{source_change, sink_change};
+ghost use Rattle.grin_compile.specs.Limits.{SizesAreInRange};
 ghost use Rattle.grin_driver.specs.Costs.{CostsText};
-ghost use Rattle.grin_driver.specs.Outcome.{named, Outcome};
+ghost use Rattle.grin_driver.specs.Outcome.{status_of_exit, Outcome};
 
-use crate::cost::{Cost, Ended};
+use crate::cost::{Cost, EndedWithCost};
 use crate::exec::exec_counted;
 use crate::image::compiled;
 use grin_compile::Options;
@@ -15,8 +15,8 @@ use std::alloc::Global;
 use text_commands::status::Status;
 
 /// The status of a text whose image ended so: the exits 3, 4 and 5 say why.
-pub(crate) fn named(status: Status) -> Status
-    ensures { result ≡ named status }
+pub(crate) fn status_of_exit(status: Status) -> Status
+    ensures { result ≡ status_of_exit status }
 {
     match status {
         Status::Exited(3) => Status::NoAlternative,
@@ -27,9 +27,9 @@ pub(crate) fn named(status: Status) -> Status
 }
 
 /// Compiles a text to an image with so many cells and bytes of stack, and runs it on the input for
-/// at most so many instructions. The stack is rounded down to a multiple of four. Whatever the input
-/// gives, the status says what the program does on the bytes that its reads gave; `Exited` and
-/// `Trapped` are no status of it. The cost is that of this run.
+/// at most so many instructions. The stack is rounded down to a multiple of four. Whatever the
+/// input gives, the status says what the program does on the bytes that its reads gave; `Exited`
+/// and `Trapped` are no status of it. The cost is that of this run.
 pub(crate) fn run_counted<I: Source, K: Sink>(
     alloc: Global,
     text: &[u8],
@@ -37,13 +37,13 @@ pub(crate) fn run_counted<I: Source, K: Sink>(
     steps: u64,
     input: &mut I,
     out: &mut K,
-) -> Ended
-    requires { InRange options.cells options.stack }
-    ensures outcome { Outcome (of_source I.read_gives I.left I.is_over I.faults input.old input.new)
-        (of_sink K.put_gives K.taken K.faults out.old out.new) text.now options.cells options.stack
+) -> EndedWithCost
+    requires { SizesAreInRange options.cells options.stack }
+    ensures outcome { Outcome (source_change I.read_gives I.left I.is_over I.faults input.old input.new)
+        (sink_change K.put_gives K.taken K.faults out.old out.new) text.now options.cells options.stack
         steps result.status }
-    ensures cost { CostsText (of_source I.read_gives I.left I.is_over I.faults input.old input.new)
-        (of_sink K.put_gives K.taken K.faults out.old out.new) text.now options.cells options.stack
+    ensures cost { CostsText (source_change I.read_gives I.left I.is_over I.faults input.old input.new)
+        (sink_change K.put_gives K.taken K.faults out.old out.new) text.now options.cells options.stack
         steps result.status result.cost }
     ensures input_later { I.faults input.old ≤ I.faults input.new }
     ensures out_later { K.faults out.old ≤ K.faults out.new }
@@ -51,13 +51,13 @@ pub(crate) fn run_counted<I: Source, K: Sink>(
     match compiled(alloc, text, options) {
         Ok(built) => {
             let ran = exec_counted(alloc, built.image.as_slice(), steps, input, out);
-            let status = named(ran.status);
-            Ended {
+            let status = status_of_exit(ran.status);
+            EndedWithCost {
                 status,
                 cost: Cost::of_run(&built, status, ran.counts, options.cells),
             }
         }
-        Err(status) => Ended { status, cost: None },
+        Err(status) => EndedWithCost { status, cost: None },
     }
 }
 
@@ -71,9 +71,9 @@ pub fn run_text<I: Source, K: Sink>(
     input: &mut I,
     out: &mut K,
 ) -> Status
-    requires { InRange cells stack }
-    ensures outcome { Outcome (of_source I.read_gives I.left I.is_over I.faults input.old input.new)
-        (of_sink K.put_gives K.taken K.faults out.old out.new) text.now cells stack steps result }
+    requires { SizesAreInRange cells stack }
+    ensures outcome { Outcome (source_change I.read_gives I.left I.is_over I.faults input.old input.new)
+        (sink_change K.put_gives K.taken K.faults out.old out.new) text.now cells stack steps result }
     ensures input_later { I.faults input.old ≤ I.faults input.new }
     ensures out_later { K.faults out.old ≤ K.faults out.new }
 {

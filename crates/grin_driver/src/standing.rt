@@ -1,7 +1,7 @@
 //! In which procedure an image stood where its run found no alternative.
 
 ghost use Rattle.std.specs.Prelude.{◌≡◌, ◌-◌, ◌≤◌, length, slice_get, Some, ◌&&◌, nat_le};
-ghost use Rattle.grin_driver.specs.Standing.{LiesIn, Names, IsPlace, place_line};
+ghost use Rattle.grin_driver.specs.Standing.{LiesInProcedure, LineNamesProcedure, IsPlaceLine, place_line};
 
 use seq::Text;
 use text_commands::note::Note;
@@ -19,7 +19,7 @@ fn is_between(start: u32, found: u32, at: u32) -> bool
 
 /// The procedure in whose code an address lies, where procedures start at these.
 fn procedure_at(starts: &[u32], at: u32) -> Option<usize>
-    ensures { LiesIn starts.now at result }
+    ensures { LiesInProcedure starts.now at result }
 {
     let mut last = None;
     let mut found = 0;
@@ -46,18 +46,18 @@ fn line(name: &[u8]) -> Note
 /// The line that names the procedure in whose code an address lies, if there is one.
 fn named_at(starts: &[u32], names: &[Text], at: u32) -> Option<Note>
     requires { length starts.now ≡ length names.now }
-    ensures { Names starts.now names.now at result }
+    ensures { LineNamesProcedure starts.now names.now at result }
 {
     let f = procedure_at(starts, at)?;
     let name = names.get(f)?;
     Some(line(name.as_slice()))
 }
 
-/// The line for a run that ended so, with this in x5, which is 4 behind its last step in the code of
-/// procedures where it found no alternative.
+/// The line for a run that ended so, with this in x5, which is 4 behind its last step in the code
+/// of procedures where it found no alternative.
 pub(crate) fn place(starts: &[u32], names: &[Text], status: Status, x5: u32) -> Option<Note>
     requires { length starts.now ≡ length names.now }
-    ensures { IsPlace starts.now names.now status (x5 - 4) result }
+    ensures { IsPlaceLine starts.now names.now status (x5 - 4) result }
 {
     match status {
         Status::NoAlternative => named_at(starts, names, x5.saturating_sub(4)),

@@ -6,7 +6,7 @@ use Rattle.std.proofs.lemmas.Iterator.Adapters.{position_from-zero}
 use Rattle.std.proofs.lemmas.Slice.Eq.{bytes_eq-Decides}
 use Rattle.grin_io.specs.declared.memory.MemFile.{MemFile}
 use Rattle.grin_io.specs.Content.{file_named}
-use Rattle.grin_io.specs.Folder.{named_files, OpensAt}
+use Rattle.grin_io.specs.Folder.{named_files, OpensFileAt}
 
 abbrev has_name : List ℕ → MemFile → Bool
 has_name name f = bytes_eq (string_bytes f.name) name
@@ -55,24 +55,24 @@ search_from name (f ∷ files) i = elim (decide (has_name name f)) [
   ]
 ]
 
-here : (name : List ℕ) (named : List (List ℕ × List ℕ)) (at : ℕ) (f : List ℕ × List ℕ) → slice_get named at ≡ Some f → f.0 ≡ name → file_named name named ≡ Some f.1 → OpensAt name named (Some at)
+here : (name : List ℕ) (named : List (List ℕ × List ℕ)) (at : ℕ) (f : List ℕ × List ℕ) → slice_get named at ≡ Some f → f.0 ≡ name → file_named name named ≡ Some f.1 → OpensFileAt name named (Some at)
 here name named at f stands same first = record {
   found = sym (ap is_some first);
   opened = ap (option_map (λ g. (g.0, 0))) stands ∙ ap (λ n. Some (n, 0)) same ∙ sym (ap (option_map (λ _. (name, 0))) first);
   sound = subst (λ o. IsSomeAnd o (λ g. (file_named g.0 named ≡ Some g.1) × (0 ≤ length g.1))) (sym stands) (ap (λ n. file_named n named) same ∙ first, omega arith);
 }
 
-pub opens_at : (name : List ℕ) (files : List MemFile) (index : Option ℕ) → index ≡ position (has_name name) files → OpensAt name (named_files files) index
+pub opens_at : (name : List ℕ) (files : List MemFile) (index : Option ℕ) → index ≡ position (has_name name) files → OpensFileAt name (named_files files) index
 opens_at name files index e =
     let from : index ≡ position_from (has_name name) 0 files = e ∙ position_from-zero (has_name name) files in
     elim (search_from name files 0) [
       | inl r ↦
           let at : Some r.at ≡ index = ap Some (omega arith) ∙ sym r.place ∙ sym from in
           let same : string_bytes r.file.name ≡ name = (bytes_eq-Decides (string_bytes r.file.name) name).0 r.name_is in
-          subst (OpensAt name (named_files files)) at (here name (named_files files) r.at (string_bytes r.file.name, r.file.bytes.items) r.stands same r.first)
+          subst (OpensFileAt name (named_files files)) at (here name (named_files files) r.at (string_bytes r.file.name, r.file.bytes.items) r.stands same r.first)
       | inr r ↦
           let at : None ≡ index = sym r.place ∙ sym from in
-          subst (OpensAt name (named_files files)) at (record {
+          subst (OpensFileAt name (named_files files)) at (record {
             found = sym (ap is_some r.none);
             opened = sym (ap (option_map (λ _. (name, 0))) r.none);
             sound = tt;

@@ -2,10 +2,10 @@
 use Rattle.std.specs.Prelude.{ℕ, ◌+◌, ◌-◌, ◌^◌, ◌≤◌, min, OnErr, Result}
 
 -- the count rose during the call; at the largest u64 it can't, and standing there is enough
-abbrev pub Rose : ℕ → ℕ → Type 0
-Rose before now = min (before + 1) (2 ^ 64 - 1) ≤ now
+abbrev pub CountGrew : ℕ → ℕ → Type 0
+CountGrew before now = min (before + 1) (2 ^ 64 - 1) ≤ now
 
 -- a count never falls, and a fault is answered only where it rose
-pub record HasCause {T E : Type 0} (before now : ℕ) (result : Result T E) : Type 0 where
+pub record FaultsAreCounted {T E : Type 0} (before now : ℕ) (result : Result T E) : Type 0 where
   pub later : before ≤ now
-  pub failed : OnErr result (Rose before now)
+  pub failed : OnErr result (CountGrew before now)

@@ -24,12 +24,12 @@ abbrev pub IsOpenIn : List (List ℕ × List ℕ) → Option ℕ → ℕ → Typ
 IsOpenIn named index at = IfSome index (λ i. IsSomeAnd (slice_get named i) (λ f.
     (file_named f.0 named ≡ Some f.1) × (at ≤ length f.1)))
 
-abbrev pub IsSound : Inside → Type 0
-IsSound f = IsOpenIn (named_files f.files.items) f.index f.at
+abbrev pub OpenFileIsValid : Inside → Type 0
+OpenFileIsValid f = IsOpenIn (named_files f.files.items) f.index f.at
 
 -- a file that is opened at this place is the first one with the name, at its start; where there is
 -- none no file is open
-pub record OpensAt (name : List ℕ) (named : List (List ℕ × List ℕ)) (index : Option ℕ)
+pub record OpensFileAt (name : List ℕ) (named : List (List ℕ × List ℕ)) (index : Option ℕ)
     : Type 0 where
   pub found : is_some index ≡ is_some (file_named name named)
   pub opened : open_place named index 0 ≡ option_map (λ _. (name, 0)) (file_named name named)

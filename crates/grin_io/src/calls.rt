@@ -1,5 +1,5 @@
 ghost use Rattle.std.specs.Prelude.{◌≡◌, ◌≤◌, Bool, not, is_ok};
-ghost use Rattle.grin_io.specs.Causes.{Rose, HasCause};
+ghost use Rattle.grin_io.specs.Causes.{CountGrew, FaultsAreCounted};
 ghost use Rattle.grin_io.specs.Memory.{no_calls, is_planned, called, faulted};
 
 use crate::outside::Failed;
@@ -15,9 +15,9 @@ pub struct Schedule {
 }
 
 impl Model for Schedule {
-    ghost use Rattle.grin_io.specs.Memory.{Calls};
+    ghost use Rattle.grin_io.specs.Memory.{CallSchedule};
 
-    ghost Value = { Calls };
+    ghost Value = { CallSchedule };
 
     ghost view = { λ s. record { planned = s.planned.items; made = s.made; faults = s.faults } };
 }
@@ -38,7 +38,7 @@ impl Schedule {
     pub fn call(&mut self) -> Result<(), Failed>
         ensures counted { self.new ≡ called self.old }
         ensures planned { is_ok result ≡ not (is_planned self.old) }
-        ensures cause { HasCause self.old.faults self.new.faults result }
+        ensures cause { FaultsAreCounted self.old.faults self.new.faults result }
     {
         let fails = self.planned.contains(&self.made);
         self.made = self.made.saturating_add(1);
@@ -53,7 +53,7 @@ impl Schedule {
     pub fn fault(&mut self)
         ensures counted { self.new ≡ faulted self.old }
         ensures later { self.old.faults ≤ self.new.faults }
-        ensures rose { Rose self.old.faults self.new.faults }
+        ensures rose { CountGrew self.old.faults self.new.faults }
     {
         self.faults = self.faults.saturating_add(1);
     }

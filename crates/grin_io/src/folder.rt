@@ -1,7 +1,7 @@
 ghost use Rattle.std.specs.Prelude.{◌≡◌, ◌<◌, ◌≤◌, true, List, None, Some, IfSome, min, length, option_map, is_some, position, string_bytes, bytes_eq};
-ghost use Rattle.grin_io.specs.Content.{Fills, file_named, rest_of, moved_on};
-ghost use Rattle.grin_io.specs.Folder.{named_files, OpensAt};
-ghost use Rattle.grin_io.specs.Memory.{opened_file, closed, readable, read_on};
+ghost use Rattle.grin_io.specs.Content.{FillsBuffer, file_named, unread_rest, advanced_place};
+ghost use Rattle.grin_io.specs.Folder.{named_files, OpensFileAt};
+ghost use Rattle.grin_io.specs.Memory.{opened_file, closed, read_length, after_reading};
 
 use crate::memory::{MemFile, fill};
 use std::marker::Model;
@@ -19,11 +19,11 @@ impl Model for Folder {
 
     ghost Value = { Files };
 
-    ghost use Rattle.grin_io.specs.Folder.{files_of, IsSound};
+    ghost use Rattle.grin_io.specs.Folder.{files_of, OpenFileIsValid};
 
     ghost view = { files_of };
 
-    ghost invariant = { IsSound };
+    ghost invariant = { OpenFileIsValid };
 }
 
 /// The place of the first file with a name.
@@ -35,7 +35,7 @@ fn place_of(files: &[MemFile], name: &str) -> Option<usize>
 
 /// The place of the first file with a name, as what is open once it is opened there.
 fn place_to_open(files: &[MemFile], name: &str) -> Option<usize>
-    ensures { OpensAt name.now (named_files files.now) result }
+    ensures { OpensFileAt name.now (named_files files.now) result }
 {
     place_of(files, name)
 }
@@ -73,9 +73,9 @@ impl Folder {
     /// Reads the next bytes of the open file, as many as there are and fit.
     pub fn read(&mut self, buf: &mut [u8]) -> usize
         requires { is_some self.old.opened ≡ true }
-        ensures count { result ≡ readable self.old (length buf.old) }
-        ensures fills { Fills (rest_of self.old.named self.old.opened) buf.old buf.new result }
-        ensures moved { self.new ≡ read_on self.old result }
+        ensures count { result ≡ read_length self.old (length buf.old) }
+        ensures fills { FillsBuffer (unread_rest self.old.named self.old.opened) buf.old buf.new result }
+        ensures moved { self.new ≡ after_reading self.old result }
     {
         let Some(index) = self.index else {
             unreachable!();

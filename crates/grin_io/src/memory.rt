@@ -1,7 +1,7 @@
 ghost use Rattle.std.specs.Prelude.{◌≡◌, ℕ, ◌+◌, ◌-◌, ◌≤◌, List, [], ◌++◌, min, length, take, drop, Some, None, IfOk, is_some, refl};
-ghost use Rattle.grin_io.specs.Content.{Fills};
+ghost use Rattle.grin_io.specs.Content.{FillsBuffer};
 ghost use Rattle.grin_io.specs.Folder.{named_files};
-ghost use Rattle.grin_io.specs.Memory.{no_calls, is_opened, after_open, provided, after_file_read, supplied, after_read, is_stored, after_put};
+ghost use Rattle.grin_io.specs.Memory.{no_calls, is_opened, after_open, file_read_answer, after_file_read, source_read_answer, after_read, is_stored, after_put};
 
 use crate::calls::Schedule;
 use crate::folder::Folder;
@@ -19,7 +19,7 @@ pub struct MemFile {
 /// Copies bytes from one front to another, as many as there are and fit.
 pub fn fill(from: &[u8], buf: &mut [u8]) -> usize
     ensures count { result ≡ min (length from.now) (length buf.old) }
-    ensures fills { Fills from.now buf.old buf.new result }
+    ensures fills { FillsBuffer from.now buf.old buf.new result }
 {
     let count = from.len().min(buf.len());
     buf[..count].copy_from_slice(&from[..count]);
@@ -34,9 +34,9 @@ pub struct MemShelf {
 }
 
 impl Model for MemShelf {
-    ghost use Rattle.grin_io.specs.Memory.{Stock};
+    ghost use Rattle.grin_io.specs.Memory.{FilesInMemory};
 
-    ghost Value = { Stock };
+    ghost Value = { FilesInMemory };
 
     ghost view = { λ s. record { files = s.folder; calls = s.schedule } };
 }
@@ -70,7 +70,7 @@ impl Shelf for MemShelf {
 
     ghost open_gives = { λ s name well t. (well ≡ is_opened s name) × (t ≡ after_open s name) };
 
-    ghost read_gives = { λ s room answer t. (answer ≡ provided s room)
+    ghost read_gives = { λ s room answer t. (answer ≡ file_read_answer s room)
         × (t ≡ after_file_read s room) };
 
     ghost told = { λ _. refl };
@@ -103,9 +103,9 @@ pub struct MemSource {
 
 impl Model for MemSource {
     ghost use Rattle.std.specs.Prelude.{drop, ◌≤◌, length};
-    ghost use Rattle.grin_io.specs.Memory.{Supply};
+    ghost use Rattle.grin_io.specs.Memory.{SourceInMemory};
 
-    ghost Value = { Supply };
+    ghost Value = { SourceInMemory };
 
     ghost view = { λ s. record { left = drop s.given s.bytes.items; calls = s.schedule } };
 
@@ -133,7 +133,7 @@ impl Source for MemSource {
 
     ghost faults = { λ s. s.calls.faults };
 
-    ghost read_gives = { λ s room answer t. (answer ≡ supplied s room) × (t ≡ after_read s room) };
+    ghost read_gives = { λ s room answer t. (answer ≡ source_read_answer s room) × (t ≡ after_read s room) };
 
     ghost ends = { λ _ none. none };
 

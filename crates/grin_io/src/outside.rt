@@ -1,7 +1,7 @@
 ghost use Rattle.std.specs.Prelude.{◌≡◌, ℕ, ◌≤◌, Bool, true, List, [], Option, length, is_ok, is_some, IfOk, IfSome};
 ghost use Rattle.std.specs.Result.{result_ok};
-ghost use Rattle.grin_io.specs.Causes.{HasCause};
-ghost use Rattle.grin_io.specs.Content.{Files, Opens, ReadsFile, Reads, bytes_read, KeepsEnd, Takes};
+ghost use Rattle.grin_io.specs.Causes.{FaultsAreCounted};
+ghost use Rattle.grin_io.specs.Content.{Files, OpensFile, ReadsFile, Reads, bytes_read, EndIsFinal, PutTakesPrefix};
 
 /// An opening, a read or a put failed.
 #[derive(Clone, Copy, PartialEq, Eq, Debug, Drop)]
@@ -41,9 +41,9 @@ pub trait Shelf {
     /// open.
     fn open(&mut self, name: &str) -> Result<(), Failed>
         requires { permitted name.now }
-        ensures content { Opens (content self.old) (content self.new) name.now result }
+        ensures content { OpensFile (content self.old) (content self.new) name.now result }
         ensures opened { is_open self.new ≡ is_ok result }
-        ensures cause { HasCause (faults self.old) (faults self.new) result }
+        ensures cause { FaultsAreCounted (faults self.old) (faults self.new) result }
         ensures exactly { open_gives self.old name.now (is_ok result) self.new };
 
     /// Reads the next bytes of the open file into the front of the buffer; their number, which is 0
@@ -54,7 +54,7 @@ pub trait Shelf {
         ensures content { ReadsFile (content self.old) (content self.new) buf.old buf.new result }
         ensures within { IfOk result (λ k. k ≤ length buf.old) }
         ensures opened { is_open self.new ≡ is_open self.old }
-        ensures cause { HasCause (faults self.old) (faults self.new) result }
+        ensures cause { FaultsAreCounted (faults self.old) (faults self.new) result }
         ensures exactly { read_gives self.old (length buf.old) (result_ok result) self.new };
 
     /// The content tells of an open file exactly where there is one.
@@ -81,8 +81,8 @@ pub trait Source {
     fn read(&mut self, buf: &mut [u8]) -> Result<usize, Failed>
         ensures content { Reads (left self.old) (left self.new) buf.old buf.new result }
         ensures within { IfOk result (λ k. k ≤ length buf.old) }
-        ensures end { KeepsEnd (is_over self.old) (is_over self.new) (length buf.old) result }
-        ensures cause { HasCause (faults self.old) (faults self.new) result }
+        ensures end { EndIsFinal (is_over self.old) (is_over self.new) (length buf.old) result }
+        ensures cause { FaultsAreCounted (faults self.old) (faults self.new) result }
         ensures exactly { read_gives self.old (length buf.old) (bytes_read result buf.new) self.new };
 
     /// Behind the end no byte is left.
@@ -104,7 +104,7 @@ pub trait Sink {
     /// Takes a piece. After `Failed` some of it, from its front on, was taken, maybe nothing and
     /// maybe all.
     fn put(&mut self, piece: &[u8]) -> Result<(), Failed>
-        ensures content { Takes (taken self.old) (taken self.new) piece.now result }
-        ensures cause { HasCause (faults self.old) (faults self.new) result }
+        ensures content { PutTakesPrefix (taken self.old) (taken self.new) piece.now result }
+        ensures cause { FaultsAreCounted (faults self.old) (faults self.new) result }
         ensures exactly { put_gives self.old piece.now (is_ok result) self.new };
 }

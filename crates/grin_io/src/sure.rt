@@ -1,7 +1,7 @@
 ghost use Rattle.std.specs.Prelude.{◌≡◌, ℕ, ◌≤◌, List, [], ◌++◌, min, length, take, drop, Some, None, is_some, refl};
 ghost use Rattle.grin_io.specs.Content.{file_named};
 ghost use Rattle.grin_io.specs.Folder.{named_files};
-ghost use Rattle.grin_io.specs.Memory.{readable, after_sure_open, after_sure_read};
+ghost use Rattle.grin_io.specs.Memory.{read_length, after_sure_open, after_sure_read};
 
 use crate::folder::Folder;
 use crate::memory::{MemFile, fill};
@@ -17,9 +17,9 @@ pub struct SureShelf {
 }
 
 impl Model for SureShelf {
-    ghost use Rattle.grin_io.specs.Memory.{SureStock};
+    ghost use Rattle.grin_io.specs.Memory.{UnfailingFiles};
 
-    ghost Value = { SureStock };
+    ghost Value = { UnfailingFiles };
 
     ghost view = { λ s. record { files = s.folder; faults = s.faults } };
 }
@@ -52,7 +52,7 @@ impl Shelf for SureShelf {
     ghost open_gives = { λ s name well t. (well ≡ is_some (file_named name s.files.named))
         × (t ≡ after_sure_open s name) };
 
-    ghost read_gives = { λ s room answer t. (answer ≡ Some (readable s.files room))
+    ghost read_gives = { λ s room answer t. (answer ≡ Some (read_length s.files room))
         × (t ≡ after_sure_read s room) };
 
     ghost told = { λ _. refl };

@@ -1,5 +1,5 @@
 ghost use Rattle.std.specs.Prelude.{◌≡◌, ℕ, ◌≤◌, ◌<◌, false, true, None, IfOk, OnErr, length};
-ghost use Rattle.grin_io.specs.Causes.{HasCause, Rose};
+ghost use Rattle.grin_io.specs.Causes.{FaultsAreCounted, CountGrew};
 
 use crate::outside::{Failed, Shelf, Sink, Source};
 use std::fs::File;
@@ -9,7 +9,7 @@ use std::rt::{Stderr, Stdin, Stdout};
 /// Counts a fault.
 fn fault(faults: &mut u64) -> Failed
     ensures later { faults.old ≤ faults.new }
-    ensures rose { Rose faults.old faults.new }
+    ensures rose { CountGrew faults.old faults.new }
 {
     *faults = faults.saturating_add(1);
     Failed
@@ -22,7 +22,7 @@ pub(crate) fn read_once<R: Read>(
     buf: &mut [u8],
 ) -> Result<usize, Failed>
     ensures within { IfOk result (λ k. k ≤ length buf.old) }
-    ensures cause { HasCause faults.old faults.new result }
+    ensures cause { FaultsAreCounted faults.old faults.new result }
 {
     match reader.read(buf) {
         Ok(count) => Ok(count),
@@ -33,7 +33,7 @@ pub(crate) fn read_once<R: Read>(
 /// Writes once, at least one byte; an error is a fault, and so is a write that takes nothing.
 fn write_once<W: Write>(writer: &mut W, faults: &mut u64, piece: &[u8]) -> Result<usize, Failed>
     ensures within { IfOk result (λ k. (0 < k) × (k ≤ length piece.now)) }
-    ensures cause { HasCause faults.old faults.new result }
+    ensures cause { FaultsAreCounted faults.old faults.new result }
 {
     match writer.write(piece) {
         Ok(0) | Err(_) => Err(fault(faults)),
@@ -47,7 +47,7 @@ pub(crate) fn write_whole<W: Write>(
     faults: &mut u64,
     piece: &[u8],
 ) -> Result<(), Failed>
-    ensures { HasCause faults.old faults.new result }
+    ensures { FaultsAreCounted faults.old faults.new result }
 {
     let mut done = 0;
     while done < piece.len() {
@@ -56,9 +56,9 @@ pub(crate) fn write_whole<W: Write>(
     Ok(())
 }
 
-/// The files of the system. It tells no content. A file whose end was met is given back to the system
-/// at once: where the standard input was closed, the file has got its descriptor, and would be read
-/// as the input.
+/// The files of the system. It tells no content. A file whose end was met is given back to the
+/// system at once: where the standard input was closed, the file has got its descriptor, and would
+/// be read as the input.
 #[derive(Drop)]
 pub struct FileShelf {
     runtime: HostRuntime,
@@ -120,8 +120,8 @@ impl Shelf for FileShelf {
     }
 }
 
-/// The standard input. It tells no content. Once a read met its end it isn't read again, so that the
-/// end stays also where more would come, as at a terminal.
+/// The standard input. It tells no content. Once a read met its end it isn't read again, so that
+/// the end stays also where more would come, as at a terminal.
 #[derive(Drop)]
 pub struct StdIn {
     stream: Stdin,

@@ -10,9 +10,9 @@ use Rattle.grin_syntax.specs.declared.program.Val.TheVariants.{NodeVar, Node as 
 use Rattle.grin_syntax.specs.declared.program.Word.{Word}
 use Rattle.grin_syntax.specs.declared.program.Word.TheVariants.{Lit, Var, Global, TagWord}
 use Rattle.grin_syntax.specs.Tree.{Code, end, store, bind, Act, unit, fetch, fetch_word, update, eval, apply, call, prim, read, write, case, nested, fail, Arms, no_arm, arm, Procedure, Program}
-use Rattle.grin_meaning.specs.Values.{Datum, number, gives, Node, Value, node, words, Env, State, World, Answer, then_do, need, and_then, Binding, with_vars, Fit, fits, fits_not, unclear, fit_of, as_node, made_node, word_of, words_of, value_of, node_of, only_word, bindings_of}
-use Rattle.grin_meaning.specs.Run.{Calls, act, code, arms, choose, byte_or_end, after_read, passing, places, cells_of, with_cells, place_of, number_of, on_numbers, eval_cell, updated, apply_part, is_fun_kind, is_part_kind, is_evaluated, part_from}
-use Rattle.grin_meaning.specs.Follows.{Depths, other, Same, same, free, gives_too, stops_too}
+use Rattle.grin_meaning.specs.Values.{Datum, number, gives, Node, Value, node, words, Env, State, World, Answer, then_do, need, and_then, Binding, with_vars, MatchOutcome, fits, fits_not, unclear, fit_of, as_node, made_node, word_of, words_of, value_of, node_of, only_word, bindings_of}
+use Rattle.grin_meaning.specs.Run.{Calls, act, code, arms, choose, byte_or_end, after_read, with_state_seen, places, cells_of, with_cells, place_of, number_of, apply_arithmetic, eval_cell, updated, apply_part, is_fun_kind, is_part_kind, is_evaluated, part_from}
+use Rattle.grin_meaning.specs.Follows.{DepthComparison, other, Same, same, free, gives_too, stops_too}
 use Rattle.grin_meaning.specs.Names.{WordOk, WordsOk, ValOk, CellsOk, ActOk}
 use Rattle.grin_meaning.proofs.Back.{Back, need_back, CallsBack, code_back, updated_back, every_front}
 use Rattle.grin_meaning.proofs.Related as related
@@ -64,7 +64,7 @@ same_result f = Same
 -- the variables that matter beside what a setting has
 pub record Plain : Type 1 where
   pub P : State → Type 0
-  pub K : Depths
+  pub K : DepthComparison
   pub Ok : ℕ → Type 0
   pub g : Program
   pub procs : List Procedure
@@ -76,7 +76,7 @@ pub record Plain : Type 1 where
 abbrev pub setting : Plain → Setting
 setting s = record { P = s.P; K = s.K; Args = same_args; Result = same_result; g = s.g; procs = s.procs; c = s.c; c' = s.c'; back = s.back; follow = s.follow }
 
-module _ (P : State → Type 0) (K : Depths) where
+module _ (P : State → Type 0) (K : DepthComparison) where
   abbrev pub Sim : Answer → Answer → Type 0
   Sim = related.Sim P K Same
 
@@ -86,7 +86,7 @@ module _ (P : State → Type 0) (K : Depths) where
   pub cond_sim : (b : Bool) (x y x' y' : Answer) → Sim x x' → Sim y y' → Sim (cond b x y) (cond b x' y')
   cond_sim = related.cond_sim P K Same
 
-  pub choose_sim : (f : Fit) (w w' : World) (k k' : List Binding → Answer) (x x' : Answer) → ((bs : List Binding) → Sim (k bs) (k' bs)) → Sim x x' → Sim (choose f w k x) (choose f w' k' x')
+  pub choose_sim : (f : MatchOutcome) (w w' : World) (k k' : List Binding → Answer) (x x' : Answer) → ((bs : List Binding) → Sim (k bs) (k' bs)) → Sim x x' → Sim (choose f w k x) (choose f w' k' x')
   choose_sim (fits bs) w w' k k' x x' h hx = h bs
   choose_sim fits_not w w' k k' x x' h hx = hx
   choose_sim unclear w w' k k' x x' h hx = λ _. free
@@ -114,7 +114,7 @@ module _ (s : Plain) where
   ArmsLike = ArmsFollow (setting s) (Agree Ok) Same Same
 
   pub enter : (b b' : Code) → CodeLike b b' → (env env' : Env) (d d' : ℕ) (w : World) (ss : List State) (e : ℕ) → Agree Ok env env' → K.Deep d' d → K.Deep e w.depth
-      → Sim P K (code g c env d b (passing env w)) (code after c' env' d' b' (passing env' (other w ss e)))
+      → Sim P K (code g c env d b (with_state_seen env w)) (code after c' env' d' b' (with_state_seen env' (other w ss e)))
   enter b b' f = related.enter (setting s) (Agree Ok) Same b b' f
 
   pub unit_follows : (v : Val) → ValOk Ok v → ActLike (unit v) (unit v)
@@ -159,7 +159,7 @@ module _ (s : Plain) where
   prim_follows f a b h k = record {
     by = λ env env' d d' w ss e ag dd de at. rw (word_same g Ok env env' ag a h, word_same g Ok env env' ag b k)
         (need_sim P K (word_of g env a) w (other w ss e) _ _ (λ x. need_sim P K (word_of g env b) w (other w ss e) _ _ (λ y.
-        need_sim P K (on_numbers f x y) w (other w ss e) _ _ (λ v _. gives_too ss e same de))));
+        need_sim P K (apply_arithmetic f x y) w (other w ss e) _ _ (λ v _. gives_too ss e same de))));
   }
 
   read_sim : (i : List ℕ) (w : World) (ss : List State) (e : ℕ) → K.Deep e w.depth
@@ -239,7 +239,7 @@ module _ (s : Plain) where
   bind_follows t o o' b b' f k = record {
     by = λ env env' d d' w ss e ag dd de at.
         then_sim P K _ _ _ _
-        (λ v w'. need_back P (bindings_of g t v) w' _ (λ bs all. every_front P w'.seen _ (code_back P g c cb (with_vars bs env) d b (passing (with_vars bs env) w') all)))
+        (λ v w'. need_back P (bindings_of g t v) w' _ (λ bs all. every_front P w'.seen _ (code_back P g c cb (with_vars bs env) d b (with_state_seen (with_vars bs env) w') all)))
         (f.by env env' (suc d) (suc d') w ss e ag (K.up dd) de at)
         (λ v w' ss' e' de'. need_sim P K (bindings_of g t v) w' (other w' ss' e') _ _ (λ bs. enter b b' k (with_vars bs env) (with_vars bs env') d d' w' ss' e' (vars_agree Ok bs env env' ag) dd de'));
   }

@@ -1,27 +1,27 @@
 -- The states that a run has passed through stay.
 use Rattle.std.proofs.Common.{ℕ, zero, suc, List, [], ◌∷◌, ◌++◌, length, Bool, true, false, cond, Option, Some, None, slice_get}
 use Rattle.grin_syntax.specs.Tree.{Code, end, store, bind, Act, unit, fetch, fetch_word, update, eval, apply, call, prim, read, write, case, nested, fail, Arms, no_arm, arm, Program}
-use Rattle.grin_meaning.specs.Values.{Datum, number, words, Node, Value, Env, State, World, Answer, gives, stops, then_do, need, and_then, Binding, with_vars, one_each, Fit, fits, fits_not, unclear, fit_of, as_node, made_node, word_of, words_of, value_of, node_of, bindings_of}
-use Rattle.grin_meaning.specs.Run.{Calls, act_by, code_by, arms_by, code, calls, calls_by, looking, looking_at, choose, byte_or_end, after_read, spend, spent, passing, places, cells_of, with_cells, place_of, number_of, on_numbers, eval_cell, updated, apply_node, apply_part, is_fun_kind, is_part_kind, is_evaluated, part_from}
+use Rattle.grin_meaning.specs.Values.{Datum, number, words, Node, Value, Env, State, World, Answer, gives, stops, then_do, need, and_then, Binding, with_vars, one_each, MatchOutcome, fits, fits_not, unclear, fit_of, as_node, made_node, word_of, words_of, value_of, node_of, bindings_of}
+use Rattle.grin_meaning.specs.Run.{Calls, act_by, code_by, arms_by, code, calls, calls_by, require_if_checked, require_value_if_checked, choose, byte_or_end, after_read, spend, spent, with_state_seen, places, cells_of, with_cells, place_of, number_of, apply_arithmetic, eval_cell, updated, apply_node, apply_part, is_fun_kind, is_part_kind, is_evaluated, part_from}
 use Rattle.grin_meaning.specs.Keeps.{world_of}
-use Rattle.grin_meaning.specs.Follows.{Every}
+use Rattle.grin_meaning.specs.Follows.{HoldsInEveryState}
 
 module _ (P : State → Type 0) where
-  pub every_front : (xs ys : List State) → Every P (xs ++ ys) → Every P xs
+  pub every_front : (xs ys : List State) → HoldsInEveryState P (xs ++ ys) → HoldsInEveryState P xs
   every_front [] ys h = tt
   every_front (x ∷ xs) ys h = (h.0, every_front xs ys h.1)
 
-  pub every_last : (xs : List State) (s : State) → Every P (xs ++ s ∷ []) → P s
+  pub every_last : (xs : List State) (s : State) → HoldsInEveryState P (xs ++ s ∷ []) → P s
   every_last [] s h = h.0
   every_last (x ∷ xs) s h = every_last xs s h.1
 
   -- where a block goes on, its state is as P says
-  pub at_entry : (w : World) (s : State) (a : Answer) → (Every P (world_of a).seen → Every P (w.seen ++ s ∷ [])) → Every P (world_of a).seen → P s
+  pub at_entry : (w : World) (s : State) (a : Answer) → (HoldsInEveryState P (world_of a).seen → HoldsInEveryState P (w.seen ++ s ∷ [])) → HoldsInEveryState P (world_of a).seen → P s
   at_entry w s a b e = every_last w.seen s (b e)
 
   -- what holds of each state in the end held of each before
   abbrev pub Back : World → Answer → Type 0
-  Back w a = Every P (world_of a).seen → Every P w.seen
+  Back w a = HoldsInEveryState P (world_of a).seen → HoldsInEveryState P w.seen
 
   pub need_back : {A : Type 0} (o : Option A) (w : World) (k : A → Answer) → ((a : A) → Back w (k a)) → Back w (need o w k)
   need_back None w k h = λ e. e
@@ -35,16 +35,16 @@ module _ (P : State → Type 0) where
   cond_back true w x y hx hy = hx
   cond_back false w x y hx hy = hy
 
-  choose_back : (f : Fit) (w : World) (k : List Binding → Answer) (x : Answer) → ((bs : List Binding) → Back w (k bs)) → Back w x → Back w (choose f w k x)
+  choose_back : (f : MatchOutcome) (w : World) (k : List Binding → Answer) (x : Answer) → ((bs : List Binding) → Back w (k bs)) → Back w x → Back w (choose f w k x)
   choose_back (fits bs) w k x h hx = h bs
   choose_back fits_not w k x h hx = hx
   choose_back unclear w k x h hx = λ e. e
 
-  pub looking_back : (looks b : Bool) (w : World) (a : Answer) → Back w a → Back w (looking looks b w a)
+  pub looking_back : (looks b : Bool) (w : World) (a : Answer) → Back w a → Back w (require_if_checked looks b w a)
   looking_back false b w a h = h
   looking_back true b w a h = cond_back b w a _ h (λ e. e)
 
-  pub given_back : (looks : Bool) (f : Value → Bool) (w : World) (a : Answer) → Back w a → Back w (looking_at looks f a)
+  pub given_back : (looks : Bool) (f : Value → Bool) (w : World) (a : Answer) → Back w a → Back w (require_value_if_checked looks f a)
   given_back false f w a h = h
   given_back true f w a h = then_back a w _ h (λ v w'. cond_back (f v) w' _ _ (λ e. e) (λ e. e))
 
@@ -86,7 +86,7 @@ module _ (P : State → Type 0) where
         act_back env d (eval a) w = need_back (and_then (word_of p env a) place_of) w _ (λ i. eval_back d i w)
         act_back env d (apply v a) w = need_back (node_of p env v) w _ (λ n. need_back (word_of p env a) w _ (λ x. apply_back d n x w))
         act_back env d (call f ws) w = need_back (words_of p env ws) w _ (λ xs. cb.by f.0 xs d w)
-        act_back env d (prim f a b) w = need_back (word_of p env a) w _ (λ x. need_back (word_of p env b) w _ (λ y. need_back (on_numbers f x y) w _ (λ v e. e)))
+        act_back env d (prim f a b) w = need_back (word_of p env a) w _ (λ x. need_back (word_of p env b) w _ (λ y. need_back (apply_arithmetic f x y) w _ (λ v e. e)))
         act_back env d read w = read_back w.input w
         act_back env d (write a) w = need_back (and_then (word_of p env a) number_of) w _ (λ k e. e)
         act_back env d (case v as') w = need_back (value_of p env v) w _ (λ x. arms_back env d x as' w)
@@ -96,13 +96,13 @@ module _ (P : State → Type 0) where
         pub code_by_back : (env : Env) (d : ℕ) (b : Code) (w : World) → Back w (code_by p c looks env d b w)
         code_by_back env d (end o) w = act_back env d o w
         code_by_back env d (store cs b) w = need_back (cells_of p (with_vars (places (length w.cells) cs) env) cs) w _ (λ hs. looking_back looks _ w _ (λ e.
-            every_front w.seen _ (code_by_back (with_vars (places (length w.cells) cs) env) d b (passing (with_vars (places (length w.cells) cs) env) (with_cells hs w)) e)))
+            every_front w.seen _ (code_by_back (with_vars (places (length w.cells) cs) env) d b (with_state_seen (with_vars (places (length w.cells) cs) env) (with_cells hs w)) e)))
         code_by_back env d (bind t o b) w = then_back (act_by p c looks env (suc d) o w) w _ (act_back env (suc d) o w) (λ v w'. looking_back looks _ w' _
-            (need_back (bindings_of p t v) w' _ (λ bs e. every_front w'.seen _ (code_by_back (with_vars bs env) d b (passing (with_vars bs env) w') e))))
+            (need_back (bindings_of p t v) w' _ (λ bs e. every_front w'.seen _ (code_by_back (with_vars bs env) d b (with_state_seen (with_vars bs env) w') e))))
 
         pub arms_back : (env : Env) (d : ℕ) (v : Value) (as' : Arms) (w : World) → Back w (arms_by p c looks env d v as' w)
         arms_back env d v no_arm w = λ e. e
-        arms_back env d v (arm s b as') w = choose_back (fit_of p s v) w _ _ (λ bs e. every_front w.seen _ (code_by_back (with_vars bs env) d b (passing (with_vars bs env) w) e)) (arms_back env d v as' w)
+        arms_back env d v (arm s b as') w = choose_back (fit_of p s v) w _ _ (λ bs e. every_front w.seen _ (code_by_back (with_vars bs env) d b (with_state_seen (with_vars bs env) w) e)) (arms_back env d v as' w)
 
     pub code_back : (env : Env) (d : ℕ) (b : Code) (w : World) → Back w (code p c env d b w)
     code_back = code_by_back false
@@ -116,7 +116,7 @@ module _ (P : State → Type 0) where
   calls_by_back p looks zero = record { by = λ f xs d w e. e }
   calls_by_back p looks (suc n) = record {
     by = λ f xs d w. spend_back w.left w _ (λ m. need_back (slice_get p.procs f) w _ (λ q. need_back (one_each q.params xs) w _ (λ bs. given_back looks _ w _ (λ e.
-        every_front w.seen _ (code_by_back p (calls_by p looks n) (calls_by_back p looks n) looks (with_vars bs (λ y. None)) d q.body (passing (with_vars bs (λ y. None)) (spent f d m w)) e)))));
+        every_front w.seen _ (code_by_back p (calls_by p looks n) (calls_by_back p looks n) looks (with_vars bs (λ y. None)) d q.body (with_state_seen (with_vars bs (λ y. None)) (spent f d m w)) e)))));
   }
 
   pub calls_back : (p : Program) (n : ℕ) → CallsBack (calls p n)

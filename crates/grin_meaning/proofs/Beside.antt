@@ -2,9 +2,9 @@
 use Rattle.std.proofs.Common.{◌≡◌, ℕ, zero, suc, max, ◌≤◌, Bool, true, false, cond, List, length, Option, Some, None, refl, sym, ap, subst, arith}
 use Rattle.seq.proofs.Truth.{false_not_true}
 use Rattle.grin_meaning.specs.Values.{Value, HeapCell, State, World, Stop, missing, Answer, gives, stops, then_do, need}
-use Rattle.grin_meaning.specs.Run.{looking, looking_at, spend}
+use Rattle.grin_meaning.specs.Run.{require_if_checked, require_value_if_checked, spend}
 use Rattle.grin_meaning.specs.Keeps.{world_of}
-use Rattle.grin_meaning.specs.Follows.{Same, same, Every}
+use Rattle.grin_meaning.specs.Follows.{Same, same, HoldsInEveryState}
 use Rattle.grin_meaning.proofs.Back.{Back}
 
 -- how the nestings of two runs compare, and their heaps
@@ -56,7 +56,7 @@ need_is o a w k e = ap (λ q. need q w k) (sym e)
 module _ (P : State → Type 0) (K : Compared) where
   -- where the states of the first are as P says, the second answers likewise
   abbrev pub Sim : (Value → Value → Type 0) → Answer → Answer → Type 0
-  Sim V a a' = Every P (world_of a).seen → Likewise K V a a'
+  Sim V a a' = HoldsInEveryState P (world_of a).seen → Likewise K V a a'
 
   like_more : {U : Value → Value → Type 0} {a a' : Answer} (V : Value → Value → Type 0) → ((v v' : Value) → U v v' → V v v') → Likewise K U a a' → Likewise K V a a'
   like_more V h free = free
@@ -84,7 +84,7 @@ module _ (P : State → Type 0) (K : Compared) where
   cond_sim V true x y x' y' hx hy = hx
   cond_sim V false x y x' y' hx hy = hy
 
-  pub looking_sim : (V : Value → Value → Type 0) (looks b b' : Bool) (w w' : World) (a a' : Answer) → (Seen looks b → Seen looks b' × Sim V a a') → Sim V (looking looks b w a) (looking looks b' w' a')
+  pub looking_sim : (V : Value → Value → Type 0) (looks b b' : Bool) (w w' : World) (a a' : Answer) → (Seen looks b → Seen looks b' × Sim V a a') → Sim V (require_if_checked looks b w a) (require_if_checked looks b' w' a')
   looking_sim V false b b' w w' a a' h = (h (λ e. false_not_true e)).1
   looking_sim V true true b' w w' a a' h = let x : Seen true b' × Sim V a a' = h (λ _. refl) in subst (λ q. Sim V a (cond q a' (stops missing w'))) (sym (x.0 refl)) x.1
   looking_sim V true false b' w w' a a' h = λ _. free
@@ -93,12 +93,12 @@ module _ (P : State → Type 0) (K : Compared) where
   spend_sim V zero w b k k' h = λ _. stops_too b
   spend_sim V (suc m) w b k k' h = h m
 
-  before : (a : Answer) (k : Value → World → Answer) → ((v : Value) (w : World) → Back P w (k v w)) → Every P (world_of (then_do a k)).seen → Every P (world_of a).seen
+  before : (a : Answer) (k : Value → World → Answer) → ((v : Value) (w : World) → Back P w (k v w)) → HoldsInEveryState P (world_of (then_do a k)).seen → HoldsInEveryState P (world_of a).seen
   before (gives v w) k b h = b v w h
   before (stops s w) k b h = h
 
   go_on : {U : Value → Value → Type 0} {a a' : Answer} (V : Value → Value → Type 0) (k k' : Value → World → Answer) → ((v v' : Value) (w : World) (b : Beside K w) → a ≡ gives v w → U v v' → Sim V (k v w) (k' v' (beside b)))
-      → Likewise K U a a' → Every P (world_of (then_do a k)).seen → Likewise K V (then_do a k) (then_do a' k')
+      → Likewise K U a a' → HoldsInEveryState P (world_of (then_do a k)).seen → Likewise K V (then_do a k) (then_do a' k')
   go_on V k k' h free = λ _. free
   go_on V k k' h (gives_too {v} {v'} {w} b u) = h v v' w b refl u
   go_on V k k' h (stops_too b) = λ _. stops_too b
@@ -108,7 +108,7 @@ module _ (P : State → Type 0) (K : Compared) where
   then_sim U V a a' k k' b s h = λ all. go_on V k k' h (s (before a k b all)) all
 
   pub given_sim : (U V : Value → Value → Type 0) (looks : Bool) (f f' : Value → Bool) (a a' : Answer) → Sim U a a' → ((v v' : Value) → U v v' → Seen looks (f v) → Seen looks (f' v') × V v v')
-      → Sim V (looking_at looks f a) (looking_at looks f' a')
+      → Sim V (require_value_if_checked looks f a) (require_value_if_checked looks f' a')
   given_sim U V false f f' a a' s h = sim_more U V a a' (λ v v' u. (h v v' u (λ e. false_not_true e)).1) s
   given_sim U V true f f' a a' s h = then_sim U V a a' _ _ (λ v w. back (f v) v w) s (λ v v' w b e u. looking_sim V true (f v) (f' v') w (beside b) (gives v w) (gives v' (beside b)) (λ seen.
       let x : Seen true (f' v') × V v v' = h v v' u seen in (x.0, λ _. gives_too b x.1)))
@@ -119,8 +119,8 @@ module _ (P : State → Type 0) (K : Compared) where
 
   -- where the first looks and goes on with what is there, the second does
   pub looked_need_sim : {A A' : Type 0} (V : Value → Value → Type 0) (looks b b' : Bool) (o : Option A) (o' : Option A') (w w' : World) (k : A → Answer) (k' : A' → Answer)
-      → ((a : A) → o ≡ Some a → Seen looks b → Every P (world_of (k a)).seen → Seen looks b' × (a' : A') × (o' ≡ Some a') × Likewise K V (k a) (k' a'))
-      → Sim V (looking looks b w (need o w k)) (looking looks b' w' (need o' w' k'))
+      → ((a : A) → o ≡ Some a → Seen looks b → HoldsInEveryState P (world_of (k a)).seen → Seen looks b' × (a' : A') × (o' ≡ Some a') × Likewise K V (k a) (k' a'))
+      → Sim V (require_if_checked looks b w (need o w k)) (require_if_checked looks b' w' (need o' w' k'))
   looked_need_sim V false b b' None o' w w' k k' h = λ _. free
   looked_need_sim V false b b' (Some a) o' w w' k k' h = λ all. let x : Seen false b' × (a' : _) × (o' ≡ Some a') × Likewise K V (k a) (k' a') = h a refl (λ e. false_not_true e) all in subst (λ q. Likewise K V (k a) (need q w' k')) (sym x.2) x.3
   looked_need_sim V true false b' o o' w w' k k' h = λ _. free
@@ -129,8 +129,8 @@ module _ (P : State → Type 0) (K : Compared) where
       subst (λ q. Likewise K V (k a) (cond q (need o' w' k') (stops missing w'))) (sym (x.0 refl)) (subst (λ q. Likewise K V (k a) (need q w' k')) (sym x.2) x.3)
 
   pub need_looked_sim : {A A' : Type 0} (V : Value → Value → Type 0) (looks b b' : Bool) (o : Option A) (o' : Option A') (w w' : World) (k : A → Answer) (k' : A' → Answer)
-      → ((a : A) → o ≡ Some a → Seen looks b → Every P (world_of (k a)).seen → Seen looks b' × (a' : A') × (o' ≡ Some a') × Likewise K V (k a) (k' a'))
-      → Sim V (need o w (λ a. looking looks b w (k a))) (need o' w' (λ a. looking looks b' w' (k' a)))
+      → ((a : A) → o ≡ Some a → Seen looks b → HoldsInEveryState P (world_of (k a)).seen → Seen looks b' × (a' : A') × (o' ≡ Some a') × Likewise K V (k a) (k' a'))
+      → Sim V (need o w (λ a. require_if_checked looks b w (k a))) (need o' w' (λ a. require_if_checked looks b' w' (k' a)))
   need_looked_sim V looks b b' None o' w w' k k' h = λ _. free
   need_looked_sim V false b b' (Some a) o' w w' k k' h = λ all. let x : Seen false b' × (a' : _) × (o' ≡ Some a') × Likewise K V (k a) (k' a') = h a refl (λ e. false_not_true e) all in subst (λ q. Likewise K V (k a) (need q w' k')) (sym x.2) x.3
   need_looked_sim V true false b' (Some a) o' w w' k k' h = λ _. free

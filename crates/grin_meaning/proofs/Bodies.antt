@@ -6,7 +6,7 @@ use Rattle.grin_meaning.specs.Values.{Datum, State, one_each, Binding, with_vars
 use Rattle.grin_meaning.specs.Run.{Calls, run, run_by}
 use Rattle.grin_meaning.specs.Rewritten.{rewritten, rewritten_procedure}
 use Rattle.grin_meaning.specs.Keeps.{world_of, Keeps}
-use Rattle.grin_meaning.specs.Follows.{Same, same, Every}
+use Rattle.grin_meaning.specs.Follows.{Same, same, HoldsInEveryState}
 use Rattle.grin_meaning.proofs.Back.{CallsBack}
 use Rattle.grin_meaning.proofs.Beside.{Compared, Likewise, no_deeper}
 use Rattle.grin_meaning.proofs.Rules.{Plan, CallsFollow, Setting, CodeFollows}
@@ -45,12 +45,12 @@ module _ (K : Compared) (P : State → Type 0) (Ok : ℕ → Type 0) (g : Progra
   }) (bodies c c' cb cf (suc f) qs rs b.2)
 
   module _ (each : (c c' : Calls) (cb : CallsBack P c) (cf : CallsFollow (plain K P g procs) c c') → BodiesLike Ok (side_by_side (plain K P g procs) c c' cb cf) g.procs procs) where
-    pub bodies_go : (i : List ℕ) (n : ℕ) → Every P (world_of (run g i n)).seen → Likewise K Same (run g i n) (run (record g { procs = procs }) i n)
+    pub bodies_go : (i : List ℕ) (n : ℕ) → HoldsInEveryState P (world_of (run g i n)).seen → Likewise K Same (run g i n) (run (record g { procs = procs }) i n)
     bodies_go i n all = subst (λ a. Likewise K Same a (run (record g { procs = procs }) i n)) (run_is g i n) (subst (Likewise K Same (run_by g false i n)) (run_is (record g { procs = procs }) i n)
         (run_follows (plain K P g procs) (λ c c' cb cf. bodies c c' cb cf 0 g.procs procs (each c c' cb cf)) i n same (pl.same_heaps _)
-        (subst (λ a. Every P (world_of a).seen) (sym (run_is g i n)) all)))
+        (subst (λ a. HoldsInEveryState P (world_of a).seen) (sym (run_is g i n)) all)))
 
-    pub bodies_keep : ((i : List ℕ) (n : ℕ) → Every P (world_of (run g i n)).seen) → Keeps g (record g { procs = procs })
+    pub bodies_keep : ((i : List ℕ) (n : ℕ) → HoldsInEveryState P (world_of (run g i n)).seen) → Keeps g (record g { procs = procs })
     bodies_keep all = keeps_by g (record g { procs = procs }) (λ i n. likewise_kept K Same _ _ (bodies_go i n (all i n)))
 
 pub plain_no_deeper : (P : State → Type 0) (g : Program) (procs : List Procedure) → IsPlain (plain no_deeper P g procs)
@@ -60,7 +60,7 @@ plain_no_deeper P g procs = record { heaps_are = λ h. h; same_heaps = λ c. sam
 abbrev pub AnyState : State → Type 0
 AnyState s = Unit {0}
 
-pub every_any : (ss : List State) → Every AnyState ss
+pub every_any : (ss : List State) → HoldsInEveryState AnyState ss
 every_any [] = tt
 every_any (s ∷ ss) = (tt, every_any ss)
 

@@ -14,12 +14,12 @@ use Rattle.grin_syntax.specs.declared.program.Val as V
 use Rattle.grin_syntax.specs.declared.program.Val.TheVariants.{NodeVar, Node as NodeVal, Vector as VectorVal, One as OneVal}
 use Rattle.grin_syntax.specs.Tree.{Code, end, store, bind, Act, unit, fetch, fetch_word, update, eval, apply, call, prim, read, write, case, nested, fail, Arms, no_arm, arm, Program}
 use Rattle.grin_syntax.specs.Formed.{AllOf, GlobalFormed, Formed}
-use Rattle.grin_meaning.specs.Values.{Datum, number, tag, cell, Node, Value, node, words, Env, HeapCell, State, World, missing, Answer, gives, stops, then_do, need, and_then, Binding, with_vars, one_each, padded, Fit, fits, fits_not, unclear, fields_fit, number_fit, fit_of, fields_of, made_node, as_node, word_of, words_of, value_of, node_of, bindings_of}
-use Rattle.grin_meaning.specs.Run.{Calls, act_by, code_by, arms_by, calls_by, run_by, looking, looking_at, choose, byte_or_end, after_read, spend, spent, passing, places, place_of, number_of, on_numbers, cells_of, with_cells, with_node, eval_cell, updated, apply_node, apply_part, is_fun_kind, is_part_kind, is_evaluated, part_from, start_words, start_world}
+use Rattle.grin_meaning.specs.Values.{Datum, number, tag, cell, Node, Value, node, words, Env, HeapCell, State, World, missing, Answer, gives, stops, then_do, need, and_then, Binding, with_vars, one_each, padded, MatchOutcome, fits, fits_not, unclear, fields_fit, number_fit, fit_of, fields_of, made_node, as_node, word_of, words_of, value_of, node_of, bindings_of}
+use Rattle.grin_meaning.specs.Run.{Calls, act_by, code_by, arms_by, calls_by, run_by, require_if_checked, require_value_if_checked, choose, byte_or_end, after_read, spend, spent, with_state_seen, places, place_of, number_of, apply_arithmetic, cells_of, with_cells, with_node, eval_cell, updated, apply_node, apply_part, is_fun_kind, is_part_kind, is_evaluated, part_from, start_words, start_world}
 use Rattle.grin_meaning.specs.Checks.{is_given, fills, all_fill, is_bound_well}
 use Rattle.grin_meaning.specs.Keeps.{world_of}
-use Rattle.grin_meaning.specs.Follows.{Every}
-use Rattle.grin_meaning.specs.Full.{FullNode, FullValue, FullCell, FullState, NodesAreFull}
+use Rattle.grin_meaning.specs.Follows.{HoldsInEveryState}
+use Rattle.grin_meaning.specs.Full.{FullNode, FullValue, FullCell, FullState, NodesHaveAllFields}
 
 pub if_and : {A B : Type 0} (P : A → Type 0) (Q : B → Type 0) (o : Option A) (k : A → Option B) → IfSome o P → ((a : A) → P a → IfSome (k a) Q) → IfSome (and_then o k) Q
 if_and P Q None k h f = tt
@@ -38,7 +38,7 @@ all_both : (P : HeapCell → Type 0) (hs ks : List HeapCell) → AllOf P hs → 
 all_both P [] ks h k = k
 all_both P (x ∷ hs) ks h k = (h.0, all_both P hs ks h.1 k)
 
-pub every_and : (P : State → Type 0) (ss : List State) (s : State) → Every P ss → P s → Every P (ss ++ s ∷ [])
+pub every_and : (P : State → Type 0) (ss : List State) (s : State) → HoldsInEveryState P ss → P s → HoldsInEveryState P (ss ++ s ∷ [])
 every_and P [] s h k = (k, tt)
 every_and P (x ∷ ss) s h k = (h.0, every_and P ss s h.1 k)
 
@@ -56,7 +56,7 @@ module _ (p : Program) where
 
   record WorldFull (w : World) : Type 0 where
     cells : AllOf (FullCell p) w.cells
-    seen : Every (FullState p) w.seen
+    seen : HoldsInEveryState (FullState p) w.seen
 
   abbrev AnswerFull : Answer → Type 0
   AnswerFull (gives v w) = FullValue p v × WorldFull w
@@ -123,7 +123,7 @@ module _ (p : Program) where
   target_full (VectorTarget xs) (words ds) h = words_bound_full xs ds
   target_full (VectorTarget xs) (node n) h = words_bound_full xs (padded (length xs) (tag n.tag ∷ n.fields))
 
-  abbrev FitFull : Fit → Type 0
+  abbrev FitFull : MatchOutcome → Type 0
   FitFull (fits bs) = BindingsFull bs
   FitFull fits_not = Unit {0}
   FitFull unclear = Unit {0}
@@ -136,7 +136,7 @@ module _ (p : Program) where
       go None h = tt
       go (Some bs) h = h
 
-  cond_fit : (b : Bool) (f : Fit) → FitFull f → FitFull (cond b f fits_not)
+  cond_fit : (b : Bool) (f : MatchOutcome) → FitFull f → FitFull (cond b f fits_not)
   cond_fit true f h = h
   cond_fit false f h = tt
 
@@ -193,15 +193,15 @@ module _ (p : Program) where
   cond_full true x y hx hy = hx
   cond_full false x y hx hy = hy
 
-  looking_full : (looks b : Bool) (w : World) (a : Answer) → WorldFull w → AnswerFull a → AnswerFull (looking looks b w a)
+  looking_full : (looks b : Bool) (w : World) (a : Answer) → WorldFull w → AnswerFull a → AnswerFull (require_if_checked looks b w a)
   looking_full false b w a f h = h
   looking_full true b w a f h = cond_full b a (stops missing w) h f
 
-  given_full : (looks : Bool) (a : Answer) → AnswerFull a → AnswerFull (looking_at looks (is_given p) a)
+  given_full : (looks : Bool) (a : Answer) → AnswerFull a → AnswerFull (require_value_if_checked looks (is_given p) a)
   given_full false a h = h
   given_full true a h = then_full a _ h (λ v w k f. cond_full (is_given p v) (gives v w) (stops missing w) (k, f) f)
 
-  choose_full : (f : Fit) (w : World) (k : List Binding → Answer) (x : Answer) → WorldFull w → FitFull f → ((bs : List Binding) → BindingsFull bs → AnswerFull (k bs)) → AnswerFull x → AnswerFull (choose f w k x)
+  choose_full : (f : MatchOutcome) (w : World) (k : List Binding → Answer) (x : Answer) → WorldFull w → FitFull f → ((bs : List Binding) → BindingsFull bs → AnswerFull (k bs)) → AnswerFull x → AnswerFull (choose f w k x)
   choose_full (fits bs) w k x f h r hx = r bs h
   choose_full fits_not w k x f h r hx = hx
   choose_full unclear w k x f h r hx = f
@@ -210,7 +210,7 @@ module _ (p : Program) where
   spend_full zero w k f r = f
   spend_full (suc m) w k f r = r m
 
-  passing_full : (env : Env) (w : World) → EnvFull env → WorldFull w → WorldFull (passing env w)
+  passing_full : (env : Env) (w : World) → EnvFull env → WorldFull w → WorldFull (with_state_seen env w)
   passing_full env w e f = record { cells = f.cells; seen = every_and (FullState p) w.seen _ f.seen (record { variables = e; cells = f.cells }) }
 
   with_node_full : (a : ℕ) (n : Node) (c : HeapCell) (w : World) → FullNode p n → WorldFull w → WorldFull (with_node a n c w)
@@ -242,7 +242,7 @@ module _ (p : Program) where
     read_full [] w f = (tt, f)
     read_full (k ∷ rest) w f = (tt, record { cells = f.cells; seen = f.seen })
 
-    on_numbers_full : (q : PrimOp) (x y : Datum) → IfSome (on_numbers q x y) (FullValue p)
+    on_numbers_full : (q : PrimOp) (x y : Datum) → IfSome (apply_arithmetic q x y) (FullValue p)
     on_numbers_full q (number a) (number b) = tt
     on_numbers_full q (number a) (tag t) = tt
     on_numbers_full q (number a) (cell b) = tt
@@ -262,7 +262,7 @@ module _ (p : Program) where
         act_full env d (eval a) w e f = need_any (and_then (word_of p env a) place_of) w _ f (λ i. eval_full d i w f)
         act_full env d (apply v a) w e f = need_any (node_of p env v) w _ f (λ n. need_any (word_of p env a) w _ f (λ x. apply_full d n x w f))
         act_full env d (call q ws) w e f = need_any (words_of p env ws) w _ f (λ xs. cf.by q.0 xs d w f)
-        act_full env d (prim q a b) w e f = need_any (word_of p env a) w _ f (λ x. need_any (word_of p env b) w _ f (λ y. need_full (FullValue p) (on_numbers q x y) w _ f (on_numbers_full q x y) (λ v h. (h, f))))
+        act_full env d (prim q a b) w e f = need_any (word_of p env a) w _ f (λ x. need_any (word_of p env b) w _ f (λ y. need_full (FullValue p) (apply_arithmetic q x y) w _ f (on_numbers_full q x y) (λ v h. (h, f))))
         act_full env d read w e f = read_full w.input w f
         act_full env d (write a) w e f = need_any (and_then (word_of p env a) number_of) w _ f (λ k. (tt, record { cells = f.cells; seen = f.seen }))
         act_full env d (case v as') w e f = need_any (value_of p env v) w _ f (λ x. arms_full env d x as' w e f)
@@ -275,15 +275,15 @@ module _ (p : Program) where
             let env' : Env = with_vars (places (length w.cells) cs) env in
             let e' : EnvFull env' = vars_full (places (length w.cells) cs) env (places_full (length w.cells) cs) e in
             need_full (AllOf (FullCell p)) (cells_of p env' cs) w _ f (cells_full env' e' cs) (λ hs h. looking_full looks (all_fill p env' cs) w _ f
-            (code_full env' d b (passing env' (with_cells hs w)) e' (passing_full env' (with_cells hs w) e' (record { cells = all_both (FullCell p) w.cells hs f.cells h; seen = f.seen }))))
+            (code_full env' d b (with_state_seen env' (with_cells hs w)) e' (passing_full env' (with_cells hs w) e' (record { cells = all_both (FullCell p) w.cells hs f.cells h; seen = f.seen }))))
         code_full env d (bind t o b) w e f = then_full (act_by p c looks env (suc d) o w) _ (act_full env (suc d) o w e f) (λ v w' h f'. looking_full looks (is_bound_well p t o v) w' _ f'
             (need_full BindingsFull (bindings_of p t v) w' _ f' (target_full t v h) (λ bs k.
-            let e' : EnvFull (with_vars bs env) = vars_full bs env k e in code_full (with_vars bs env) d b (passing (with_vars bs env) w') e' (passing_full (with_vars bs env) w' e' f'))))
+            let e' : EnvFull (with_vars bs env) = vars_full bs env k e in code_full (with_vars bs env) d b (with_state_seen (with_vars bs env) w') e' (passing_full (with_vars bs env) w' e' f'))))
 
         arms_full : (env : Env) (d : ℕ) (v : Value) (as' : Arms) (w : World) → EnvFull env → WorldFull w → AnswerFull (arms_by p c looks env d v as' w)
         arms_full env d v no_arm w e f = f
         arms_full env d v (arm s b as') w e f = choose_full (fit_of p s v) w _ _ f (fit_full s v)
-            (λ bs k. let e' : EnvFull (with_vars bs env) = vars_full bs env k e in code_full (with_vars bs env) d b (passing (with_vars bs env) w) e' (passing_full (with_vars bs env) w e' f))
+            (λ bs k. let e' : EnvFull (with_vars bs env) = vars_full bs env k e in code_full (with_vars bs env) d b (with_state_seen (with_vars bs env) w) e' (passing_full (with_vars bs env) w e' f))
             (arms_full env d v as' w e f)
 
   calls_full : (looks : Bool) (n : ℕ) → CallsFull (calls_by p looks n)
@@ -293,7 +293,7 @@ module _ (p : Program) where
     by = λ q xs d w f. spend_full w.left w _ f (λ m. need_any (slice_get p.procs q) w _ f (λ r. need_full BindingsFull (one_each r.params xs) w _ f (words_bound_full r.params xs) (λ bs k.
         let env : Env = with_vars bs (λ y. None) in
         let e : EnvFull env = vars_full bs (λ y. None) k (λ y. tt) in
-        given_full looks _ (code_full (calls_by p looks n) (calls_full looks n) looks env d r.body (passing env (spent q d m w)) e
+        given_full looks _ (code_full (calls_by p looks n) (calls_full looks n) looks env d r.body (with_state_seen env (spent q d m w)) e
         (passing_full env (spent q d m w) e (record { cells = f.cells; seen = f.seen }))))));
   }
 
@@ -309,5 +309,5 @@ world_full : (p : Program) (a : Answer) → AnswerFull p a → WorldFull p (worl
 world_full p (gives v w) h = h.1
 world_full p (stops s w) h = h
 
-pub nodes_full : NodesAreFull
+pub nodes_full : NodesHaveAllFields
 nodes_full g f looks i n = let h : WorldFull g (world_of (run_by g looks i n)) = world_full g (run_by g looks i n) (run_full g looks i n f) in record { passed = h.seen; at_end = h.cells }

@@ -4,7 +4,7 @@ use Rattle.grin_syntax.specs.Tree.{Program}
 use Rattle.grin_meaning.specs.Values.{Value, missing, Answer}
 use Rattle.grin_meaning.specs.Run.{run, run_by, calls}
 use Rattle.grin_meaning.specs.Keeps.{ended, end_of, world_of, Keeps}
-use Rattle.grin_meaning.specs.Looking.{look, LooksNeverMissing}
+use Rattle.grin_meaning.specs.Looking.{checked_run, CheckedRunsNeverMissing}
 use Rattle.grin_meaning.proofs.Beside.{Compared, Likewise, free, gives_too, stops_too}
 use Rattle.grin_meaning.proofs.LooksBack.{look_agrees}
 
@@ -35,8 +35,8 @@ unfolding run run_by calls
 run_is g i n = refl
 
 -- of looking runs: where none of the first is missing, none of the second is, and the first is kept
-pub looking_kept : (g h : Program) → LooksNeverMissing g → ((i : List ℕ) (n : ℕ) → KeptBy (look g i n) (look h i n)) → LooksNeverMissing h × Keeps g h
-looking_kept g h never k = (never_too, keeps_by g h (λ i n. subst (λ a. KeptBy a (run h i n)) (look_agrees g i n (never i n)) (subst (KeptBy (look g i n)) (look_agrees h i n (never_too i n)) (k i n))))
+pub looking_kept : (g h : Program) → CheckedRunsNeverMissing g → ((i : List ℕ) (n : ℕ) → KeptBy (checked_run g i n) (checked_run h i n)) → CheckedRunsNeverMissing h × Keeps g h
+looking_kept g h never k = (never_too, keeps_by g h (λ i n. subst (λ a. KeptBy a (run h i n)) (look_agrees g i n (never i n)) (subst (KeptBy (checked_run g i n)) (look_agrees h i n (never_too i n)) (k i n))))
   where
-    never_too : LooksNeverMissing h
+    never_too : CheckedRunsNeverMissing h
     never_too i n e = never i n (sym ((k i n).end (never i n)) ∙ e)

@@ -9,9 +9,9 @@ use Rattle.grin_syntax.specs.declared.program.Target.TheVariants as to
 use Rattle.grin_syntax.specs.declared.program.Val.{Val}
 use Rattle.grin_syntax.specs.declared.program.Word.{Word}
 use Rattle.grin_syntax.specs.Tree.{Code, end, store, bind, Act, unit, fetch, fetch_word, update, eval, apply, call, prim, read, write, case, nested, fail, Arms, no_arm, arm, Procedure, Program}
-use Rattle.grin_meaning.specs.Values.{Datum, words, Node, Value, Env, HeapCell, World, missing, Answer, gives, stops, then_do, need, and_then, Binding, with_vars, one_each, Fit, fits, fits_not, unclear, fit_of, word_of, words_of, value_of, node_of, bindings_of}
+use Rattle.grin_meaning.specs.Values.{Datum, words, Node, Value, Env, HeapCell, World, missing, Answer, gives, stops, then_do, need, and_then, Binding, with_vars, one_each, MatchOutcome, fits, fits_not, unclear, fit_of, word_of, words_of, value_of, node_of, bindings_of}
 use Rattle.grin_meaning.specs.Checks.{is_given, fills, all_fill, has_block, is_fetch, is_bound_well}
-use Rattle.grin_meaning.specs.Run.{Calls, act, act_by, code, code_by, arms, arms_by, calls, calls_by, run, run_by, looking, looking_at, choose, spend, spent, passing, places, place_of, cells_of, with_cells, with_node, eval_cell, apply_node, apply_part, is_fun_kind, is_part_kind, start_words, start_world}
+use Rattle.grin_meaning.specs.Run.{Calls, act, act_by, code, code_by, arms, arms_by, calls, calls_by, run, run_by, require_if_checked, require_value_if_checked, choose, spend, spent, with_state_seen, places, place_of, cells_of, with_cells, with_node, eval_cell, apply_node, apply_part, is_fun_kind, is_part_kind, start_words, start_world}
 use Rattle.grin_meaning.specs.Keeps.{ended, end_of}
 use Rattle.grin_meaning.specs.Reached.{Called, begins, by_call, Runs, entered, stored, bound, within, chosen, Does, first, last, Tries, of_case, next}
 use Rattle.grin_meaning.specs.Ready.{HasBlock, NotFetch, RunsWell}
@@ -32,11 +32,11 @@ cond_agrees : (b : Bool) (x y x' y' : Answer) → Agrees x x' → Agrees y y' �
 cond_agrees true x y x' y' h k = h
 cond_agrees false x y x' y' h k = k
 
-looking_agrees : (b : Bool) (w : World) (a a' : Answer) → Agrees a a' → Agrees (looking true b w a) a'
+looking_agrees : (b : Bool) (w : World) (a a' : Answer) → Agrees a a' → Agrees (require_if_checked true b w a) a'
 looking_agrees true w a a' h = h
 looking_agrees false w a a' h = λ go. absurd (go refl)
 
-given_agrees : (f : Value → Bool) (a a' : Answer) → Agrees a a' → Agrees (looking_at true f a) a'
+given_agrees : (f : Value → Bool) (a a' : Answer) → Agrees a a' → Agrees (require_value_if_checked true f a) a'
 given_agrees f (stops s w) a' h = h
 given_agrees f (gives v w) a' h = on (f v)
   where
@@ -56,7 +56,7 @@ then_agrees : (a a' : Answer) (k k' : Value → World → Answer) → Agrees a a
 then_agrees (gives v w) a' k k' h hk = λ go. hk v w go ∙ ap (λ x. then_do x k') (h (then_went (gives v w) k go))
 then_agrees (stops s w) a' k k' h hk = λ go. ap (λ x. then_do x k') (h go)
 
-choose_agrees : (f : Fit) (w : World) (k k' : List Binding → Answer) (x x' : Answer) → ((bs : List Binding) → Agrees (k bs) (k' bs)) → Agrees x x' → Agrees (choose f w k x) (choose f w k' x')
+choose_agrees : (f : MatchOutcome) (w : World) (k k' : List Binding → Answer) (x x' : Answer) → ((bs : List Binding) → Agrees (k bs) (k' bs)) → Agrees x x' → Agrees (choose f w k x) (choose f w k' x')
 choose_agrees (fits bs) w k k' x x' h hx = h bs
 choose_agrees fits_not w k k' x x' h hx = hx
 choose_agrees unclear w k k' x x' h hx = λ _. refl
@@ -105,13 +105,13 @@ module _ (g : Program) where
       code_agrees env d (end o) w = act_agrees env d o w
       code_agrees env d (store cs b) w =
           let env' : Env = with_vars (places (length w.cells) cs) env in
-          need_agrees (cells_of g env' cs) w _ _ (λ hs. looking_agrees (all_fill g env' cs) w _ _ (code_agrees env' d b (passing env' (with_cells hs w))))
+          need_agrees (cells_of g env' cs) w _ _ (λ hs. looking_agrees (all_fill g env' cs) w _ _ (code_agrees env' d b (with_state_seen env' (with_cells hs w))))
       code_agrees env d (bind t o b) w = then_agrees _ _ _ _ (act_agrees env (suc d) o w) (λ v w'. looking_agrees (is_bound_well g t o v) w' _ _
-          (need_agrees (bindings_of g t v) w' _ _ (λ bs. code_agrees (with_vars bs env) d b (passing (with_vars bs env) w'))))
+          (need_agrees (bindings_of g t v) w' _ _ (λ bs. code_agrees (with_vars bs env) d b (with_state_seen (with_vars bs env) w'))))
 
       arms_agree : (env : Env) (d : ℕ) (v : Value) (as' : Arms) (w : World) → Agrees (arms_by g c true env d v as' w) (arms g c' env d v as' w)
       arms_agree env d v no_arm w = λ _. refl
-      arms_agree env d v (arm s b as') w = choose_agrees (fit_of g s v) w _ _ _ _ (λ bs. code_agrees (with_vars bs env) d b (passing (with_vars bs env) w)) (arms_agree env d v as' w)
+      arms_agree env d v (arm s b as') w = choose_agrees (fit_of g s v) w _ _ _ _ (λ bs. code_agrees (with_vars bs env) d b (with_state_seen (with_vars bs env) w)) (arms_agree env d v as' w)
 
   calls_agree : (m : ℕ) → CallsAgree (calls_by g true m) (calls g m)
   unfolding calls
@@ -119,7 +119,7 @@ module _ (g : Program) where
   calls_agree (suc m) = record {
     by = λ f xs d w. spend_agrees w.left w _ _ (λ u. need_agrees (slice_get g.procs f) w _ _ (λ q. need_agrees (one_each q.params xs) w _ _ (λ bs.
         let env : Env = with_vars bs (λ y. None) in
-        given_agrees (is_given g) _ _ (code_agrees (calls_by g true m) (calls g m) (calls_agree m) env d q.body (passing env (spent f d u w))))));
+        given_agrees (is_given g) _ _ (code_agrees (calls_by g true m) (calls g m) (calls_agree m) env d q.body (with_state_seen env (spent f d u w))))));
   }
 
   pub look_agrees : (i : List ℕ) (n : ℕ) → Goes (run_by g true i n) → run_by g true i n ≡ run g i n
@@ -128,7 +128,7 @@ module _ (g : Program) where
 
 -- ---- what is looked at is as it should be
 
-need_looked : {A : Type 0} (o : Option A) (w : World) (b : Bool) (a : A → Answer) → Goes (need o w (λ x. looking true b w (a x))) → b ≡ true
+need_looked : {A : Type 0} (o : Option A) (w : World) (b : Bool) (a : A → Answer) → Goes (need o w (λ x. require_if_checked true b w (a x))) → b ≡ true
 need_looked None w b a go = absurd (go refl)
 need_looked (Some x) w true a go = refl
 need_looked (Some x) w false a go = absurd (go refl)
@@ -137,22 +137,22 @@ need_went : {A : Type 0} (o : Option A) (w : World) (k : A → Answer) (B : Type
 need_went None w k B h go = absurd (go refl)
 need_went (Some x) w k B h go = h x go
 
-looked : (b : Bool) (w : World) (a : Answer) → Goes (looking true b w a) → b ≡ true
+looked : (b : Bool) (w : World) (a : Answer) → Goes (require_if_checked true b w a) → b ≡ true
 looked true w a go = refl
 looked false w a go = absurd (go refl)
 
-looked_on : (b : Bool) (w : World) (a : Answer) → Goes (looking true b w a) → Goes a
+looked_on : (b : Bool) (w : World) (a : Answer) → Goes (require_if_checked true b w a) → Goes a
 looked_on true w a go = go
 looked_on false w a go = absurd (go refl)
 
-given_on : (f : Value → Bool) (a : Answer) → Goes (looking_at true f a) → Goes a
+given_on : (f : Value → Bool) (a : Answer) → Goes (require_value_if_checked true f a) → Goes a
 given_on f (gives v w) go = λ e. absurd (done_not e)
   where
     done_not : end_of (gives v w) ≡ ended missing → ⊥
     done_not e = cc
 given_on f (stops s w) go = go
 
-given_so : (f : Value → Bool) (a : Answer) (v : Value) (w : World) → looking_at true f a ≡ gives v w → f v ≡ true
+given_so : (f : Value → Bool) (a : Answer) (v : Value) (w : World) → require_value_if_checked true f a ≡ gives v w → f v ≡ true
 given_so f (stops s u) v w e = absurd (not_given e)
   where
     not_given : stops s u ≡ gives v w → ⊥
@@ -175,11 +175,11 @@ module _ (g : Program) (i : List ℕ) (n : ℕ) (never : Goes (run_by g true i n
   same_act m env d o w w' v go e = act_agrees g (L m) (calls g m) (calls_agree g m) env d o w go ∙ e
 
   after_call : (m f d u : ℕ) (xs : List Datum) (w : World) (q : Procedure) (bs : List Binding) → w.left ≡ suc u → slice_get g.procs f ≡ Some q → one_each q.params xs ≡ Some bs → Goes (L (suc m) f xs d w)
-      → Goes (code_by g (L m) true (with_vars bs (λ y. None)) d q.body (passing (with_vars bs (λ y. None)) (spent f d u w)))
+      → Goes (code_by g (L m) true (with_vars bs (λ y. None)) d q.body (with_state_seen (with_vars bs (λ y. None)) (spent f d u w)))
   unfolding calls_by
   after_call m f d u xs w q bs el eq eb go =
       let env : Env = with_vars bs (λ y. None) in
-      let same : L (suc m) f xs d w ≡ looking_at true (is_given g) (code_by g (L m) true env d q.body (passing env (spent f d u w))) = rw (el, eq, eb) refl in
+      let same : L (suc m) f xs d w ≡ require_value_if_checked true (is_given g) (code_by g (L m) true env d q.body (with_state_seen env (spent f d u w))) = rw (el, eq, eb) refl in
       given_on (is_given g) _ (subst Goes same go)
 
   given_by : (m f d : ℕ) (xs : List Datum) (w w' : World) (v : Value) → L m f xs d w ≡ gives v w' → is_given g v ≡ true
@@ -190,15 +190,15 @@ module _ (g : Program) (i : List ℕ) (n : ℕ) (never : Goes (run_by g true i n
       not_given e = cc
   given_by (suc m) f d xs w w' v e = spending w.left e
     where
-      bodies : (u : ℕ) (q : Procedure) → (o : Option (List Binding)) → need o w (λ bs. looking_at true (is_given g) (code_by g (L m) true (with_vars bs (λ y. None)) d q.body (passing (with_vars bs (λ y. None)) (spent f d u w)))) ≡ gives v w' → is_given g v ≡ true
+      bodies : (u : ℕ) (q : Procedure) → (o : Option (List Binding)) → need o w (λ bs. require_value_if_checked true (is_given g) (code_by g (L m) true (with_vars bs (λ y. None)) d q.body (with_state_seen (with_vars bs (λ y. None)) (spent f d u w)))) ≡ gives v w' → is_given g v ≡ true
       bodies u q None e = absurd (let h : stops missing w ≡ gives v w' = e in cc)
       bodies u q (Some bs) e = given_so (is_given g) _ v w' e
 
-      procs : (u : ℕ) (o : Option Procedure) → need o w (λ q. need (one_each q.params xs) w (λ bs. looking_at true (is_given g) (code_by g (L m) true (with_vars bs (λ y. None)) d q.body (passing (with_vars bs (λ y. None)) (spent f d u w))))) ≡ gives v w' → is_given g v ≡ true
+      procs : (u : ℕ) (o : Option Procedure) → need o w (λ q. need (one_each q.params xs) w (λ bs. require_value_if_checked true (is_given g) (code_by g (L m) true (with_vars bs (λ y. None)) d q.body (with_state_seen (with_vars bs (λ y. None)) (spent f d u w))))) ≡ gives v w' → is_given g v ≡ true
       procs u None e = absurd (let h : stops missing w ≡ gives v w' = e in cc)
       procs u (Some q) e = bodies u q (one_each q.params xs) e
 
-      spending : (l : ℕ) → spend l w (λ u. need (slice_get g.procs f) w (λ q. need (one_each q.params xs) w (λ bs. looking_at true (is_given g) (code_by g (L m) true (with_vars bs (λ y. None)) d q.body (passing (with_vars bs (λ y. None)) (spent f d u w)))))) ≡ gives v w' → is_given g v ≡ true
+      spending : (l : ℕ) → spend l w (λ u. need (slice_get g.procs f) w (λ q. need (one_each q.params xs) w (λ bs. require_value_if_checked true (is_given g) (code_by g (L m) true (with_vars bs (λ y. None)) d q.body (with_state_seen (with_vars bs (λ y. None)) (spent f d u w)))))) ≡ gives v w' → is_given g v ≡ true
       spending zero e = absurd (let h : stops _ w ≡ gives v w' = e in cc)
       spending (suc u) e = procs u (slice_get g.procs f) e
 
@@ -211,41 +211,41 @@ module _ (g : Program) (i : List ℕ) (n : ℕ) (never : Goes (run_by g true i n
   on_call m d env f ws w xs e go = subst Goes (ap (λ o. need o w (λ xs. L m f.0 xs d w)) e) go
 
   after_store : (m d : ℕ) (env : Env) (cs : List Cell) (b : Code) (w : World) (hs : List HeapCell) → cells_of g (with_vars (places (length w.cells) cs) env) cs ≡ Some hs → Goes (code_by g (L m) true env d (store cs b) w)
-      → Goes (code_by g (L m) true (with_vars (places (length w.cells) cs) env) d b (passing (with_vars (places (length w.cells) cs) env) (with_cells hs w)))
+      → Goes (code_by g (L m) true (with_vars (places (length w.cells) cs) env) d b (with_state_seen (with_vars (places (length w.cells) cs) env) (with_cells hs w)))
   unfolding act
   after_store m d env cs b w hs e go =
       let env' : Env = with_vars (places (length w.cells) cs) env in
-      looked_on (all_fill g env' cs) w _ (subst Goes (ap (λ o. need o w (λ hs. looking true (all_fill g env' cs) w (code_by g (L m) true env' d b (passing env' (with_cells hs w))))) e) go)
+      looked_on (all_fill g env' cs) w _ (subst Goes (ap (λ o. need o w (λ hs. require_if_checked true (all_fill g env' cs) w (code_by g (L m) true env' d b (with_state_seen env' (with_cells hs w))))) e) go)
 
   -- the value of a bound operation is looked at, and bound
   bound_value : (m d : ℕ) (env : Env) (t : Target) (o : Act) (b : Code) (w w' : World) (v : Value) → act g (calls g m) env (suc d) o w ≡ gives v w' → Goes (code_by g (L m) true env d (bind t o b) w)
-      → Goes (looking true (is_bound_well g t o v) w' (need (bindings_of g t v) w' (λ bs. code_by g (L m) true (with_vars bs env) d b (passing (with_vars bs env) w'))))
+      → Goes (require_if_checked true (is_bound_well g t o v) w' (need (bindings_of g t v) w' (λ bs. code_by g (L m) true (with_vars bs env) d b (with_state_seen (with_vars bs env) w'))))
   unfolding act
   bound_value m d env t o b w w' v e go =
-      let rest : Value → World → Answer = λ v w'. looking true (is_bound_well g t o v) w' (need (bindings_of g t v) w' (λ bs. code_by g (L m) true (with_vars bs env) d b (passing (with_vars bs env) w'))) in
+      let rest : Value → World → Answer = λ v w'. require_if_checked true (is_bound_well g t o v) w' (need (bindings_of g t v) w' (λ bs. code_by g (L m) true (with_vars bs env) d b (with_state_seen (with_vars bs env) w'))) in
       subst Goes (ap (λ a. then_do a rest) (same_act m env (suc d) o w w' v (then_went _ rest go) e)) go
 
   after_bind : (m d : ℕ) (env : Env) (t : Target) (o : Act) (b : Code) (w w' : World) (v : Value) (bs : List Binding) → act g (calls g m) env (suc d) o w ≡ gives v w' → bindings_of g t v ≡ Some bs
-      → Goes (code_by g (L m) true env d (bind t o b) w) → Goes (code_by g (L m) true (with_vars bs env) d b (passing (with_vars bs env) w'))
+      → Goes (code_by g (L m) true env d (bind t o b) w) → Goes (code_by g (L m) true (with_vars bs env) d b (with_state_seen (with_vars bs env) w'))
   after_bind m d env t o b w w' v bs e e' go =
-      subst Goes (ap (λ o. need o w' (λ bs. code_by g (L m) true (with_vars bs env) d b (passing (with_vars bs env) w'))) e') (looked_on (is_bound_well g t o v) w' _ (bound_value m d env t o b w w' v e go))
+      subst Goes (ap (λ o. need o w' (λ bs. code_by g (L m) true (with_vars bs env) d b (with_state_seen (with_vars bs env) w'))) e') (looked_on (is_bound_well g t o v) w' _ (bound_value m d env t o b w w' v e go))
 
   in_nested : (m d : ℕ) (env : Env) (b : Code) (w : World) → Goes (act_by g (L m) true env d (nested b) w) → Goes (code_by g (L m) true env d b w)
   unfolding act
   in_nested m d env b w go = go
 
   in_arm : (m d : ℕ) (env : Env) (x : Value) (s : Shape) (b : Code) (as' : Arms) (w : World) (bs : List Binding) → fit_of g s x ≡ fits bs → Goes (arms_by g (L m) true env d x (arm s b as') w)
-      → Goes (code_by g (L m) true (with_vars bs env) d b (passing (with_vars bs env) w))
+      → Goes (code_by g (L m) true (with_vars bs env) d b (with_state_seen (with_vars bs env) w))
   unfolding act
-  in_arm m d env x s b as' w bs e go = subst Goes (ap (λ f. choose f w (λ bs. code_by g (L m) true (with_vars bs env) d b (passing (with_vars bs env) w)) (arms_by g (L m) true env d x as' w)) e) go
+  in_arm m d env x s b as' w bs e go = subst Goes (ap (λ f. choose f w (λ bs. code_by g (L m) true (with_vars bs env) d b (with_state_seen (with_vars bs env) w)) (arms_by g (L m) true env d x as' w)) e) go
 
   later_arms : (m d : ℕ) (env : Env) (x : Value) (s : Shape) (b : Code) (as' : Arms) (w : World) → fit_of g s x ≡ fits_not → Goes (arms_by g (L m) true env d x (arm s b as') w) → Goes (arms_by g (L m) true env d x as' w)
   unfolding act
-  later_arms m d env x s b as' w e go = subst Goes (ap (λ f. choose f w (λ bs. code_by g (L m) true (with_vars bs env) d b (passing (with_vars bs env) w)) (arms_by g (L m) true env d x as' w)) e) go
+  later_arms m d env x s b as' w e go = subst Goes (ap (λ f. choose f w (λ bs. code_by g (L m) true (with_vars bs env) d b (with_state_seen (with_vars bs env) w)) (arms_by g (L m) true env d x as' w)) e) go
 
   of_bind : (m d : ℕ) (env : Env) (t : Target) (o : Act) (b : Code) (w : World) → Goes (code_by g (L m) true env d (bind t o b) w) → Goes (act_by g (L m) true env (suc d) o w)
   unfolding act
-  of_bind m d env t o b w go = then_went _ (λ v w'. looking true (is_bound_well g t o v) w' (need (bindings_of g t v) w' (λ bs. code_by g (L m) true (with_vars bs env) d b (passing (with_vars bs env) w')))) go
+  of_bind m d env t o b w go = then_went _ (λ v w'. require_if_checked true (is_bound_well g t o v) w' (need (bindings_of g t v) w' (λ bs. code_by g (L m) true (with_vars bs env) d b (with_state_seen (with_vars bs env) w')))) go
 
   of_end : (m d : ℕ) (env : Env) (o : Act) (w : World) → Goes (code_by g (L m) true env d (end o) w) → Goes (act_by g (L m) true env d o w)
   unfolding act
@@ -305,7 +305,7 @@ module _ (g : Program) (i : List ℕ) (n : ℕ) (never : Goes (run_by g true i n
   unfolding act
   store_looked m d env cs b w go =
       let env' : Env = with_vars (places (length w.cells) cs) env in
-      need_looked (cells_of g env' cs) w (all_fill g env' cs) (λ hs. code_by g (L m) true env' d b (passing env' (with_cells hs w))) go
+      need_looked (cells_of g env' cs) w (all_fill g env' cs) (λ hs. code_by g (L m) true env' d b (with_state_seen env' (with_cells hs w))) go
 
   pub well : RunsWell g i n
   well = record {

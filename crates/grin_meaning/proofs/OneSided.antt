@@ -5,13 +5,13 @@ use Rattle.grin_syntax.specs.declared.program.Shape.{Shape}
 use Rattle.grin_syntax.specs.declared.program.Target.{Target}
 use Rattle.grin_syntax.specs.declared.program.Val.{Val}
 use Rattle.grin_syntax.specs.Tree.{Code, bind, Act, unit, fetch, fetch_word, update, eval, apply, call, prim, read, write, case, nested, fail, Arms, no_arm, arm}
-use Rattle.grin_meaning.specs.Values.{Value, Env, HeapCell, World, missing, Answer, gives, stops, then_do, need, and_then, Binding, with_vars, Fit, fits, fits_not, unclear, fit_of, word_of, value_of, bindings_of}
-use Rattle.grin_meaning.specs.Run.{act_by, code_by, arms_by, looking, choose, passing, place_of, on_numbers}
+use Rattle.grin_meaning.specs.Values.{Value, Env, HeapCell, World, missing, Answer, gives, stops, then_do, need, and_then, Binding, with_vars, MatchOutcome, fits, fits_not, unclear, fit_of, word_of, value_of, bindings_of}
+use Rattle.grin_meaning.specs.Run.{act_by, code_by, arms_by, require_if_checked, choose, with_state_seen, place_of, apply_arithmetic}
 use Rattle.grin_meaning.specs.Checks.{is_bound_well}
 use Rattle.grin_meaning.proofs.Back.{code_by_back, every_last}
 use Rattle.grin_meaning.proofs.Beside.{beside, free, Seen, Sim, need_first}
 use Rattle.grin_meaning.proofs.Rules.{Relation, Here, Setting, h, ActFollows, CodeFollows, ArmsFollow}
-use Rattle.grin_meaning.specs.Pieces.{IsStill}
+use Rattle.grin_meaning.specs.Pieces.{HasNoEffect}
 
 pub data Still (w : World) : Answer → Type 0 where
   there : (v : Value) → Still w (gives v w)
@@ -21,7 +21,7 @@ need_still : {A : Type 0} (o : Option A) (w : World) (k : A → Answer) → ((a 
 need_still None w k f = lacks w
 need_still (Some a) w k f = f a
 
-looking_still : (looks b : Bool) (w : World) (a : Answer) → Still w a → Still w (looking looks b w a)
+looking_still : (looks b : Bool) (w : World) (a : Answer) → Still w a → Still w (require_if_checked looks b w a)
 looking_still false b w a f = f
 looking_still true true w a f = f
 looking_still true false w a f = lacks w
@@ -29,12 +29,12 @@ looking_still true false w a f = lacks w
 module _ (s : Setting) where
   open s use {plan, c, c', back as cb, follow as cf, plan.{looks, K, P, Args, Result, g, procs}}
 
-  still : (env : Env) (d : ℕ) (o : Act) (w : World) → IsStill o → Still w (act_by g c looks env d o w)
+  still : (env : Env) (d : ℕ) (o : Act) (w : World) → HasNoEffect o → Still w (act_by g c looks env d o w)
   unfolding act_by
   still env d (unit v) w l = need_still (value_of g env v) w _ (λ y. looking_still looks _ w _ (there y))
   still env d (fetch a) w l = need_still (and_then (word_of g env a) place_of) w _ (λ i. need_still (slice_get w.cells i) w _ (λ y. there _))
   still env d (fetch_word a k) w l = need_still (and_then (word_of g env a) place_of) w _ (λ i. need_still (slice_get w.cells i) w _ (λ y. there _))
-  still env d (prim q a b) w l = need_still (word_of g env a) w _ (λ x. need_still (word_of g env b) w _ (λ y. need_still (on_numbers q x y) w _ there))
+  still env d (prim q a b) w l = need_still (word_of g env a) w _ (λ x. need_still (word_of g env b) w _ (λ y. need_still (apply_arithmetic q x y) w _ there))
   still env d (update a v) w l = absurd l
   still env d (eval a) w l = absurd l
   still env d (apply v a) w l = absurd l
@@ -45,31 +45,31 @@ module _ (s : Setting) where
   still env d (nested b) w l = absurd l
   still env d fail w l = absurd l
 
-  looked_first : {A : Type 0} (V : Value → Value → Type 0) (looks b : Bool) (o : Option A) (w : World) (k : A → Answer) (a' : Answer) → ((a : A) → o ≡ Some a → Seen looks b → Sim P K V (k a) a') → Sim P K V (looking looks b w (need o w k)) a'
+  looked_first : {A : Type 0} (V : Value → Value → Type 0) (looks b : Bool) (o : Option A) (w : World) (k : A → Answer) (a' : Answer) → ((a : A) → o ≡ Some a → Seen looks b → Sim P K V (k a) a') → Sim P K V (require_if_checked looks b w (need o w k)) a'
   looked_first V false b o w k a' f = need_first P K V o w k a' (λ a e. f a e (λ l. false_not_true l))
   looked_first V true true o w k a' f = need_first P K V o w k a' (λ a e. f a e (λ l. refl))
   looked_first V true false o w k a' f = λ _. free
 
   -- the first binds alone
-  pub left_follows : {R R' : Relation} {V : Value → Value → Type 0} (t : Target) (o : Act) (b b' : Code) → IsStill o → CodeFollows s R' V b b'
+  pub left_follows : {R R' : Relation} {V : Value → Value → Type 0} (t : Target) (o : Act) (b b' : Code) → HasNoEffect o → CodeFollows s R' V b b'
       → ((x : Here plan R) (v : Value) (bs : List Binding) → act_by g c looks x.env (suc x.d) o x.w ≡ gives v x.w → Seen looks (is_bound_well g t o v) → bindings_of g t v ≡ Some bs → P (record { env = with_vars bs x.env; heap = x.w.cells })
       → R' x.w.cells (with_vars bs x.env) x.env') → CodeFollows s R V (bind t o b) b'
   unfolding act_by
   left_follows {R} {R'} {V} t o b b' l f r = record { by = λ x. go x (act_by g c looks x.env (suc x.d) o x.w) refl (still x.env (suc x.d) o x.w l) }
     where
       go : (x : Here plan R) (a : Answer) → act_by g c looks x.env (suc x.d) o x.w ≡ a → Still x.w a
-          → Sim P K V (then_do a (λ v w. looking looks (is_bound_well g t o v) w (need (bindings_of g t v) w (λ bs. code_by g c looks (with_vars bs x.env) x.d b (passing (with_vars bs x.env) w)))))
+          → Sim P K V (then_do a (λ v w. require_if_checked looks (is_bound_well g t o v) w (need (bindings_of g t v) w (λ bs. code_by g c looks (with_vars bs x.env) x.d b (with_state_seen (with_vars bs x.env) w)))))
           (code_by (h s) c' looks x.env' x.d' b' (beside x.b))
       go x a e (lacks u) = λ _. free
       go x a e (there v) = looked_first V looks (is_bound_well g t o v) (bindings_of g t v) x.w _ _ (λ bs q seen all.
           let env : Env = with_vars bs x.env in
-          let at : P (record { env = env; heap = x.w.cells }) = every_last P x.w.seen _ (code_by_back P g c cb looks env x.d b (passing env x.w) all) in
+          let at : P (record { env = env; heap = x.w.cells }) = every_last P x.w.seen _ (code_by_back P g c cb looks env x.d b (with_state_seen env x.w) all) in
           f.by (record {
             env = env;
             env' = x.env';
             d = x.d;
             d' = x.d';
-            w = passing env x.w;
+            w = with_state_seen env x.w;
             b = record { cells = x.b.cells; seen = x.b.seen; depth = x.b.depth; heaps = x.b.heaps; deep = x.b.deep };
             related = r x v bs e seen q at;
             known = at;
@@ -85,7 +85,7 @@ module _ (s : Setting) where
     pub binds : bindings_of (h s) t' v' ≡ Some bs'
     pub related : R' cells env (with_vars bs' env')
 
-  looked_on : {A : Type 0} (looks b : Bool) (o : Option A) (a : A) (w : World) (k : A → Answer) → Seen looks b → o ≡ Some a → looking looks b w (need o w k) ≡ k a
+  looked_on : {A : Type 0} (looks b : Bool) (o : Option A) (a : A) (w : World) (k : A → Answer) → Seen looks b → o ≡ Some a → require_if_checked looks b w (need o w k) ≡ k a
   looked_on false b o a w k seen e = ap (λ q. need q w k) e
   looked_on true b o a w k seen e = ap (λ q. cond q (need o w k) (stops missing w)) (seen refl) ∙ ap (λ q. need q w k) e
 
@@ -97,8 +97,8 @@ module _ (s : Setting) where
       go : (x : Here plan R) → Alone R' t' o' x.env x.env' x.d' x.w.cells (beside x.b) → Sim P K V (code_by g c looks x.env x.d b x.w) (code_by (h s) c' looks x.env' x.d' (bind t' o' b') (beside x.b))
       go x y =
           let env' : Env = with_vars y.bs' x.env' in
-          let rest : Value → World → Answer = λ v w. looking looks (is_bound_well (h s) t' o' v) w (need (bindings_of (h s) t' v) w (λ bs. code_by (h s) c' looks (with_vars bs x.env') x.d' b' (passing (with_vars bs x.env') w))) in
-          let same : then_do (act_by (h s) c' looks x.env' (suc x.d') o' (beside x.b)) rest ≡ code_by (h s) c' looks env' x.d' b' (passing env' (beside x.b))
+          let rest : Value → World → Answer = λ v w. require_if_checked looks (is_bound_well (h s) t' o' v) w (need (bindings_of (h s) t' v) w (λ bs. code_by (h s) c' looks (with_vars bs x.env') x.d' b' (with_state_seen (with_vars bs x.env') w))) in
+          let same : then_do (act_by (h s) c' looks x.env' (suc x.d') o' (beside x.b)) rest ≡ code_by (h s) c' looks env' x.d' b' (with_state_seen env' (beside x.b))
           = ap (λ a. then_do a rest) y.gave ∙ looked_on looks (is_bound_well (h s) t' o' y.v') (bindings_of (h s) t' y.v') y.bs' (beside x.b) _ y.seen y.binds in
           subst (Sim P K V (code_by g c looks x.env x.d b x.w)) (sym same) (f.by (record {
             env = x.env;
@@ -118,8 +118,8 @@ module _ (s : Setting) where
   unfolding act_by
   arm_left {U} {U'} {V} q b as' bs' never not f = record { by = λ v v' x. go v v' x (fit_of g q v) refl }
     where
-      go : (v v' : Value) (x : Here plan (U v v')) (o : Fit) → fit_of g q v ≡ o
-          → Sim P K V (choose o x.w (λ bs. code_by g c looks (with_vars bs x.env) x.d b (passing (with_vars bs x.env) x.w)) (arms_by g c looks x.env x.d v as' x.w)) (arms_by (h s) c' looks x.env' x.d' v' bs' (beside x.b))
+      go : (v v' : Value) (x : Here plan (U v v')) (o : MatchOutcome) → fit_of g q v ≡ o
+          → Sim P K V (choose o x.w (λ bs. code_by g c looks (with_vars bs x.env) x.d b (with_state_seen (with_vars bs x.env) x.w)) (arms_by g c looks x.env x.d v as' x.w)) (arms_by (h s) c' looks x.env' x.d' v' bs' (beside x.b))
       go v v' x (fits bs) e = absurd (never v v' x bs e)
       go v v' x unclear e = λ _. free
       go v v' x fits_not e = f.by v v' (record { env = x.env; env' = x.env'; d = x.d; d' = x.d'; w = x.w; b = x.b; related = not v v' x e; known = x.known; nest = x.nest })
@@ -128,7 +128,7 @@ module _ (s : Setting) where
   pub arm_right : {U : Value → Value → Relation} {V : Value → Value → Type 0} (q : Shape) (b : Code) (as' bs' : Arms) → ((v v' : Value) (x : Here plan (U v v')) → fit_of (h s) q v' ≡ fits_not) → ArmsFollow s U V as' bs' → ArmsFollow s U V as' (arm q b bs')
   unfolding act_by
   arm_right {U} {V} q b as' bs' not f = record {
-    by = λ v v' x. subst (λ o. Sim P K V (arms_by g c looks x.env x.d v as' x.w) (choose o (beside x.b) (λ bs. code_by (h s) c' looks (with_vars bs x.env') x.d' b (passing (with_vars bs x.env') (beside x.b))) (arms_by (h s) c' looks x.env' x.d' v' bs' (beside x.b)))) (sym (not v v' x)) (f.by v v' x);
+    by = λ v v' x. subst (λ o. Sim P K V (arms_by g c looks x.env x.d v as' x.w) (choose o (beside x.b) (λ bs. code_by (h s) c' looks (with_vars bs x.env') x.d' b (with_state_seen (with_vars bs x.env') (beside x.b))) (arms_by (h s) c' looks x.env' x.d' v' bs' (beside x.b)))) (sym (not v v' x)) (f.by v v' x);
   }
 
   -- the alternatives of the first become a block of the second
@@ -149,17 +149,17 @@ module _ (s : Setting) where
   unfolding act_by
   arm_taken {U} {U'} {R'} {V} q b as' b' f k fit not = record { by = λ v x. go v x (fit_of g q v) refl }
     where
-      go : (v : Value) (x : Here plan (U v)) (o : Fit) → fit_of g q v ≡ o
-          → Sim P K V (choose o x.w (λ bs. code_by g c looks (with_vars bs x.env) x.d b (passing (with_vars bs x.env) x.w)) (arms_by g c looks x.env x.d v as' x.w)) (code_by (h s) c' looks x.env' x.d' b' (beside x.b))
+      go : (v : Value) (x : Here plan (U v)) (o : MatchOutcome) → fit_of g q v ≡ o
+          → Sim P K V (choose o x.w (λ bs. code_by g c looks (with_vars bs x.env) x.d b (with_state_seen (with_vars bs x.env) x.w)) (arms_by g c looks x.env x.d v as' x.w)) (code_by (h s) c' looks x.env' x.d' b' (beside x.b))
       go v x (fits bs) e = λ all.
           let env : Env = with_vars bs x.env in
-          let at : P (record { env = env; heap = x.w.cells }) = every_last P x.w.seen _ (code_by_back P g c cb looks env x.d b (passing env x.w) all) in
+          let at : P (record { env = env; heap = x.w.cells }) = every_last P x.w.seen _ (code_by_back P g c cb looks env x.d b (with_state_seen env x.w) all) in
           f.by (record {
             env = env;
             env' = x.env';
             d = x.d;
             d' = x.d';
-            w = passing env x.w;
+            w = with_state_seen env x.w;
             b = record { cells = x.b.cells; seen = x.b.seen; depth = x.b.depth; heaps = x.b.heaps; deep = x.b.deep };
             related = fit v x bs e at;
             known = at;

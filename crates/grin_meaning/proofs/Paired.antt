@@ -2,9 +2,9 @@
 use Rattle.std.proofs.Common.{◌≡◌, ℕ, zero, suc, ◌+◌, max, List, [], ◌∷◌, Option, Some, None, slice_get, refl, subst, arith}
 use Rattle.grin_syntax.specs.Tree.{Procedure, Program}
 use Rattle.grin_meaning.specs.Values.{Value, Datum, Env, State, World, Answer, need, one_each, Binding, with_vars}
-use Rattle.grin_meaning.specs.Run.{Calls, code, calls, run, spent, passing, start_words, start_world}
+use Rattle.grin_meaning.specs.Run.{Calls, code, calls, run, spent, with_state_seen, start_words, start_world}
 use Rattle.grin_meaning.specs.Keeps.{world_of, Keeps}
-use Rattle.grin_meaning.specs.Follows.{Depths, other, Follows, free, stops_too, Every}
+use Rattle.grin_meaning.specs.Follows.{DepthComparison, other, Follows, free, stops_too, HoldsInEveryState}
 use Rattle.grin_meaning.proofs.Back.{CallsBack, calls_back}
 use Rattle.grin_meaning.proofs.Related.{Sim, spend_sim, CallsFollow, Setting, CodeFollows, enter}
 use Rattle.grin_meaning.proofs.Following.{keeps_following}
@@ -25,7 +25,7 @@ pub data BodiesFollow (s : Setting) : ℕ → List Procedure → List Procedure 
   no_more : {f : ℕ} → BodiesFollow s f [] []
   one_more : {f : ℕ} {q r : Procedure} {qs rs : List Procedure} → BodyFollows s f q r → BodiesFollow s (suc f) qs rs → BodiesFollow s f (q ∷ qs) (r ∷ rs)
 
-module _ (P : State → Type 0) (K : Depths) (Args : ℕ → List Datum → List Datum → Type 0) (Result : ℕ → Value → Value → Type 0) (g : Program) (procs : List Procedure) where
+module _ (P : State → Type 0) (K : DepthComparison) (Args : ℕ → List Datum → List Datum → Type 0) (Result : ℕ → Value → Value → Type 0) (g : Program) (procs : List Procedure) where
   abbrev pub side_by_side : (c c' : Calls) → CallsBack P c → CallsFollow P K Args Result c c' → Setting
   side_by_side c c' cb cf = record { P = P; K = K; Args = Args; Result = Result; g = g; procs = procs; c = c; c' = c'; back = cb; follow = cf }
 
@@ -33,10 +33,10 @@ module _ (P : State → Type 0) (K : Depths) (Args : ℕ → List Datum → List
   second = record g { procs = procs }
 
   abbrev first_body : (n m x : ℕ) → List Datum → ℕ → World → Option Procedure → Answer
-  first_body n m x xs d w o = need o w (λ q. need (one_each q.params xs) w (λ bs. code g (calls g n) (with_vars bs nothing) d q.body (passing (with_vars bs nothing) (spent x d m w))))
+  first_body n m x xs d w o = need o w (λ q. need (one_each q.params xs) w (λ bs. code g (calls g n) (with_vars bs nothing) d q.body (with_state_seen (with_vars bs nothing) (spent x d m w))))
 
   abbrev second_body : (n m x : ℕ) → List Datum → ℕ → World → Option Procedure → Answer
-  second_body n m x xs d w o = need o w (λ q. need (one_each q.params xs) w (λ bs. code second (calls second n) (with_vars bs nothing) d q.body (passing (with_vars bs nothing) (spent x d m w))))
+  second_body n m x xs d w o = need o w (λ q. need (one_each q.params xs) w (λ bs. code second (calls second n) (with_vars bs nothing) d q.body (with_state_seen (with_vars bs nothing) (spent x d m w))))
 
   body_follows : (n m x : ℕ) (cf : CallsFollow P K Args Result (calls g n) (calls second n)) (f : ℕ) (q r : Procedure) → BodyFollows (side_by_side (calls g n) (calls second n) (calls_back P g n) cf) f q r
       → (xs xs' : List Datum) (d d' : ℕ) (w : World) (ss : List State) (e : ℕ) → Args f xs xs' → K.Deep d' d → K.Deep e w.depth
@@ -72,10 +72,10 @@ module _ (P : State → Type 0) (K : Depths) (Args : ℕ → List Datum → List
     }
 
     -- the runs, where the start takes its argument to itself
-    pub related_follow : Args g.start.0 (start_words g.argument) (start_words g.argument) → ((i : List ℕ) (n : ℕ) → Every P (world_of (run g i n)).seen)
+    pub related_follow : Args g.start.0 (start_words g.argument) (start_words g.argument) → ((i : List ℕ) (n : ℕ) → HoldsInEveryState P (world_of (run g i n)).seen)
         → (i : List ℕ) (n : ℕ) → Follows K (Result g.start.0) (run g i n) (run second i n)
     unfolding run
     related_follow a all i n = (all_follow n).by g.start.0 (start_words g.argument) (start_words g.argument) 0 0 (start_world g i n) [] 0 a K.start K.start (all i n)
 
-    pub related_keep : Args g.start.0 (start_words g.argument) (start_words g.argument) → ((i : List ℕ) (n : ℕ) → Every P (world_of (run g i n)).seen) → Keeps g second
+    pub related_keep : Args g.start.0 (start_words g.argument) (start_words g.argument) → ((i : List ℕ) (n : ℕ) → HoldsInEveryState P (world_of (run g i n)).seen) → Keeps g second
     related_keep a all = keeps_following K (Result g.start.0) g second (related_follow a all)

@@ -3,9 +3,9 @@ use Rattle.std.proofs.Common.{◌≡◌, ℕ, zero, suc, ◌+◌, max, List, [],
 use Rattle.grin_syntax.specs.Tree.{Procedure, Program}
 use Rattle.grin_meaning.specs.Values.{Value, Datum, Env, HeapCell, World, Answer, need, one_each, Binding, with_vars}
 use Rattle.grin_meaning.specs.Checks.{is_given}
-use Rattle.grin_meaning.specs.Run.{Calls, code_by, calls_by, run_by, looking_at, spent, passing, global_cells, start_words, start_world}
+use Rattle.grin_meaning.specs.Run.{Calls, code_by, calls_by, run_by, require_value_if_checked, spent, with_state_seen, global_cells, start_words, start_world}
 use Rattle.grin_meaning.specs.Keeps.{world_of}
-use Rattle.grin_meaning.specs.Follows.{Every}
+use Rattle.grin_meaning.specs.Follows.{HoldsInEveryState}
 use Rattle.grin_meaning.proofs.Back.{CallsBack, calls_by_back, code_by_back, given_back, every_last}
 use Rattle.grin_meaning.proofs.Beside.{Beside, beside, Likewise, free, stops_too, Seen, Sim, need_is, need_first, spend_sim, given_sim}
 use Rattle.grin_meaning.proofs.Rules.{Relation, Plan, CallsFollow, Setting, CodeFollows, enter}
@@ -35,7 +35,7 @@ module _ (p : Plan) where
   second = record g { procs = procs }
 
   abbrev entry : Program → (n m x : ℕ) → ℕ → World → Procedure → List Binding → Answer
-  entry q n m x d w r bs = looking_at looks (is_given q) (code_by q (calls_by q looks n) looks (with_vars bs nothing) d r.body (passing (with_vars bs nothing) (spent x d m w)))
+  entry q n m x d w r bs = require_value_if_checked looks (is_given q) (code_by q (calls_by q looks n) looks (with_vars bs nothing) d r.body (with_state_seen (with_vars bs nothing) (spent x d m w)))
 
   abbrev called : Program → (n m x : ℕ) → List Datum → ℕ → World → Option Procedure → Answer
   called q n m x xs d w o = need o w (λ r. need (one_each r.params xs) w (entry q n m x d w r))
@@ -49,7 +49,7 @@ module _ (p : Plan) where
       let env : Env = with_vars bs nothing in
       let w1 : World = spent x d m w in
       let known : P (record { env = env; heap = w.cells })
-      = every_last P w.seen _ (given_back P looks (is_given g) (passing env w1) _ (code_by_back P g (calls_by g looks n) (calls_by_back P g looks n) looks env d q.body (passing env w1)) all) in
+      = every_last P w.seen _ (given_back P looks (is_given g) (with_state_seen env w1) _ (code_by_back P g (calls_by g looks n) (calls_by_back P g looks n) looks env d q.body (with_state_seen env w1)) all) in
       let too : (bs' : List Binding) × (one_each r.params xs' ≡ Some bs') × y.R w.cells env (with_vars bs' nothing) = y.enters w.cells xs xs' bs a e known in
       let n1 : Beside K w1 = record { cells = b.cells; seen = b.seen; depth = max b.depth d'; heaps = b.heaps; deep = K.greater b.deep nest } in
       subst (Likewise K (Result f) (entry g n m x d w q bs)) (need_is (one_each r.params xs') too.0 (beside b) (entry second n m x d' (beside b) r) too.1)
@@ -74,7 +74,7 @@ module _ (p : Plan) where
     calls_too (suc n) = record { by = λ x xs xs' d d' w b a nest. spend_sim P K (Result x) w.left w b _ _ (λ m. one_follows n m x (calls_too n) xs xs' d d' w b nest 0 g.procs procs (each n (calls_too n)) x (omega arith) a) }
 
     -- the run on i with n units, where the start takes its argument to itself; the plan may be one for this run
-    pub run_too : (i : List ℕ) (n : ℕ) → Args g.start.0 (start_words g.argument) (start_words g.argument) → K.Heaps (global_cells g) (global_cells g) → Every P (world_of (run_by g looks i n)).seen
+    pub run_too : (i : List ℕ) (n : ℕ) → Args g.start.0 (start_words g.argument) (start_words g.argument) → K.Heaps (global_cells g) (global_cells g) → HoldsInEveryState P (world_of (run_by g looks i n)).seen
         → Likewise K (Result g.start.0) (run_by g looks i n) (run_by second looks i n)
     unfolding run_by
     run_too i n a heaps all = (calls_too n).by g.start.0 (start_words g.argument) (start_words g.argument) 0 0 (start_world g i n)
@@ -87,6 +87,6 @@ module _ (p : Plan) where
     pub all_follow : (n : ℕ) → CallsFollow p (calls_by g looks n) (calls_by second looks n)
     all_follow = calls_too each_at
 
-    pub run_follows : (i : List ℕ) (n : ℕ) → Args g.start.0 (start_words g.argument) (start_words g.argument) → K.Heaps (global_cells g) (global_cells g) → Every P (world_of (run_by g looks i n)).seen
+    pub run_follows : (i : List ℕ) (n : ℕ) → Args g.start.0 (start_words g.argument) (start_words g.argument) → K.Heaps (global_cells g) (global_cells g) → HoldsInEveryState P (world_of (run_by g looks i n)).seen
         → Likewise K (Result g.start.0) (run_by g looks i n) (run_by second looks i n)
     run_follows = run_too each_at

@@ -9,8 +9,8 @@ use Rattle.grin_syntax.specs.declared.program.ProcId.{ProcId}
 use Rattle.grin_syntax.specs.declared.program.Val.{Val}
 use Rattle.grin_syntax.specs.declared.program.Word.{Word}
 use Rattle.grin_syntax.specs.Tree.{Code, end, store, bind, Act, unit, fetch, fetch_word, update, call, prim, read, write, case, nested, fail, Arms, no_arm, arm, Procedure, Program}
-use Rattle.grin_meaning.specs.Values.{Datum, number, tag, cell, Node, Value, node, words, Env, HeapCell, State, World, Answer, gives, need, and_then, Binding, with_vars, Fit, fits, fits_not, unclear, fit_of, word_of, words_of, value_of, node_of, bindings_of}
-use Rattle.grin_meaning.specs.Run.{Calls, act_by, code_by, arms_by, looking, choose, byte_or_end, after_read, node_word, passing, places, cells_of, with_cells, place_of, number_of, on_numbers}
+use Rattle.grin_meaning.specs.Values.{Datum, number, tag, cell, Node, Value, node, words, Env, HeapCell, State, World, Answer, gives, need, and_then, Binding, with_vars, MatchOutcome, fits, fits_not, unclear, fit_of, word_of, words_of, value_of, node_of, bindings_of}
+use Rattle.grin_meaning.specs.Run.{Calls, act_by, code_by, arms_by, require_if_checked, choose, byte_or_end, after_read, node_word, with_state_seen, places, cells_of, with_cells, place_of, number_of, apply_arithmetic}
 use Rattle.grin_meaning.specs.Checks.{fills, all_fill, is_bound_well}
 use Rattle.grin_meaning.proofs.Back.{Back, need_back, looking_back, CallsBack, code_by_back, every_front, every_last}
 use Rattle.grin_meaning.proofs.Beside.{Compared, Beside, beside, Likewise, free, gives_too, stops_too, Seen, Sim, sim_more, need_is, need_first, need_sim, need_both, then_sim, looked_need_sim, need_looked_sim}
@@ -79,15 +79,15 @@ module _ (s : Setting) where
 
   -- a block goes on, in a state that the run passes through
   pub enter : (R : Relation) (V : Value → Value → Type 0) (b b' : Code) → CodeFollows R V b b' → (env env' : Env) (d d' : ℕ) (w : World) (n : Beside K w) → K.Deep d' d → (P (record { env = env; heap = w.cells }) → R w.cells env env')
-      → Sim P K V (code_by g c looks env d b (passing env w)) (code_by h c' looks env' d' b' (passing env' (beside n)))
+      → Sim P K V (code_by g c looks env d b (with_state_seen env w)) (code_by h c' looks env' d' b' (with_state_seen env' (beside n)))
   enter R V b b' f env env' d d' w n nest r = λ all.
-      let at : P (record { env = env; heap = w.cells }) = every_last P w.seen _ (code_by_back P g c cb looks env d b (passing env w) all) in
+      let at : P (record { env = env; heap = w.cells }) = every_last P w.seen _ (code_by_back P g c cb looks env d b (with_state_seen env w) all) in
       f.by (record {
         env = env;
         env' = env';
         d = d;
         d' = d';
-        w = passing env w;
+        w = with_state_seen env w;
         b = record { cells = n.cells; seen = n.seen ++ record { env = env'; heap = n.cells } ∷ []; depth = n.depth; heaps = n.heaps; deep = n.deep };
         related = r at;
         known = at;
@@ -133,10 +133,10 @@ module _ (s : Setting) where
 
   -- what is done with the value of a bound operation
   abbrev pub rest : Target → Act → Code → Env → ℕ → Value → World → Answer
-  rest t o b env d v w = looking looks (is_bound_well g t o v) w (need (bindings_of g t v) w (λ bs. code_by g c looks (with_vars bs env) d b (passing (with_vars bs env) w)))
+  rest t o b env d v w = require_if_checked looks (is_bound_well g t o v) w (need (bindings_of g t v) w (λ bs. code_by g c looks (with_vars bs env) d b (with_state_seen (with_vars bs env) w)))
 
   pub rest_back : (t : Target) (o : Act) (b : Code) (env : Env) (d : ℕ) (v : Value) (w : World) → Back P w (rest t o b env d v w)
-  rest_back t o b env d v w = looking_back P looks _ w _ (need_back P (bindings_of g t v) w _ (λ bs all. every_front P w.seen _ (code_by_back P g c cb looks (with_vars bs env) d b (passing (with_vars bs env) w) all)))
+  rest_back t o b env d v w = looking_back P looks _ w _ (need_back P (bindings_of g t v) w _ (λ bs all. every_front P w.seen _ (code_by_back P g c cb looks (with_vars bs env) d b (with_state_seen (with_vars bs env) w) all)))
 
   pub bind_follows : {R R' : Relation} {U V : Value → Value → Type 0} (t t' : Target) (o o' : Act) (b b' : Code) → ActFollows R U o o' → CodeFollows R' V b b'
       → ((x : Here plan R) (y : Given R U t o x) → BindsToo R' t' o' x.env x.env' y.w.cells y.v' y.bs) → CodeFollows R V (bind t o b) (bind t' o' b')
@@ -145,7 +145,7 @@ module _ (s : Setting) where
     by = λ x. then_sim P K U V _ _ _ _ (rest_back t o b x.env x.d)
         (f.by (record { env = x.env; env' = x.env'; d = suc x.d; d' = suc x.d'; w = x.w; b = x.b; related = x.related; known = x.known; nest = K.up x.nest }))
         (λ v v' w n gave u. looked_need_sim P K V looks (is_bound_well g t o v) (is_bound_well h t' o' v') (bindings_of g t v) (bindings_of h t' v') w (beside n) _ _ (λ bs e seen all.
-        let at : P (record { env = with_vars bs x.env; heap = w.cells }) = every_last P w.seen _ (code_by_back P g c cb looks (with_vars bs x.env) x.d b (passing (with_vars bs x.env) w) all) in
+        let at : P (record { env = with_vars bs x.env; heap = w.cells }) = every_last P w.seen _ (code_by_back P g c cb looks (with_vars bs x.env) x.d b (with_state_seen (with_vars bs x.env) w) all) in
         let y : BindsToo R' t' o' x.env x.env' w.cells v' bs = binds x (record { v = v; v' = v'; w = w; b = n; bs = bs; gave = gave; values = u; seen = seen; binds = e; next = at }) in
         (y.seen, y.bs', y.binds, enter R' V b b' k (with_vars bs x.env) (with_vars y.bs' x.env') x.d x.d' w n x.nest (λ _. y.related) all)));
   }
@@ -172,7 +172,7 @@ module _ (s : Setting) where
         let env : Env = with_vars (places (length x.w.cells) cs) x.env in
         let env' : Env = with_vars (places (length x.b.cells) cs') x.env' in
         need_looked_sim P K V looks (all_fill g env cs) (all_fill h env' cs') (cells_of g env cs) (cells_of h env' cs') x.w (beside x.b) _ _ (λ hs e seen all.
-        let at : P (record { env = env; heap = x.w.cells ++ hs }) = every_last P x.w.seen _ (code_by_back P g c cb looks env x.d b (passing env (with_cells hs x.w)) all) in
+        let at : P (record { env = env; heap = x.w.cells ++ hs }) = every_last P x.w.seen _ (code_by_back P g c cb looks env x.d b (with_state_seen env (with_cells hs x.w)) all) in
         let y : StoresToo R R' cs cs' x hs = stores x (record { hs = hs; cells = e; seen = seen; next = at }) in
         (y.seen, y.hs', y.cells, enter R' V b b' k env env' x.d x.d' (with_cells hs x.w) (record { cells = x.b.cells ++ y.hs'; seen = x.b.seen; depth = x.b.depth; heaps = y.heaps; deep = x.b.deep }) x.nest (λ _. y.related) all));
   }
@@ -206,16 +206,16 @@ module _ (s : Setting) where
   unfolding act_by
   arm_follows {U} {U'} {R'} {V} s s' b b' as' bs' f k fit not = record { by = λ v v' x. go v v' x (fit_of g s v) refl }
     where
-      go : (v v' : Value) (x : Here plan (U v v')) (q : Fit) → fit_of g s v ≡ q
-          → Sim P K V (choose q x.w (λ bs. code_by g c looks (with_vars bs x.env) x.d b (passing (with_vars bs x.env) x.w)) (arms_by g c looks x.env x.d v as' x.w)) (arms_by h c' looks x.env' x.d' v' (arm s' b' bs') (beside x.b))
+      go : (v v' : Value) (x : Here plan (U v v')) (q : MatchOutcome) → fit_of g s v ≡ q
+          → Sim P K V (choose q x.w (λ bs. code_by g c looks (with_vars bs x.env) x.d b (with_state_seen (with_vars bs x.env) x.w)) (arms_by g c looks x.env x.d v as' x.w)) (arms_by h c' looks x.env' x.d' v' (arm s' b' bs') (beside x.b))
       go v v' x (fits bs) e = λ all.
-          let at : P (record { env = with_vars bs x.env; heap = x.w.cells }) = every_last P x.w.seen _ (code_by_back P g c cb looks (with_vars bs x.env) x.d b (passing (with_vars bs x.env) x.w) all) in
+          let at : P (record { env = with_vars bs x.env; heap = x.w.cells }) = every_last P x.w.seen _ (code_by_back P g c cb looks (with_vars bs x.env) x.d b (with_state_seen (with_vars bs x.env) x.w) all) in
           let y : FitsToo R' s' x.env x.env' x.w.cells v' bs = fit v v' x bs e at in
-          subst (λ q. Likewise K V (code_by g c looks (with_vars bs x.env) x.d b (passing (with_vars bs x.env) x.w)) (choose q (beside x.b) (λ bs. code_by h c' looks (with_vars bs x.env') x.d' b' (passing (with_vars bs x.env') (beside x.b))) (arms_by h c' looks x.env' x.d' v' bs' (beside x.b)))) (sym y.fit)
+          subst (λ q. Likewise K V (code_by g c looks (with_vars bs x.env) x.d b (with_state_seen (with_vars bs x.env) x.w)) (choose q (beside x.b) (λ bs. code_by h c' looks (with_vars bs x.env') x.d' b' (with_state_seen (with_vars bs x.env') (beside x.b))) (arms_by h c' looks x.env' x.d' v' bs' (beside x.b)))) (sym y.fit)
           (enter R' V b b' f (with_vars bs x.env) (with_vars y.bs' x.env') x.d x.d' x.w x.b x.nest (λ _. y.related) all)
       go v v' x fits_not e = λ all.
           let y : (fit_of h s' v' ≡ fits_not) × U' v v' x.w.cells x.env x.env' = not v v' x e in
-          subst (λ q. Likewise K V (arms_by g c looks x.env x.d v as' x.w) (choose q (beside x.b) (λ bs. code_by h c' looks (with_vars bs x.env') x.d' b' (passing (with_vars bs x.env') (beside x.b))) (arms_by h c' looks x.env' x.d' v' bs' (beside x.b)))) (sym y.0)
+          subst (λ q. Likewise K V (arms_by g c looks x.env x.d v as' x.w) (choose q (beside x.b) (λ bs. code_by h c' looks (with_vars bs x.env') x.d' b' (with_state_seen (with_vars bs x.env') (beside x.b))) (arms_by h c' looks x.env' x.d' v' bs' (beside x.b)))) (sym y.0)
           (k.by v v' (record { env = x.env; env' = x.env'; d = x.d; d' = x.d'; w = x.w; b = x.b; related = y.1; known = x.known; nest = x.nest }) all)
       go v v' x unclear e = λ _. free
 
@@ -299,7 +299,7 @@ module _ (s : Setting) where
   abbrev pub Numbers : (Value → Value → Type 0) → Type 0
   Numbers V = (k : ℤ) → V (words (number k ∷ [])) (words (number k ∷ []))
 
-  numbers_sim : {V : Value → Value → Type 0} (q : PrimOp) (y z : Datum) (w : World) (b : Beside K w) → Numbers V → Sim P K V (need (on_numbers q y z) w (λ v. gives v w)) (need (on_numbers q y z) (beside b) (λ v. gives v (beside b)))
+  numbers_sim : {V : Value → Value → Type 0} (q : PrimOp) (y z : Datum) (w : World) (b : Beside K w) → Numbers V → Sim P K V (need (apply_arithmetic q y z) w (λ v. gives v w)) (need (apply_arithmetic q y z) (beside b) (λ v. gives v (beside b)))
   numbers_sim q (number i) (number j) w b r = λ _. gives_too b (r _)
   numbers_sim q (number i) (tag t) w b r = λ _. free
   numbers_sim q (number i) (cell a) w b r = λ _. free

@@ -1,6 +1,6 @@
 -- What stands in a scope, and what a target adds to it.
 use Rattle.grin_syntax.specs.declared.program.Target.TheVariants as to
-use Rattle.grin_syntax.specs.Formed.{InScope, Scope, with_words, with_target}
+use Rattle.grin_syntax.specs.Formed.{InScope, Scope, with_word_variables, with_target}
 use Rattle.std.proofs.Common.{[], List, arith, refl, suc, zero, ℕ, ◌<◌, ◌≡◌, ◌≤◌, ◌++◌, ◌+◌, Bool, cond, false, true, ◌∷◌}
 use Rattle.seq.specs.Lists.{times, is_among}
 use Rattle.grin_meaning.specs.Values.{words}
@@ -33,7 +33,7 @@ Once scope xs = (y : ℕ) → times y scope.nodes + times y scope.words + times 
 pub once_left : (scope : Scope) (xs ys : List ℕ) → Once scope (xs ++ ys) → Once scope xs
 once_left scope xs ys once y = let o : times y scope.nodes + times y scope.words + times y (xs ++ ys) ≤ 1 = once y in let e : times y (xs ++ ys) ≡ times y xs + times y ys = times_append y xs ys in omega (arith, o, e)
 
-pub once_words : (scope : Scope) (xs bs : List ℕ) → Once scope (xs ++ bs) → Once (with_words xs scope) bs
+pub once_words : (scope : Scope) (xs bs : List ℕ) → Once scope (xs ++ bs) → Once (with_word_variables xs scope) bs
 once_words scope xs bs once y =
     let e : times y (xs ++ bs) ≡ times y xs + times y bs = times_append y xs bs in
     let f : times y (xs ++ scope.words) ≡ times y xs + times y scope.words = times_append y xs scope.words in

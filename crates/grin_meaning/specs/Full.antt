@@ -5,7 +5,7 @@ use Rattle.grin_syntax.specs.Formed.{AllOf, Formed}
 use Rattle.grin_meaning.specs.Values.{Node, Value, node, words, HeapCell, State, fields_of}
 use Rattle.grin_meaning.specs.Run.{run_by}
 use Rattle.grin_meaning.specs.Keeps.{world_of}
-use Rattle.grin_meaning.specs.Follows.{Every}
+use Rattle.grin_meaning.specs.Follows.{HoldsInEveryState}
 
 module _ (p : Program) where
   abbrev pub FullNode : Node → Type 0
@@ -25,8 +25,9 @@ module _ (p : Program) where
 
   -- in the states that a run passes through and in the heap at its end, where the run looks or not
   pub record FullRun (looks : Bool) (i : List ℕ) (n : ℕ) : Type 0 where
-    pub passed : Every FullState (world_of (run_by p looks i n)).seen
+    pub passed : HoldsInEveryState FullState (world_of (run_by p looks i n)).seen
     pub at_end : AllOf FullCell (world_of (run_by p looks i n)).cells
 
-abbrev pub NodesAreFull : Type 0
-NodesAreFull = (g : Program) → Formed g → (looks : Bool) (i : List ℕ) (n : ℕ) → FullRun g looks i n
+abbrev pub NodesHaveAllFields : Type 0
+NodesHaveAllFields =
+    (g : Program) → Formed g → (looks : Bool) (i : List ℕ) (n : ℕ) → FullRun g looks i n

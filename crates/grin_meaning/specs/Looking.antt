@@ -9,24 +9,24 @@ use Rattle.grin_meaning.specs.Run.{run, run_by}
 use Rattle.grin_meaning.specs.Keeps.{ended, end_of}
 use Rattle.grin_meaning.specs.Ready.{IsInlined, RunsWell}
 
-abbrev pub look : Program → List ℕ → ℕ → Answer
-look g = run_by g true
+abbrev pub checked_run : Program → List ℕ → ℕ → Answer
+checked_run g = run_by g true
 
 -- no run of the program is missing
 abbrev pub NeverMissing : Program → Type 0
 NeverMissing g = (i : List ℕ) (n : ℕ) → end_of (run g i n) ≢ ended missing
 
 -- no looking run of the program is missing
-abbrev pub LooksNeverMissing : Program → Type 0
-LooksNeverMissing g = (i : List ℕ) (n : ℕ) → end_of (look g i n) ≢ ended missing
+abbrev pub CheckedRunsNeverMissing : Program → Type 0
+CheckedRunsNeverMissing g = (i : List ℕ) (n : ℕ) → end_of (checked_run g i n) ≢ ended missing
 
 -- a looking run of an inlined program is never missing exactly where its runs are well and never
 -- missing, and then it is the run
-pub record LooksWell (g : Program) : Type 0 where
-  pub sees : NeverMissing g → ((i : List ℕ) (n : ℕ) → RunsWell g i n) → LooksNeverMissing g
-  pub never_missing : LooksNeverMissing g → NeverMissing g
-  pub runs_well : LooksNeverMissing g → (i : List ℕ) (n : ℕ) → RunsWell g i n
-  pub same : LooksNeverMissing g → (i : List ℕ) (n : ℕ) → look g i n ≡ run g i n
+pub record ChecksAreExact (g : Program) : Type 0 where
+  pub sees : NeverMissing g → ((i : List ℕ) (n : ℕ) → RunsWell g i n) → CheckedRunsNeverMissing g
+  pub never_missing : CheckedRunsNeverMissing g → NeverMissing g
+  pub runs_well : CheckedRunsNeverMissing g → (i : List ℕ) (n : ℕ) → RunsWell g i n
+  pub same : CheckedRunsNeverMissing g → (i : List ℕ) (n : ℕ) → checked_run g i n ≡ run g i n
 
-abbrev pub LookingIsRunningWell : Type 0
-LookingIsRunningWell = (g : Program) → IsInlined g → LooksWell g
+abbrev pub ChecksDecideGoodRuns : Type 0
+ChecksDecideGoodRuns = (g : Program) → IsInlined g → ChecksAreExact g

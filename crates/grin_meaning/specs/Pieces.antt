@@ -13,14 +13,14 @@ use Rattle.grin_syntax.specs.Binders.{shape_vars, target_vars}
 use Rattle.grin_syntax.specs.Formed.{AllOf}
 
 -- what may stand in a piece: which operations, targets, values and variables of a pattern
-pub record Kind : Type 1 where
+pub record PieceKind : Type 1 where
   pub operation : Act → Type 0
   pub target : T.Target → Type 0
   pub value : V.Val → Type 0
   pub pattern : List ℕ → Type 0
 
 -- whatever it is
-abbrev pub any_kind : Kind
+abbrev pub any_kind : PieceKind
 any_kind = record {
   operation = λ o. Unit {0};
   target = λ t. Unit {0};
@@ -29,7 +29,7 @@ any_kind = record {
 }
 
 -- all that stands in a piece is of the kind
-module _ (K : Kind) where
+module _ (K : PieceKind) where
   unfoldable mutual
     pub EachAct : Act → Type 0
     EachAct (case v as') = K.operation (case v as') × K.value v × EachArms as'
@@ -49,8 +49,8 @@ module _ (K : Kind) where
     EachArms (arm s b as') = K.pattern (shape_vars s) × EachCode b × EachArms as'
 
 -- all that stands in the procedures of a program is of the kind
-abbrev pub EachBody : Kind → List Procedure → Type 0
-EachBody K = AllOf (λ q. EachCode K q.body)
+abbrev pub EveryBodyIsOfKind : PieceKind → List Procedure → Type 0
+EveryBodyIsOfKind K = AllOf (λ q. EachCode K q.body)
 
 -- no eval and no apply
 abbrev pub Inlined : Act → Type 0
@@ -58,16 +58,16 @@ Inlined (eval w) = ⊥
 Inlined (apply v w) = ⊥
 Inlined _ = Unit {0}
 
-abbrev pub inlined_kind : Kind
+abbrev pub inlined_kind : PieceKind
 inlined_kind = record any_kind { operation = Inlined }
 
 -- no fetch of a whole node
-abbrev pub ByWords : Act → Type 0
-ByWords (fetch w) = ⊥
-ByWords _ = Unit {0}
+abbrev pub IsNotNodeFetch : Act → Type 0
+IsNotNodeFetch (fetch w) = ⊥
+IsNotNodeFetch _ = Unit {0}
 
-abbrev pub by_words_kind : Kind
-by_words_kind = record any_kind { operation = ByWords }
+abbrev pub without_node_fetches : PieceKind
+without_node_fetches = record any_kind { operation = IsNotNodeFetch }
 
 abbrev pub NoNodeTarget : T.Target → Type 0
 NoNodeTarget (to.Node x) = ⊥
@@ -81,7 +81,7 @@ abbrev pub BindsNothing : List ℕ → Type 0
 BindsNothing xs = xs ≡ []
 
 -- no node variable, and no pattern that binds a variable
-abbrev pub vectorised_kind : Kind
+abbrev pub vectorised_kind : PieceKind
 vectorised_kind = record any_kind {
   target = NoNodeTarget;
   value = NoNodeVar;
@@ -89,17 +89,17 @@ vectorised_kind = record any_kind {
 }
 
 -- no operation goes to more than so many variables
-abbrev pub narrow_kind : ℕ → Kind
+abbrev pub narrow_kind : ℕ → PieceKind
 narrow_kind most = record any_kind { target = λ t. length (target_vars t) ≤ most }
 
 abbrev pub IsInlined : Program → Type 0
-IsInlined g = EachBody inlined_kind g.procs
+IsInlined g = EveryBodyIsOfKind inlined_kind g.procs
 
 abbrev pub IsVectorised : Program → Type 0
-IsVectorised g = EachBody vectorised_kind g.procs
+IsVectorised g = EveryBodyIsOfKind vectorised_kind g.procs
 
 abbrev pub IsFetchedByWords : Program → Type 0
-IsFetchedByWords g = EachBody by_words_kind g.procs
+IsFetchedByWords g = EveryBodyIsOfKind without_node_fetches g.procs
 
 -- the largest number of fields of these tags, and of those that stand for values
 abbrev pub most_fields : List Tag → ℕ
@@ -142,9 +142,9 @@ unfoldable mutual
       NarrowCode node_width most b × NarrowArms node_width most as'
 
 -- an operation that changes nothing and gives what it has read or reckoned
-abbrev pub IsStill : Act → Type 0
-IsStill (unit v) = Unit {0}
-IsStill (fetch a) = Unit {0}
-IsStill (fetch_word a k) = Unit {0}
-IsStill (prim q a b) = Unit {0}
-IsStill _ = ⊥
+abbrev pub HasNoEffect : Act → Type 0
+HasNoEffect (unit v) = Unit {0}
+HasNoEffect (fetch a) = Unit {0}
+HasNoEffect (fetch_word a k) = Unit {0}
+HasNoEffect (prim q a b) = Unit {0}
+HasNoEffect _ = ⊥

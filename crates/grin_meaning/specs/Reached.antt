@@ -10,7 +10,7 @@ use Rattle.grin_syntax.specs.declared.program.Val.{Val}
 use Rattle.grin_syntax.specs.declared.program.Word.{Word}
 use Rattle.grin_syntax.specs.Tree.{Code, end, store, bind, Act, call, case, nested, Arms, arm, Procedure, Program}
 use Rattle.grin_meaning.specs.Values.{Datum, Value, Env, HeapCell, World, gives, Binding, with_vars, one_each, fits, fits_not, fit_of, words_of, value_of, bindings_of}
-use Rattle.grin_meaning.specs.Run.{act, calls, passing, places, cells_of, with_cells, spent, start_words, start_world}
+use Rattle.grin_meaning.specs.Run.{act, calls, with_state_seen, places, cells_of, with_cells, spent, start_words, start_world}
 
 module _ (p : Program) (i : List ℕ) (n : ℕ) where
   mutual
@@ -26,22 +26,22 @@ module _ (p : Program) (i : List ℕ) (n : ℕ) where
           → Called (suc m) f xs d w → w.left ≡ suc u → slice_get p.procs f ≡ Some q
           → one_each q.params xs ≡ Some bs
           → Runs m (with_vars bs (λ y. None)) d q.body
-          (passing (with_vars bs (λ y. None)) (spent f d u w))
+          (with_state_seen (with_vars bs (λ y. None)) (spent f d u w))
       stored : {m : ℕ} {env : Env} {d : ℕ} {cs : List Cell} {b : Code}
           {w : World} {hs : List HeapCell} → Runs m env d (store cs b) w
           → cells_of p (with_vars (places (length w.cells) cs) env) cs ≡ Some hs
           → Runs m (with_vars (places (length w.cells) cs) env) d b
-          (passing (with_vars (places (length w.cells) cs) env) (with_cells hs w))
+          (with_state_seen (with_vars (places (length w.cells) cs) env) (with_cells hs w))
       bound : {m : ℕ} {env : Env} {d : ℕ} {t : Target} {o : Act} {b : Code}
           {w w' : World} {v : Value} {bs : List Binding} → Runs m env d (bind t o b) w
           → act p (calls p m) env (suc d) o w ≡ gives v w'
           → bindings_of p t v ≡ Some bs
-          → Runs m (with_vars bs env) d b (passing (with_vars bs env) w')
+          → Runs m (with_vars bs env) d b (with_state_seen (with_vars bs env) w')
       within : {m : ℕ} {env : Env} {d : ℕ} {b : Code} {w : World}
           → Does m env d (nested b) w → Runs m env d b w
       chosen : {m : ℕ} {env : Env} {d : ℕ} {x : Value} {s : Shape} {b : Code} {as' : Arms}
           {w : World} {bs : List Binding} → Tries m env d x (arm s b as') w → fit_of p s x ≡ fits bs
-          → Runs m (with_vars bs env) d b (passing (with_vars bs env) w)
+          → Runs m (with_vars bs env) d b (with_state_seen (with_vars bs env) w)
 
     pub data Does : ℕ → Env → ℕ → Act → World → Type 0 where
       first : {m : ℕ} {env : Env} {d : ℕ} {t : Target} {o : Act} {b : Code} {w : World}

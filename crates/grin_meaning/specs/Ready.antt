@@ -17,8 +17,8 @@ use Rattle.grin_meaning.specs.Values.{Datum, number, tag, Value, Env, World, mis
 use Rattle.grin_meaning.specs.Run.{act, calls, run, places}
 use Rattle.grin_meaning.specs.Keeps.{ended, end_of}
 use Rattle.grin_meaning.specs.Reached.{Called, Runs, Does}
-pub use Rattle.grin_meaning.specs.Pieces.{Kind}
-unfoldable pub use Rattle.grin_meaning.specs.Pieces.{any_kind, EachAct, EachCode, EachArms, EachBody, Inlined, inlined_kind, ByWords, by_words_kind, NoNodeTarget, NoNodeVar, BindsNothing, vectorised_kind, narrow_kind, IsInlined, IsVectorised, IsFetchedByWords, most_fields, value_fields, most_value_fields, val_width, NarrowAct, NarrowCode, NarrowArms}
+pub use Rattle.grin_meaning.specs.Pieces.{PieceKind}
+unfoldable pub use Rattle.grin_meaning.specs.Pieces.{any_kind, EachAct, EachCode, EachArms, EveryBodyIsOfKind, Inlined, inlined_kind, IsNotNodeFetch, without_node_fetches, NoNodeTarget, NoNodeVar, BindsNothing, vectorised_kind, narrow_kind, IsInlined, IsVectorised, IsFetchedByWords, most_fields, value_fields, most_value_fields, val_width, NarrowAct, NarrowCode, NarrowArms}
 
 module _ (g : Program) where
   -- a node with this tag is a delayed call

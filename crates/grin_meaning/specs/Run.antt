@@ -9,7 +9,7 @@ pub use Rattle.grin_meaning.specs.Checks.{is_some_and}
 use Rattle.grin_meaning.specs.Checks.{is_given, fills, all_fill, is_bound_well}
 use Rattle.grin_syntax.specs.Tree.{Code, end, store, bind, Act, unit, fetch, fetch_word, update, eval, apply, call, prim, read, write, case, nested, fail, Arms, no_arm, arm, Program}
 use Rattle.numbers.specs.Numbers.{sum, difference, product, quotient, remainder, equal, less, low_byte}
-use Rattle.grin_meaning.specs.Values.{Datum, number, tag, cell, Node, Value, node, words, Env, HeapCell, World, no_alternative, out_of_units, missing, Answer, gives, stops, then_do, need, and_then, each, Binding, with_vars, one_each, fit_of, Fit, fits, fits_not, unclear, as_node, made_node, word_of, words_of, value_of, node_of, bindings_of}
+use Rattle.grin_meaning.specs.Values.{Datum, number, tag, cell, Node, Value, node, words, Env, HeapCell, World, no_alternative, out_of_units, missing, Answer, gives, stops, then_do, need, and_then, each, Binding, with_vars, one_each, fit_of, MatchOutcome, fits, fits_not, unclear, as_node, made_node, word_of, words_of, value_of, node_of, bindings_of}
 
 -- a call of a procedure with its arguments, at a nesting
 abbrev pub Calls : Type 0
@@ -26,9 +26,9 @@ arithmetic Eq a b = equal a b
 arithmetic Lt a b = less a b
 
 -- two numbers
-abbrev pub on_numbers : PrimOp → Datum → Datum → Option Value
-on_numbers f (number a) (number b) = Some (words (number (arithmetic f a b) ∷ []))
-on_numbers f _ _ = None
+abbrev pub apply_arithmetic : PrimOp → Datum → Datum → Option Value
+apply_arithmetic f (number a) (number b) = Some (words (number (arithmetic f a b) ∷ []))
+apply_arithmetic f _ _ = None
 
 abbrev pub place_of : Datum → Option ℕ
 place_of (cell a) = Some a
@@ -49,8 +49,8 @@ node_word n zero = tag n.tag
 node_word n (suc i) = nth_or_zero n.fields i
 
 -- the state in which a block goes on, once variables are bound, is one that the run passes through
-abbrev pub passing : Env → World → World
-passing env w = record w { seen = w.seen ++ record { env = env; heap = w.cells } ∷ [] }
+abbrev pub with_state_seen : Env → World → World
+with_state_seen env w = record w { seen = w.seen ++ record { env = env; heap = w.cells } ∷ [] }
 
 -- the next byte, which is taken, or -1 at the end of the input
 abbrev pub byte_or_end : List ℕ → ℤ
@@ -82,20 +82,20 @@ places a [] = []
 places a (c ∷ cs) = (c.var.0, words (cell a ∷ [])) ∷ places (suc a) cs
 
 -- goes on with what a pattern binds, or with the other alternatives
-abbrev pub choose : Fit → World → (List Binding → Answer) → Answer → Answer
+abbrev pub choose : MatchOutcome → World → (List Binding → Answer) → Answer → Answer
 choose (fits bs) w k other = k bs
 choose fits_not w k other = other
 choose unclear w k other = stops missing w
 
 -- a looking run looks at b here: where that is false, something is missing
-abbrev pub looking : Bool → Bool → World → Answer → Answer
-looking false b w a = a
-looking true b w a = cond b a (stops missing w)
+abbrev pub require_if_checked : Bool → Bool → World → Answer → Answer
+require_if_checked false b w a = a
+require_if_checked true b w a = cond b a (stops missing w)
 
 -- and here at the value that is given
-abbrev pub looking_at : Bool → (Value → Bool) → Answer → Answer
-looking_at false f a = a
-looking_at true f a = then_do a (λ v w. cond (f v) (gives v w) (stops missing w))
+abbrev pub require_value_if_checked : Bool → (Value → Bool) → Answer → Answer
+require_value_if_checked false f a = a
+require_value_if_checked true f a = then_do a (λ v w. cond (f v) (gives v w) (stops missing w))
 
 abbrev pub spend : ℕ → World → (ℕ → Answer) → Answer
 spend zero w k = stops out_of_units w
@@ -147,21 +147,21 @@ module _ (p : Program) where
         -- an operation at nesting d
         pub act_by : Env → ℕ → Act → World → Answer
         act_by env d (unit v) w = need (value_of p env v) w (λ x.
-            looking looks (fills p env v) w (gives x w))
+            require_if_checked looks (fills p env v) w (gives x w))
         act_by env d (fetch a) w = need (and_then (word_of p env a) place_of) w (λ i.
             need (slice_get w.cells i) w (λ c. gives (node c.node) w))
         act_by env d (fetch_word a k) w = need (and_then (word_of p env a) place_of) w (λ i.
             need (slice_get w.cells i) w (λ c. gives (words (node_word c.node k ∷ [])) w))
         act_by env d (update a v) w = need (and_then (word_of p env a) place_of) w (λ i.
             need (slice_get w.cells i) w (λ c. need (node_of p env v) w (λ n.
-            looking looks (fills p env v) w (gives (words []) (with_node i n c w)))))
+            require_if_checked looks (fills p env v) w (gives (words []) (with_node i n c w)))))
         act_by env d (eval a) w =
             need (and_then (word_of p env a) place_of) w (λ i. eval_cell d i w)
         act_by env d (apply v a) w =
             need (node_of p env v) w (λ n. need (word_of p env a) w (λ x. apply_node d n x w))
         act_by env d (call f as') w = need (words_of p env as') w (λ xs. calls f.0 xs d w)
         act_by env d (prim f a b) w = need (word_of p env a) w (λ x. need (word_of p env b) w (λ y.
-            need (on_numbers f x y) w (λ v. gives v w)))
+            need (apply_arithmetic f x y) w (λ v. gives v w)))
         act_by env d read w =
             gives (words (number (byte_or_end w.input) ∷ [])) (after_read w.input w)
         act_by env d (write a) w =
@@ -175,17 +175,17 @@ module _ (p : Program) where
         code_by env d (end o) w = act_by env d o w
         code_by env d (store cs b) w =
             let env' = with_vars (places (length w.cells) cs) env in
-            need (cells_of env' cs) w (λ hs. looking looks (all_fill p env' cs) w
-            (code_by env' d b (passing env' (with_cells hs w))))
+            need (cells_of env' cs) w (λ hs. require_if_checked looks (all_fill p env' cs) w
+            (code_by env' d b (with_state_seen env' (with_cells hs w))))
         code_by env d (bind t o b) w = then_do (act_by env (suc d) o w) (λ v w'.
-            looking looks (is_bound_well p t o v) w' (need (bindings_of p t v) w' (λ bs.
-            code_by (with_vars bs env) d b (passing (with_vars bs env) w'))))
+            require_if_checked looks (is_bound_well p t o v) w' (need (bindings_of p t v) w' (λ bs.
+            code_by (with_vars bs env) d b (with_state_seen (with_vars bs env) w'))))
 
         -- the first alternative whose pattern fits
         pub arms_by : Env → ℕ → Value → Arms → World → Answer
         arms_by env d v no_arm w = stops missing w
         arms_by env d v (arm s b as') w = choose (fit_of p s v) w
-            (λ bs. code_by (with_vars bs env) d b (passing (with_vars bs env) w))
+            (λ bs. code_by (with_vars bs env) d b (with_state_seen (with_vars bs env) w))
             (arms_by env d v as' w)
 
     -- what they do in a run that does not look
@@ -205,8 +205,8 @@ module _ (p : Program) where
     calls_by zero f xs d w = stops out_of_units w
     calls_by (suc n) f xs d w = spend w.left w (λ m. need (slice_get p.procs f) w (λ q.
         need (one_each q.params xs) w (λ bs. let env : Env = with_vars bs (λ y. None) in
-        looking_at looks (is_given p)
-        (code_by (calls_by n) looks env d q.body (passing env (spent f d m w))))))
+        require_value_if_checked looks (is_given p)
+        (code_by (calls_by n) looks env d q.body (with_state_seen env (spent f d m w))))))
 
   unfoldable pub calls : ℕ → Calls
   unfolding calls_by

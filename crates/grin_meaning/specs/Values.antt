@@ -103,29 +103,29 @@ abbrev pub only_word : Value → Option Datum
 only_word (words (d ∷ [])) = Some d
 only_word _ = None
 
-pub data Fit : Type 0 where
-  fits : List Binding → Fit
-  fits_not : Fit
-  unclear : Fit
+pub data MatchOutcome : Type 0 where
+  fits : List Binding → MatchOutcome
+  fits_not : MatchOutcome
+  unclear : MatchOutcome
 
-abbrev pub fits_if : Option (List Binding) → Fit
+abbrev pub fits_if : Option (List Binding) → MatchOutcome
 fits_if None = unclear
 fits_if (Some bs) = fits bs
 
 -- a pattern without variables takes all fields
-abbrev pub fields_fit : List VarId → List Datum → Fit
+abbrev pub fields_fit : List VarId → List Datum → MatchOutcome
 fields_fit [] ds = fits []
 fields_fit (x ∷ xs) ds = fits_if (one_each (x ∷ xs) ds)
 
-abbrev pub node_fit : ℕ → List VarId → Option Node → Fit
+abbrev pub node_fit : ℕ → List VarId → Option Node → MatchOutcome
 node_fit t xs None = unclear
 node_fit t xs (Some n) = cond (nat_eq n.tag t) (fields_fit xs n.fields) fits_not
 
-abbrev pub number_fit : ℤ → List Datum → Fit
+abbrev pub number_fit : ℤ → List Datum → MatchOutcome
 number_fit k (number i ∷ ds) = cond (same_number k i) (fits []) fits_not
 number_fit k _ = unclear
 
-abbrev pub int_fit : ℤ → Option Node → Fit
+abbrev pub int_fit : ℤ → Option Node → MatchOutcome
 int_fit k None = unclear
 int_fit k (Some n) = cond (nat_eq n.tag 0) (number_fit k n.fields) fits_not
 
@@ -177,7 +177,7 @@ module _ (p : Program) where
   bindings_of (VectorTarget xs) (node n) = one_each xs (padded (length xs) (tag n.tag ∷ n.fields))
 
   -- what a pattern binds, or that it does not fit
-  abbrev pub fit_of : Shape → Value → Fit
+  abbrev pub fit_of : Shape → Value → MatchOutcome
   fit_of (NodeShape t xs) v = node_fit t.0 xs (as_node v)
   fit_of (Int k) v = int_fit k (as_node v)
   fit_of Else v = fits []

@@ -1,17 +1,17 @@
 // Laws of runs.
 
-ghost use Rattle.grin_meaning.specs.Looking.{LookingIsRunningWell};
-ghost use Rattle.grin_meaning.specs.Full.{NodesAreFull};
+ghost use Rattle.grin_meaning.specs.Looking.{ChecksDecideGoodRuns};
+ghost use Rattle.grin_meaning.specs.Full.{NodesHaveAllFields};
 
 /// A law: the looking run of a program without eval and apply is never missing exactly where its
 /// runs are well and never missing, and then it is the run.
 #[tactic(auto, using(crate::proofs::Looked::looking_law))]
-pub fn looking_is_running_well()
-    ensures { LookingIsRunningWell }
+pub fn checks_decide_good_runs()
+    ensures { ChecksDecideGoodRuns }
 {}
 
 /// A law: in the runs of a well-formed program each node has as many fields as its tag.
 #[tactic(auto, using(crate::proofs::Fullness::nodes_full))]
-pub fn nodes_are_full()
-    ensures { NodesAreFull }
+pub fn nodes_have_all_fields()
+    ensures { NodesHaveAllFields }
 {}

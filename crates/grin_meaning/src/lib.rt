@@ -4,5 +4,5 @@
 pub mod laws;
 pub mod passes;
 
-pub use laws::{looking_is_running_well, nodes_are_full};
-pub use passes::{Pass, compose, keeping_composes};
+pub use laws::{checks_decide_good_runs, nodes_have_all_fields};
+pub use passes::{Pass, compose, preservation_composes};

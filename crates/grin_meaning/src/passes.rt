@@ -4,7 +4,7 @@ ghost use Rattle.std.specs.Prelude.{◌≡◌, IfOk};
 ghost use Rattle.grin_syntax.specs.Tree.{program_of};
 ghost use Rattle.grin_syntax.specs.declared.program.Grin.{Grin};
 ghost use Rattle.grin_meaning.specs.Keeps.{Keeps};
-ghost use Rattle.grin_meaning.specs.Laws.{KeepingComposes};
+ghost use Rattle.grin_meaning.specs.Laws.{PreservationComposes};
 
 use grin_syntax::Grin;
 use std::alloc::{AllocError, Global};
@@ -42,6 +42,6 @@ pub fn compose<A: Pass, B: Pass>(alloc: Global, a: &A, b: &B, g: Grin) -> Result
 
 /// A law: what keeps a program that keeps another keeps that one.
 #[tactic(auto, using(crate::proofs::Kept::keeps_again))]
-pub fn keeping_composes()
-    ensures { KeepingComposes }
+pub fn preservation_composes()
+    ensures { PreservationComposes }
 {}

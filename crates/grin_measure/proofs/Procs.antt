@@ -13,7 +13,7 @@ use Rattle.grin_measure.specs.declared.measure.Sizes.{Sizes}
 use Rattle.grin_measure.specs.Counts.{counts, sum, of_code, of_procedure, of_procs}
 use Rattle.grin_measure.specs.Within.{HasSizes, Within}
 use Rattle.grin_measure.proofs.Sums.{sums_are}
-use Rattle.inlining.specs.Expanded.{capped}
+use Rattle.inlining.specs.Expanded.{saturated_at_64_bits}
 
 abbrev trees : List Proc → List Procedure
 trees qs = map procedure_of qs
@@ -64,12 +64,12 @@ largest_next qs i q lt is = ap (largest procedure_size) (next_tree qs i q lt is)
 -- what was measured of procedures
 pub record MeasuredSoFar (qs : List Procedure) (n : Counts) (most : ℕ) : Type 0 where
   pub counted : n ≡ of_procs qs
-  pub largest : most ≡ capped (largest procedure_size qs)
+  pub largest : most ≡ saturated_at_64_bits (largest procedure_size qs)
 
 pub nothing_measured : MeasuredSoFar [] (counts 0 0 0 0) 0
 nothing_measured = record { counted = refl; largest = refl }
 
-pub size_counted : (q : Procedure) → (of_procedure q).size ≡ capped (procedure_size q)
+pub size_counted : (q : Procedure) → (of_procedure q).size ≡ saturated_at_64_bits (procedure_size q)
 unfolding counts
 size_counted q = ap (λ n. n.size) (procedure_counted q)
 
@@ -79,7 +79,7 @@ measured_next qs i q n own most lt is e so = record {
   counted = (λ j. sum (so.counted j) (e j)) ∙ sym (procs_next qs i q lt is);
   largest =
       let a = so.largest in
-      let b : own.size ≡ capped (procedure_size (procedure_of q)) = ap (λ n. n.size) e ∙ size_counted (procedure_of q) in
+      let b : own.size ≡ saturated_at_64_bits (procedure_size (procedure_of q)) = ap (λ n. n.size) e ∙ size_counted (procedure_of q) in
       let c = largest_next qs i q lt is in
       omega (arith, a, b, c);
 }
@@ -90,8 +90,8 @@ unfolding counts
 all_measured g qs is i n most le so =
     let all : take i qs ≡ g.procs = take_all i qs le ∙ is in
     record {
-      program = ap (λ n. n.size) so.counted ∙ ap (λ qs. capped (total procedure_size (trees qs))) all;
-      largest = so.largest ∙ ap (λ qs. capped (largest procedure_size (trees qs))) all;
+      program = ap (λ n. n.size) so.counted ∙ ap (λ qs. saturated_at_64_bits (total procedure_size (trees qs))) all;
+      largest = so.largest ∙ ap (λ qs. saturated_at_64_bits (largest procedure_size (trees qs))) all;
     }
 
 -- ---- against the bounds of a slim program
@@ -123,18 +123,18 @@ pub none_yet : (s : Sizes) → SlimSoFar s [] (counts 0 0 0 0)
 none_yet s = record { counted = refl; weight = omega arith; calls = omega arith; words = tt }
 
 -- what is counted, where it is below the largest number
-pub uncapped : (n bound : ℕ) → capped n ≤ bound → bound < 2 ^ 64 - 1 → n ≤ bound
+pub uncapped : (n bound : ℕ) → saturated_at_64_bits n ≤ bound → bound < 2 ^ 64 - 1 → n ≤ bound
 uncapped n bound le lt = omega (arith, le, lt)
 
-weight_counted : (qs : List Procedure) → (of_procs qs).weight ≡ capped (procs_weight qs)
+weight_counted : (qs : List Procedure) → (of_procs qs).weight ≡ saturated_at_64_bits (procs_weight qs)
 unfolding counts
 weight_counted qs = refl
 
-calls_counted : (qs : List Procedure) → (of_procs qs).calls ≡ capped (procs_calls qs)
+calls_counted : (qs : List Procedure) → (of_procs qs).calls ≡ saturated_at_64_bits (procs_calls qs)
 unfolding counts
 calls_counted qs = refl
 
-words_counted : (q : Procedure) → (of_procedure q).words ≡ capped (procedure_words q)
+words_counted : (q : Procedure) → (of_procedure q).words ≡ saturated_at_64_bits (procedure_words q)
 unfolding counts
 words_counted q = ap (λ n. n.words) (procedure_counted q)
 
@@ -143,13 +143,13 @@ module _ (s : Sizes) (few : s.program ≤ 131072) (few_most : s.largest ≤ 1310
   counted : sum n own ≡ of_procs (trees (take (i + 1) qs))
   counted = (λ j. sum (so.counted j) (e j)) ∙ sym (procs_next qs i q lt is)
 
-  weight_is : (sum n own).weight ≡ capped (procs_weight (trees (take (i + 1) qs)))
+  weight_is : (sum n own).weight ≡ saturated_at_64_bits (procs_weight (trees (take (i + 1) qs)))
   weight_is = ap (λ n. n.weight) counted ∙ weight_counted (trees (take (i + 1) qs))
 
-  calls_are : (sum n own).calls ≡ capped (procs_calls (trees (take (i + 1) qs)))
+  calls_are : (sum n own).calls ≡ saturated_at_64_bits (procs_calls (trees (take (i + 1) qs)))
   calls_are = ap (λ n. n.calls) counted ∙ calls_counted (trees (take (i + 1) qs))
 
-  words_are : own.words ≡ capped (procedure_words (procedure_of q))
+  words_are : own.words ≡ saturated_at_64_bits (procedure_words (procedure_of q))
   words_are = ap (λ n. n.words) e ∙ words_counted (procedure_of q)
 
   pub slim_next : Within (sum n own) own s → SlimSoFar s (trees (take (i + 1) qs)) (sum n own)

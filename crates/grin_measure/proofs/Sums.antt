@@ -14,14 +14,14 @@ use Rattle.grin_meaning.specs.Slim.{val_weight, target_weight, cells_weight, act
 use Rattle.inlining.specs.Size.{val_size, target_size, shape_size, cells_size, act_size, code_size, arms_size}
 use Rattle.grin_measure.specs.declared.counts.Counts.{Counts}
 use Rattle.grin_measure.specs.Counts.{counts, sum, of_val, of_target, of_cells, of_pattern, of_act, of_code, of_arms}
-use Rattle.inlining.specs.Expanded.{capped}
+use Rattle.inlining.specs.Expanded.{saturated_at_64_bits}
 
 -- ---- sums
 
-capped_sum : (x y : ℕ) → capped (capped x + capped y) ≡ capped (x + y)
+capped_sum : (x y : ℕ) → saturated_at_64_bits (saturated_at_64_bits x + saturated_at_64_bits y) ≡ saturated_at_64_bits (x + y)
 capped_sum x y = omega arith
 
-capped_twice : (x y z : ℕ) → capped (capped (x + y) + z) ≡ capped (x + capped (y + z))
+capped_twice : (x y z : ℕ) → saturated_at_64_bits (saturated_at_64_bits (x + y) + z) ≡ saturated_at_64_bits (x + saturated_at_64_bits (y + z))
 capped_twice x y z = omega arith
 
 pub same_counts : (w c v s w' c' v' s' : ℕ) → w ≡ w' → c ≡ c' → v ≡ v' → s ≡ s' → counts w c v s ≡ counts w' c' v' s'
@@ -40,7 +40,7 @@ sum_after a b c = λ i. record {
   size = capped_twice a.size b.size c.size i;
 }
 
-capped_alone : (x y : ℕ) → capped (capped (x + y) + 0) ≡ capped (x + y)
+capped_alone : (x y : ℕ) → saturated_at_64_bits (saturated_at_64_bits (x + y) + 0) ≡ saturated_at_64_bits (x + y)
 capped_alone x y = omega arith
 
 pub sum_then_none : (a b : Counts) → sum (sum a b) (counts 0 0 0 0) ≡ sum a b

@@ -9,10 +9,15 @@ use Rattle.grin_syntax.specs.Tree.{Code, Act, Arms, Procedure}
 use Rattle.grin_meaning.specs.Slim.{val_weight, target_weight, cells_weight, act_weight, code_weight, arms_weight, procs_weight, act_calls, code_calls, arms_calls, procs_calls, inner_words, code_words, arms_words, procedure_words}
 use Rattle.inlining.specs.Size.{val_size, target_size, shape_size, cells_size, act_size, code_size, arms_size, procedure_size, total}
 use Rattle.grin_measure.specs.declared.counts.Counts.{Counts}
-use Rattle.inlining.specs.Expanded.{capped}
+use Rattle.inlining.specs.Expanded.{saturated_at_64_bits}
 
 unfoldable pub counts : (weight calls words size : ℕ) → Counts
-counts w c v s = record { weight = capped w; calls = capped c; words = capped v; size = capped s }
+counts w c v s = record {
+  weight = saturated_at_64_bits w;
+  calls = saturated_at_64_bits c;
+  words = saturated_at_64_bits v;
+  size = saturated_at_64_bits s;
+}
 
 -- both together
 unfoldable pub sum : Counts → Counts → Counts

@@ -4,11 +4,11 @@ use Rattle.grin_syntax.specs.Tree.{Program}
 use Rattle.inlining.specs.Size.{size, largest_procedure}
 use Rattle.grin_measure.specs.declared.counts.Counts.{Counts}
 use Rattle.grin_measure.specs.declared.measure.Sizes.{Sizes}
-use Rattle.inlining.specs.Expanded.{capped}
+use Rattle.inlining.specs.Expanded.{saturated_at_64_bits}
 
 pub record HasSizes (g : Program) (s : Sizes) : Type 0 where
-  pub program : s.program ≡ capped (size g)
-  pub largest : s.largest ≡ capped (largest_procedure g)
+  pub program : s.program ≡ saturated_at_64_bits (size g)
+  pub largest : s.largest ≡ saturated_at_64_bits (largest_procedure g)
 
 pub record Within (all own : Counts) (s : Sizes) : Type 0 where
   pub weight : all.weight ≤ 48 * s.program

@@ -5,7 +5,8 @@ ghost use Rattle.grin_syntax.specs.Tree.{procedure_of, program_of};
 ghost use Rattle.grin_meaning.specs.Slim.{Slim};
 ghost use Rattle.grin_measure.specs.Counts.{of_procedure};
 ghost use Rattle.grin_measure.specs.Within.{HasSizes, Within};
-ghost use Rattle.inlining.specs.Expanded.{capped};
+ghost use Rattle.inlining.specs.Expanded.{saturated_at_64_bits};
+ghost use Rattle.limits.specs.Limits.{largest_program};
 
 use crate::counts::Counts;
 use crate::walk::procedure;
@@ -38,8 +39,8 @@ pub fn sizes_of(g: &Grin) -> Sizes
 /// Whether the counts so far, the last procedure's among them, are within what is slim beside a
 /// program of these sizes.
 fn is_within(all: Counts, own: Counts, sizes: Sizes) -> bool
-    requires program { sizes.program ≤ 131072 }
-    requires largest { sizes.largest ≤ 131072 }
+    requires program { sizes.program ≤ largest_program }
+    requires largest { sizes.largest ≤ largest_program }
     ensures within { result ≡ true → Within all own sizes }
     ensures beyond { result ≡ false → Within all own sizes → ⊥ }
 {
@@ -51,8 +52,8 @@ fn is_within(all: Counts, own: Counts, sizes: Sizes) -> bool
 /// Whether a program is slim beside one of these sizes. It counts no further than to the first
 /// procedure with which it isn't.
 pub fn is_slim(g: &Grin, sizes: Sizes) -> bool
-    requires program { sizes.program ≤ 131072 }
-    requires largest { sizes.largest ≤ 131072 }
+    requires program { sizes.program ≤ largest_program }
+    requires largest { sizes.largest ≤ largest_program }
     ensures slim { result ≡ true → Slim sizes.program sizes.largest (program_of g.now) }
     ensures large { result ≡ false → Slim sizes.program sizes.largest (program_of g.now) → ⊥ }
 {

@@ -7,14 +7,14 @@ use Rattle.grin_syntax.specs.declared.program.Val.{Val}
 use Rattle.grin_syntax.specs.declared.program.Val.TheVariants.{NodeVar, Node, Vector, One}
 use Rattle.grin_syntax.specs.Tree.{Code, end, store, bind, Act, unit, fetch, fetch_word, update, eval, apply, call, prim, read, write, case, nested, fail, Arms, no_arm, arm, Procedure, Program}
 use Rattle.grin_meaning.specs.Rewritten.{rewritten_procedure}
-use Rattle.pass_ground.specs.OpenUpdates.{tag_variable, act_sum, code_sum, arms_sum, procs_sum, one_if_some, open_updates}
-use Rattle.pass_ground.specs.Vectors.{OfVectors}
+use Rattle.pass_ground.specs.OpenUpdates.{tag_variable, act_update_sum, code_update_sum, arms_update_sum, procs_update_sum, one_if_some, updates_with_variable_tag}
+use Rattle.pass_ground.specs.Vectors.{IsVectorForm}
 use Rattle.copy_prop.specs.Copies.{copies_of}
 use Rattle.copy_prop.specs.Resolved.{Table, as_val, noted_copies, unless_copy, noted_act, noted_code, resolved_act, resolved_code, resolved_arms, resolved_procs, resolved}
-use Rattle.copy_prop.specs.Lean.{used_in_code, is_idle, unless, lean_act, lean_code, lean_arms, lean}
+use Rattle.copy_prop.specs.Lean.{used_in_code, is_idle, unless, without_idle_act, without_idle_code, without_idle_arms, lean}
 use Rattle.copy_prop.specs.Copied.{Copied}
-use Rattle.copy_prop.proofs.PassContract.{is_copied}
-use Rattle.grin_opt.specs.Several.{MadeBy}
+use Rattle.copy_prop.proofs.Contract.{is_copied}
+use Rattle.grin_opt.specs.Several.{MadeByPasses}
 
 -- ---- copies
 
@@ -42,14 +42,14 @@ each_option : {A : Type 0} (P : Option A → Type 0) → P None → ((a : A) →
 each_option P none some None = none
 each_option P none some (Some a) = some a
 
-copy_or_bound : (t : Target) (o o' : Act) (c : Code) → code_sum opens (unless_copy (copies_of t o) (bind t o') c) ≤ act_sum opens o' + code_sum opens c
-unfolding act_sum
-copy_or_bound t o o' c = each_option (λ q. code_sum opens (unless_copy q (bind t o') c) ≤ act_sum opens o' + code_sum opens c) (omega arith) (λ a. omega arith) (copies_of t o)
+copy_or_bound : (t : Target) (o o' : Act) (c : Code) → code_update_sum opens (unless_copy (copies_of t o) (bind t o') c) ≤ act_update_sum opens o' + code_update_sum opens c
+unfolding act_update_sum
+copy_or_bound t o o' c = each_option (λ q. code_update_sum opens (unless_copy q (bind t o') c) ≤ act_update_sum opens o' + code_update_sum opens c) (omega arith) (λ a. omega arith) (copies_of t o)
 
 mutual
-  unfolding resolved_act act_sum
+  unfolding resolved_act act_update_sum
 
-  resolved_act_fewer : (k : Table) (o : Act) → act_sum opens (resolved_act k o) ≤ act_sum opens o
+  resolved_act_fewer : (k : Table) (o : Act) → act_update_sum opens (resolved_act k o) ≤ act_update_sum opens o
   resolved_act_fewer k (case v as') = resolved_arms_fewer k as'
   resolved_act_fewer k (nested b) = resolved_code_fewer k b
   resolved_act_fewer k (update a v) = fewer_open k v
@@ -64,32 +64,32 @@ mutual
   resolved_act_fewer k (write a) = omega arith
   resolved_act_fewer k fail = omega arith
 
-  resolved_code_fewer : (k : Table) (b : Code) → code_sum opens (resolved_code k b) ≤ code_sum opens b
+  resolved_code_fewer : (k : Table) (b : Code) → code_update_sum opens (resolved_code k b) ≤ code_update_sum opens b
   resolved_code_fewer k (end o) = resolved_act_fewer k o
   resolved_code_fewer k (store cs b) = resolved_code_fewer k b
   resolved_code_fewer k (bind t o b) =
       let after : Table = noted_copies (copies_of t o) (noted_act o k) in
       omega (arith, copy_or_bound t o (resolved_act k o) (resolved_code after b), resolved_act_fewer k o, resolved_code_fewer after b)
 
-  resolved_arms_fewer : (k : Table) (as' : Arms) → arms_sum opens (resolved_arms k as') ≤ arms_sum opens as'
+  resolved_arms_fewer : (k : Table) (as' : Arms) → arms_update_sum opens (resolved_arms k as') ≤ arms_update_sum opens as'
   resolved_arms_fewer k no_arm = omega arith
   resolved_arms_fewer k (arm s b as') = omega (arith, resolved_code_fewer k b, resolved_arms_fewer (noted_code b k) as')
 
-resolved_fewer : (k : Table) (qs : List Procedure) → procs_sum opens (resolved_procs k qs) ≤ procs_sum opens qs
+resolved_fewer : (k : Table) (qs : List Procedure) → procs_update_sum opens (resolved_procs k qs) ≤ procs_update_sum opens qs
 resolved_fewer k [] = omega arith
 resolved_fewer k (q ∷ qs) = omega (arith, resolved_code_fewer k q.body, resolved_fewer (noted_code q.body k) qs)
 
 -- ---- idle statements
 
-idle_or_bound : (t : Target) (o : Act) (c : Code) (q : Bool) → code_sum opens (unless q (bind t o) c) ≤ act_sum opens o + code_sum opens c
-unfolding act_sum
+idle_or_bound : (t : Target) (o : Act) (c : Code) (q : Bool) → code_update_sum opens (unless q (bind t o) c) ≤ act_update_sum opens o + code_update_sum opens c
+unfolding act_update_sum
 idle_or_bound t o c false = omega arith
 idle_or_bound t o c true = omega arith
 
 mutual
-  unfolding lean_act act_sum
+  unfolding without_idle_act act_update_sum
 
-  lean_act_fewer : (o : Act) → act_sum opens (lean_act o) ≤ act_sum opens o
+  lean_act_fewer : (o : Act) → act_update_sum opens (without_idle_act o) ≤ act_update_sum opens o
   lean_act_fewer (case v as') = lean_arms_fewer as'
   lean_act_fewer (nested b) = lean_code_fewer b
   lean_act_fewer (update a v) = omega arith
@@ -104,23 +104,23 @@ mutual
   lean_act_fewer (write a) = omega arith
   lean_act_fewer fail = omega arith
 
-  lean_code_fewer : (b : Code) → code_sum opens (lean_code b) ≤ code_sum opens b
+  lean_code_fewer : (b : Code) → code_update_sum opens (without_idle_code b) ≤ code_update_sum opens b
   lean_code_fewer (end o) = lean_act_fewer o
   lean_code_fewer (store cs b) = lean_code_fewer b
-  lean_code_fewer (bind t o b) = omega (arith, idle_or_bound t (lean_act o) (lean_code b) (is_idle t o (used_in_code (lean_code b))), lean_act_fewer o, lean_code_fewer b)
+  lean_code_fewer (bind t o b) = omega (arith, idle_or_bound t (without_idle_act o) (without_idle_code b) (is_idle t o (used_in_code (without_idle_code b))), lean_act_fewer o, lean_code_fewer b)
 
-  lean_arms_fewer : (as' : Arms) → arms_sum opens (lean_arms as') ≤ arms_sum opens as'
+  lean_arms_fewer : (as' : Arms) → arms_update_sum opens (without_idle_arms as') ≤ arms_update_sum opens as'
   lean_arms_fewer no_arm = omega arith
   lean_arms_fewer (arm s b as') = omega (arith, lean_code_fewer b, lean_arms_fewer as')
 
-lean_fewer : (qs : List Procedure) → procs_sum opens (map (rewritten_procedure lean_code) qs) ≤ procs_sum opens qs
+lean_fewer : (qs : List Procedure) → procs_update_sum opens (map (rewritten_procedure without_idle_code) qs) ≤ procs_update_sum opens qs
 lean_fewer [] = omega arith
 lean_fewer (q ∷ qs) = omega (arith, lean_code_fewer q.body, lean_fewer qs)
 
-pub made_lean : (g h k : Program) → h ≡ resolved g → k ≡ lean h → OfVectors g → MadeBy Copied g k
+pub made_lean : (g h k : Program) → h ≡ resolved g → k ≡ lean h → IsVectorForm g → MadeByPasses Copied g k
 made_lean g h k e f of =
-    let fewer : open_updates (resolved g) ≤ open_updates g = resolved_fewer [] g.procs in
-    let fewer_again : open_updates (lean (resolved g)) ≤ open_updates (resolved g) = lean_fewer (resolved g).procs in
-    let both : open_updates (lean (resolved g)) ≤ open_updates g = omega (arith, fewer, fewer_again) in
+    let fewer : updates_with_variable_tag (resolved g) ≤ updates_with_variable_tag g = resolved_fewer [] g.procs in
+    let fewer_again : updates_with_variable_tag (lean (resolved g)) ≤ updates_with_variable_tag (resolved g) = lean_fewer (resolved g).procs in
+    let both : updates_with_variable_tag (lean (resolved g)) ≤ updates_with_variable_tag g = omega (arith, fewer, fewer_again) in
     let shape = is_copied g h k e f of in
-    record { stays = shape.stays; no_more_open = subst (λ k. open_updates k ≤ open_updates g) (sym (f ∙ ap lean e)) both; by = shape }
+    record { stays = shape.stays; no_more_open = subst (λ k. updates_with_variable_tag k ≤ updates_with_variable_tag g) (sym (f ∙ ap lean e)) both; by = shape }

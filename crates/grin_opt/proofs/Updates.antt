@@ -3,8 +3,8 @@ use Rattle.std.proofs.Common.{◌≡◌, ℕ, ◌+◌, List, [], ◌∷◌, ◌+
 use Rattle.grin_syntax.specs.declared.program.Val.{Val}
 use Rattle.grin_syntax.specs.declared.program.Word.{Word}
 use Rattle.grin_syntax.specs.Tree.{Code, end, store, bind, Act, unit, fetch, fetch_word, update, eval, apply, call, prim, read, write, case, nested, fail, Arms, no_arm, arm, Procedure, Program}
-use Rattle.pass_ground.specs.OpenUpdates.{tag_variable, act_sum, code_sum, arms_sum, procs_sum, one_if_some, open_updates}
-use Rattle.unbox.specs.Unboxed.{act_updates, code_updates, arms_updates, updates_of}
+use Rattle.pass_ground.specs.OpenUpdates.{tag_variable, act_update_sum, code_update_sum, arms_update_sum, procs_update_sum, one_if_some, updates_with_variable_tag}
+use Rattle.unboxing.specs.Unboxed.{act_updates, code_updates, arms_updates, updates_of}
 
 module _ (count : Val → ℕ) where
   abbrev counted : List (Word × Val) → ℕ
@@ -16,9 +16,9 @@ module _ (count : Val → ℕ) where
   counted_append (u ∷ us) vs = omega (arith, counted_append us vs)
 
   mutual
-    unfolding act_sum act_updates
+    unfolding act_update_sum act_updates
 
-    act_counted : (o : Act) → act_sum count o ≡ counted (act_updates o)
+    act_counted : (o : Act) → act_update_sum count o ≡ counted (act_updates o)
     act_counted (unit v) = omega arith
     act_counted (fetch a) = omega arith
     act_counted (fetch_word a i) = omega arith
@@ -33,21 +33,21 @@ module _ (count : Val → ℕ) where
     act_counted (nested b) = code_counted b
     act_counted fail = omega arith
 
-    code_counted : (b : Code) → code_sum count b ≡ counted (code_updates b)
+    code_counted : (b : Code) → code_update_sum count b ≡ counted (code_updates b)
     code_counted (end o) = act_counted o
     code_counted (store cs b) = code_counted b
     code_counted (bind t o b) = omega (arith, act_counted o, code_counted b, counted_append (act_updates o) (code_updates b))
 
-    arms_counted : (as' : Arms) → arms_sum count as' ≡ counted (arms_updates as')
+    arms_counted : (as' : Arms) → arms_update_sum count as' ≡ counted (arms_updates as')
     arms_counted no_arm = omega arith
     arms_counted (arm s b as') = omega (arith, code_counted b, arms_counted as', counted_append (code_updates b) (arms_updates as'))
 
-  procs_counted : (qs : List Procedure) → procs_sum count qs ≡ counted (updates_of qs)
+  procs_counted : (qs : List Procedure) → procs_update_sum count qs ≡ counted (updates_of qs)
   procs_counted [] = omega arith
   procs_counted (q ∷ qs) = omega (arith, code_counted q.body, procs_counted qs, counted_append (code_updates q.body) (updates_of qs))
 
-  pub same_count : (qs rs : List Procedure) → updates_of rs ≡ updates_of qs → procs_sum count rs ≡ procs_sum count qs
+  pub same_count : (qs rs : List Procedure) → updates_of rs ≡ updates_of qs → procs_update_sum count rs ≡ procs_update_sum count qs
   same_count qs rs same = procs_counted rs ∙ (ap counted same ∙ sym (procs_counted qs))
 
-pub same_open_updates : (g h : Program) → updates_of h.procs ≡ updates_of g.procs → open_updates h ≡ open_updates g
+pub same_open_updates : (g h : Program) → updates_of h.procs ≡ updates_of g.procs → updates_with_variable_tag h ≡ updates_with_variable_tag g
 same_open_updates g h same = same_count (λ v. one_if_some (tag_variable v)) g.procs h.procs same

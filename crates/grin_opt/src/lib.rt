@@ -2,8 +2,7 @@
 #![tactic(auto)]
 
 pub mod laws;
-mod pass;
 mod schedule;
 
-pub use pass::PassName;
-pub use schedule::{optimise, passed};
+pub use schedule::{after_pass, optimise};
+pub use stage_names::PassName;

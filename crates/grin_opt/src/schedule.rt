@@ -4,13 +4,12 @@ ghost use Rattle.std.specs.Prelude.{◌≡◌, IfOk};
 ghost use Rattle.grin_syntax.specs.Tree.{program_of};
 ghost use Rattle.grin_meaning.specs.Keeps.{Keeps};
 ghost use Rattle.grin_meaning.specs.Ready.{IsFetchedByWords};
-ghost use Rattle.pass_ground.specs.Vectors.{OfVectors};
+ghost use Rattle.pass_ground.specs.Vectors.{IsVectorForm};
 ghost use Rattle.case_simplify.specs.Simplified.{Simplified};
 ghost use Rattle.copy_prop.specs.Copied.{Copied};
-ghost use Rattle.grin_opt.specs.Several.{MadeBy, Tidied, Told, Settled, OfKnownWords, OfOwnCells, OfDeadStores};
-ghost use Rattle.grin_opt.specs.Schedule.{IsAfterInlining, IsTaken, IsOfStage, Takes, before, IsPassedBy, IsOptimised};
+ghost use Rattle.grin_opt.specs.Several.{MadeByPasses, Tidied, LiteralsThenTidied, KnownWordsThenTidied, AfterKnownWords, AfterOwnCells, AfterDeadStores};
+ghost use Rattle.grin_opt.specs.Schedule.{IsAfterInlining, IsFirstPassInput, IsOfStage, IsPassInput, before, IsPassResult, IsOptimised};
 
-use crate::pass::PassName;
 use arity_raise::Raise;
 use case_simplify::{Simplify, with_fewer_cases};
 use copy_prop::{Copies, without_copies, without_idle};
@@ -23,6 +22,7 @@ use known_words::{KnownWords, ToldWords};
 use least_flow::least;
 use narrow_vectors::without_unread_words;
 use own_cells::Remember;
+use stage_names::PassName;
 use std::alloc::{AllocError, Global};
 use unbox::Unbox;
 use update_special::Updates;
@@ -30,8 +30,8 @@ use vectorise::Vectorise;
 
 // The pass `Simplify`, by which no update loses its literal tag.
 fn simplified(alloc: Global, g: Grin) -> Result<Grin, AllocError>
-    requires { OfVectors (program_of g) }
-    ensures shape { IfOk result (λ h. MadeBy Simplified (program_of g) (program_of h)) }
+    requires { IsVectorForm (program_of g) }
+    ensures shape { IfOk result (λ h. MadeByPasses Simplified (program_of g) (program_of h)) }
     ensures meaning { IfOk result (λ h. Keeps (program_of g) (program_of h)) }
 {
     let h = with_fewer_cases(alloc, g)?;
@@ -40,8 +40,8 @@ fn simplified(alloc: Global, g: Grin) -> Result<Grin, AllocError>
 
 // The pass `Copies`, by which no update loses its literal tag.
 fn copied(alloc: Global, g: Grin) -> Result<Grin, AllocError>
-    requires { OfVectors (program_of g) }
-    ensures shape { IfOk result (λ h. MadeBy Copied (program_of g) (program_of h)) }
+    requires { IsVectorForm (program_of g) }
+    ensures shape { IfOk result (λ h. MadeByPasses Copied (program_of g) (program_of h)) }
     ensures meaning { IfOk result (λ h. Keeps (program_of g) (program_of h)) }
 {
     let h = without_copies(alloc, g)?;
@@ -51,8 +51,8 @@ fn copied(alloc: Global, g: Grin) -> Result<Grin, AllocError>
 
 // Cases that are settled go, nested blocks give way to their statements, and copies go.
 fn tidied(alloc: Global, g: Grin) -> Result<Grin, AllocError>
-    requires { OfVectors (program_of g) }
-    ensures shape { IfOk result (λ h. MadeBy Tidied (program_of g) (program_of h)) }
+    requires { IsVectorForm (program_of g) }
+    ensures shape { IfOk result (λ h. MadeByPasses Tidied (program_of g) (program_of h)) }
     ensures meaning { IfOk result (λ h. Keeps (program_of g) (program_of h)) }
 {
     let simple = simplified(alloc, g)?;
@@ -63,8 +63,8 @@ fn tidied(alloc: Global, g: Grin) -> Result<Grin, AllocError>
 
 // Literals for the words that alternatives tell, and then what they settle.
 fn told(alloc: Global, g: Grin) -> Result<Grin, AllocError>
-    requires { OfVectors (program_of g) }
-    ensures shape { IfOk result (λ h. MadeBy Told (program_of g) (program_of h)) }
+    requires { IsVectorForm (program_of g) }
+    ensures shape { IfOk result (λ h. MadeByPasses LiteralsThenTidied (program_of g) (program_of h)) }
     ensures meaning { IfOk result (λ h. Keeps (program_of g) (program_of h)) }
 {
     let told = ToldWords.apply(alloc, g)?;
@@ -74,8 +74,8 @@ fn told(alloc: Global, g: Grin) -> Result<Grin, AllocError>
 
 // The same for the words that are known by the least solution too.
 fn settled(alloc: Global, g: Grin) -> Result<Grin, AllocError>
-    requires { OfVectors (program_of g) }
-    ensures shape { IfOk result (λ h. MadeBy Settled (program_of g) (program_of h)) }
+    requires { IsVectorForm (program_of g) }
+    ensures shape { IfOk result (λ h. MadeByPasses KnownWordsThenTidied (program_of g) (program_of h)) }
     ensures meaning { IfOk result (λ h. Keeps (program_of g) (program_of h)) }
 {
     let known = KnownWords.apply(alloc, g)?;
@@ -85,8 +85,8 @@ fn settled(alloc: Global, g: Grin) -> Result<Grin, AllocError>
 
 // First without a solution: of a program in which those literals stand it says more.
 fn with_literals(alloc: Global, g: Grin) -> Result<Grin, AllocError>
-    requires { OfVectors (program_of g) }
-    ensures shape { IfOk result (λ h. OfKnownWords (program_of g) (program_of h)) }
+    requires { IsVectorForm (program_of g) }
+    ensures shape { IfOk result (λ h. AfterKnownWords (program_of g) (program_of h)) }
     ensures meaning { IfOk result (λ h. Keeps (program_of g) (program_of h)) }
 {
     let once = told(alloc, g)?;
@@ -96,8 +96,8 @@ fn with_literals(alloc: Global, g: Grin) -> Result<Grin, AllocError>
 
 // No fetches of words of own cells that are known, and then what these settle.
 fn without_own_fetches(alloc: Global, g: Grin) -> Result<Grin, AllocError>
-    requires { OfVectors (program_of g) }
-    ensures shape { IfOk result (λ h. OfOwnCells (program_of g) (program_of h)) }
+    requires { IsVectorForm (program_of g) }
+    ensures shape { IfOk result (λ h. AfterOwnCells (program_of g) (program_of h)) }
     ensures meaning { IfOk result (λ h. Keeps (program_of g) (program_of h)) }
 {
     let remembered = Remember.apply(alloc, g)?;
@@ -105,11 +105,11 @@ fn without_own_fetches(alloc: Global, g: Grin) -> Result<Grin, AllocError>
     Ok(made)
 }
 
-// Words that nobody reads go, then cells that nothing reads, and then copies. Both ask one solution:
-// what solves the flow system with those words solves it without them.
+// Words that nobody reads go, then cells that nothing reads, and then copies. Both ask one
+// solution: what solves the flow system with those words solves it without them.
 fn without_unread(alloc: Global, g: Grin) -> Result<Grin, AllocError>
-    requires { OfVectors (program_of g) × IsFetchedByWords (program_of g) }
-    ensures shape { IfOk result (λ h. OfDeadStores (program_of g) (program_of h)) }
+    requires { IsVectorForm (program_of g) × IsFetchedByWords (program_of g) }
+    ensures shape { IfOk result (λ h. AfterDeadStores (program_of g) (program_of h)) }
     ensures meaning { IfOk result (λ h. Keeps (program_of g) (program_of h)) }
 {
     let flow = least(alloc, &g)?;
@@ -120,9 +120,9 @@ fn without_unread(alloc: Global, g: Grin) -> Result<Grin, AllocError>
 }
 
 /// The program after one pass. `AllocError` where memory is wanting.
-pub fn passed(alloc: Global, pass: PassName, g: Grin) -> Result<Grin, AllocError>
-    requires { Takes pass (program_of g) }
-    ensures made { IfOk result (λ h. IsPassedBy pass (program_of g) (program_of h)) }
+pub fn after_pass(alloc: Global, pass: PassName, g: Grin) -> Result<Grin, AllocError>
+    requires { IsPassInput pass (program_of g) }
+    ensures made { IfOk result (λ h. IsPassResult pass (program_of g) (program_of h)) }
     ensures stage { IfOk result (λ h. IsOfStage pass (program_of h)) }
 {
     match pass {
@@ -164,7 +164,7 @@ fn stage_before(pass: PassName) -> PassName
 /// The program after the passes after the inlining, up to and with `upto`. `AllocError` where
 /// memory is wanting.
 pub fn optimise(alloc: Global, g: Grin, upto: PassName) -> Result<Grin, AllocError>
-    requires taken { IsTaken (program_of g) }
+    requires taken { IsFirstPassInput (program_of g) }
     requires after { IsAfterInlining upto }
     ensures { IfOk result (λ h. IsOptimised (program_of g) upto (program_of h)) }
 {
@@ -172,6 +172,6 @@ pub fn optimise(alloc: Global, g: Grin, upto: PassName) -> Result<Grin, AllocErr
         return Ok(g);
     }
     let given = optimise(alloc, g, stage_before(upto))?;
-    let made = passed(alloc, upto, given)?;
+    let made = after_pass(alloc, upto, given)?;
     Ok(made)
 }

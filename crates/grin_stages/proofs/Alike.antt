@@ -26,11 +26,11 @@ use Rattle.flow_system.specs.Solution.{Solution, among, IsLeast}
 use Rattle.inlining.specs.Size.{size}
 use Rattle.arity_check.specs.Program as core
 use Rattle.grin_translate.specs.Translation.{tr}
-use Rattle.grin_opt.specs.declared.pass.PassName.{PassName}
-use Rattle.grin_opt.specs.declared.pass.PassName.TheVariants.{Translate, Eval, Apply, Vectorise, Simplify, Fetch, Copy, Update, Unbox, Raise, Flat, Known, Cells, Dead}
-use Rattle.grin_opt.specs.Schedule.{shape_of}
-use Rattle.grin_stages.specs.Stage.{Analyses, OneExpandedSize, IsStage, translated, evaluations_inlined, both_inlined, by_pass, UpToInlining, OneStage}
-use Rattle.inlining.specs.Evaluations.{some_of, cells_in, site_of, sites_of, tags_of, fields_at, call_body, eval_arm, eval_arms, evaluation, eval_bound, eval_ended, eval_act, eval_code, eval_all, eval_procs, act_room, code_room, all_room, arms_room, eval_inlined}
+use Rattle.stage_names.specs.declared.PassName.{PassName}
+use Rattle.stage_names.specs.declared.PassName.TheVariants.{Translate, Eval, Apply, Vectorise, Simplify, Fetch, Copy, Update, Unbox, Raise, Flat, Known, Cells, Dead}
+use Rattle.grin_opt.specs.Schedule.{pass_relation}
+use Rattle.grin_stages.specs.Stage.{IsLeastOfTranslation, ExpandedSizeIsUnique, IsStage, translated, evaluations_inlined, both_inlined, by_pass, UpToInlining, StageIsUnique}
+use Rattle.inlining.specs.Evaluations.{any_satisfies, cells_in, site_of, sites_of, tags_of, fields_at, call_body, eval_arm, eval_arms, evaluation, eval_bound, eval_ended, eval_act, eval_code, eval_all, eval_procs, act_room, code_room, all_room, arms_room, eval_inlined}
 use Rattle.inlining.specs.Applications.{word_has, value_has, is_part_tag, part_tags_of, others_of, with_one_more, apply_body, part_body, apply_arm, apply_arms, else_fail, apply_act, apply_code, apply_all, apply_procs, apply_act_room, apply_code_room, apply_arms_room, parts_room, apply_inlined, inlined}
 use Rattle.seq.specs.Lists.{those}
 
@@ -51,21 +51,21 @@ record Passing (test : ℕ → Bool) (us : List AbstractWord) : Type 0 where
   pub there : IsTrue (among (cell_of place) us)
   pub passes : IsTrue (test place)
 
-some_in : (p : Program) (A : Solution) (test : ℕ → Bool) (s : ℕ) (us : List AbstractWord) → IsTrue (among (cell_of s) us) → IsTrue (test s) → IsTrue (some_of test (cells_in p A us))
+some_in : (p : Program) (A : Solution) (test : ℕ → Bool) (s : ℕ) (us : List AbstractWord) → IsTrue (among (cell_of s) us) → IsTrue (test s) → IsTrue (any_satisfies test (cells_in p A us))
 some_in p A test s [] m t = cc
 some_in p A test s (cell_of s' ∷ us) m t = on (nat_eq s s') refl m (λ m. some_in p A test s us m t)
   where
-    on : (b : Bool) → nat_eq s s' ≡ b → IsTrue (b || among (cell_of s) us) → (IsTrue (among (cell_of s) us) → IsTrue (some_of test (cells_in p A us))) → IsTrue (test s' || some_of test (cells_in p A us))
-    on true q m rest = true_left (test s') (some_of test (cells_in p A us)) (subst (λ x. test x ≡ true) (eq_from s s' q) t)
-    on false q m rest = true_right (test s') (some_of test (cells_in p A us)) (rest m)
+    on : (b : Bool) → nat_eq s s' ≡ b → IsTrue (b || among (cell_of s) us) → (IsTrue (among (cell_of s) us) → IsTrue (any_satisfies test (cells_in p A us))) → IsTrue (test s' || any_satisfies test (cells_in p A us))
+    on true q m rest = true_left (test s') (any_satisfies test (cells_in p A us)) (subst (λ x. test x ≡ true) (eq_from s s' q) t)
+    on false q m rest = true_right (test s') (any_satisfies test (cells_in p A us)) (rest m)
 some_in p A test s (tag t' ∷ us) m t = some_in p A test s us m t
 some_in p A test s (num ∷ us) m t = some_in p A test s us m t
 
-some_out : (p : Program) (A : Solution) (test : ℕ → Bool) (us : List AbstractWord) → IsTrue (some_of test (cells_in p A us)) → Passing test us
+some_out : (p : Program) (A : Solution) (test : ℕ → Bool) (us : List AbstractWord) → IsTrue (any_satisfies test (cells_in p A us)) → Passing test us
 some_out p A test [] h = cc
 some_out p A test (cell_of s ∷ us) h = on (test s) refl h (λ h. some_out p A test us h)
   where
-    on : (b : Bool) → test s ≡ b → IsTrue (b || some_of test (cells_in p A us)) → (IsTrue (some_of test (cells_in p A us)) → Passing test us) → Passing test (cell_of s ∷ us)
+    on : (b : Bool) → test s ≡ b → IsTrue (b || any_satisfies test (cells_in p A us)) → (IsTrue (any_satisfies test (cells_in p A us)) → Passing test us) → Passing test (cell_of s ∷ us)
     on true q h rest = record { place = s; there = true_left (nat_eq s s) (among (cell_of s) us) (eq_self s); passes = q }
     on false q h rest = let found : Passing test us = rest h in
         record { place = found.place; there = true_right (nat_eq found.place s) (among (cell_of found.place) us) found.there; passes = found.passes }
@@ -73,17 +73,17 @@ some_out p A test (tag t ∷ us) h = let found : Passing test us = some_out p A 
 some_out p A test (num ∷ us) h = let found : Passing test us = some_out p A test us h in record { place = found.place; there = found.there; passes = found.passes }
 
 module _ (p : Program) (A B : Solution) (same : (q : Place) (part : Part) (u : AbstractWord) → among u (A q part) ≡ among u (B q part)) where
-  cells_same : (test test' : ℕ → Bool) → ((s : ℕ) → test s ≡ test' s) → (us vs : List AbstractWord) → ((u : AbstractWord) → among u us ≡ among u vs) → some_of test (cells_in p A us) ≡ some_of test' (cells_in p B vs)
+  cells_same : (test test' : ℕ → Bool) → ((s : ℕ) → test s ≡ test' s) → (us vs : List AbstractWord) → ((u : AbstractWord) → among u us ≡ among u vs) → any_satisfies test (cells_in p A us) ≡ any_satisfies test' (cells_in p B vs)
   cells_same test test' e us vs m = both_ways _ _
       (λ h. let found : Passing test us = some_out p A test us h in some_in p B test' found.place vs (sym (m (cell_of found.place)) ∙ found.there) (sym (e found.place) ∙ found.passes))
       (λ h. let found : Passing test' vs = some_out p B test' vs h in some_in p A test found.place us (m (cell_of found.place) ∙ found.there) (e found.place ∙ found.passes))
 
-  sites_same : (test test' : ℕ → Bool) → ((s : ℕ) → test s ≡ test' s) → (a : W.Word) → some_of test (sites_of p A a) ≡ some_of test' (sites_of p B a)
+  sites_same : (test test' : ℕ → Bool) → ((s : ℕ) → test s ≡ test' s) → (a : W.Word) → any_satisfies test (sites_of p A a) ≡ any_satisfies test' (sites_of p B a)
   sites_same test test' e (Lit k) = refl
   sites_same test test' e (Var x) = cells_same test test' e (A (var x.0) (word 0)) (B (var x.0) (word 0)) (λ u. same (var x.0) (word 0) u)
   sites_same test test' e (Global i) = on (slice_get p.globals i)
     where
-      on : (o : Option GlobalCell) → some_of test (site_of p A o) ≡ some_of test' (site_of p B o)
+      on : (o : Option GlobalCell) → any_satisfies test (site_of p A o) ≡ any_satisfies test' (site_of p B o)
       on None = refl
       on (Some c) = ap (λ b. b || false) (e c.site.0)
   sites_same test test' e (TagWord t) = refl
@@ -339,11 +339,11 @@ alike p A B a b =
       both = ap (apply_inlined A) e ∙ ap (λ qs. record (eval_inlined B p) { procs = qs }) (apply_procs_same (eval_inlined B p) A B same (past_procs (eval_inlined B p).procs) (eval_inlined B p).procs);
     }
 
-pub expanded_once : OneExpandedSize
+pub expanded_once : ExpandedSizeIsUnique
 expanded_once p n m h k = h.is_size ∙ (ap size (alike (tr p) h.solution k.solution h.least k.least).both ∙ sym k.is_size)
 
 -- no stage up to the inlining is made by a pass
-no_pass : (k : PassName) (g h : Program) → UpToInlining k → shape_of k g h → ⊥
+no_pass : (k : PassName) (g h : Program) → UpToInlining k → pass_relation k g h → ⊥
 no_pass Translate g h u s = s
 no_pass Eval g h u s = s
 no_pass Apply g h u s = s
@@ -375,9 +375,9 @@ stages_agree p upto upto' g h u (both_inlined a) (evaluations_inlined b) e = cc
 stages_agree p upto upto' g h u (both_inlined a) (by_pass {g = b} t shape k) e = absurd (no_pass upto' b h (subst UpToInlining e u) shape)
 stages_agree p upto upto' g h u (by_pass {g = b} s shape k) t e = absurd (no_pass upto b g u shape)
 
-pub staged_once : OneStage
+pub staged_once : StageIsUnique
 staged_once p upto g h u a b = stages_agree p upto upto g h u a b refl
 
 -- the inlined program by any least solution is the stage
-pub inlined_stage : (p : core.Program) (g : Program) → IsStage p Apply g → (A : Solution) → Analyses p A → g ≡ inlined A (tr p)
+pub inlined_stage : (p : core.Program) (g : Program) → IsStage p Apply g → (A : Solution) → IsLeastOfTranslation p A → g ≡ inlined A (tr p)
 inlined_stage p g s A least = staged_once p Apply g (inlined A (tr p)) tt s (both_inlined least)

@@ -6,14 +6,14 @@ use Rattle.grin_meaning.specs.Slim.{Slim, procedure_words}
 use Rattle.inlining.specs.Applications.{inlined}
 use Rattle.inlining.specs.Size.{size, largest_procedure}
 use Rattle.inlining.specs.Small.{IsLinearInSize}
-use Rattle.vectorise.specs.Widened.{FewWords, Widened}
+use Rattle.vectorise.specs.Widened.{ProcedureWordsDoNotGrow, Widened}
 use Rattle.grin_translate.specs.Translation.{tr}
-use Rattle.grin_opt.specs.declared.pass.PassName.TheVariants.{Vectorise}
+use Rattle.stage_names.specs.declared.PassName.TheVariants.{Vectorise}
 use Rattle.grin_stages.specs.Stage.{VectorisedIsSlim}
 use Rattle.grin_stages.proofs.Stages.{from_pass}
 use Rattle.grin_stages.proofs.Alike.{inlined_stage}
 
-few_words : (most : ℕ) (qs rs : List Procedure) → FewWords qs rs → AllOf (λ q. procedure_words q ≤ most) qs → AllOf (λ q. procedure_words q ≤ most) rs
+few_words : (most : ℕ) (qs rs : List Procedure) → ProcedureWordsDoNotGrow qs rs → AllOf (λ q. procedure_words q ≤ most) qs → AllOf (λ q. procedure_words q ≤ most) rs
 few_words most [] [] f h = tt
 few_words most [] (r ∷ rs) f h = absurd f
 few_words most (q ∷ qs) [] f h = absurd f

@@ -8,23 +8,23 @@ use Rattle.grin_meaning.specs.Keeps.{Keeps}
 use Rattle.points_to.specs.Found.{found}
 use Rattle.inlining.specs.Analysed.{IsAnalysed}
 use Rattle.grin_translate.specs.Translation.{tr}
-use Rattle.grin_opt.specs.declared.pass.PassName.{PassName}
-use Rattle.grin_opt.specs.declared.pass.PassName.TheVariants.{Translate}
+use Rattle.stage_names.specs.declared.PassName.{PassName}
+use Rattle.stage_names.specs.declared.PassName.TheVariants.{Translate}
 use Rattle.grin_stages.specs.declared.pipeline.Analysis.{Analysis}
-use Rattle.grin_stages.specs.Stage.{Analyses, IsStage, Fits}
+use Rattle.grin_stages.specs.Stage.{IsLeastOfTranslation, IsStage, Fits}
 use Rattle.grin_meaning.specs.Looking.{NeverMissing}
 
 -- the translation, with the least solution of its flow system, of a program that is not too large
 pub record IsAnalysisOf (p : Program) (a : Analysis) : Type 0 where
   pub is_translation : program_of a.translation ≡ tr p
-  pub least : Analyses p (found a.flow)
+  pub least : IsLeastOfTranslation p (found a.flow)
   pub analysed : IsAnalysed (found a.flow) (tr p)
   pub never_missing : NeverMissing (tr p)
   pub fits : Fits p
 
 -- a stage, which is well formed and does what the translation does, of a program that is not too
 -- large where it is after the translation
-pub record IsMade (p : Program) (upto : PassName) (g : grin.Program) : Type 0 where
+pub record IsSoundStage (p : Program) (upto : PassName) (g : grin.Program) : Type 0 where
   pub made : IsStage p upto g
   pub formed : Formed g
   pub meaning : Keeps (tr p) g

@@ -5,7 +5,7 @@ use Rattle.grin_syntax.specs.Tree.{program_of}
 use Rattle.grin_syntax.specs.Formed.{AllOf, Formed}
 use Rattle.grin_meaning.specs.Keeps.{Keeps}
 use Rattle.grin_translate.specs.Translation.{tr}
-use Rattle.grin_opt.specs.declared.pass.PassName.TheVariants.{Translate, Eval, Apply}
+use Rattle.stage_names.specs.declared.PassName.TheVariants.{Translate, Eval, Apply}
 use Rattle.grin_stages.specs.declared.inlined.InlinedStages.{InlinedStages}
 use Rattle.grin_stages.specs.Stage.{IsStage}
 

@@ -11,52 +11,54 @@ use Rattle.inlining.specs.Evaluations.{eval_inlined}
 use Rattle.inlining.specs.Applications.{inlined, inlined_size}
 use Rattle.inlining.specs.Size.{largest_procedure}
 use Rattle.grin_translate.specs.Translation.{tr}
-use Rattle.grin_opt.specs.declared.pass.PassName.{PassName}
-use Rattle.grin_opt.specs.declared.pass.PassName.TheVariants.{Translate, Eval, Apply, Vectorise}
-use Rattle.grin_opt.specs.Schedule.{before, shape_of}
+use Rattle.stage_names.specs.declared.PassName.{PassName}
+use Rattle.stage_names.specs.declared.PassName.TheVariants.{Translate, Eval, Apply, Vectorise}
+use Rattle.grin_opt.specs.Schedule.{before, pass_relation}
 use Rattle.grin_stages.specs.declared.refusal.CompileRefusal.{CompileRefusal}
 use Rattle.grin_stages.specs.declared.refusal.CompileRefusal.TheVariants.{ExpandedTooLarge, Memory}
+use Rattle.limits.specs.Limits.{largest_program}
 
 -- the least solution of the translation's flow system
-abbrev pub Analyses : Program → Solution → Type 0
-Analyses p A = IsLeast (tables (tr p)) (system (tr p)) A
+abbrev pub IsLeastOfTranslation : Program → Solution → Type 0
+IsLeastOfTranslation p A = IsLeast (tables (tr p)) (system (tr p)) A
 
 -- The translation; then its evaluations are inlined by the least solution, and then its
 -- applications too. The stage of a later pass has that pass's shape beside the stage before, and
 -- does what the translation does.
 pub data IsStage (p : Program) : PassName → grin.Program → Type 0 where
   translated : IsStage p Translate (tr p)
-  evaluations_inlined : {A : Solution} → Analyses p A → IsStage p Eval (eval_inlined A (tr p))
-  both_inlined : {A : Solution} → Analyses p A → IsStage p Apply (inlined A (tr p))
+  evaluations_inlined : {A : Solution} → IsLeastOfTranslation p A
+      → IsStage p Eval (eval_inlined A (tr p))
+  both_inlined : {A : Solution} → IsLeastOfTranslation p A → IsStage p Apply (inlined A (tr p))
   by_pass : {k : PassName} {g h : grin.Program} → IsStage p (before k) g
-      → shape_of k g h → Keeps (tr p) h → IsStage p k h
+      → pass_relation k g h → Keeps (tr p) h → IsStage p k h
 
 -- the size of the program once both are inlined
 pub record HasExpandedSize (p : Program) (size : ℕ) : Type 0 where
   pub solution : Solution
-  pub least : Analyses p solution
+  pub least : IsLeastOfTranslation p solution
   pub is_size : size ≡ inlined_size solution (tr p)
 
 -- rule 36 is not broken
 pub record Fits (p : Program) : Type 0 where
   pub size : ℕ
   pub expanded : HasExpandedSize p size
-  pub small : size ≤ 131072
+  pub small : size ≤ largest_program
 
 -- rule 36 is broken, at this size
-abbrev pub IsLarge : Program → CompileRefusal → Type 0
-IsLarge p (ExpandedTooLarge size) = HasExpandedSize p size × (131072 < size)
-IsLarge p (Memory e) = Unit {0}
+abbrev pub ExceedsSizeLimit : Program → CompileRefusal → Type 0
+ExceedsSizeLimit p (ExpandedTooLarge size) = HasExpandedSize p size × (largest_program < size)
+ExceedsSizeLimit p (Memory e) = Unit {0}
 
 -- the stage is after the translation, and rule 36 is broken
-abbrev pub IsTooLarge : Program → PassName → CompileRefusal → Type 0
-IsTooLarge p upto (ExpandedTooLarge size) =
-    (upto ≢ Translate) × HasExpandedSize p size × (131072 < size)
-IsTooLarge p upto (Memory e) = Unit {0}
+abbrev pub StageExceedsLimit : Program → PassName → CompileRefusal → Type 0
+StageExceedsLimit p upto (ExpandedTooLarge size) =
+    (upto ≢ Translate) × HasExpandedSize p size × (largest_program < size)
+StageExceedsLimit p upto (Memory e) = Unit {0}
 
 -- a program has one expanded size, so it can't both fit and be too large
-abbrev pub OneExpandedSize : Type 0
-OneExpandedSize =
+abbrev pub ExpandedSizeIsUnique : Type 0
+ExpandedSizeIsUnique =
     (p : Program) (size size' : ℕ) → HasExpandedSize p size → HasExpandedSize p size' → size ≡ size'
 
 -- the stages up to the inlining of applications, each of which is given by a function
@@ -67,8 +69,8 @@ UpToInlining Apply = Unit {0}
 UpToInlining _ = ⊥
 
 -- each of these stages is one program
-abbrev pub OneStage : Type 0
-OneStage =
+abbrev pub StageIsUnique : Type 0
+StageIsUnique =
     (p : Program) (upto : PassName) (g h : grin.Program) → UpToInlining upto
     → IsStage p upto g → IsStage p upto h → g ≡ h
 
@@ -76,5 +78,5 @@ OneStage =
 -- that of its largest procedure
 abbrev pub VectorisedIsSlim : Type 0
 VectorisedIsSlim = (p : Program) (h : grin.Program) → IsStage p Vectorise h
-    → (A : Solution) → Analyses p A
+    → (A : Solution) → IsLeastOfTranslation p A
     → Slim (inlined_size A (tr p)) (largest_procedure (inlined A (tr p))) h

@@ -3,7 +3,7 @@
 ghost use Rattle.std.specs.Prelude.{IfOk, IfErr};
 ghost use Rattle.arity_check.specs.Accepted.{IsValid};
 ghost use Rattle.arity_check.specs.Program.{program};
-ghost use Rattle.grin_stages.specs.Stage.{Fits, IsLarge};
+ghost use Rattle.grin_stages.specs.Stage.{Fits, ExceedsSizeLimit};
 ghost use Rattle.grin_stages.specs.Inlined.{AreInlined};
 
 use crate::pipeline::analyse;
@@ -27,7 +27,7 @@ pub fn inlined_stages(alloc: Global, p: &Checked) -> Result<InlinedStages, Compi
     requires { IsValid (program p.now) }
     ensures stages { IfOk result (AreInlined (program p.now)) }
     ensures fits { IfOk result (λ s. Fits (program p.now)) }
-    ensures refused { IfErr result (IsLarge (program p.now)) }
+    ensures refused { IfErr result (ExceedsSizeLimit (program p.now)) }
 {
     let analysis = analyse(alloc, p)?;
     let first = copy(alloc, &analysis.translation)?;

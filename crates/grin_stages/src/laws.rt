@@ -1,17 +1,17 @@
 // Laws on stages, about definitions alone: functions without a body.
 
-ghost use Rattle.grin_stages.specs.Stage.{OneExpandedSize, OneStage, VectorisedIsSlim};
+ghost use Rattle.grin_stages.specs.Stage.{ExpandedSizeIsUnique, StageIsUnique, VectorisedIsSlim};
 
 use inlining::programs_are_slim;
 
 /// A program has one expanded size, so rule 36 is broken or it isn't.
-pub fn one_expanded_size()
-    ensures { OneExpandedSize }
+pub fn expanded_size_is_unique()
+    ensures { ExpandedSizeIsUnique }
 {}
 
 /// Each stage of a program up to the inlining of its applications is one program.
-pub fn one_stage()
-    ensures { OneStage }
+pub fn stage_is_unique()
+    ensures { StageIsUnique }
 {}
 
 /// The stage of vectorising is small for the back end, beside the size of the inlined program.

@@ -7,10 +7,10 @@ ghost use Rattle.grin_syntax.specs.Tree.{program_of};
 ghost use Rattle.grin_syntax.specs.Formed.{Formed};
 ghost use Rattle.grin_meaning.specs.Keeps.{Keeps};
 ghost use Rattle.grin_translate.specs.Translation.{tr};
-ghost use Rattle.grin_opt.specs.declared.pass.PassName.TheVariants.{Translate, Eval, Apply};
+ghost use Rattle.stage_names.specs.declared.PassName.TheVariants.{Translate, Eval, Apply};
 ghost use Rattle.grin_opt.specs.Schedule.{IsAfterInlining};
-ghost use Rattle.grin_stages.specs.Stage.{IsStage, Fits, IsTooLarge, IsLarge};
-ghost use Rattle.grin_stages.specs.Analysed.{IsAnalysisOf, IsMade};
+ghost use Rattle.grin_stages.specs.Stage.{IsStage, Fits, StageExceedsLimit, ExceedsSizeLimit};
+ghost use Rattle.grin_stages.specs.Analysed.{IsAnalysisOf, IsSoundStage};
 
 use crate::refusal::CompileRefusal;
 use apply_inline::expanded_size;
@@ -19,13 +19,11 @@ use flow_system::system::system;
 use grin_opt::{PassName, optimise};
 use grin_syntax::Grin;
 use grin_translate::translate;
+use limits::LARGEST_PROGRAM;
 use points_to::{Flow, solve};
 use std::alloc::Global;
 use translated_form::valid_translations_are_formed;
 use vectorised_form::vectorise_takes_inlined;
-
-/// The largest size that a program may have once its evaluations and applications are inlined.
-const LARGEST_SIZE: u64 = 131_072;
 
 /// A translation that is not too large once it is inlined, and the least solution of its flow
 /// system.
@@ -40,14 +38,14 @@ pub(crate) struct Analysis {
 pub(crate) fn analyse(alloc: Global, p: &Checked) -> Result<Analysis, CompileRefusal>
     requires { IsValid (program p.now) }
     ensures analysed { IfOk result (IsAnalysisOf (program p.now)) }
-    ensures refused { IfErr result (IsLarge (program p.now)) }
+    ensures refused { IfErr result (ExceedsSizeLimit (program p.now)) }
 {
     // A law: what the analysis and the inlinings take as given holds of the translation.
     valid_translations_are_formed();
     let translation = translate(alloc, p)?;
     let flow = solve(alloc, &system(alloc, &translation)?)?;
     let size = expanded_size(&translation, &flow);
-    if size > LARGEST_SIZE {
+    if size > LARGEST_PROGRAM {
         return Err(CompileRefusal::ExpandedTooLarge(size));
     }
     Ok(Analysis { translation, flow })
@@ -56,8 +54,8 @@ pub(crate) fn analyse(alloc: Global, p: &Checked) -> Result<Analysis, CompileRef
 /// The translation.
 fn translated(alloc: Global, p: &Checked) -> Result<Grin, CompileRefusal>
     requires { IsValid (program p.now) }
-    ensures made { IfOk result (λ g. IsMade (program p.now) Translate (program_of g)) }
-    ensures refused { IfErr result (IsTooLarge (program p.now) Translate) }
+    ensures made { IfOk result (λ g. IsSoundStage (program p.now) Translate (program_of g)) }
+    ensures refused { IfErr result (StageExceedsLimit (program p.now) Translate) }
 {
     valid_translations_are_formed();
     let translation = translate(alloc, p)?;
@@ -67,8 +65,8 @@ fn translated(alloc: Global, p: &Checked) -> Result<Grin, CompileRefusal>
 /// The translation with its evaluations inlined.
 fn evaluated(alloc: Global, p: &Checked) -> Result<Grin, CompileRefusal>
     requires { IsValid (program p.now) }
-    ensures made { IfOk result (λ g. IsMade (program p.now) Eval (program_of g)) }
-    ensures refused { IfErr result (IsLarge (program p.now)) }
+    ensures made { IfOk result (λ g. IsSoundStage (program p.now) Eval (program_of g)) }
+    ensures refused { IfErr result (ExceedsSizeLimit (program p.now)) }
 {
     let analysis = analyse(alloc, p)?;
     let evaluated = eval_inline::inline(alloc, analysis.translation, &analysis.flow)?;
@@ -78,8 +76,8 @@ fn evaluated(alloc: Global, p: &Checked) -> Result<Grin, CompileRefusal>
 /// The translation with its evaluations and applications inlined.
 fn applied(alloc: Global, p: &Checked) -> Result<Grin, CompileRefusal>
     requires { IsValid (program p.now) }
-    ensures made { IfOk result (λ g. IsMade (program p.now) Apply (program_of g)) }
-    ensures refused { IfErr result (IsLarge (program p.now)) }
+    ensures made { IfOk result (λ g. IsSoundStage (program p.now) Apply (program_of g)) }
+    ensures refused { IfErr result (ExceedsSizeLimit (program p.now)) }
 {
     let analysis = analyse(alloc, p)?;
     let evaluated = eval_inline::inline(alloc, analysis.translation, &analysis.flow)?;
@@ -92,8 +90,8 @@ fn applied(alloc: Global, p: &Checked) -> Result<Grin, CompileRefusal>
 fn optimised(alloc: Global, p: &Checked, upto: PassName) -> Result<Grin, CompileRefusal>
     requires valid { IsValid (program p.now) }
     requires after { IsAfterInlining upto }
-    ensures made { IfOk result (λ g. IsMade (program p.now) upto (program_of g)) }
-    ensures refused { IfErr result (IsLarge (program p.now)) }
+    ensures made { IfOk result (λ g. IsSoundStage (program p.now) upto (program_of g)) }
+    ensures refused { IfErr result (ExceedsSizeLimit (program p.now)) }
 {
     // A law: what the first pass takes as given holds of the inlined program.
     vectorise_takes_inlined();
@@ -110,7 +108,7 @@ pub fn stage(alloc: Global, p: &Checked, upto: PassName) -> Result<Grin, Compile
     ensures formed { IfOk result (λ g. Formed (program_of g)) }
     ensures meaning { IfOk result (λ g. Keeps (tr (program p.now)) (program_of g)) }
     ensures fits { IfOk result (λ g. upto ≢ Translate → Fits (program p.now)) }
-    ensures refused { IfErr result (IsTooLarge (program p.now) upto) }
+    ensures refused { IfErr result (StageExceedsLimit (program p.now) upto) }
 {
     match upto {
         PassName::Translate => translated(alloc, p),

@@ -16,7 +16,7 @@ use Rattle.grin_syntax.specs.declared.program.Shape.TheVariants as shape
 use Rattle.grin_syntax.specs.declared.program.Cell.{Cell}
 use Rattle.grin_syntax.specs.Tree.{Procedure, Program}
 use Rattle.grin_syntax.specs.Binders.{numbers_of, procs_vars, procs_sites, program_sites}
-use Rattle.grin_syntax.specs.Formed.{AllOf, Scope, InScope, with_words, with_target, ProcKnown, HasProcedure, KnownIfAny, HasNext, KindFormed, TagFormed, WordFormed, ValFormed, CellFormed, ShapeFormed, ProcedureFormed, Formed, argument_words}
+use Rattle.grin_syntax.specs.Formed.{AllOf, Scope, InScope, with_word_variables, with_target, ProcKnown, HasProcedure, KnownIfAny, HasNext, KindFormed, TagFormed, WordFormed, ValFormed, CellFormed, ShapeFormed, ProcedureFormed, Formed, argument_words}
 use Rattle.seq.specs.Lists.{times}
 use Rattle.seq.proofs.Counted.{counts, times_append, one_at}
 
@@ -68,7 +68,7 @@ within_self scope = record { nodes = fewer_self scope.nodes; words = fewer_self 
 pub within_chain : {s t u : Scope} → Within s t → Within t u → Within s u
 within_chain v w = record { nodes = fewer_chain v.nodes w.nodes; words = fewer_chain v.words w.words }
 
-pub within_words : (xs : List ℕ) (scope : Scope) → Within scope (with_words xs scope)
+pub within_words : (xs : List ℕ) (scope : Scope) → Within scope (with_word_variables xs scope)
 within_words xs scope = record { nodes = fewer_self scope.nodes; words = fewer_right xs scope.words }
 
 pub within_target : (t : Target) (scope : Scope) → Within scope (with_target t scope)
@@ -77,7 +77,7 @@ within_target (to.Node x) scope = record { nodes = fewer_right (x.0 ∷ []) scop
 within_target (to.One x) scope = within_words (x.0 ∷ []) scope
 within_target (to.Vector xs) scope = within_words (numbers_of xs) scope
 
-pub words_within : (xs : List ℕ) (scope scope' : Scope) → Within scope scope' → Within (with_words xs scope) (with_words xs scope')
+pub words_within : (xs : List ℕ) (scope scope' : Scope) → Within scope scope' → Within (with_word_variables xs scope) (with_word_variables xs scope')
 words_within xs scope scope' w = record { nodes = w.nodes; words = fewer_both xs scope.words scope'.words w.words }
 
 pub target_within : (t : Target) (scope scope' : Scope) → Within scope scope' → Within (with_target t scope) (with_target t scope')

@@ -31,15 +31,15 @@ abbrev pub InScope : List ℕ → ℕ → Type 0
 InScope xs x = 0 < times x xs
 
 -- with further variables for words in scope
-abbrev pub with_words : List ℕ → Scope → Scope
-with_words xs scope = record { nodes = scope.nodes; words = xs ++ scope.words }
+abbrev pub with_word_variables : List ℕ → Scope → Scope
+with_word_variables xs scope = record { nodes = scope.nodes; words = xs ++ scope.words }
 
 -- with what a target binds: a node target a node, each other one words
 abbrev pub with_target : Target → Scope → Scope
 with_target to.Nothing scope = scope
 with_target (to.Node x) scope = record { nodes = x.0 ∷ scope.nodes; words = scope.words }
-with_target (to.One x) scope = with_words (x.0 ∷ []) scope
-with_target (to.Vector xs) scope = with_words (numbers_of xs) scope
+with_target (to.One x) scope = with_word_variables (x.0 ∷ []) scope
+with_target (to.Vector xs) scope = with_word_variables (numbers_of xs) scope
 
 -- the parameters of a procedure are words
 abbrev pub params_scope : Procedure → Scope
@@ -104,15 +104,16 @@ module _ (p : Program) where
     pub CodeFormed : Scope → Code → Type 0
     CodeFormed scope (end o) = ActFormed scope o
     CodeFormed scope (store cs b) =
-        AllOf (CellFormed (with_words (cell_vars cs) scope)) cs
-        × CodeFormed (with_words (cell_vars cs) scope) b
+        AllOf (CellFormed (with_word_variables (cell_vars cs) scope)) cs
+        × CodeFormed (with_word_variables (cell_vars cs) scope) b
     CodeFormed scope (bind t o b) = ActFormed scope o × CodeFormed (with_target t scope) b
 
     -- what a pattern binds, words, is in scope in its alternative
     pub ArmsFormed : Scope → Arms → Type 0
     ArmsFormed scope no_arm = Unit {0}
     ArmsFormed scope (arm s b as') =
-        ShapeFormed s × CodeFormed (with_words (shape_vars s) scope) b × ArmsFormed scope as'
+        ShapeFormed s × CodeFormed (with_word_variables (shape_vars s) scope) b
+        × ArmsFormed scope as'
 
   abbrev pub ProcedureFormed : Procedure → Type 0
   ProcedureFormed q = CodeFormed (params_scope q) q.body

@@ -7,7 +7,7 @@ names_of qs = map (λ q. q.name) qs
 
 -- the second has the tags, the global cells, the start and its argument of the first, and
 -- procedures with the same names in the same order
-pub record SameOutside (g h : Program) : Type 0 where
+pub record DifferOnlyInBodies (g h : Program) : Type 0 where
   pub same_tags : h.tags ≡ g.tags
   pub same_globals : h.globals ≡ g.globals
   pub same_start : h.start ≡ g.start

@@ -7,7 +7,7 @@ use Rattle.core_meaning.specs.Evaluation as core
 use Rattle.core_meaning.specs.Evaluation.{State, Gives, NoAlternative, OutOfBound, and_then, append, update, params, globals}
 use Rattle.grin_meaning.specs.Values.{Datum, number, cell, Node, node, HeapCell, World, Env, Answer, gives, stops, no_alternative, out_of_units, then_do}
 use Rattle.grin_meaning.specs.Values as grin
-use Rattle.grin_meaning.specs.Run.{passing, with_node, with_cells}
+use Rattle.grin_meaning.specs.Run.{with_state_seen, with_node, with_cells}
 use Rattle.grin_translate.specs.declared.tags.Delay.{Delay}
 use Rattle.grin_translate.specs.declared.tags.Delay.TheVariants.{Calls, Applies, Operates, Reads}
 use Rattle.grin_translate.specs.declared.tags.Kind.{Kind}
@@ -151,7 +151,7 @@ module _ (p : Program) where
     pub used : w.used ≡ s.used
     pub written : w.out ≡ out
 
-  pub alike_passing : (out : List ℕ) (s : State) (w : World) (env : Env) → Alike out s w → Alike out s (passing env w)
+  pub alike_passing : (out : List ℕ) (s : State) (w : World) (env : Env) → Alike out s w → Alike out s (with_state_seen env w)
   alike_passing out s w env a = record { heaps = a.heaps; room = a.room; left = a.left; depth = a.depth; input = a.input; used = a.used; written = a.written }
 
   pub alike_append : (out : List ℕ) (s : State) (w : World) (h : Heap) (cs : List HeapCell) → Alike out s w → Heaps (length s.heap + length h) h cs → Alike out (append s h) (with_cells cs w)

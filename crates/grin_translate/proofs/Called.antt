@@ -9,9 +9,9 @@ use Rattle.core_meaning.specs.Evaluation.{State, spend_of, proceed, within}
 use Rattle.grin_syntax.specs.Tree.{Procedure}
 use Rattle.grin_meaning.specs.Values.{World, need, one_each, with_vars}
 use Rattle.grin_meaning.specs.Values as grin
-use Rattle.grin_meaning.specs.Run.{code, calls, passing, spend, spent}
+use Rattle.grin_meaning.specs.Run.{code, calls, with_state_seen, spend, spent}
 use Rattle.grin_translate.specs.declared.tags.Delay.{Delay}
-use Rattle.grin_translate.specs.Tags.{delays, proc, same_delay, first_place, delay_name, delay_params}
+use Rattle.grin_translate.specs.Tags.{delays, proc, same_thunk_kind, first_index_where, delay_name, delay_params}
 use Rattle.grin_translate.specs.Translation.{tr, procedure, delay_body, delayed_procs, print_procs, span}
 use Rattle.grin_translate.specs.WellFormed.{WellFormed}
 use Rattle.grin_translate.proofs.Places.{Has}
@@ -33,14 +33,14 @@ module _ (p : Program) where
     base : ℕ
     is : slice_get procs place ≡ Some (procedure p base (delay_name p d) (delay_params p d) (delay_body p base d))
 
-  proc_in : (ds : List Delay) (base : ℕ) (others : List Procedure) (d : Delay) → Has d ds → ProcIn (delayed_procs p base ds ++ others) (first_place (same_delay d) ds) d
+  proc_in : (ds : List Delay) (base : ℕ) (others : List Procedure) (d : Delay) → Has d ds → ProcIn (delayed_procs p base ds ++ others) (first_index_where (same_thunk_kind d) ds) d
   proc_in [] base others d h = absurd h
-  proc_in (e ∷ ds) base others d h = at_first (same_delay d e) refl h (proc_in ds (base + span p e) others d)
+  proc_in (e ∷ ds) base others d h = at_first (same_thunk_kind d e) refl h (proc_in ds (base + span p e) others d)
     where
-      at_first : (b : Bool) → same_delay d e ≡ b → Has d (e ∷ ds) → (Has d ds → ProcIn (delayed_procs p (base + span p e) ds ++ others) (first_place (same_delay d) ds) d)
-          → ProcIn (procedure p base (delay_name p e) (delay_params p e) (delay_body p base e) ∷ (delayed_procs p (base + span p e) ds ++ others)) (cond b 0 (suc (first_place (same_delay d) ds))) d
+      at_first : (b : Bool) → same_thunk_kind d e ≡ b → Has d (e ∷ ds) → (Has d ds → ProcIn (delayed_procs p (base + span p e) ds ++ others) (first_index_where (same_thunk_kind d) ds) d)
+          → ProcIn (procedure p base (delay_name p e) (delay_params p e) (delay_body p base e) ∷ (delayed_procs p (base + span p e) ds ++ others)) (cond b 0 (suc (first_index_where (same_thunk_kind d) ds))) d
       at_first true q h ih = record { base = base; is = ap (λ x. Some (procedure p base (delay_name p x) (delay_params p x) (delay_body p base x))) (sym (delay_sound d e q)) }
-      at_first false q (inl i) ih = not_both (same_delay d e) (subst (λ x. same_delay d x ≡ true) i (delay_itself d)) q
+      at_first false q (inl i) ih = not_both (same_thunk_kind d e) (subst (λ x. same_thunk_kind d x ≡ true) i (delay_itself d)) q
       at_first false q (inr h) ih = let r = ih h in record { base = r.base; is = r.is }
 
   proc_found : (d : Delay) → Has d (delays p) → ProcIn (tr p).procs (proc p d).0 d
@@ -50,7 +50,7 @@ module _ (p : Program) where
   abbrev Called : ℕ → ℕ → Delayed → ℕ → World → grin.Answer
   Called n m t d w =
       let f : ℕ = (proc p (delay_of p t)).0 in
-      need (slice_get (tr p).procs f) w (λ q. need (one_each q.params (args_of p t)) w (λ bs. code (tr p) (calls (tr p) n) (with_vars bs (λ y. None)) d q.body (passing (with_vars bs (λ y. None)) (spent f d m w))))
+      need (slice_get (tr p).procs f) w (λ q. need (one_each q.params (args_of p t)) w (λ bs. code (tr p) (calls (tr p) n) (with_vars bs (λ y. None)) d q.body (with_state_seen (with_vars bs (λ y. None)) (spent f d m w))))
 
   called : WellFormed p → (n m : ℕ) → CallsMatch p (within p n) (calls (tr p) n) → (t : Delayed) (d : ℕ) (out : List ℕ) (s : State) (w : World) → Alike p out s w → IsDelayed p (length s.heap) t
       → Match p (length s.heap) out (proceed p (within p n) t d (record s { left = m; depth = max s.depth d })) (Called n m t d w)

@@ -10,7 +10,7 @@ use Rattle.core_meaning.specs.Evaluation.{params}
 use Rattle.grin_translate.specs.declared.tags.Delay.{Delay}
 use Rattle.grin_translate.specs.declared.tags.Delay.TheVariants.{Calls, Applies, Operates, Reads}
 use Rattle.grin_translate.specs.declared.numbering.Numbers.{Numbers}
-use Rattle.grin_translate.specs.Numbered.{AreNumbers, starts, after, shared_before, shared_in, params_each}
+use Rattle.grin_translate.specs.Numbered.{NumbersMatchProgram, prefix_sums, after, globals_before, global_count, parameter_counts}
 use Rattle.grin_translate.specs.Tags.{delays_in, is_delayed, takes_input, delays, operations}
 use Rattle.seq.specs.Lists.{numbers_from}
 
@@ -48,13 +48,13 @@ delays_made p n called waiting e f g =
     ap (λ xs. xs ++ cond (takes_input (program p)) (Reads ∷ []) []) (g ∙ ap (λ xs. xs ++ filter (is_delayed (program p)) (map Applies (numbers_from 0 13) ++ map Operates operations)) (f ∙ ap (λ k. map Calls (numbers_from 0 k)) many))
     ∙ append_assoc (map Calls (numbers_from 0 (length (map function p.funs)))) (filter (is_delayed (program p)) (map Applies (numbers_from 0 13) ++ map Operates operations)) (cond (takes_input (program p)) (Reads ∷ []) [])
 
-params_each_same : (fs : List Fun) → params_each (map function fs) ≡ map (λ f. f.params) fs
+params_each_same : (fs : List Fun) → parameter_counts (map function fs) ≡ map (λ f. f.params) fs
 params_each_same [] = refl
 params_each_same (f ∷ fs) = ap (λ ns. f.params ∷ ns) (params_each_same fs)
 
 pub numbers_made : (p : Checked) (n : Numbers) → n.functions ≡ length p.funs → n.constructors ≡ length p.cons → n.delays ≡ delays (program p) → n.waiting ≡ length n.delays
-    → n.parts ≡ starts (1 + n.constructors + n.waiting) (map (λ f. f.params) p.funs) → n.tags ≡ after (1 + n.constructors + n.waiting) (map (λ f. f.params) p.funs)
-    → n.globals ≡ shared_before 0 (map (λ f. f.params) p.funs) → n.shared ≡ shared_in 0 (map (λ f. f.params) p.funs) → AreNumbers (program p) n
+    → n.parts ≡ prefix_sums (1 + n.constructors + n.waiting) (map (λ f. f.params) p.funs) → n.tags ≡ after (1 + n.constructors + n.waiting) (map (λ f. f.params) p.funs)
+    → n.globals ≡ globals_before 0 (map (λ f. f.params) p.funs) → n.shared ≡ global_count 0 (map (λ f. f.params) p.funs) → NumbersMatchProgram (program p) n
 numbers_made p n e f g h i j k l =
     let many : n.waiting ≡ length (delays (program p)) = h ∙ ap length g in
     let first : 1 + n.constructors + n.waiting ≡ 1 + length p.cons + length (delays (program p)) = (λ z. 1 + f z + many z) in
@@ -64,8 +64,8 @@ numbers_made p n e f g h i j k l =
       constructors = f;
       delays = g;
       waiting = many;
-      parts = i ∙ (λ z. starts (first z) (same z));
+      parts = i ∙ (λ z. prefix_sums (first z) (same z));
       tags = j ∙ (λ z. after (first z) (same z));
-      globals = k ∙ ap (shared_before 0) same;
-      shared = l ∙ ap (shared_in 0) same;
+      globals = k ∙ ap (globals_before 0) same;
+      shared = l ∙ ap (global_count 0) same;
     }

@@ -10,10 +10,10 @@ use Rattle.arity_check.specs.Program.{Program, Function}
 use Rattle.core_meaning.specs.Heap as core
 use Rattle.core_meaning.specs.Heap.{Int, Con, Delayed, Call, Apply, Prim, Global, Input, Known, Waiting, Heap, with_local, with_locals}
 use Rattle.core_meaning.specs.Evaluation as core'
-use Rattle.core_meaning.specs.Evaluation.{State, Onward, append, taken, nil, cons, params, names, parameters, next_byte, enter_body, proceed}
+use Rattle.core_meaning.specs.Evaluation.{State, DelayedEvaluator, append, taken, nil, cons, params, names, parameters, next_byte, enter_body, proceed}
 use Rattle.grin_meaning.specs.Values.{Datum, number, cell, node, words, World, Env, with_vars, one_each, need}
 use Rattle.grin_meaning.specs.Values as grin
-use Rattle.grin_meaning.specs.Run.{Calls, act, code, passing, byte_or_end, after_read}
+use Rattle.grin_meaning.specs.Run.{Calls, act, code, with_state_seen, byte_or_end, after_read}
 use Rattle.grin_translate.specs.declared.tags.Delay.{Delay}
 use Rattle.grin_translate.specs.declared.tags.Delay.TheVariants.{Applies, Reads}
 use Rattle.grin_translate.specs.declared.tags.Kind.TheVariants.{Number, Waits}
@@ -108,16 +108,16 @@ module _ (p : Program) where
     unfolding is_delayed
     waits_all f fun e d h = any_has (λ g. delays_in d g.body) p.funs fun (has_at p.funs f fun e) h
 
-    module _ (o : Onward) (c : Calls) (on : CallsMatch p o c) where
+    module _ (o : DelayedEvaluator) (c : Calls) (on : CallsMatch p o c) where
       -- a call with these arguments, once its unit is spent: w' is the world before
       abbrev Enters : ℕ → Delay → List Datum → ℕ → World → World → grin.Answer
-      Enters base d xs nest w' w = need (one_each (map (local p base) (numbers_from 0 (delay_params p d))) xs) w' (λ bs. code (tr p) c (with_vars bs nothing) nest (delay_body p base d) (passing (with_vars bs nothing) w))
+      Enters base d xs nest w' w = need (one_each (map (local p base) (numbers_from 0 (delay_params p d))) xs) w' (λ bs. code (tr p) c (with_vars bs nothing) nest (delay_body p base d) (with_state_seen (with_vars bs nothing) w))
 
       -- what follows the next byte
       abbrev Reading : ℕ → ℕ → List ℕ → State → World → Env → List ℕ → Type 0
       Reading base d i s w genv out =
           let genv1 : Env = with_vars (((temp p base 0).0, words (number (byte_or_end i) ∷ [])) ∷ []) genv in
-          Match p (length s.heap) out (next_byte p o i s) (code (tr p) c genv1 d (byte_body p base) (passing genv1 (after_read i w)))
+          Match p (length s.heap) out (next_byte p o i s) (code (tr p) c genv1 d (byte_body p base) (with_state_seen genv1 (after_read i w)))
 
       reading : (i : List ℕ) (base d : ℕ) (out : List ℕ) (s : State) (w : World) (genv : Env) → Alike p out s w → Has Reads (delays p) → Reading base d i s w genv out
       unfolding act
@@ -158,13 +158,13 @@ module _ (p : Program) where
       input_match : (base d : ℕ) (out : List ℕ) (s : State) (w : World) (genv : Env) → Alike p out s w → Has Reads (delays p) → Match p (length s.heap) out (next_byte p o s.input s) (code (tr p) c genv d (input_body p base) w)
       unfolding act
       input_match base d out s w genv al h =
-          subst (λ i. let genv1 : Env = with_vars (((temp p base 0).0, words (number (byte_or_end i) ∷ [])) ∷ []) genv in Match p (length s.heap) out (next_byte p o s.input s) (code (tr p) c genv1 d (byte_body p base) (passing genv1 (after_read i w)))) (sym al.input) (reading s.input base d out s w genv al h)
+          subst (λ i. let genv1 : Env = with_vars (((temp p base 0).0, words (number (byte_or_end i) ∷ [])) ∷ []) genv in Match p (length s.heap) out (next_byte p o s.input s) (code (tr p) c genv1 d (byte_body p base) (with_state_seen genv1 (after_read i w)))) (sym al.input) (reading s.input base d out s w genv al h)
 
       -- a function's body
       fun_entered : (base f : ℕ) (fun : Function) (xs : List ℕ) (bs : List grin.Binding) (d : ℕ) (out : List ℕ) (s : State) (w : World) → Alike p out s w → slice_get p.funs f ≡ Some fun → Knows p base (λ x. x < fun.params) (length s.heap) (parameters xs) (with_vars bs nothing)
-          → Match p (length s.heap) out (enter_body p o (slice_get p.funs f) xs d s) (code (tr p) c (with_vars bs nothing) d (fun_body p base (slice_get p.funs f)) (passing (with_vars bs nothing) w))
+          → Match p (length s.heap) out (enter_body p o (slice_get p.funs f) xs d s) (code (tr p) c (with_vars bs nothing) d (fun_body p base (slice_get p.funs f)) (with_state_seen (with_vars bs nothing) w))
       fun_entered base f fun xs bs d out s w al is knows =
-          rw is (eval_match p o c on base fun.body (λ x. x < fun.params) (parameters xs) 0 d out s (passing _ w) (with_vars bs nothing) (alike_passing p out s w _ al) knows (all_get (FunOk p) p.funs f fun ok.bodies is) (waits_all f fun is))
+          rw is (eval_match p o c on base fun.body (λ x. x < fun.params) (parameters xs) 0 d out s (with_state_seen _ w) (with_vars bs nothing) (alike_passing p out s w _ al) knows (all_get (FunOk p) p.funs f fun ok.bodies is) (waits_all f fun is))
 
       pub entered : (t : Delayed) (base d : ℕ) (out : List ℕ) (s : State) (w' w : World) → Alike p out s w → IsDelayed p (length s.heap) t → Match p (length s.heap) out (proceed p o t d s) (Enters base (delay_of p t) (args_of p t) d w' w)
       entered (Call f xs) base d out s w' w al g =
@@ -184,11 +184,11 @@ module _ (p : Program) where
           let m : ℕ = length bs in
           let args : KnowsArguments base (suc m) (length s.heap) (a ∷ bs) = knows_arguments base (suc m) (length s.heap) (a ∷ bs) refl (g.1, g.2) in
           let same : names p (parameters (a ∷ bs)) (map Local (numbers_from 1 m)) ≡ bs = names_from p m 1 (parameters (a ∷ bs)) bs refl (λ j lt. let z : 1 + j ≡ suc j = omega arith in ap (parameters (a ∷ bs)) z) in
-          rw args.is (subst (λ ys. Match p (length s.heap) out (core'.apply p o a ys d s) (code (tr p) c (with_vars args.bindings nothing) d (delay_body p base (Applies m)) (passing (with_vars args.bindings nothing) w))) same
-          (apply_match p o c on base (λ x. x < suc m) (parameters (a ∷ bs)) (Local 0) (map Local (numbers_from 1 m)) 0 d out s (passing _ w) (with_vars args.bindings nothing) (alike_passing p out s w _ al) args.knows (omega arith) (all_locals p (λ x. x < suc m) m 1 (λ j lt. omega (arith, lt)))))
+          rw args.is (subst (λ ys. Match p (length s.heap) out (core'.apply p o a ys d s) (code (tr p) c (with_vars args.bindings nothing) d (delay_body p base (Applies m)) (with_state_seen (with_vars args.bindings nothing) w))) same
+          (apply_match p o c on base (λ x. x < suc m) (parameters (a ∷ bs)) (Local 0) (map Local (numbers_from 1 m)) 0 d out s (with_state_seen _ w) (with_vars args.bindings nothing) (alike_passing p out s w _ al) args.knows (omega arith) (all_locals p (λ x. x < suc m) m 1 (λ j lt. omega (arith, lt)))))
       entered (Prim op a b) base d out s w' w al g =
           let args : KnowsArguments base 2 (length s.heap) (a ∷ b ∷ []) = knows_arguments base 2 (length s.heap) (a ∷ b ∷ []) refl (g.1, (g.2, tt)) in
           let bs : List grin.Binding = ((local p base 0).0, words (cell a ∷ [])) ∷ (((local p base 1).0, words (cell b ∷ [])) ∷ []) in
           let knows : Knows p base (λ x. x < 2) (length s.heap) (parameters (a ∷ b ∷ [])) (with_vars bs nothing) = subst (λ z. Knows p base (λ x. x < 2) (length s.heap) (parameters (a ∷ b ∷ [])) (with_vars z nothing)) (sym (same_Some bs args.bindings args.is)) args.knows in
-          prim_match p o c on base (λ x. x < 2) (parameters (a ∷ b ∷ [])) op (Local 0) (Local 1) 0 d out s (passing _ w) (with_vars bs nothing) (alike_passing p out s w _ al) knows (omega arith) (omega arith)
-      entered Input base d out s w' w al g = input_match base d out s (passing nothing w) nothing (alike_passing p out s w _ al) g
+          prim_match p o c on base (λ x. x < 2) (parameters (a ∷ b ∷ [])) op (Local 0) (Local 1) 0 d out s (with_state_seen _ w) (with_vars bs nothing) (alike_passing p out s w _ al) knows (omega arith) (omega arith)
+      entered Input base d out s w' w al g = input_match base d out s (with_state_seen nothing w) nothing (alike_passing p out s w _ al) g

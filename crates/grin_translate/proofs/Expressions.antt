@@ -12,18 +12,18 @@ use Rattle.arity_check.specs.Program.{Program, Term, App, Let, Case, Branches, N
 use Rattle.core_meaning.specs.Heap as core
 use Rattle.core_meaning.specs.Heap.{Value, Int, Con, Part, Known, Heap, with_local, with_locals}
 use Rattle.core_meaning.specs.Evaluation as core'
-use Rattle.core_meaning.specs.Evaluation.{State, Onward, append, binding, with_group, eval, select}
+use Rattle.core_meaning.specs.Evaluation.{State, DelayedEvaluator, append, binding, with_group, eval, select}
 use Rattle.grin_syntax.specs.declared.program.VarId.{VarId}
 use Rattle.grin_syntax.specs.declared.program.Val.TheVariants.{NodeVar}
 use Rattle.grin_syntax.specs.Tree as tree
 use Rattle.grin_syntax.specs.Tree.{Code, end, store, bind, as_act}
 use Rattle.grin_meaning.specs.Values.{Datum, cell, node, words, World, Env, fits, fits_not, fields_fit, one_each, with_vars}
 use Rattle.grin_meaning.specs.Values as grin
-use Rattle.grin_meaning.specs.Run.{Calls, act, code, arms, choose, passing, places, with_cells}
+use Rattle.grin_meaning.specs.Run.{Calls, act, code, arms, choose, with_state_seen, places, with_cells}
 use Rattle.grin_translate.specs.declared.tags.Delay.{Delay}
 use Rattle.grin_translate.specs.declared.tags.Kind.{Kind}
 use Rattle.grin_translate.specs.declared.tags.Kind.TheVariants.{Number, Constructor}
-use Rattle.grin_translate.specs.Tags.{kinds, tag, binds, delays_in, delays_in_branches, is_delayed, same_kind}
+use Rattle.grin_translate.specs.Tags.{kinds, tag, binds, delays_in, delays_in_branches, is_delayed, same_tag_meaning}
 use Rattle.grin_translate.specs.Blocks.{local, temp, cell_of, block, temps}
 use Rattle.grin_translate.specs.Blocks as blocks
 use Rattle.grin_translate.specs.Translation.{tr}
@@ -57,13 +57,13 @@ module _ (p : Program) where
   abbrev pub WaitsIn : Branches → Type 0
   WaitsIn bs = (d : Delay) → delays_in_branches d bs ≡ true → is_delayed p d ≡ true
 
-  pub tag_zero : (k : Kind) → Has k (kinds p) → nat_eq (tag p k).0 0 ≡ same_kind k Number
-  tag_zero k h = subst (λ z. nat_eq (tag p k).0 z ≡ same_kind k Number) (number_first p) (tags_tell p k Number h (has_number p))
+  pub tag_zero : (k : Kind) → Has k (kinds p) → nat_eq (tag p k).0 0 ≡ same_tag_meaning k Number
+  tag_zero k h = subst (λ z. nat_eq (tag p k).0 z ≡ same_tag_meaning k Number) (number_first p) (tags_tell p k Number h (has_number p))
 
   pub same_fields : (c m n : ℕ) → HasFields p c m → HasFields p c n → m ≡ n
   same_fields c m n h i = let e : h.0 ≡ i.0 = same_Some h.0 i.0 (sym h.1 ∙ i.1) in sym h.2 ∙ ap (λ k. k.fields) e ∙ i.2
 
-  module _ (o : Onward) (c : Calls) (on : CallsMatch p o c) (base : ℕ) where
+  module _ (o : DelayedEvaluator) (c : Calls) (on : CallsMatch p o c) (base : ℕ) where
     as_act_same : (b : Code) (genv : Env) (d : ℕ) (w : World) → act (tr p) c genv d (as_act b) w ≡ code (tr p) c genv d b w
     unfolding act
     as_act_same (end a) genv d w = refl
@@ -114,10 +114,10 @@ module _ (p : Program) where
     -- a constructor's branch, where the constructors are told apart already
     con_match : (x : ℕ) (xs : List ℕ) (y : ℕ) (ys : List ℕ) (same : Bool) → nat_eq y x ≡ same → (b : Code) (others : tree.Arms) (S : ℕ → Type 0) (env : core.Env) (d : ℕ) (out : List ℕ) (s : State) (w : World) (genv : Env) (go : core.Env → core'.Answer) (else : core'.Answer)
         → Alike p out s w → Knows p base S (length s.heap) env genv → HasFields p x (length xs) → IsValue p (length s.heap) (Con y ys)
-        → ((env' : core.Env) (genv' : Env) → Alike p out s (passing genv' w) → Knows p base (λ z. S z ⊎ InLocals xs z) (length s.heap) env' genv' → Match p (length s.heap) out (go env') (code (tr p) c genv' d b (passing genv' w)))
+        → ((env' : core.Env) (genv' : Env) → Alike p out s (with_state_seen genv' w) → Knows p base (λ z. S z ⊎ InLocals xs z) (length s.heap) env' genv' → Match p (length s.heap) out (go env') (code (tr p) c genv' d b (with_state_seen genv' w)))
         → Match p (length s.heap) out else (arms (tr p) c genv d (node (value_node p (Con y ys))) others w)
         → Match p (length s.heap) out (elim same [ true ↦ go (with_locals env xs ys) | false ↦ else ])
-        (choose (cond same (fields_fit (map (local p base) xs) (map cell ys)) fits_not) w (λ bs. code (tr p) c (with_vars bs genv) d b (passing (with_vars bs genv) w)) (arms (tr p) c genv d (node (value_node p (Con y ys))) others w))
+        (choose (cond same (fields_fit (map (local p base) xs) (map cell ys)) fits_not) w (λ bs. code (tr p) c (with_vars bs genv) d b (with_state_seen (with_vars bs genv) w)) (arms (tr p) c genv d (node (value_node p (Con y ys))) others w))
     con_match x xs y ys false is b others S env d out s w genv go else al k has g h h' = h'
     con_match x xs y ys true is b others S env d out s w genv go else al k has g h h' =
         let e : y ≡ x = eqb-true y x is in
@@ -142,7 +142,7 @@ module _ (p : Program) where
           (λ v s' w' le g al'.
           let genv' : Env = with_vars (((temp p base t).0, node (value_node p v)) ∷ []) genv in
           let at : genv' (temp p base t).0 ≡ Some (node (value_node p v)) = temp_itself p o c on base t (node (value_node p v)) genv in
-          rw at (match_less p le (select_match branches v S env t (suc t + temps e) d out s' (passing genv' w') genv' (alike_passing p out s' w' genv' al') (knows_temp p base t (node (value_node p v)) (knows_later p base le k)) ok.1 (λ d i. waits d (or_right (delays_in d e) _ i)) g at))))
+          rw at (match_less p le (select_match branches v S env t (suc t + temps e) d out s' (with_state_seen genv' w') genv' (alike_passing p out s' w' genv' al') (knows_temp p base t (node (value_node p v)) (knows_later p base le k)) ok.1 (λ d i. waits d (or_right (delays_in d e) _ i)) g at))))
 
       pub select_match : (bs : Branches) (v : Value) (S : ℕ → Type 0) (env : core.Env) (u t d : ℕ) (out : List ℕ) (s : State) (w : World) (genv : Env) → Alike p out s w → Knows p base S (length s.heap) env genv → BranchesOk p S bs → WaitsIn bs
           → IsValue p (length s.heap) v → genv (temp p base u).0 ≡ Some (node (value_node p v))
@@ -162,7 +162,7 @@ module _ (p : Program) where
       select_match (OnInt i e rest) (Int j) S env u t d out s w genv al k ok waits g at =
           rw (tag_zero Number (has_number p))
           (choose_match (length s.heap) out (same_number i j) _ _ w _ _
-          (eval_match e S env t d out s (passing genv w) genv (alike_passing p out s w genv al) k ok.0 (λ d i. waits d (or_left _ _ i)))
+          (eval_match e S env t d out s (with_state_seen genv w) genv (alike_passing p out s w genv al) k ok.0 (λ d i. waits d (or_left _ _ i)))
           (select_match rest (Int j) S env u (t + temps e) d out s w genv al k ok.1 (λ d i. waits d (or_right (delays_in d e) _ i)) g at))
       select_match (OnInt i e rest) (Con y ys) S env u t d out s w genv al k ok waits g at =
           rw (tag_zero (Constructor y) (kind_there p (length s.heap) (Con y ys) g))
@@ -171,7 +171,7 @@ module _ (p : Program) where
           rw (tag_zero (value_kind p (Part f ys)) (kind_there p (length s.heap) (Part f ys) g))
           (select_match rest (Part f ys) S env u (t + temps e) d out s w genv al k ok.1 (λ d i. waits d (or_right (delays_in d e) _ i)) g at)
       select_match (OnAny None e rest) v S env u t d out s w genv al k ok waits g at =
-          eval_match e S env t d out s (passing genv w) genv (alike_passing p out s w genv al) k ok.0 (λ d i. waits d (or_left _ _ i))
+          eval_match e S env t d out s (with_state_seen genv w) genv (alike_passing p out s w genv al) k ok.0 (λ d i. waits d (or_left _ _ i))
       select_match (OnAny (Some x) e rest) v S env u t d out s w genv al k ok waits g at =
-          named_match (block p base t e) x u v S env d out s (passing genv w) genv (λ env s. eval p o e env d s) (alike_passing p out s w genv al) k g at
+          named_match (block p base t e) x u v S env d out s (with_state_seen genv w) genv (λ env s. eval p o e env d s) (alike_passing p out s w genv al) k g at
           (λ env' s' w' genv' al' k'. eval_match e (λ y. S y ⊎ (y ≡ x)) env' t d out s' w' genv' al' k' ok.0 (λ d i. waits d (or_left _ _ i)))

@@ -5,7 +5,7 @@ use Rattle.std.proofs.lemmas.List.{length-set, length-map, map-append}
 use Rattle.seq.proofs.Lists.{all_push}
 use Rattle.arity_check.specs.Program.{Program, Function}
 use Rattle.core_meaning.specs.Heap.{Value, Int, Con, Part, Delayed, Call, Apply, Prim, Global, Input, Binding, Known, Waiting}
-use Rattle.core_meaning.specs.Evaluation.{State, Gives, Onward, update, params, params_of, force_binding, force, give}
+use Rattle.core_meaning.specs.Evaluation.{State, Gives, DelayedEvaluator, update, params, params_of, force_binding, force, give}
 use Rattle.grin_meaning.specs.Values.{Datum, cell, node, World, need, made_node}
 use Rattle.grin_meaning.specs.Run.{Calls, eval_cell, eval_tag, updated, is_fun_kind, apply_node, apply_part}
 use Rattle.grin_translate.specs.declared.tags.Kind.{Kind}
@@ -79,10 +79,10 @@ module _ (p : Program) where
   binding_made n (Waiting t) g = delayed_made n t g
 
   -- what a delayed form does, its procedure does
-  pub record CallsMatch (o : Onward) (c : Calls) : Type 0 where
+  pub record CallsMatch (o : DelayedEvaluator) (c : Calls) : Type 0 where
     pub by : (t : Delayed) (d : ℕ) (out : List ℕ) (s : State) (w : World) → Alike p out s w → IsDelayed p (length s.heap) t → Match p (length s.heap) out (o t d s) (c (proc p (delay_of p t)).0 (args_of p t) d w)
 
-  module _ (o : Onward) (c : Calls) (on : CallsMatch o c) where
+  module _ (o : DelayedEvaluator) (c : Calls) (on : CallsMatch o c) where
     updated_match : (n a : ℕ) (v : Value) (out : List ℕ) (s : State) (w : World) → n ≤ length s.heap → a < n → IsValue p (length s.heap) v → Alike p out s w
         → Match p n out (Gives v (update s a v)) (updated (tr p) c a (node (value_node p v)) w)
     updated_match n a v out s w le lt g al =

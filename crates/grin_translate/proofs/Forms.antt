@@ -12,9 +12,9 @@ use Rattle.arity_check.specs.declared.normal.PrimOp.TheVariants.{Add, Sub, Mul, 
 use Rattle.arity_check.specs.Program.{Program}
 use Rattle.core_meaning.specs.Heap as core
 use Rattle.core_meaning.specs.Heap.{Value, Int, Con, Part, Call, Apply, Prim}
-use Rattle.core_meaning.specs.Numbers.{operate}
+use Rattle.core_meaning.specs.Numbers.{primitive_result}
 use Rattle.core_meaning.specs.Evaluation as core'
-use Rattle.core_meaning.specs.Evaluation.{State, Gives, Onward, and_then, with_number, name, names, force, give_all, apply, prim, form}
+use Rattle.core_meaning.specs.Evaluation.{State, Gives, DelayedEvaluator, and_then, with_number, name, names, force, give_all, apply, prim, form}
 use Rattle.grin_syntax.specs.declared.program.VarId.{VarId}
 use Rattle.grin_syntax.specs.declared.program.Word.TheVariants as word
 use Rattle.grin_syntax.specs.Tree.{Code, bind, end, unit}
@@ -23,7 +23,7 @@ use Rattle.grin_syntax.specs.declared.program.Target.TheVariants as to
 use Rattle.grin_syntax.specs.Tree as tree
 use Rattle.grin_meaning.specs.Values.{number, Node, node, words, World, Env, with_vars}
 use Rattle.grin_meaning.specs.Values as grin
-use Rattle.grin_meaning.specs.Run.{Calls, act, code, arithmetic, passing}
+use Rattle.grin_meaning.specs.Run.{Calls, act, code, arithmetic, with_state_seen}
 use Rattle.grin_translate.specs.declared.tags.Delay.{Delay}
 use Rattle.grin_translate.specs.declared.tags.Kind.TheVariants.{Number, Constructor}
 use Rattle.grin_translate.specs.Tags.{tag, is_delayed}
@@ -36,7 +36,7 @@ use Rattle.grin_translate.proofs.Alike.{value_kind, value_node, IsValue, Alike, 
 use Rattle.grin_translate.proofs.Forcing.{CallsMatch, kind_there, value_made, force_match, give_match}
 use Rattle.grin_translate.proofs.Scoping.{Knows, knows_later, knows_temp, word_known, name_below, words_known, names_below, value_known, binding_good}
 
-same_arithmetic : (op : PrimOp) (i j : ℤ) → operate op i j ≡ arithmetic (operation op) i j
+same_arithmetic : (op : PrimOp) (i j : ℤ) → primitive_result op i j ≡ arithmetic (operation op) i j
 same_arithmetic Add i j = refl
 same_arithmetic Sub i j = refl
 same_arithmetic Mul i j = refl
@@ -45,7 +45,7 @@ same_arithmetic Rem i j = refl
 same_arithmetic Eq i j = refl
 same_arithmetic Lt i j = refl
 
-module _ (p : Program) (o : Onward) (c : Calls) (on : CallsMatch p o c) (base : ℕ) where
+module _ (p : Program) (o : DelayedEvaluator) (c : Calls) (on : CallsMatch p o c) (base : ℕ) where
   pub temp_itself : (t : ℕ) (v : grin.Value) (genv : Env) → with_vars (((temp p base t).0, v) ∷ []) genv (temp p base t).0 ≡ Some v
   temp_itself t v genv = rw (eq-eqb (temp p base t).0 (temp p base t).0 refl) refl
 
@@ -54,7 +54,7 @@ module _ (p : Program) (o : Onward) (c : Calls) (on : CallsMatch p o c) (base : 
 
   -- where a value is a number
   pub number_match : (n : ℕ) (out : List ℕ) (s : State) (w : World) (val : Value) (genv : Env) (v i : VarId) (d : ℕ) (b : Code) (go : ℤ → core'.Answer) → Alike p out s w → IsValue p (length s.heap) val → genv v.0 ≡ Some (node (value_node p val))
-      → ((k : ℤ) → Match p n out (go k) (code (tr p) c (with_vars ((i.0, words (number k ∷ [])) ∷ []) genv) d b (passing (with_vars ((i.0, words (number k ∷ [])) ∷ []) genv) w)))
+      → ((k : ℤ) → Match p n out (go k) (code (tr p) c (with_vars ((i.0, words (number k ∷ [])) ∷ []) genv) d b (with_state_seen (with_vars ((i.0, words (number k ∷ [])) ∷ []) genv) w)))
       → Match p n out (with_number val s go) (code (tr p) c genv d (on_number p base v i b) w)
   unfolding act
   number_match n out s w (Int k) genv v i d b go al g at h = rw (at, tags_tell p Number Number (has_number p) (has_number p)) (h k)
@@ -69,11 +69,11 @@ module _ (p : Program) (o : Onward) (c : Calls) (on : CallsMatch p o c) (base : 
 
   -- what is done with two numbers
   last_match : (n : ℕ) (out : List ℕ) (s : State) (w : World) (op : PrimOp) (i j : ℤ) (genv : Env) (t d : ℕ) → n ≤ length s.heap → Alike p out s w → genv (temp p base (t + 1)).0 ≡ Some (words (number i ∷ [])) → genv (temp p base (t + 3)).0 ≡ Some (words (number j ∷ []))
-      → Match p n out (Gives (Int (operate op i j)) s) (code (tr p) c genv d (last_block t op) w)
+      → Match p n out (Gives (Int (primitive_result op i j)) s) (code (tr p) c genv d (last_block t op) w)
   unfolding act
   last_match n out s w op i j genv t d le al e f =
-      rw (e, f, eq-eqb (temp p base (t + 4)).0 (temp p base (t + 4)).0 refl, sym (same_arithmetic op i j), value_made p (length s.heap) (Int (operate op i j)) tt)
-      (both_give {v = Int (operate op i j)} {s = s} le tt (alike_passing p out s w _ al))
+      rw (e, f, eq-eqb (temp p base (t + 4)).0 (temp p base (t + 4)).0 refl, sym (same_arithmetic op i j), value_made p (length s.heap) (Int (primitive_result op i j)) tt)
+      (both_give {v = Int (primitive_result op i j)} {s = s} le tt (alike_passing p out s w _ al))
 
   module _ (S : ℕ → Type 0) (env : core.Env) where
     abbrev K : ℕ → Env → Type 0
@@ -102,23 +102,23 @@ module _ (p : Program) (o : Onward) (c : Calls) (on : CallsMatch p o c) (base : 
 
     -- the second operand
     second : (op : PrimOp) (i : ℤ) (y : Var) (t d : ℕ) (out : List ℕ) (n : ℕ) (s : State) (w : World) (genv : Env) → n ≤ length s.heap → Alike p out s w → K (length s.heap) genv → VarOk p S y
-        → Match p n out (and_then (force p o (name p env y) (suc d) s) (λ v s. with_number v s (λ j. Gives (Int (operate op i j)) s)))
+        → Match p n out (and_then (force p o (name p env y) (suc d) s) (λ v s. with_number v s (λ j. Gives (Int (primitive_result op i j)) s)))
         (code (tr p) c (with_vars (((temp p base (t + 1)).0, words (number i ∷ [])) ∷ []) genv) d
         (second_block t op y)
-        (passing (with_vars (((temp p base (t + 1)).0, words (number i ∷ [])) ∷ []) genv) w))
+        (with_state_seen (with_vars (((temp p base (t + 1)).0, words (number i ∷ [])) ∷ []) genv) w))
     unfolding act
     second op i y t d out n s w genv le al k hy =
         let genv1 : Env = with_vars (((temp p base (t + 1)).0, words (number i ∷ [])) ∷ []) genv in
         let k1 : K (length s.heap) genv1 = knows_temp p base (t + 1) (words (number i ∷ [])) k in
-        let al1 : Alike p out s (passing genv1 w) = alike_passing p out s w genv1 al in
+        let al1 : Alike p out s (with_state_seen genv1 w) = alike_passing p out s w genv1 al in
         rw (word_known p base S (length s.heap) env genv1 k1 al.room y hy)
-        (match_less p le (match_then p _ _ (force_match p o c on (name p env y) (suc d) out s (passing genv1 w) al1 (name_below p base S (length s.heap) env genv1 k1 al.room y hy))
+        (match_less p le (match_then p _ _ (force_match p o c on (name p env y) (suc d) out s (with_state_seen genv1 w) al1 (name_below p base S (length s.heap) env genv1 k1 al.room y hy))
         (λ u s2 w2 le2 g2 al2.
         let genv2 : Env = with_vars (((temp p base (t + 2)).0, node (value_node p u)) ∷ []) genv1 in
-        let al3 : Alike p out s2 (passing genv2 w2) = alike_passing p out s2 w2 genv2 al2 in
-        number_match (length s.heap) out s2 (passing genv2 w2) u genv2 (temp p base (t + 2)) (temp p base (t + 3)) d (last_block t op) _ al3 g2 (temp_itself (t + 2) _ genv1)
+        let al3 : Alike p out s2 (with_state_seen genv2 w2) = alike_passing p out s2 w2 genv2 al2 in
+        number_match (length s.heap) out s2 (with_state_seen genv2 w2) u genv2 (temp p base (t + 2)) (temp p base (t + 3)) d (last_block t op) _ al3 g2 (temp_itself (t + 2) _ genv1)
         (λ j. let genv3 : Env = with_vars (((temp p base (t + 3)).0, words (number j ∷ [])) ∷ []) genv2 in
-        last_match (length s.heap) out s2 (passing genv3 (passing genv2 w2)) op i j genv3 t d le2 (alike_passing p out s2 _ genv3 al3)
+        last_match (length s.heap) out s2 (with_state_seen genv3 (with_state_seen genv2 w2)) op i j genv3 t d le2 (alike_passing p out s2 _ genv3 al3)
         (temp_other (t + 1) (t + 3) (λ e. omega (arith, e)) _ genv2 ∙ temp_other (t + 1) (t + 2) (λ e. omega (arith, e)) _ genv1 ∙ temp_itself (t + 1) _ genv)
         (temp_itself (t + 3) _ genv2)))))
 
@@ -131,8 +131,8 @@ module _ (p : Program) (o : Onward) (c : Calls) (on : CallsMatch p o c) (base : 
         (λ u s1 w1 le1 g1 al1.
         let genv1 : Env = with_vars (((temp p base t).0, node (value_node p u)) ∷ []) genv in
         let k1 : K (length s1.heap) genv1 = knows_temp p base t (node (value_node p u)) (knows_later p base le1 k) in
-        number_match (length s.heap) out s1 (passing genv1 w1) u genv1 (temp p base t) (temp p base (t + 1)) d (second_block t op y) _ (alike_passing p out s1 w1 genv1 al1) g1 (temp_itself t _ genv)
-        (λ i. second op i y t d out (length s.heap) s1 (passing genv1 w1) genv1 le1 (alike_passing p out s1 w1 genv1 al1) k1 hy)))
+        number_match (length s.heap) out s1 (with_state_seen genv1 w1) u genv1 (temp p base t) (temp p base (t + 1)) d (second_block t op y) _ (alike_passing p out s1 w1 genv1 al1) g1 (temp_itself t _ genv)
+        (λ i. second op i y t d out (length s.heap) s1 (with_state_seen genv1 w1) genv1 le1 (alike_passing p out s1 w1 genv1 al1) k1 hy)))
 
     nothing_waits : (d : Delay) → false ≡ true → is_delayed p d ≡ true
     nothing_waits d e = not_both false e refl

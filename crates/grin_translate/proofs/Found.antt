@@ -13,7 +13,7 @@ use Rattle.grin_translate.specs.declared.tags.Delay.{Delay}
 use Rattle.grin_translate.specs.declared.tags.Delay.TheVariants.{Calls, Applies, Operates, Reads}
 use Rattle.grin_translate.specs.declared.tags.Kind.{Kind}
 use Rattle.grin_translate.specs.declared.tags.Kind.TheVariants.{Number, Constructor, Waits, Lacks}
-use Rattle.grin_translate.specs.Tags.{operations, op_number, same_delay, same_kind, first_place, is_delayed, takes_input, delays, kinds, parts, function_parts, tag, tag_of, con_tag, proc}
+use Rattle.grin_translate.specs.Tags.{operations, op_number, same_thunk_kind, same_tag_meaning, first_index_where, is_delayed, takes_input, delays, kinds, parts, function_parts, tag, tag_of, con_tag, proc}
 use Rattle.grin_translate.specs.WellFormed.{AllOf, HasFields}
 use Rattle.grin_translate.proofs.Places.{Has, has_left, has_right, has_map, has_filter, has_number_from, all_map, found, places_tell}
 use Rattle.seq.specs.Lists.{numbers_from}
@@ -40,7 +40,7 @@ op_back Lt = refl
 same_op : (a b : PrimOp) → op_number a ≡ op_number b → a ≡ b
 same_op a b e = sym (op_back a) ∙ ap nth_operation e ∙ op_back b
 
-pub delay_sound : (a b : Delay) → same_delay a b ≡ true → a ≡ b
+pub delay_sound : (a b : Delay) → same_thunk_kind a b ≡ true → a ≡ b
 delay_sound (Calls f) (Calls g) e = ap Calls (eqb-true f g e)
 delay_sound (Calls f) (Applies n) e = cc
 delay_sound (Calls f) (Operates op) e = cc
@@ -58,13 +58,13 @@ delay_sound Reads (Applies n) e = cc
 delay_sound Reads (Operates op) e = cc
 delay_sound Reads Reads e = refl
 
-pub delay_itself : (a : Delay) → same_delay a a ≡ true
+pub delay_itself : (a : Delay) → same_thunk_kind a a ≡ true
 delay_itself (Calls f) = eq-eqb f f refl
 delay_itself (Applies n) = eq-eqb n n refl
 delay_itself (Operates op) = eq-eqb _ _ refl
 delay_itself Reads = refl
 
-pub kind_sound : (a b : Kind) → same_kind a b ≡ true → a ≡ b
+pub kind_sound : (a b : Kind) → same_tag_meaning a b ≡ true → a ≡ b
 kind_sound Number Number e = refl
 kind_sound Number (Constructor d) e = cc
 kind_sound Number (Waits b) e = cc
@@ -85,7 +85,7 @@ kind_sound (Lacks f r) (Lacks g q) e =
     let j : r ≡ q = eqb-true r q (and_right (nat_eq f g) _ e) in
     cc
 
-pub kind_itself : (a : Kind) → same_kind a a ≡ true
+pub kind_itself : (a : Kind) → same_tag_meaning a a ≡ true
 kind_itself Number = refl
 kind_itself (Constructor c) = eq-eqb c c refl
 kind_itself (Waits d) = delay_itself d
@@ -174,10 +174,10 @@ module _ (p : Program) where
   -- ---- and where
 
   pub tag_found : (k : Kind) → Has k (kinds p) → slice_get (map (tag_of p) (kinds p)) (tag p k).0 ≡ Some (tag_of p k)
-  tag_found k h = found same_kind kind_sound kind_itself (tag_of p) k (kinds p) h
+  tag_found k h = found same_tag_meaning kind_sound kind_itself (tag_of p) k (kinds p) h
 
-  pub tags_tell : (k l : Kind) → Has k (kinds p) → Has l (kinds p) → nat_eq (tag p k).0 (tag p l).0 ≡ same_kind k l
-  tags_tell k l h i = places_tell same_kind kind_sound kind_itself k l (kinds p) h i
+  pub tags_tell : (k l : Kind) → Has k (kinds p) → Has l (kinds p) → nat_eq (tag p k).0 (tag p l).0 ≡ same_tag_meaning k l
+  tags_tell k l h i = places_tell same_tag_meaning kind_sound kind_itself k l (kinds p) h i
 
   -- a part is one of a function
   abbrev Good : Kind → Type 0
@@ -202,12 +202,12 @@ module _ (p : Program) where
   con_no_part F r None = refl
   con_no_part F r (Some c) = refl
 
-  part_tells : (f r : ℕ) (k : Kind) → Has (Calls f) (delays p) → Good k → is_part (proc p (Calls f)).0 r (tag_of p k) ≡ same_kind (Lacks f r) k
+  part_tells : (f r : ℕ) (k : Kind) → Has (Calls f) (delays p) → Good k → is_part (proc p (Calls f)).0 r (tag_of p k) ≡ same_tag_meaning (Lacks f r) k
   part_tells f r Number h g = refl
   part_tells f r (Constructor c) h g = con_no_part _ r (slice_get p.cons c)
   part_tells f r (Waits d) h g = refl
   part_tells f r (Lacks f' q) h g =
-      let e : nat_eq (proc p (Calls f')).0 (proc p (Calls f)).0 ≡ nat_eq f' f = places_tell same_delay delay_sound delay_itself (Calls f') (Calls f) (delays p) g h in
+      let e : nat_eq (proc p (Calls f')).0 (proc p (Calls f)).0 ≡ nat_eq f' f = places_tell same_thunk_kind delay_sound delay_itself (Calls f') (Calls f) (delays p) g h in
       rw (e, nat_eq_turned f' f, nat_eq_turned q r) refl
     where
       nat_eq_turned : (a b : ℕ) → nat_eq a b ≡ nat_eq b a
@@ -219,18 +219,18 @@ module _ (p : Program) where
           by_test true e false f = not_both _ (eq-eqb b a (sym (eqb-true a b e))) f
           by_test false e true f = not_both _ (eq-eqb a b (sym (eqb-true b a f))) e
 
-  part_from_found : (F f r : ℕ) (ks : List Kind) (i : ℕ) → AllOf (λ k. is_part F r (tag_of p k) ≡ same_kind (Lacks f r) k) ks → Has (Lacks f r) ks
-      → part_from i (map (tag_of p) ks) F r ≡ Some (i + first_place (same_kind (Lacks f r)) ks)
+  part_from_found : (F f r : ℕ) (ks : List Kind) (i : ℕ) → AllOf (λ k. is_part F r (tag_of p k) ≡ same_tag_meaning (Lacks f r) k) ks → Has (Lacks f r) ks
+      → part_from i (map (tag_of p) ks) F r ≡ Some (i + first_index_where (same_tag_meaning (Lacks f r)) ks)
   part_from_found F f r [] i a h = absurd h
-  part_from_found F f r (k ∷ ks) i a h = rw a.0 (at_first (same_kind (Lacks f r) k) refl h (part_from_found F f r ks (suc i) a.1))
+  part_from_found F f r (k ∷ ks) i a h = rw a.0 (at_first (same_tag_meaning (Lacks f r) k) refl h (part_from_found F f r ks (suc i) a.1))
     where
-      at_first : (b : Bool) → same_kind (Lacks f r) k ≡ b → Has (Lacks f r) (k ∷ ks) → (Has (Lacks f r) ks → part_from (suc i) (map (tag_of p) ks) F r ≡ Some (suc i + first_place (same_kind (Lacks f r)) ks))
-          → cond b (Some i) (part_from (suc i) (map (tag_of p) ks) F r) ≡ Some (i + cond b 0 (suc (first_place (same_kind (Lacks f r)) ks)))
+      at_first : (b : Bool) → same_tag_meaning (Lacks f r) k ≡ b → Has (Lacks f r) (k ∷ ks) → (Has (Lacks f r) ks → part_from (suc i) (map (tag_of p) ks) F r ≡ Some (suc i + first_index_where (same_tag_meaning (Lacks f r)) ks))
+          → cond b (Some i) (part_from (suc i) (map (tag_of p) ks) F r) ≡ Some (i + cond b 0 (suc (first_index_where (same_tag_meaning (Lacks f r)) ks)))
       at_first true e h ih = let q : i ≡ i + 0 = omega arith in ap Some q
-      at_first false e (inl j) ih = not_both (same_kind (Lacks f r) k) (subst (λ z. same_kind (Lacks f r) z ≡ true) j (kind_itself (Lacks f r))) e
-      at_first false e (inr j) ih = let q : suc i + first_place (same_kind (Lacks f r)) ks ≡ i + suc (first_place (same_kind (Lacks f r)) ks) = omega arith in ih j ∙ ap Some q
+      at_first false e (inl j) ih = not_both (same_tag_meaning (Lacks f r) k) (subst (λ z. same_tag_meaning (Lacks f r) z ≡ true) j (kind_itself (Lacks f r))) e
+      at_first false e (inr j) ih = let q : suc i + first_index_where (same_tag_meaning (Lacks f r)) ks ≡ i + suc (first_index_where (same_tag_meaning (Lacks f r)) ks) = omega arith in ih j ∙ ap Some q
 
-  all_tell : (f r : ℕ) (ks : List Kind) → Has (Calls f) (delays p) → AllOf Good ks → AllOf (λ k. is_part (proc p (Calls f)).0 r (tag_of p k) ≡ same_kind (Lacks f r) k) ks
+  all_tell : (f r : ℕ) (ks : List Kind) → Has (Calls f) (delays p) → AllOf Good ks → AllOf (λ k. is_part (proc p (Calls f)).0 r (tag_of p k) ≡ same_tag_meaning (Lacks f r) k) ks
   all_tell f r [] h a = tt
   all_tell f r (k ∷ ks) h a = (part_tells f r k h a.0, all_tell f r ks h a.1)
 

@@ -10,10 +10,10 @@ use Rattle.core_meaning.specs.Heap.{Value, Int, Con, Part, Waiting, Call, Input,
 use Rattle.core_meaning.specs.Evaluation as core'
 use Rattle.core_meaning.specs.Evaluation.{State, append, force, nil, cons, spend, spend_of, params, global, globals, within, start}
 use Rattle.core_meaning.specs.Printing as printing
-use Rattle.core_meaning.specs.Printing.{Printed, Done, Unaccepted, Going, on_value, on_list, on_byte, print, printed, printed_from_input}
+use Rattle.core_meaning.specs.Printing.{PrintedRun, Done, Unaccepted, Going, on_value, on_list, on_byte, print, printed, printed_from_input}
 use Rattle.grin_meaning.specs.Values.{fits, fits_not, fields_fit, cell, node, words, World, Env, with_vars, one_each, need, then_do, gives, stops, no_alternative, out_of_units}
 use Rattle.grin_meaning.specs.Values as grin
-use Rattle.grin_meaning.specs.Run.{choose, act, code, arms, calls, run, passing, spent, written, start_world}
+use Rattle.grin_meaning.specs.Run.{choose, act, code, arms, calls, run, with_state_seen, spent, written, start_world}
 use Rattle.grin_meaning.specs.Run as run'
 use Rattle.grin_meaning.specs.Keeps.{end_of, world_of}
 use Rattle.grin_translate.specs.declared.tags.Delay.{Delay}
@@ -25,7 +25,7 @@ use Rattle.grin_translate.specs.Blocks.{local, temp, on_number, else_fail}
 use Rattle.grin_translate.specs.Translation.{tr, procedure, delayed_procs, span, print_procs, print_body, start_body, rest, global_cells}
 use Rattle.grin_translate.specs.Translation as translation
 use Rattle.grin_translate.specs.WellFormed.{WellFormed, HasFields}
-use Rattle.grin_translate.specs.Same.{TranslationDoesAs, end_as}
+use Rattle.grin_translate.specs.Same.{TranslationPreservesRuns, grin_end_of}
 use Rattle.grin_translate.proofs.Found.{has_number, has_constructor, has_reads, tags_tell}
 use Rattle.grin_translate.proofs.Alike.{value_kind, value_node, IsValue, Heaps, heaps_long, Alike, alike_passing, alike_append, Match, both_give, none_accepts, both_go}
 use Rattle.grin_translate.proofs.Forcing.{kind_there, value_made, delayed_made, force_match, params_are}
@@ -34,18 +34,18 @@ use Rattle.grin_translate.proofs.Expressions.{same_fields}
 use Rattle.grin_translate.proofs.Called.{alike_spent, calls_match}
 
 -- what is put out, and how a run answers
-pub record Agrees (r : Printed) (a : grin.Answer) : Type 0 where
+pub record Agrees (r : PrintedRun) (a : grin.Answer) : Type 0 where
   pub out : (world_of a).out ≡ r.out
-  pub end : end_of a ≡ end_as r.end
+  pub end : end_of a ≡ grin_end_of r.end
   pub used : (world_of a).used ≡ r.used
   pub cells : length (world_of a).cells ≡ r.cells
   pub depth : (world_of a).depth ≡ r.depth
 
-agrees_else : (b : Bool) (x y : Printed) (a : grin.Answer) → b ≡ false → Agrees y a → Agrees (elim b [ true ↦ x | false ↦ y ]) a
+agrees_else : (b : Bool) (x y : PrintedRun) (a : grin.Answer) → b ≡ false → Agrees y a → Agrees (elim b [ true ↦ x | false ↦ y ]) a
 agrees_else true x y a e h = not_both true refl e
 agrees_else false x y a e h = h
 
-agrees_if : (b : Bool) (x y : Printed) (a : grin.Answer) → b ≡ true → Agrees x a → Agrees (elim b [ true ↦ x | false ↦ y ]) a
+agrees_if : (b : Bool) (x y : PrintedRun) (a : grin.Answer) → b ≡ true → Agrees x a → Agrees (elim b [ true ↦ x | false ↦ y ]) a
 agrees_if true x y a e h = h
 agrees_if false x y a e h = not_both false e refl
 
@@ -59,7 +59,7 @@ module _ (p : Program) where
   agrees_going : (out : List ℕ) (s : State) (w : World) → Alike p out s w → Agrees (printing.stops out Going s) (stops out_of_units w)
   agrees_going out s w al = record { out = al.written; end = refl; used = al.used; cells = heaps_long p (length s.heap) s.heap w.cells al.heaps; depth = al.depth }
 
-  agrees_then : {n : ℕ} {out : List ℕ} {a : core'.Answer} {a' : grin.Answer} (go : Value → State → Printed) (k : grin.Value → World → grin.Answer) → Match p n out a a'
+  agrees_then : {n : ℕ} {out : List ℕ} {a : core'.Answer} {a' : grin.Answer} (go : Value → State → PrintedRun) (k : grin.Value → World → grin.Answer) → Match p n out a a'
       → ((v : Value) (s : State) (w : World) → n ≤ length s.heap → IsValue p (length s.heap) v → Alike p out s w → Agrees (go v s) (k (node (value_node p v)) w))
       → Agrees (on_value a out go) (then_do a' k)
   agrees_then go k (both_give {v} {s} {w} le g al) h = h v s w le g al
@@ -103,7 +103,7 @@ module _ (p : Program) where
     head_match b n genv u out tl (Part f xs) s w al g at tail h = rw (at, tags_tell p (value_kind p (Part f xs)) Number (kind_there p (length s.heap) (Part f xs) g) (has_number p)) (agrees_unaccepted out s _ (alike_passing p out s w genv al))
 
     -- what follows the value of the list
-    abbrev Go : ℕ → List ℕ → Value → State → Printed
+    abbrev Go : ℕ → List ℕ → Value → State → PrintedRun
     Go n out v s = on_list (nil p) (cons p) v out s (λ h tl. on_value (force p (within p n) h 1 s) out (λ w s. on_byte w out s (λ byte. print p n tl (out ++ byte ∷ []) s)))
 
     Next : ℕ → Type 0
@@ -121,7 +121,7 @@ module _ (p : Program) where
         let itself : genv' (temp p b 3).0 ≡ Some (node (value_node p v)) = rw (eq-eqb (temp p b 3).0 (temp p b 3).0 refl) refl in
         let ne : (temp p b 2).0 ≢ (temp p b 3).0 = λ e. omega (arith, e) in
         let other : genv' (temp p b 2).0 ≡ Some (words (cell tl ∷ [])) = rw (eq_false (temp p b 2).0 (temp p b 3).0 ne) at' in
-        head_match b n genv' [] out tl v s' (passing genv' w') (alike_passing p out s' w' genv' al') g itself other (λ out w al. next tl out s' w al (omega (arith, le, lt')))))
+        head_match b n genv' [] out tl v s' (with_state_seen genv' w') (alike_passing p out s' w' genv' al') g itself other (λ out w al. next tl out s' w al (omega (arith, le, lt')))))
 
     fields_as : (x k n : ℕ) (xs : List ℕ) (s : State) → IsValue p (length s.heap) (Con x xs) → nat_eq x k ≡ true → HasFields p k n → length xs ≡ n
     fields_as x k n xs s g e h = same_fields p k (length xs) n (subst (λ z. HasFields p z (length xs)) (eqb-true x k e) g.0) h
@@ -129,8 +129,8 @@ module _ (p : Program) where
     -- the branches of a constructor, where it is told from Nil and Cons
     abbrev Chosen : ℕ → ℕ → Env → List ℕ → Value → Bool → Bool → World → grin.Answer
     Chosen b n genv xs v is_nil is_cons w =
-        choose (cond is_nil (fits []) fits_not) w (λ bs. code (tr p) (calls (tr p) n) (with_vars bs genv) 0 (translation.nil_block p b) (passing (with_vars bs genv) w))
-        (choose (cond is_cons (fields_fit (temp p b 1 ∷ temp p b 2 ∷ []) (map cell xs)) fits_not) w (λ bs. code (tr p) (calls (tr p) n) (with_vars bs genv) 0 (translation.pair_block p b) (passing (with_vars bs genv) w))
+        choose (cond is_nil (fits []) fits_not) w (λ bs. code (tr p) (calls (tr p) n) (with_vars bs genv) 0 (translation.nil_block p b) (with_state_seen (with_vars bs genv) w))
+        (choose (cond is_cons (fields_fit (temp p b 1 ∷ temp p b 2 ∷ []) (map cell xs)) fits_not) w (λ bs. code (tr p) (calls (tr p) n) (with_vars bs genv) 0 (translation.pair_block p b) (with_state_seen (with_vars bs genv) w))
         (arms (tr p) (calls (tr p) n) genv 0 (node (value_node p v)) else_fail w))
 
     cons_match : (b n : ℕ) (genv : Env) (out : List ℕ) (x : ℕ) (xs : List ℕ) (s : State) (w : World) → Alike p out s w → IsValue p (length s.heap) (Con x xs) → (is_nil is_cons : Bool) → nat_eq x (nil p) ≡ is_nil → nat_eq x (cons p) ≡ is_cons → Next n
@@ -148,7 +148,7 @@ module _ (p : Program) where
         let ne : (temp p b 1).0 ≢ (temp p b 2).0 = λ e. omega (arith, e) in
         let at : genv' (temp p b 1).0 ≡ Some (words (cell h ∷ [])) = rw (eq_false (temp p b 1).0 (temp p b 2).0 ne, eq-eqb (temp p b 1).0 (temp p b 1).0 refl) refl in
         let at' : genv' (temp p b 2).0 ≡ Some (words (cell tl ∷ [])) = rw (eq-eqb (temp p b 2).0 (temp p b 2).0 refl) refl in
-        agrees_if (nat_eq x (cons p)) _ _ _ f (pair_match b n genv' out h tl s (passing genv' w) (alike_passing p out s w genv' al) g.1.0 g.1.1.0 at at' next)
+        agrees_if (nat_eq x (cons p)) _ _ _ f (pair_match b n genv' out h tl s (with_state_seen genv' w) (alike_passing p out s w genv' al) g.1.0 g.1.1.0 at at' next)
     cons_match b n genv out x (h ∷ tl ∷ []) s w al g false false e f next = agrees_else (nat_eq x (cons p)) _ _ _ f (agrees_unaccepted out s _ (alike_passing p out s w genv al))
     cons_match b n genv out x (h ∷ tl ∷ u ∷ ys) s w al g true is_cons e f next = absurd (let q = fields_as x (nil p) 0 (h ∷ tl ∷ u ∷ ys) s g e ok.nil_fields in omega (arith, q))
     cons_match b n genv out x (h ∷ tl ∷ u ∷ ys) s w al g false true e f next = absurd (let q = fields_as x (cons p) 2 (h ∷ tl ∷ u ∷ ys) s g f ok.cons_fields in omega (arith, q))
@@ -170,27 +170,27 @@ module _ (p : Program) where
     -- one turn of the loop, once the units that are left are known
     turn : (n l a : ℕ) (out : List ℕ) (s : State) (w : World) → Alike p out s w → a < length s.heap → Next n
         → Agrees (on_value (spend_of l 0 s (force p (within p n) a 1)) out (Go n out))
-        (run'.spend l w (λ m. need (slice_get (tr p).procs (translation.print p).0) w (λ q. need (one_each q.params (cell a ∷ [])) w (λ bs. code (tr p) (calls (tr p) n) (with_vars bs (λ y. None)) 0 q.body (passing (with_vars bs (λ y. None)) (spent (translation.print p).0 0 m w))))))
+        (run'.spend l w (λ m. need (slice_get (tr p).procs (translation.print p).0) w (λ q. need (one_each q.params (cell a ∷ [])) w (λ bs. code (tr p) (calls (tr p) n) (with_vars bs (λ y. None)) 0 q.body (with_state_seen (with_vars bs (λ y. None)) (spent (translation.print p).0 0 m w))))))
     unfolding act
     turn n zero a out s w al lt next = agrees_going out s w al
     turn n (suc m) a out s w al lt next =
         let b : ℕ = rest p in
         let s1 : State = record s { left = m; depth = max s.depth 0 } in
         let genv : Env = with_vars (((local p b 0).0, words (cell a ∷ [])) ∷ []) (λ y. None) in
-        let w1 : World = passing genv (spent (translation.print p).0 0 m w) in
+        let w1 : World = with_state_seen genv (spent (translation.print p).0 0 m w) in
         let al1 : Alike p out s1 w1 = alike_passing p out s1 (spent (translation.print p).0 0 m w) genv (alike_spent p out s w (translation.print p).0 0 m al) in
         rw (print_found, eq-eqb (local p b 0).0 (local p b 0).0 refl)
         (agrees_then (Go n out) _ (force_match p (within p n) (calls (tr p) n) (calls_match p ok n) a 1 out s1 w1 al1 lt)
         (λ v s' w' le g al'.
         let genv' : Env = with_vars (((temp p b 0).0, node (value_node p v)) ∷ []) genv in
         let itself : genv' (temp p b 0).0 ≡ Some (node (value_node p v)) = rw (eq-eqb (temp p b 0).0 (temp p b 0).0 refl) refl in
-        list_match b n genv' out v s' (passing genv' w') (alike_passing p out s' w' genv' al') g itself next))
+        list_match b n genv' out v s' (with_state_seen genv' w') (alike_passing p out s' w' genv' al') g itself next))
 
     print_match : (n : ℕ) → Next n
     unfolding calls Next
     print_match zero = λ a out s w al lt. agrees_going out s w al
     print_match (suc n) = λ a out s w al lt.
-        subst (λ l. Agrees (print p (suc n) a out s) (run'.spend l w (λ m. need (slice_get (tr p).procs (translation.print p).0) w (λ q. need (one_each q.params (cell a ∷ [])) w (λ bs. code (tr p) (calls (tr p) n) (with_vars bs (λ y. None)) 0 q.body (passing (with_vars bs (λ y. None)) (spent (translation.print p).0 0 m w))))))) (sym al.left)
+        subst (λ l. Agrees (print p (suc n) a out s) (run'.spend l w (λ m. need (slice_get (tr p).procs (translation.print p).0) w (λ q. need (one_each q.params (cell a ∷ [])) w (λ bs. code (tr p) (calls (tr p) n) (with_vars bs (λ y. None)) 0 q.body (with_state_seen (with_vars bs (λ y. None)) (spent (translation.print p).0 0 m w))))))) (sym al.left)
         (turn n s.left a out s w al lt (print_match n))
 
   -- ---- the start
@@ -273,7 +273,7 @@ module _ (p : Program) where
     agrees : (i : List ℕ) (n : ℕ) → Agrees (printed p i n) (run (tr p) i n)
     agrees i n = subst (Agrees (printed p i n)) (sym (run_is (not (nat_eq (params p p.main) 0)) takes_input_is i n)) (run_match (nat_eq (params p p.main) 0) refl i n)
 
-pub translation_does_as : TranslationDoesAs
+pub translation_does_as : TranslationPreservesRuns
 translation_does_as p ok i n =
     let a : Agrees (printed p i n) (run (tr p) i n) = agrees p ok i n in
     record {

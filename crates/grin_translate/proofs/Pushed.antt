@@ -32,7 +32,7 @@ use Rattle.grin_syntax.proofs.TreeOf.{before_of-Store, before_of-Bind, code_of-p
 use Rattle.grin_translate.specs.declared.tags.Kind.TheVariants.{Constructor}
 use Rattle.grin_translate.specs.Tags.{tag}
 use Rattle.grin_translate.specs.Blocks.{word, local, temp, cell_of, give_block, apply_block, prim_block, block, arms, temps, branch_temps}
-use Rattle.grin_translate.specs.Pieces.{result_of, evaluated_of, given_to, cell_at, arms_onto}
+use Rattle.grin_translate.specs.Pieces.{result_of, evaluated_of, given_to, cell_of_local, prepend_arms}
 use Rattle.grin_translate.proofs.TermOf.{branch-Con, branch-Int, branch-Default}
 use Rattle.grin_syntax.proofs.Pieces.{all_before_push}
 
@@ -70,11 +70,11 @@ bind_block b t o e = ap as_act (code_of-parts b) ∙ nested_bind b.stmts t o (en
 
 -- ---- alternatives
 
-pub onto_pushed : (xs : List (Shape × Code)) (a : Shape × Code) (rest : Arms) → arms_onto (xs ++ a ∷ []) rest ≡ arms_onto xs (arm a.0 a.1 rest)
+pub onto_pushed : (xs : List (Shape × Code)) (a : Shape × Code) (rest : Arms) → prepend_arms (xs ++ a ∷ []) rest ≡ prepend_arms xs (arm a.0 a.1 rest)
 onto_pushed [] a rest = refl
 onto_pushed (x ∷ xs) a rest = ap (arm x.0 x.1) (onto_pushed xs a rest)
 
-pub onto_none : (xs : List (Shape × Code)) → arms_onto xs no_arm ≡ arms_of xs
+pub onto_none : (xs : List (Shape × Code)) → prepend_arms xs no_arm ≡ arms_of xs
 onto_none [] = refl
 onto_none (x ∷ xs) = ap (arm x.0 x.1) (onto_none xs)
 
@@ -161,7 +161,7 @@ module _ (p : Program) (base : ℕ) where
         ∙ (λ z. arm shape.Else (sym ek z) no_arm)
         ∙ (λ z. arm (sym ea z).0 (sym ea z).1 no_arm)
 
-    pub name_made : (inner : Body) (name : Option ℕ) (x : ℕ) → each ≡ branch'.Default name inner → name ≡ Some x → arm_of a ≡ (shape.Else, k) → k ≡ store (cell_at base x (NodeVar v) ∷ []) (block p base t (term inner))
+    pub name_made : (inner : Body) (name : Option ℕ) (x : ℕ) → each ≡ branch'.Default name inner → name ≡ Some x → arm_of a ≡ (shape.Else, k) → k ≡ store (cell_of_local base x (NodeVar v) ∷ []) (block p base t (term inner))
         → (rest : Branches) → arms p base v t (branch each rest) ≡ arm (arm_of a).0 (arm_of a).1 no_arm
     name_made inner name x e en ea ek rest =
         ap (λ b. arms p base v t (branch b rest)) (e ∙ ap (λ n. branch'.Default n inner) en)
@@ -173,26 +173,26 @@ module _ (p : Program) (base : ℕ) where
   Rest v t bs i = arms p base v t (branches_of (map branch (drop i bs)))
 
   -- what is made of the alternatives so far and of one more
-  one_more : (alts pushed : List Alt) (a : Alt) (rest : Arms) → pushed ≡ alts ++ a ∷ [] → arms_onto (map arm_of pushed) rest ≡ arms_onto (map arm_of alts) (arm (arm_of a).0 (arm_of a).1 rest)
-  one_more alts pushed a rest e = ap (λ as'. arms_onto (map arm_of as') rest) e ∙ ap (λ xs. arms_onto xs rest) (map-append arm_of alts (a ∷ [])) ∙ onto_pushed (map arm_of alts) (arm_of a) rest
+  one_more : (alts pushed : List Alt) (a : Alt) (rest : Arms) → pushed ≡ alts ++ a ∷ [] → prepend_arms (map arm_of pushed) rest ≡ prepend_arms (map arm_of alts) (arm (arm_of a).0 (arm_of a).1 rest)
+  one_more alts pushed a rest e = ap (λ as'. prepend_arms (map arm_of as') rest) e ∙ ap (λ xs. prepend_arms xs rest) (map-append arm_of alts (a ∷ [])) ∙ onto_pushed (map arm_of alts) (arm_of a) rest
 
   module _ (alts pushed : List Alt) (a : Alt) (bs : List Branch) (i : ℕ) (b : Branch) (last : Bool) (t t' : ℕ) (v : VarId) (whole : Arms) where
     pub last_made : pushed ≡ alts ++ a ∷ [] → drop i bs ≡ b ∷ drop (i + 1) bs → ((rest : Branches) → arms p base v t (branch b rest) ≡ arm (arm_of a).0 (arm_of a).1 (cond last no_arm (arms p base v t' rest))) → last ≡ true
-        → arms_onto (map arm_of alts) (Rest v t bs i) ≡ whole → arms_of (map arm_of pushed) ≡ whole
+        → prepend_arms (map arm_of alts) (Rest v t bs i) ≡ whole → arms_of (map arm_of pushed) ≡ whole
     last_made e d h l w =
         sym (onto_none (map arm_of pushed)) ∙ one_more alts pushed a no_arm e
-        ∙ ap (λ r. arms_onto (map arm_of alts) (arm (arm_of a).0 (arm_of a).1 r)) (sym (ap (λ c. cond c no_arm (Rest v t' bs (i + 1))) l))
-        ∙ ap (arms_onto (map arm_of alts)) (sym (h (branches_of (map branch (drop (i + 1) bs)))))
-        ∙ ap (λ xs. arms_onto (map arm_of alts) (arms p base v t (branches_of (map branch xs)))) (sym d)
+        ∙ ap (λ r. prepend_arms (map arm_of alts) (arm (arm_of a).0 (arm_of a).1 r)) (sym (ap (λ c. cond c no_arm (Rest v t' bs (i + 1))) l))
+        ∙ ap (prepend_arms (map arm_of alts)) (sym (h (branches_of (map branch (drop (i + 1) bs)))))
+        ∙ ap (λ xs. prepend_arms (map arm_of alts) (arms p base v t (branches_of (map branch xs)))) (sym d)
         ∙ w
 
     pub more_made : pushed ≡ alts ++ a ∷ [] → drop i bs ≡ b ∷ drop (i + 1) bs → ((rest : Branches) → arms p base v t (branch b rest) ≡ arm (arm_of a).0 (arm_of a).1 (cond last no_arm (arms p base v t' rest))) → last ≡ false
-        → arms_onto (map arm_of alts) (Rest v t bs i) ≡ whole → arms_onto (map arm_of pushed) (Rest v t' bs (i + 1)) ≡ whole
+        → prepend_arms (map arm_of alts) (Rest v t bs i) ≡ whole → prepend_arms (map arm_of pushed) (Rest v t' bs (i + 1)) ≡ whole
     more_made e d h l w =
         one_more alts pushed a (Rest v t' bs (i + 1)) e
-        ∙ ap (λ r. arms_onto (map arm_of alts) (arm (arm_of a).0 (arm_of a).1 r)) (sym (ap (λ c. cond c no_arm (Rest v t' bs (i + 1))) l))
-        ∙ ap (arms_onto (map arm_of alts)) (sym (h (branches_of (map branch (drop (i + 1) bs)))))
-        ∙ ap (λ xs. arms_onto (map arm_of alts) (arms p base v t (branches_of (map branch xs)))) (sym d)
+        ∙ ap (λ r. prepend_arms (map arm_of alts) (arm (arm_of a).0 (arm_of a).1 r)) (sym (ap (λ c. cond c no_arm (Rest v t' bs (i + 1))) l))
+        ∙ ap (prepend_arms (map arm_of alts)) (sym (h (branches_of (map branch (drop (i + 1) bs)))))
+        ∙ ap (λ xs. prepend_arms (map arm_of alts) (arms p base v t (branches_of (map branch xs)))) (sym d)
         ∙ w
 
     pub more_temps : drop i bs ≡ b ∷ drop (i + 1) bs → ((rest : Branches) → t + branch_temps (branch b rest) ≡ t' + cond last 0 (branch_temps rest)) → last ≡ false
@@ -211,9 +211,9 @@ module _ (p : Program) (base : ℕ) where
         ∙ ap (λ xs. t + branch_temps (branches_of (map branch xs))) (sym d)
 
   pub all_made : (alts pushed : List Alt) (a : Alt) (bs : List Branch) (i t : ℕ) (v : VarId) (whole : Arms) → pushed ≡ alts ++ a ∷ [] → length bs ≤ i → arm_of a ≡ (shape.Else, end fail)
-      → arms_onto (map arm_of alts) (Rest v t bs i) ≡ whole → arms_of (map arm_of pushed) ≡ whole
+      → prepend_arms (map arm_of alts) (Rest v t bs i) ≡ whole → arms_of (map arm_of pushed) ≡ whole
   all_made alts pushed a bs i t v whole e le f w =
       sym (onto_none (map arm_of pushed)) ∙ one_more alts pushed a no_arm e
-      ∙ (λ z. arms_onto (map arm_of alts) (arm (f z).0 (f z).1 no_arm))
-      ∙ ap (λ xs. arms_onto (map arm_of alts) (arms p base v t (branches_of (map branch xs)))) (sym (drop_past bs i le))
+      ∙ (λ z. prepend_arms (map arm_of alts) (arm (f z).0 (f z).1 no_arm))
+      ∙ ap (λ xs. prepend_arms (map arm_of alts) (arms p base v t (branches_of (map branch xs)))) (sym (drop_past bs i le))
       ∙ w

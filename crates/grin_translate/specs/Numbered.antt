@@ -8,42 +8,44 @@ use Rattle.grin_translate.specs.Tags.{delays as all_that_waits}
 
 -- the first number for each function, where each has as many as it has parameters; and the number
 -- after them
-abbrev pub starts : ℕ → List ℕ → List ℕ
-starts first [] = []
-starts first (n ∷ ns) = first ∷ starts (first + n) ns
+abbrev pub prefix_sums : ℕ → List ℕ → List ℕ
+prefix_sums first [] = []
+prefix_sums first (n ∷ ns) = first ∷ prefix_sums (first + n) ns
 
 abbrev pub after : ℕ → List ℕ → ℕ
 after first [] = first
 after first (n ∷ ns) = after (first + n) ns
 
 -- for each function the number of those without parameters before it; and the number of all
-abbrev pub one_if_none : ℕ → ℕ
-one_if_none n = if n == 0 then 1 else 0
+abbrev pub one_if_parameterless : ℕ → ℕ
+one_if_parameterless n = if n == 0 then 1 else 0
 
-abbrev pub shared_before : ℕ → List ℕ → List ℕ
-shared_before count [] = []
-shared_before count (n ∷ ns) = count ∷ shared_before (count + one_if_none n) ns
+abbrev pub globals_before : ℕ → List ℕ → List ℕ
+globals_before count [] = []
+globals_before count (n ∷ ns) = count ∷ globals_before (count + one_if_parameterless n) ns
 
-abbrev pub shared_in : ℕ → List ℕ → ℕ
-shared_in count [] = count
-shared_in count (n ∷ ns) = shared_in (count + one_if_none n) ns
+abbrev pub global_count : ℕ → List ℕ → ℕ
+global_count count [] = count
+global_count count (n ∷ ns) = global_count (count + one_if_parameterless n) ns
 
-abbrev pub params_each : List Function → List ℕ
-params_each fs = map (λ f. f.params) fs
+abbrev pub parameter_counts : List Function → List ℕ
+parameter_counts fs = map (λ f. f.params) fs
 
 -- something other than a call of a function
-abbrev pub NoCall : Delay → Type 0
-NoCall (Calls f) = ⊥
-NoCall (Applies m) = Unit {0}
-NoCall (Operates op) = Unit {0}
-NoCall Reads = Unit {0}
+abbrev pub IsNotCall : Delay → Type 0
+IsNotCall (Calls f) = ⊥
+IsNotCall (Applies m) = Unit {0}
+IsNotCall (Operates op) = Unit {0}
+IsNotCall Reads = Unit {0}
 
-pub record AreNumbers (p : Program) (n : Numbers) : Type 0 where
+pub record NumbersMatchProgram (p : Program) (n : Numbers) : Type 0 where
   pub functions : n.functions ≡ length p.funs
   pub constructors : n.constructors ≡ length p.cons
   pub delays : n.delays ≡ all_that_waits p
   pub waiting : n.waiting ≡ length (all_that_waits p)
-  pub parts : n.parts ≡ starts (1 + length p.cons + length (all_that_waits p)) (params_each p.funs)
-  pub tags : n.tags ≡ after (1 + length p.cons + length (all_that_waits p)) (params_each p.funs)
-  pub globals : n.globals ≡ shared_before 0 (params_each p.funs)
-  pub shared : n.shared ≡ shared_in 0 (params_each p.funs)
+  pub parts : n.parts
+      ≡ prefix_sums (1 + length p.cons + length (all_that_waits p)) (parameter_counts p.funs)
+  pub tags : n.tags
+      ≡ after (1 + length p.cons + length (all_that_waits p)) (parameter_counts p.funs)
+  pub globals : n.globals ≡ globals_before 0 (parameter_counts p.funs)
+  pub shared : n.shared ≡ global_count 0 (parameter_counts p.funs)

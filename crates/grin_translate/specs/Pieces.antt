@@ -21,14 +21,14 @@ use Rattle.grin_translate.specs.Blocks.{operation, on_number, local, temp, cell}
 use Rattle.grin_syntax.specs.Fresh.{variable}
 
 -- the cell of a local whose number is x, where variables begin at base
-abbrev pub cell_at : ℕ → ℕ → Val → Cell
-cell_at base x v =
+abbrev pub cell_of_local : ℕ → ℕ → Val → Cell
+cell_of_local base x v =
     record { var = variable (base + 2 * x); site = record { 0 = base + 2 * x }; val = v }
 
 -- further alternatives before others
-abbrev pub arms_onto : List (Shape × Code) → Arms → Arms
-arms_onto [] rest = rest
-arms_onto (a ∷ as') rest = arm a.0 a.1 (arms_onto as' rest)
+abbrev pub prepend_arms : List (Shape × Code) → Arms → Arms
+prepend_arms [] rest = rest
+prepend_arms (a ∷ as') rest = arm a.0 a.1 (prepend_arms as' rest)
 
 module _ (p : Program) where
   -- k is the operation's result, which the block gives

@@ -31,31 +31,31 @@ op_number Rem = 4
 op_number Eq = 5
 op_number Lt = 6
 
-abbrev pub same_delay : Delay → Delay → Bool
-same_delay (Calls f) (Calls g) = nat_eq f g
-same_delay (Applies m) (Applies n) = nat_eq m n
-same_delay (Operates a) (Operates b) = nat_eq (op_number a) (op_number b)
-same_delay Reads Reads = true
-same_delay _ _ = false
+abbrev pub same_thunk_kind : Delay → Delay → Bool
+same_thunk_kind (Calls f) (Calls g) = nat_eq f g
+same_thunk_kind (Applies m) (Applies n) = nat_eq m n
+same_thunk_kind (Operates a) (Operates b) = nat_eq (op_number a) (op_number b)
+same_thunk_kind Reads Reads = true
+same_thunk_kind _ _ = false
 
-abbrev pub same_kind : Kind → Kind → Bool
-same_kind Number Number = true
-same_kind (Constructor c) (Constructor d) = nat_eq c d
-same_kind (Waits a) (Waits b) = same_delay a b
-same_kind (Lacks f r) (Lacks g q) = nat_eq f g && nat_eq r q
-same_kind _ _ = false
+abbrev pub same_tag_meaning : Kind → Kind → Bool
+same_tag_meaning Number Number = true
+same_tag_meaning (Constructor c) (Constructor d) = nat_eq c d
+same_tag_meaning (Waits a) (Waits b) = same_thunk_kind a b
+same_tag_meaning (Lacks f r) (Lacks g q) = nat_eq f g && nat_eq r q
+same_tag_meaning _ _ = false
 
 -- the place of what passes a test for the first time
-abbrev pub first_place : {A : Type 0} → (A → Bool) → List A → ℕ
-first_place test [] = 0
-first_place test (x ∷ xs) = cond (test x) 0 (suc (first_place test xs))
+abbrev pub first_index_where : {A : Type 0} → (A → Bool) → List A → ℕ
+first_index_where test [] = 0
+first_index_where test (x ∷ xs) = cond (test x) 0 (suc (first_index_where test xs))
 
 -- ---- what is delayed in a program
 
 abbrev pub binds : Delay → Flat → Bool
-binds d (flat.Call f xs) = same_delay d (Calls f)
-binds d (flat.Apply x xs) = same_delay d (Applies (length xs))
-binds d (flat.Prim op x y) = same_delay d (Operates op)
+binds d (flat.Call f xs) = same_thunk_kind d (Calls f)
+binds d (flat.Apply x xs) = same_thunk_kind d (Applies (length xs))
+binds d (flat.Prim op x y) = same_thunk_kind d (Operates op)
 binds d _ = false
 
 abbrev mutual
@@ -119,10 +119,10 @@ module _ (p : Program) where
       ∷ (map Constructor (numbers_from 0 (length p.cons)) ++ (map Waits delays ++ parts p.funs 0))
 
   abbrev pub tag : Kind → TagId
-  tag k = record { 0 = first_place (same_kind k) kinds }
+  tag k = record { 0 = first_index_where (same_tag_meaning k) kinds }
 
   abbrev pub proc : Delay → ProcId
-  proc d = record { 0 = first_place (same_delay d) delays }
+  proc d = record { 0 = first_index_where (same_thunk_kind d) delays }
 
   abbrev pub delay_name : Delay → List ℕ
   delay_name (Calls f) = fun_name (slice_get p.funs f)

@@ -7,8 +7,8 @@ ghost use Rattle.grin_syntax.specs.Tree.{act_of, arm_of, arms_of, before_of, cod
 ghost use Rattle.grin_syntax.specs.declared.program.Val.TheVariants.{Node, NodeVar};
 ghost use Rattle.grin_translate.specs.Tags.{tag};
 ghost use Rattle.grin_translate.specs.Blocks.{word as word_of, node as node_of, cell_of, operation as operation_of, on_number as number_case, apply_block, prim_block, form_block, form_temps, block as block_of, temps, arms, branch_temps};
-ghost use Rattle.grin_translate.specs.Pieces.{result_of, evaluated_of, cell_at};
-ghost use Rattle.grin_translate.specs.Numbered.{AreNumbers};
+ghost use Rattle.grin_translate.specs.Pieces.{result_of, evaluated_of, cell_of_local};
+ghost use Rattle.grin_translate.specs.Numbered.{NumbersMatchProgram};
 
 use crate::numbering::{Numbers, params};
 use crate::tags::{Delay, Kind};
@@ -37,7 +37,7 @@ pub fn operation(op: normal::PrimOp) -> PrimOp
 
 /// The word of a variable.
 fn word(p: &Checked, numbers: &Numbers, variables: &Variables, x: Var) -> Result<Word, AllocError>
-    requires { AreNumbers (program p.now) numbers.now }
+    requires { NumbersMatchProgram (program p.now) numbers.now }
     ensures { IfOk result (λ w. w ≡ word_of (program p.now) variables.now.base x) }
 {
     match x {
@@ -54,7 +54,7 @@ fn words(
     before: Seq<Word>,
     xs: &[Var],
 ) -> Result<Seq<Word>, AllocError>
-    requires { AreNumbers (program p.now) numbers.now }
+    requires { NumbersMatchProgram (program p.now) numbers.now }
     ensures { IfOk result (λ ws. ws ≡ before
         ++ map (word_of (program p.now) variables.now.base) xs.now) }
 {
@@ -74,7 +74,7 @@ fn node_of_all(
     kind: Kind,
     xs: &[Var],
 ) -> Result<Val, AllocError>
-    requires { AreNumbers (program p.now) numbers.now }
+    requires { NumbersMatchProgram (program p.now) numbers.now }
     ensures { IfOk result (λ v. v
         ≡ Node (tag (program p.now) kind)
         (map (word_of (program p.now) variables.now.base) xs.now)) }
@@ -91,7 +91,7 @@ fn node(
     variables: &Variables,
     flat: &Flat,
 ) -> Result<Val, AllocError>
-    requires { AreNumbers (program p.now) numbers.now }
+    requires { NumbersMatchProgram (program p.now) numbers.now }
     ensures { IfOk result (λ v. v ≡ node_of (program p.now) variables.now.base flat.now) }
 {
     match flat {
@@ -135,7 +135,7 @@ fn cells(
     variables: &Variables,
     group: &[Bound],
 ) -> Result<Seq<Cell>, AllocError>
-    requires { AreNumbers (program p.now) numbers.now }
+    requires { NumbersMatchProgram (program p.now) numbers.now }
     ensures { IfOk result (λ cs. cs ≡ map (cell_of (program p.now) variables.now.base) group.now) }
 {
     let mut made = Seq::new(alloc);
@@ -181,7 +181,7 @@ fn on_number(
     i: VarId,
     then: Block,
 ) -> Result<Op, AllocError>
-    requires { AreNumbers (program p.now) numbers.now }
+    requires { NumbersMatchProgram (program p.now) numbers.now }
     ensures { IfOk result (λ o. end (act_of o) ≡ number_case (program p.now) 0 v i (code_of then)) }
 {
     let mut fields = Seq::new(alloc);
@@ -205,7 +205,7 @@ fn result_block(
     j: VarId,
     k: VarId,
 ) -> Result<Block, AllocError>
-    requires { AreNumbers (program p.now) numbers.now }
+    requires { NumbersMatchProgram (program p.now) numbers.now }
     ensures { IfOk result (λ b. code_of b ≡ result_of (program p.now) op i j k) }
 {
     let mut fields = Seq::new(alloc);
@@ -233,7 +233,7 @@ pub fn evaluated(
     i: VarId,
     then: Block,
 ) -> Result<Block, AllocError>
-    requires { AreNumbers (program p.now) numbers.now }
+    requires { NumbersMatchProgram (program p.now) numbers.now }
     ensures { IfOk result (λ b. code_of b
         ≡ all_before (map before_of before) (evaluated_of (program p.now) a v i (code_of then))) }
 {
@@ -254,7 +254,7 @@ pub fn primitive(
     x: Var,
     y: Var,
 ) -> Result<Block, AllocError>
-    requires { AreNumbers (program p.now) numbers.now }
+    requires { NumbersMatchProgram (program p.now) numbers.now }
     ensures is { IfOk result (λ b. code_of b
         ≡ all_before (map before_of before)
         (prim_block (program p.now) variables.old.base variables.old.bound op
@@ -285,7 +285,7 @@ pub fn application(
     x: Var,
     xs: &[Var],
 ) -> Result<Block, AllocError>
-    requires { AreNumbers (program p.now) numbers.now }
+    requires { NumbersMatchProgram (program p.now) numbers.now }
     ensures is { IfOk result (λ b. code_of b
         ≡ all_before (map before_of before)
         (apply_block (program p.now) variables.old.base variables.old.bound
@@ -313,7 +313,7 @@ fn form(
     before: Seq<Stmt>,
     flat: &Flat,
 ) -> Result<Block, AllocError>
-    requires { AreNumbers (program p.now) numbers.now }
+    requires { NumbersMatchProgram (program p.now) numbers.now }
     ensures is { IfOk result (λ b. code_of b
         ≡ all_before (map before_of before)
         (form_block (program p.now) variables.old.base variables.old.bound flat.now)) }
@@ -384,7 +384,7 @@ pub fn alternative_of(pattern: Shape, body: Block) -> Alt
 /// The store that binds a local to the node v.
 fn named(alloc: Global, variables: &Variables, v: VarId, x: u32) -> Result<Seq<Stmt>, AllocError>
     ensures { IfOk result (λ ss. (c : Code) → all_before (map before_of ss) c
-        ≡ store (cell_at variables.now.base x (NodeVar v) ∷ []) c) }
+        ≡ store (cell_of_local variables.now.base x (NodeVar v) ∷ []) c) }
 {
     let var = variables.local(x)?;
     let mut cells = Seq::new(alloc);
@@ -408,7 +408,7 @@ pub fn block(
     body: &Body,
     before: Seq<Stmt>,
 ) -> Result<Block, AllocError>
-    requires { AreNumbers (program p.now) numbers.now }
+    requires { NumbersMatchProgram (program p.now) numbers.now }
     ensures is { IfOk result (λ b. code_of b
         ≡ all_before (map before_of before)
         (block_of (program p.now) variables.old.base variables.old.bound (term body.now))) }
@@ -445,7 +445,7 @@ fn alternative(
     v: VarId,
     each: &Branch,
 ) -> Result<(Alt, bool), AllocError>
-    requires { AreNumbers (program p.now) numbers.now }
+    requires { NumbersMatchProgram (program p.now) numbers.now }
     ensures is { IfOk result (λ r. (rest : Branches)
         → arms (program p.now) variables.old.base v variables.old.bound (branch each.now rest)
         ≡ arm (arm_of r.0).0 (arm_of r.0).1
@@ -494,7 +494,7 @@ fn alternatives(
     v: VarId,
     branches: &[Branch],
 ) -> Result<Seq<Alt>, AllocError>
-    requires { AreNumbers (program p.now) numbers.now }
+    requires { NumbersMatchProgram (program p.now) numbers.now }
     ensures is { IfOk result (λ alts. arms_of (map arm_of alts)
         ≡ arms (program p.now) variables.old.base v variables.old.bound
         (branches_of (map branch branches.now))) }

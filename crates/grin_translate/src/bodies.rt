@@ -8,12 +8,12 @@ ghost use Rattle.grin_syntax.specs.Tree.{code_of, procedure_of};
 ghost use Rattle.grin_translate.specs.declared.tags.Delay.TheVariants.{Calls, Applies};
 ghost use Rattle.grin_translate.specs.Tags.{delay_name, delay_params};
 ghost use Rattle.grin_translate.specs.Translation.{procedure as procedure_in, delay_body, span};
-ghost use Rattle.grin_translate.specs.Numbered.{AreNumbers};
+ghost use Rattle.grin_translate.specs.Numbered.{NumbersMatchProgram};
 ghost use Rattle.seq.specs.Lists.{numbers_from};
 
 use crate::block::{application, block, ended, primitive};
-use crate::counts::bound_in;
-use crate::names::{waiting_name, waiting_params};
+use crate::counts::count_bound_locals;
+use crate::names::{thunk_arity, thunk_name};
 use crate::numbering::Numbers;
 use crate::procedures::{input_block, procedure};
 use crate::tags::Delay;
@@ -48,7 +48,7 @@ fn function_block(
     base: u32,
     f: u32,
 ) -> Result<(Block, u32), AllocError>
-    requires { AreNumbers (program p.now) numbers.now }
+    requires { NumbersMatchProgram (program p.now) numbers.now }
     ensures is { IfOk result (λ r. code_of r.0 ≡ delay_body (program p.now) base (Calls f)) }
     ensures numbers { IfOk result (λ r. r.1 ≡ span (program p.now) (Calls f)) }
 {
@@ -57,7 +57,7 @@ fn function_block(
         Some(fun) => {
             let mut variables = Variables { base, bound: 0 };
             let body = block(alloc, p, numbers, &mut variables, &fun.body, none)?;
-            let binders = bound_in(&fun.body)?;
+            let binders = count_bound_locals(&fun.body)?;
             let locals = sum(fun.params, binders)?;
             let most = greater(locals, variables.bound);
             let count = sum(most, most)?;
@@ -77,7 +77,7 @@ fn application_block(
     base: u32,
     args: u32,
 ) -> Result<(Block, u32), AllocError>
-    requires { AreNumbers (program p.now) numbers.now }
+    requires { NumbersMatchProgram (program p.now) numbers.now }
     ensures is { IfOk result (λ r. code_of r.0 ≡ delay_body (program p.now) base (Applies args)) }
     ensures numbers { IfOk result (λ r. r.1 ≡ span (program p.now) (Applies args)) }
 {
@@ -105,7 +105,7 @@ fn waiting_block(
     base: u32,
     delay: Delay,
 ) -> Result<(Block, u32), AllocError>
-    requires { AreNumbers (program p.now) numbers.now }
+    requires { NumbersMatchProgram (program p.now) numbers.now }
     ensures is { IfOk result (λ r. code_of r.0 ≡ delay_body (program p.now) base delay) }
     ensures numbers { IfOk result (λ r. r.1 ≡ span (program p.now) delay) }
 {
@@ -135,21 +135,21 @@ fn waiting_block(
 
 /// The procedure of what waits, whose variables begin with the number `base`, and the first number
 /// after its variables.
-pub fn waiting_procedure(
+pub fn thunk_procedure(
     alloc: Global,
     p: &Checked,
     numbers: &Numbers,
     base: u32,
     delay: Delay,
 ) -> Result<(Proc, u32), AllocError>
-    requires { AreNumbers (program p.now) numbers.now }
+    requires { NumbersMatchProgram (program p.now) numbers.now }
     ensures is { IfOk result (λ r. procedure_of r.0
         ≡ procedure_in (program p.now) base (delay_name (program p.now) delay)
         (delay_params (program p.now) delay) (delay_body (program p.now) base delay)) }
     ensures next { IfOk result (λ r. r.1 ≡ base + span (program p.now) delay) }
 {
-    let name = waiting_name(alloc, p, delay)?;
-    let params = waiting_params(p, delay)?;
+    let name = thunk_name(alloc, p, delay)?;
+    let params = thunk_arity(p, delay)?;
     let (body, count) = waiting_block(alloc, p, numbers, base, delay)?;
     let next = sum(base, count)?;
     let variables = Variables { base, bound: 0 };

@@ -11,18 +11,18 @@ use std::alloc::AllocError;
 
 /// The number of locals that an expression binds.
 #[cycle(counting)]
-pub fn bound_in(body: &Body) -> Result<u32, AllocError>
+pub fn count_bound_locals(body: &Body) -> Result<u32, AllocError>
     ensures { IfOk result (λ n. n ≡ binders (term body.now)) }
 {
     match body {
         Body::App(_) => Ok(0),
         Body::Let(group, inner) => {
             let here = as_u32(group.len())?;
-            let rest = bound_in(inner)?;
+            let rest = count_bound_locals(inner)?;
             sum(here, rest)
         }
         Body::Case(tested, branches) => {
-            let first = bound_in(tested)?;
+            let first = count_bound_locals(tested)?;
             bound_in_all(first, branches.as_slice())
         }
     }
@@ -50,12 +50,12 @@ fn bound_in_each(each: &Branch) -> Result<u32, AllocError>
     match each {
         Branch::Con(_, fields, inner) => {
             let here = as_u32(fields.len())?;
-            let body = bound_in(inner)?;
+            let body = count_bound_locals(inner)?;
             sum(here, body)
         }
-        Branch::Int(_, inner) => bound_in(inner),
+        Branch::Int(_, inner) => count_bound_locals(inner),
         Branch::Default(name, inner) => {
-            let body = bound_in(inner)?;
+            let body = count_bound_locals(inner)?;
             match name {
                 None => Ok(body),
                 Some(_) => sum(1, body),

@@ -1,8 +1,8 @@
 //! The translation of a program in normal form to GRIN.
 //!
 //! `translate` gives exactly the program that `specs/Translation` says, with the tags of
-//! `specs/Tags` and the blocks of `specs/Blocks`. `translation_does_as` says that it does what
-//! evaluation by need does, and `translation_refines` that this holds for each program that
+//! `specs/Tags` and the blocks of `specs/Blocks`. `translation_preserves_runs` says that it does
+//! what evaluation by need does, and `translation_refines` that this holds for each program that
 //! breaks no rule. `specs/Lib` names the devices of the proofs apart.
 #![tactic(auto)]
 
@@ -10,7 +10,7 @@ ghost use Rattle.std.specs.Prelude.{◌≡◌, IfOk};
 ghost use Rattle.arity_check.specs.Program.{program};
 ghost use Rattle.grin_syntax.specs.Tree.{program_of};
 ghost use Rattle.grin_translate.specs.Translation.{tr};
-ghost use Rattle.grin_translate.specs.Same.{TranslationDoesAs, ValidTranslationDoesAs};
+ghost use Rattle.grin_translate.specs.Same.{TranslationPreservesRuns, ValidTranslationPreservesRuns};
 
 mod block;
 mod bodies;
@@ -59,11 +59,11 @@ pub fn translate(alloc: Global, p: &Checked) -> Result<Grin, AllocError>
 }
 
 /// The translated program does what the program means.
-pub fn translation_does_as()
-    ensures { TranslationDoesAs }
+pub fn translation_preserves_runs()
+    ensures { TranslationPreservesRuns }
 {}
 
 /// The translation of the normal form of a program that breaks no rule does what the program means.
 pub fn translation_refines()
-    ensures { ValidTranslationDoesAs }
+    ensures { ValidTranslationPreservesRuns }
 {}

@@ -8,11 +8,11 @@ ghost use Rattle.grin_translate.specs.declared.tags.Kind.TheVariants.{Constructo
 ghost use Rattle.grin_translate.specs.Tags.{tag_of as tag_in, parts, function_parts, kinds, delays};
 ghost use Rattle.grin_translate.specs.Translation.{global_cells, delayed_procs, rest, tr};
 ghost use Rattle.grin_translate.specs.Pieces.{shared_of, start_if};
-ghost use Rattle.grin_translate.specs.Numbered.{AreNumbers};
+ghost use Rattle.grin_translate.specs.Numbered.{NumbersMatchProgram};
 ghost use Rattle.seq.specs.Lists.{numbers_from};
 
-use crate::bodies::waiting_procedure;
-use crate::names::{function_name, waiting_name, waiting_params};
+use crate::bodies::thunk_procedure;
+use crate::names::{function_name, thunk_arity, thunk_name};
 use crate::numbering::{Numbers, params};
 use crate::procedures::{print_procedure, start_procedure};
 use crate::tags::{Delay, Kind};
@@ -25,7 +25,7 @@ use std::alloc::{AllocError, Global};
 
 /// The tag of a kind.
 fn tag_of(alloc: Global, p: &Checked, numbers: &Numbers, kind: Kind) -> Result<Tag, AllocError>
-    requires { AreNumbers (program p.now) numbers.now }
+    requires { NumbersMatchProgram (program p.now) numbers.now }
     ensures { IfOk result (λ t. t ≡ tag_in (program p.now) kind) }
 {
     match kind {
@@ -39,9 +39,9 @@ fn tag_of(alloc: Global, p: &Checked, numbers: &Numbers, kind: Kind) -> Result<T
         Kind::Constructor(c) => constructor_tag(alloc, p, c),
         Kind::Waits(delay) => Ok(Tag {
             kind: TagKind::Fun,
-            name: waiting_name(alloc, p, delay)?,
+            name: thunk_name(alloc, p, delay)?,
             missing: 0,
-            fields: waiting_params(p, delay)?,
+            fields: thunk_arity(p, delay)?,
             proc: Some(numbers.proc(p, delay)),
         }),
         Kind::Lacks(f, missing) => Ok(Tag {
@@ -82,7 +82,7 @@ fn constructor_tags(
     numbers: &Numbers,
     before: Seq<Tag>,
 ) -> Result<Seq<Tag>, AllocError>
-    requires { AreNumbers (program p.now) numbers.now }
+    requires { NumbersMatchProgram (program p.now) numbers.now }
     ensures { IfOk result (λ ts. ts ≡ before
         ++ map (λ c. tag_in (program p.now) (Constructor c))
         (numbers_from 0 numbers.now.constructors)) }
@@ -102,7 +102,7 @@ fn waiting_tags(
     numbers: &Numbers,
     before: Seq<Tag>,
 ) -> Result<Seq<Tag>, AllocError>
-    requires { AreNumbers (program p.now) numbers.now }
+    requires { NumbersMatchProgram (program p.now) numbers.now }
     ensures { IfOk result (λ ts. ts ≡ before
         ++ map (λ d. tag_in (program p.now) (Waits d)) numbers.now.delays) }
 {
@@ -122,7 +122,7 @@ fn part_tags(
     f: u32,
     before: Seq<Tag>,
 ) -> Result<Seq<Tag>, AllocError>
-    requires { AreNumbers (program p.now) numbers.now }
+    requires { NumbersMatchProgram (program p.now) numbers.now }
     ensures { IfOk result (λ ts. ts ≡ before
         ++ map (tag_in (program p.now)) (function_parts f (params_of (program p.now) f))) }
 {
@@ -142,7 +142,7 @@ fn all_part_tags(
     numbers: &Numbers,
     before: Seq<Tag>,
 ) -> Result<Seq<Tag>, AllocError>
-    requires { AreNumbers (program p.now) numbers.now }
+    requires { NumbersMatchProgram (program p.now) numbers.now }
     ensures { IfOk result (λ ts. ts ≡ before
         ++ map (tag_in (program p.now)) (parts (program p.now).funs 0)) }
 {
@@ -155,7 +155,7 @@ fn all_part_tags(
 
 /// The tags of a program, in their order.
 pub fn tags(alloc: Global, p: &Checked, numbers: &Numbers) -> Result<Seq<Tag>, AllocError>
-    requires { AreNumbers (program p.now) numbers.now }
+    requires { NumbersMatchProgram (program p.now) numbers.now }
     ensures { IfOk result (λ ts. ts ≡ map (tag_in (program p.now)) (kinds (program p.now))) }
 {
     let number = tag_of(alloc, p, numbers, Kind::Number)?;
@@ -174,7 +174,7 @@ fn shared_cell(
     f: u32,
     before: Seq<GlobalCell>,
 ) -> Result<Seq<GlobalCell>, AllocError>
-    requires { AreNumbers (program p.now) numbers.now }
+    requires { NumbersMatchProgram (program p.now) numbers.now }
     ensures { IfOk result (λ cs. cs ≡ before ++ shared_of (program p.now) f) }
 {
     let mut made = before;
@@ -191,7 +191,7 @@ fn shared_cell(
 
 /// The global cells of a program.
 pub fn globals(alloc: Global, p: &Checked, numbers: &Numbers) -> Result<Seq<GlobalCell>, AllocError>
-    requires { AreNumbers (program p.now) numbers.now }
+    requires { NumbersMatchProgram (program p.now) numbers.now }
     ensures { IfOk result (λ cs. cs ≡ global_cells (program p.now) (program p.now).funs 0) }
 {
     let mut made = Seq::new(alloc);
@@ -207,7 +207,7 @@ fn waiting_procedures(
     p: &Checked,
     numbers: &Numbers,
 ) -> Result<(Seq<Proc>, u32), AllocError>
-    requires { AreNumbers (program p.now) numbers.now }
+    requires { NumbersMatchProgram (program p.now) numbers.now }
     ensures is { IfOk result (λ r. map procedure_of r.0
         ≡ delayed_procs (program p.now) (length (program p.now).funs) (delays (program p.now))) }
     ensures next { IfOk result (λ r. r.1 ≡ rest (program p.now)) }
@@ -216,7 +216,7 @@ fn waiting_procedures(
     let mut made = Seq::new(alloc);
     let waiting = numbers.delays.as_slice();
     for delay in waiting {
-        let (each, next) = waiting_procedure(alloc, p, numbers, base, *delay)?;
+        let (each, next) = thunk_procedure(alloc, p, numbers, base, *delay)?;
         made.push(each)?;
         base = next;
     }
@@ -231,7 +231,7 @@ fn with_start(
     base: u32,
     before: Seq<Proc>,
 ) -> Result<Seq<Proc>, AllocError>
-    requires { AreNumbers (program p.now) numbers.now }
+    requires { NumbersMatchProgram (program p.now) numbers.now }
     ensures { IfOk result (λ qs. map procedure_of qs ≡ map procedure_of before
         ++ start_if (program p.now) base) }
 {
@@ -247,7 +247,7 @@ fn with_start(
 
 /// The procedures of a program.
 pub fn procedures(alloc: Global, p: &Checked, numbers: &Numbers) -> Result<Seq<Proc>, AllocError>
-    requires { AreNumbers (program p.now) numbers.now }
+    requires { NumbersMatchProgram (program p.now) numbers.now }
     ensures { IfOk result (λ qs. map procedure_of qs ≡ (tr (program p.now)).procs) }
 {
     let (waiting, base) = waiting_procedures(alloc, p, numbers)?;

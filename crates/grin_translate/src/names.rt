@@ -48,7 +48,7 @@ fn application_name(alloc: Global, args: u32) -> Result<Text, AllocError>
 }
 
 /// The name of what waits: its procedure's and its tag's.
-pub fn waiting_name(alloc: Global, p: &Checked, delay: Delay) -> Result<Text, AllocError>
+pub fn thunk_name(alloc: Global, p: &Checked, delay: Delay) -> Result<Text, AllocError>
     ensures { IfOk result (λ n. n ≡ delay_name (program p.now) delay) }
 {
     match delay {
@@ -60,7 +60,7 @@ pub fn waiting_name(alloc: Global, p: &Checked, delay: Delay) -> Result<Text, Al
 }
 
 /// The number of parameters of what waits.
-pub fn waiting_params(p: &Checked, delay: Delay) -> Result<u32, AllocError>
+pub fn thunk_arity(p: &Checked, delay: Delay) -> Result<u32, AllocError>
     ensures { IfOk result (λ n. n ≡ delay_params (program p.now) delay) }
 {
     match delay {

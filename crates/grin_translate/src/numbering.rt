@@ -3,8 +3,8 @@
 ghost use Rattle.std.specs.Prelude.{◌≡◌, ◌≤◌, length, map, drop, IfOk};
 ghost use Rattle.arity_check.specs.Program.{program};
 ghost use Rattle.core_meaning.specs.Evaluation.{params, global};
-ghost use Rattle.grin_translate.specs.Tags.{tag, proc, first_place, same_delay};
-ghost use Rattle.grin_translate.specs.Numbered.{AreNumbers, NoCall, starts, after, shared_before, shared_in};
+ghost use Rattle.grin_translate.specs.Tags.{tag, proc, first_index_where, same_thunk_kind};
+ghost use Rattle.grin_translate.specs.Numbered.{NumbersMatchProgram, IsNotCall, prefix_sums, after, globals_before, global_count};
 
 use crate::tags::{Delay, Kind};
 use crate::variables::{as_u32, sum};
@@ -26,7 +26,7 @@ pub fn params(p: &Checked, f: u32) -> u32
 
 /// The place of what waits in a list, or the list's length where it isn't there.
 fn place_in(delay: Delay, list: &[Delay]) -> usize
-    ensures place { result ≡ first_place (same_delay delay) list.now }
+    ensures place { result ≡ first_index_where (same_thunk_kind delay) list.now }
     ensures within { result ≤ length list.now }
 {
     for (at, other) in list.iter().enumerate() {
@@ -68,7 +68,7 @@ pub struct Numbers {
 /// Numbers that begin with `first`, and for each function the next one after as many as the
 /// function before has parameters; with the number after the last.
 fn parts_from(alloc: Global, first: u32, functions: &[Fun]) -> Result<(Vec<u32>, u32), AllocError>
-    ensures { IfOk result (λ r. (r.0.items ≡ starts first (map (λ f. f.params) functions.now))
+    ensures { IfOk result (λ r. (r.0.items ≡ prefix_sums first (map (λ f. f.params) functions.now))
         × (r.1 ≡ after first (map (λ f. f.params) functions.now))) }
 {
     let mut next = first;
@@ -81,9 +81,9 @@ fn parts_from(alloc: Global, first: u32, functions: &[Fun]) -> Result<(Vec<u32>,
 }
 
 /// For each function the number of functions without parameters before it; with the number of all.
-fn shared_before(alloc: Global, functions: &[Fun]) -> Result<(Vec<u32>, u32), AllocError>
-    ensures { IfOk result (λ r. (r.0.items ≡ shared_before 0 (map (λ f. f.params) functions.now))
-        × (r.1 ≡ shared_in 0 (map (λ f. f.params) functions.now))) }
+fn globals_before(alloc: Global, functions: &[Fun]) -> Result<(Vec<u32>, u32), AllocError>
+    ensures { IfOk result (λ r. (r.0.items ≡ globals_before 0 (map (λ f. f.params) functions.now))
+        × (r.1 ≡ global_count 0 (map (λ f. f.params) functions.now))) }
 {
     let mut count = 0_u32;
     let mut globals = Vec::new(alloc);
@@ -99,7 +99,7 @@ fn shared_before(alloc: Global, functions: &[Fun]) -> Result<(Vec<u32>, u32), Al
 impl Numbers {
     /// The numbers of a program.
     pub fn new(alloc: Global, p: &Checked) -> Result<Numbers, AllocError>
-        ensures { IfOk result (λ n. AreNumbers (program p.now) n) }
+        ensures { IfOk result (λ n. NumbersMatchProgram (program p.now) n) }
     {
         let functions = as_u32(p.funs.len())?;
         let constructors = as_u32(p.cons.len())?;
@@ -107,7 +107,7 @@ impl Numbers {
         let waiting = as_u32(delays.len())?;
         let first = sum(sum(1, constructors)?, waiting)?;
         let (parts, tags) = parts_from(alloc, first, p.funs.as_slice())?;
-        let (globals, shared) = shared_before(alloc, p.funs.as_slice())?;
+        let (globals, shared) = globals_before(alloc, p.funs.as_slice())?;
         Ok(Numbers {
             functions,
             constructors,
@@ -121,7 +121,7 @@ impl Numbers {
     }
 
     fn place_of_call(&self, p: &Checked, f: u32) -> u32
-        requires { AreNumbers (program p.now) self.now }
+        requires { NumbersMatchProgram (program p.now) self.now }
         ensures { result ≡ (proc (program p.now) (Delay.Calls f)).0 }
     {
         if f < self.functions {
@@ -131,8 +131,8 @@ impl Numbers {
     }
 
     fn place_of_other(&self, p: &Checked, delay: Delay) -> u32
-        requires { AreNumbers (program p.now) self.now }
-        ensures { NoCall delay → result ≡ (proc (program p.now) delay).0 }
+        requires { NumbersMatchProgram (program p.now) self.now }
+        ensures { IsNotCall delay → result ≡ (proc (program p.now) delay).0 }
     {
         let _waiting = self.waiting;
         let others = rest(self.delays.as_slice(), self.functions as usize);
@@ -141,7 +141,7 @@ impl Numbers {
 
     /// The place of what waits among all that waits, or their number where it isn't there.
     fn place(&self, p: &Checked, delay: Delay) -> u32
-        requires { AreNumbers (program p.now) self.now }
+        requires { NumbersMatchProgram (program p.now) self.now }
         ensures { result ≡ (proc (program p.now) delay).0 }
     {
         match delay {
@@ -154,14 +154,14 @@ impl Numbers {
 
     /// The procedure of what waits.
     pub fn proc(&self, p: &Checked, delay: Delay) -> ProcId
-        requires { AreNumbers (program p.now) self.now }
+        requires { NumbersMatchProgram (program p.now) self.now }
         ensures { result ≡ proc (program p.now) delay }
     {
         ProcId(self.place(p, delay))
     }
 
     fn constructor(&self, p: &Checked, c: u32) -> u32
-        requires { AreNumbers (program p.now) self.now }
+        requires { NumbersMatchProgram (program p.now) self.now }
         ensures { result ≡ (tag (program p.now) (Kind.Constructor c)).0 }
     {
         if c < self.constructors {
@@ -171,7 +171,7 @@ impl Numbers {
     }
 
     fn waits(&self, p: &Checked, delay: Delay) -> u32
-        requires { AreNumbers (program p.now) self.now }
+        requires { NumbersMatchProgram (program p.now) self.now }
         ensures { result ≡ (tag (program p.now) (Kind.Waits delay)).0 }
     {
         let tags = self.tags;
@@ -183,7 +183,7 @@ impl Numbers {
     }
 
     fn lacks(&self, p: &Checked, f: u32, missing: u32) -> u32
-        requires { AreNumbers (program p.now) self.now }
+        requires { NumbersMatchProgram (program p.now) self.now }
         ensures { result ≡ (tag (program p.now) (Kind.Lacks f missing)).0 }
     {
         let tags = self.tags;
@@ -202,7 +202,7 @@ impl Numbers {
 
     /// The tag of a kind.
     pub fn tag(&self, p: &Checked, kind: Kind) -> TagId
-        requires { AreNumbers (program p.now) self.now }
+        requires { NumbersMatchProgram (program p.now) self.now }
         ensures { result ≡ tag (program p.now) kind }
     {
         let number = match kind {
@@ -216,7 +216,7 @@ impl Numbers {
 
     /// The global cell of a function without parameters.
     pub fn global(&self, p: &Checked, f: u32) -> u32
-        requires { AreNumbers (program p.now) self.now }
+        requires { NumbersMatchProgram (program p.now) self.now }
         ensures { result ≡ global (program p.now) f }
     {
         match self.globals.get(f as usize) {

@@ -7,8 +7,8 @@ ghost use Rattle.grin_syntax.specs.declared.program.Word.TheVariants.{Var};
 ghost use Rattle.grin_syntax.specs.Tree.{act_of, code_of, procedure_of, call, end};
 ghost use Rattle.grin_translate.specs.Translation as translation;
 ghost use Rattle.grin_translate.specs.Translation.{procedure as procedure_in, print, print_body, list_block, start_body, input_body};
-ghost use Rattle.grin_translate.specs.Pieces.{cell_at, more_of};
-ghost use Rattle.grin_translate.specs.Numbered.{AreNumbers};
+ghost use Rattle.grin_translate.specs.Pieces.{cell_of_local, more_of};
+ghost use Rattle.grin_translate.specs.Numbered.{NumbersMatchProgram};
 
 use crate::block::{alternative_of, else_fail, ended, evaluated};
 use crate::names::constructor_named;
@@ -48,7 +48,7 @@ pub fn procedure(
 
 /// A call of the printing loop.
 fn print_call(alloc: Global, p: &Checked, numbers: &Numbers, list: VarId) -> Result<Op, AllocError>
-    requires { AreNumbers (program p.now) numbers.now }
+    requires { NumbersMatchProgram (program p.now) numbers.now }
     ensures { IfOk result (λ o. act_of o ≡ call (print (program p.now)) (Var list ∷ [])) }
 {
     let mut args = Seq::new(alloc);
@@ -63,7 +63,7 @@ fn write_block(
     numbers: &Numbers,
     variables: &Variables,
 ) -> Result<Block, AllocError>
-    requires { AreNumbers (program p.now) numbers.now }
+    requires { NumbersMatchProgram (program p.now) numbers.now }
     ensures { IfOk result (λ b. code_of b
         ≡ translation.write_block (program p.now) variables.now.base) }
 {
@@ -82,7 +82,7 @@ fn pair_block(
     numbers: &Numbers,
     variables: &Variables,
 ) -> Result<Block, AllocError>
-    requires { AreNumbers (program p.now) numbers.now }
+    requires { NumbersMatchProgram (program p.now) numbers.now }
     ensures { IfOk result (λ b. code_of b
         ≡ translation.pair_block (program p.now) variables.now.base) }
 {
@@ -104,7 +104,7 @@ fn pair_block(
 
 /// What gives the empty list.
 fn nil_block(alloc: Global, p: &Checked, numbers: &Numbers) -> Result<Block, AllocError>
-    requires { AreNumbers (program p.now) numbers.now }
+    requires { NumbersMatchProgram (program p.now) numbers.now }
     ensures { IfOk result (λ b. code_of b ≡ translation.nil_block (program p.now) 0) }
 {
     let nil = constructor_named(b"Nil", p.cons.as_slice())?;
@@ -123,7 +123,7 @@ fn list_case(
     numbers: &Numbers,
     variables: &Variables,
 ) -> Result<Op, AllocError>
-    requires { AreNumbers (program p.now) numbers.now }
+    requires { NumbersMatchProgram (program p.now) numbers.now }
     ensures { IfOk result (λ o. end (act_of o) ≡ list_block (program p.now) variables.now.base) }
 {
     let nil = constructor_named(b"Nil", p.cons.as_slice())?;
@@ -150,7 +150,7 @@ fn print_block(
     numbers: &Numbers,
     variables: &Variables,
 ) -> Result<Block, AllocError>
-    requires { AreNumbers (program p.now) numbers.now }
+    requires { NumbersMatchProgram (program p.now) numbers.now }
     ensures { IfOk result (λ b. code_of b ≡ print_body (program p.now) variables.now.base) }
 {
     let list = variables.local(0)?;
@@ -168,7 +168,7 @@ pub fn print_procedure(
     numbers: &Numbers,
     base: u32,
 ) -> Result<Proc, AllocError>
-    requires { AreNumbers (program p.now) numbers.now }
+    requires { NumbersMatchProgram (program p.now) numbers.now }
     ensures { IfOk result (λ q. procedure_of q
         ≡ procedure_in (program p.now) base (codes "@print") 1 (print_body (program p.now) base)) }
 {
@@ -180,7 +180,7 @@ pub fn print_procedure(
 
 /// A cell of a local.
 fn cell(variables: &Variables, x: u32, val: Val) -> Result<Cell, AllocError>
-    ensures { IfOk result (λ c. c ≡ cell_at variables.now.base x val) }
+    ensures { IfOk result (λ c. c ≡ cell_of_local variables.now.base x val) }
 {
     let var = variables.local(x)?;
     Ok(Cell {
@@ -196,7 +196,7 @@ fn start_block(
     numbers: &Numbers,
     variables: &Variables,
 ) -> Result<Block, AllocError>
-    requires { AreNumbers (program p.now) numbers.now }
+    requires { NumbersMatchProgram (program p.now) numbers.now }
     ensures { IfOk result (λ b. code_of b ≡ start_body (program p.now) variables.now.base) }
 {
     let input = Val::Node(numbers.tag(p, Kind::Waits(Delay::Reads)), Seq::new(alloc));
@@ -219,7 +219,7 @@ pub fn start_procedure(
     numbers: &Numbers,
     base: u32,
 ) -> Result<Proc, AllocError>
-    requires { AreNumbers (program p.now) numbers.now }
+    requires { NumbersMatchProgram (program p.now) numbers.now }
     ensures { IfOk result (λ q. procedure_of q
         ≡ procedure_in (program p.now) base (codes "@start") 0 (start_body (program p.now) base)) }
 {
@@ -236,7 +236,7 @@ fn more_block(
     numbers: &Numbers,
     variables: &Variables,
 ) -> Result<Block, AllocError>
-    requires { AreNumbers (program p.now) numbers.now }
+    requires { NumbersMatchProgram (program p.now) numbers.now }
     ensures { IfOk result (λ b. code_of b ≡ more_of (program p.now) variables.now.base) }
 {
     let cons = constructor_named(b"Cons", p.cons.as_slice())?;
@@ -269,7 +269,7 @@ pub fn input_block(
     numbers: &Numbers,
     variables: &Variables,
 ) -> Result<Block, AllocError>
-    requires { AreNumbers (program p.now) numbers.now }
+    requires { NumbersMatchProgram (program p.now) numbers.now }
     ensures { IfOk result (λ b. code_of b ≡ input_body (program p.now) variables.now.base) }
 {
     let byte = variables.value(0)?;

@@ -1,7 +1,7 @@
 //! What the tags and the procedures of a translated program stand for.
 
 ghost use Rattle.std.specs.Prelude.{◌≡◌};
-ghost use Rattle.grin_translate.specs.Tags.{same_delay};
+ghost use Rattle.grin_translate.specs.Tags.{same_thunk_kind};
 
 use arity_check::normal::PrimOp;
 
@@ -23,7 +23,7 @@ impl Delay {
     /// Whether two cells wait for the same: a call of one function, an application to as many
     /// arguments, one operation, or the rest of the input.
     pub fn is_same(self, other: Delay) -> bool
-        ensures { result ≡ same_delay self other }
+        ensures { result ≡ same_thunk_kind self other }
     {
         match self {
             Delay::Calls(f) => match other {

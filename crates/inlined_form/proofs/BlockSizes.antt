@@ -5,7 +5,7 @@ use Rattle.std.proofs.lemmas.List.{length-map}
 use Rattle.core_reader.specs.Tree as tree
 use Rattle.core_reader.specs.Tree.{Expr, Alts, NoAlts, AndAlt}
 use Rattle.core_reader.specs.Size.{expr_size, alts_size}
-use Rattle.core_reader.specs.Grammar.{IsSomeAlts}
+use Rattle.core_reader.specs.Grammar.{IsNonemptyAlts}
 use Rattle.core_reader.specs.Readable.{ReadableExpr, ReadableAlts}
 use Rattle.arity_check.specs.declared.normal.Flat.{Flat}
 use Rattle.arity_check.specs.declared.normal.Flat.TheVariants as flat
@@ -68,7 +68,7 @@ module _ (q : Program) (base : ℕ) where
   paid NoAlts = 0
   paid (AndAlt pattern body rest) = 5
 
-  all_paid : (alts : Alts) → IsSomeAlts alts → paid alts ≡ 5
+  all_paid : (alts : Alts) → IsNonemptyAlts alts → paid alts ≡ 5
   all_paid NoAlts h = absurd h
   all_paid (AndAlt pattern body rest) h = omega arith
 

@@ -12,10 +12,10 @@ use Rattle.flow_system.specs.Solution.{Solution}
 use Rattle.inlining.specs.Evaluations.{code_room, eval_procs, eval_inlined}
 use Rattle.inlining.specs.Applications.{apply_code_room, apply_procs, inlined}
 use Rattle.grin_translate.specs.Translation.{tr}
-use Rattle.core_meaning.specs.Printing.{printed, End, Done, Unaccepted, Going}
+use Rattle.core_meaning.specs.Printing.{printed, PrintingEnd, Done, Unaccepted, Going}
 use Rattle.core_meaning.specs.WellFormed.{WellFormed}
 use Rattle.arity_check.specs.Accepted.{IsValid}
-use Rattle.grin_translate.specs.Same.{end_as}
+use Rattle.grin_translate.specs.Same.{grin_end_of}
 use Rattle.grin_translate.proofs.Printing.{translation_does_as}
 use Rattle.translated_form.proofs.Bounds.{valid_few_words}
 use Rattle.translated_form.proofs.Limits.{valid_is_well_formed}
@@ -54,7 +54,7 @@ inlined_fits p A = applications_fit (eval_inlined A (tr p)) A (first_is_no_part 
 pub never_missing : (p : core.Program) → WellFormed p → (i : List ℕ) (n : ℕ) → end_of (run (tr p) i n) ≢ ended missing
 never_missing p ok i n = λ e. on (printed p i n).end (sym (translation_does_as p ok i n).same_end ∙ e)
   where
-    on : (e : End) → end_as e ≡ ended missing → ⊥
+    on : (e : PrintingEnd) → grin_end_of e ≡ ended missing → ⊥
     on Done h = cc
     on Unaccepted h = cc
     on Going h = cc

@@ -18,8 +18,8 @@ use Rattle.grin_syntax.specs.declared.program.Val as V
 use Rattle.grin_syntax.specs.declared.program.Val.TheVariants.{NodeVar, Node as NodeVal, Vector, One}
 use Rattle.grin_syntax.specs.Tree.{Code, end, store, bind, Act, unit, fetch, fetch_word, update, eval, apply, call, prim, read, write, case, nested, fail, Arms, no_arm, arm, Program}
 use Rattle.grin_syntax.specs.Formed.{AllOf}
-use Rattle.grin_meaning.specs.Values.{Datum, number, tag, cell, Node, Value, node, words, Env, HeapCell, World, Answer, gives, stops, then_do, need, and_then, Binding, with_vars, one_each, Fit, fits, fits_not, unclear, fit_of, fits_if, fields_fit, node_fit, number_fit, only_word, fields_of, made_node, as_node, word_of, words_of, value_of, node_of, bindings_of}
-use Rattle.grin_meaning.specs.Run.{Calls, act, code, arms, calls, choose, spend, spent, passing, places, cells_of, with_cells, place_of, number_of, on_numbers, byte_or_end, after_read, start_world}
+use Rattle.grin_meaning.specs.Values.{Datum, number, tag, cell, Node, Value, node, words, Env, HeapCell, World, Answer, gives, stops, then_do, need, and_then, Binding, with_vars, one_each, MatchOutcome, fits, fits_not, unclear, fit_of, fits_if, fields_fit, node_fit, number_fit, only_word, fields_of, made_node, as_node, word_of, words_of, value_of, node_of, bindings_of}
+use Rattle.grin_meaning.specs.Run.{Calls, act, code, arms, calls, choose, spend, spent, with_state_seen, places, cells_of, with_cells, place_of, number_of, apply_arithmetic, byte_or_end, after_read, start_world}
 use Rattle.flow_system.proofs.Lying.{from_some, if_map, if_is}
 use Rattle.inlined_form.proofs.Sorts.{Sort, anything, a_number, a_node, evaluated, Sorts, nothing_known, sorted, vars_sorted, cells_sorted, target_sorted, sort_of, IsNode, TargetFits, IsNumber, WordsFit, KeptFits, ScrutineeFits, delayed, GivenFits, alternative_sorted, ActFits, CodeFits, ArmsFit, ProcedureFits}
 use Rattle.grin_meaning.proofs.Fullness.{if_and}
@@ -208,7 +208,7 @@ module _ (p : Program) where
     pub has : env var.0 ≡ Some (node n)
     pub plain : PlainNode n
 
-  abbrev pub FitGoes : Sorts → Env → Fit → Type 0
+  abbrev pub FitGoes : Sorts → Env → MatchOutcome → Type 0
   FitGoes Γ env (fits bs) = Fits Γ (with_vars bs env)
   FitGoes Γ env fits_not = Unit {0}
   FitGoes Γ env unclear = Unit {0}
@@ -252,7 +252,7 @@ module _ (p : Program) where
       by_tag true e = fields_goes Γ' env (known (delayed p.tags t.0) refl (grind (arith, nat_tests))) xs n.fields
       by_tag false e = tt
 
-  choose_goes : (s : Sort) (Γ : Sorts) (env : Env) (f : Fit) (w : World) (k : List Binding → Answer) (other : Answer) → FitGoes Γ env f → ((bs : List Binding) → Fits Γ (with_vars bs env) → GivesSort s (k bs)) → GivesSort s other → GivesSort s (choose f w k other)
+  choose_goes : (s : Sort) (Γ : Sorts) (env : Env) (f : MatchOutcome) (w : World) (k : List Binding → Answer) (other : Answer) → FitGoes Γ env f → ((bs : List Binding) → Fits Γ (with_vars bs env) → GivesSort s (k bs)) → GivesSort s other → GivesSort s (choose f w k other)
   choose_goes s Γ env (fits bs) w k other h f o = f bs h
   choose_goes s Γ env fits_not w k other h f o = o
   choose_goes s Γ env unclear w k other h f o = tt
@@ -266,7 +266,7 @@ module _ (p : Program) where
   scrutinee Γ env f (Vector ws) h = absurd h
   scrutinee Γ env f (One a) h = absurd h
 
-  calculated : (f : PrimOp) (x y : Datum) → IfSome (on_numbers f x y) (HasSort p a_number)
+  calculated : (f : PrimOp) (x y : Datum) → IfSome (apply_arithmetic f x y) (HasSort p a_number)
   calculated f (number i) (number j) = tt
   calculated f (number i) (tag t) = tt
   calculated f (number i) (cell a) = tt
@@ -295,7 +295,7 @@ module _ (p : Program) where
       act_goes (eval a) Γ env d w g f h = absurd h
       act_goes (apply v a) Γ env d w g f h = absurd h.0
       act_goes (call q ws) Γ env d w g f h = need_is evaluated w (words_of p env ws) _ (λ xs _. cg.by q.0 xs d w g)
-      act_goes (prim q a b) Γ env d w g f h = need_is a_number w (word_of p env a) _ (λ x _. need_is a_number w (word_of p env b) _ (λ y _. need_goes (HasSort p a_number) a_number w (on_numbers q x y) _ (calculated q x y) (λ v l. (g, l))))
+      act_goes (prim q a b) Γ env d w g f h = need_is a_number w (word_of p env a) _ (λ x _. need_is a_number w (word_of p env b) _ (λ y _. need_goes (HasSort p a_number) a_number w (apply_arithmetic q x y) _ (calculated q x y) (λ v l. (g, l))))
       act_goes read Γ env d w g f h = reading_goes w.input w g
       act_goes (write a) Γ env d w g f h = need_is anything w (and_then (word_of p env a) number_of) _ (λ k _. (record { plain = g.plain }, tt))
       act_goes (case v as') Γ env d w g f h = need_goes (λ x. (n : Node) × (x ≡ node n) × IsOn env v n) evaluated w (value_of p env v) _ (scrutinee Γ env f v h.0)
@@ -309,15 +309,15 @@ module _ (p : Program) where
           let env' = with_vars (places (length w.cells) cs) env in
           let f' : Fits (cells_sorted cs Γ) env' = places_more cs (length w.cells) Γ env f in
           need_goes (AllOf PlainCell) evaluated w (cells_of p env' cs) _ (all_kept (cells_sorted cs Γ) env' f' cs h.0)
-          (λ hs l. code_goes b (cells_sorted cs Γ) env' d (passing env' (with_cells hs w)) (record { plain = all_append PlainCell w.cells hs g.plain l }) f' h.1)
+          (λ hs l. code_goes b (cells_sorted cs Γ) env' d (with_state_seen env' (with_cells hs w)) (record { plain = all_append PlainCell w.cells hs g.plain l }) f' h.1)
       code_goes (bind t o b) Γ env d w g f h = then_goes (sort_of o) evaluated (act p c env (suc d) o w) _ (act_goes o Γ env (suc d) w g f h.1)
           (λ v w' g' hv. need_goes (λ bs. Fits (target_sorted t (sort_of o) Γ) (with_vars bs env)) evaluated w' (bindings_of p t v) _ (target_more t (sort_of o) Γ env v h.0 f hv)
-          (λ bs f'. code_goes b (target_sorted t (sort_of o) Γ) (with_vars bs env) d (passing (with_vars bs env) w') (record { plain = g'.plain }) f' h.2))
+          (λ bs f'. code_goes b (target_sorted t (sort_of o) Γ) (with_vars bs env) d (with_state_seen (with_vars bs env) w') (record { plain = g'.plain }) f' h.2))
 
       pub arms_go : (as' : Arms) (Γ : Sorts) (env : Env) (v : V.Val) (n : Node) (d : ℕ) (w : World) → IsOn env v n → Fine w → Fits Γ env → ArmsFit p.tags ⊥ ⊥ Γ v as' → GivesSort evaluated (arms p c env d (node n) as' w)
       arms_go no_arm Γ env v n d w on g f h = tt
       arms_go (arm s b as') Γ env v n d w on g f h = choose_goes evaluated (alternative_sorted p.tags s v Γ) env (fit_of p s (node n)) w _ _ (pattern_more s v Γ env n on f)
-          (λ bs f'. code_goes b (alternative_sorted p.tags s v Γ) (with_vars bs env) d (passing (with_vars bs env) w) (record { plain = g.plain }) f' h.0)
+          (λ bs f'. code_goes b (alternative_sorted p.tags s v Γ) (with_vars bs env) d (with_state_seen (with_vars bs env) w) (record { plain = g.plain }) f' h.0)
           (arms_go as' Γ env v n d w on g f h.1)
 
   -- calls, by any number of units
@@ -327,7 +327,7 @@ module _ (p : Program) where
   calls_go h (suc n) = record {
     by = λ f xs d w g. spend_goes evaluated w.left w _ (λ left. need_goes (ProcedureFits p.tags ⊥ ⊥) evaluated w (slice_get p.procs f) _ (all_get (ProcedureFits p.tags ⊥ ⊥) p.procs h f)
         (λ q hq. need_goes (λ bs. Fits (vars_sorted q.params nothing_known) (with_vars bs (λ y. None))) evaluated w (one_each q.params xs) _ (words_more q.params xs nothing_known (λ y. None) (λ y. tt))
-        (λ bs f'. code_goes (calls p n) (calls_go h n) q.body (vars_sorted q.params nothing_known) (with_vars bs (λ y. None)) d (passing (with_vars bs (λ y. None)) (spent f d left w)) (record { plain = g.plain }) f' hq)));
+        (λ bs f'. code_goes (calls p n) (calls_go h n) q.body (vars_sorted q.params nothing_known) (with_vars bs (λ y. None)) d (with_state_seen (with_vars bs (λ y. None)) (spent f d left w)) (record { plain = g.plain }) f' hq)));
   }
 
   globals_plain : (cs : List GlobalCell) → AllOf (λ c. WordsFit nothing_known c.tag.0 []) cs → AllOf PlainCell (map (λ c. record { site = c.site.0; node = record { tag = c.tag.0; fields = [] } }) cs)

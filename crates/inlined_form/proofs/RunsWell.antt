@@ -14,7 +14,7 @@ use Rattle.grin_syntax.specs.declared.program.Val.TheVariants.{NodeVar, Node as 
 use Rattle.grin_syntax.specs.Tree.{Code, end, store, bind, Act, unit, fetch, fetch_word, update, eval, apply, call, prim, read, write, case, nested, fail, Arms, arm, Program}
 use Rattle.grin_syntax.specs.Formed.{AllOf}
 use Rattle.grin_meaning.specs.Values.{Datum, number, tag, cell, Node, Value, node, words, Env, HeapCell, World, Answer, gives, Binding, with_vars, one_each, fits, fit_of, value_of, bindings_of}
-use Rattle.grin_meaning.specs.Run.{act, calls, places, cells_of, passing, with_cells, is_fun_kind, is_some_and}
+use Rattle.grin_meaning.specs.Run.{act, calls, places, cells_of, with_state_seen, with_cells, is_fun_kind, is_some_and}
 use Rattle.grin_meaning.specs.Reached.{Called, begins, by_call, Runs, entered, stored, bound, within, chosen, Does, first, last, Tries, of_case, next}
 use Rattle.grin_meaning.specs.Ready.{IsDelayed, NumberThenZeros, Given, ValFilled, HasBlock, NotFetch, RunsWell}
 use Rattle.flow_system.proofs.Lying.{from_some}
@@ -49,7 +49,7 @@ module _ (p : Program) (pf : ProgramFits ⊥ ⊥ p) (i : List ℕ) (n : ℕ) whe
   goes_on s a v w g e = subst (GivesSort p s) e g
 
   after_store : (env : Env) (cs : List Cell) (b : Code) (w : World) (hs : List HeapCell) → BlockHere env (store cs b) w → cells_of p (with_vars (places (length w.cells) cs) env) cs ≡ Some hs
-      → BlockHere (with_vars (places (length w.cells) cs) env) b (passing (with_vars (places (length w.cells) cs) env) (with_cells hs w))
+      → BlockHere (with_vars (places (length w.cells) cs) env) b (with_state_seen (with_vars (places (length w.cells) cs) env) (with_cells hs w))
   unfolding ActFits
   after_store env cs b w hs h e =
       let env' = with_vars (places (length w.cells) cs) env in
@@ -67,7 +67,7 @@ module _ (p : Program) (pf : ProgramFits ⊥ ⊥ p) (i : List ℕ) (n : ℕ) whe
   gives_sort m env d t o b w w' v h e = goes_on (sort_of o) (act p (calls p m) env (suc d) o w) v w' (act_goes p (calls p m) (calls_go p pf.procedures m) o h.sorts env (suc d) w h.fine h.env_fits h.code_fits.1) e
 
   after_bind : (m : ℕ) (env : Env) (d : ℕ) (t : Target) (o : Act) (b : Code) (w w' : World) (v : Value) (bs : List Binding) → BlockHere env (bind t o b) w → act p (calls p m) env (suc d) o w ≡ gives v w' → bindings_of p t v ≡ Some bs
-      → BlockHere (with_vars bs env) b (passing (with_vars bs env) w')
+      → BlockHere (with_vars bs env) b (with_state_seen (with_vars bs env) w')
   unfolding ActFits
   after_bind m env d t o b w w' v bs h e e' =
       let g = gives_sort m env d t o b w w' v h e in
@@ -82,7 +82,7 @@ module _ (p : Program) (pf : ProgramFits ⊥ ⊥ p) (i : List ℕ) (n : ℕ) whe
   unfolding ActFits
   in_nested env b w h = record { sorts = h.sorts; env_fits = h.env_fits; code_fits = h.act_fits; fine = h.fine }
 
-  in_arm : (env : Env) (x : Value) (s : Shape) (b : Code) (as' : Arms) (w : World) (bs : List Binding) → ArmsHere env x (arm s b as') w → fit_of p s x ≡ fits bs → BlockHere (with_vars bs env) b (passing (with_vars bs env) w)
+  in_arm : (env : Env) (x : Value) (s : Shape) (b : Code) (as' : Arms) (w : World) (bs : List Binding) → ArmsHere env x (arm s b as') w → fit_of p s x ≡ fits bs → BlockHere (with_vars bs env) b (with_state_seen (with_vars bs env) w)
   unfolding ActFits
   in_arm env x s b as' w bs h e = record {
     sorts = alternative_sorted p.tags s h.val h.sorts;

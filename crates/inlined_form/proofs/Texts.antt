@@ -5,7 +5,7 @@ use Rattle.grin_syntax.specs.declared.program.Val.{Val}
 use Rattle.grin_syntax.specs.declared.program.Val.TheVariants.{NodeVar, Node, Vector, One}
 use Rattle.grin_syntax.specs.Tree.{Code, end, store, bind, Act, unit, fetch, fetch_word, update, eval, apply, call, prim, read, write, case, nested, fail, Arms, no_arm, arm, Procedure}
 use Rattle.grin_syntax.specs.Formed.{AllOf}
-use Rattle.grin_meaning.specs.Ready.{EachAct, EachCode, EachArms, val_width, NarrowAct, NarrowCode, NarrowArms, EachBody, inlined_kind}
+use Rattle.grin_meaning.specs.Ready.{EachAct, EachCode, EachArms, val_width, NarrowAct, NarrowCode, NarrowArms, EveryBodyIsOfKind, inlined_kind}
 use Rattle.inlined_form.proofs.Sorts.{Sorts, nothing_known, vars_sorted, cells_sorted, target_sorted, sort_of, GivenFits, alternative_sorted, ActFits, CodeFits, ArmsFit, ProcedureFits}
 use Rattle.inlining.proofs.NoEvaluations.{any_cells}
 
@@ -37,7 +37,7 @@ module _ (ts : List Tag) where
     arms_inlined no_arm v Γ h = tt
     arms_inlined (arm s b as') v Γ h = (tt, code_inlined b (alternative_sorted ts s v Γ) h.0, arms_inlined as' v Γ h.1)
 
-  pub procs_inlined : (qs : List Procedure) → AllOf (ProcedureFits ts ⊥ ⊥) qs → EachBody inlined_kind qs
+  pub procs_inlined : (qs : List Procedure) → AllOf (ProcedureFits ts ⊥ ⊥) qs → EveryBodyIsOfKind inlined_kind qs
   procs_inlined [] h = tt
   procs_inlined (q ∷ qs) h = (code_inlined q.body (vars_sorted q.params nothing_known) h.0, procs_inlined qs h.1)
 

@@ -24,7 +24,7 @@ use Rattle.grin_translate.specs.declared.tags.Delay.{Delay}
 use Rattle.grin_translate.specs.declared.tags.Delay.TheVariants.{Calls, Applies, Operates, Reads}
 use Rattle.grin_translate.specs.declared.tags.Kind.{Kind}
 use Rattle.grin_translate.specs.declared.tags.Kind.TheVariants.{Number, Constructor, Waits, Lacks}
-use Rattle.grin_translate.specs.Tags.{same_kind, first_place, con_tag, kinds, tag, tag_of, takes_input, delays}
+use Rattle.grin_translate.specs.Tags.{same_tag_meaning, first_index_where, con_tag, kinds, tag, tag_of, takes_input, delays}
 use Rattle.grin_translate.specs.Blocks.{operation, temps, local, temp, node, cell_of, give_block, apply_block, on_number, prim_block, form_block, block, arms, word}
 use Rattle.grin_translate.specs.Translation.{global_cells, procedure, fun_body, delay_body, input_body, write_block, pair_block, print_body, start_body, span, delayed_procs, rest, print_procs, tr}
 use Rattle.inlined_form.proofs.Sorts.{Sort, anything, a_number, evaluated, Sorts, nothing_known, sorted, IsNode, WordsFit, KeptFits, delayed, alternative_sorted, ActFits, CodeFits, ArmsFit, ProcedureFits, ProgramFits}
@@ -47,7 +47,7 @@ con_evaluated (Some c) = refl
 
 module _ (p : Program) where
   -- only what waits is delayed
-  kind_evaluated : (k x : Kind) → NotWaits k → same_kind k x ≡ true → is_fun_kind (tag_of p x).kind ≡ false
+  kind_evaluated : (k x : Kind) → NotWaits k → same_tag_meaning k x ≡ true → is_fun_kind (tag_of p x).kind ≡ false
   kind_evaluated k Number n e = refl
   kind_evaluated k (Constructor c) n e = con_evaluated (slice_get p.cons c)
   kind_evaluated k (Lacks f r) n e = refl
@@ -56,11 +56,11 @@ module _ (p : Program) where
   kind_evaluated (Lacks f r) (Waits d) n e = cc
   kind_evaluated (Waits d') (Waits d) n e = absurd n
 
-  place_evaluated : (k : Kind) → NotWaits k → (ks : List Kind) → delayed (map (tag_of p) ks) (first_place (same_kind k) ks) ≡ false
+  place_evaluated : (k : Kind) → NotWaits k → (ks : List Kind) → delayed (map (tag_of p) ks) (first_index_where (same_tag_meaning k) ks) ≡ false
   place_evaluated k n [] = refl
-  place_evaluated k n (x ∷ ks) = on (place_evaluated k n ks) (same_kind k x) refl
+  place_evaluated k n (x ∷ ks) = on (place_evaluated k n ks) (same_tag_meaning k x) refl
     where
-      on : delayed (map (tag_of p) ks) (first_place (same_kind k) ks) ≡ false → (b : Bool) → same_kind k x ≡ b → delayed (map (tag_of p) (x ∷ ks)) (cond b 0 (suc (first_place (same_kind k) ks))) ≡ false
+      on : delayed (map (tag_of p) ks) (first_index_where (same_tag_meaning k) ks) ≡ false → (b : Bool) → same_tag_meaning k x ≡ b → delayed (map (tag_of p) (x ∷ ks)) (cond b 0 (suc (first_index_where (same_tag_meaning k) ks))) ≡ false
       on later true e = kind_evaluated k x n e
       on later false e = later
 

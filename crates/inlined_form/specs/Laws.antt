@@ -4,7 +4,7 @@ use Rattle.arity_check.specs.Accepted.{IsValid}
 use Rattle.arity_check.specs.Program as core
 use Rattle.grin_syntax.specs.Formed.{Formed}
 use Rattle.grin_meaning.specs.Ready.{Ready}
-use Rattle.flow_system.specs.Covers.{Started}
+use Rattle.flow_system.specs.Covers.{CanBeStarted}
 use Rattle.flow_system.specs.Solution.{Solution, Solves}
 use Rattle.inlining.specs.Applications.{inlined, inlined_size}
 use Rattle.flow_system.specs.System.{system}
@@ -16,7 +16,7 @@ use Rattle.grin_translate.specs.Translation.{tr}
 abbrev pub InlinedProgramsAreReady : Type 0
 InlinedProgramsAreReady =
     (p : core.Program) → IsValid p → (A : Solution) → Solves (tables (tr p)) (system (tr p)) A
-    → Formed (inlined A (tr p)) × Started (inlined A (tr p)) × Ready (inlined A (tr p))
+    → Formed (inlined A (tr p)) × CanBeStarted (inlined A (tr p)) × Ready (inlined A (tr p))
 
 -- Whichever tags a solution has, the size of the inlined program is a number of 64 bits.
 abbrev pub InlinedSizesFit : Type 0

@@ -10,7 +10,7 @@ use Rattle.grin_syntax.specs.declared.program.Word.{Word}
 use Rattle.grin_syntax.specs.declared.program.Word.TheVariants.{Var}
 use Rattle.grin_syntax.specs.Tree.{Code, end, store, bind, Act, unit, fetch, fetch_word, update, eval, apply, call, prim, read, write, case, nested, fail, Arms, no_arm, arm, Procedure, Program}
 use Rattle.grin_syntax.specs.Binders.{numbers_of, shape_vars, cell_vars}
-use Rattle.grin_syntax.specs.Formed.{AllOf, Scope, with_words, with_target, params_scope, KnownIfAny, HasProcedure, KindFormed, TagFormed, WordFormed, ActFormed, CodeFormed, ArmsFormed, ProcedureFormed, Formed, argument_words}
+use Rattle.grin_syntax.specs.Formed.{AllOf, Scope, with_word_variables, with_target, params_scope, KnownIfAny, HasProcedure, KindFormed, TagFormed, WordFormed, ActFormed, CodeFormed, ArmsFormed, ProcedureFormed, Formed, argument_words}
 use Rattle.grin_syntax.specs.Tags.{is_part}
 use Rattle.grin_syntax.proofs.Scopes.{fewer_left, Within, within_words, with_procs, known_again, word_stays, vars_formed, same_sites, formed_with}
 use Rattle.grin_syntax.specs.Fresh.{variables, past_procs}
@@ -61,7 +61,7 @@ module _ (p : Program) (A : Solution) (procs : List Procedure) (same_count : len
   arm_formed scope a x t None rest e h k = k
   arm_formed scope a x t (Some i) rest e h k =
       let fields : List ℕ = numbers_of (variables x i.fields) in
-      let more : Scope = with_words fields scope in
+      let more : Scope = with_word_variables fields scope in
       let w : Within scope more = within_words fields scope in (
         slice_get_within p.tags t i e,
         part_formed more x a i i.proc (kind_knows i.kind i i.proc refl (all_get (TagFormed p) p.tags t i tags_formed e))
@@ -100,12 +100,12 @@ module _ (p : Program) (A : Solution) (procs : List Procedure) (same_count : len
 
     code_formed : (x : ℕ) (b : Code) (scope : Scope) → CodeFormed p scope b → CodeFormed there scope (apply_code p A x b)
     code_formed x (end o) scope h = act_formed x o scope h
-    code_formed x (store cs b) scope h = (h.0, code_formed x b (with_words (cell_vars cs) scope) h.1)
+    code_formed x (store cs b) scope h = (h.0, code_formed x b (with_word_variables (cell_vars cs) scope) h.1)
     code_formed x (bind t o b) scope h = (act_formed x o scope h.0, code_formed (x + apply_act_room p A o) b (with_target t scope) h.1)
 
     all_formed : (x : ℕ) (as' : Arms) (scope : Scope) → ArmsFormed p scope as' → ArmsFormed there scope (apply_all p A x as')
     all_formed x no_arm scope h = tt
-    all_formed x (arm s b as') scope h = (h.0, code_formed x b (with_words (shape_vars s) scope) h.1, all_formed (x + apply_code_room p A b) as' scope h.2)
+    all_formed x (arm s b as') scope h = (h.0, code_formed x b (with_word_variables (shape_vars s) scope) h.1, all_formed (x + apply_code_room p A b) as' scope h.2)
 
   bodies_formed : (x : ℕ) (qs : List Procedure) → AllOf (ProcedureFormed p) qs → AllOf (ProcedureFormed there) (apply_procs p A x qs)
   bodies_formed x [] h = tt

@@ -12,13 +12,13 @@ use Rattle.grin_syntax.specs.Tree.{apply, case, Arms, Procedure, Program}
 use Rattle.grin_syntax.specs.Fresh.{variables as names}
 use Rattle.grin_meaning.specs.Values.{Datum, Node, Value, node, Env, State, World, gives, no_alternative, stops, need, and_then, with_vars, made_node, as_node, word_of, words_of, value_of}
 use Rattle.grin_meaning.specs.Run.{Calls, act, code, arms, is_part_kind, is_some_and, part_from, apply_node, apply_part}
-use Rattle.grin_meaning.specs.Follows.{Depths, other, same, free, gives_too, stops_too}
+use Rattle.grin_meaning.specs.Follows.{DepthComparison, other, same, free, gives_too, stops_too}
 use Rattle.grin_meaning.specs.Names.{WordOk, ValOk}
 use Rattle.grin_meaning.proofs.Back.{CallsBack}
 use Rattle.grin_meaning.proofs.Alike.{Agree, word_same, value_same, Sim, same_args, same_result, ActLike}
 use Rattle.grin_meaning.proofs.Related.{CallsFollow}
 use Rattle.flow_system.specs.Solution.{Solution}
-use Rattle.flow_system.specs.Covers.{Lies}
+use Rattle.flow_system.specs.Covers.{StateIsCovered}
 use Rattle.inlining.specs.Applications.{value_has, is_part_tag, apply_body, part_body, apply_arms, part_tags_of, others_of, else_fail}
 use Rattle.inlining.proofs.EvaluationsKeep.{it, names_stand, fields_fit_named, agree_named}
 use Rattle.inlining.proofs.ValueTags.{Had, value_had}
@@ -56,9 +56,9 @@ words_more p env (w ∷ ws) a ds d e f = go (word_of p env w) refl (words_of p e
         let s : b ∷ bs ≡ ds = cc in
         (λ i. and_then (g i) (λ b. and_then (m bs r i) (λ bs. Some (b ∷ bs)))) ∙ ap (λ l. Some (l ++ d ∷ [])) s
 
-module _ (K : Depths) (g : Program) (A : Solution) (x0 : ℕ) (procs : List Procedure) (c c' : Calls) (cb : CallsBack (Lies g A) c) (cf : CallsFollow (Lies g A) K same_args same_result c c') where
+module _ (K : DepthComparison) (g : Program) (A : Solution) (x0 : ℕ) (procs : List Procedure) (c c' : Calls) (cb : CallsBack (StateIsCovered g A) c) (cf : CallsFollow (StateIsCovered g A) K same_args same_result c c') where
   abbrev P : State → Type 0
-  P = Lies g A
+  P = StateIsCovered g A
 
   abbrev Ok : ℕ → Type 0
   Ok y = y < x0

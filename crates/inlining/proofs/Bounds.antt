@@ -10,11 +10,11 @@ use Rattle.grin_syntax.specs.declared.program.Target.TheVariants as to
 use Rattle.grin_syntax.specs.declared.program.Cell.{Cell}
 use Rattle.grin_syntax.specs.Tree.{Code, end, store, bind, Act, unit, fetch, fetch_word, update, eval, apply, call, prim, read, write, case, nested, fail, Arms, no_arm, arm, Procedure, Program}
 use Rattle.grin_syntax.specs.Binders.{numbers_of, target_vars, shape_vars, cell_vars}
-use Rattle.grin_syntax.specs.Formed.{AllOf, Scope, with_words, with_target, params_scope, InScope, WordFormed, ValFormed, CellFormed, ActFormed, CodeFormed, ArmsFormed, ProcedureFormed, Formed}
+use Rattle.grin_syntax.specs.Formed.{AllOf, Scope, with_word_variables, with_target, params_scope, InScope, WordFormed, ValFormed, CellFormed, ActFormed, CodeFormed, ArmsFormed, ProcedureFormed, Formed}
 use Rattle.grin_syntax.specs.Fresh.{past_act, past_code, past_arms, past_procs}
 use Rattle.grin_syntax.proofs.Unbound.{past_vars_none, past_cells_none, past_target_none, past_shape_none, none_in_both}
 use Rattle.grin_meaning.specs.Names.{WordOk, WordsOk, ValOk, CellsOk, ActOk, CodeOk, ArmsOk, ProcsOk}
-use Rattle.inlining.specs.Laws.{UsesBound}
+use Rattle.inlining.specs.Laws.{UsedVariablesAreBound}
 use Rattle.seq.specs.Lists.{times}
 
 module _ (p : Program) (n : ℕ) where
@@ -27,7 +27,7 @@ module _ (p : Program) (n : ℕ) where
     pub no_node : NoneFrom scope.nodes
     pub no_word : NoneFrom scope.words
 
-  more_words : (xs : List ℕ) (scope : Scope) → NoneFrom xs → Below scope → Below (with_words xs scope)
+  more_words : (xs : List ℕ) (scope : Scope) → NoneFrom xs → Below scope → Below (with_word_variables xs scope)
   more_words xs scope h b = record { no_node = b.no_node; no_word = λ x le. none_in_both x xs scope.words (h x le) (b.no_word x le) }
 
   more_target : (t : Target) (scope : Scope) → NoneFrom (target_vars t) → Below scope → Below (with_target t scope)
@@ -83,7 +83,7 @@ module _ (p : Program) (n : ℕ) where
     code_bound : (scope : Scope) → Below scope → (b : Code) → past_code b ≤ n → CodeFormed p scope b → CodeOk (λ y. y < n) b
     code_bound scope low (end o) le h = act_bound scope low o le h
     code_bound scope low (store cs b) le h =
-        let s : Scope = with_words (cell_vars cs) scope in
+        let s : Scope = with_word_variables (cell_vars cs) scope in
         let more : Below s = more_words (cell_vars cs) scope (λ x f. past_cells_none x cs (omega arith)) low in
         (cells_bound s more cs h.0, code_bound s more b (omega arith) h.1)
     code_bound scope low (bind t o b) le h =
@@ -92,12 +92,12 @@ module _ (p : Program) (n : ℕ) where
     arms_bound : (scope : Scope) → Below scope → (as' : Arms) → past_arms as' ≤ n → ArmsFormed p scope as' → ArmsOk (λ y. y < n) as'
     arms_bound scope low no_arm le h = tt
     arms_bound scope low (arm s b as') le h =
-        (code_bound (with_words (shape_vars s) scope) (more_words (shape_vars s) scope (λ x f. past_shape_none x s (omega arith)) low) b (omega arith) h.1, arms_bound scope low as' (omega arith) h.2)
+        (code_bound (with_word_variables (shape_vars s) scope) (more_words (shape_vars s) scope (λ x f. past_shape_none x s (omega arith)) low) b (omega arith) h.1, arms_bound scope low as' (omega arith) h.2)
 
   procs_bound : (qs : List Procedure) → past_procs qs ≤ n → AllOf (ProcedureFormed p) qs → ProcsOk (λ y. y < n) qs
   procs_bound [] le h = tt
   procs_bound (q ∷ qs) le h =
       (code_bound (params_scope q) (record { no_node = λ x f. refl; no_word = λ x f. past_vars_none x q.params (omega arith) }) q.body (omega arith) h.0, procs_bound qs (omega arith) h.1)
 
-pub uses_bound : (p : Program) → Formed p → UsesBound p
+pub uses_bound : (p : Program) → Formed p → UsedVariablesAreBound p
 uses_bound p f = procs_bound p (past_procs p.procs) p.procs (omega arith) f.procedures

@@ -18,7 +18,7 @@ use Rattle.flow_system.specs.declared.fact.Element.TheVariants.{Cell, Tag as tag
 use Rattle.flow_system.specs.declared.fact.Place.TheVariants.{Site as site, Var as var}
 use Rattle.flow_system.specs.declared.fact.Part.TheVariants.{Tags as tags, Word as word}
 use Rattle.flow_system.specs.Solution.{Solution, among}
-use Rattle.inlining.specs.Evaluations.{some_of, cells_in, site_of, sites_of, tags_of, call_body, eval_body, eval_arm, eval_arms, fields_at, arms_room, eval_bound, eval_ended, eval_act, eval_code, eval_all, eval_procs, act_room, code_room, all_room}
+use Rattle.inlining.specs.Evaluations.{any_satisfies, cells_in, site_of, sites_of, tags_of, call_body, eval_body, eval_arm, eval_arms, fields_at, arms_room, eval_bound, eval_ended, eval_act, eval_code, eval_all, eval_procs, act_room, code_room, all_room}
 use Rattle.seq.specs.Lists.{those}
 
 module _ (p : Program) (A : Solution) (procs : List Procedure) where
@@ -42,7 +42,7 @@ module _ (p : Program) (A : Solution) (procs : List Procedure) where
   sites_apart (TagWord t) = refl
 
   tags_apart : (a : W.Word) → tags_of q A a ≡ tags_of p A a
-  tags_apart a = ap (λ ss. those (λ t. some_of (λ s. among (tag t) (A (site s) tags)) ss) 0 (length p.tags)) (sites_apart a)
+  tags_apart a = ap (λ ss. those (λ t. any_satisfies (λ s. among (tag t) (A (site s) tags)) ss) 0 (length p.tags)) (sites_apart a)
 
   fields_apart : (o : Option Tag) → fields_at q A o ≡ fields_at p A o
   fields_apart None = refl

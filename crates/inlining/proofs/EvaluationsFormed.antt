@@ -11,7 +11,7 @@ use Rattle.grin_syntax.specs.declared.program.Target.{Target}
 use Rattle.grin_syntax.specs.declared.program.Target.TheVariants.{Node as NodeTarget}
 use Rattle.grin_syntax.specs.Tree.{Code, end, store, bind, Act, unit, fetch, fetch_word, update, eval, apply, call, prim, read, write, case, nested, fail, Arms, no_arm, arm, Procedure, Program}
 use Rattle.grin_syntax.specs.Binders.{numbers_of, shape_vars, cell_vars}
-use Rattle.grin_syntax.specs.Formed.{AllOf, Scope, with_words, with_target, params_scope, InScope, HasProcedure, KindFormed, TagFormed, WordFormed, ActFormed, CodeFormed, ArmsFormed, ProcedureFormed, Formed, argument_words}
+use Rattle.grin_syntax.specs.Formed.{AllOf, Scope, with_word_variables, with_target, params_scope, InScope, HasProcedure, KindFormed, TagFormed, WordFormed, ActFormed, CodeFormed, ArmsFormed, ProcedureFormed, Formed, argument_words}
 use Rattle.grin_syntax.proofs.Scopes.{Fewer, fewer_left, Within, within_self, within_chain, within_words, within_target, words_within, target_within, first_in, with_procs, known_again, word_stays, words_stay, val_stays, cells_stay, shape_stays, vars_formed, same_sites, formed_with}
 use Rattle.grin_syntax.specs.Fresh.{variable, variables, past_procs}
 use Rattle.grin_meaning.specs.Run.{is_fun_kind}
@@ -59,7 +59,7 @@ module _ (p : Program) (A : Solution) (procs : List Procedure) (same_count : len
       go None e rest = rest 0
       go (Some i) e rest =
           let fields : List ℕ = numbers_of (variables x i.fields) in
-          let more : Scope = with_words fields scope in
+          let more : Scope = with_word_variables fields scope in
           let w : Within scope more = within_words fields scope in
           (low.0, body_formed a n x i more (all_get (TagFormed p) p.tags t i tags_formed e) (word_stays there procs refl scope more w a known) there_n (fewer_left fields scope.words), rest i.fields)
 
@@ -101,8 +101,8 @@ module _ (p : Program) (A : Solution) (procs : List Procedure) (same_count : len
     code_formed : (x : ℕ) (b : Code) (scope scope' : Scope) → Within scope scope' → CodeFormed p scope b → CodeFormed there scope' (eval_code p A x b)
     code_formed x (end o) scope scope' w h = end_formed x o scope' (act_formed x o scope scope' w h)
     code_formed x (store cs b) scope scope' w h =
-        let s : Scope = with_words (cell_vars cs) scope in
-        let s' : Scope = with_words (cell_vars cs) scope' in
+        let s : Scope = with_word_variables (cell_vars cs) scope in
+        let s' : Scope = with_word_variables (cell_vars cs) scope' in
         let v : Within s s' = words_within (cell_vars cs) scope scope' w in
         (cells_stay p procs same_count s s' v cs h.0, code_formed x b s s' v h.1)
     code_formed x (bind t o b) scope scope' w h =
@@ -112,7 +112,7 @@ module _ (p : Program) (A : Solution) (procs : List Procedure) (same_count : len
     all_formed : (x : ℕ) (as' : Arms) (scope scope' : Scope) → Within scope scope' → ArmsFormed p scope as' → ArmsFormed there scope' (eval_all p A x as')
     all_formed x no_arm scope scope' w h = tt
     all_formed x (arm s b as') scope scope' w h =
-        (shape_stays p procs same_count s h.0, code_formed x b (with_words (shape_vars s) scope) (with_words (shape_vars s) scope') (words_within (shape_vars s) scope scope' w) h.1, all_formed (x + code_room p A b) as' scope scope' w h.2)
+        (shape_stays p procs same_count s h.0, code_formed x b (with_word_variables (shape_vars s) scope) (with_word_variables (shape_vars s) scope') (words_within (shape_vars s) scope scope' w) h.1, all_formed (x + code_room p A b) as' scope scope' w h.2)
 
   bodies_formed : (x : ℕ) (qs : List Procedure) → AllOf (ProcedureFormed p) qs → AllOf (ProcedureFormed there) (eval_procs p A x qs)
   bodies_formed x [] h = tt

@@ -12,15 +12,15 @@ use Rattle.grin_syntax.specs.declared.program.Target.TheVariants.{Nothing, Node 
 use Rattle.grin_syntax.specs.Tree.{Code, end, store, bind, Act, unit, fetch, fetch_word, update, eval, apply, call, prim, read, write, case, nested, fail, Arms, no_arm, arm, Procedure, Program}
 use Rattle.grin_syntax.specs.Fresh.{variable as var, variables as names, past_procs}
 use Rattle.grin_meaning.specs.Values.{Datum, Node, Value, node, words, HeapCell, Env, State, World, Answer, gives, then_do, need, and_then, with_vars, one_each, fits, fields_fit, fits_if, as_node, word_of, words_of, only_word, bindings_of}
-use Rattle.grin_meaning.specs.Run.{Calls, act, code, arms, passing, place_of, eval_tag, updated, is_fun_kind, is_evaluated}
-use Rattle.grin_meaning.specs.Follows.{Depths, other, same, free, gives_too}
+use Rattle.grin_meaning.specs.Run.{Calls, act, code, arms, with_state_seen, place_of, eval_tag, updated, is_fun_kind, is_evaluated}
+use Rattle.grin_meaning.specs.Follows.{DepthComparison, other, same, free, gives_too}
 use Rattle.grin_meaning.specs.Names.{WordOk, ActOk, CodeOk, ArmsOk, ProcsOk}
 use Rattle.grin_meaning.proofs.Back.{CallsBack, every_front, code_back, need_back, updated_back}
 use Rattle.grin_meaning.proofs.Alike.{Agree, vars_agree, word_same, Sim, need_sim, then_sim, Plain as Setting, same_args, same_result, ActLike, CodeLike, ArmsLike, enter, leaf_follows, case_follows, nested_follows, end_follows, store_follows, bind_follows, no_arm_follows, arm_follows}
 use Rattle.grin_meaning.proofs.Related.{CallsFollow}
 use Rattle.grin_meaning.proofs.Simulated.{plain, BodiesLike, bodies_keep, no_deeper}
 use Rattle.flow_system.specs.Solution.{Solution}
-use Rattle.flow_system.specs.Covers.{Lies}
+use Rattle.flow_system.specs.Covers.{StateIsCovered}
 use Rattle.inlining.specs.Evaluations.{call_body, eval_arms, evaluation, eval_bound, eval_ended, eval_act, eval_code, eval_all, eval_procs, act_room, code_room, tags_of}
 use Rattle.flow_system.proofs.Covered.{covers}
 use Rattle.inlining.specs.Laws.{EvalInliningKeeps}
@@ -47,15 +47,15 @@ fields_fit_named x [] = refl
 fields_fit_named x (d ∷ ds) = ap fits_if (one_each_named x (d ∷ ds))
 
 -- x0 is the first variable that g does not have
-module _ (K : Depths) (g : Program) (A : Solution) (x0 : ℕ) (procs : List Procedure) (c c' : Calls) (cb : CallsBack (Lies g A) c) (cf : CallsFollow (Lies g A) K same_args same_result c c') where
+module _ (K : DepthComparison) (g : Program) (A : Solution) (x0 : ℕ) (procs : List Procedure) (c c' : Calls) (cb : CallsBack (StateIsCovered g A) c) (cf : CallsFollow (StateIsCovered g A) K same_args same_result c c') where
   abbrev pub P : State → Type 0
-  P = Lies g A
+  P = StateIsCovered g A
 
   abbrev pub Ok : ℕ → Type 0
   Ok y = y < x0
 
   abbrev pub it : Setting
-  it = plain (Lies g A) K (λ y. y < x0) g procs c c' cb cf
+  it = plain (StateIsCovered g A) K (λ y. y < x0) g procs c c' cb cf
 
   abbrev pub h : Program
   h = record g { procs = procs }
@@ -106,7 +106,7 @@ module _ (K : Depths) (g : Program) (A : Solution) (x0 : ℕ) (procs : List Proc
       r = y + length ds
 
       on_result : (v : Value) (w' : World) (ss' : List State) (e' : ℕ) → K.Deep e' w'.depth → (o : Option Node) → as_node g v ≡ o
-          → Sim P K (updated g c i v w') (need (bindings_of h (NodeTarget (var (y + length ds))) v) (other w' ss' e') (λ bs. code h c' (with_vars bs env') d' (bind Nothing (update a (NodeVar (var (y + length ds)))) (end (unit (NodeVar (var (y + length ds)))))) (passing (with_vars bs env') (other w' ss' e'))))
+          → Sim P K (updated g c i v w') (need (bindings_of h (NodeTarget (var (y + length ds))) v) (other w' ss' e') (λ bs. code h c' (with_vars bs env') d' (bind Nothing (update a (NodeVar (var (y + length ds)))) (end (unit (NodeVar (var (y + length ds)))))) (with_state_seen (with_vars bs env') (other w' ss' e'))))
       on_result v w' ss' e' de' None q = rw q (λ _. free)
       on_result v w' ss' e' de' (Some n) q = rw q (update_sim a i (y + length ds) n env (with_vars ((y + length ds, node n) ∷ []) env') d' w' _ e' ok (agree_one env env' (y + length ds) (node n) (omega arith) ag) at (has_one env' (y + length ds) (node n)) de')
 
@@ -187,7 +187,7 @@ module _ (K : Depths) (g : Program) (A : Solution) (x0 : ℕ) (procs : List Proc
           there (Some k) p =
               let ag1 : Agree Ok env (with_vars ((x, node k.node) ∷ []) env') = agree_one env env' x (node k.node) fresh ag in
               rw (q, place, p) (then_sim P K _ _ _ _
-              (λ v w'. need_back P (bindings_of g t v) w' _ (λ bs all. every_front P w'.seen _ (code_back P g c cb (with_vars bs env) d b (passing (with_vars bs env) w') all)))
+              (λ v w'. need_back P (bindings_of g t v) w' _ (λ bs all. every_front P w'.seen _ (code_back P g c cb (with_vars bs env) d b (with_state_seen (with_vars bs env) w') all)))
               (case_sim a i x k env (with_vars ((x, node k.node) ∷ []) env') (suc d) (suc d') w _ e fresh ok ag1 q (cell_known g A _ lies a i k q p) (has_one env' x (node k.node)) (K.up dd) de)
               (λ v w' ss' e' de'. need_sim P K (bindings_of g t v) w' (other w' ss' e') _ _ (λ bs. enter it b b' f (with_vars bs env) (with_vars bs (with_vars ((x, node k.node) ∷ []) env')) d d' w' ss' e' (vars_agree Ok bs env _ ag1) dd de')))
 
@@ -228,11 +228,11 @@ module _ (K : Depths) (g : Program) (A : Solution) (x0 : ℕ) (procs : List Proc
     arms_sim x fresh no_arm ok = no_arm_follows it
     arms_sim x fresh (arm s b as') ok = arm_follows it s b _ as' _ (code_sim x fresh b ok.0) (arms_sim (x + code_room g A b) (omega arith) as' ok.1)
 
-  pub procs_sim : (x : ℕ) → x0 ≤ x → (qs : List Procedure) → ProcsOk Ok qs → BodiesLike (Lies g A) K Ok g procs it qs (eval_procs g A x qs)
+  pub procs_sim : (x : ℕ) → x0 ≤ x → (qs : List Procedure) → ProcsOk Ok qs → BodiesLike (StateIsCovered g A) K Ok g procs it qs (eval_procs g A x qs)
   procs_sim x fresh [] ok = tt
   procs_sim x fresh (q ∷ qs) ok = (refl, code_sim x fresh q.body ok.0, procs_sim (x + code_room g A q.body) (omega arith) qs ok.1)
 
 pub inlining_law : EvalInliningKeeps
 inlining_law p A s u m =
     let x0 = past_procs p.procs in
-    bodies_keep (Lies p A) no_deeper (λ y. y < x0) p (eval_procs p A x0 p.procs) (λ c c' cb cf. procs_sim no_deeper p A x0 (eval_procs p A x0 p.procs) c c' cb cf x0 (omega arith) p.procs u) (covers p A s m).passed
+    bodies_keep (StateIsCovered p A) no_deeper (λ y. y < x0) p (eval_procs p A x0 p.procs) (λ c c' cb cf. procs_sim no_deeper p A x0 (eval_procs p A x0 p.procs) c c' cb cf x0 (omega arith) p.procs u) (covers p A s m).passed

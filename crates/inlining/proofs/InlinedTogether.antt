@@ -5,13 +5,13 @@ use Rattle.grin_syntax.specs.Tree.{Code, end, store, bind, Act, unit, fetch, fet
 use Rattle.grin_syntax.specs.Fresh.{past_target, past_act, past_code, past_arms, past_procs}
 use Rattle.grin_meaning.specs.Run.{Calls, run}
 use Rattle.grin_meaning.specs.Names.{ActOk, CodeOk, ArmsOk, ProcsOk}
-use Rattle.grin_meaning.specs.Follows.{Depths, Same, same, Follows, free, gives_too, stops_too}
+use Rattle.grin_meaning.specs.Follows.{DepthComparison, Same, same, Follows, free, gives_too, stops_too}
 use Rattle.grin_meaning.proofs.Back.{CallsBack}
 use Rattle.grin_meaning.proofs.Alike.{Plain as Setting, same_args, same_result, ActLike, CodeLike, ArmsLike, leaf_follows, case_follows, nested_follows, end_follows, store_follows, bind_follows, no_arm_follows, arm_follows}
 use Rattle.grin_meaning.proofs.Related.{CallsFollow}
 use Rattle.grin_meaning.proofs.Simulated.{BodiesLike, bodies_keep, bodies_follow, no_deeper, as_deep}
 use Rattle.flow_system.specs.Solution.{Solution}
-use Rattle.flow_system.specs.Covers.{Lies}
+use Rattle.flow_system.specs.Covers.{StateIsCovered}
 use Rattle.inlining.specs.Evaluations.{evaluation, eval_bound, eval_ended, eval_act, eval_code, eval_all, eval_procs, act_room, code_room, eval_inlined}
 use Rattle.inlining.specs.Applications.{apply_act, apply_code, apply_all, apply_procs, apply_act_room, apply_code_room, apply_inlined}
 use Rattle.flow_system.proofs.Covered.{covers}
@@ -87,7 +87,7 @@ module _ (p : Program) (A : Solution) where
   procs_past x [] = omega arith
   procs_past x (q ∷ qs) = omega (arith, code_past x q.body, procs_past (x + code_room p A q.body) qs)
 
-module _ (K : Depths) (g : Program) (A : Solution) (x0 : ℕ) (procs : List Procedure) (c c' : Calls) (cb : CallsBack (Lies g A) c) (cf : CallsFollow (Lies g A) K same_args same_result c c') where
+module _ (K : DepthComparison) (g : Program) (A : Solution) (x0 : ℕ) (procs : List Procedure) (c c' : Calls) (cb : CallsBack (StateIsCovered g A) c) (cf : CallsFollow (StateIsCovered g A) K same_args same_result c c') where
   abbrev s : Setting
   s = it K g A x0 procs c c' cb cf
 
@@ -137,7 +137,7 @@ module _ (K : Depths) (g : Program) (A : Solution) (x0 : ℕ) (procs : List Proc
     arms_both x y fx fy no_arm ok = no_arm_follows s
     arms_both x y fx fy (arm p b as') ok = arm_follows s p b _ as' _ (code_both x y fx fy b ok.0) (arms_both (x + code_room g A b) (y + apply_code_room h A (eval_code g A x b)) (omega arith) (omega arith) as' ok.1)
 
-  procs_both : (x y : ℕ) → x0 ≤ x → x0 ≤ y → (qs : List Procedure) → ProcsOk Ok qs → BodiesLike (Lies g A) K Ok g procs s qs (apply_procs h A y (eval_procs g A x qs))
+  procs_both : (x y : ℕ) → x0 ≤ x → x0 ≤ y → (qs : List Procedure) → ProcsOk Ok qs → BodiesLike (StateIsCovered g A) K Ok g procs s qs (apply_procs h A y (eval_procs g A x qs))
   procs_both x y fx fy [] ok = tt
   procs_both x y fx fy (q ∷ qs) ok = (refl, code_both x y fx fy q.body ok.0, procs_both (x + code_room g A q.body) (y + apply_code_room h A (eval_code g A x q.body)) (omega arith) (omega arith) qs ok.1)
 
@@ -148,7 +148,7 @@ inlining_law p A s u m =
     let y0 = past_procs e.procs in
     let procs = apply_procs e A y0 e.procs in
     let fy : x0 ≤ y0 = procs_past p A x0 p.procs in
-    bodies_keep (Lies p A) no_deeper (λ y. y < x0) p procs (λ c c' cb cf. procs_both no_deeper p A x0 procs c c' cb cf x0 y0 (omega arith) fy p.procs u) (covers p A s m).passed
+    bodies_keep (StateIsCovered p A) no_deeper (λ y. y < x0) p procs (λ c c' cb cf. procs_both no_deeper p A x0 procs c c' cb cf x0 y0 (omega arith) fy p.procs u) (covers p A s m).passed
 
 -- Two runs that end alike, as deep and with as many cells.
 record EndsAlike (a a' : Answer) : Type 0 where
@@ -173,12 +173,12 @@ apply_inlining_law p A s u m never = record {
 }
   where
     one : (i : List ℕ) (n : ℕ) → EndsAlike (run p i n) (run (eval_inlined A p) i n)
-    one i n = ends_alike (bodies_follow (Lies p A) as_deep (λ y. y < past_procs p.procs) p (eval_procs p A (past_procs p.procs) p.procs)
+    one i n = ends_alike (bodies_follow (StateIsCovered p A) as_deep (λ y. y < past_procs p.procs) p (eval_procs p A (past_procs p.procs) p.procs)
         (λ c c' cb cf. procs_sim as_deep p A (past_procs p.procs) (eval_procs p A (past_procs p.procs) p.procs) c c' cb cf (past_procs p.procs) (omega arith) p.procs u) (covers p A s m).passed i n) (never i n)
 
     both : (i : List ℕ) (n : ℕ) → EndsAlike (run p i n) (run (apply_inlined A (eval_inlined A p)) i n)
     both i n =
         let e = eval_inlined A p in
         let procs = apply_procs e A (past_procs e.procs) e.procs in
-        ends_alike (bodies_follow (Lies p A) as_deep (λ y. y < past_procs p.procs) p procs
+        ends_alike (bodies_follow (StateIsCovered p A) as_deep (λ y. y < past_procs p.procs) p procs
         (λ c c' cb cf. procs_both as_deep p A (past_procs p.procs) procs c c' cb cf (past_procs p.procs) (past_procs e.procs) (omega arith) (procs_past p A (past_procs p.procs) p.procs) p.procs u) (covers p A s m).passed i n) (never i n)

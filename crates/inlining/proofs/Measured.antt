@@ -15,12 +15,12 @@ use Rattle.inlining.specs.Size.{target_size, act_size, code_size, arms_size, pro
 use Rattle.inlining.specs.Evaluations.{fields_at, call_body, eval_arm, eval_arms, evaluation, eval_bound, eval_ended, eval_act, eval_code, eval_all, eval_procs, act_room, code_room, tags_of, eval_inlined}
 use Rattle.inlining.specs.Applications.{is_part_tag, value_has, with_one_more, apply_body, part_body, apply_arm, apply_arms, part_tags_of, others_of, else_fail, apply_act, apply_code, apply_all, apply_procs, apply_act_room, apply_code_room, inlined_size}
 use Rattle.inlining.specs.Without.{NotEval}
-use Rattle.inlining.specs.Expanded.{called_size, eval_tag_size, eval_tags_size, given_size, part_body_size, part_tag_size, parts_size, else_size, expanded_act, expanded_code, expanded_arms, expanded_procedure}
-use Rattle.inlining.specs.Parts.{HaveNext}
+use Rattle.inlining.specs.Expanded.{eval_call_size, eval_tag_size, eval_tags_size, applied_body_size, part_body_size, part_tag_size, parts_size, else_size, expanded_act, expanded_code, expanded_arms, expanded_procedure}
+use Rattle.inlining.specs.Parts.{PartialTagsAreClosed}
 use Rattle.inlining.proofs.ApplicationsKeep.{Each, those_parts}
 use Rattle.inlining.proofs.EvaluationsStay.{ended_still, bound_still}
 use Rattle.grin_syntax.proofs.Counted.{length_variables}
-use Rattle.seq.specs.Lists.{there_is}
+use Rattle.seq.specs.Lists.{is_present}
 
 pub words_many : (x k : ℕ) → length (map Var (variables x k)) ≡ k
 words_many x k = length-map (variables x k) Var ∙ length_variables x k
@@ -33,12 +33,12 @@ module _ (p : Program) (A : Solution) where
   e = eval_inlined A p
 
   -- evaluations
-  called : (a : W.Word) (x k : ℕ) (o : Option ProcId) → code_size (call_body p A a x k o) ≡ called_size o k
+  called : (a : W.Word) (x k : ℕ) (o : Option ProcId) → code_size (call_body p A a x k o) ≡ eval_call_size o k
   unfolding act_size
   called a x k None = refl
   called a x k (Some f) = omega (arith, words_many x k)
 
-  body_size : (a : W.Word) (n x : ℕ) (t : Tag) (b : Bool) → code_size (cond b (call_body p A a x t.fields t.proc) (end (unit (NodeVar (variable n))))) ≡ cond b (called_size t.proc t.fields) 2
+  body_size : (a : W.Word) (n x : ℕ) (t : Tag) (b : Bool) → code_size (cond b (call_body p A a x t.fields t.proc) (end (unit (NodeVar (variable n))))) ≡ cond b (eval_call_size t.proc t.fields) 2
   unfolding act_size
   body_size a n x t true = called a x t.fields t.proc
   body_size a n x t false = refl
@@ -56,16 +56,16 @@ module _ (p : Program) (A : Solution) where
       omega (arith, eval_arm_size a n x t (slice_get p.tags t) (eval_arms p A a n y ts), eval_arms_size a n y ts)
 
   -- applications
-  module _ (next : HaveNext p.tags) where
-    one_more : (f r : ℕ) (ws : List W.Word) (k : ℕ) → length ws ≡ suc k → there_is (part_from 0 p.tags f r) ≡ true → code_size (with_one_more e A f (part_from 0 p.tags f r) ws) ≡ 2 + k
+  module _ (next : PartialTagsAreClosed p.tags) where
+    one_more : (f r : ℕ) (ws : List W.Word) (k : ℕ) → length ws ≡ suc k → is_present (part_from 0 p.tags f r) ≡ true → code_size (with_one_more e A f (part_from 0 p.tags f r) ws) ≡ 2 + k
     unfolding act_size
     one_more f r ws k l h = go (part_from 0 p.tags f r) h
       where
-        go : (o : Option ℕ) → there_is o ≡ true → code_size (with_one_more e A f o ws) ≡ 2 + k
+        go : (o : Option ℕ) → is_present o ≡ true → code_size (with_one_more e A f o ws) ≡ 2 + k
         go None h = cc
         go (Some t) h = omega arith
 
-    applied : (f r : ℕ) (ws : List W.Word) (k : ℕ) → length ws ≡ suc k → ((s : ℕ) → r ≡ suc (suc s) → there_is (part_from 0 p.tags f (suc s)) ≡ true) → code_size (apply_body e A f r ws) ≡ given_size r k
+    applied : (f r : ℕ) (ws : List W.Word) (k : ℕ) → length ws ≡ suc k → ((s : ℕ) → r ≡ suc (suc s) → is_present (part_from 0 p.tags f (suc s)) ≡ true) → code_size (apply_body e A f r ws) ≡ applied_body_size r k
     unfolding act_size
     applied f zero ws k l h = refl
     applied f (suc zero) ws k l h = omega arith
@@ -105,7 +105,7 @@ module _ (p : Program) (A : Solution) where
   ended x y (eval a) f = ap code_size (ended_still p A x y a) ∙ omega (arith, eval_arms_size a x (suc x) (tags_of p A a))
   ended x y o f = f tt
 
-  module _ (next : HaveNext p.tags) where
+  module _ (next : PartialTagsAreClosed p.tags) where
     mutual
       unfolding eval_act apply_act act_size expanded_act
 

@@ -7,7 +7,7 @@ use Rattle.grin_syntax.specs.declared.program.Word.TheVariants.{Var}
 use Rattle.grin_syntax.specs.Tree.{Code, end, store, bind, Act, unit, fetch, fetch_word, update, eval, apply, call, prim, read, write, case, nested, fail, Arms, no_arm, arm, Procedure, Program}
 use Rattle.grin_syntax.specs.Fresh.{variables, past_procs}
 use Rattle.grin_meaning.specs.Run.{part_from}
-use Rattle.grin_meaning.specs.Ready.{EachAct, EachCode, EachArms, IsInlined, EachBody, inlined_kind}
+use Rattle.grin_meaning.specs.Ready.{EachAct, EachCode, EachArms, IsInlined, EveryBodyIsOfKind, inlined_kind}
 use Rattle.flow_system.specs.Solution.{Solution}
 use Rattle.inlining.specs.Evaluations.{fields_at}
 use Rattle.inlining.specs.Applications.{with_one_more, apply_body, part_body, apply_arm, apply_arms, part_tags_of, others_of, else_fail, apply_act, apply_code, apply_all, apply_procs, apply_act_room, apply_code_room, apply_inlined}
@@ -73,7 +73,7 @@ module _ (p : Program) (A : Solution) where
     all_done x no_arm h = tt
     all_done x (arm s b as') h = (tt, code_done x b h.1, all_done (x + apply_code_room p A b) as' h.2)
 
-  procs_done : (x : ℕ) (qs : List Procedure) → EachBody no_eval_kind qs → EachBody inlined_kind (apply_procs p A x qs)
+  procs_done : (x : ℕ) (qs : List Procedure) → EveryBodyIsOfKind no_eval_kind qs → EveryBodyIsOfKind inlined_kind (apply_procs p A x qs)
   procs_done x [] h = tt
   procs_done x (q ∷ qs) h = (code_done x q.body h.0, procs_done (x + apply_code_room p A q.body) qs h.1)
 

@@ -17,8 +17,8 @@ use Rattle.flow_system.specs.declared.fact.Place.TheVariants.{Var as var}
 use Rattle.flow_system.specs.declared.fact.Part.{Part}
 use Rattle.flow_system.specs.declared.fact.Part.TheVariants.{Tags as tags, Word as word}
 use Rattle.flow_system.specs.Inclusions.{value}
-use Rattle.flow_system.specs.Solution.{Solution, among, Enough, AsNodes, node_tag, node_field, words_tag, words_field, StandsFor, literal, variable, global, tag_itself, WordAmong, first, later, ValueGives, of_variable, of_node, of_field, of_words, of_word, width}
-use Rattle.flow_system.specs.Covers.{NodeIn, Lies}
+use Rattle.flow_system.specs.Solution.{Solution, among, EnoughWordsForTag, AsNodes, node_tag, node_field, words_tag, words_field, StandsFor, literal, variable, global, tag_itself, WordAmong, first, later, ValueGives, of_variable, of_node, of_field, of_words, of_word, width}
+use Rattle.flow_system.specs.Covers.{NodeIn, StateIsCovered}
 use Rattle.inlining.specs.Applications.{word_has, value_has}
 use Rattle.flow_system.proofs.Lying.{from_some, node_lies}
 
@@ -47,7 +47,7 @@ module _ (p : Program) (A : Solution) where
   tag_given v part u (of_words y) q t e = cc
   tag_given v part u (of_word y) q t e = cc
 
-  word_given : (v : V.Val) (part : Part) (u : AbstractWord) → ValueGives (tables p) A v part u → part ≡ word 0 → (t : ℕ) → u ≡ tag t → (m : ℕ) → fields_of p t ≡ Some m → Enough (width (value v)) m → value_has p A v t ≡ true
+  word_given : (v : V.Val) (part : Part) (u : AbstractWord) → ValueGives (tables p) A v part u → part ≡ word 0 → (t : ℕ) → u ≡ tag t → (m : ℕ) → fields_of p t ≡ Some m → EnoughWordsForTag (width (value v)) m → value_has p A v t ≡ true
   word_given v part u (of_variable {x = x} y) q t e m f en = or_from (among (tag t) (A (var x.0) tags)) _ (inr (subst (λ r. among (tag t) (A (var x.0) r) ≡ true) q (subst (λ u. among u (A (var x.0) part) ≡ true) e y.there)))
   word_given v part u of_node q t e m f en = cc
   word_given v part u (of_field y) q t e m f en = cc
@@ -64,7 +64,7 @@ module _ (p : Program) (A : Solution) where
     pub full : fields_of p n.tag ≡ Some (length n.fields)
     pub has : value_has p A v n.tag ≡ true
 
-  pub value_had : (s : State) → Lies p A s → (v : V.Val) (n : Node) → node_of p s.env v ≡ Some n → Had v n
+  pub value_had : (s : State) → StateIsCovered p A s → (v : V.Val) (n : Node) → node_of p s.env v ≡ Some n → Had v n
   value_had s lies v n e =
       let l = from_some (NodeIn p s.heap (AsNodes (tables p) (width (value v)) (ValueGives (tables p) A v))) (node_of p s.env v) n (node_lies p s.heap A lies.globals s.env lies.variables v) e in
       record { full = l.full; has = node_given v tags (tag n.tag) l.tag_in refl n.tag refl }

@@ -20,9 +20,9 @@ use Rattle.flow_system.specs.declared.fact.Part.TheVariants.{Tags as tags, Word 
 use Rattle.flow_system.specs.Solution.{Solution, among}
 use Rattle.seq.specs.Lists.{those}
 
-abbrev pub some_of : {X : Type 0} → (X → Bool) → List X → Bool
-some_of test [] = false
-some_of test (x ∷ xs) = test x || some_of test xs
+abbrev pub any_satisfies : {X : Type 0} → (X → Bool) → List X → Bool
+any_satisfies test [] = false
+any_satisfies test (x ∷ xs) = test x || any_satisfies test xs
 
 module _ (p : Program) (A : Solution) where
   -- the sites of the cells that a word may stand for
@@ -43,7 +43,8 @@ module _ (p : Program) (A : Solution) where
   -- the tags at these cells, ascending
   abbrev pub tags_of : W.Word → List ℕ
   tags_of a =
-      those (λ t. some_of (λ s. among (tag t) (A (site s) tags)) (sites_of a)) 0 (length p.tags)
+      those (λ t. any_satisfies (λ s. among (tag t) (A (site s) tags)) (sites_of a))
+      0 (length p.tags)
 
   -- The alternatives of an evaluation: n is the variable of the node, and x the first fresh
   -- variable of the alternatives.

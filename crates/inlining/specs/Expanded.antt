@@ -13,27 +13,27 @@ use Rattle.inlining.specs.Evaluations.{tags_of}
 use Rattle.inlining.specs.Applications.{part_tags_of, others_of}
 
 -- a number of 64 bits, the largest one for all that are larger
-abbrev pub capped : ℕ → ℕ
-capped n = min n (2 ^ 64 - 1)
+abbrev pub saturated_at_64_bits : ℕ → ℕ
+saturated_at_64_bits n = min n (2 ^ 64 - 1)
 
 -- the body of an alternative of an evaluation: a call of the fields, the update and the unit, or a
 -- unit alone
-abbrev pub called_size : Option ProcId → ℕ → ℕ
-called_size None k = 1
-called_size (Some f) k = 7 + k
+abbrev pub eval_call_size : Option ProcId → ℕ → ℕ
+eval_call_size None k = 1
+eval_call_size (Some f) k = 7 + k
 
 abbrev pub eval_body_size : Tag → ℕ
-eval_body_size t = cond (is_fun_kind t.kind) (called_size t.proc t.fields) 2
+eval_body_size t = cond (is_fun_kind t.kind) (eval_call_size t.proc t.fields) 2
 
 -- the body of an alternative of an application: a call of the fields and the argument, or a node of
 -- them
-abbrev pub given_size : ℕ → ℕ → ℕ
-given_size zero k = 1
-given_size (suc r) k = 2 + k
+abbrev pub applied_body_size : ℕ → ℕ → ℕ
+applied_body_size zero k = 1
+applied_body_size (suc r) k = 2 + k
 
 abbrev pub part_body_size : Tag → Option ProcId → ℕ
 part_body_size t None = 1
-part_body_size t (Some f) = given_size t.missing t.fields
+part_body_size t (Some f) = applied_body_size t.missing t.fields
 
 module _ (p : Program) (A : Solution) where
   abbrev pub eval_tag_size : Option Tag → ℕ

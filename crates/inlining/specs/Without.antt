@@ -1,14 +1,14 @@
 -- Programs without evaluations.
 use Rattle.grin_syntax.specs.Tree.{Act, eval, Program}
-use Rattle.grin_meaning.specs.Ready.{Kind, any_kind, EachBody}
+use Rattle.grin_meaning.specs.Ready.{PieceKind, any_kind, EveryBodyIsOfKind}
 
 abbrev pub NotEval : Act → Type 0
 NotEval (eval w) = ⊥
 NotEval _ = Unit {0}
 
-abbrev pub no_eval_kind : Kind
+abbrev pub no_eval_kind : PieceKind
 no_eval_kind = record any_kind { operation = NotEval }
 
 -- no evaluation is left
 abbrev pub HasNoEval : Program → Type 0
-HasNoEval p = EachBody no_eval_kind p.procs
+HasNoEval p = EveryBodyIsOfKind no_eval_kind p.procs

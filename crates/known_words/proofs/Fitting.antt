@@ -14,12 +14,12 @@ use Rattle.grin_syntax.specs.Tree.{Program}
 use Rattle.grin_syntax.specs.Binders.{shape_vars, numbers_of}
 use Rattle.grin_meaning.specs.Values.{Node, Value, State, and_then, Binding, fits, fits_not, fit_of, as_node, value_of}
 use Rattle.flow_system.specs.Solution.{Solution}
-use Rattle.flow_system.specs.Covers.{Lies}
+use Rattle.flow_system.specs.Covers.{StateIsCovered}
 use Rattle.pass_ground.specs.OpenUpdates.{tag_variable}
 use Rattle.update_special.specs.Updates.{tags_of}
 use Rattle.update_special.proofs.Step.{tag_there, tag_listed}
 use Rattle.case_simplify.proofs.Held.{NodeFits, node_fits, node_fits_not, IntFits, int_fits}
-use Rattle.known_words.specs.Needed.{any_left, may_fit, without, left_by, needs, leaves, if_any, tags_at}
+use Rattle.known_words.specs.Needed.{any_tag_left, pattern_may_match, without, tags_left_by, arm_may_match, tags_left_after, if_nonempty, tags_at}
 
 in_among : (x : ℕ) (xs : List ℕ) → In x xs → is_among x xs ≡ true
 in_among x [] h = none_in h
@@ -55,7 +55,7 @@ module _ (g : Program) where
   not_empty : {t : ℕ} (ts : List ℕ) → In t ts → ts ≡ [] → ⊥
   not_empty {t} ts h e = none_in (subst (In t) e h)
 
-  among_after : (tags : List ℕ) (s : Shape) (y : Value) → shape_vars s ≡ [] → fit_of g s y ≡ fits_not → Among tags y → Among (left_by tags s) y
+  among_after : (tags : List ℕ) (s : Shape) (y : Value) → shape_vars s ≡ [] → fit_of g s y ≡ fits_not → Among tags y → Among (tags_left_by tags s) y
   among_after tags (shape.Node t (x ∷ xs)) y b e h = no_vars x xs b
   among_after tags (shape.Node t []) y b e h =
       let f : (n : Node) × (as_node g y ≡ Some n) × (nat_eq n.tag t.0 ≡ false) = node_fits_not g t y e in
@@ -69,15 +69,15 @@ module _ (g : Program) where
   among_after tags (shape.Int k) y b e h = h
   among_after tags shape.Else y b e h = cc
 
-  pub left_after : (left : Option (List ℕ)) (s : Shape) (y : Value) → shape_vars s ≡ [] → fit_of g s y ≡ fits_not → Left left y → Left (leaves left s) y
+  pub left_after : (left : Option (List ℕ)) (s : Shape) (y : Value) → shape_vars s ≡ [] → fit_of g s y ≡ fits_not → Left left y → Left (tags_left_after left s) y
   left_after None s y b e h = tt
   left_after (Some tags) s y b e h = among_after tags s y b e h
 
-  none_any : (tags : List ℕ) → any_left tags ≡ false → tags ≡ []
+  none_any : (tags : List ℕ) → any_tag_left tags ≡ false → tags ≡ []
   none_any [] e = refl
   none_any (t ∷ ts) e = true_not_false e
 
-  never_among : (tags : List ℕ) (s : Shape) (y : Value) (bs : List Binding) → shape_vars s ≡ [] → may_fit tags s ≡ false → fit_of g s y ≡ fits bs → Among tags y → ⊥
+  never_among : (tags : List ℕ) (s : Shape) (y : Value) (bs : List Binding) → shape_vars s ≡ [] → pattern_may_match tags s ≡ false → fit_of g s y ≡ fits bs → Among tags y → ⊥
   never_among tags (shape.Node t (x ∷ xs)) y bs b n e h = no_vars x xs b
   never_among tags (shape.Node t []) y bs b n e h =
       let f : NodeFits g t.0 y bs = node_fits g t y bs e in
@@ -87,15 +87,15 @@ module _ (g : Program) where
       true_not_false (sym (in_among 0 tags (subst (λ k. In k tags) f.tagged (h.tag f.n f.is))) ∙ n)
   never_among tags shape.Else y bs b n e h = h.some (none_any tags n)
 
-  pub never_taken : (left : Option (List ℕ)) (s : Shape) (y : Value) (bs : List Binding) → shape_vars s ≡ [] → needs left s ≡ false → fit_of g s y ≡ fits bs → Left left y → ⊥
+  pub never_taken : (left : Option (List ℕ)) (s : Shape) (y : Value) (bs : List Binding) → shape_vars s ≡ [] → arm_may_match left s ≡ false → fit_of g s y ≡ fits bs → Left left y → ⊥
   never_taken None s y bs b n e h = true_not_false n
   never_taken (Some tags) s y bs b n e h = never_among tags s y bs b n e h
 
   -- where the solution covers the state, the value of a case has one of its tags
-  pub at_first : (A : Solution) (s : State) → Lies g A s → (v : Val) (y : Value) → value_of g s.env v ≡ Some y → Left (tags_at (length g.tags) A (tag_variable v)) y
+  pub at_first : (A : Solution) (s : State) → StateIsCovered g A s → (v : Val) (y : Value) → value_of g s.env v ≡ Some y → Left (tags_at (length g.tags) A (tag_variable v)) y
   at_first A s lies v y at = go (tag_variable v) refl
     where
-      by_list : (x : VarId) (ts : List ℕ) → tag_variable v ≡ Some x → tags_of (length g.tags) A x.0 ≡ ts → Left (if_any ts) y
+      by_list : (x : VarId) (ts : List ℕ) → tag_variable v ≡ Some x → tags_of (length g.tags) A x.0 ≡ ts → Left (if_nonempty ts) y
       by_list x [] e q = tt
       by_list x (t ∷ ts) e q = record {
         tag = λ n is. subst (In n.tag) q (tag_listed g A s lies x n (tag_there g s.env v x n e (ap (λ o. and_then o (as_node g)) at ∙ is)));

@@ -2,11 +2,11 @@ pub mod Literals
 pub mod Tells
 pub mod Words
 pub mod Sound
-pub mod Well
-pub mod Same
-pub mod Shape
+pub mod Formed
+pub mod Simulated
+pub mod Gives
 pub mod Sizes
-pub mod PassContract
+pub mod Contract
 pub mod Loops
 pub mod Soles
 pub mod Fitting

@@ -12,12 +12,12 @@ use Rattle.flow_system.specs.declared.fact.Element.TheVariants.{Cell as cell_of,
 use Rattle.flow_system.specs.declared.fact.Place.TheVariants.{Var as var}
 use Rattle.flow_system.specs.declared.fact.Part.TheVariants.{Word as word}
 use Rattle.flow_system.specs.Solution.{Solution, same_word, among, At}
-use Rattle.flow_system.specs.Covers.{Lies, ValueIn}
+use Rattle.flow_system.specs.Covers.{StateIsCovered, ValueIn}
 use Rattle.flow_system.proofs.Lying.{from_some}
 use Rattle.case_simplify.specs.declared.known.Known.{Known}
 use Rattle.case_simplify.specs.declared.known.Known.TheVariants.{Tag}
 use Rattle.case_simplify.proofs.Held.{some_and, datum_of}
-use Rattle.known_words.specs.Told.{all_are, sole, only_tag}
+use Rattle.known_words.specs.Told.{all_are_tag, sole, only_tag}
 
 -- ---- sets of one tag
 
@@ -28,12 +28,12 @@ same_tag t (cell_of s) (tag k) a b = true_not_false (sym b)
 same_tag t num (tag k) a b = true_not_false (sym b)
 same_tag t (tag j) (tag k) a b = let e : j ≡ t = grind (arith, nat_tests, a, b) in ap tag e
 
-all_among : (t : ℕ) (u : AbstractWord) (us : List AbstractWord) → all_are t us ≡ true → among u us ≡ true → u ≡ tag t
+all_among : (t : ℕ) (u : AbstractWord) (us : List AbstractWord) → all_are_tag t us ≡ true → among u us ≡ true → u ≡ tag t
 all_among t u [] h e = true_not_false (sym e)
-all_among t u (x ∷ us) h e = go (same_word u x) refl e (all_among t u us (and_right (same_word (tag t) x) (all_are t us) h))
+all_among t u (x ∷ us) h e = go (same_word u x) refl e (all_among t u us (and_right (same_word (tag t) x) (all_are_tag t us) h))
   where
     go : (b : Bool) → same_word u x ≡ b → (b || among u us) ≡ true → (among u us ≡ true → u ≡ tag t) → u ≡ tag t
-    go true q m later = same_tag t u x (and_left (same_word (tag t) x) (all_are t us) h) q
+    go true q m later = same_tag t u x (and_left (same_word (tag t) x) (all_are_tag t us) h) q
     go false q m later = later m
 
 pub same_self : (t : ℕ) → same_word (tag t) (tag t) ≡ true
@@ -44,15 +44,15 @@ pub sole_all : (us : List AbstractWord) (t : ℕ) → sole us ≡ Some t → (u 
 sole_all [] t e u m = none_is_some e
 sole_all (cell_of s ∷ us) t e u m = none_is_some e
 sole_all (num ∷ us) t e u m = none_is_some e
-sole_all (tag k ∷ us) t e u m = go (all_are k us) refl e
+sole_all (tag k ∷ us) t e u m = go (all_are_tag k us) refl e
   where
-    go : (b : Bool) → all_are k us ≡ b → cond b (Some k) None ≡ Some t → u ≡ tag t
+    go : (b : Bool) → all_are_tag k us ≡ b → cond b (Some k) None ≡ Some t → u ≡ tag t
     go true q e = all_among k u (tag k ∷ us) ((λ i. same_self k i && q i)) m ∙ ap tag (some_is e)
     go false q e = none_is_some e
 
 -- ---- what is told
 
-module _ (g : Program) (A : Solution) (s : State) (lies : Lies g A s) where
+module _ (g : Program) (A : Solution) (s : State) (lies : StateIsCovered g A s) where
   sole_datum : (x t : ℕ) (d : Datum) → sole (A (var x) (word 0)) ≡ Some t → ValueIn g s.heap (At A (var x)) (words (d ∷ [])) → d ≡ tag' t
   sole_datum x t (number k) h at = let e : num ≡ tag t = sole_all (A (var x) (word 0)) t h num at.0.there in cc
   sole_datum x t (tag' k) h at = let e : tag k ≡ tag t = sole_all (A (var x) (word 0)) t h (tag k) at.0.there in let q : k ≡ t = cc in ap tag' q

@@ -18,12 +18,12 @@ use Rattle.grin_syntax.proofs.TreeOf.{before_of-Store, before_of-Bind, arm_of-pa
 use Rattle.grin_syntax.proofs.Pieces.{all_before_push}
 use Rattle.flow_system.specs.Solution.{Solution}
 use Rattle.case_simplify.specs.declared.known.Fact.{Fact}
-use Rattle.case_simplify.specs.Known.{Facts, nothing_known, facts_of, known_after, noted}
-use Rattle.case_simplify.specs.Table.{Adds}
+use Rattle.case_simplify.specs.Known.{Facts, nothing_known, facts_of, known_after, facts_in_alternative}
+use Rattle.case_simplify.specs.Table.{AppendsFacts}
 use Rattle.case_simplify.proofs.Tables.{adds_none, adds_again}
 use Rattle.known_words.specs.Told.{known_val, known_cells}
 use Rattle.pass_ground.specs.OpenUpdates.{tag_variable}
-use Rattle.known_words.specs.Needed.{needs, leaves, tags_at}
+use Rattle.known_words.specs.Needed.{arm_may_match, tags_left_after, tags_at}
 use Rattle.known_words.specs.Known.{known_act, known_code, known_arms, known_arm}
 
 -- alternatives before others
@@ -43,12 +43,12 @@ module _ (count : ℕ) (A : Solution) where
   -- these statements are what becomes of those, and what is known after them was added
   pub record Become (old now : List Fact) (made from : List Stmt) : Type 0 where
     pub by : (c : Code) → all_before (map before_of made) (known_code count A (facts_of now) c) ≡ known_code count A (facts_of old) (all_before (map before_of from) c)
-    pub adds : Adds old now
+    pub adds : AppendsFacts old now
 
   pub none_become : (old : List Fact) → Become old old [] []
   none_become old = record { by = λ c. refl; adds = adds_none old }
 
-  pub one_more_becomes : (old now new : List Fact) (made from : List Stmt) (m s : Stmt) → Become old now made from → ((c : Code) → before_of m (known_code count A (facts_of new) c) ≡ known_code count A (facts_of now) (before_of s c)) → Adds now new
+  pub one_more_becomes : (old now new : List Fact) (made from : List Stmt) (m s : Stmt) → Become old now made from → ((c : Code) → before_of m (known_code count A (facts_of new) c) ≡ known_code count A (facts_of now) (before_of s c)) → AppendsFacts now new
       → Become old new (made ++ m ∷ []) (from ++ s ∷ [])
   one_more_becomes old now new made from m s u h k = record {
     by = λ c. all_before_push made m (known_code count A (facts_of new) c) ∙ ap (all_before (map before_of made)) (h c) ∙ u.by (before_of s c) ∙ ap (known_code count A (facts_of old)) (sym (all_before_push from s c));
@@ -92,23 +92,23 @@ module _ (count : ℕ) (A : Solution) where
           ap (λ l. known_arms count A facts v first (before l rest)) (map_push arm_of from a) ∙ ap (known_arms count A facts v first) (before_push (map arm_of from) (arm_of a) rest)
           ∙ c.by (arm (arm_of a).0 (arm_of a).1 rest) ∙ ap (λ q. before (map arm_of made) (known_arms count A facts v left (arm q.0 q.1 rest))) (arm_of-parts a)
 
-      pub one_chosen : (next : Option (List ℕ)) (m : Alt) → needs left a.pattern ≡ true → next ≡ leaves left a.pattern → arm_of m ≡ known_arm count A facts v (arm_of a) → Chosen first next (made ++ m ∷ []) (from ++ a ∷ [])
+      pub one_chosen : (next : Option (List ℕ)) (m : Alt) → arm_may_match left a.pattern ≡ true → next ≡ tags_left_after left a.pattern → arm_of m ≡ known_arm count A facts v (arm_of a) → Chosen first next (made ++ m ∷ []) (from ++ a ∷ [])
       unfolding known_act
       one_chosen next m n l e = record {
         by = λ rest.
-            let q : arm_of m ≡ (a.pattern, known_code count A (noted v a.pattern facts) (code_of a.body)) = e ∙ ap (known_arm count A facts v) (arm_of-parts a) in
+            let q : arm_of m ≡ (a.pattern, known_code count A (facts_in_alternative v a.pattern facts) (code_of a.body)) = e ∙ ap (known_arm count A facts v) (arm_of-parts a) in
             one_more rest
-            ∙ ap (λ b. before (map arm_of made) (cond b (arm a.pattern (known_code count A (noted v a.pattern facts) (code_of a.body)) (known_arms count A facts v (leaves left a.pattern) rest)) (known_arms count A facts v left rest))) n
-            ∙ ap (λ k. before (map arm_of made) (arm a.pattern (known_code count A (noted v a.pattern facts) (code_of a.body)) (known_arms count A facts v k rest))) (sym l)
+            ∙ ap (λ b. before (map arm_of made) (cond b (arm a.pattern (known_code count A (facts_in_alternative v a.pattern facts) (code_of a.body)) (known_arms count A facts v (tags_left_after left a.pattern) rest)) (known_arms count A facts v left rest))) n
+            ∙ ap (λ k. before (map arm_of made) (arm a.pattern (known_code count A (facts_in_alternative v a.pattern facts) (code_of a.body)) (known_arms count A facts v k rest))) (sym l)
             ∙ ap (λ z. before (map arm_of made) (arm z.0 z.1 (known_arms count A facts v next rest))) (sym q)
             ∙ sym (before_push (map arm_of made) (arm_of m) (known_arms count A facts v next rest)) ∙ ap (λ l. before l (known_arms count A facts v next rest)) (sym (map_push arm_of made m));
       }
 
-      pub one_dropped : needs left a.pattern ≡ false → Chosen first left made (from ++ a ∷ [])
+      pub one_dropped : arm_may_match left a.pattern ≡ false → Chosen first left made (from ++ a ∷ [])
       unfolding known_act
       one_dropped n = record {
         by = λ rest. one_more rest
-            ∙ ap (λ b. before (map arm_of made) (cond b (arm a.pattern (known_code count A (noted v a.pattern facts) (code_of a.body)) (known_arms count A facts v (leaves left a.pattern) rest)) (known_arms count A facts v left rest))) n;
+            ∙ ap (λ b. before (map arm_of made) (cond b (arm a.pattern (known_code count A (facts_in_alternative v a.pattern facts) (code_of a.body)) (known_arms count A facts v (tags_left_after left a.pattern) rest)) (known_arms count A facts v left rest))) n;
       }
 
     pub all_chosen : (first left : Option (List ℕ)) (made from alts : List Alt) → from ≡ alts → Chosen first left made from → arms_of (map arm_of made) ≡ known_arms count A facts v first (arms_of (map arm_of alts))

@@ -11,12 +11,12 @@ use Rattle.grin_syntax.specs.Binders.{shape_vars}
 use Rattle.grin_syntax.specs.Formed.{AllOf}
 use Rattle.grin_meaning.specs.Slim.{val_weight, cells_weight, act_weight, code_weight, arms_weight, procs_weight, act_calls, code_calls, arms_calls, procs_calls, node_words, end_words, inner_words, code_words, arms_words, procedure_words}
 use Rattle.flow_system.specs.Solution.{Solution}
-use Rattle.case_simplify.specs.Known.{Facts, nothing_known, known_after, noted}
+use Rattle.case_simplify.specs.Known.{Facts, nothing_known, known_after, facts_in_alternative}
 use Rattle.known_words.specs.Told.{known_word, known_words, known_val, known_cells}
 use Rattle.pass_ground.specs.OpenUpdates.{tag_variable}
-use Rattle.known_words.specs.Needed.{needs, leaves, tags_at}
+use Rattle.known_words.specs.Needed.{arm_may_match, tags_left_after, tags_at}
 use Rattle.known_words.specs.Known.{known_act, known_code, known_arms}
-use Rattle.known_words.proofs.Well.{known_procedure}
+use Rattle.known_words.proofs.Formed.{known_procedure}
 
 module _ (count : ℕ) (A : Solution) where
   as_many : (ws : List Word) (facts : Facts) → length (known_words count A facts ws) ≡ length ws
@@ -37,8 +37,8 @@ module _ (count : ℕ) (A : Solution) where
   cells_as_many (c ∷ cs) facts = ap suc (cells_as_many cs facts)
 
   -- an alternative stays or goes
-  arm_or_less : (size : Arms → ℕ) (left : Option (List ℕ)) (s : Shape) (b' : Code) (bs' cs' : Arms) (n : ℕ) → size (arm s b' bs') ≤ n → size cs' ≤ n → size (cond (needs left s) (arm s b' bs') cs') ≤ n
-  arm_or_less size left s b' bs' cs' n h k = go (needs left s)
+  arm_or_less : (size : Arms → ℕ) (left : Option (List ℕ)) (s : Shape) (b' : Code) (bs' cs' : Arms) (n : ℕ) → size (arm s b' bs') ≤ n → size cs' ≤ n → size (cond (arm_may_match left s) (arm s b' bs') cs') ≤ n
+  arm_or_less size left s b' bs' cs' n h k = go (arm_may_match left s)
     where
       go : (c : Bool) → size (cond c (arm s b' bs') cs') ≤ n
       go true = h
@@ -81,10 +81,10 @@ module _ (count : ℕ) (A : Solution) where
     arms_lighter : (as' : Arms) (facts : Facts) (v : Val) (left : Option (List ℕ)) → arms_weight (known_arms count A facts v left as') ≤ arms_weight as'
     arms_lighter no_arm facts v left = omega arith
     arms_lighter (arm s b as') facts v left =
-        let h : code_weight (known_code count A (noted v s facts) b) ≤ code_weight b = code_lighter b (noted v s facts) in
-        let k : arms_weight (known_arms count A facts v (leaves left s) as') ≤ arms_weight as' = arms_lighter as' facts v (leaves left s) in
+        let h : code_weight (known_code count A (facts_in_alternative v s facts) b) ≤ code_weight b = code_lighter b (facts_in_alternative v s facts) in
+        let k : arms_weight (known_arms count A facts v (tags_left_after left s) as') ≤ arms_weight as' = arms_lighter as' facts v (tags_left_after left s) in
         let l : arms_weight (known_arms count A facts v left as') ≤ arms_weight as' = arms_lighter as' facts v left in
-        arm_or_less arms_weight left s (known_code count A (noted v s facts) b) (known_arms count A facts v (leaves left s) as') (known_arms count A facts v left as') (3 + length (shape_vars s) + code_weight b + arms_weight as') (omega (arith, h, k)) (omega (arith, l))
+        arm_or_less arms_weight left s (known_code count A (facts_in_alternative v s facts) b) (known_arms count A facts v (tags_left_after left s) as') (known_arms count A facts v left as') (3 + length (shape_vars s) + code_weight b + arms_weight as') (omega (arith, h, k)) (omega (arith, l))
 
   pub procs_lighter : (qs : List Procedure) → procs_weight (map (known_procedure count A) qs) ≤ procs_weight qs
   procs_lighter [] = omega arith
@@ -124,10 +124,10 @@ module _ (count : ℕ) (A : Solution) where
     arms_calls_fewer : (as' : Arms) (facts : Facts) (v : Val) (left : Option (List ℕ)) → arms_calls (known_arms count A facts v left as') ≤ arms_calls as'
     arms_calls_fewer no_arm facts v left = omega arith
     arms_calls_fewer (arm s b as') facts v left =
-        let h : code_calls (known_code count A (noted v s facts) b) ≤ code_calls b = code_calls_fewer b (noted v s facts) in
-        let k : arms_calls (known_arms count A facts v (leaves left s) as') ≤ arms_calls as' = arms_calls_fewer as' facts v (leaves left s) in
+        let h : code_calls (known_code count A (facts_in_alternative v s facts) b) ≤ code_calls b = code_calls_fewer b (facts_in_alternative v s facts) in
+        let k : arms_calls (known_arms count A facts v (tags_left_after left s) as') ≤ arms_calls as' = arms_calls_fewer as' facts v (tags_left_after left s) in
         let l : arms_calls (known_arms count A facts v left as') ≤ arms_calls as' = arms_calls_fewer as' facts v left in
-        arm_or_less arms_calls left s (known_code count A (noted v s facts) b) (known_arms count A facts v (leaves left s) as') (known_arms count A facts v left as') (code_calls b + arms_calls as') (omega (arith, h, k)) (omega (arith, l))
+        arm_or_less arms_calls left s (known_code count A (facts_in_alternative v s facts) b) (known_arms count A facts v (tags_left_after left s) as') (known_arms count A facts v left as') (code_calls b + arms_calls as') (omega (arith, h, k)) (omega (arith, l))
 
   pub procs_calls_fewer : (qs : List Procedure) → procs_calls (map (known_procedure count A) qs) ≤ procs_calls qs
   procs_calls_fewer [] = omega arith
@@ -206,10 +206,10 @@ module _ (count : ℕ) (A : Solution) where
     arms_words_fewer : (as' : Arms) (facts : Facts) (v : Val) (left : Option (List ℕ)) → arms_words (known_arms count A facts v left as') ≤ arms_words as'
     arms_words_fewer no_arm facts v left = omega arith
     arms_words_fewer (arm s b as') facts v left =
-        let h : code_words (known_code count A (noted v s facts) b) ≤ code_words b = code_words_fewer b (noted v s facts) in
-        let k : arms_words (known_arms count A facts v (leaves left s) as') ≤ arms_words as' = arms_words_fewer as' facts v (leaves left s) in
+        let h : code_words (known_code count A (facts_in_alternative v s facts) b) ≤ code_words b = code_words_fewer b (facts_in_alternative v s facts) in
+        let k : arms_words (known_arms count A facts v (tags_left_after left s) as') ≤ arms_words as' = arms_words_fewer as' facts v (tags_left_after left s) in
         let l : arms_words (known_arms count A facts v left as') ≤ arms_words as' = arms_words_fewer as' facts v left in
-        arm_or_less arms_words left s (known_code count A (noted v s facts) b) (known_arms count A facts v (leaves left s) as') (known_arms count A facts v left as') (length (shape_vars s) + code_words b + arms_words as') (omega (arith, h, k)) (omega (arith, l))
+        arm_or_less arms_words left s (known_code count A (facts_in_alternative v s facts) b) (known_arms count A facts v (tags_left_after left s) as') (known_arms count A facts v left as') (length (shape_vars s) + code_words b + arms_words as') (omega (arith, h, k)) (omega (arith, l))
 
   pub procs_words : (most : ℕ) (qs : List Procedure) → AllOf (λ q. procedure_words q ≤ most) qs → AllOf (λ q. procedure_words q ≤ most) (map (known_procedure count A) qs)
   procs_words most [] h = tt

@@ -16,7 +16,7 @@ use Rattle.flow_system.specs.declared.fact.Element.TheVariants.{Cell as cell_of,
 use Rattle.flow_system.specs.declared.fact.Place.TheVariants.{Var as var}
 use Rattle.flow_system.specs.declared.fact.Part.TheVariants.{Tags as tags, Word as word}
 use Rattle.flow_system.specs.Solution.{Solution, same_word, among, At}
-use Rattle.known_words.specs.Told.{all_are, sole}
+use Rattle.known_words.specs.Told.{all_are_tag, sole}
 use Rattle.known_words.proofs.Literals.{same_self, sole_all}
 
 -- ---- what the sole tag of a set is
@@ -40,24 +40,24 @@ among_later u x us e = go (same_word u x)
 abbrev pub OnlyTag : ℕ → List AbstractWord → Type 0
 OnlyTag t us = (u : AbstractWord) → among u us ≡ true → u ≡ tag t
 
-all_is : (t : ℕ) (us : List AbstractWord) → OnlyTag t us → all_are t us ≡ true
+all_is : (t : ℕ) (us : List AbstractWord) → OnlyTag t us → all_are_tag t us ≡ true
 all_is t [] h = refl
 all_is t (u ∷ us) h =
     let e : u ≡ tag t = h u (among_head u us) in
-    let r : all_are t us ≡ true = all_is t us (λ x m. h x (among_later x u us m)) in
-    ap (λ b. b && all_are t us) (ap (same_word (tag t)) e ∙ same_self t) ∙ r
+    let r : all_are_tag t us ≡ true = all_is t us (λ x m. h x (among_later x u us m)) in
+    ap (λ b. b && all_are_tag t us) (ap (same_word (tag t)) e ∙ same_self t) ∙ r
 
 sole_is : (t : ℕ) (us : List AbstractWord) → OnlyTag t us → among (tag t) us ≡ true → sole us ≡ Some t
 sole_is t [] h m = cc
 sole_is t (u ∷ us) h m =
-    let r : all_are t us ≡ true = all_is t us (λ x m. h x (among_later x u us m)) in
+    let r : all_are_tag t us ≡ true = all_is t us (λ x m. h x (among_later x u us m)) in
     ap (λ x. sole (x ∷ us)) (h u (among_head u us)) ∙ ap (λ b. cond b (Some t) None) r
 
 sole_has : (us : List AbstractWord) (t : ℕ) → sole us ≡ Some t → among (tag t) us ≡ true
 sole_has [] t e = none_is_some e
 sole_has (cell_of s ∷ us) t e = none_is_some e
 sole_has (num ∷ us) t e = none_is_some e
-sole_has (tag k ∷ us) t e = go (all_are k us) e
+sole_has (tag k ∷ us) t e = go (all_are_tag k us) e
   where
     go : (b : Bool) → cond b (Some k) None ≡ Some t → among (tag t) (tag k ∷ us) ≡ true
     go true e = let s : k ≡ t = cc in subst (λ j. among (tag j) (tag k ∷ us) ≡ true) s (among_head (tag k) us)

@@ -16,7 +16,7 @@ use Rattle.grin_syntax.specs.Tree.{Act, unit, fetch, fetch_word, update, eval, a
 use Rattle.grin_syntax.specs.Formed.{Scope, WordFormed, ValFormed, ShapeFormed, ActFormed, Formed}
 use Rattle.case_simplify.specs.declared.known.Known.{Known}
 use Rattle.case_simplify.specs.declared.known.Known.TheVariants.{Tag, Number}
-use Rattle.case_simplify.specs.Known.{Facts, nothing_known, note, told, first_word, second_word, note_word, note_known, note_copies, words_in, word_vars, known_after, noted}
+use Rattle.case_simplify.specs.Known.{Facts, nothing_known, note, told, first_word, second_word, note_word, note_known, note_copies, words_in, word_vars, known_after, facts_in_alternative}
 
 module _ (g : Program) where
   abbrev pub Sound : Known → Type 0
@@ -48,7 +48,7 @@ module _ (g : Program) where
   below (u ∷ ts) zero t e = omega arith
   below (u ∷ ts) (suc i) t e = let h : i < length ts = below ts i t e in omega (arith, h)
 
-  pub noted_sound : Formed g → (facts : Facts) (v : V.Val) (s : Shape) → ShapeFormed g s → AllSound facts → AllSound (noted v s facts)
+  pub noted_sound : Formed g → (facts : Facts) (v : V.Val) (s : Shape) → ShapeFormed g s → AllSound facts → AllSound (facts_in_alternative v s facts)
   noted_sound f facts v (shape.Node t xs) k h = note_word_sound facts (first_word v) (Tag t) k h
   noted_sound f facts v (shape.Int i) k h = note_word_sound _ (second_word v) (Number i) tt (note_word_sound facts (first_word v) (Tag (tag_id 0)) (below g.tags 0 f.number_tag.0 f.number_tag.1) h)
   noted_sound f facts v shape.Else k h = h

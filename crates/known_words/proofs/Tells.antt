@@ -7,16 +7,16 @@ use Rattle.grin_syntax.specs.declared.program.Val.{Val}
 use Rattle.grin_syntax.specs.declared.program.Word.TheVariants.{Var}
 use Rattle.grin_syntax.specs.Tree.{Program}
 use Rattle.grin_meaning.specs.Values.{Datum, Value, State, and_then, only_word, word_of, value_of}
-use Rattle.grin_meaning.specs.Follows.{Every}
+use Rattle.grin_meaning.specs.Follows.{HoldsInEveryState}
 use Rattle.flow_system.specs.Solution.{Solution}
-use Rattle.flow_system.specs.Covers.{Lies}
+use Rattle.flow_system.specs.Covers.{StateIsCovered}
 use Rattle.pass_ground.specs.OpenUpdates.{tag_variable}
-use Rattle.update_special.specs.Updates.{stands_for}
+use Rattle.update_special.specs.Updates.{may_have_tag}
 use Rattle.case_simplify.specs.declared.known.Known.{Known}
 use Rattle.case_simplify.specs.Known.{Facts}
 use Rattle.case_simplify.proofs.Held.{datum_of, Holds}
 use Rattle.known_words.specs.Told.{silent, only_tag, or_else, told_of}
-use Rattle.known_words.specs.Needed.{if_any, tags_at}
+use Rattle.known_words.specs.Needed.{if_nonempty, tags_at}
 use Rattle.known_words.proofs.Literals.{only_datum}
 use Rattle.known_words.proofs.Fitting.{Left, at_first}
 
@@ -25,10 +25,10 @@ pub record Tells (g : Program) (A : Solution) (s : State) : Type 0 where
   pub words : (x : ℕ) (k : Known) (d : Datum) → only_tag (length g.tags) A x ≡ Some k → and_then (s.env x) only_word ≡ Some d → d ≡ datum_of g k
   pub values : (v : Val) (y : Value) → value_of g s.env v ≡ Some y → Left g (tags_at (length g.tags) A (tag_variable v)) y
 
-lies_tells : (g : Program) (A : Solution) (s : State) → Lies g A s → Tells g A s
+lies_tells : (g : Program) (A : Solution) (s : State) → StateIsCovered g A s → Tells g A s
 lies_tells g A s lies = record { words = only_datum g A s lies (length g.tags); values = at_first g A s lies }
 
-pub all_tell : (g : Program) (A : Solution) (ss : List State) → Every (Lies g A) ss → Every (Tells g A) ss
+pub all_tell : (g : Program) (A : Solution) (ss : List State) → HoldsInEveryState (StateIsCovered g A) ss → HoldsInEveryState (Tells g A) ss
 all_tell g A [] h = tt
 all_tell g A (s ∷ ss) h = (lies_tells g A s h.0, all_tell g A ss h.1)
 
@@ -36,9 +36,9 @@ all_tell g A (s ∷ ss) h = (lies_tells g A s h.0, all_tell g A ss h.1)
 
 pub silent_tags : (count : ℕ) (o : Option VarId) → tags_at count silent o ≡ None
 silent_tags count None = refl
-silent_tags count (Some x) = ap if_any (no_tags 0 count)
+silent_tags count (Some x) = ap if_nonempty (no_tags 0 count)
   where
-    no_tags : (i k : ℕ) → those (stands_for silent x.0) i k ≡ []
+    no_tags : (i k : ℕ) → those (may_have_tag silent x.0) i k ≡ []
     no_tags i zero = refl
     no_tags i (suc k) = no_tags (suc i) k
 
@@ -48,7 +48,7 @@ silent_tells g s = record {
   values = λ v y at. subst (λ o. Left g o y) (sym (silent_tags (length g.tags) (tag_variable v))) tt;
 }
 
-pub all_silent : (g : Program) (ss : List State) → Every (Tells g silent) ss
+pub all_silent : (g : Program) (ss : List State) → HoldsInEveryState (Tells g silent) ss
 all_silent g [] = tt
 all_silent g (s ∷ ss) = (silent_tells g s, all_silent g ss)
 

@@ -7,9 +7,9 @@ use Rattle.grin_syntax.specs.Tree.{Code, end, store, bind, Act, unit, fetch, fet
 use Rattle.grin_meaning.specs.Rewritten.{rewritten}
 use Rattle.flow_system.specs.Solution.{Solution}
 use Rattle.pass_ground.specs.OpenUpdates.{tag_variable}
-use Rattle.case_simplify.specs.Known.{Facts, nothing_known, known_after, noted}
+use Rattle.case_simplify.specs.Known.{Facts, nothing_known, known_after, facts_in_alternative}
 use Rattle.known_words.specs.Told.{known_word, known_words, known_val, known_cells}
-use Rattle.known_words.specs.Needed.{needs, leaves, tags_at}
+use Rattle.known_words.specs.Needed.{arm_may_match, tags_left_after, tags_at}
 
 module _ (count : ℕ) (A : Solution) where
   unfoldable mutual
@@ -41,12 +41,13 @@ module _ (count : ℕ) (A : Solution) where
     pub known_arms : Facts → V.Val → Option (List ℕ) → Arms → Arms
     known_arms facts v left no_arm = no_arm
     known_arms facts v left (arm s b as') =
-        cond (needs left s)
-        (arm s (known_code (noted v s facts) b) (known_arms facts v (leaves left s) as'))
+        cond (arm_may_match left s)
+        (arm s (known_code (facts_in_alternative v s facts) b)
+        (known_arms facts v (tags_left_after left s) as'))
         (known_arms facts v left as')
 
   abbrev pub known_arm : Facts → V.Val → Shape × Code → Shape × Code
-  known_arm facts v a = (a.0, known_code (noted v a.0 facts) a.1)
+  known_arm facts v a = (a.0, known_code (facts_in_alternative v a.0 facts) a.1)
 
 -- by a solution
 abbrev pub known : Solution → Program → Program

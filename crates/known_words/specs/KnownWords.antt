@@ -8,11 +8,11 @@ use Rattle.grin_meaning.specs.Slim.{Slim}
 use Rattle.flow_system.specs.Tables.{tables}
 use Rattle.flow_system.specs.System.{system}
 use Rattle.flow_system.specs.Solution.{Solution, IsLeast}
-use Rattle.pass_ground.specs.OpenUpdates.{tag_variable, open_updates}
-use Rattle.pass_ground.specs.Vectors.{StaysOfVectors}
-use Rattle.case_simplify.specs.Known.{Facts, nothing_known, known_after, noted}
+use Rattle.pass_ground.specs.OpenUpdates.{tag_variable, updates_with_variable_tag}
+use Rattle.pass_ground.specs.Vectors.{StaysVectorForm}
+use Rattle.case_simplify.specs.Known.{Facts, nothing_known, known_after, facts_in_alternative}
 use Rattle.known_words.specs.Told.{silent, told_of}
-use Rattle.known_words.specs.Needed.{tags_at, AllNeeded}
+use Rattle.known_words.specs.Needed.{tags_at, AllArmsNeeded}
 use Rattle.known_words.specs.Known.{known}
 
 module _ (count : ℕ) (A : Solution) where
@@ -23,7 +23,7 @@ module _ (count : ℕ) (A : Solution) where
     -- no variable is named of which something is told, and each alternative of a case may be taken
     pub KnownAct : Facts → Act → Type 0
     KnownAct facts (case v as') =
-        ValOk (Untold facts) v × AllNeeded (tags_at count A (tag_variable v)) as'
+        ValOk (Untold facts) v × AllArmsNeeded (tags_at count A (tag_variable v)) as'
         × KnownArms facts v as'
     KnownAct facts (nested b) = KnownCode facts b
     KnownAct facts o = ActOk (Untold facts) o
@@ -35,11 +35,12 @@ module _ (count : ℕ) (A : Solution) where
 
     pub KnownArms : Facts → V.Val → Arms → Type 0
     KnownArms facts v no_arm = Unit {0}
-    KnownArms facts v (arm s b as') = KnownCode (noted v s facts) b × KnownArms facts v as'
+    KnownArms facts v (arm s b as') =
+        KnownCode (facts_in_alternative v s facts) b × KnownArms facts v as'
 
 -- h is what the pass makes of g, whatever program this is, by the least solution of the flow system
 -- of g
-pub record ByLeast (g h : Program) : Type 0 where
+pub record MadeByLeastSolution (g h : Program) : Type 0 where
   pub solution : Solution
   pub least : IsLeast (tables g) (system g) solution
   pub made : h ≡ known solution g
@@ -47,18 +48,18 @@ pub record ByLeast (g h : Program) : Type 0 where
 -- In h no variable is named of which the alternatives around it, or the solution, tell what it
 -- holds, and no alternative of a case is outside the solution. h is as good an input for a pass as
 -- g, with no more updates without a literal tag, and no larger.
-pub record LiteralsBy (A : Solution) (g h : Program) : Type 0 where
-  pub stays : StaysOfVectors g h
+pub record KnownWordsAreLiterals (A : Solution) (g h : Program) : Type 0 where
+  pub stays : StaysVectorForm g h
   pub known : AllOf (λ q. KnownCode (length g.tags) A nothing_known q.body) h.procs
-  pub no_more_open : open_updates h ≤ open_updates g
+  pub no_more_open : updates_with_variable_tag h ≤ updates_with_variable_tag g
   pub slim : (size most : ℕ) → Slim size most g → Slim size most h
 
 -- by the least solution of g
 pub record KnownWords (g h : Program) : Type 0 where
   pub solution : Solution
   pub least : IsLeast (tables g) (system g) solution
-  pub by : LiteralsBy solution g h
+  pub by : KnownWordsAreLiterals solution g h
 
 -- by the alternatives alone
 abbrev pub ToldWords : Program → Program → Type 0
-ToldWords = LiteralsBy silent
+ToldWords = KnownWordsAreLiterals silent

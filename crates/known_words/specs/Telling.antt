@@ -2,7 +2,7 @@
 use Rattle.std.specs.Prelude.{option_copied}
 use Rattle.flow_system.specs.Solution.{Solution}
 use Rattle.known_words.specs.declared.told.Told.{Told}
-use Rattle.known_words.specs.Told.{reading}
+use Rattle.known_words.specs.Told.{solution_or_empty}
 
-abbrev pub telling : Told → Solution
-telling t = reading (option_copied t.flow)
+abbrev pub known_solution : Told → Solution
+known_solution t = solution_or_empty (option_copied t.flow)

@@ -25,19 +25,19 @@ abbrev pub silent : Solution
 silent p q = []
 
 -- what is read of a solution, if there is one
-abbrev pub reading : Option Flow → Solution
-reading None = silent
-reading (Some flow) = found flow
+abbrev pub solution_or_empty : Option Flow → Solution
+solution_or_empty None = silent
+solution_or_empty (Some flow) = found flow
 
 -- each word of a set is this tag
-abbrev pub all_are : ℕ → List AbstractWord → Bool
-all_are t [] = true
-all_are t (u ∷ us) = same_word (tag t) u && all_are t us
+abbrev pub all_are_tag : ℕ → List AbstractWord → Bool
+all_are_tag t [] = true
+all_are_tag t (u ∷ us) = same_word (tag t) u && all_are_tag t us
 
 -- the tag that is all that a set has
 abbrev pub sole : List AbstractWord → Option ℕ
 sole [] = None
-sole (tag t ∷ us) = cond (all_are t us) (Some t) None
+sole (tag t ∷ us) = cond (all_are_tag t us) (Some t) None
 sole (cell_of s ∷ us) = None
 sole (num ∷ us) = None
 

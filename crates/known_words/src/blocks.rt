@@ -5,12 +5,12 @@ ghost use Rattle.std.specs.Prelude.{◌≡◌, map, IfOk, OnOk};
 ghost use Rattle.grin_syntax.specs.Tree.{Code, act_of, before_of, arm_of, arms_of, code_of};
 ghost use Rattle.pass_ground.specs.OpenUpdates.{tag_variable};
 ghost use Rattle.case_simplify.specs.Known.{facts_of};
-ghost use Rattle.case_simplify.specs.Table.{Adds};
+ghost use Rattle.case_simplify.specs.Table.{AppendsFacts};
 ghost use Rattle.known_words.specs.Needed.{tags_at};
-ghost use Rattle.known_words.specs.Telling.{telling};
+ghost use Rattle.known_words.specs.Telling.{known_solution};
 ghost use Rattle.known_words.specs.Known.{known_act, known_code, known_arms, known_arm};
 
-use crate::needed::{is_needed, left_after, tags_at};
+use crate::needed::{is_arm_needed, left_after, tags_at};
 use crate::told::Told;
 use case_simplify::{FactTable, note_pattern, note_statement};
 use grin_syntax::{Alt, Block, Op, Stmt, Val};
@@ -19,7 +19,7 @@ use std::alloc::{AllocError, Global};
 
 #[cycle(known)]
 fn known_op(alloc: Global, told: &Told, facts: &mut FactTable, op: Op) -> Result<Op, AllocError>
-    ensures tree { IfOk result (λ o. act_of o ≡ known_act told.now.count (telling told.now)
+    ensures tree { IfOk result (λ o. act_of o ≡ known_act told.now.count (known_solution told.now)
         (facts_of facts.old) (act_of op)) }
     ensures facts { OnOk result (facts.new ≡ facts.old) }
 {
@@ -57,14 +57,14 @@ fn known_alts(
     alts: Seq<Alt>,
 ) -> Result<Seq<Alt>, AllocError>
     ensures tree { IfOk result (λ made. arms_of (map arm_of made) ≡ known_arms told.now.count
-        (telling told.now) (facts_of facts.old) v.now (tags_at told.now.count
-        (telling told.now) (tag_variable v.now)) (arms_of (map arm_of alts))) }
+        (known_solution told.now) (facts_of facts.old) v.now (tags_at told.now.count
+        (known_solution told.now) (tag_variable v.now)) (arms_of (map arm_of alts))) }
     ensures facts { OnOk result (facts.new ≡ facts.old) }
 {
     let mut left = tags_at(alloc, told, v)?;
     let mut made = Seq::new(alloc);
     for alt in alts.into_vec() {
-        if is_needed(&left, &alt.pattern) {
+        if is_arm_needed(&left, &alt.pattern) {
             left = left_after(alloc, &left, &alt.pattern)?;
             made.push(known_alt(alloc, told, facts, v, alt)?)?;
         }
@@ -82,7 +82,7 @@ fn known_alt(
     alt: Alt,
 ) -> Result<Alt, AllocError>
     ensures tree { IfOk result (λ a. arm_of a
-        ≡ known_arm told.now.count (telling told.now) (facts_of facts.old) v.now
+        ≡ known_arm told.now.count (known_solution told.now) (facts_of facts.old) v.now
         (arm_of alt)) }
     ensures facts { OnOk result (facts.new ≡ facts.old) }
 {
@@ -104,9 +104,9 @@ fn known_stmt(
     stmt: Stmt,
 ) -> Result<Stmt, AllocError>
     ensures tree { IfOk result (λ s. (c : Code) → before_of s (known_code told.now.count
-        (telling told.now) (facts_of facts.new) c) ≡ known_code told.now.count
-        (telling told.now) (facts_of facts.old) (before_of stmt c)) }
-    ensures adds { OnOk result (Adds facts.old facts.new) }
+        (known_solution told.now) (facts_of facts.new) c) ≡ known_code told.now.count
+        (known_solution told.now) (facts_of facts.old) (before_of stmt c)) }
+    ensures adds { OnOk result (AppendsFacts facts.old facts.new) }
 {
     match stmt {
         Stmt::Store(cells) => Ok(Stmt::Store(told.cells(alloc, facts, cells)?)),
@@ -127,7 +127,7 @@ pub(crate) fn known_block(
     block: Block,
 ) -> Result<Block, AllocError>
     ensures tree { IfOk result (λ b. code_of b ≡ known_code told.now.count
-        (telling told.now) (facts_of facts.old) (code_of block)) }
+        (known_solution told.now) (facts_of facts.old) (code_of block)) }
     ensures facts { OnOk result (facts.new ≡ facts.old) }
 {
     let count = facts.count();

@@ -8,4 +8,4 @@ mod needed;
 mod pass;
 mod told;
 
-pub use pass::{KnownWords, ToldWords, with_known_words, with_told_words};
+pub use pass::{KnownWords, ToldWords, with_known_words, with_locally_known_words};

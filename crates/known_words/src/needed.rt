@@ -5,8 +5,8 @@ ghost use Rattle.std.specs.Prelude.{◌≡◌, map, IfOk};
 ghost use Rattle.pass_ground.specs.OpenUpdates.{tag_variable};
 ghost use Rattle.points_to.specs.Found.{found};
 ghost use Rattle.update_special.specs.Updates.{tags_of};
-ghost use Rattle.known_words.specs.Needed.{may_fit, without, left_by, needs, leaves, if_any, tags_at, numbers_left};
-ghost use Rattle.known_words.specs.Telling.{telling};
+ghost use Rattle.known_words.specs.Needed.{pattern_may_match, without, tags_left_by, arm_may_match, tags_left_after, if_nonempty, tags_at, numbers_left};
+ghost use Rattle.known_words.specs.Telling.{known_solution};
 ghost use Rattle.seq.specs.Lists.{is_among};
 
 use crate::told::Told;
@@ -17,7 +17,7 @@ use update_special::{Tags, tag_variable};
 
 // The tags in the set of a variable, where there are some.
 fn tags_of(alloc: Global, tags: &Tags, x: VarId) -> Result<Option<Seq<TagId>>, AllocError>
-    ensures { IfOk result (λ left. numbers_left left ≡ if_any (tags_of tags.now.count
+    ensures { IfOk result (λ left. numbers_left left ≡ if_nonempty (tags_of tags.now.count
         (found tags.now.flow.now) x.0)) }
 {
     let left = tags.tags_of(alloc, x)?;
@@ -29,7 +29,7 @@ fn tags_of(alloc: Global, tags: &Tags, x: VarId) -> Result<Option<Seq<TagId>>, A
 
 /// The tags of a value whose tag word is a variable, where this may be a tag.
 pub(crate) fn tags_at(alloc: Global, told: &Told, v: &Val) -> Result<Option<Seq<TagId>>, AllocError>
-    ensures { IfOk result (λ left. numbers_left left ≡ tags_at told.now.count (telling told.now)
+    ensures { IfOk result (λ left. numbers_left left ≡ tags_at told.now.count (known_solution told.now)
         (tag_variable v.now)) }
 {
     let Some(flow) = told.flow else {
@@ -46,11 +46,11 @@ pub(crate) fn tags_at(alloc: Global, told: &Told, v: &Val) -> Result<Option<Seq<
 }
 
 /// Whether an alternative may be taken.
-pub(crate) fn is_needed(left: &Option<Seq<TagId>>, pattern: &Shape) -> bool
-    ensures { result ≡ needs (numbers_left left.now) pattern.now }
+pub(crate) fn is_arm_needed(left: &Option<Seq<TagId>>, pattern: &Shape) -> bool
+    ensures { result ≡ arm_may_match (numbers_left left.now) pattern.now }
 {
     match left {
-        Some(tags) => may_fit(tags.as_slice(), pattern),
+        Some(tags) => pattern_may_match(tags.as_slice(), pattern),
         None => true,
     }
 }
@@ -61,17 +61,17 @@ pub(crate) fn left_after(
     left: &Option<Seq<TagId>>,
     pattern: &Shape,
 ) -> Result<Option<Seq<TagId>>, AllocError>
-    ensures { IfOk result (λ l. numbers_left l ≡ leaves (numbers_left left.now) pattern.now) }
+    ensures { IfOk result (λ l. numbers_left l ≡ tags_left_after (numbers_left left.now) pattern.now) }
 {
     match left {
-        Some(tags) => Ok(Some(left_by(alloc, tags.as_slice(), pattern)?)),
+        Some(tags) => Ok(Some(tags_left_by(alloc, tags.as_slice(), pattern)?)),
         None => Ok(None),
     }
 }
 
 // Whether a pattern fits a value with one of these tags.
-fn may_fit(tags: &[TagId], pattern: &Shape) -> bool
-    ensures { result ≡ may_fit (map (λ t. t.0) tags.now) pattern.now }
+fn pattern_may_match(tags: &[TagId], pattern: &Shape) -> bool
+    ensures { result ≡ pattern_may_match (map (λ t. t.0) tags.now) pattern.now }
 {
     match pattern {
         Shape::Node(tag, _) => is_among(tags, *tag),
@@ -92,9 +92,9 @@ fn is_among(tags: &[TagId], tag: TagId) -> bool
 }
 
 // The tags of the values that a pattern leaves to the alternatives behind it.
-fn left_by(alloc: Global, tags: &[TagId], pattern: &Shape) -> Result<Seq<TagId>, AllocError>
+fn tags_left_by(alloc: Global, tags: &[TagId], pattern: &Shape) -> Result<Seq<TagId>, AllocError>
     ensures { IfOk result (λ ts. map (λ t. t.0) ts
-        ≡ left_by (map (λ t. t.0) tags.now) pattern.now) }
+        ≡ tags_left_by (map (λ t. t.0) tags.now) pattern.now) }
 {
     match pattern {
         Shape::Node(tag, _) => without(alloc, tags, *tag),

@@ -3,10 +3,10 @@
 
 ghost use Rattle.std.specs.Prelude.{◌≡◌, option_copied, IfOk};
 ghost use Rattle.grin_syntax.specs.Tree.{program_of};
-ghost use Rattle.pass_ground.specs.Vectors.{OfVectors};
+ghost use Rattle.pass_ground.specs.Vectors.{IsVectorForm};
 ghost use Rattle.known_words.specs.Known.{known};
-ghost use Rattle.known_words.specs.KnownWords.{ByLeast, KnownWords, ToldWords};
-ghost use Rattle.known_words.specs.Told.{silent, reading};
+ghost use Rattle.known_words.specs.KnownWords.{MadeByLeastSolution, KnownWords, ToldWords};
+ghost use Rattle.known_words.specs.Told.{silent, solution_or_empty};
 
 use crate::blocks::known_block;
 use crate::told::Told;
@@ -25,7 +25,7 @@ use std::alloc::{AllocError, Global};
 pub struct KnownWords;
 
 impl Pass for KnownWords {
-    ghost takes = { λ g. OfVectors (program_of g) };
+    ghost takes = { λ g. IsVectorForm (program_of g) };
 
     ghost gives = { λ g h. KnownWords (program_of g) (program_of h) };
 
@@ -40,18 +40,18 @@ impl Pass for KnownWords {
 pub struct ToldWords;
 
 impl Pass for ToldWords {
-    ghost takes = { λ g. OfVectors (program_of g) };
+    ghost takes = { λ g. IsVectorForm (program_of g) };
 
     ghost gives = { λ g h. ToldWords (program_of g) (program_of h) };
 
     fn apply(&self, alloc: Global, g: Grin) -> Result<Grin, AllocError> {
-        let h = with_told_words(alloc, g)?;
+        let h = with_locally_known_words(alloc, g)?;
         Ok(h)
     }
 }
 
 /// What this pass makes of any program, whatever its runs do.
-pub fn with_told_words(alloc: Global, g: Grin) -> Result<Grin, AllocError>
+pub fn with_locally_known_words(alloc: Global, g: Grin) -> Result<Grin, AllocError>
     ensures { IfOk result (λ h. program_of h ≡ known silent (program_of g)) }
 {
     let h = with_literals(alloc, g, None)?;
@@ -60,7 +60,7 @@ pub fn with_told_words(alloc: Global, g: Grin) -> Result<Grin, AllocError>
 
 /// What the pass makes of any program, whatever its runs do.
 pub fn with_known_words(alloc: Global, g: Grin) -> Result<Grin, AllocError>
-    ensures { IfOk result (λ h. ByLeast (program_of g) (program_of h)) }
+    ensures { IfOk result (λ h. MadeByLeastSolution (program_of g) (program_of h)) }
 {
     let flow = least(alloc, &g)?;
     let h = with_literals(alloc, g, Some(&flow))?;
@@ -68,7 +68,7 @@ pub fn with_known_words(alloc: Global, g: Grin) -> Result<Grin, AllocError>
 }
 
 fn with_literals(alloc: Global, g: Grin, flow: Option<&Flow>) -> Result<Grin, AllocError>
-    ensures { IfOk result (λ h. program_of h ≡ known (reading (option_copied flow.entry)) (program_of g)) }
+    ensures { IfOk result (λ h. program_of h ≡ known (solution_or_empty (option_copied flow.entry)) (program_of g)) }
 {
     let told = Told {
         count: g.tags.len(),

@@ -7,7 +7,7 @@ ghost use Rattle.flow_system.specs.declared.fact.Place.TheVariants.{Var as var};
 ghost use Rattle.flow_system.specs.declared.fact.Part.TheVariants.{Word as word};
 ghost use Rattle.points_to.specs.Found.{found};
 ghost use Rattle.case_simplify.specs.Known.{facts_of};
-ghost use Rattle.known_words.specs.Telling.{telling};
+ghost use Rattle.known_words.specs.Telling.{known_solution};
 ghost use Rattle.known_words.specs.Told.{sole, only_tag, told_of, literal_of, known_word, known_words, known_val, known_cell, known_cells};
 
 use case_simplify::{FactTable, Known};
@@ -54,7 +54,7 @@ fn sole(flow: &Flow, x: VarId) -> Option<TagId>
 impl Told<'_> {
     // The tag that is all that a variable may stand for, where a solution tells that.
     fn sole(&self, x: VarId) -> Option<TagId>
-        ensures { option_map (λ t. t.0) result ≡ sole (telling self.now (var x.0) (word 0)) }
+        ensures { option_map (λ t. t.0) result ≡ sole (known_solution self.now (var x.0) (word 0)) }
     {
         match self.flow {
             Some(flow) => sole(flow, x),
@@ -63,7 +63,7 @@ impl Told<'_> {
     }
 
     fn only_tag(&self, x: VarId) -> Option<Known>
-        ensures { result ≡ only_tag self.now.count (telling self.now) x.0 }
+        ensures { result ≡ only_tag self.now.count (known_solution self.now) x.0 }
     {
         match self.sole(x) {
             Some(tag) => {
@@ -79,7 +79,7 @@ impl Told<'_> {
 
     // What is told of a variable, where these facts are known.
     fn told_of(&self, facts: &FactTable, x: VarId) -> Option<Known>
-        ensures { result ≡ told_of self.now.count (telling self.now) (facts_of facts.now)
+        ensures { result ≡ told_of self.now.count (known_solution self.now) (facts_of facts.now)
             x.0 }
     {
         match facts.told_var(x) {
@@ -90,7 +90,7 @@ impl Told<'_> {
 
     /// A word, or the literal that is told of it.
     pub(crate) fn word(&self, facts: &FactTable, word: Word) -> Word
-        ensures { result ≡ known_word self.now.count (telling self.now)
+        ensures { result ≡ known_word self.now.count (known_solution self.now)
             (facts_of facts.now) word }
     {
         match word {
@@ -110,7 +110,7 @@ impl Told<'_> {
         facts: &FactTable,
         words: &[Word],
     ) -> Result<Seq<Word>, AllocError>
-        ensures { IfOk result (λ ws. ws ≡ known_words self.now.count (telling self.now)
+        ensures { IfOk result (λ ws. ws ≡ known_words self.now.count (known_solution self.now)
             (facts_of facts.now) words.now) }
     {
         let mut made = Seq::new(alloc);
@@ -121,7 +121,7 @@ impl Told<'_> {
     }
 
     pub(crate) fn val(&self, alloc: Global, facts: &FactTable, v: Val) -> Result<Val, AllocError>
-        ensures { IfOk result (λ u. u ≡ known_val self.now.count (telling self.now)
+        ensures { IfOk result (λ u. u ≡ known_val self.now.count (known_solution self.now)
             (facts_of facts.now) v) }
     {
         match v {
@@ -138,7 +138,7 @@ impl Told<'_> {
         facts: &FactTable,
         cells: Seq<Cell>,
     ) -> Result<Seq<Cell>, AllocError>
-        ensures { IfOk result (λ cs. cs ≡ known_cells self.now.count (telling self.now)
+        ensures { IfOk result (λ cs. cs ≡ known_cells self.now.count (known_solution self.now)
             (facts_of facts.now) cells) }
     {
         let mut made = Seq::new(alloc);
@@ -149,7 +149,7 @@ impl Told<'_> {
     }
 
     fn cell(&self, alloc: Global, facts: &FactTable, cell: Cell) -> Result<Cell, AllocError>
-        ensures { IfOk result (λ c. c ≡ known_cell self.now.count (telling self.now)
+        ensures { IfOk result (λ c. c ≡ known_cell self.now.count (known_solution self.now)
             (facts_of facts.now) cell) }
     {
         let val = self.val(alloc, facts, cell.val)?;

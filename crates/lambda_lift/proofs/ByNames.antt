@@ -8,32 +8,32 @@ use Rattle.lambda_reader.specs.Tree as tree
 use Rattle.arity_check.specs.declared.meaning.Meaning.{Meaning}
 use Rattle.arity_check.specs.declared.meaning.Meaning.TheVariants as stands
 use Rattle.arity_check.specs.Scope.{Scope, primitives, unless_primitive, is_named, primitive_from, function_from, found_in, binds, binds_all}
-use Rattle.lambda_lift.specs.Headers.{headers, names_of, binders_of, bound_by, within, stands_for_local, is_local}
-use Rattle.lambda_lift.specs.Free.{uses, first_times, free}
+use Rattle.lambda_lift.specs.Headers.{program_headers, names_of, binders_of, bound_by, within, stands_for_local, is_local}
+use Rattle.lambda_lift.specs.Free.{uses, without_repeats, free}
 use Rattle.lambda_lift.specs.Abstractions.{Abstraction, in_term, in_terms, in_group, in_expr, in_alts, in_functions, count_term, count_terms, count_group, count, abstractions}
 use Rattle.lambda_lift.specs.Lifted.{arguments, parameters, lift_term, lift_terms, lift_group, lift, lift_alts, lifted_function, lifted_functions, lifted_bodies, lifted, lifted_names}
-use Rattle.lambda_lift.specs.Gathered.{of_names}
-use Rattle.lambda_lift.specs.Broadest.{earlier_where, is_too_broad, too_broad}
+use Rattle.lambda_lift.specs.Gathered.{program_of_names}
+use Rattle.lambda_lift.specs.Broadest.{earlier_place_if, exceeds_parameter_limit, too_broad}
 use Rattle.lambda_lift.proofs.Gathers.{filter_same}
 
 module _ (c : Program) where
   abbrev d : Program
-  d = of_names c.names
+  d = program_of_names c.names
 
-  no_local : (fs : List core.Function) (f x : ℕ) → stands_for_local c (function_from (headers c) fs f x) ≡ false
+  no_local : (fs : List core.Function) (f x : ℕ) → stands_for_local c (function_from (program_headers c) fs f x) ≡ false
   no_local [] f x = refl
   no_local (g ∷ gs) f x = by (nat_eq g.name x) (no_local gs (f + 1) x)
     where
-      by : (same : Bool) → stands_for_local c (function_from (headers c) gs (f + 1) x) ≡ false → stands_for_local c (cond same (stands.Function f (length g.params)) (function_from (headers c) gs (f + 1) x)) ≡ false
+      by : (same : Bool) → stands_for_local c (function_from (program_headers c) gs (f + 1) x) ≡ false → stands_for_local c (cond same (stands.Function f (length g.params)) (function_from (program_headers c) gs (f + 1) x)) ≡ false
       by true e = refl
       by false e = e
 
-  found_same : (s : Scope) (x : ℕ) → stands_for_local d (found_in (headers d) s x) ≡ stands_for_local c (found_in (headers c) s x)
-  found_same [] x = sym (no_local (headers c).functions 0 x)
+  found_same : (s : Scope) (x : ℕ) → stands_for_local d (found_in (program_headers d) s x) ≡ stands_for_local c (found_in (program_headers c) s x)
+  found_same [] x = sym (no_local (program_headers c).functions 0 x)
   found_same (b ∷ s) x = by (nat_eq b.0 x) (found_same s x)
     where
-      by : (same : Bool) → stands_for_local d (found_in (headers d) s x) ≡ stands_for_local c (found_in (headers c) s x)
-          → stands_for_local d (cond same (stands.Local b.1) (found_in (headers d) s x)) ≡ stands_for_local c (cond same (stands.Local b.1) (found_in (headers c) s x))
+      by : (same : Bool) → stands_for_local d (found_in (program_headers d) s x) ≡ stands_for_local c (found_in (program_headers c) s x)
+          → stands_for_local d (cond same (stands.Local b.1) (found_in (program_headers d) s x)) ≡ stands_for_local c (cond same (stands.Local b.1) (found_in (program_headers c) s x))
       by true e = refl
       by false e = e
 
@@ -43,27 +43,27 @@ module _ (c : Program) where
   unless_same (stands.Function f k) m n e = e
   unless_same stands.Unbound m n e = e
 
-  prims_same : (qs : List _) (x : ℕ) → primitive_from (headers d) qs x ≡ primitive_from (headers c) qs x
+  prims_same : (qs : List _) (x : ℕ) → primitive_from (program_headers d) qs x ≡ primitive_from (program_headers c) qs x
   prims_same [] x = refl
-  prims_same (q ∷ qs) x = ap (λ m. cond (is_named (headers c) q.0 x) (stands.Primitive q.1) m) (prims_same qs x)
+  prims_same (q ∷ qs) x = ap (λ m. cond (is_named (program_headers c) q.0 x) (stands.Primitive q.1) m) (prims_same qs x)
 
   pub local_same : (s : Scope) (x : ℕ) → is_local d s x ≡ is_local c s x
-  local_same s x = by (is_named (headers c) (codes "_") x)
+  local_same s x = by (is_named (program_headers c) (codes "_") x)
     where
-      inner : stands_for_local d (unless_primitive (primitive_from (headers d) primitives x) (found_in (headers d) s x)) ≡ stands_for_local c (unless_primitive (primitive_from (headers c) primitives x) (found_in (headers c) s x))
-      inner = ap (λ p. stands_for_local d (unless_primitive p (found_in (headers d) s x))) (prims_same primitives x) ∙ unless_same (primitive_from (headers c) primitives x) (found_in (headers d) s x) (found_in (headers c) s x) (found_same s x)
+      inner : stands_for_local d (unless_primitive (primitive_from (program_headers d) primitives x) (found_in (program_headers d) s x)) ≡ stands_for_local c (unless_primitive (primitive_from (program_headers c) primitives x) (found_in (program_headers c) s x))
+      inner = ap (λ p. stands_for_local d (unless_primitive p (found_in (program_headers d) s x))) (prims_same primitives x) ∙ unless_same (primitive_from (program_headers c) primitives x) (found_in (program_headers d) s x) (found_in (program_headers c) s x) (found_same s x)
 
-      by : (nameless : Bool) → stands_for_local d (cond nameless stands.Unbound (unless_primitive (primitive_from (headers d) primitives x) (found_in (headers d) s x))) ≡ stands_for_local c (cond nameless stands.Unbound (unless_primitive (primitive_from (headers c) primitives x) (found_in (headers c) s x)))
+      by : (nameless : Bool) → stands_for_local d (cond nameless stands.Unbound (unless_primitive (primitive_from (program_headers d) primitives x) (found_in (program_headers d) s x))) ≡ stands_for_local c (cond nameless stands.Unbound (unless_primitive (primitive_from (program_headers c) primitives x) (found_in (program_headers c) s x)))
       by true = refl
       by false = inner
 
   pub free_same : (s : Scope) (params : List Binder) (e : Expr) → free d s params e ≡ free c s params e
-  free_same s params e = ap first_times (filter_same (is_local d s) (is_local c s) (local_same s) (uses (names_of params) e))
+  free_same s params e = ap without_repeats (filter_same (is_local d s) (is_local c s) (local_same s) (uses (names_of params) e))
 
-  all_same : (xs ys : List ℕ) (s : Scope) → binds_all (headers d) xs ys s ≡ binds_all (headers c) xs ys s
+  all_same : (xs ys : List ℕ) (s : Scope) → binds_all (program_headers d) xs ys s ≡ binds_all (program_headers c) xs ys s
   all_same [] ys s = refl
   all_same (x ∷ xs) [] s = refl
-  all_same (x ∷ xs) (y ∷ ys) s = all_same xs ys (binds (headers c) x y s)
+  all_same (x ∷ xs) (y ∷ ys) s = all_same xs ys (binds (program_headers c) x y s)
 
   within_same : (bs : List Binder) (s : Scope) → within d bs s ≡ within c bs s
   within_same bs s = all_same (names_of bs) (names_of bs) s
@@ -198,8 +198,8 @@ module _ (c : Program) where
   unfolding too_broad
   broad_same first [] = refl
   broad_same first (a ∷ rest) =
-      let same : is_too_broad d a ≡ is_too_broad c a = ap (λ (xs : List ℕ). nat_lt 12 (length xs + length a.params)) (free_same a.scope a.params a.body) in
-      ap (λ b. too_broad d (earlier_where b a.at first) rest) same ∙ broad_same (earlier_where (is_too_broad c a) a.at first) rest
+      let same : exceeds_parameter_limit d a ≡ exceeds_parameter_limit c a = ap (λ (xs : List ℕ). nat_lt 12 (length xs + length a.params)) (free_same a.scope a.params a.body) in
+      ap (λ b. too_broad d (earlier_place_if b a.at first) rest) same ∙ broad_same (earlier_place_if (exceeds_parameter_limit c a) a.at first) rest
 
   pub all_broad_same : (first : Option ℕ) → too_broad d first (in_functions d c.functions) ≡ too_broad c first (abstractions c)
   all_broad_same first = ap (too_broad d first) (functions_same c.functions) ∙ broad_same first (abstractions c)

@@ -18,11 +18,11 @@ use Rattle.arity_check.specs.Program as normal
 use Rattle.arity_check.specs.Scope as scope
 use Rattle.arity_check.specs.Scope.{Scope, is_named, primitives, primitive_from, unless_primitive, function_from, found_in, binds, binds_all}
 use Rattle.arity_check.specs.Normal.{Pairwise, IsNormal, IsFunction}
-use Rattle.core_meaning.specs.Forcing.{StateOf, AnswerOf, OnwardOf, NoAlternative}
+use Rattle.core_meaning.specs.Forcing.{StateOf, AnswerOf, DelayedEvaluatorOf, NoAlternative}
 use Rattle.core_meaning.specs.ByNeed as by_need
 use Rattle.core_meaning.specs.Evaluation.{parameters}
 use Rattle.core_meaning.specs.WellFormed.{FunOk}
-use Rattle.lambda_lift.specs.Headers.{names_of, headers, means, within, is_local, stands_for_local}
+use Rattle.lambda_lift.specs.Headers.{names_of, program_headers, means, within, is_local, stands_for_local}
 use Rattle.lambda_lift.specs.Free.{uses, free}
 use Rattle.lambda_lift.specs.Abstractions.{Abstraction, in_expr, abstractions}
 use Rattle.lambda_lift.specs.Lifted as lifted
@@ -73,7 +73,7 @@ module _ (c : Program) (p : normal.Program) where
     pub code : (i : ℕ) (f : core.Function) → slice_get (lifted.lifted c).functions i ≡ Some f → Code i f
     pub tops : (i : ℕ) (f : Function) → slice_get c.functions i ≡ Some f → TopAt i f
     pub lambdas : (k : ℕ) (a : Abstraction) → slice_get (abstractions c) k ≡ Some a → slice_get (lifted.lifted c).functions (length c.functions + k) ≡ Some (lifted_function c k a)
-    pub found : (x : ℕ) → Same c (λ y a. ⊥) (function_from (headers c) (headers c).functions 0 x) (function_from (headers c) (headers c).functions 0 x)
+    pub found : (x : ℕ) → Same c (λ y a. ⊥) (function_from (program_headers c) (program_headers c).functions 0 x) (function_from (program_headers c) (program_headers c).functions 0 x)
 
   module _ (ground : Ground c p) (bodies : Bodies) where
     -- ---- the parameters of a lifted function that stand for free names
@@ -116,12 +116,12 @@ module _ (c : Program) (p : normal.Program) where
             record { local = y; is = found_past q xs ys (binds q z y s) x e ∙ here; good = subst (λ w. Good y (name w)) (sym same) g.0 }
 
     -- what stands for a local is found in the environment
-    found_cases : (env : Scope) (x : ℕ) → ((a : ℕ) × (found_in (headers c) env x ≡ Local a)) ⊎ (found_in (headers c) env x ≡ function_from (headers c) (headers c).functions 0 x)
+    found_cases : (env : Scope) (x : ℕ) → ((a : ℕ) × (found_in (program_headers c) env x ≡ Local a)) ⊎ (found_in (program_headers c) env x ≡ function_from (program_headers c) (program_headers c).functions 0 x)
     found_cases [] x = inr refl
     found_cases (b ∷ env) x = by (nat_eq b.0 x) (found_cases env x)
       where
-        by : (t : Bool) → ((a : ℕ) × (found_in (headers c) env x ≡ Local a)) ⊎ (found_in (headers c) env x ≡ function_from (headers c) (headers c).functions 0 x)
-            → ((a : ℕ) × (cond t (Local b.1) (found_in (headers c) env x) ≡ Local a)) ⊎ (cond t (Local b.1) (found_in (headers c) env x) ≡ function_from (headers c) (headers c).functions 0 x)
+        by : (t : Bool) → ((a : ℕ) × (found_in (program_headers c) env x ≡ Local a)) ⊎ (found_in (program_headers c) env x ≡ function_from (program_headers c) (program_headers c).functions 0 x)
+            → ((a : ℕ) × (cond t (Local b.1) (found_in (program_headers c) env x) ≡ Local a)) ⊎ (cond t (Local b.1) (found_in (program_headers c) env x) ≡ function_from (program_headers c) (program_headers c).functions 0 x)
         by true h = inl (b.1, refl)
         by false h = h
 
@@ -184,16 +184,16 @@ module _ (c : Program) (p : normal.Program) where
         named z a =
             let u = filter_among (is_local c env) z (uses (names_of params) body) (first_times_among z _ a) in
             let lt = (from_expr (length c.names) (λ x. Unit {0}) (names_of params) body z fits u.0).below in
-            ground.agree.named (codes "_") z lt ∙ by (is_named (headers c) (codes "_") z) refl u.1
+            ground.agree.named (codes "_") z lt ∙ by (is_named (program_headers c) (codes "_") z) refl u.1
           where
-            by : (b : Bool) → is_named (headers c) (codes "_") z ≡ b → stands_for_local c (cond b Unbound (unless_primitive (primitive_from (headers c) primitives z) (found_in (headers c) env z))) ≡ true → b ≡ false
+            by : (b : Bool) → is_named (program_headers c) (codes "_") z ≡ b → stands_for_local c (cond b Unbound (unless_primitive (primitive_from (program_headers c) primitives z) (found_in (program_headers c) env z))) ≡ true → b ≡ false
             by true i h = absurd cc
             by false i h = refl
 
         here : (x : ℕ) → Among (uses (names_of params) body) x → x < length c.names → Same c Good (scope.means (lifted.lifted c) (binds_all (lifted.lifted c) (free c env params body) ys []) x) (means c env x)
         here x a lt = by (is_local c env x) refl
           where
-            both_named : Same c Good (cond (is_named (headers c) (codes "_") x) Unbound (unless_primitive (primitive_from (headers c) primitives x) (found_in (lifted.lifted c) (binds_all (lifted.lifted c) (free c env params body) ys []) x))) (means c env x)
+            both_named : Same c Good (cond (is_named (program_headers c) (codes "_") x) Unbound (unless_primitive (primitive_from (program_headers c) primitives x) (found_in (lifted.lifted c) (binds_all (lifted.lifted c) (free c env params body) ys []) x))) (means c env x)
                 → Same c Good (scope.means (lifted.lifted c) (binds_all (lifted.lifted c) (free c env params body) ys []) x) (means c env x)
             both_named h = means_from c (lifted.lifted c) ground.agree Good x lt _ _ h
 
@@ -201,19 +201,19 @@ module _ (c : Program) (p : normal.Program) where
             by true e =
                 let among = among_first_times x _ (among_filter (is_local c env) x (uses (names_of params) body) a e) in
                 let f = found_bound (lifted.lifted c) Good (local_name c env) (free c env params body) ys [] x named g among in
-                both_named (subst (λ m. Same c Good (cond (is_named (headers c) (codes "_") x) Unbound (unless_primitive (primitive_from (headers c) primitives x) m)) (means c env x)) (sym f.is)
-                (local_same Good f.local (is_named (headers c) (codes "_") x) (primitive_from (headers c) primitives x) (found_in (headers c) env x) e f.good))
+                both_named (subst (λ m. Same c Good (cond (is_named (program_headers c) (codes "_") x) Unbound (unless_primitive (primitive_from (program_headers c) primitives x) m)) (means c env x)) (sym f.is)
+                (local_same Good f.local (is_named (program_headers c) (codes "_") x) (primitive_from (program_headers c) primitives x) (found_in (program_headers c) env x) e f.good))
             by false e =
                 let none : is_among x (free c env params body) ≡ false = not_there (is_among x (free c env params body)) refl in
-                let f : found_in (lifted.lifted c) (binds_all (lifted.lifted c) (free c env params body) ys []) x ≡ function_from (headers c) (headers c).functions 0 x = found_past (lifted.lifted c) (free c env params body) ys [] x none ∙ ground.agree.functions x lt in
-                both_named (subst (λ m. Same c Good (cond (is_named (headers c) (codes "_") x) Unbound (unless_primitive (primitive_from (headers c) primitives x) m)) (means c env x)) (sym f)
-                (other_same Good (is_named (headers c) (codes "_") x) (primitive_from (headers c) primitives x) (found_in (headers c) env x) _ e (found_cases env x) (same_more c (λ y a. ⊥) Good (λ y a h. absurd h) _ _ (bodies.found x))))
+                let f : found_in (lifted.lifted c) (binds_all (lifted.lifted c) (free c env params body) ys []) x ≡ function_from (program_headers c) (program_headers c).functions 0 x = found_past (lifted.lifted c) (free c env params body) ys [] x none ∙ ground.agree.functions x lt in
+                both_named (subst (λ m. Same c Good (cond (is_named (program_headers c) (codes "_") x) Unbound (unless_primitive (primitive_from (program_headers c) primitives x) m)) (means c env x)) (sym f)
+                (other_same Good (is_named (program_headers c) (codes "_") x) (primitive_from (program_headers c) primitives x) (found_in (program_headers c) env x) _ e (found_cases env x) (same_more c (λ y a. ⊥) Good (λ y a h. absurd h) _ _ (bodies.found x))))
               where
                 not_there : (b : Bool) → is_among x (free c env params body) ≡ b → b ≡ false
                 not_there false i = refl
                 not_there true i = absurd (not_both (is_local c env x) (filter_among (is_local c env) x (uses (names_of params) body) (first_times_among x _ i)).1 e)
 
-    module _ (onward : OnwardOf Fun) (onward' : OnwardOf ℕ) (on : SameOnward c p ground onward onward') where
+    module _ (onward : DelayedEvaluatorOf Fun) (onward' : DelayedEvaluatorOf ℕ) (on : SameOnward c p ground onward onward') where
       enters_code : {i : ℕ} {f : core.Function} (code : Code i f) (go : AnswerOf Fun) (xs : List ℕ) (d : ℕ) (τ : StateOf ℕ) → AnswerLike c p ground go (by_need.eval 0 NoAlternative p onward' code.function.body (parameters xs) d τ) → AnswerLike c p ground go (by_need.enter 0 NoAlternative p onward' i xs d τ)
       enters_code code go xs d τ h = subst (λ o. AnswerLike c p ground go (by_need.enter_body 0 NoAlternative p onward' o xs d τ)) (sym code.is) h
 

@@ -3,7 +3,7 @@ use Rattle.std.proofs.Common.{◌≡◌, ℕ, zero, suc, ◌+◌, ◌≤◌, ◌
 use Rattle.std.specs.List.{range_with_len}
 use Rattle.seq.proofs.Order.{eq_self, eq_false}
 use Rattle.arity_check.specs.declared.normal.Bound.{Bound}
-use Rattle.arity_check.specs.Numbered.{Numbered}
+use Rattle.arity_check.specs.Numbered.{LocalsAreConsecutive}
 use Rattle.arity_check.specs.Normal.{Pairwise}
 use Rattle.arity_check.specs.Program.{Program}
 use Rattle.core_meaning.specs.Heap.{Env, with_local, with_locals}
@@ -22,12 +22,12 @@ pub local_other : (env : Env) (x a y : ℕ) → y < x → with_local env x a y �
 local_other env x a y lt = rw (eq_false y x (λ e. omega (arith, e, lt))) refl
 
 module _ (p : Program) where
-  pub group_before : (bounds : List Bound) (env : Env) (m a y : ℕ) → Numbered m bounds → y < m → with_group p env bounds a y ≡ env y
+  pub group_before : (bounds : List Bound) (env : Env) (m a y : ℕ) → LocalsAreConsecutive m bounds → y < m → with_group p env bounds a y ≡ env y
   group_before [] env m a y h lt = refl
   group_before (b ∷ bs) env m a y h lt =
       group_before bs (with_local env b.local a) (m + 1) (suc a) y h.1 (omega (arith, lt)) ∙ local_other env b.local a y (let e = h.0 in omega (arith, e, lt))
 
-  pub group_at : (bounds : List Bound) (env : Env) (m a i : ℕ) → Numbered m bounds → i < length bounds → with_group p env bounds a (m + i) ≡ a + i
+  pub group_at : (bounds : List Bound) (env : Env) (m a i : ℕ) → LocalsAreConsecutive m bounds → i < length bounds → with_group p env bounds a (m + i) ≡ a + i
   group_at [] env m a i h lt = absurd (omega (arith, lt))
   group_at (b ∷ bs) env m a zero h lt =
       let z : m + 0 ≡ b.local = let e = h.0 in omega (arith, e) in

@@ -23,10 +23,10 @@ use Rattle.arity_check.specs.Normal.{Pairwise, IsFlat, IsGroup, IsNormal, PlainA
 use Rattle.arity_check.specs.Normal as form
 use Rattle.arity_check.proofs.Numbers.{flat_numbered}
 use Rattle.core_meaning.specs.Heap.{ValueOf, Con, DelayedOf, Call, Apply, Prim, BindingOf, Known, Waiting, HeapOf, Env, with_local, with_locals}
-use Rattle.core_meaning.specs.Forcing.{StateOf, AnswerOf, OnwardOf, Gives, NoAlternative, append, is_con, is_int, fields_of}
+use Rattle.core_meaning.specs.Forcing.{StateOf, AnswerOf, DelayedEvaluatorOf, Gives, NoAlternative, append, is_con, is_int, fields_of}
 use Rattle.core_meaning.specs.ByNeed as by_need
 use Rattle.core_meaning.specs.WellFormed.{HasFields, FormOk, TermOk, BranchesOk}
-use Rattle.lambda_lift.specs.Headers.{names_of, binders_of, headers, within}
+use Rattle.lambda_lift.specs.Headers.{names_of, binders_of, program_headers, within}
 use Rattle.lambda_lift.specs.Free.{free}
 use Rattle.lambda_lift.specs.Abstractions as inside
 use Rattle.lambda_lift.specs.Abstractions.{Abstraction, in_term, in_terms, in_expr, in_alts, abstractions, count_term, count_group, count}
@@ -84,7 +84,7 @@ fields_in None = 0
 
 -- What is known of a text and the normal form of its lifted program.
 pub record Ground (c : Program) (p : normal.Program) : Type 0 where
-  pub agree : AgreeBelow (lifted.lifted c) (headers c) (length c.names)
+  pub agree : AgreeBelow (lifted.lifted c) (program_headers c) (length c.names)
   pub calls : (t : Scope) → AllOf (λ b. b.0 < length c.names) t → (k : ℕ) (a : Abstraction) → slice_get (abstractions c) k ≡ Some a
       → scope.means (lifted.lifted c) t (lifted_name c k) ≡ stands.Function (length c.functions + k) (length (free c a.scope a.params a.body) + length a.params)
   pub counts : (f : Fun) (front : List ℕ) (g : ℕ) → Stands c f front g → by_need.params p g ≡ length front + arity c f
@@ -115,7 +115,7 @@ module _ (c : Program) (p : normal.Program) (ground : Ground c p) where
   abbrev pub AnswerLike : AnswerOf Fun → AnswerOf ℕ → Type 0
   AnswerLike = both.AnswerLike (Stands c) (arity c) (by_need.params p) ground.counts fields
 
-  abbrev pub SameOnward : OnwardOf Fun → OnwardOf ℕ → Type 0
+  abbrev pub SameOnward : DelayedEvaluatorOf Fun → DelayedEvaluatorOf ℕ → Type 0
   SameOnward = both.SameOnward (Stands c) (arity c) (by_need.params p) ground.counts fields
 
   -- ---- forms as bindings
@@ -160,7 +160,7 @@ module _ (c : Program) (p : normal.Program) (ground : Ground c p) where
   grown : (env : Env) (m n y a : ℕ) → m ≤ n → At env m y a → At env n y a
   grown env m n y a le h = record { name = h.name; below = let b = h.below in omega (arith, b, le) }
 
-  module _ (onward : OnwardOf Fun) (onward' : OnwardOf ℕ) (on : SameOnward onward onward') where
+  module _ (onward : DelayedEvaluatorOf Fun) (onward' : DelayedEvaluatorOf ℕ) (on : SameOnward onward onward') where
     -- what a form does
     known_does : {b : Binding} {w : ValueOf ℕ} (d : ℕ) (σ : StateOf Fun) (τ : StateOf ℕ) → BindingLike b (Known w) → StateLike σ τ → AnswerLike (does c onward b d σ) (Gives w τ)
     known_does d σ τ (both.LikeKnown v) k = both.BothGive v k
@@ -288,7 +288,7 @@ module _ (c : Program) (p : normal.Program) (ground : Ground c p) where
 
     -- one more local
     with_one : (t env : Scope) (ρ : Env) (V : ℕ → Type 0) (m0 m n x : ℕ) → x < length c.names → Sees c (lifted.lifted c) ground.agree V (At ρ m0) t env → m0 ≤ m
-        → Sees c (lifted.lifted c) ground.agree (And V (x ∷ [])) (At (with_local ρ m n) (m + 1)) (binds (lifted.lifted c) x m t) (binds (headers c) x n env)
+        → Sees c (lifted.lifted c) ground.agree (And V (x ∷ [])) (At (with_local ρ m n) (m + 1)) (binds (lifted.lifted c) x m t) (binds (program_headers c) x n env)
     with_one t env ρ V m0 m n x lt sees le =
         let q = lifted.lifted c in
         let good : (y a : ℕ) → At ρ m0 y a → At (with_local ρ m n) (m + 1) y a = λ y a h. record { name = local_other ρ m n y (let b = h.below in omega (arith, b, le)) ∙ h.name; below = let b = h.below in omega (arith, b, le) } in
@@ -296,7 +296,7 @@ module _ (c : Program) (p : normal.Program) (ground : Ground c p) where
 
     -- a constructor's fields
     with_fields : (names : List ℕ) (t env : Scope) (ρ : Env) (V : ℕ → Type 0) (m0 m len : ℕ) (ys : List ℕ) → Below (length c.names) names → len ≡ length names → length ys ≡ len → Sees c (lifted.lifted c) ground.agree V (At ρ m0) t env → m0 ≤ m
-        → Sees c (lifted.lifted c) ground.agree (And V names) (At (with_locals ρ (range_with_len m len) ys) (m + len)) (binds_all (lifted.lifted c) names (range_with_len m len) t) (binds_all (headers c) names ys env)
+        → Sees c (lifted.lifted c) ground.agree (And V names) (At (with_locals ρ (range_with_len m len) ys) (m + len)) (binds_all (lifted.lifted c) names (range_with_len m len) t) (binds_all (program_headers c) names ys env)
     with_fields names t env ρ V m0 m len ys below count long sees le =
         let q = lifted.lifted c in
         let ρ' = with_locals ρ (range_with_len m len) ys in
@@ -361,18 +361,18 @@ module _ (c : Program) (p : normal.Program) (ground : Ground c p) where
       select_like (AndAlt (pattern.Default x) body rest) s t env ρ V k m0 m m' branches S f l al sees le (NamelessBranch {k = j} {e = e1} {branches = others} e a b) ok v w vw d σ τ st =
           let s' = within c (x ∷ []) s in
           let here = in_expr c s' body in
-          let e' : is_named (headers c) (codes "_") x.name.0 ≡ true = sym (ground.agree.named (codes "_") x.name.0 f.0.0) ∙ e in
+          let e' : is_named (program_headers c) (codes "_") x.name.0 ≡ true = sym (ground.agree.named (codes "_") x.name.0 f.0.0) ∙ e in
           let alike : Alike s' env = subst (λ b. Alike (cond b s ((x.name.0, x.name.0) ∷ s)) env) (sym e') al in
-          subst (λ b. AnswerLike (elim b as (λ _. AnswerOf Fun) [ true ↦ eval c onward body env d σ | false ↦ eval c onward body (binds (headers c) x.name.0 (length σ.heap) env) d (append σ (Known v ∷ [])) ]) (by_need.eval 0 NoAlternative p onward' e1 ρ d τ)) (sym e')
+          subst (λ b. AnswerLike (elim b as (λ _. AnswerOf Fun) [ true ↦ eval c onward body env d σ | false ↦ eval c onward body (binds (program_headers c) x.name.0 (length σ.heap) env) d (append σ (Known v ∷ [])) ]) (by_need.eval 0 NoAlternative p onward' e1 ρ d τ)) (sym e')
           (eval_like body s' t env ρ (And V (x.name.0 ∷ [])) k m0 m j e1 _ f.1 (located_left _ here (in_alts c s rest) k l) alike (sees_nameless c (lifted.lifted c) ground.agree (At ρ m0) V t env x.name.0 e sees) le a ok.0 d σ τ st)
       select_like (AndAlt (pattern.Default x) body rest) s t env ρ V k m0 m m' branches S f l al sees le (NamedBranch {k = j} {e = e1} {branches = others} e a b) ok v w vw d σ τ st =
           let s' = within c (x ∷ []) s in
           let here = in_expr c s' body in
-          let e' : is_named (headers c) (codes "_") x.name.0 ≡ false = sym (ground.agree.named (codes "_") x.name.0 f.0.0) ∙ e in
+          let e' : is_named (program_headers c) (codes "_") x.name.0 ≡ false = sym (ground.agree.named (codes "_") x.name.0 f.0.0) ∙ e in
           let n = length τ.heap in
           let same = both.as_long (Stands c) (arity c) (by_need.params p) ground.counts fields σ.heap τ.heap st.heap in
           let state = both.append_like (Stands c) (arity c) (by_need.params p) ground.counts fields σ τ (Known v ∷ []) (Known w ∷ []) st (both.LikeKnown vw, tt) in
-          subst (λ b. AnswerLike (elim b as (λ _. AnswerOf Fun) [ true ↦ eval c onward body env d σ | false ↦ eval c onward body (binds (headers c) x.name.0 (length σ.heap) env) d (append σ (Known v ∷ [])) ]) (by_need.eval 0 NoAlternative p onward' e1 (with_local ρ m n) d (append τ (Known w ∷ [])))) (sym e')
-          (subst (λ n'. AnswerLike (eval c onward body (binds (headers c) x.name.0 n' env) d (append σ (Known v ∷ []))) (by_need.eval 0 NoAlternative p onward' e1 (with_local ρ m n) d (append τ (Known w ∷ [])))) same
-          (eval_like body s' _ (binds (headers c) x.name.0 n env) (with_local ρ m n) (And V (x.name.0 ∷ [])) k (m + 1) (m + 1) j e1 _ f.1 (located_left _ here (in_alts c s rest) k l)
+          subst (λ b. AnswerLike (elim b as (λ _. AnswerOf Fun) [ true ↦ eval c onward body env d σ | false ↦ eval c onward body (binds (program_headers c) x.name.0 (length σ.heap) env) d (append σ (Known v ∷ [])) ]) (by_need.eval 0 NoAlternative p onward' e1 (with_local ρ m n) d (append τ (Known w ∷ [])))) (sym e')
+          (subst (λ n'. AnswerLike (eval c onward body (binds (program_headers c) x.name.0 n' env) d (append σ (Known v ∷ []))) (by_need.eval 0 NoAlternative p onward' e1 (with_local ρ m n) d (append τ (Known w ∷ [])))) same
+          (eval_like body s' _ (binds (program_headers c) x.name.0 n env) (with_local ρ m n) (And V (x.name.0 ∷ [])) k (m + 1) (m + 1) j e1 _ f.1 (located_left _ here (in_alts c s rest) k l)
           (binds_all_alike c (x.name.0 ∷ []) (x.name.0 ∷ []) (n ∷ []) s env refl refl al) (with_one t env ρ V m0 m n x.name.0 f.0.0 sees le) (omega arith) a ok.0 d (append σ (Known v ∷ [])) (append τ (Known w ∷ [])) state))

@@ -8,9 +8,9 @@ use Rattle.seq.proofs.Counted.{among_first, among_later, among_append, among_lef
 use Rattle.seq.proofs.Order.{eq_self, eq_from}
 use Rattle.lambda_reader.specs.Tree.{Term, Terms, NoTerms, AndTerm, Group, NoBinds, AndValue, AndFunction, Expr, App, Let, Case, Alts, NoAlts, AndAlt}
 use Rattle.lambda_reader.specs.Tree as tree
-use Rattle.lambda_reader.specs.Grammar.{IsSome}
+use Rattle.lambda_reader.specs.Grammar.{HasParameter}
 use Rattle.lambda_lift.specs.Headers.{names_of, bound_by, binders_of}
-use Rattle.lambda_lift.specs.Free.{uses_term, uses_terms, uses_group, uses, uses_alts, first_times}
+use Rattle.lambda_lift.specs.Free.{uses_term, uses_terms, uses_group, uses, uses_alts, without_repeats}
 
 abbrev pub Among : List ℕ → ℕ → Type 0
 Among xs x = is_among x xs ≡ true
@@ -33,7 +33,7 @@ module _ (N : ℕ) where
     FitsTerm V (tree.Con d at) = Unit {0}
     FitsTerm V (tree.Int k at) = Unit {0}
     FitsTerm V (tree.Bracket head args at) = FitsTerm V head × FitsTerms V args
-    FitsTerm V (tree.Lambda params body at) = IsSome params × Below (names_of params) × Fits (And V (names_of params)) body
+    FitsTerm V (tree.Lambda params body at) = HasParameter params × Below (names_of params) × Fits (And V (names_of params)) body
 
     pub FitsTerms : (ℕ → Type 0) → Terms → Type 0
     FitsTerms V NoTerms = Unit {0}
@@ -42,7 +42,7 @@ module _ (N : ℕ) where
     pub FitsGroup : (ℕ → Type 0) → Group → Type 0
     FitsGroup V NoBinds = Unit {0}
     FitsGroup V (AndValue b head args rest) = FitsTerm V head × FitsTerms V args × FitsGroup V rest
-    FitsGroup V (AndFunction b params body rest) = IsSome params × Below (names_of params) × Fits (And V (names_of params)) body × FitsGroup V rest
+    FitsGroup V (AndFunction b params body rest) = HasParameter params × Below (names_of params) × Fits (And V (names_of params)) body × FitsGroup V rest
 
     pub Fits : (ℕ → Type 0) → Expr → Type 0
     Fits V (App head args) = FitsTerm V head × FitsTerms V args
@@ -276,7 +276,7 @@ filter_among g x (y ∷ ys) h = by (g y) refl h (λ a. filter_among g x ys a)
     by true e k later = cases e (or_cases (nat_eq x y) (is_among x (filter g ys)) k) later
     by false e k later = let r = later k in (among_later x y ys r.0, r.1)
 
-pub among_first_times : (x : ℕ) (ys : List ℕ) → Among ys x → Among (first_times ys) x
+pub among_first_times : (x : ℕ) (ys : List ℕ) → Among ys x → Among (without_repeats ys) x
 among_first_times x [] h = h
 among_first_times x (y ∷ ys) h = by (nat_eq x y) refl (λ a. among_first_times x ys a)
   where
@@ -284,14 +284,14 @@ among_first_times x (y ∷ ys) h = by (nat_eq x y) refl (λ a. among_first_times
     other (inl s) e = not_both (nat_eq x y) s e
     other (inr a) e = a
 
-    by : (b : Bool) → nat_eq x y ≡ b → (Among ys x → Among (first_times ys) x) → (nat_eq x y || is_among x (filter (λ z. not (nat_eq z y)) (first_times ys))) ≡ true
+    by : (b : Bool) → nat_eq x y ≡ b → (Among ys x → Among (without_repeats ys) x) → (nat_eq x y || is_among x (filter (λ z. not (nat_eq z y)) (without_repeats ys))) ≡ true
     by true e later = or_left (nat_eq x y) _ e
-    by false e later = or_right (nat_eq x y) _ (among_filter (λ z. not (nat_eq z y)) x (first_times ys) (later (other (or_cases (nat_eq x y) (is_among x ys) h) e)) (ap not e))
+    by false e later = or_right (nat_eq x y) _ (among_filter (λ z. not (nat_eq z y)) x (without_repeats ys) (later (other (or_cases (nat_eq x y) (is_among x ys) h) e)) (ap not e))
 
-pub first_times_among : (x : ℕ) (ys : List ℕ) → Among (first_times ys) x → Among ys x
+pub first_times_among : (x : ℕ) (ys : List ℕ) → Among (without_repeats ys) x → Among ys x
 first_times_among x [] h = h
-first_times_among x (y ∷ ys) h = by (or_cases (nat_eq x y) (is_among x (filter (λ z. not (nat_eq z y)) (first_times ys))) h) (λ a. first_times_among x ys a)
+first_times_among x (y ∷ ys) h = by (or_cases (nat_eq x y) (is_among x (filter (λ z. not (nat_eq z y)) (without_repeats ys))) h) (λ a. first_times_among x ys a)
   where
-    by : (nat_eq x y ≡ true) ⊎ Among (filter (λ z. not (nat_eq z y)) (first_times ys)) x → (Among (first_times ys) x → Among ys x) → Among (y ∷ ys) x
+    by : (nat_eq x y ≡ true) ⊎ Among (filter (λ z. not (nat_eq z y)) (without_repeats ys)) x → (Among (without_repeats ys) x → Among ys x) → Among (y ∷ ys) x
     by (inl s) later = or_left (nat_eq x y) (is_among x ys) s
-    by (inr a) later = among_later x y ys (later (filter_among (λ z. not (nat_eq z y)) x (first_times ys) a).0)
+    by (inr a) later = among_later x y ys (later (filter_among (λ z. not (nat_eq z y)) x (without_repeats ys) a).0)

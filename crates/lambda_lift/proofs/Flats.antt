@@ -11,7 +11,7 @@ use Rattle.core_reader.specs.declared.syntax.Binder.{Binder}
 use Rattle.core_reader.specs.Tree as core
 use Rattle.lambda_reader.specs.Tree.{Term, Terms, NoTerms, AndTerm, Expr, Program}
 use Rattle.lambda_reader.specs.Tree as tree
-use Rattle.lambda_reader.specs.Grammar.{IsSome}
+use Rattle.lambda_reader.specs.Grammar.{HasParameter}
 use Rattle.arity_check.specs.declared.normal.Var.{Var}
 use Rattle.arity_check.specs.declared.normal.Var.TheVariants as var
 use Rattle.arity_check.specs.declared.normal.Bound.{Bound}
@@ -32,7 +32,7 @@ use Rattle.lambda_lift.specs.Free.{uses, free}
 use Rattle.lambda_lift.specs.Abstractions.{Abstraction, in_term, in_terms, in_expr, abstractions, count_term}
 use Rattle.lambda_lift.specs.Lifted as lifted
 use Rattle.lambda_lift.specs.Lifted.{lifted_name, lift_term, lift_terms}
-use Rattle.lambda_lift.specs.Meaning.{Fun, Top, Closure, Binding, Heap, Flat, Arranged, Arguments, nothing, many_of, arranged_of, Named as ANamed, named, next, applied, bracketed, with_names, function_with, operation, global, itself_as, itself, number_of, name_with, lambda_with, arguments, arity}
+use Rattle.lambda_lift.specs.Meaning.{Fun, Top, Closure, Binding, Heap, Flat, SplitArguments, Arguments, nothing, argument_count, split_arguments, Named as ANamed, named, next, applied, apply_bracket, apply_to_names, apply_function, operation, global, itself_as, itself, number_of, name_with, lambda_with, arguments, arity}
 use Rattle.lambda_lift.specs.Meaning as meaning
 use Rattle.lambda_lift.proofs.Fits.{Among, And, Below, Fits, FitsTerm, FitsTerms, more, from_expr, filter_among, first_times_among}
 use Rattle.lambda_lift.proofs.Matching.{HasTop, Same, SameLocal, SameFunction, SamePrimitive, SameNothing}
@@ -69,7 +69,7 @@ count_arguments : (at : ℕ) (xs : List ℕ) → count (lifted.arguments at xs) 
 count_arguments at [] = refl
 count_arguments at (x ∷ xs) = omega (arith, count_arguments at xs)
 
-pub some_length : (params : List Binder) → IsSome params → 0 < length params
+pub some_length : (params : List Binder) → HasParameter params → 0 < length params
 some_length [] h = absurd h
 some_length (b ∷ bs) h = omega arith
 
@@ -155,7 +155,7 @@ module _ (c : Program) (Good : ℕ → ℕ → Type 0) where
   placed_none : (m n : ℕ) → Placed m n 0
   placed_none m n = record { at = λ i y a lt f g. absurd (omega (arith, lt)) }
 
-  pub record ArrangedLike (r : Arranged) (news1 : List Bound) (xs1 : List Var) (news2 : List Bound) (xs2 : List Var) : Type 0 where
+  pub record ArrangedLike (r : SplitArguments) (news1 : List Bound) (xs1 : List Var) (news2 : List Bound) (xs2 : List Var) : Type 0 where
     pub first : NewsLike r.first news1
     pub names : NamesLike xs1 r.names
     pub second : NewsLike r.second news2
@@ -174,21 +174,21 @@ module _ (c : Program) (Good : ℕ → ℕ → Type 0) where
     -- the arguments of an application, and how they are arranged: so many of them first, and the others
     pub record ArgsLike (args : core.Terms) (xs : Option Arguments) : Type 0 where
       pub shape : SameShape args xs
-      pub many : many_of xs ≡ count args
+      pub many : argument_count xs ≡ count args
       pub arranged : (first rest : core.Terms) (k m m' n : ℕ) (news1 news2 : List Bound) (xs1 xs2 : List Var) → args ≡ append first rest → count first ≤ k → (HasTerm rest → k ≡ count first)
           → AreArgs (lifted.lifted c) t m first news1 xs1 → AreArgs (lifted.lifted c) t m' rest news2 xs2 → Placed m n (length news1) → Placed m' (suc n + length news1) (length news2)
-          → ArrangedLike (arranged_of xs n k) news1 xs1 news2 xs2
+          → ArrangedLike (split_arguments xs n k) news1 xs1 news2 xs2
 
     pub as_many_args : {m : ℕ} {args : core.Terms} {news : List Bound} {xs : List Var} → AreArgs (lifted.lifted c) t m args news xs → length xs ≡ count args
     as_many_args NoArgs = refl
     as_many_args (AndArg news1 news2 a b e) = let i = as_many_args b in omega (arith, i)
 
     -- all of them
-    pub record AllLike (r : Arranged) (bs : List Bound) (xs : List Var) : Type 0 where
+    pub record AllLike (r : SplitArguments) (bs : List Bound) (xs : List Var) : Type 0 where
       pub news : NewsLike r.first bs
       pub names : NamesLike xs r.names
 
-    pub all_args : (args : core.Terms) (xs : Option Arguments) (m n k : ℕ) (news : List Bound) (ys : List Var) → ArgsLike args xs → count args ≤ k → AreArgs (lifted.lifted c) t m args news ys → Placed m n (length news) → AllLike (arranged_of xs n k) news ys
+    pub all_args : (args : core.Terms) (xs : Option Arguments) (m n k : ℕ) (news : List Bound) (ys : List Var) → ArgsLike args xs → count args ≤ k → AreArgs (lifted.lifted c) t m args news ys → Placed m n (length news) → AllLike (split_arguments xs n k) news ys
     all_args args xs m n k news ys h le a p =
         let r = h.arranged args core.NoTerms k m m n news [] ys [] (sym (append_none args)) le (λ z. absurd z) a NoArgs p (placed_none m (suc n + length news)) in
         record { news = r.first; names = r.names }
@@ -199,9 +199,9 @@ module _ (c : Program) (Good : ℕ → ℕ → Type 0) where
     no_args P NoArgs h = h
 
     with_names_like : (args : core.Terms) (xs : Option Arguments) (m n : ℕ) (news : List Bound) (ys : List Var) (made : List ℕ → Binding) (form' : List Var → normal.Flat) → ArgsLike args xs → AreArgs (lifted.lifted c) t m args news ys → Placed m n (length news)
-        → ((as' : List ℕ) → NamesLike ys as' → FormLike (made as') (form' ys)) → FlatLike (with_names n xs made) news (form' ys)
+        → ((as' : List ℕ) → NamesLike ys as' → FormLike (made as') (form' ys)) → FlatLike (apply_to_names n xs made) news (form' ys)
     with_names_like core.NoTerms None m n news ys made form' h a p =
-        no_args (λ news ys. ((as' : List ℕ) → NamesLike ys as' → FormLike (made as') (form' ys)) → FlatLike (with_names n None made) news (form' ys)) a (λ go. record { news = tt; form = go [] tt })
+        no_args (λ news ys. ((as' : List ℕ) → NamesLike ys as' → FormLike (made as') (form' ys)) → FlatLike (apply_to_names n None made) news (form' ys)) a (λ go. record { news = tt; form = go [] tt })
     with_names_like core.NoTerms (Some xs) m n news ys made form' h a p = λ go. absurd h.shape
     with_names_like (core.AndTerm b bs) None m n news ys made form' h a p = λ go. absurd h.shape
     with_names_like (core.AndTerm b bs) (Some xs) m n news ys made form' h a p = λ go.
@@ -252,15 +252,15 @@ module _ (c : Program) (Good : ℕ → ℕ → Type 0) where
             }
 
     function_like : (f : Fun) (g k m n : ℕ) (args : core.Terms) (xs : Option Arguments) (news : List Bound) (form' : normal.Flat) → Stands c f [] g → arity c f ≡ suc k → ArgsLike args xs → IsNamed (lifted.lifted c) t m (stands.Function g (suc k)) args news form' → Placed m n (length news)
-        → FlatLike (function_with f (suc k) n xs) news form'
+        → FlatLike (apply_function f (suc k) n xs) news form'
     function_like f g k m n core.NoTerms (Some xs) news form' st ar h d p = absurd h.shape
     function_like f g k m n (core.AndTerm b bs) None news form' st ar h d p = absurd h.shape
     function_like f g k m n core.NoTerms None news form' st ar h d p = by refl d
       where
-        by : {args : core.Terms} {news : List Bound} {form' : normal.Flat} → args ≡ core.NoTerms → IsNamed (lifted.lifted c) t m (stands.Function g (suc k)) args news form' → FlatLike (function_with f (suc k) n None) news form'
+        by : {args : core.Terms} {news : List Bound} {form' : normal.Flat} → args ≡ core.NoTerms → IsNamed (lifted.lifted c) t m (stands.Function g (suc k)) args news form' → FlatLike (apply_function f (suc k) n None) news form'
         by e (Called {xs = ys} long a) = let many = as_many_args a in let z : count _ ≡ 0 = ap count e in absurd (omega (arith, many, long, z))
         by e (Partial {news = news} {xs = ys} less a) =
-            no_args (λ news ys. FlatLike (function_with f (suc k) n None) news (flat.Part g ys)) (subst (λ args. AreArgs (lifted.lifted c) t m args news ys) e a)
+            no_args (λ news ys. FlatLike (apply_function f (suc k) n None) news (flat.Part g ys)) (subst (λ args. AreArgs (lifted.lifted c) t m args news ys) e a)
             (record { news = tt; form = PartLike [] [] st (omega (arith, ar)) tt refl })
         by e (Exceeded first rest news1 news2 ys split some long a b is) =
             let many = as_many_args a in
@@ -269,7 +269,7 @@ module _ (c : Program) (Good : ℕ → ℕ → Type 0) where
     function_like f g k m n (core.AndTerm b bs) (Some xs) news form' st ar h d p =
         by d refl p
       where
-        by : {args : core.Terms} {news : List Bound} {form' : normal.Flat} → IsNamed (lifted.lifted c) t m (stands.Function g (suc k)) args news form' → args ≡ core.AndTerm b bs → Placed m n (length news) → FlatLike (function_with f (suc k) n (Some xs)) news form'
+        by : {args : core.Terms} {news : List Bound} {form' : normal.Flat} → IsNamed (lifted.lifted c) t m (stands.Function g (suc k)) args news form' → args ≡ core.AndTerm b bs → Placed m n (length news) → FlatLike (apply_function f (suc k) n (Some xs)) news form'
         by (Called {args = args} {news = news} {xs = ys} long a) e p =
             let h' : ArgsLike args (Some xs) = subst (λ args. ArgsLike args (Some xs)) (sym e) h in
             let e' : xs.many ≡ count args = h'.many in
@@ -420,7 +420,7 @@ module _ (c : Program) (Good : ℕ → ℕ → Type 0) where
           absurd (omega (arith, z, less, long, many, n))
 
       -- a lambda or a local function that is given the names that are free in it
-      pub closure_like : (params : List Binder) (body : Expr) (at at' k m : ℕ) (news : List Bound) (form' : normal.Flat) → IsSome params → Below (length c.names) (names_of params) → Fits (length c.names) (And V (names_of params)) body
+      pub closure_like : (params : List Binder) (body : Expr) (at at' k m : ℕ) (news : List Bound) (form' : normal.Flat) → HasParameter params → Below (length c.names) (names_of params) → Fits (length c.names) (And V (names_of params)) body
           → Located (abstractions c) (abstraction s params body at ∷ in_expr c (within c params s) body) k
           → IsFlat (lifted.lifted c) t m (core.Name (lifted_name c k) at') (lifted.arguments at' (free c s params body)) news form' → FlatLike (record { news = []; form = Known (Part (Closure params body env) []) }) news form'
       closure_like params body at at' k m news form' some below fits l d =
@@ -433,7 +433,7 @@ module _ (c : Program) (Good : ℕ → ℕ → Type 0) where
       -- the text's side, by the free names
       lambda_at : ℕ → List Binder → Expr → List ℕ → Option Arguments → Flat
       lambda_at n params body fs None = record { news = []; form = Known (Part (Closure params body env) []) }
-      lambda_at n params body [] (Some xs) = function_with (Closure params body env) (length params) n (Some xs)
+      lambda_at n params body [] (Some xs) = apply_function (Closure params body env) (length params) n (Some xs)
       lambda_at n params body (x ∷ more) (Some xs) = applied n (Known (Part (Closure params body env) [])) xs
 
       lambda_is : (n : ℕ) (params : List Binder) (body : Expr) (xs : Option Arguments) → lambda_at n params body (free c env params body) xs ≡ lambda_with c env n params body xs
@@ -441,11 +441,11 @@ module _ (c : Program) (Good : ℕ → ℕ → Type 0) where
       lambda_is n params body None = refl
       lambda_is n params body (Some xs) = by (free c env params body)
         where
-          by : (fs : List ℕ) → lambda_at n params body fs (Some xs) ≡ elim fs [ [] ↦ function_with (Closure params body env) (length params) n (Some xs) | x ∷ more ↦ applied n (Known (Part (Closure params body env) [])) xs ]
+          by : (fs : List ℕ) → lambda_at n params body fs (Some xs) ≡ elim fs [ [] ↦ apply_function (Closure params body env) (length params) n (Some xs) | x ∷ more ↦ applied n (Known (Part (Closure params body env) [])) xs ]
           by [] = refl
           by (x ∷ more) = refl
 
-      lambda_like : (params : List Binder) (body : Expr) (at k m n : ℕ) (fs : List ℕ) (args : core.Terms) (xs : Option Arguments) (news : List Bound) (form' : normal.Flat) → ((x : ℕ) → Among fs x → IsLocal x) → Stands c (Closure params body env) (fronts c env fs) (length c.functions + k) → IsSome params
+      lambda_like : (params : List Binder) (body : Expr) (at k m n : ℕ) (fs : List ℕ) (args : core.Terms) (xs : Option Arguments) (news : List Bound) (form' : normal.Flat) → ((x : ℕ) → Among fs x → IsLocal x) → Stands c (Closure params body env) (fronts c env fs) (length c.functions + k) → HasParameter params
           → scope.means (lifted.lifted c) t (lifted_name c k) ≡ stands.Function (length c.functions + k) (length fs + length params) → ArgsLike args xs
           → IsFlat (lifted.lifted c) t m (core.Bracket (core.Name (lifted_name c k) at) (lifted.arguments at fs) at) args news form' → Placed m n (length news) → FlatLike (lambda_at n params body fs xs) news form'
       unfolding lambda_at
@@ -456,11 +456,11 @@ module _ (c : Program) (Good : ℕ → ℕ → Type 0) where
           partial_of at (Closure params body env) fs l st pos refl (omega (arith, pos)) (named_of (lone_bracket d)) is
       lambda_like params body at k m n [] (core.AndTerm a as') (Some xs) news form' l st some is h d p = by (length params) refl
         where
-          by : (j : ℕ) → length params ≡ j → FlatLike (function_with (Closure params body env) (length params) n (Some xs)) news form'
+          by : (j : ℕ) → length params ≡ j → FlatLike (apply_function (Closure params body env) (length params) n (Some xs)) news form'
           by zero e = let pos = some_length params some in absurd (omega (arith, pos, e))
           by (suc j) e =
               let is' : scope.means (lifted.lifted c) t (lifted_name c k) ≡ stands.Function (length c.functions + k) (suc j) = is ∙ ap (stands.Function (length c.functions + k)) (omega (arith, e)) in
-              subst (λ j. FlatLike (function_with (Closure params body env) j n (Some xs)) news form') (sym e)
+              subst (λ j. FlatLike (apply_function (Closure params body env) j n (Some xs)) news form') (sym e)
               (function_like (Closure params body env) (length c.functions + k) j m n (core.AndTerm a as') (Some xs) news form' st e h (subst (λ M. IsNamed (lifted.lifted c) t m M (core.AndTerm a as') news form') is' (named_of (lone d))) p)
       lambda_like params body at k m n (x ∷ more) (core.AndTerm a as') (Some xs) news form' l st some is h (BracketApplied inner news1 news2 d b e) p =
           let pos = some_length params some in
@@ -475,7 +475,7 @@ module _ (c : Program) (Good : ℕ → ℕ → Type 0) where
       bracket_like : (head : core.Term) (inner : core.Terms) (at : ℕ) (go : ℕ → Option Arguments → Flat)
           → ((args : core.Terms) (xs : Option Arguments) (m n : ℕ) (news : List Bound) (form' : normal.Flat) → ArgsLike args xs → IsFlat (lifted.lifted c) t m head args news form' → Placed m n (length news) → FlatLike (go n xs) news form')
           → (args : core.Terms) (ins xs : Option Arguments) (m n : ℕ) (news : List Bound) (form' : normal.Flat) → ArgsLike inner ins → ArgsLike args xs → IsFlat (lifted.lifted c) t m (core.Bracket head inner at) args news form' → Placed m n (length news)
-          → FlatLike (bracketed n ins xs (go n)) news form'
+          → FlatLike (apply_bracket n ins xs (go n)) news form'
       bracket_like head core.NoTerms at go ih args None xs m n news form' i h d p = ih args xs m n news form' h (lone d) p
       bracket_like head core.NoTerms at go ih args (Some ins) xs m n news form' i h d p = absurd i.shape
       bracket_like head (core.AndTerm a as') at go ih args None xs m n news form' i h d p = absurd i.shape
@@ -538,7 +538,7 @@ module _ (c : Program) (Good : ℕ → ℕ → Type 0) where
             let same : suc n + length news1 ≡ suc (n + length (argument n).news) + length news12 = omega (arith, long, l) in
             let q = more.arranged bs rest k (m + length news11) m' (n + length (argument n).news) news12 news2 ys xs2 (ap rest_of e) le exact w v (placed_right m n (m + length news11) (n + length (argument n).news) news11 news12 news1 is refl (omega (arith, l)) p) (subst (λ j. Placed m' j (length news2)) same p') in
             let fs = (argument n).news in
-            let gs = (arranged_of others (n + length (argument n).news) k).first in
+            let gs = (split_arguments others (n + length (argument n).news) k).first in
             record { first = subst (λ z. NewsLike (fs ++ gs) z) (sym is) (news_append fs gs news11 news12 r.news q.first); names = (r.name, q.names); second = q.second; others = q.others }
 
         next_second : (b : core.Term) (bs : core.Terms) (m' n : ℕ) (news2 : List Bound) (xs2 : List Var) → core.AndTerm a as' ≡ core.AndTerm b bs
@@ -549,10 +549,10 @@ module _ (c : Program) (Good : ℕ → ℕ → Type 0) where
             let p : Placed m' (suc n) (length news2) = subst (λ j. Placed m' j (length news2)) z p0 in
             let r = one m' (suc n) news21 x (subst (λ z. IsArg (lifted.lifted c) t m' z news21 x) (sym (ap (head_of a) e)) d) (placed_left m' (suc n) news21 news22 news2 is p) in
             let l = as_many_news (argument (suc n)).news news21 r.news in
-            let le : count as' ≤ many_of others = let i = more.many in omega (arith, i) in
-            let q = all_args as' others (m' + length news21) (suc n + length (argument (suc n)).news) (many_of others) news22 ys more le (subst (λ z. AreArgs (lifted.lifted c) t (m' + length news21) z news22 ys) (sym (ap rest_of e)) w) (placed_right m' (suc n) (m' + length news21) (suc n + length (argument (suc n)).news) news21 news22 news2 is refl (omega (arith, l)) p) in
+            let le : count as' ≤ argument_count others = let i = more.many in omega (arith, i) in
+            let q = all_args as' others (m' + length news21) (suc n + length (argument (suc n)).news) (argument_count others) news22 ys more le (subst (λ z. AreArgs (lifted.lifted c) t (m' + length news21) z news22 ys) (sym (ap rest_of e)) w) (placed_right m' (suc n) (m' + length news21) (suc n + length (argument (suc n)).news) news21 news22 news2 is refl (omega (arith, l)) p) in
             let fs = (argument (suc n)).news in
-            let gs = (arranged_of others (suc n + length (argument (suc n)).news) (many_of others)).first in
+            let gs = (split_arguments others (suc n + length (argument (suc n)).news) (argument_count others)).first in
             record { first = tt; names = tt; second = subst (λ z. NewsLike (fs ++ gs) z) (sym is) (news_append fs gs news21 news22 r.news q.news); others = (r.name, q.names) }
 
         next_like : (first rest : core.Terms) (k m m' n : ℕ) (news1 news2 : List Bound) (xs1 xs2 : List Var) → core.AndTerm a as' ≡ append first rest → count first ≤ k → (HasTerm rest → k ≡ count first)

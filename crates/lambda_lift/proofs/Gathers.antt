@@ -4,21 +4,21 @@ use Rattle.std.specs.Prelude.{◌==◌, ◌||◌, filter}
 use Rattle.std.proofs.lemmas.List.{append-nil}
 use Rattle.std.proofs.lemmas.Bool.{ltb-true}
 use Rattle.seq.specs.Lists.{is_among}
-use Rattle.lambda_lift.specs.Free.{first_times}
-use Rattle.lambda_lift.specs.Gathered.{with_use, gathered}
+use Rattle.lambda_lift.specs.Free.{without_repeats}
+use Rattle.lambda_lift.specs.Gathered.{with_free_name, collected_free_names}
 
 module _ (test : ℕ → Bool) (limit : ℕ) where
-  pub gathered_append : (found xs ys : List ℕ) → gathered test limit found (xs ++ ys) ≡ gathered test limit (gathered test limit found xs) ys
-  unfolding gathered
+  pub gathered_append : (found xs ys : List ℕ) → collected_free_names test limit found (xs ++ ys) ≡ collected_free_names test limit (collected_free_names test limit found xs) ys
+  unfolding collected_free_names
   gathered_append found [] ys = refl
-  gathered_append found (x ∷ xs) ys = gathered_append (with_use test limit found x) xs ys
+  gathered_append found (x ∷ xs) ys = gathered_append (with_free_name test limit found x) xs ys
 
-  pub gathered_none : (found : List ℕ) → gathered test limit found [] ≡ found
-  unfolding gathered
+  pub gathered_none : (found : List ℕ) → collected_free_names test limit found [] ≡ found
+  unfolding collected_free_names
   gathered_none found = refl
 
-  pub gathered_one : (found : List ℕ) (x : ℕ) → gathered test limit found (x ∷ []) ≡ with_use test limit found x
-  unfolding gathered
+  pub gathered_one : (found : List ℕ) (x : ℕ) → collected_free_names test limit found (x ∷ []) ≡ with_free_name test limit found x
+  unfolding collected_free_names
   gathered_one found x = refl
 
 -- ---- filters
@@ -87,25 +87,25 @@ others_found found x e xs = filter_both (others found) (λ y. not (y == x)) xs �
 
 module _ (test : ℕ → Bool) (limit : ℕ) where
   abbrev more : List ℕ → List ℕ → List ℕ
-  more found xs = found ++ take (limit - length found) (filter (others found) (first_times (filter test xs)))
+  more found xs = found ++ take (limit - length found) (filter (others found) (without_repeats (filter test xs)))
 
   full : (found : List ℕ) → length found ≡ limit → (l m : List ℕ) → found ++ take (limit - length found) l ≡ found ++ take (limit - length found) m
   full found e l m = let z : limit - length found ≡ 0 = omega (arith, e) in ap (λ n. found ++ take n l) z ∙ sym (ap (λ n. found ++ take n m) z)
 
   -- one more use, where what follows is known
-  one_behind : (found : List ℕ) (x : ℕ) (xs : List ℕ) → length found ≤ limit → ((found : List ℕ) → length found ≤ limit → gathered test limit found xs ≡ more found xs) → (t f a : Bool) → test x ≡ t → nat_lt (length found) limit ≡ f → is_among x found ≡ a
-      → gathered test limit (cond (t && (f && not a)) (found ++ x ∷ []) found) xs ≡ found ++ take (limit - length found) (filter (others found) (first_times (cond t (x ∷ filter test xs) (filter test xs))))
+  one_behind : (found : List ℕ) (x : ℕ) (xs : List ℕ) → length found ≤ limit → ((found : List ℕ) → length found ≤ limit → collected_free_names test limit found xs ≡ more found xs) → (t f a : Bool) → test x ≡ t → nat_lt (length found) limit ≡ f → is_among x found ≡ a
+      → collected_free_names test limit (cond (t && (f && not a)) (found ++ x ∷ []) found) xs ≡ found ++ take (limit - length found) (filter (others found) (without_repeats (cond t (x ∷ filter test xs) (filter test xs))))
   one_behind found x xs h rest false f a e g k = rest found h
   one_behind found x xs h rest true false a e g k =
-      let later : List ℕ = first_times (filter test xs) in
+      let later : List ℕ = without_repeats (filter test xs) in
       let room : length found ≡ limit = grind (arith, g) in
       rest found h ∙ full found room (filter (others found) later) (filter (others found) (x ∷ filter (λ y. not (y == x)) later))
   one_behind found x xs h rest true true true e g k =
-      let later : List ℕ = first_times (filter test xs) in
+      let later : List ℕ = without_repeats (filter test xs) in
       let l : List ℕ = filter (others found) (filter (λ y. not (y == x)) later) in
       rest found h ∙ ap (λ w. found ++ take (limit - length found) w) (sym (others_found found x k later) ∙ sym (ap (λ b. cond (not b) (x ∷ l) l) k))
   one_behind found x xs h rest true true false e g k =
-      let later : List ℕ = first_times (filter test xs) in
+      let later : List ℕ = without_repeats (filter test xs) in
       let m : ℕ = limit - length (found ++ x ∷ []) in
       let l : List ℕ = filter (others found) (filter (λ y. not (y == x)) later) in
       let below : length found < limit = ltb-true (length found) limit g in
@@ -117,8 +117,8 @@ module _ (test : ℕ → Bool) (limit : ℕ) where
       ∙ sym (ap (λ n. found ++ take n (x ∷ l)) room)
       ∙ sym (ap (λ b. found ++ take (limit - length found) (cond (not b) (x ∷ l) l)) k)
 
-  behind : (found : List ℕ) (xs : List ℕ) → length found ≤ limit → gathered test limit found xs ≡ more found xs
-  unfolding gathered
+  behind : (found : List ℕ) (xs : List ℕ) → length found ≤ limit → collected_free_names test limit found xs ≡ more found xs
+  unfolding collected_free_names
   behind found [] h = sym (by (limit - length found))
     where
       by : (n : ℕ) → found ++ take n [] ≡ found
@@ -130,12 +130,12 @@ module _ (test : ℕ → Bool) (limit : ℕ) where
   everything [] = refl
   everything (x ∷ xs) = ap (λ w. x ∷ w) (everything xs)
 
-  nothing_found : (n : ℕ) (xs : List ℕ) → n ≡ limit → more [] xs ≡ take n (first_times (filter test xs))
+  nothing_found : (n : ℕ) (xs : List ℕ) → n ≡ limit → more [] xs ≡ take n (without_repeats (filter test xs))
   nothing_found n xs e =
       let z : limit - 0 ≡ n = omega (arith, e) in
-      ap (λ m. take m (filter (others []) (first_times (filter test xs)))) z ∙ ap (take n) (everything (first_times (filter test xs)))
+      ap (λ m. take m (filter (others []) (without_repeats (filter test xs)))) z ∙ ap (take n) (everything (without_repeats (filter test xs)))
 
-  pub gathered_free : (xs : List ℕ) → gathered test limit [] xs ≡ take limit (first_times (filter test xs))
+  pub gathered_free : (xs : List ℕ) → collected_free_names test limit [] xs ≡ take limit (without_repeats (filter test xs))
   gathered_free xs = behind [] xs (omega arith) ∙ nothing_found limit xs refl
 
 -- fewer than were asked for are all

@@ -8,7 +8,7 @@ use Rattle.arity_check.specs.declared.meaning.Meaning.TheVariants as stands
 use Rattle.arity_check.specs.Scope as scope
 use Rattle.arity_check.specs.Scope.{Scope}
 use Rattle.arity_check.specs.Normal.{bound, Pairwise, IsFlat, IsGroup, NoMembers, AndMember}
-use Rattle.arity_check.specs.Numbered.{Numbered}
+use Rattle.arity_check.specs.Numbered.{LocalsAreConsecutive}
 use Rattle.arity_check.proofs.Numbers.{flat_numbered, numbered_both}
 use Rattle.core_meaning.specs.Heap.{Part, Known}
 use Rattle.lambda_lift.specs.Headers.{names_of, binders_of, means, within}
@@ -44,10 +44,10 @@ pub group_long : {p : core.Program} {s : Scope} {n : ℕ} {bs : List core.Bind} 
 group_long NoMembers = refl
 group_long (AndMember news bounds form t d e g is) = ap suc (group_long g)
 
-pub group_numbered : {p : core.Program} {s : Scope} {n : ℕ} {bs : List core.Bind} {bounds : List Bound} {xs : List ℕ} → IsGroup p s n bs bounds xs → Numbered n bounds
+pub group_numbered : {p : core.Program} {s : Scope} {n : ℕ} {bs : List core.Bind} {bounds : List Bound} {xs : List ℕ} → IsGroup p s n bs bounds xs → LocalsAreConsecutive n bounds
 group_numbered NoMembers = tt
 group_numbered {p = p} {s = s} {n = n} (AndMember news bounds form t d e g is) =
-    subst (Numbered n) (sym is) (numbered_both n t news (bound t form ∷ bounds) e (flat_numbered p s d) (refl, group_numbered g))
+    subst (LocalsAreConsecutive n) (sym is) (numbered_both n t news (bound t form ∷ bounds) e (flat_numbered p s d) (refl, group_numbered g))
 
 module _ (c : Program) where
   pub names_lifted : (s : Scope) (k : ℕ) (group : Group) → map (λ (b : core.Bind). b.binder.name.0) (lift_group c s k group) ≡ names_of (binders_of group)

@@ -8,7 +8,7 @@ use Rattle.lambda_reader.specs.Code.{terms_of}
 use Rattle.arity_check.specs.Scope.{Scope}
 use Rattle.lambda_lift.specs.Abstractions.{Abstraction, count_term, count_terms}
 use Rattle.lambda_lift.specs.Lifted.{lifted_function, lifted_functions, lift_term, lift_terms}
-use Rattle.lambda_lift.specs.Growing.{grows}
+use Rattle.lambda_lift.specs.Growing.{with_lifted_functions}
 
 module _ (c : Program) where
   pub functions_joined : (k : ℕ) (xs ys : List Abstraction) → lifted_functions c k (xs ++ ys) ≡ lifted_functions c k xs ++ lifted_functions c (k + length xs) ys
@@ -21,23 +21,23 @@ module _ (c : Program) where
   functions_count k [] = refl
   functions_count k (x ∷ xs) = ap suc (functions_count (suc k) xs)
 
-  pub grows_count : (made : List core.Function) (xs : List Abstraction) → length (grows c made xs) ≡ length made + length xs
-  unfolding grows
+  pub grows_count : (made : List core.Function) (xs : List Abstraction) → length (with_lifted_functions c made xs) ≡ length made + length xs
+  unfolding with_lifted_functions
   grows_count made xs = length-append made (lifted_functions c (length made) xs) ∙ ap (λ n. length made + n) (functions_count (length made) xs)
 
-  pub grows_joined : (made : List core.Function) (xs ys : List Abstraction) → grows c made (xs ++ ys) ≡ grows c (grows c made xs) ys
-  unfolding grows
+  pub grows_joined : (made : List core.Function) (xs ys : List Abstraction) → with_lifted_functions c made (xs ++ ys) ≡ with_lifted_functions c (with_lifted_functions c made xs) ys
+  unfolding with_lifted_functions
   grows_joined made xs ys =
       ap (λ w. made ++ w) (functions_joined (length made) xs ys) ∙ sym (append_assoc made (lifted_functions c (length made) xs) (lifted_functions c (length made + length xs) ys))
       ∙ sym (ap (λ n. (made ++ lifted_functions c (length made) xs) ++ lifted_functions c n ys) (grows_count made xs))
 
-  pub grows_none : (made : List core.Function) → grows c made [] ≡ made
-  unfolding grows
+  pub grows_none : (made : List core.Function) → with_lifted_functions c made [] ≡ made
+  unfolding with_lifted_functions
   grows_none made = append-nil made
 
   -- a function that stands for one to come is replaced by it
-  pub replaced : (made : List core.Function) (other f : core.Function) (a : Abstraction) (rest : List Abstraction) → f ≡ lifted_function c (length made) a → set (grows c (made ++ other ∷ []) rest) (length made) f ≡ grows c made (a ∷ rest)
-  unfolding grows
+  pub replaced : (made : List core.Function) (other f : core.Function) (a : Abstraction) (rest : List Abstraction) → f ≡ lifted_function c (length made) a → set (with_lifted_functions c (made ++ other ∷ []) rest) (length made) f ≡ with_lifted_functions c made (a ∷ rest)
+  unfolding with_lifted_functions
   replaced made other f a rest e =
       let n : length (made ++ other ∷ []) ≡ suc (length made) = simp length-append (omega arith) in
       let tail : List core.Function = lifted_functions c (suc (length made)) rest in
@@ -45,7 +45,7 @@ module _ (c : Program) where
       ∙ set_at made other tail f (length made) refl ∙ ap (λ g. made ++ g ∷ tail) e
 
   -- how many code has made
-  pub made_count : (made made' : List code-function.Function) (xs : List Abstraction) → map core.function made' ≡ grows c (map core.function made) xs → length made' ≡ length made + length xs
+  pub made_count : (made made' : List code-function.Function) (xs : List Abstraction) → map core.function made' ≡ with_lifted_functions c (map core.function made) xs → length made' ≡ length made + length xs
   made_count made made' xs e = sym (length-map made' core.function) ∙ ap length e ∙ grows_count (map core.function made) xs ∙ ap (λ n. n + length xs) (length-map made core.function)
 
   -- ---- arguments

@@ -3,15 +3,15 @@ use Rattle.std.proofs.Common.{◌≡◌, ℕ, zero, suc, ◌+◌, ◌<◌, ◌�
 use Rattle.std.specs.Prelude.{slice_get}
 use Rattle.std.proofs.lemmas.Bool.{ltb-true, cases_lt}
 use Rattle.lambda_reader.specs.Tree.{Program}
-use Rattle.lambda_reader.specs.Programs.{IsText, IsRead}
+use Rattle.lambda_reader.specs.Programs.{IsSourceText, BreaksNoReadingRule}
 use Rattle.lambda_reader.specs.Reserved.{HasReserved, Stands, IsFirstReserved}
 use Rattle.lambda_lift.specs.Free.{free}
 use Rattle.lambda_lift.specs.Abstractions.{Abstraction, abstractions}
 use Rattle.lambda_lift.specs.Rules.{Broken, TooManyParameters, ReservedLift, IsBefore, Unlifted, IsUnbroken}
-use Rattle.lambda_lift.specs.Broadest.{earlier, earlier_where, is_too_broad, too_broad}
+use Rattle.lambda_lift.specs.Broadest.{earlier, earlier_place_if, exceeds_parameter_limit, too_broad}
 use Rattle.lambda_lift.specs.declared.refusal.LiftRefusal.{LiftRefusal}
 use Rattle.lambda_lift.specs.declared.refusal.LiftRefusal.TheVariants as refusal
-use Rattle.lambda_lift.specs.Choosing.{refused_by}
+use Rattle.lambda_lift.specs.Choosing.{earliest_refusal}
 use Rattle.lambda_lift.specs.Refusal.{IsCause}
 
 -- ---- the first place of a lambda that is too broad
@@ -20,7 +20,7 @@ record Broad (c : Program) (xs : List Abstraction) (at : ℕ) : Type 0 where
   number : ℕ
   one : Abstraction
   stands : slice_get xs number ≡ Some one
-  broad : is_too_broad c one ≡ true
+  broad : exceeds_parameter_limit c one ≡ true
   place : one.at ≡ at
 
 later : {c : Program} (a : Abstraction) {xs : List Abstraction} {at : ℕ} → Broad c xs at → Broad c (a ∷ xs) at
@@ -30,11 +30,11 @@ later a w = record { number = suc w.number; one = w.one; stands = w.stands; broa
 record First (c : Program) (met : Option ℕ) (xs : List Abstraction) (at : ℕ) : Type 0 where
   from : (met ≡ Some at) ⊎ Broad c xs at
   before : (m : ℕ) → met ≡ Some m → at ≤ m
-  all : (b : Abstraction) (i : ℕ) → slice_get xs i ≡ Some b → is_too_broad c b ≡ true → at ≤ b.at
+  all : (b : Abstraction) (i : ℕ) → slice_get xs i ≡ Some b → exceeds_parameter_limit c b ≡ true → at ≤ b.at
 
 pub record None_met (c : Program) (met : Option ℕ) (xs : List Abstraction) : Type 0 where
   pub before : met ≡ None
-  pub all : (b : Abstraction) (i : ℕ) → slice_get xs i ≡ Some b → is_too_broad c b ≡ true → ⊥
+  pub all : (b : Abstraction) (i : ℕ) → slice_get xs i ≡ Some b → exceeds_parameter_limit c b ≡ true → ⊥
 
 same_item : {X : Type 0} (x y : X) → Some x ≡ Some y → x ≡ y
 same_item x y e = cc
@@ -64,15 +64,15 @@ earlier_from (Some m) at place e = by (nat_lt at m) e
 
 module _ (c : Program) where
   -- nothing more is met at the first one
-  first_past : (a : Abstraction) (met : Option ℕ) (xs : List Abstraction) (at : ℕ) → is_too_broad c a ≡ false → First c met xs at → First c met (a ∷ xs) at
+  first_past : (a : Abstraction) (met : Option ℕ) (xs : List Abstraction) (at : ℕ) → exceeds_parameter_limit c a ≡ false → First c met xs at → First c met (a ∷ xs) at
   first_past a met xs at f w = record { from = elim w.from [ inl g ↦ inl g | inr g ↦ inr (later a g) ]; before = w.before; all = all }
     where
-      all : (b : Abstraction) (i : ℕ) → slice_get (a ∷ xs) i ≡ Some b → is_too_broad c b ≡ true → at ≤ b.at
-      all b zero g h = let no : true ≡ false = sym h ∙ sym (ap (is_too_broad c) (same_item a b g)) ∙ f in absurd cc
+      all : (b : Abstraction) (i : ℕ) → slice_get (a ∷ xs) i ≡ Some b → exceeds_parameter_limit c b ≡ true → at ≤ b.at
+      all b zero g h = let no : true ≡ false = sym h ∙ sym (ap (exceeds_parameter_limit c) (same_item a b g)) ∙ f in absurd cc
       all b (suc i) g h = w.all b i g h
 
   -- the first one is met
-  first_here : (a : Abstraction) (met : Option ℕ) (xs : List Abstraction) (at : ℕ) → is_too_broad c a ≡ true → First c (Some (earlier met a.at)) xs at → First c met (a ∷ xs) at
+  first_here : (a : Abstraction) (met : Option ℕ) (xs : List Abstraction) (at : ℕ) → exceeds_parameter_limit c a ≡ true → First c (Some (earlier met a.at)) xs at → First c met (a ∷ xs) at
   first_here a met xs at f w = record { from = from w.from; before = before; all = all }
     where
       from : (Some (earlier met a.at) ≡ Some at) ⊎ Broad c xs at → (met ≡ Some at) ⊎ Broad c (a ∷ xs) at
@@ -85,7 +85,7 @@ module _ (c : Program) where
       before : (m : ℕ) → met ≡ Some m → at ≤ m
       before m g = let le = w.before (earlier met a.at) refl in let le' : earlier met a.at ≤ m = subst (λ o. earlier o a.at ≤ m) (sym g) (earlier_met m a.at) in omega arith
 
-      all : (b : Abstraction) (i : ℕ) → slice_get (a ∷ xs) i ≡ Some b → is_too_broad c b ≡ true → at ≤ b.at
+      all : (b : Abstraction) (i : ℕ) → slice_get (a ∷ xs) i ≡ Some b → exceeds_parameter_limit c b ≡ true → at ≤ b.at
       all b zero g h =
           let le = w.before (earlier met a.at) refl in
           let le' = earlier_le met a.at in
@@ -93,45 +93,45 @@ module _ (c : Program) where
           subst (λ (b : Abstraction). at ≤ b.at) (same_item a b g) here
       all b (suc i) g h = w.all b i g h
 
-  first_by : (a : Abstraction) (met : Option ℕ) (xs : List Abstraction) (at : ℕ) → ((met : Option ℕ) → too_broad c met xs ≡ Some at → First c met xs at) → (broad : Bool) → is_too_broad c a ≡ broad
-      → too_broad c (earlier_where broad a.at met) xs ≡ Some at → First c met (a ∷ xs) at
+  first_by : (a : Abstraction) (met : Option ℕ) (xs : List Abstraction) (at : ℕ) → ((met : Option ℕ) → too_broad c met xs ≡ Some at → First c met xs at) → (broad : Bool) → exceeds_parameter_limit c a ≡ broad
+      → too_broad c (earlier_place_if broad a.at met) xs ≡ Some at → First c met (a ∷ xs) at
   first_by a met xs at rest false f e = first_past a met xs at f (rest met e)
   first_by a met xs at rest true f e = first_here a met xs at f (rest (Some (earlier met a.at)) e)
 
   first_of : (met : Option ℕ) (xs : List Abstraction) (at : ℕ) → too_broad c met xs ≡ Some at → First c met xs at
   unfolding too_broad
   first_of met [] at e = record { from = inl e; before = λ m f. omega (arith, same_item m at (sym f ∙ e)); all = λ b i f g. absurd cc }
-  first_of met (a ∷ xs) at e = first_by a met xs at (λ met e. first_of met xs at e) (is_too_broad c a) refl e
+  first_of met (a ∷ xs) at e = first_by a met xs at (λ met e. first_of met xs at e) (exceeds_parameter_limit c a) refl e
 
-  none_by : (a : Abstraction) (met : Option ℕ) (xs : List Abstraction) → ((met : Option ℕ) → too_broad c met xs ≡ None → None_met c met xs) → (broad : Bool) → is_too_broad c a ≡ broad
-      → too_broad c (earlier_where broad a.at met) xs ≡ None → None_met c met (a ∷ xs)
+  none_by : (a : Abstraction) (met : Option ℕ) (xs : List Abstraction) → ((met : Option ℕ) → too_broad c met xs ≡ None → None_met c met xs) → (broad : Bool) → exceeds_parameter_limit c a ≡ broad
+      → too_broad c (earlier_place_if broad a.at met) xs ≡ None → None_met c met (a ∷ xs)
   none_by a met xs rest true f e = let no : Some (earlier met a.at) ≡ None = (rest (Some (earlier met a.at)) e).before in absurd cc
   none_by a met xs rest false f e = let w = rest met e in record { before = w.before; all = all w.all }
     where
-      all : ((b : Abstraction) (i : ℕ) → slice_get xs i ≡ Some b → is_too_broad c b ≡ true → ⊥) → (b : Abstraction) (i : ℕ) → slice_get (a ∷ xs) i ≡ Some b → is_too_broad c b ≡ true → ⊥
-      all w b zero g h = let no : true ≡ false = sym h ∙ sym (ap (is_too_broad c) (same_item a b g)) ∙ f in absurd cc
+      all : ((b : Abstraction) (i : ℕ) → slice_get xs i ≡ Some b → exceeds_parameter_limit c b ≡ true → ⊥) → (b : Abstraction) (i : ℕ) → slice_get (a ∷ xs) i ≡ Some b → exceeds_parameter_limit c b ≡ true → ⊥
+      all w b zero g h = let no : true ≡ false = sym h ∙ sym (ap (exceeds_parameter_limit c) (same_item a b g)) ∙ f in absurd cc
       all w b (suc i) g h = w b i g h
 
   pub none_of : (met : Option ℕ) (xs : List Abstraction) → too_broad c met xs ≡ None → None_met c met xs
   unfolding too_broad
   none_of met [] e = record { before = e; all = λ b i f g. absurd cc }
-  none_of met (a ∷ xs) e = none_by a met xs (λ met e. none_of met xs e) (is_too_broad c a) refl e
+  none_of met (a ∷ xs) e = none_by a met xs (λ met e. none_of met xs e) (exceeds_parameter_limit c a) refl e
 
 -- ---- the rules
 
 le_before : (k at k' at' : ℕ) → at ≤ at' → k ≤ k' → IsBefore k at k' at'
 le_before k at k' at' h g = elim (cases_lt at at') [ inl l ↦ inl l | inr m ↦ inr (omega arith, g) ]
 
-broad_number : (c : Program) (a : Abstraction) → is_too_broad c a ≡ true → 12 < length (free c a.scope a.params a.body) + length a.params
+broad_number : (c : Program) (a : Abstraction) → exceeds_parameter_limit c a ≡ true → 12 < length (free c a.scope a.params a.body) + length a.params
 broad_number c a e = ltb-true 12 (length (free c a.scope a.params a.body) + length a.params) e
 
-number_broad : (c : Program) (a : Abstraction) → 12 < length (free c a.scope a.params a.body) + length a.params → is_too_broad c a ≡ true
+number_broad : (c : Program) (a : Abstraction) → 12 < length (free c a.scope a.params a.body) + length a.params → exceeds_parameter_limit c a ≡ true
 number_broad c a l = grind arith
 
-module _ (text : List ℕ) (c : Program) (is_text : IsText text c) (one : (d : Program) → IsText text d → d ≡ c) (reserved : Option ℕ) (met : IsFirstReserved text reserved) (first : Option ℕ) (is : first ≡ too_broad c None (abstractions c)) (read : IsRead text) where
+module _ (text : List ℕ) (c : Program) (is_text : IsSourceText text c) (one : (d : Program) → IsSourceText text d → d ≡ c) (reserved : Option ℕ) (met : IsFirstReserved text reserved) (first : Option ℕ) (is : first ≡ too_broad c None (abstractions c)) (read : BreaksNoReadingRule text) where
   -- a broken rule, by what was looked for
   data Judged (k at : ℕ) : Type 0 where
-    Of61 : k ≡ 61 → (b : Abstraction) (i : ℕ) → slice_get (abstractions c) i ≡ Some b → is_too_broad c b ≡ true → b.at ≡ at → Judged k at
+    Of61 : k ≡ 61 → (b : Abstraction) (i : ℕ) → slice_get (abstractions c) i ≡ Some b → exceeds_parameter_limit c b ≡ true → b.at ≡ at → Judged k at
     Of62 : k ≡ 62 → HasReserved text at → Judged k at
 
   judge_one : (d : Program) → d ≡ c → (a : Abstraction) (i : ℕ) → slice_get (abstractions d) i ≡ Some a → 12 < length (free d a.scope a.params a.body) + length a.params → Judged 61 a.at
@@ -164,7 +164,7 @@ module _ (text : List ℕ) (c : Program) (is_text : IsText text c) (one : (d : P
   Says None = IsUnbroken text
   Says (Some r) = IsCause text r
 
-  says : (o p : Option ℕ) → Met61 o → IsFirstReserved text p → Says (refused_by o p)
+  says : (o p : Option ℕ) → Met61 o → IsFirstReserved text p → Says (earliest_refusal o p)
   says None None a b = record { read = read; lifted = λ k at w. no k at (judge w) }
     where
       no : (k at : ℕ) → Judged k at → ⊥
@@ -194,5 +194,5 @@ module _ (text : List ℕ) (c : Program) (is_text : IsText text c) (one : (d : P
       by true e = Unlifted read (broken_two at b.0) (λ k' at' w. first_two (ltb-true at place e) k' at' (judge w))
       by false e = Unlifted read (broken_one place (broad_of place a)) (λ k' at' w. first_one (grind (arith, e)) k' at' (judge w))
 
-  pub answer : (o : Option LiftRefusal) → o ≡ refused_by first reserved → Says o
+  pub answer : (o : Option LiftRefusal) → o ≡ earliest_refusal first reserved → Says o
   answer o e = subst Says (sym e) (says first reserved (met_one first is) met)

@@ -8,16 +8,16 @@ use Rattle.std.specs.Str.Parse.{digits_value}
 use Rattle.std.proofs.lemmas.List.Elements.{All-nil, All-cons, All-push, All-head, All-tail, All-append}
 use Rattle.std.proofs.lemmas.Fmt.{decimal_is_IsNumeral}
 use Rattle.core_reader.specs.declared.dialect.Dialect.TheVariants.{Lambdas}
-use Rattle.core_reader.specs.declared.look.Kind.TheVariants.{Lower}
+use Rattle.core_reader.specs.declared.look.TokenKind.TheVariants.{Lower}
 use Rattle.core_reader.specs.Bytes.{is_inner}
 use Rattle.core_reader.specs.TokensOf.{Piece, kind_of, every}
 use Rattle.core_reader.specs.NamesOf.{is_numbered, is_numbered_by, with_piece}
-use Rattle.core_reader.specs.Different.{AreDifferent}
+use Rattle.core_reader.specs.Different.{AreDistinct}
 use Rattle.lambda_reader.specs.Tree.{Program}
-use Rattle.lambda_reader.specs.Programs.{IsText}
+use Rattle.lambda_reader.specs.Programs.{IsSourceText}
 use Rattle.lambda_reader.specs.Reserved.{HasReserved, Stands}
 use Rattle.lambda_lift.specs.Lifted.{lifted_names}
-use Rattle.lambda_lift.specs.Choosing.{IsFree}
+use Rattle.lambda_lift.specs.Choosing.{IsUnreservedName}
 
 -- ---- of a text
 
@@ -28,19 +28,19 @@ lift_kind w rest e n = ap (kind_of Lambdas) e ∙ by (every is_inner (codes "ift
     by true h = refl
     by false h = absurd cc
 
-name_by : (a b : Bool) (names : List (List ℕ)) (w : List ℕ) → All IsFree names → (a ≡ true → IsFree w) → All IsFree (if a then (if b then names else names ++ w ∷ []) else names)
+name_by : (a b : Bool) (names : List (List ℕ)) (w : List ℕ) → All IsUnreservedName names → (a ≡ true → IsUnreservedName w) → All IsUnreservedName (if a then (if b then names else names ++ w ∷ []) else names)
 name_by false b names w h f = h
 name_by true true names w h f = h
-name_by true false names w h f = All-push IsFree names w h (f refl)
+name_by true false names w h f = All-push IsUnreservedName names w h (f refl)
 
-free_from : (names : List (List ℕ)) (ps : List Piece) → All IsFree names → ((p : Piece) (i : ℕ) → slice_get ps i ≡ Some p → is_numbered Lambdas p ≡ true → IsFree p.bytes) → All IsFree (fold (with_piece Lambdas) names ps)
+free_from : (names : List (List ℕ)) (ps : List Piece) → All IsUnreservedName names → ((p : Piece) (i : ℕ) → slice_get ps i ≡ Some p → is_numbered Lambdas p ≡ true → IsUnreservedName p.bytes) → All IsUnreservedName (fold (with_piece Lambdas) names ps)
 free_from names [] h f = h
 free_from names (p ∷ ps) h f = free_from (with_piece Lambdas names p) ps (name_by (is_numbered Lambdas p) (list_any (bytes_eq p.bytes) names) names p.bytes h (f p 0 refl)) (λ q i e. f q (suc i) e)
 
 -- the names of a text that has none that begins so
-pub text_free : (text : List ℕ) (c : Program) → IsText text c → ((at : ℕ) → HasReserved text at → ⊥) → All IsFree c.names
+pub text_free : (text : List ℕ) (c : Program) → IsSourceText text c → ((at : ℕ) → HasReserved text at → ⊥) → All IsUnreservedName c.names
 text_free text c t none =
-    subst (All IsFree) (sym t.program.names) (free_from [] t.pieces (All-nil IsFree) (λ p i e n rest f. none p.at (Stands i t.tokens e (rest, lift_kind p.bytes rest f n, f))))
+    subst (All IsUnreservedName) (sym t.program.names) (free_from [] t.pieces (All-nil IsUnreservedName) (λ p i e n rest f. none p.at (Stands i t.tokens e (rest, lift_kind p.bytes rest f n, f))))
 
 -- ---- of lifted functions
 
@@ -59,17 +59,17 @@ all_differ : (k m n : ℕ) → k < m → m + n ≤ 2 ^ 32 → All (λ v. v ≢ c
 all_differ k m zero l h = All-nil (λ v. v ≢ codes "lift'" ++ decimal k)
 all_differ k m (suc n) l h = All-cons (λ v. v ≢ codes "lift'" ++ decimal k) (codes "lift'" ++ decimal m) (lifted_names (suc m) n) (differs k m l (omega arith)) (all_differ k (suc m) n (omega arith) (omega arith))
 
-lifted_different : (k n : ℕ) → k + n ≤ 2 ^ 32 → AreDifferent (lifted_names k n)
+lifted_different : (k n : ℕ) → k + n ≤ 2 ^ 32 → AreDistinct (lifted_names k n)
 lifted_different k zero h = tt
 lifted_different k (suc n) h = (all_differ k (suc k) n (omega arith) (omega arith), lifted_different (suc k) n (omega arith))
 
 -- ---- both
 
-others : (w : List ℕ) (k n : ℕ) → IsFree w → All (λ v. v ≢ w) (lifted_names k n)
+others : (w : List ℕ) (k n : ℕ) → IsUnreservedName w → All (λ v. v ≢ w) (lifted_names k n)
 others w k zero f = All-nil (λ v. v ≢ w)
 others w k (suc n) f = All-cons (λ v. v ≢ w) (codes "lift'" ++ decimal k) (lifted_names (suc k) n) (λ e. f (decimal k) (sym e)) (others w (suc k) n f)
 
-pub all_different : (names : List (List ℕ)) (n : ℕ) → n ≤ 2 ^ 32 → AreDifferent names → All IsFree names → AreDifferent (names ++ lifted_names 0 n)
+pub all_different : (names : List (List ℕ)) (n : ℕ) → n ≤ 2 ^ 32 → AreDistinct names → All IsUnreservedName names → AreDistinct (names ++ lifted_names 0 n)
 all_different [] n l d f = lifted_different 0 n (omega arith)
 all_different (w ∷ names) n l d f =
-    (All-append (λ v. v ≢ w) names (lifted_names 0 n) d.0 (others w 0 n (All-head IsFree w names f)), all_different names n l d.1 (All-tail IsFree w names f))
+    (All-append (λ v. v ≢ w) names (lifted_names 0 n) d.0 (others w 0 n (All-head IsUnreservedName w names f)), all_different names n l d.1 (All-tail IsUnreservedName w names f))

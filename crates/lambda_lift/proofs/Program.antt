@@ -8,14 +8,14 @@ use Rattle.seq.proofs.Order.{eq_self, eq_false}
 use Rattle.core_reader.specs.Tree as core
 use Rattle.lambda_reader.specs.Tree.{Term, Terms, NoTerms, AndTerm, Group, NoBinds, AndValue, AndFunction, Expr, App, Let, Case, Alts, NoAlts, AndAlt, Function, Program}
 use Rattle.lambda_reader.specs.Tree as tree
-use Rattle.lambda_reader.specs.Grammar.{IsSome}
+use Rattle.lambda_reader.specs.Grammar.{HasParameter}
 use Rattle.arity_check.specs.declared.meaning.Meaning.{Meaning}
 use Rattle.arity_check.specs.declared.meaning.Meaning.TheVariants.{Local, Primitive, Unbound}
 use Rattle.arity_check.specs.declared.meaning.Meaning.TheVariants as stands
 use Rattle.arity_check.specs.declared.normal.PrimOp.{PrimOp}
 use Rattle.arity_check.specs.Scope as scope
 use Rattle.arity_check.specs.Scope.{Scope, is_named, primitives, primitive_from, unless_primitive, function_from, found_in}
-use Rattle.lambda_lift.specs.Headers.{bound_by, binders_of, header, headers, within}
+use Rattle.lambda_lift.specs.Headers.{bound_by, binders_of, function_header, program_headers, within}
 use Rattle.lambda_lift.specs.Free.{free}
 use Rattle.lambda_lift.specs.Abstractions as inside
 use Rattle.lambda_lift.specs.Abstractions.{Abstraction, in_term, in_terms, in_expr, in_alts, in_functions, abstractions, count}
@@ -33,7 +33,7 @@ get_front (x ∷ xs) ys (suc i) lt = get_front xs ys i (omega (arith, lt))
 -- ---- each lambda and each local function has a parameter
 
 abbrev pub HasSome : List Abstraction → Type 0
-HasSome xs = AllOf (λ a. IsSome a.params) xs
+HasSome xs = AllOf (λ a. HasParameter a.params) xs
 
 some_both : (xs ys : List Abstraction) → HasSome xs → HasSome ys → HasSome (xs ++ ys)
 some_both [] ys h k = k
@@ -131,7 +131,7 @@ module _ (c : Program) (fits : ProgramFits c) where
 
   -- ---- what names stand for
 
-  pub agree_named : (bytes : List ℕ) (x : ℕ) → x < length c.names → is_named (lifted c) bytes x ≡ is_named (headers c) bytes x
+  pub agree_named : (bytes : List ℕ) (x : ℕ) → x < length c.names → is_named (lifted c) bytes x ≡ is_named (program_headers c) bytes x
   agree_named bytes x lt = ap (λ (o : Option (List ℕ)). elim o [ Some b ↦ bytes_eq b bytes | None ↦ false ]) (get_front c.names (lifted_names 0 (length (abstractions c))) x lt)
 
   no_lifted : (as' : List Abstraction) (k f x : ℕ) → x < length c.names → function_from (lifted c) (lifted_functions c k as') f x ≡ Unbound
@@ -139,26 +139,26 @@ module _ (c : Program) (fits : ProgramFits c) where
   no_lifted (a ∷ as') k f x lt =
       ap (λ b. cond b (stands.Function f (length (lifted_function c k a).params)) (function_from (lifted c) (lifted_functions c (suc k) as') (f + 1) x)) (eq_false (lifted_name c k) x (λ e. omega (arith, e, lt))) ∙ no_lifted as' (suc k) (f + 1) x lt
 
-  from_bodies : (fs : List Function) (k f x : ℕ) (more : List core.Function) → function_from (lifted c) more (f + length fs) x ≡ Unbound → function_from (lifted c) (lifted_bodies c k fs ++ more) f x ≡ function_from (headers c) (map header fs) f x
+  from_bodies : (fs : List Function) (k f x : ℕ) (more : List core.Function) → function_from (lifted c) more (f + length fs) x ≡ Unbound → function_from (lifted c) (lifted_bodies c k fs ++ more) f x ≡ function_from (program_headers c) (map function_header fs) f x
   from_bodies [] k f x more e = let z : f ≡ f + 0 = omega arith in ap (λ j. function_from (lifted c) more j x) z ∙ e
   from_bodies (g ∷ fs) k f x more e =
       let z : f + suc (length fs) ≡ f + 1 + length fs = omega arith in
       ap (λ m. cond (nat_eq g.name x) (stands.Function f (length g.params)) m) (from_bodies fs (k + count c (within c g.params []) g.body) (f + 1) x more (ap (λ j. function_from (lifted c) more j x) (sym z) ∙ e))
 
-  pub agree : AgreeBelow (lifted c) (headers c) (length c.names)
+  pub agree : AgreeBelow (lifted c) (program_headers c) (length c.names)
   agree = record {
     named = agree_named;
     functions = λ x lt. from_bodies c.functions 0 0 x (lifted_functions c 0 (abstractions c)) (no_lifted (abstractions c) 0 (0 + length c.functions) x lt);
   }
 
-  pub found : (Good : ℕ → ℕ → Type 0) (x : ℕ) → Same c Good (function_from (headers c) (headers c).functions 0 x) (function_from (headers c) (headers c).functions 0 x)
+  pub found : (Good : ℕ → ℕ → Type 0) (x : ℕ) → Same c Good (function_from (program_headers c) (program_headers c).functions 0 x) (function_from (program_headers c) (program_headers c).functions 0 x)
   found Good x = by c.functions 0 (λ i f e. let z : i ≡ 0 + i = omega arith in subst (λ j. slice_get c.functions j ≡ Some f) z e)
     where
       test : (b : Bool) (f k : ℕ) (m : Meaning) → HasTop c f k → Same c Good m m → Same c Good (cond b (stands.Function f k) m) (cond b (stands.Function f k) m)
       test true f k m h r = SameFunction h
       test false f k m h r = r
 
-      by : (fs : List Function) (f : ℕ) → ((i : ℕ) (g : Function) → slice_get fs i ≡ Some g → slice_get c.functions (f + i) ≡ Some g) → Same c Good (function_from (headers c) (map header fs) f x) (function_from (headers c) (map header fs) f x)
+      by : (fs : List Function) (f : ℕ) → ((i : ℕ) (g : Function) → slice_get fs i ≡ Some g → slice_get c.functions (f + i) ≡ Some g) → Same c Good (function_from (program_headers c) (map function_header fs) f x) (function_from (program_headers c) (map function_header fs) f x)
       by [] f at = SameNothing
       by (g ∷ fs) f at =
           let z : f + 0 ≡ f = omega arith in

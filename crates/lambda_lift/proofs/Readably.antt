@@ -10,7 +10,7 @@ use Rattle.seq.specs.Lists.{is_among, AllOf}
 use Rattle.core_reader.specs.declared.syntax.Binder.{Binder}
 use Rattle.core_reader.specs.declared.syntax.Pattern.{Pattern}
 use Rattle.core_reader.specs.declared.syntax.Pattern.TheVariants as pattern
-use Rattle.core_reader.specs.declared.look.Kind.TheVariants.{Lower}
+use Rattle.core_reader.specs.declared.look.TokenKind.TheVariants.{Lower}
 use Rattle.core_reader.specs.Bytes.{is_lower, is_upper, is_digit, is_inner}
 use Rattle.core_reader.specs.TokensOf.{every}
 use Rattle.core_reader.specs.Grammar as core-grammar
@@ -21,15 +21,15 @@ use Rattle.core_reader.specs.Readable as core-readable
 use Rattle.core_reader.specs.Readable.{IsName, IsConstructor, IsTextAt, IsNamed, IsBound, ReadablePattern, ReadableData}
 use Rattle.lambda_reader.specs.Tree.{Term, Terms, NoTerms, AndTerm, Group, NoBinds, AndValue, AndFunction, Expr, App, Let, Case, Alts, NoAlts, AndAlt, Function, Program}
 use Rattle.lambda_reader.specs.Tree as tree
-use Rattle.lambda_reader.specs.Grammar.{IsSome, IsGroup, IsSomeAlts}
+use Rattle.lambda_reader.specs.Grammar.{HasParameter, IsGroup, IsNonemptyAlts}
 use Rattle.lambda_reader.specs.Size.{term_size, terms_size, group_size, expr_size, alts_size, function_size}
 use Rattle.lambda_reader.specs.Readable.{ReadableTerm, ReadableTerms, ReadableGroup, ReadableExpr, ReadableAlts, ReadableFunction, IsReadable}
 use Rattle.arity_check.specs.Scope.{Scope}
 use Rattle.lambda_lift.specs.Headers.{names_of, bound_by, binders_of, within, is_local}
-use Rattle.lambda_lift.specs.Free.{uses_term, uses_terms, uses_group, uses, uses_alts, first_times, free}
+use Rattle.lambda_lift.specs.Free.{uses_term, uses_terms, uses_group, uses, uses_alts, without_repeats, free}
 use Rattle.lambda_lift.specs.Abstractions.{Abstraction, in_term, in_terms, in_group, in_expr, in_alts, in_functions, count_term, count_terms, count_group, count, abstractions}
 use Rattle.lambda_lift.specs.Lifted.{arguments, parameters, applied, lift_term, lift_terms, lift_group, lift, lift_alts, lifted_function, lifted_functions, lifted_bodies, lifted_names, lifted}
-use Rattle.lambda_lift.specs.Choosing.{IsFree}
+use Rattle.lambda_lift.specs.Choosing.{IsUnreservedName}
 use Rattle.lambda_lift.proofs.Grown.{functions_joined}
 use Rattle.lambda_lift.proofs.NewNames.{all_different}
 
@@ -71,9 +71,9 @@ decimal_inner = decimal_by_steps (λ n ds. every is_inner ds ≡ true) (λ n l. 
 name_kind : (ds : List ℕ) → every is_inner ds ≡ true → IsName (codes "lift'" ++ ds)
 name_kind ds e = (ap (λ b. cond b (Some Lower) None) e, refl)
 
-first_all : (P : ℕ → Type 0) (xs : List ℕ) → All P xs → All P (first_times xs)
+first_all : (P : ℕ → Type 0) (xs : List ℕ) → All P xs → All P (without_repeats xs)
 first_all P [] h = h
-first_all P (x ∷ xs) h = All-cons P x (filter (λ y. not (y == x)) (first_times xs)) (All-head P x xs h) (All-filter (λ y. not (y == x)) P (first_times xs) (first_all P xs (All-tail P x xs h)))
+first_all P (x ∷ xs) h = All-cons P x (filter (λ y. not (y == x)) (without_repeats xs)) (All-head P x xs h) (All-filter (λ y. not (y == x)) P (without_repeats xs) (first_all P xs (All-tail P x xs h)))
 
 -- ---- what is used has a name
 
@@ -117,7 +117,7 @@ module _ (names : List (List ℕ)) where
 
 -- ---- what is lifted
 
-some_length : (bs : List Binder) → IsSome bs → 1 ≤ length bs
+some_length : (bs : List Binder) → HasParameter bs → 1 ≤ length bs
 some_length [] h = absurd h
 some_length (b ∷ bs) h = omega arith
 
@@ -188,12 +188,12 @@ module _ (c : Program) (n : ℕ) where
   group_some s k (AndValue b head args rest) h = tt
   group_some s k (AndFunction b params body rest) h = tt
 
-  alts_some : (s : Scope) (k : ℕ) (xs : Alts) → IsSomeAlts xs → core-grammar.IsSomeAlts (lift_alts c s k xs)
+  alts_some : (s : Scope) (k : ℕ) (xs : Alts) → IsNonemptyAlts xs → core-grammar.IsNonemptyAlts (lift_alts c s k xs)
   alts_some s k NoAlts h = h
   alts_some s k (AndAlt p e xs) h = tt
 
   -- a lambda or a local function, where its body is done
-  abstraction_made : n ≤ 2 ^ 32 → (s : Scope) (k : ℕ) (params : List Binder) (body : Expr) (at : ℕ) → k < n → IsSome params → All (IsBound c.names) params → ReadableExpr c.names body
+  abstraction_made : n ≤ 2 ^ 32 → (s : Scope) (k : ℕ) (params : List Binder) (body : Expr) (at : ℕ) → k < n → HasParameter params → All (IsBound c.names) params → ReadableExpr c.names body
       → Fits (record { scope = s; params = params; body = body; at = at }) → core-readable.ReadableExpr all (lift c (within c params s) (suc k) body)
       → Made (suc k) (in_expr c (within c params s) body) (core-size.expr_size (lift c (within c params s) (suc k) body)) (expr_size body)
       → Made k (record { scope = s; params = params; body = body; at = at } ∷ in_expr c (within c params s) body) (1 + core-size.terms_size (arguments at (free c s params body))) (length params + expr_size body)
@@ -362,7 +362,7 @@ few_functions c names (f ∷ fs) h =
 pub few_abstractions : (c : Program) → IsReadable c → length (abstractions c) ≤ 1048576
 few_abstractions c h = omega (arith, few_functions c c.names c.functions h.functions, h.size)
 
-pub lifted_readable : (c : Program) → IsReadable c → All IsFree c.names → AllOf (λ a. length (free c a.scope a.params a.body) + length a.params ≤ 12) (abstractions c) → core-readable.IsReadable (lifted c)
+pub lifted_readable : (c : Program) → IsReadable c → All IsUnreservedName c.names → AllOf (λ a. length (free c a.scope a.params a.body) + length a.params ≤ 12) (abstractions c) → core-readable.IsReadable (lifted c)
 lifted_readable c h unreserved fits =
     let n : ℕ = length (abstractions c) in
     let few = few_abstractions c h in

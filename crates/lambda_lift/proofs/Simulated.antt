@@ -5,8 +5,8 @@ use Rattle.std.specs.Prelude.{ℤ, pos, nat_lt, ◌==◌, if◌then◌else◌, s
 use Rattle.std.proofs.lemmas.Bool.{ltb-true, ltb-false, lt-ltb, le-ltb, eq-eqb}
 use Rattle.arity_check.specs.declared.normal.PrimOp.{PrimOp}
 use Rattle.core_meaning.specs.Heap.{ValueOf, Int, Con, Part, DelayedOf, Call, Apply, Prim, Global, Input, BindingOf, Known, Waiting, HeapOf}
-use Rattle.core_meaning.specs.Forcing.{StateOf, AnswerOf, Gives, NoAlternative, OutOfBound, OnwardOf, Printed, End, Unaccepted, Going, and_then, with_number, spend_of, spend, append, update, taken, start, stops, on_value, on_list, on_byte, give, give_all, force_binding, force, apply, prim, next_byte, proceed, within, print, printed_from_input, printed}
-use Rattle.core_meaning.specs.Numbers.{operate}
+use Rattle.core_meaning.specs.Forcing.{StateOf, AnswerOf, Gives, NoAlternative, OutOfBound, DelayedEvaluatorOf, PrintedRun, PrintingEnd, Unaccepted, Going, and_then, with_number, spend_of, spend, append, update, taken, start, stops, on_value, on_list, on_byte, give, give_all, force_binding, force, apply, prim, next_byte, proceed, within, print, printed_from_input, printed}
+use Rattle.core_meaning.specs.Numbers.{primitive_result}
 use Rattle.numbers.specs.Numbers.{low_byte}
 
 -- The functions of one, the names that are given first, and the functions of the other; and how many fields a
@@ -108,12 +108,12 @@ module _ {F G : Type 0} (R : F → List ℕ → G → Type 0) (arity : F → ℕ
   spend_like (suc n) d s t go go' k h =
       h (record s { left = n; depth = max s.depth d }) (record t { left = n; depth = max t.depth d }) (record { heap = k.heap; left = refl; depth = ap (λ m. max m d) k.depth; input = k.input; used = k.used })
 
-  abbrev pub SameOnward : OnwardOf F → OnwardOf G → Type 0
+  abbrev pub SameOnward : DelayedEvaluatorOf F → DelayedEvaluatorOf G → Type 0
   SameOnward onward onward' =
       (t : DelayedOf F) (u : DelayedOf G) → DelayedLike t u → (d : ℕ) (s : StateOf F) (s' : StateOf G) → StateLike s s' → AnswerLike (onward t d s) (onward' u d s')
 
   module _ (lost : StateOf F → AnswerOf F) (lost' : StateOf G → AnswerOf G) (both_lost : (s : StateOf F) (t : StateOf G) → StateLike s t → AnswerLike (lost s) (lost' t)) where
-    module _ (onward : OnwardOf F) (onward' : OnwardOf G) (on : SameOnward onward onward') where
+    module _ (onward : DelayedEvaluatorOf F) (onward' : DelayedEvaluatorOf G) (on : SameOnward onward onward') where
       found_like : (o : Option (BindingOf F)) (o' : Option (BindingOf G)) → FoundLike o o' → (a d : ℕ) (s : StateOf F) (t : StateOf G) → StateLike s t
           → AnswerLike (force_binding arity lost onward o a d s) (force_binding arity' lost' onward' o' a d t)
       found_like None None h a d s t k = both_lost s t k
@@ -171,10 +171,10 @@ module _ {F G : Type 0} (R : F → List ℕ → G → Type 0) (arity : F → ℕ
       pub prim_like : (op : PrimOp) (a b d : ℕ) (s : StateOf F) (t : StateOf G) → StateLike s t → AnswerLike (prim arity lost onward op a b d s) (prim arity' lost' onward' op a b d t)
       prim_like op a b d s t k =
           then_like _ _ (force_like a (suc d) s t k) (λ v w s t g k. number_like s t _ _ g k (λ i.
-          then_like _ _ (force_like b (suc d) s t k) (λ v w s t g k. number_like s t _ _ g k (λ j. BothGive (LikeInt {k = operate op i j}) k))))
+          then_like _ _ (force_like b (suc d) s t k) (λ v w s t g k. number_like s t _ _ g k (λ j. BothGive (LikeInt {k = primitive_result op i j}) k))))
 
-    module _ (nil cons : ℕ) (no_fields : many nil ≡ 0) (two_fields : many cons ≡ 2) (enter : OnwardOf F → F → List ℕ → ℕ → StateOf F → AnswerOf F) (enter' : OnwardOf G → G → List ℕ → ℕ → StateOf G → AnswerOf G)
-        (entered : (onward : OnwardOf F) (onward' : OnwardOf G) → SameOnward onward onward' → (f : F) (front : List ℕ) (g : G) → R f front g → (xs : List ℕ) → length xs ≡ arity f → (d : ℕ) (s : StateOf F) (t : StateOf G) → StateLike s t → AnswerLike (enter onward f xs d s) (enter' onward' g (front ++ xs) d t)) where
+    module _ (nil cons : ℕ) (no_fields : many nil ≡ 0) (two_fields : many cons ≡ 2) (enter : DelayedEvaluatorOf F → F → List ℕ → ℕ → StateOf F → AnswerOf F) (enter' : DelayedEvaluatorOf G → G → List ℕ → ℕ → StateOf G → AnswerOf G)
+        (entered : (onward : DelayedEvaluatorOf F) (onward' : DelayedEvaluatorOf G) → SameOnward onward onward' → (f : F) (front : List ℕ) (g : G) → R f front g → (xs : List ℕ) → length xs ≡ arity f → (d : ℕ) (s : StateOf F) (t : StateOf G) → StateLike s t → AnswerLike (enter onward f xs d s) (enter' onward' g (front ++ xs) d t)) where
       byte_like : (i : List ℕ) (s : StateOf F) (t : StateOf G) → StateLike s t → AnswerLike (next_byte nil cons i s) (next_byte nil cons i t)
       byte_like [] s t k = BothGive (LikeCon (sym no_fields)) k
       byte_like (b ∷ rest) s t k =
@@ -183,7 +183,7 @@ module _ {F G : Type 0} (R : F → List ℕ → G → Type 0) (arity : F → ℕ
           let took : StateLike (taken s rest) (taken t rest) = record { heap = k.heap; left = k.left; depth = k.depth; input = refl; used = ap suc k.used } in
           rw (as_long s.heap t.heap k.heap) (BothGive (LikeCon (sym two_fields)) (append_like (taken s rest) (taken t rest) more more' took (LikeKnown LikeInt, (LikeWaiting LikeInput, tt))))
 
-      proceed_like : (onward : OnwardOf F) (onward' : OnwardOf G) → SameOnward onward onward' → SameOnward (proceed arity lost nil cons enter onward) (proceed arity' lost' nil cons enter' onward')
+      proceed_like : (onward : DelayedEvaluatorOf F) (onward' : DelayedEvaluatorOf G) → SameOnward onward onward' → SameOnward (proceed arity lost nil cons enter onward) (proceed arity' lost' nil cons enter' onward')
       proceed_like onward onward' on t u (LikeCall {f = f} {g = g} {xs = xs} front r n e) d s s' k =
           subst (λ ys. AnswerLike (enter onward f xs d s) (enter' onward' g ys d s')) (sym e) (entered onward onward' on f front g r xs n d s s' k)
       proceed_like onward onward' on t u (LikeApply {a = a} {xs = xs}) d s s' k = apply_like onward onward' on a xs d s s' k
@@ -200,16 +200,16 @@ module _ {F G : Type 0} (R : F → List ℕ → G → Type 0) (arity : F → ℕ
 
       -- ---- printing
 
-      stops_like : (out : List ℕ) (e : End) (s : StateOf F) (t : StateOf G) → StateLike s t → stops out e t ≡ stops out e s
+      stops_like : (out : List ℕ) (e : PrintingEnd) (s : StateOf F) (t : StateOf G) → StateLike s t → stops out e t ≡ stops out e s
       stops_like out e s t k = λ i. record { out = out; end = e; cells = as_long s.heap t.heap k.heap i; depth = k.depth i; used = k.used i }
 
-      value_like : {r : AnswerOf F} {q : AnswerOf G} (out : List ℕ) (go : ValueOf F → StateOf F → Printed) (go' : ValueOf G → StateOf G → Printed) → AnswerLike r q
+      value_like : {r : AnswerOf F} {q : AnswerOf G} (out : List ℕ) (go : ValueOf F → StateOf F → PrintedRun) (go' : ValueOf G → StateOf G → PrintedRun) → AnswerLike r q
           → ((v : ValueOf F) (w : ValueOf G) (s : StateOf F) (t : StateOf G) → ValueLike v w → StateLike s t → go' w t ≡ go v s) → on_value q out go' ≡ on_value r out go
       value_like out go go' (BothGive {v = v} {w = w} {s = s} {t = t} g k) h = h v w s t g k
       value_like out go go' (NeitherAccepts {s = s} {t = t} k) h = stops_like out Unaccepted s t k
       value_like out go go' (BothEnd {s = s} {t = t} k) h = stops_like out Going s t k
 
-      cases_like : (b : Bool) (x' x y' y : Printed) → x' ≡ x → y' ≡ y → elim b as (λ _. Printed) [ true ↦ x' | false ↦ y' ] ≡ elim b as (λ _. Printed) [ true ↦ x | false ↦ y ]
+      cases_like : (b : Bool) (x' x y' y : PrintedRun) → x' ≡ x → y' ≡ y → elim b as (λ _. PrintedRun) [ true ↦ x' | false ↦ y' ] ≡ elim b as (λ _. PrintedRun) [ true ↦ x | false ↦ y ]
       cases_like true x' x y' y e f = e
       cases_like false x' x y' y e f = f
 
@@ -219,20 +219,20 @@ module _ {F G : Type 0} (R : F → List ℕ → G → Type 0) (arity : F → ℕ
       abbrev con' : ℕ → List ℕ → ValueOf G
       con' c xs = Con c xs
 
-      con_like : (c : ℕ) (xs : List ℕ) (out : List ℕ) (s : StateOf F) (t : StateOf G) (go go' : ℕ → ℕ → Printed) → StateLike s t → ((h tl : ℕ) → go' h tl ≡ go h tl)
+      con_like : (c : ℕ) (xs : List ℕ) (out : List ℕ) (s : StateOf F) (t : StateOf G) (go go' : ℕ → ℕ → PrintedRun) → StateLike s t → ((h tl : ℕ) → go' h tl ≡ go h tl)
           → on_list nil cons (con' c xs) out t go' ≡ on_list nil cons (con c xs) out s go
       con_like c [] out s t go go' k e = stops_like out _ s t k
       con_like c (h ∷ []) out s t go go' k e = stops_like out Unaccepted s t k
       con_like c (h ∷ tl ∷ []) out s t go go' k e = cases_like (c == cons) _ _ _ _ (e h tl) (stops_like out Unaccepted s t k)
       con_like c (h ∷ tl ∷ u ∷ xs) out s t go go' k e = stops_like out Unaccepted s t k
 
-      list_like : {v : ValueOf F} {w : ValueOf G} (out : List ℕ) (s : StateOf F) (t : StateOf G) (go go' : ℕ → ℕ → Printed) → ValueLike v w → StateLike s t → ((h tl : ℕ) → go' h tl ≡ go h tl)
+      list_like : {v : ValueOf F} {w : ValueOf G} (out : List ℕ) (s : StateOf F) (t : StateOf G) (go go' : ℕ → ℕ → PrintedRun) → ValueLike v w → StateLike s t → ((h tl : ℕ) → go' h tl ≡ go h tl)
           → on_list nil cons w out t go' ≡ on_list nil cons v out s go
       list_like out s t go go' LikeInt k e = stops_like out Unaccepted s t k
       list_like out s t go go' (LikeCon {c = c} {xs = xs} f) k e = con_like c xs out s t go go' k e
       list_like out s t go go' (LikePart front r lt f) k e = stops_like out Unaccepted s t k
 
-      byte_put : {v : ValueOf F} {w : ValueOf G} (out : List ℕ) (s : StateOf F) (t : StateOf G) (go go' : ℕ → Printed) → ValueLike v w → StateLike s t → ((b : ℕ) → go' b ≡ go b) → on_byte w out t go' ≡ on_byte v out s go
+      byte_put : {v : ValueOf F} {w : ValueOf G} (out : List ℕ) (s : StateOf F) (t : StateOf G) (go go' : ℕ → PrintedRun) → ValueLike v w → StateLike s t → ((b : ℕ) → go' b ≡ go b) → on_byte w out t go' ≡ on_byte v out s go
       byte_put out s t go go' (LikeInt {k = i}) k e = e (low_byte i)
       byte_put out s t go go' (LikeCon f) k e = stops_like out Unaccepted s t k
       byte_put out s t go go' (LikePart front r lt f) k e = stops_like out Unaccepted s t k
@@ -267,11 +267,11 @@ module _ {F G : Type 0} (R : F → List ℕ → G → Type 0) (arity : F → ℕ
 
         pub printed_like : (i : List ℕ) (n : ℕ) → printed arity' lost' nil cons enter' heap' main' name i n ≡ printed arity lost nil cons enter heap main name i n
         printed_like i n =
-            subst (λ m. elim (m == 0) as (λ _. Printed) [ true ↦ print arity' lost' nil cons enter' n name [] (start heap' i n) | false ↦ printed_from_input arity' lost' nil cons enter' heap' main' name i n ] ≡ printed arity lost nil cons enter heap main name i n) (sym as_many) (by (arity main == 0) refl)
+            subst (λ m. elim (m == 0) as (λ _. PrintedRun) [ true ↦ print arity' lost' nil cons enter' n name [] (start heap' i n) | false ↦ printed_from_input arity' lost' nil cons enter' heap' main' name i n ] ≡ printed arity lost nil cons enter heap main name i n) (sym as_many) (by (arity main == 0) refl)
           where
             by : (b : Bool) → (arity main == 0) ≡ b
-                → elim b as (λ _. Printed) [ true ↦ print arity' lost' nil cons enter' n name [] (start heap' i n) | false ↦ printed_from_input arity' lost' nil cons enter' heap' main' name i n ]
-                ≡ elim b as (λ _. Printed) [ true ↦ print arity lost nil cons enter n name [] (start heap i n) | false ↦ printed_from_input arity lost nil cons enter heap main name i n ]
+                → elim b as (λ _. PrintedRun) [ true ↦ print arity' lost' nil cons enter' n name [] (start heap' i n) | false ↦ printed_from_input arity' lost' nil cons enter' heap' main' name i n ]
+                ≡ elim b as (λ _. PrintedRun) [ true ↦ print arity lost nil cons enter n name [] (start heap i n) | false ↦ printed_from_input arity lost nil cons enter heap main name i n ]
             by true e = print_like n name [] (start heap i n) (start heap' i n) (start_like i n)
             by false e =
                 let some : arity main ≡ 0 → ⊥ = λ z. let t : true ≡ false = sym (eq-eqb (arity main) 0 z) ∙ e in cc in

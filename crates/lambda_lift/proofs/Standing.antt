@@ -4,7 +4,7 @@ use Rattle.std.proofs.Common.{◌≡◌, ℕ, suc, ◌+◌, List, [], ◌∷◌,
 use Rattle.seq.proofs.Lists.{get_left, get_right}
 use Rattle.core_reader.specs.declared.syntax.Binder.{Binder}
 use Rattle.lambda_reader.specs.Tree.{Expr, Program}
-use Rattle.lambda_reader.specs.Grammar.{IsSome}
+use Rattle.lambda_reader.specs.Grammar.{HasParameter}
 use Rattle.arity_check.specs.declared.meaning.Meaning.{Meaning}
 use Rattle.arity_check.specs.declared.meaning.Meaning.TheVariants.{Local, Primitive, Unbound}
 use Rattle.arity_check.specs.declared.meaning.Meaning.TheVariants as stands
@@ -56,7 +56,7 @@ module _ (c : Program) where
     pub at : ℕ
     pub located : Located (abstractions c) (abstraction s params body at ∷ in_expr c (within c params s) body) k
     pub alike : Alike s env
-    pub some : IsSome params
+    pub some : HasParameter params
     pub below : Below (length c.names) (names_of params)
     pub fits : Fits (length c.names) (λ x. Unit {0}) body
 

@@ -9,15 +9,15 @@ use Rattle.core_reader.specs.declared.dialect.Dialect.{Dialect}
 use Rattle.core_reader.specs.declared.syntax.Binder.{Binder}
 use Rattle.core_reader.specs.declared.syntax.Pattern.{Pattern}
 use Rattle.core_reader.specs.declared.syntax.Pattern.TheVariants as pattern
-use Rattle.core_reader.specs.declared.look.Kind.{Kind}
-use Rattle.core_reader.specs.declared.look.Kind.TheVariants.{Lower, Upper, Digits, Sign}
+use Rattle.core_reader.specs.declared.look.TokenKind.{TokenKind}
+use Rattle.core_reader.specs.declared.look.TokenKind.TheVariants.{Lower, Upper, Digits, Sign}
 use Rattle.core_reader.specs.declared.token.Token.{Token}
 use Rattle.core_reader.specs.declared.token.Token.TheVariants as word
 use Rattle.core_reader.specs.declared.token.Lexeme.{Lexeme}
 use Rattle.core_reader.specs.Tree.{Data}
-use Rattle.core_reader.specs.Grammar.{Room, lexeme, binders, SpellsPattern}
+use Rattle.core_reader.specs.Grammar.{NestingLimit, lexeme, binders, SpellsPattern}
 use Rattle.core_reader.specs.TokensOf.{Piece, kind_of}
-use Rattle.core_reader.specs.WordsOf.{said, said_by, said_by_letters, keyword_of, sign_token, number_in}
+use Rattle.core_reader.specs.WordsOf.{said, said_by, keyword_or_name, keyword_of, sign_token, number_in}
 use Rattle.core_reader.specs.NamesOf.{is_numbered_by}
 use Rattle.core_reader.proofs.NamingOf.{Texts, has, EachHeld, each_held}
 use Rattle.core_reader.proofs.Proper.{IsWord, IsKeyword, sign_is_word, keyword_is_word}
@@ -25,7 +25,7 @@ use Rattle.core_reader.proofs.Readability.{at_number}
 use Rattle.lambda_reader.specs.Tree.{Term, Terms, NoTerms, AndTerm, Group, NoBinds, AndValue, AndFunction, Expr, App, Let, Case, Alts, NoAlts, AndAlt, Function, Program}
 use Rattle.lambda_reader.specs.Tree as tree
 use Rattle.lambda_reader.specs.Grammar.{SpellsTerm, SpellsTerms, SpellsGroup, SpellsExpr, SpellsAlts}
-use Rattle.lambda_reader.specs.Programs.{Decl, Declares, Defines, SpellsDecls, constructors_of, functions_of, IsText}
+use Rattle.lambda_reader.specs.Programs.{Decl, Declares, Defines, SpellsDecls, constructors_of, functions_of, IsSourceText}
 use Rattle.lambda_lift.specs.Headers.{names_of, bound_by, binders_of}
 use Rattle.lambda_lift.proofs.Fits.{And, Below, FitsTerm, FitsTerms, FitsGroup, Fits, FitsAlts}
 
@@ -56,11 +56,11 @@ word_below N token h = tt
 number_below : (names : Texts) (w : List ℕ) → has names w ≡ true → number_in names w < length names
 number_below names w h = get_within names (number_in names w) w (at_number names w h)
 
-letters_below : (names : Texts) (w : List ℕ) (o : Option Token) → IsKeyword o → (is_none o ≡ true → has names w ≡ true) → BelowToken (length names) (said_by_letters names w o)
+letters_below : (names : Texts) (w : List ℕ) (o : Option Token) → IsKeyword o → (is_none o ≡ true → has names w ≡ true) → BelowToken (length names) (keyword_or_name names w o)
 letters_below names w (Some token) k h = word_below (length names) token k
 letters_below names w None k h = number_below names w (h refl)
 
-token_below : (d : Dialect) (names : Texts) (w : List ℕ) (kind : Option Kind) → (is_numbered_by d w kind ≡ true → has names w ≡ true) → BelowToken (length names) (said_by d names w kind)
+token_below : (d : Dialect) (names : Texts) (w : List ℕ) (kind : Option TokenKind) → (is_numbered_by d w kind ≡ true → has names w ≡ true) → BelowToken (length names) (said_by d names w kind)
 token_below d names w None h = tt
 token_below d names w (Some Lower) h = letters_below names w (keyword_of d w) (keyword_is_word d w) h
 token_below d names w (Some Upper) h = number_below names w (h refl)
@@ -82,7 +82,7 @@ pattern_below N (pattern.Con c fields) ts h k = binders_below N fields (subst (E
 pattern_below N (pattern.Int v at) ts h k = tt
 pattern_below N (pattern.Default x) ts h k = ((subst (EachBelow N) h k).0, tt)
 
-module _ (N : ℕ) (l : Bool) (room : Room) where
+module _ (N : ℕ) (l : Bool) (room : NestingLimit) where
   mutual
     term_fits : (V : ℕ → Type 0) → ((x : ℕ) → V x) → (d : ℕ) (a : Term) (ts : List Lexeme) → SpellsTerm l room d a ts → EachBelow N ts → FitsTerm N V a
     term_fits V v d (tree.Name n at) ts h k = (v n, (subst (EachBelow N) h k).0)
@@ -167,7 +167,7 @@ record DeclsFit (N : ℕ) (ds : List Decl) : Type 0 where
   constructors : AllOf (λ (d : Data). d.name < N) (constructors_of ds)
   functions : AllOf (FunctionFits N) (functions_of ds)
 
-decls_fit : (N : ℕ) (room : Room) (ds : List Decl) (ts : List Lexeme) → SpellsDecls room ds ts → EachBelow N ts → DeclsFit N ds
+decls_fit : (N : ℕ) (room : NestingLimit) (ds : List Decl) (ts : List Lexeme) → SpellsDecls room ds ts → EachBelow N ts → DeclsFit N ds
 decls_fit N room [] ts h k = record { constructors = tt; functions = tt }
 decls_fit N room (Declares d ∷ ds) ts h k =
     let k2 = subst (EachBelow N) h.4 k in
@@ -187,7 +187,7 @@ decls_fit N room (Defines f ∷ ds) ts h k =
       functions = (record { name = here.0; params = binders_below N f.params (front N (binders f.params) rest here.1); body = expr_fits N true room (λ x. Unit {0}) (λ x. tt) 0 f.body g.2 g.3 (front N g.2 close k3) }, more.functions);
     }
 
-pub text_fits : (text : List ℕ) (c : Program) → IsText text c → ProgramFits c
+pub text_fits : (text : List ℕ) (c : Program) → IsSourceText text c → ProgramFits c
 text_fits text c t =
     let q = t.program in
     let held : EachHeld Lambdas c.names t.pieces = subst (λ v. EachHeld Lambdas v t.pieces) (sym q.names) (each_held Lambdas [] t.pieces) in

@@ -23,7 +23,7 @@ use Rattle.core_meaning.specs.ByNeed as by_need
 use Rattle.core_meaning.specs.Printing as printing
 use Rattle.core_meaning.specs.WellFormed.{HasFields, FunOk, WellFormed}
 use Rattle.core_meaning.proofs.Shared.{count_more}
-use Rattle.lambda_lift.specs.Headers.{headers, within}
+use Rattle.lambda_lift.specs.Headers.{program_headers, within}
 use Rattle.lambda_lift.specs.Free.{free}
 use Rattle.lambda_lift.specs.Abstractions.{Abstraction, abstractions, count}
 use Rattle.lambda_lift.specs.Lifted.{lifted, lifted_bodies, lifted_functions, parameters}
@@ -68,7 +68,7 @@ pair_at R (z ∷ xs) (y ∷ ys) (suc i) x w e = let r = pair_at R xs ys i x w.1 
 bytes_turned : (a b : List ℕ) → bytes_eq a b ≡ bytes_eq b a
 bytes_turned a b = both_ways (bytes_eq a b) (bytes_eq b a) (λ e. (bytes_eq-Decides b a).1 (sym ((bytes_eq-Decides a b).0 e))) (λ e. (bytes_eq-Decides a b).1 (sym ((bytes_eq-Decides b a).0 e)))
 
-module _ (c : Program) (p : normal.Program) (fits : ProgramFits c) (ok : check.IsUnbroken (lifted c)) (nf : IsNormalForm (lifted c) p) (well : WellFormed p) where
+module _ (c : Program) (p : normal.Program) (fits : ProgramFits c) (ok : check.BreaksNoRule (lifted c)) (nf : IsNormalForm (lifted c) p) (well : WellFormed p) where
   -- ---- bodies
 
   code : (i : ℕ) (f : core.Function) → slice_get (lifted c).functions i ≡ Some f → Code c p i f
@@ -171,7 +171,7 @@ module _ (c : Program) (p : normal.Program) (fits : ProgramFits c) (ok : check.I
   is_main f = is_named (lifted c) (codes "main") f.name
 
   abbrev is_text_main : Function → Bool
-  is_text_main f = is_named (headers c) (codes "main") f.name
+  is_text_main f = is_named (program_headers c) (codes "main") f.name
 
   none_first : (fs : List core.Function) → AllOf (λ (f : core.Function). is_main f ≡ false) fs → position_or_len is_main fs ≡ length fs
   none_first [] h = refl
@@ -224,13 +224,13 @@ module _ (c : Program) (p : normal.Program) (fits : ProgramFits c) (ok : check.I
 
   -- ---- the list's constructors
 
-  cons_is : (name : List ℕ) (ds : List Data) (cs : List constructors.Con) → Pairwise (IsConstructor (lifted c)) ds cs → AllOf (λ (d : Data). d.name < length c.names) ds → by_need.con_named name cs ≡ position_or_len (λ (d : Data). is_named (headers c) name d.name) ds
+  cons_is : (name : List ℕ) (ds : List Data) (cs : List constructors.Con) → Pairwise (IsConstructor (lifted c)) ds cs → AllOf (λ (d : Data). d.name < length c.names) ds → by_need.con_named name cs ≡ position_or_len (λ (d : Data). is_named (program_headers c) name d.name) ds
   cons_is name [] [] w h = refl
   cons_is name [] (e ∷ cs) w h = absurd w
   cons_is name (d ∷ ds) [] w h = absurd w
   cons_is name (d ∷ ds) (e ∷ cs) w h =
-      let same : is_named (headers c) name d.name ≡ bytes_eq name e.name = sym (agree_named c fits name d.name h.0) ∙ named_as (lifted c) d.name e.name name w.0.name ∙ bytes_turned e.name name in
-      subst (λ b. cond (bytes_eq name e.name) 0 (by_need.con_named name cs + 1) ≡ cond (not b) (1 + position_or_len (λ (d : Data). is_named (headers c) name d.name) ds) 0) (sym same)
+      let same : is_named (program_headers c) name d.name ≡ bytes_eq name e.name = sym (agree_named c fits name d.name h.0) ∙ named_as (lifted c) d.name e.name name w.0.name ∙ bytes_turned e.name name in
+      subst (λ b. cond (bytes_eq name e.name) 0 (by_need.con_named name cs + 1) ≡ cond (not b) (1 + position_or_len (λ (d : Data). is_named (program_headers c) name d.name) ds) 0) (sym same)
       (by (bytes_eq name e.name) _ _ (cons_is name ds cs w.1 h.1))
     where
       by : (b : Bool) (m n : ℕ) → m ≡ n → cond b 0 (m + 1) ≡ cond (not b) (1 + n) 0

@@ -9,21 +9,21 @@ use Rattle.lambda_lift.specs.declared.refusal.LiftRefusal.{LiftRefusal}
 use Rattle.lambda_lift.specs.declared.refusal.LiftRefusal.TheVariants.{TooManyParameters, ReservedLift}
 
 -- by the first places where too many parameters are met and where a reserved name stands
-abbrev pub refused_by : Option ℕ → Option ℕ → Option LiftRefusal
-refused_by None None = None
-refused_by None (Some at) = Some (ReservedLift at)
-refused_by (Some place) None = Some (TooManyParameters place)
-refused_by (Some place) (Some at) =
+abbrev pub earliest_refusal : Option ℕ → Option ℕ → Option LiftRefusal
+earliest_refusal None None = None
+earliest_refusal None (Some at) = Some (ReservedLift at)
+earliest_refusal (Some place) None = Some (TooManyParameters place)
+earliest_refusal (Some place) (Some at) =
     Some (cond (nat_lt at place) (ReservedLift at) (TooManyParameters place))
 
 -- the text with these names, constructors and functions
-abbrev pub text_of : List (List ℕ) → List code-data.Data → List code.Function → Program
-text_of names constructors functions = record {
+abbrev pub program_of_parts : List (List ℕ) → List code-data.Data → List code.Function → Program
+program_of_parts names constructors functions = record {
   names = names;
   constructors = map data_of constructors;
   functions = map function functions;
 }
 
 -- the name does not begin with `lift'`
-abbrev pub IsFree : List ℕ → Type 0
-IsFree w = (rest : List ℕ) → w ≢ codes "lift'" ++ rest
+abbrev pub IsUnreservedName : List ℕ → Type 0
+IsUnreservedName w = (rest : List ℕ) → w ≢ codes "lift'" ++ rest

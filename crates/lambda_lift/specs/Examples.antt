@@ -37,8 +37,8 @@ program functions = record {
 }
 
 -- main = (\x -> Cons x Nil) 65;
-abbrev pub lone_text : Program
-lone_text =
+abbrev pub single_lambda_text : Program
+single_lambda_text =
     program (function 2 [] (App (tree.Lambda (binder 3 ∷ []) (App (tree.Con 1 0) (AndTerm
     (tree.Name 3 0) (AndTerm (tree.Con 0 0) NoTerms))) 0) (AndTerm (tree.Int (pos 65) 0)
     NoTerms)) ∷ [])
@@ -66,15 +66,15 @@ mutual_text =
     0) (AndTerm (tree.Int (pos 3) 0) NoTerms))) ∷ [])
 
 -- main = let f f = f in f (Cons 65 Nil);
-abbrev pub own_text : Program
-own_text =
+abbrev pub self_application_text : Program
+self_application_text =
     program (function 2 [] (Let (AndFunction (binder 5) (binder 5 ∷ []) (App (tree.Name 5 0)
     NoTerms) NoBinds) (App (tree.Name 5 0) (AndTerm (tree.Bracket (tree.Con 1 0) (AndTerm
     (tree.Int (pos 65) 0) (AndTerm (tree.Con 0 0) NoTerms)) 0) NoTerms))) ∷ [])
 
 -- f x = x; main = let f = 66; g y = Cons f y in g Nil;
-abbrev pub hidden_text : Program
-hidden_text =
+abbrev pub shadowed_function_text : Program
+shadowed_function_text =
     program (function 5 (binder 3 ∷ []) (App (tree.Name 3 0) NoTerms) ∷ (function 2 [] (Let
     (AndValue (binder 5) (tree.Int (pos 66) 0) NoTerms (AndFunction (binder 6) (binder 4 ∷ [])
     (App (tree.Con 1 0) (AndTerm (tree.Name 5 0) (AndTerm (tree.Name 4 0) NoTerms))) NoBinds))
@@ -89,14 +89,14 @@ nested_text =
     (tree.Int (pos 65) 0) (AndTerm (tree.Int (pos 66) 0) NoTerms))) ∷ [])
 
 pub record Examples : Type 0 where
-  pub lone : (printed lone_text [] 9).out ≡ codes "A"
+  pub lone : (printed single_lambda_text [] 9).out ≡ codes "A"
   pub captured : (printed captured_text [] 9).out ≡ codes "B"
   pub mutual_group : (printed mutual_text [] 30).out ≡ codes "O"
-  pub own_name : (printed own_text [] 9).out ≡ codes "A"
-  pub hidden : (printed hidden_text [] 9).out ≡ codes "B"
+  pub own_name : (printed self_application_text [] 9).out ≡ codes "A"
+  pub hidden : (printed shadowed_function_text [] 9).out ≡ codes "B"
   pub nested : (printed nested_text [] 9).out ≡ codes "AB"
   -- main = (lift'0) 65; lift'0 x = Cons x Nil;
-  pub lone_is_lifted : (lifted lone_text).functions
+  pub lone_is_lifted : (lifted single_lambda_text).functions
       ≡ lifted_function 2 [] (app (core.Bracket (core.Name 12 0) core.NoTerms 0)
       (core.AndTerm (core.Int (pos 65) 0) core.NoTerms))
       ∷ (lifted_function 12 (binder 3 ∷ []) (app (core.Con 1 0)

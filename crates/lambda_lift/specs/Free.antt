@@ -40,11 +40,11 @@ abbrev mutual
       uses (names_of (bound_by p) ++ inside) body ++ uses_alts inside rest
 
 -- each once, at its first place
-abbrev pub first_times : List ℕ → List ℕ
-first_times [] = []
-first_times (x ∷ xs) = x ∷ filter (λ y. not (y == x)) (first_times xs)
+abbrev pub without_repeats : List ℕ → List ℕ
+without_repeats [] = []
+without_repeats (x ∷ xs) = x ∷ filter (λ y. not (y == x)) (without_repeats xs)
 
 -- The locals around a lambda or a local function that its body uses, in the order of first use. The
 -- scope of a local function has the binders of its group.
 abbrev pub free : Program → Scope → List Binder → Expr → List ℕ
-free c s params body = first_times (filter (is_local c s) (uses (names_of params) body))
+free c s params body = without_repeats (filter (is_local c s) (uses (names_of params) body))

@@ -1,4 +1,5 @@
--- The functions that are made of lambdas and local functions, behind others. A device of the proofs.
+-- The functions that are made of lambdas and local functions, behind others. A device of the
+-- proofs.
 use Rattle.std.specs.Prelude.{ℕ, List, ◌++◌, ◌+◌, length}
 use Rattle.core_reader.specs.Tree as core
 use Rattle.lambda_reader.specs.Tree.{Program}
@@ -7,8 +8,9 @@ use Rattle.arity_check.specs.Scope.{Scope}
 use Rattle.lambda_lift.specs.Abstractions.{Abstraction, count_term}
 use Rattle.lambda_lift.specs.Lifted.{lift_term, lift_terms, lifted_functions}
 
-unfoldable pub grows : Program → List core.Function → List Abstraction → List core.Function
-grows c made as' = made ++ lifted_functions c (length made) as'
+unfoldable pub with_lifted_functions : Program → List core.Function
+    → List Abstraction → List core.Function
+with_lifted_functions c made as' = made ++ lifted_functions c (length made) as'
 
 -- an application, where the first of its lambdas and local functions has this number
 abbrev pub lift_app : Program → Scope → ℕ → Application → core.Application

@@ -13,14 +13,14 @@ use Rattle.arity_check.specs.Pieces as pieces
 pub use Rattle.arity_check.specs.Pieces.{names_of, bound_by}
 
 -- its declarations, as a program of Core. What stands in the bodies is of no account
-abbrev pub header : tree.Function → core.Function
-header f = record { name = f.name; at = f.at; params = f.params; body = plain f.body }
+abbrev pub function_header : tree.Function → core.Function
+function_header f = record { name = f.name; at = f.at; params = f.params; body = plain f.body }
 
-abbrev pub headers : Program → core.Program
-headers c = record {
+abbrev pub program_headers : Program → core.Program
+program_headers c = record {
   names = c.names;
   constructors = c.constructors;
-  functions = map header c.functions;
+  functions = map function_header c.functions;
 }
 
 abbrev pub binders_of : Group → List Binder
@@ -30,11 +30,11 @@ binders_of (AndFunction b params body rest) = b ∷ binders_of rest
 
 module _ (c : Program) where
   abbrev pub means : Scope → ℕ → Meaning
-  means = scope.means (headers c)
+  means = scope.means (program_headers c)
 
   -- these binders are in scope
   abbrev pub within : List Binder → Scope → Scope
-  within = pieces.within (headers c)
+  within = pieces.within (program_headers c)
 
   abbrev pub stands_for_local : Meaning → Bool
   stands_for_local (Local x) = true

@@ -13,10 +13,10 @@ use Rattle.arity_check.specs.Scope.{Scope, is_named, con_number, binds, binds_al
 use Rattle.arity_check.specs.declared.normal.PrimOp.{PrimOp}
 use Rattle.core_meaning.specs.Heap.{ValueOf, Int, Con, Part, Call, Apply, Prim, Global, Input, BindingOf, Known, Waiting, HeapOf}
 use Rattle.core_meaning.specs.Forcing as forcing
-use Rattle.core_meaning.specs.Forcing.{StateOf, AnswerOf, OnwardOf, Printed, Gives, NoAlternative, and_then, is_con, is_int, fields_of, append}
-use Rattle.core_meaning.specs.Told.{end_of}
+use Rattle.core_meaning.specs.Forcing.{StateOf, AnswerOf, DelayedEvaluatorOf, PrintedRun, Gives, NoAlternative, and_then, is_con, is_int, fields_of, append}
+use Rattle.core_meaning.specs.Told.{meaning_end}
 use Rattle.headline.specs.Carries as told
-use Rattle.lambda_lift.specs.Headers.{names_of, binders_of, headers, means}
+use Rattle.lambda_lift.specs.Headers.{names_of, binders_of, program_headers, means}
 use Rattle.lambda_lift.specs.Free.{free}
 
 -- a function of the text, by its number, or a lambda or local function, where each local has the
@@ -49,7 +49,7 @@ pub record Flat : Type 0 where
 
 -- the new bindings and the names of the first arguments, and those of the others behind one more
 -- binding
-pub record Arranged : Type 0 where
+pub record SplitArguments : Type 0 where
   pub first : Heap
   pub names : List ℕ
   pub second : Heap
@@ -58,19 +58,19 @@ pub record Arranged : Type 0 where
 -- arguments: how many, and how they are arranged from a name on, so many of them being the first
 pub record Arguments : Type 0 where
   pub many : ℕ
-  pub arranged : ℕ → ℕ → Arranged
+  pub arranged : ℕ → ℕ → SplitArguments
 
-abbrev pub nothing : Arranged
+abbrev pub nothing : SplitArguments
 nothing = record { first = []; names = []; second = []; others = [] }
 
 -- one more argument, of which these are the new bindings and the name
-abbrev pub many_of : Option Arguments → ℕ
-many_of None = 0
-many_of (Some xs) = xs.many
+abbrev pub argument_count : Option Arguments → ℕ
+argument_count None = 0
+argument_count (Some xs) = xs.many
 
-abbrev pub arranged_of : Option Arguments → ℕ → ℕ → Arranged
-arranged_of None n k = nothing
-arranged_of (Some xs) n k = xs.arranged n k
+abbrev pub split_arguments : Option Arguments → ℕ → ℕ → SplitArguments
+split_arguments None n k = nothing
+split_arguments (Some xs) n k = xs.arranged n k
 
 -- the name of an argument, with the bindings that it makes from the name n on
 pub record Named : Type 0 where
@@ -82,10 +82,10 @@ named n (Some a) f = record { news = []; name = a }
 named n None f = record { news = f.news ++ f.form ∷ []; name = n + length f.news }
 
 -- an argument and the others, so many of them being the first
-abbrev pub next : (ℕ → Named) → Option Arguments → ℕ → ℕ → Arranged
+abbrev pub next : (ℕ → Named) → Option Arguments → ℕ → ℕ → SplitArguments
 next argument rest n zero =
     let a : Named = argument (suc n) in
-    let r : Arranged = arranged_of rest (suc n + length a.news) (many_of rest) in
+    let r : SplitArguments = split_arguments rest (suc n + length a.news) (argument_count rest) in
     record {
       first = [];
       names = [];
@@ -94,7 +94,7 @@ next argument rest n zero =
     }
 next argument rest n (suc k) =
     let a : Named = argument n in
-    let r : Arranged = arranged_of rest (n + length a.news) k in
+    let r : SplitArguments = split_arguments rest (n + length a.news) k in
     record {
       first = a.news ++ r.first;
       names = a.name ∷ r.names;
@@ -105,30 +105,31 @@ next argument rest n (suc k) =
 -- a new binding of a form, and then the application of its name to arguments
 abbrev pub applied : ℕ → Binding → Arguments → Flat
 applied n form xs =
-    let r : Arranged = xs.arranged (suc n) xs.many in
+    let r : SplitArguments = xs.arranged (suc n) xs.many in
     record { news = form ∷ r.first; form = Waiting (Apply n r.names) }
 
 -- a bracket: with arguments inside and outside it has a binding of its own
-abbrev pub bracketed : ℕ → Option Arguments → Option Arguments → (Option Arguments → Flat) → Flat
-bracketed n None outer go = go outer
-bracketed n (Some inner) None go = go (Some inner)
-bracketed n (Some inner) (Some outer) go =
+abbrev pub apply_bracket : ℕ → Option Arguments → Option Arguments
+    → (Option Arguments → Flat) → Flat
+apply_bracket n None outer go = go outer
+apply_bracket n (Some inner) None go = go (Some inner)
+apply_bracket n (Some inner) (Some outer) go =
     let f : Flat = go (Some inner) in
     let g : Flat = applied (n + length f.news) f.form outer in
     record { news = f.news ++ g.news; form = g.form }
 
 -- where all arguments have names
-abbrev pub with_names : ℕ → Option Arguments → (List ℕ → Binding) → Flat
-with_names n None form = record { news = []; form = form [] }
-with_names n (Some xs) form =
-    let r : Arranged = xs.arranged n xs.many in record { news = r.first; form = form r.names }
+abbrev pub apply_to_names : ℕ → Option Arguments → (List ℕ → Binding) → Flat
+apply_to_names n None form = record { news = []; form = form [] }
+apply_to_names n (Some xs) form =
+    let r : SplitArguments = xs.arranged n xs.many in record { news = r.first; form = form r.names }
 
 -- a function that has parameters: fewer names are a part, as many a call, and more are given to
 -- what the call gives
-abbrev pub function_with : Fun → ℕ → ℕ → Option Arguments → Flat
-function_with f params n None = record { news = []; form = Known (Part f []) }
-function_with f params n (Some xs) =
-    let r : Arranged = xs.arranged n params in
+abbrev pub apply_function : Fun → ℕ → ℕ → Option Arguments → Flat
+apply_function f params n None = record { news = []; form = Known (Part f []) }
+apply_function f params n (Some xs) =
+    let r : SplitArguments = xs.arranged n params in
     if nat_lt xs.many params then record { news = r.first; form = Known (Part f r.names) }
     else (if xs.many == params then record { news = r.first; form = Waiting (Call f r.names) }
     else record {
@@ -163,14 +164,15 @@ module _ (c : Program) where
   itself env (tree.Lambda params body at) = None
 
   abbrev pub number_of : ℕ → ℕ
-  number_of d = elim (con_number (headers c) d) [ Some k ↦ k | None ↦ 0 ]
+  number_of d = elim (con_number (program_headers c) d) [ Some k ↦ k | None ↦ 0 ]
 
   abbrev pub name_with : ℕ → Meaning → Option Arguments → Flat
-  name_with n (Local a) xs = with_names n xs (λ as'. Waiting (Apply a as'))
-  name_with n (stands.Function f zero) xs = with_names n xs (λ as'. Waiting (Apply (global f) as'))
-  name_with n (stands.Function f (suc k)) xs = function_with (Top f) (suc k) n xs
-  name_with n (Primitive op) xs = with_names n xs (operation op)
-  name_with n Unbound xs = with_names n xs (λ as'. Known (Part (Top 0) as'))
+  name_with n (Local a) xs = apply_to_names n xs (λ as'. Waiting (Apply a as'))
+  name_with n (stands.Function f zero) xs =
+      apply_to_names n xs (λ as'. Waiting (Apply (global f) as'))
+  name_with n (stands.Function f (suc k)) xs = apply_function (Top f) (suc k) n xs
+  name_with n (Primitive op) xs = apply_to_names n xs (operation op)
+  name_with n Unbound xs = apply_to_names n xs (λ as'. Known (Part (Top 0) as'))
 
   -- A lambda is a value. With arguments it is as a function, where it has no free names, and else
   -- as a bracket.
@@ -179,7 +181,7 @@ module _ (c : Program) where
       record { news = []; form = Known (Part (Closure params body env) []) }
   lambda_with env n params body (Some xs) =
       elim (free c env params body) [
-        | [] ↦ function_with (Closure params body env) (length params) n (Some xs)
+        | [] ↦ apply_function (Closure params body env) (length params) n (Some xs)
         | x ∷ more ↦ applied n (Known (Part (Closure params body env) [])) xs
       ]
 
@@ -187,18 +189,18 @@ module _ (c : Program) where
     -- the application of a head to arguments, with new bindings from the name n on
     pub flat : Scope → ℕ → Term → Option Arguments → Flat
     flat env n (tree.Name x at) xs = name_with n (means c env x) xs
-    flat env n (tree.Con d at) xs = with_names n xs (λ as'. Known (Con (number_of d) as'))
+    flat env n (tree.Con d at) xs = apply_to_names n xs (λ as'. Known (Con (number_of d) as'))
     flat env n (tree.Int k at) None = record { news = []; form = Known (Int k) }
     flat env n (tree.Int k at) (Some xs) = applied n (Known (Int k)) xs
     flat env n (tree.Bracket head args at) xs =
-        bracketed n (arguments env args) xs (λ xs. flat env n head xs)
+        apply_bracket n (arguments env args) xs (λ xs. flat env n head xs)
     flat env n (tree.Lambda params body at) xs = lambda_with env n params body xs
 
     pub arguments : Scope → Terms → Option Arguments
     arguments env NoTerms = None
     arguments env (AndTerm a xs) =
         Some (record {
-          many = suc (many_of (arguments env xs));
+          many = suc (argument_count (arguments env xs));
           arranged =
               next (λ n. named n (itself env a) (flat env n a None)) (arguments env xs);
         })
@@ -223,7 +225,7 @@ module _ (c : Program) where
   places_of n (f ∷ fs) = (n + length f.news) ∷ places_of (n + length f.news + 1) fs
 
   abbrev pub with_all : List Binder → List ℕ → Scope → Scope
-  with_all bs as' env = binds_all (headers c) (names_of bs) as' env
+  with_all bs as' env = binds_all (program_headers c) (names_of bs) as' env
 
   -- The environment in the group, whose members begin at the name n. How many new bindings there
   -- are does not hang on the names in it.
@@ -237,7 +239,7 @@ module _ (c : Program) where
   arity (Top f) = elim (slice_get c.functions f) [ Some g ↦ length g.params | None ↦ 0 ]
   arity (Closure params body env) = length params
 
-  module _ (onward : OnwardOf Fun) where
+  module _ (onward : DelayedEvaluatorOf Fun) where
     -- a form that stands for an expression is done without a unit of its own, but for a call
     abbrev pub does : Binding → ℕ → State → Answer
     does (Known v) d s = Gives v s
@@ -270,9 +272,9 @@ module _ (c : Program) where
       select (AndAlt (pattern.Int k at) body rest) v env d s =
           elim (is_int k v) [ true ↦ eval body env d s | false ↦ select rest v env d s ]
       select (AndAlt (pattern.Default x) body rest) v env d s =
-          elim (is_named (headers c) (codes "_") x.name.0) [
+          elim (is_named (program_headers c) (codes "_") x.name.0) [
             | true ↦ eval body env d s
-            | false ↦ eval body (binds (headers c) x.name.0 (length s.heap) env) d
+            | false ↦ eval body (binds (program_headers c) x.name.0 (length s.heap) env) d
                 (append s (Known v ∷ []))
           ]
 
@@ -289,10 +291,12 @@ module _ (c : Program) where
 
   -- the first constructor and the first function of a name
   abbrev pub con_named : List ℕ → ℕ
-  con_named name = position_or_len (λ d. is_named (headers c) name d.name) c.constructors
+  con_named name = position_or_len (λ d. is_named (program_headers c) name d.name) c.constructors
 
   abbrev pub main : ℕ
-  main = position_or_len (λ (f : Function). is_named (headers c) (codes "main") f.name) c.functions
+  main =
+      position_or_len (λ (f : Function). is_named (program_headers c) (codes "main") f.name)
+      c.functions
 
   abbrev pub globals : List Function → ℕ → Heap
   globals [] f = []
@@ -300,14 +304,14 @@ module _ (c : Program) where
       (if length g.params == 0 then Waiting (Global (Top f)) ∷ [] else []) ++ globals gs (suc f)
 
   -- what the text puts out on the input i within n units
-  abbrev pub printed : List ℕ → ℕ → Printed
+  abbrev pub printed : List ℕ → ℕ → PrintedRun
   printed i n =
       forcing.printed arity NoAlternative
       (con_named (codes "Nil")) (con_named (codes "Cons")) enter
       (globals c.functions 0) (Top main) (global main) i n
 
 -- the same as a meaning tells it
-abbrev pub of_lambdas : Program → told.Meaning
-of_lambdas c i n =
-    let r : Printed = printed c i n in
-    record { out = r.out; end = end_of r.end; cells = r.cells; depth = r.depth; used = r.used }
+abbrev pub meaning_of_lambdas : Program → told.Meaning
+meaning_of_lambdas c i n =
+    let r : PrintedRun = printed c i n in
+    record { out = r.out; end = meaning_end r.end; cells = r.cells; depth = r.depth; used = r.used }

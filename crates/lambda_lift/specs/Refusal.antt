@@ -5,6 +5,7 @@ use Rattle.core_reader.specs.declared.refusal.ReadRefusal.TheVariants as from
 use Rattle.lambda_lift.specs.declared.refusal.LiftRefusal.{LiftRefusal}
 use Rattle.lambda_lift.specs.declared.refusal.LiftRefusal.TheVariants.{BadByte, Syntax, NumberRange, TooDeep, TextTooLong, TooManyParameters, ReservedLift, Memory}
 use Rattle.lambda_lift.specs.Rules.{IsFirstBroken}
+use Rattle.limits.specs.Limits.{most_bytes}
 
 -- the number of the broken rule
 abbrev pub rule : LiftRefusal → ℕ
@@ -22,18 +23,18 @@ place (BadByte at) = at
 place (Syntax at) = at
 place (NumberRange at) = at
 place (TooDeep at) = at
-place TextTooLong = 1048576
+place TextTooLong = most_bytes
 place (TooManyParameters at) = at
 place (ReservedLift at) = at
 place (Memory e) = 0
 
-abbrev pub unread : ReadRefusal → LiftRefusal
-unread (from.BadByte at) = BadByte at
-unread (from.Syntax at) = Syntax at
-unread (from.NumberRange at) = NumberRange at
-unread (from.TooDeep at) = TooDeep at
-unread from.TextTooLong = TextTooLong
-unread (from.Memory e) = Memory e
+abbrev pub refusal_of_reading : ReadRefusal → LiftRefusal
+refusal_of_reading (from.BadByte at) = BadByte at
+refusal_of_reading (from.Syntax at) = Syntax at
+refusal_of_reading (from.NumberRange at) = NumberRange at
+refusal_of_reading (from.TooDeep at) = TooDeep at
+refusal_of_reading from.TextTooLong = TextTooLong
+refusal_of_reading (from.Memory e) = Memory e
 
 -- the rule and the place that a refusal names
 abbrev pub IsCause : List ℕ → LiftRefusal → Type 0
@@ -41,7 +42,7 @@ IsCause text (BadByte at) = IsFirstBroken text 1 at
 IsCause text (Syntax at) = IsFirstBroken text 2 at
 IsCause text (NumberRange at) = IsFirstBroken text 3 at
 IsCause text (TooDeep at) = IsFirstBroken text 4 at
-IsCause text TextTooLong = IsFirstBroken text 5 1048576
+IsCause text TextTooLong = IsFirstBroken text 5 most_bytes
 IsCause text (TooManyParameters at) = IsFirstBroken text 61 at
 IsCause text (ReservedLift at) = IsFirstBroken text 62 at
 IsCause text (Memory e) = Unit {0}

@@ -4,7 +4,7 @@ ghost use Rattle.std.specs.Prelude.{◌≡◌, ◌++◌, IfOk, map};
 ghost use Rattle.lambda_reader.specs.Tree.{NoBinds};
 ghost use Rattle.lambda_reader.specs.Code.{group_of, member};
 ghost use Rattle.lambda_lift.specs.Headers.{binders_of, bound_by};
-ghost use Rattle.lambda_lift.specs.Gathered.{paired, first_binder};
+ghost use Rattle.lambda_lift.specs.Gathered.{scope_of_binders, first_binder};
 
 use arity_check::scope::Scope;
 use core_reader::{Binder, Pattern};
@@ -50,8 +50,8 @@ pub fn bound_by(alloc: Global, pattern: &Pattern) -> Result<Seq<Binder>, AllocEr
 }
 
 /// Names that are bound inside, with those of binders around them.
-pub fn hide(inside: &mut Scope, binders: &[Binder]) -> Result<(), AllocError>
-    ensures { IfOk result (λ _. inside.new ≡ paired binders.now ++ inside.old) }
+pub fn add_bound_names(inside: &mut Scope, binders: &[Binder]) -> Result<(), AllocError>
+    ensures { IfOk result (λ _. inside.new ≡ scope_of_binders binders.now ++ inside.old) }
 {
     for i in 0..binders.len() {
         let binder = binders[binders.len() - 1 - i];

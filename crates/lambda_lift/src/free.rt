@@ -7,9 +7,9 @@ ghost use Rattle.lambda_reader.specs.Tree as tree;
 ghost use Rattle.lambda_reader.specs.Code.{term, application, member, expr as expr_of, alternative};
 ghost use Rattle.lambda_lift.specs.Headers.{names_of, is_local};
 ghost use Rattle.lambda_lift.specs.Free.{uses_term, uses_group, uses, uses_alts, free};
-ghost use Rattle.lambda_lift.specs.Gathered.{of_names, names_in, is_new, gathers, used_app};
+ghost use Rattle.lambda_lift.specs.Gathered.{program_of_names, scope_names, is_new, collected_in_scope, uses_in_application};
 
-use crate::binders::{binders_of, bound_by, hide};
+use crate::binders::{add_bound_names, binders_of, bound_by};
 use crate::words::Words;
 use arity_check::scope::Scope;
 use core_reader::{Binder, NameId};
@@ -39,7 +39,7 @@ fn is_among(name: u32, names: &[u32]) -> bool
 
 /// Whether a name is bound inside.
 fn is_hidden(inside: &Scope, name: NameId) -> bool
-    ensures { result ≡ is_among name.0 (names_in inside.now) }
+    ensures { result ≡ is_among name.0 (scope_names inside.now) }
 {
     inside.find(name.0).is_some()
 }
@@ -58,7 +58,7 @@ fn add_where(is_new: bool, found: &mut Seq<u32>, name: NameId) -> Result<(), All
 impl<'a> Around<'a> {
     /// Whether a use adds a name to those that were found.
     fn is_new(&self, found: &[u32], name: NameId) -> bool
-        ensures { result ≡ is_new (is_local (of_names self.now.words.now) self.now.scope.now)
+        ensures { result ≡ is_new (is_local (program_of_names self.now.words.now) self.now.scope.now)
             self.now.limit found.now name.0 }
     {
         if !self.words.is_local(self.scope, name) {
@@ -79,8 +79,8 @@ impl<'a> Around<'a> {
         at: u32,
     ) -> Result<(), AllocError>
         ensures { IfOk result (λ _. found.new
-            ≡ gathers self.now.words.now self.now.scope.now self.now.limit found.old
-            (uses_term (names_in inside.now) (tree.Name name.0 at))) }
+            ≡ collected_in_scope self.now.words.now self.now.scope.now self.now.limit found.old
+            (uses_term (scope_names inside.now) (tree.Name name.0 at))) }
     {
         if is_hidden(inside, name) {
             return Ok(());
@@ -101,8 +101,8 @@ impl<'a> Around<'a> {
     ) -> Result<(), AllocError>
         ensures inside { IfOk result (λ _. inside.new ≡ inside.old) }
         ensures found { IfOk result (λ _. found.new
-            ≡ gathers self.now.words.now self.now.scope.now self.now.limit found.old
-            (uses_term (names_in inside.old) (term atom.now))) }
+            ≡ collected_in_scope self.now.words.now self.now.scope.now self.now.limit found.old
+            (uses_term (scope_names inside.old) (term atom.now))) }
     {
         match atom {
             Atom::Name(name, at) => self.name(inside, found, *name, *at),
@@ -126,8 +126,8 @@ impl<'a> Around<'a> {
     ) -> Result<(), AllocError>
         ensures inside { IfOk result (λ _. inside.new ≡ inside.old) }
         ensures found { IfOk result (λ _. found.new
-            ≡ gathers self.now.words.now self.now.scope.now self.now.limit found.old
-            (used_app (names_in inside.old) (application app.now))) }
+            ≡ collected_in_scope self.now.words.now self.now.scope.now self.now.limit found.old
+            (uses_in_application (scope_names inside.old) (application app.now))) }
     {
         self.atom(alloc, inside, found, &app.head)?;
         for arg in app.args.as_slice() {
@@ -148,11 +148,11 @@ impl<'a> Around<'a> {
     ) -> Result<(), AllocError>
         ensures inside { IfOk result (λ _. inside.new ≡ inside.old) }
         ensures found { IfOk result (λ _. found.new
-            ≡ gathers self.now.words.now self.now.scope.now self.now.limit found.old
-            (uses (names_of binders.now ++ names_in inside.old) (expr_of expr.now))) }
+            ≡ collected_in_scope self.now.words.now self.now.scope.now self.now.limit found.old
+            (uses (names_of binders.now ++ scope_names inside.old) (expr_of expr.now))) }
     {
         let depth = inside.len();
-        hide(inside, binders)?;
+        add_bound_names(inside, binders)?;
         self.expr(alloc, inside, found, expr)?;
         inside.leave(depth);
         Ok(())
@@ -169,8 +169,8 @@ impl<'a> Around<'a> {
     ) -> Result<(), AllocError>
         ensures inside { IfOk result (λ _. inside.new ≡ inside.old) }
         ensures found { IfOk result (λ _. found.new
-            ≡ gathers self.now.words.now self.now.scope.now self.now.limit found.old
-            (uses_group (names_in inside.old) (member bind.now NoBinds))) }
+            ≡ collected_in_scope self.now.words.now self.now.scope.now self.now.limit found.old
+            (uses_group (scope_names inside.old) (member bind.now NoBinds))) }
     {
         match bind {
             Bind::Value(_, app) => self.app(alloc, inside, found, app),
@@ -191,15 +191,15 @@ impl<'a> Around<'a> {
     ) -> Result<(), AllocError>
         ensures inside { IfOk result (λ _. inside.new ≡ inside.old) }
         ensures found { IfOk result (λ _. found.new
-            ≡ gathers self.now.words.now self.now.scope.now self.now.limit found.old
-            (uses (names_in inside.old) (expr_of expr.now))) }
+            ≡ collected_in_scope self.now.words.now self.now.scope.now self.now.limit found.old
+            (uses (scope_names inside.old) (expr_of expr.now))) }
     {
         match expr {
             Expr::App(app) => self.app(alloc, inside, found, app),
             Expr::Let(group, body) => {
                 let depth = inside.len();
                 let binders = binders_of(alloc, group.as_slice())?;
-                hide(inside, binders.as_slice())?;
+                add_bound_names(inside, binders.as_slice())?;
                 for bind in group.as_slice() {
                     self.member(alloc, inside, found, bind)?;
                 }
@@ -228,8 +228,8 @@ impl<'a> Around<'a> {
     ) -> Result<(), AllocError>
         ensures inside { IfOk result (λ _. inside.new ≡ inside.old) }
         ensures found { IfOk result (λ _. found.new
-            ≡ gathers self.now.words.now self.now.scope.now self.now.limit found.old
-            (uses_alts (names_in inside.old) (alternative alt.now NoAlts))) }
+            ≡ collected_in_scope self.now.words.now self.now.scope.now self.now.limit found.old
+            (uses_alts (scope_names inside.old) (alternative alt.now NoAlts))) }
     {
         let binders = bound_by(alloc, &alt.pattern)?;
         self.under(alloc, inside, found, binders.as_slice(), &alt.body)?;
@@ -247,7 +247,7 @@ pub fn first_free_names(
     limit: usize,
 ) -> Result<Seq<u32>, AllocError>
     ensures { IfOk result (λ names. names
-        ≡ take limit (free (of_names words.now) scope.now params.now (expr_of body.now))) }
+        ≡ take limit (free (program_of_names words.now) scope.now params.now (expr_of body.now))) }
 {
     let around = Around {
         words,
@@ -270,7 +270,7 @@ pub fn free_names(
     body: &Expr,
 ) -> Result<Seq<u32>, AllocError>
     ensures { IfOk result (λ names. names
-        ≡ free (of_names words.now) scope.now params.now (expr_of body.now)) }
+        ≡ free (program_of_names words.now) scope.now params.now (expr_of body.now)) }
 {
     let found = first_free_names(alloc, words, scope, params, body, usize::MAX)?;
     if found.len() >= usize::MAX {

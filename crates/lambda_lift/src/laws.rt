@@ -1,8 +1,8 @@
 //! What lifting keeps.
 
-ghost use Rattle.lambda_lift.specs.Laws.{LiftingKeeps};
+ghost use Rattle.lambda_lift.specs.Laws.{LiftingPreservesMeaning};
 
 /// The lifted program puts out the same as the text by its own meaning.
-pub fn lifting_keeps()
-    ensures { LiftingKeeps }
+pub fn lifting_preserves_meaning()
+    ensures { LiftingPreservesMeaning }
 {}

@@ -8,9 +8,9 @@ ghost use Rattle.lambda_reader.specs.Code.{term, application, member, group_of, 
 ghost use Rattle.lambda_lift.specs.Headers.{within};
 ghost use Rattle.lambda_lift.specs.Abstractions.{in_term, in_group, in_expr, in_alts, in_functions};
 ghost use Rattle.lambda_lift.specs.Lifted.{arguments, parameters, lifted_name, applied, lift_term, lift_group, lift, lift_alts, lifted_bodies};
-ghost use Rattle.lambda_lift.specs.Gathered.{of_names};
-ghost use Rattle.lambda_lift.specs.Broadest.{abstraction, in_app};
-ghost use Rattle.lambda_lift.specs.Growing.{lift_app, grows};
+ghost use Rattle.lambda_lift.specs.Gathered.{program_of_names};
+ghost use Rattle.lambda_lift.specs.Broadest.{abstraction, lambdas_in_application};
+ghost use Rattle.lambda_lift.specs.Growing.{lift_app, with_lifted_functions};
 
 use crate::binders::{binders_of, bound_by};
 use crate::free::free_names;
@@ -23,7 +23,7 @@ use std::alloc::{AllocError, Global};
 
 /// The name of the function of this number.
 fn name_of(words: &Words, number: usize) -> Result<NameId, AllocError>
-    ensures { IfOk result (λ name. name ≡ name_id (lifted_name (of_names words.now) number)) }
+    ensures { IfOk result (λ name. name ≡ name_id (lifted_name (program_of_names words.now) number)) }
 {
     let Some(name) = words.len().checked_add(number) else {
         return Err(AllocError);
@@ -78,10 +78,10 @@ fn atom(
 ) -> Result<Atom, AllocError>
     ensures scope { IfOk result (λ _. scope.new ≡ scope.old) }
     ensures made { IfOk result (λ _. map core.function made.new
-        ≡ grows (of_names words.now) (map core.function made.old)
-        (in_term (of_names words.now) scope.old (term atom))) }
+        ≡ with_lifted_functions (program_of_names words.now) (map core.function made.old)
+        (in_term (program_of_names words.now) scope.old (term atom))) }
     ensures lifted { IfOk result (λ new. core.term new
-        ≡ lift_term (of_names words.now) scope.old (length made.old) (term atom)) }
+        ≡ lift_term (program_of_names words.now) scope.old (length made.old) (term atom)) }
 {
     match atom {
         lambda::Atom::Name(name, at) => Ok(Atom::Name(name, at)),
@@ -110,10 +110,10 @@ fn app(
 ) -> Result<App, AllocError>
     ensures scope { IfOk result (λ _. scope.new ≡ scope.old) }
     ensures made { IfOk result (λ _. map core.function made.new
-        ≡ grows (of_names words.now) (map core.function made.old)
-        (in_app (of_names words.now) scope.old (application app))) }
+        ≡ with_lifted_functions (program_of_names words.now) (map core.function made.old)
+        (lambdas_in_application (program_of_names words.now) scope.old (application app))) }
     ensures lifted { IfOk result (λ new. core.application new
-        ≡ lift_app (of_names words.now) scope.old (length made.old) (application app)) }
+        ≡ lift_app (program_of_names words.now) scope.old (length made.old) (application app)) }
 {
     let head = atom(alloc, words, scope, made, app.head)?;
     let mut args = Seq::new(alloc);
@@ -137,12 +137,12 @@ fn abstraction(
 ) -> Result<App, AllocError>
     ensures scope { IfOk result (λ _. scope.new ≡ scope.old) }
     ensures made { IfOk result (λ _. map core.function made.new
-        ≡ grows (of_names words.now) (map core.function made.old)
+        ≡ with_lifted_functions (program_of_names words.now) (map core.function made.old)
         (abstraction scope.old params (expr_of body) at
-        ∷ in_expr (of_names words.now) (within (of_names words.now) params scope.old)
+        ∷ in_expr (program_of_names words.now) (within (program_of_names words.now) params scope.old)
         (expr_of body))) }
     ensures lifted { IfOk result (λ new. core.application new
-        ≡ applied (of_names words.now) scope.old (length made.old) params (expr_of body) at) }
+        ≡ applied (program_of_names words.now) scope.old (length made.old) params (expr_of body) at) }
 {
     let number = made.len();
     let name = name_of(words, number)?;
@@ -184,11 +184,11 @@ fn under(
 ) -> Result<Expr, AllocError>
     ensures scope { IfOk result (λ _. scope.new ≡ scope.old) }
     ensures made { IfOk result (λ _. map core.function made.new
-        ≡ grows (of_names words.now) (map core.function made.old)
-        (in_expr (of_names words.now) (within (of_names words.now) binders.now scope.old)
+        ≡ with_lifted_functions (program_of_names words.now) (map core.function made.old)
+        (in_expr (program_of_names words.now) (within (program_of_names words.now) binders.now scope.old)
         (expr_of body))) }
     ensures lifted { IfOk result (λ new. core.expr new
-        ≡ lift (of_names words.now) (within (of_names words.now) binders.now scope.old)
+        ≡ lift (program_of_names words.now) (within (program_of_names words.now) binders.now scope.old)
         (length made.old) (expr_of body)) }
 {
     let depth = scope.len();
@@ -209,10 +209,10 @@ fn member(
 ) -> Result<Bind, AllocError>
     ensures scope { IfOk result (λ _. scope.new ≡ scope.old) }
     ensures made { IfOk result (λ _. map core.function made.new
-        ≡ grows (of_names words.now) (map core.function made.old)
-        (in_group (of_names words.now) scope.old (member bind NoBinds))) }
+        ≡ with_lifted_functions (program_of_names words.now) (map core.function made.old)
+        (in_group (program_of_names words.now) scope.old (member bind NoBinds))) }
     ensures lifted { IfOk result (λ new. core.bind new ∷ []
-        ≡ lift_group (of_names words.now) scope.old (length made.old) (member bind NoBinds)) }
+        ≡ lift_group (program_of_names words.now) scope.old (length made.old) (member bind NoBinds)) }
 {
     match bind {
         lambda::Bind::Value(binder, value) => {
@@ -238,10 +238,10 @@ fn members(
 ) -> Result<Seq<Bind>, AllocError>
     ensures scope { IfOk result (λ _. scope.new ≡ scope.old) }
     ensures made { IfOk result (λ _. map core.function made.new
-        ≡ grows (of_names words.now) (map core.function made.old)
-        (in_group (of_names words.now) scope.old (group_of (map member group)))) }
+        ≡ with_lifted_functions (program_of_names words.now) (map core.function made.old)
+        (in_group (program_of_names words.now) scope.old (group_of (map member group)))) }
     ensures lifted { IfOk result (λ new. map core.bind new
-        ≡ lift_group (of_names words.now) scope.old (length made.old)
+        ≡ lift_group (program_of_names words.now) scope.old (length made.old)
         (group_of (map member group))) }
 {
     let mut members = Seq::new(alloc);
@@ -262,10 +262,10 @@ fn expr(
 ) -> Result<Expr, AllocError>
     ensures scope { IfOk result (λ _. scope.new ≡ scope.old) }
     ensures made { IfOk result (λ _. map core.function made.new
-        ≡ grows (of_names words.now) (map core.function made.old)
-        (in_expr (of_names words.now) scope.old (expr_of source))) }
+        ≡ with_lifted_functions (program_of_names words.now) (map core.function made.old)
+        (in_expr (program_of_names words.now) scope.old (expr_of source))) }
     ensures lifted { IfOk result (λ new. core.expr new
-        ≡ lift (of_names words.now) scope.old (length made.old) (expr_of source)) }
+        ≡ lift (program_of_names words.now) scope.old (length made.old) (expr_of source)) }
 {
     match source {
         lambda::Expr::App(inner) => Ok(Expr::App(app(alloc, words, scope, made, inner)?)),
@@ -297,10 +297,10 @@ fn alternatives(
 ) -> Result<Seq<Alt>, AllocError>
     ensures scope { IfOk result (λ _. scope.new ≡ scope.old) }
     ensures made { IfOk result (λ _. map core.function made.new
-        ≡ grows (of_names words.now) (map core.function made.old)
-        (in_alts (of_names words.now) scope.old (alts_of (map alternative alts)))) }
+        ≡ with_lifted_functions (program_of_names words.now) (map core.function made.old)
+        (in_alts (program_of_names words.now) scope.old (alts_of (map alternative alts)))) }
     ensures lifted { IfOk result (λ new. core.alts_of (map core.alternative new)
-        ≡ lift_alts (of_names words.now) scope.old (length made.old)
+        ≡ lift_alts (program_of_names words.now) scope.old (length made.old)
         (alts_of (map alternative alts))) }
 {
     let mut arms = Seq::new(alloc);
@@ -321,10 +321,10 @@ fn alternative(
 ) -> Result<Alt, AllocError>
     ensures scope { IfOk result (λ _. scope.new ≡ scope.old) }
     ensures made { IfOk result (λ _. map core.function made.new
-        ≡ grows (of_names words.now) (map core.function made.old)
-        (in_alts (of_names words.now) scope.old (alternative alt NoAlts))) }
+        ≡ with_lifted_functions (program_of_names words.now) (map core.function made.old)
+        (in_alts (program_of_names words.now) scope.old (alternative alt NoAlts))) }
     ensures lifted { IfOk result (λ new. core.alternative new core.NoAlts
-        ≡ lift_alts (of_names words.now) scope.old (length made.old) (alternative alt NoAlts)) }
+        ≡ lift_alts (program_of_names words.now) scope.old (length made.old) (alternative alt NoAlts)) }
 {
     let binders = bound_by(alloc, &alt.pattern)?;
     let body = under(alloc, words, scope, made, binders.as_slice(), alt.body)?;
@@ -343,10 +343,10 @@ pub fn bodies(
     functions: Seq<lambda::Function>,
 ) -> Result<Seq<Function>, AllocError>
     ensures made { IfOk result (λ _. map core.function made.new
-        ≡ grows (of_names words.now) (map core.function made.old)
-        (in_functions (of_names words.now) (map function_of functions))) }
+        ≡ with_lifted_functions (program_of_names words.now) (map core.function made.old)
+        (in_functions (program_of_names words.now) (map function_of functions))) }
     ensures lifted { IfOk result (λ new. map core.function new
-        ≡ lifted_bodies (of_names words.now) (length made.old) (map function_of functions)) }
+        ≡ lifted_bodies (program_of_names words.now) (length made.old) (map function_of functions)) }
 {
     let mut bodies = Seq::new(alloc);
     for function in functions.into_vec() {

@@ -2,18 +2,18 @@
 
 ghost use Rattle.std.specs.Prelude.{◌≡◌, ◌++◌, codes, decimal, All, OnOk, IfOk, IfErr};
 ghost use Rattle.core_reader.specs.Tree.{program};
-ghost use Rattle.core_reader.specs.Different.{AreDifferent};
+ghost use Rattle.core_reader.specs.Different.{AreDistinct};
 ghost use Rattle.core_reader.specs.Readable.{IsReadable};
 ghost use Rattle.lambda_reader.specs.Tree.{Program};
-ghost use Rattle.lambda_reader.specs.Programs.{IsText};
+ghost use Rattle.lambda_reader.specs.Programs.{IsSourceText};
 ghost use Rattle.lambda_lift.specs.Lifted.{lifted, lifted_names};
 ghost use Rattle.lambda_lift.specs.Rules.{IsUnbroken};
 ghost use Rattle.lambda_lift.specs.Refusal.{IsCause};
-ghost use Rattle.lambda_lift.specs.Choosing.{refused_by, text_of, IsFree};
+ghost use Rattle.lambda_lift.specs.Choosing.{earliest_refusal, program_of_parts, IsUnreservedName};
 
 use crate::lifted::bodies;
 use crate::refusal::LiftRefusal;
-use crate::rules::first_too_broad;
+use crate::rules::first_over_parameter_limit;
 use crate::words::Words;
 use core_reader::{Core, Data, Names};
 use itoa::Buffer;
@@ -22,8 +22,8 @@ use seq::Seq;
 use std::alloc::{AllocError, Global};
 
 /// Which of the rules 61 and 62 is broken first, by the first places where they are broken.
-fn refused_by(too_broad: Option<u32>, reserved: Option<u32>) -> Option<LiftRefusal>
-    ensures { result ≡ refused_by too_broad reserved }
+fn earliest_refusal(too_broad: Option<u32>, reserved: Option<u32>) -> Option<LiftRefusal>
+    ensures { result ≡ earliest_refusal too_broad reserved }
 {
     match too_broad {
         None => match reserved {
@@ -53,8 +53,8 @@ fn name_text(alloc: Global, number: u32) -> Result<Seq<u8>, AllocError>
 
 /// Names with those of so many lifted functions behind them.
 fn with_lifted(alloc: Global, names: Names, count: usize) -> Result<Names, AllocError>
-    requires different { AreDifferent names }
-    requires unreserved { All IsFree names }
+    requires different { AreDistinct names }
+    requires unreserved { All IsUnreservedName names }
     ensures { IfOk result (λ all. all ≡ names ++ lifted_names 0 count) }
 {
     let Ok(count) = u32::try_from(count) else {
@@ -74,9 +74,9 @@ fn lifted(
     constructors: Seq<Data>,
     functions: Seq<Function>,
 ) -> Result<Core, AllocError>
-    requires different { AreDifferent words }
-    requires unreserved { All IsFree words }
-    ensures { IfOk result (λ core. program core ≡ lifted (text_of words constructors functions)) }
+    requires different { AreDistinct words }
+    requires unreserved { All IsUnreservedName words }
+    ensures { IfOk result (λ core. program core ≡ lifted (program_of_parts words constructors functions)) }
 {
     let mut made = Seq::new(alloc);
     let mut all = bodies(alloc, &words, &mut made, functions)?;
@@ -95,7 +95,7 @@ fn lifted(
 /// these, of 61 and 62 by place, and at one place by number. Want of memory may come in place of
 /// each answer.
 pub fn lift(alloc: Global, text: &[u8]) -> Result<Core, LiftRefusal>
-    ensures lifted { IfOk result (λ core. (c : Program) × IsText text.now c × (program core ≡ lifted c)) }
+    ensures lifted { IfOk result (λ core. (c : Program) × IsSourceText text.now c × (program core ≡ lifted c)) }
     ensures unbroken { OnOk result (IsUnbroken text.now) }
     ensures readable { IfOk result (λ core. IsReadable (program core)) }
     ensures refused { IfErr result (IsCause text.now) }
@@ -103,8 +103,8 @@ pub fn lift(alloc: Global, text: &[u8]) -> Result<Core, LiftRefusal>
     let found = read_lambdas(alloc, text)?;
     let program = found.program;
     let words = Words::new(alloc, program.names)?;
-    let too_broad = first_too_broad(alloc, &words, program.functions.as_slice())?;
-    match refused_by(too_broad, found.reserved) {
+    let too_broad = first_over_parameter_limit(alloc, &words, program.functions.as_slice())?;
+    match earliest_refusal(too_broad, found.reserved) {
         Some(refusal) => Err(refusal),
         None => {
             let core = lifted(alloc, words, program.constructors, program.functions)?;

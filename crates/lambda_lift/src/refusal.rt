@@ -2,9 +2,10 @@
 
 ghost use Rattle.std.specs.Prelude.{◌≡◌, alloc_error};
 ghost use Rattle.lambda_lift.specs.declared.refusal.LiftRefusal.TheVariants.{Memory};
-ghost use Rattle.lambda_lift.specs.Refusal.{rule, place, unread};
+ghost use Rattle.lambda_lift.specs.Refusal.{rule, place, refusal_of_reading};
 
 use core_reader::ReadRefusal;
+use limits::MOST_BYTES;
 use std::alloc::AllocError;
 use thiserror::Error;
 
@@ -46,7 +47,7 @@ impl From<AllocError> for LiftRefusal {
 }
 
 impl From<ReadRefusal> for LiftRefusal {
-    ghost from_gives = { λ r e. e ≡ unread r };
+    ghost from_gives = { λ r e. e ≡ refusal_of_reading r };
 
     fn from(refusal: ReadRefusal) -> LiftRefusal {
         match refusal {
@@ -88,7 +89,7 @@ impl LiftRefusal {
             | LiftRefusal::TooDeep(at)
             | LiftRefusal::TooManyParameters(at)
             | LiftRefusal::ReservedLift(at) => *at,
-            LiftRefusal::TextTooLong => 1048576,
+            LiftRefusal::TextTooLong => MOST_BYTES,
             LiftRefusal::Memory(_) => 0,
         }
     }

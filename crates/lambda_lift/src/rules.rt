@@ -5,8 +5,8 @@ ghost use Rattle.lambda_reader.specs.Tree.{NoBinds, NoAlts};
 ghost use Rattle.lambda_reader.specs.Code.{term, application, member, expr as expr_of, alternative, function as function_of};
 ghost use Rattle.lambda_lift.specs.Headers.{within};
 ghost use Rattle.lambda_lift.specs.Abstractions.{in_term, in_group, in_expr, in_alts, in_functions};
-ghost use Rattle.lambda_lift.specs.Gathered.{of_names};
-ghost use Rattle.lambda_lift.specs.Broadest.{abstraction, in_app, earlier_where, too_broad};
+ghost use Rattle.lambda_lift.specs.Gathered.{program_of_names};
+ghost use Rattle.lambda_lift.specs.Broadest.{abstraction, lambdas_in_application, earlier_place_if, too_broad};
 
 use crate::binders::{binders_of, bound_by};
 use crate::free::first_free_names;
@@ -20,8 +20,8 @@ use std::alloc::{AllocError, Global};
 const MOST_PARAMETERS: usize = 12;
 
 /// The first of the places that were met, with one more where a rule is broken.
-fn earlier_where(is_broken: bool, at: u32, first: Option<u32>) -> Option<u32>
-    ensures { result ≡ earlier_where is_broken at first }
+fn earlier_place_if(is_broken: bool, at: u32, first: Option<u32>) -> Option<u32>
+    ensures { result ≡ earlier_place_if is_broken at first }
 {
     if !is_broken {
         return first;
@@ -53,14 +53,14 @@ fn in_atom(
 ) -> Result<Option<u32>, AllocError>
     ensures scope { IfOk result (λ _. scope.new ≡ scope.old) }
     ensures first { IfOk result (λ next. next
-        ≡ too_broad (of_names words.now) first
-        (in_term (of_names words.now) scope.old (term atom.now))) }
+        ≡ too_broad (program_of_names words.now) first
+        (in_term (program_of_names words.now) scope.old (term atom.now))) }
 {
     match atom {
         Atom::Name(_, _) => Ok(first),
         Atom::Con(_, _) => Ok(first),
         Atom::Int(_, _) => Ok(first),
-        Atom::Bracket(app, _) => in_app(alloc, words, scope, first, app),
+        Atom::Bracket(app, _) => lambdas_in_application(alloc, words, scope, first, app),
         Atom::Lambda(params, body, at) => {
             in_abstraction(alloc, words, scope, first, params.as_slice(), body, *at)
         }
@@ -69,7 +69,7 @@ fn in_atom(
 
 /// In an application.
 #[cycle(rules)]
-fn in_app(
+fn lambdas_in_application(
     alloc: Global,
     words: &Words,
     scope: &mut Scope,
@@ -78,8 +78,8 @@ fn in_app(
 ) -> Result<Option<u32>, AllocError>
     ensures scope { IfOk result (λ _. scope.new ≡ scope.old) }
     ensures first { IfOk result (λ next. next
-        ≡ too_broad (of_names words.now) first
-        (in_app (of_names words.now) scope.old (application app.now))) }
+        ≡ too_broad (program_of_names words.now) first
+        (lambdas_in_application (program_of_names words.now) scope.old (application app.now))) }
 {
     let mut first = in_atom(alloc, words, scope, first, &app.head)?;
     for arg in app.args.as_slice() {
@@ -101,15 +101,15 @@ fn in_abstraction(
 ) -> Result<Option<u32>, AllocError>
     ensures scope { IfOk result (λ _. scope.new ≡ scope.old) }
     ensures first { IfOk result (λ next. next
-        ≡ too_broad (of_names words.now) first
+        ≡ too_broad (program_of_names words.now) first
         (abstraction scope.old params.now (expr_of body.now) at
-        ∷ in_expr (of_names words.now) (within (of_names words.now) params.now scope.old)
+        ∷ in_expr (program_of_names words.now) (within (program_of_names words.now) params.now scope.old)
         (expr_of body.now))) }
 {
     let most = MOST_PARAMETERS + 1;
     let free = first_free_names(alloc, words, scope, params, body, most)?;
     let is_broken = has_too_many(free.len(), params.len());
-    let here = earlier_where(is_broken, at, first);
+    let here = earlier_place_if(is_broken, at, first);
     let next = in_body(alloc, words, scope, here, params, body)?;
     Ok(next)
 }
@@ -126,8 +126,8 @@ fn in_body(
 ) -> Result<Option<u32>, AllocError>
     ensures scope { IfOk result (λ _. scope.new ≡ scope.old) }
     ensures first { IfOk result (λ next. next
-        ≡ too_broad (of_names words.now) first
-        (in_expr (of_names words.now) (within (of_names words.now) binders.now scope.old)
+        ≡ too_broad (program_of_names words.now) first
+        (in_expr (program_of_names words.now) (within (program_of_names words.now) binders.now scope.old)
         (expr_of body.now))) }
 {
     let depth = scope.len();
@@ -148,11 +148,11 @@ fn in_member(
 ) -> Result<Option<u32>, AllocError>
     ensures scope { IfOk result (λ _. scope.new ≡ scope.old) }
     ensures first { IfOk result (λ next. next
-        ≡ too_broad (of_names words.now) first
-        (in_group (of_names words.now) scope.old (member bind.now NoBinds))) }
+        ≡ too_broad (program_of_names words.now) first
+        (in_group (program_of_names words.now) scope.old (member bind.now NoBinds))) }
 {
     match bind {
-        Bind::Value(_, app) => in_app(alloc, words, scope, first, app),
+        Bind::Value(_, app) => lambdas_in_application(alloc, words, scope, first, app),
         Bind::Function(binder, params, body) => {
             in_abstraction(
                 alloc,
@@ -178,11 +178,11 @@ fn in_expr(
 ) -> Result<Option<u32>, AllocError>
     ensures scope { IfOk result (λ _. scope.new ≡ scope.old) }
     ensures first { IfOk result (λ next. next
-        ≡ too_broad (of_names words.now) first
-        (in_expr (of_names words.now) scope.old (expr_of expr.now))) }
+        ≡ too_broad (program_of_names words.now) first
+        (in_expr (program_of_names words.now) scope.old (expr_of expr.now))) }
 {
     match expr {
-        Expr::App(app) => in_app(alloc, words, scope, first, app),
+        Expr::App(app) => lambdas_in_application(alloc, words, scope, first, app),
         Expr::Let(group, body) => {
             let depth = scope.len();
             let binders = binders_of(alloc, group.as_slice())?;
@@ -216,8 +216,8 @@ fn in_alt(
 ) -> Result<Option<u32>, AllocError>
     ensures scope { IfOk result (λ _. scope.new ≡ scope.old) }
     ensures first { IfOk result (λ next. next
-        ≡ too_broad (of_names words.now) first
-        (in_alts (of_names words.now) scope.old (alternative alt.now NoAlts))) }
+        ≡ too_broad (program_of_names words.now) first
+        (in_alts (program_of_names words.now) scope.old (alternative alt.now NoAlts))) }
 {
     let binders = bound_by(alloc, &alt.pattern)?;
     let next = in_body(alloc, words, scope, first, binders.as_slice(), &alt.body)?;
@@ -226,14 +226,14 @@ fn in_alt(
 
 /// The first place of a lambda or a local function of these functions that has too many free names
 /// and parameters.
-pub fn first_too_broad(
+pub fn first_over_parameter_limit(
     alloc: Global,
     words: &Words,
     functions: &[Function],
 ) -> Result<Option<u32>, AllocError>
     ensures { IfOk result (λ first. first
-        ≡ too_broad (of_names words.now) None
-        (in_functions (of_names words.now) (map function_of functions.now))) }
+        ≡ too_broad (program_of_names words.now) None
+        (in_functions (program_of_names words.now) (map function_of functions.now))) }
 {
     let mut first = None;
     for function in functions {

@@ -4,10 +4,10 @@ ghost use Rattle.std.specs.Prelude.{◌≡◌, [], IfOk, length};
 ghost use Rattle.arity_check.specs.Known.{entered, all_entered};
 ghost use Rattle.arity_check.specs.Tables.{known};
 ghost use Rattle.lambda_lift.specs.Headers.{within, stands_for_local, is_local};
-ghost use Rattle.lambda_lift.specs.Gathered.{of_names};
+ghost use Rattle.lambda_lift.specs.Gathered.{program_of_names};
 
 use arity_check::globals::Globals;
-use arity_check::meaning::{Meaning, stands_for};
+use arity_check::meaning::{Meaning, meaning_of_name};
 use arity_check::scope::Scope;
 use core_reader::{Binder, Core, NameId, Names};
 use seq::Seq;
@@ -26,14 +26,14 @@ impl Model for Words {
     ghost use Rattle.std.specs.Prelude.{◌≡◌, List, ℕ};
     ghost use Rattle.arity_check.specs.Tables.{known};
     ghost use Rattle.arity_check.specs.Whole.{known_of};
-    ghost use Rattle.lambda_lift.specs.Headers.{headers};
-    ghost use Rattle.lambda_lift.specs.Gathered.{of_names};
+    ghost use Rattle.lambda_lift.specs.Headers.{program_headers};
+    ghost use Rattle.lambda_lift.specs.Gathered.{program_of_names};
 
     ghost Value = { List (List ℕ) };
 
     ghost view = { λ w. w.names };
 
-    ghost invariant = { λ w. known w.globals ≡ known_of (headers (of_names w.names)) };
+    ghost invariant = { λ w. known w.globals ≡ known_of (program_headers (program_of_names w.names)) };
 }
 
 impl Words {
@@ -70,15 +70,15 @@ impl Words {
 
     /// Whether a name stands for a local of this scope.
     pub fn is_local(&self, scope: &Scope, name: NameId) -> bool
-        ensures { result ≡ is_local (of_names self.now) scope.now name.0 }
+        ensures { result ≡ is_local (program_of_names self.now) scope.now name.0 }
     {
-        is_a_local(stands_for(&self.globals, scope, name))
+        is_a_local(meaning_of_name(&self.globals, scope, name))
     }
 
     /// The names of binders stand for locals from here on.
     pub fn enter_all(&self, scope: &mut Scope, binders: &[Binder]) -> Result<(), AllocError>
         ensures { IfOk result (λ _. scope.new
-            ≡ within (of_names self.now) binders.now scope.old) }
+            ≡ within (program_of_names self.now) binders.now scope.old) }
     {
         enter_all(scope, &self.globals, binders)?;
         Ok(())
@@ -87,7 +87,7 @@ impl Words {
 
 /// Whether a name with this meaning stands for a local.
 fn is_a_local(meaning: Meaning) -> bool
-    ensures { result ≡ stands_for_local (of_names []) meaning }
+    ensures { result ≡ stands_for_local (program_of_names []) meaning }
 {
     match meaning {
         Meaning::Local(_) => true,

@@ -11,8 +11,8 @@ use Rattle.core_reader.specs.declared.token.Lexeme.{Lexeme}
 use Rattle.core_reader.specs.declared.refusal.ReadRefusal.TheVariants.{Syntax, TooDeep}
 use Rattle.lambda_reader.specs.Tree.{Term, Terms, NoTerms, AndTerm, Group, NoBinds, AndValue, AndFunction, Expr, App, Let, Case, Alts, NoAlts, AndAlt}
 use Rattle.lambda_reader.specs.Tree as tree
-use Rattle.core_reader.specs.Grammar.{Room, lexeme, binders, SpellsPattern}
-use Rattle.lambda_reader.specs.Grammar.{IsSome, SpellsTerm, SpellsTerms, AfterMember, IsGroup, SpellsGroup, IsSomeAlts, AfterAlt, SpellsExpr, SpellsAlts}
+use Rattle.core_reader.specs.Grammar.{NestingLimit, lexeme, binders, SpellsPattern}
+use Rattle.lambda_reader.specs.Grammar.{HasParameter, SpellsTerm, SpellsTerms, AfterMember, IsGroup, SpellsGroup, IsNonemptyAlts, AfterAlt, SpellsExpr, SpellsAlts}
 use Rattle.core_reader.specs.Machine.{starts_atom}
 use Rattle.lambda_reader.specs.Machine.{Cont, LetBody, Scrutinee, AltBody, LambdaBody, FunctionBody, nests, Frame, InBody, InBind, Inside, opens, BindName, FunctionNames, LambdaNames, Ended, AltStart, AltNames, give, State, Apply, go, stop, step, follow, run, with_last, ◌⊹◌, ◌⊕◌}
 use Rattle.core_reader.proofs.ReadingOf.{takes_names, reads_names}
@@ -58,15 +58,15 @@ alts_then : (xs ys zs : Alts) → (xs ⊹ ys) ⊹ zs ≡ xs ⊹ (ys ⊹ zs)
 alts_then NoAlts ys zs = refl
 alts_then (AndAlt p e xs) ys zs = ap (AndAlt p e) (alts_then xs ys zs)
 
-pub alts_last : (xs : Alts) (p : Pattern) (e : Expr) → IsSomeAlts (xs ⊹ AndAlt p e NoAlts)
+pub alts_last : (xs : Alts) (p : Pattern) (e : Expr) → IsNonemptyAlts (xs ⊹ AndAlt p e NoAlts)
 alts_last NoAlts p e = tt
 alts_last (AndAlt q f xs) p e = tt
 
-alts_more : (xs ys : Alts) → IsSomeAlts xs → IsSomeAlts (xs ⊹ ys)
+alts_more : (xs ys : Alts) → IsNonemptyAlts xs → IsNonemptyAlts (xs ⊹ ys)
 alts_more NoAlts ys h = absurd h
 alts_more (AndAlt q f xs) ys h = tt
 
-module _ (lambdas : Bool) (l : Room) where
+module _ (lambdas : Bool) (l : NestingLimit) where
   closes : (k : Frame) (held : Terms) (at : ℕ) (a : Term) (xs : Terms) (end : ℕ) (rest : List Lexeme)
       → run lambdas l (Apply (Inside k held at) (AndTerm a xs)) (lexeme end word.Close ∷ rest) ≡ run lambdas l (Apply k (with_last held (tree.Bracket a xs at))) rest
   unfolding run
@@ -119,7 +119,7 @@ module _ (lambdas : Bool) (l : Room) where
   unfolding run
   after_value k sofar b a xs = (λ q rest. refl, λ q rest. refl)
 
-  brace_after : (k : Cont) (s : Expr) (xs : Alts) (q : ℕ) (rest : List Lexeme) → IsSomeAlts xs → run lambdas l (AltStart k s xs) (lexeme q word.CloseBrace ∷ rest) ≡ run lambdas l (Ended k (Case s xs)) rest
+  brace_after : (k : Cont) (s : Expr) (xs : Alts) (q : ℕ) (rest : List Lexeme) → IsNonemptyAlts xs → run lambdas l (AltStart k s xs) (lexeme q word.CloseBrace ∷ rest) ≡ run lambdas l (Ended k (Case s xs)) rest
   unfolding run
   brace_after k s NoAlts q rest h = absurd h
   brace_after k s (AndAlt p e xs) q rest h = refl
@@ -137,7 +137,7 @@ module _ (lambdas : Bool) (l : Room) where
 
   next_alt : (k : Cont) (s : Expr) (sofar : Alts) (p : Pattern) (e : Expr) (xs : Alts) (vs semi ws : List Lexeme) (q : ℕ) (rest : List Lexeme) → AfterAlt xs semi → SpellsAlts lambdas l (suc (nests k)) xs ws
       → ((x : Lexeme) (after : List Lexeme) → starts_atom x.token ≡ false → run lambdas l (Apply (InBody (AltBody k s sofar p)) NoTerms) (vs ++ x ∷ after) ≡ follow (give (AltBody k s sofar p) e x.at x.token) (x ∷ after) (λ st. run lambdas l st after))
-      → ((front : Alts) → IsSomeAlts front → run lambdas l (AltStart k s front) (ws ++ lexeme q word.CloseBrace ∷ rest) ≡ run lambdas l (Ended k (Case s (front ⊹ xs))) rest)
+      → ((front : Alts) → IsNonemptyAlts front → run lambdas l (AltStart k s front) (ws ++ lexeme q word.CloseBrace ∷ rest) ≡ run lambdas l (Ended k (Case s (front ⊹ xs))) rest)
       → run lambdas l (Apply (InBody (AltBody k s sofar p)) NoTerms) (vs ++ (semi ++ (ws ++ lexeme q word.CloseBrace ∷ rest))) ≡ run lambdas l (Ended k (Case s (sofar ⊹ AndAlt p e xs))) rest
   next_alt k s sofar p e NoAlts vs semi ws q rest (inl f) h body ih =
       ap (λ w. run lambdas l (Apply (InBody (AltBody k s sofar p)) NoTerms) (vs ++ (w ++ (ws ++ lexeme q word.CloseBrace ∷ rest)))) f
@@ -163,12 +163,12 @@ module _ (lambdas : Bool) (l : Room) where
   unfolding run
   names_lambda k held p at ts e = ap (λ b. follow (cond b (go (LambdaNames k held at [])) (stop (Syntax at))) (lexeme at (word.Further Backslash) ∷ ts) (λ s. run lambdas l s ts)) e
 
-  arrow_lambda : (k : Frame) (held : Terms) (at : ℕ) (params : List Binder) (q : ℕ) (ts : List Lexeme) → IsSome params → run lambdas l (LambdaNames k held at params) (lexeme q word.Arrow ∷ ts) ≡ run lambdas l (Apply (InBody (LambdaBody k held at params)) NoTerms) ts
+  arrow_lambda : (k : Frame) (held : Terms) (at : ℕ) (params : List Binder) (q : ℕ) (ts : List Lexeme) → HasParameter params → run lambdas l (LambdaNames k held at params) (lexeme q word.Arrow ∷ ts) ≡ run lambdas l (Apply (InBody (LambdaBody k held at params)) NoTerms) ts
   unfolding run
   arrow_lambda k held at [] q ts h = absurd h
   arrow_lambda k held at (b ∷ params) q ts h = refl
 
-  begins_lambda : (k : Frame) (held : Terms) (at : ℕ) (params : List Binder) (start arrow : ℕ) (ts : List Lexeme) → lambdas ≡ true → l (opens k) ≡ true → IsSome params
+  begins_lambda : (k : Frame) (held : Terms) (at : ℕ) (params : List Binder) (start arrow : ℕ) (ts : List Lexeme) → lambdas ≡ true → l (opens k) ≡ true → HasParameter params
       → run lambdas l (Apply k held) (lexeme start word.Open ∷ lexeme at (word.Further Backslash) ∷ (binders params ++ (lexeme arrow word.Arrow ∷ ts))) ≡ run lambdas l (Apply (InBody (LambdaBody k held at params)) NoTerms) ts
   unfolding run
   begins_lambda k held at params start arrow ts on room some =
@@ -178,7 +178,7 @@ module _ (lambdas : Bool) (l : Room) where
       ∙ arrow_lambda k held at params arrow ts some
 
   -- a local function up to its body
-  begins_function : (k : Cont) (bs : Group) (b : Binder) (params : List Binder) (equals : ℕ) (ts : List Lexeme) → lambdas ≡ true → IsSome params
+  begins_function : (k : Cont) (bs : Group) (b : Binder) (params : List Binder) (equals : ℕ) (ts : List Lexeme) → lambdas ≡ true → HasParameter params
       → run lambdas l (BindName k bs) (lexeme b.at (word.Name b.name) ∷ (binders params ++ (lexeme equals word.Equals ∷ ts))) ≡ run lambdas l (Apply (InBody (FunctionBody k bs b.name b.at params)) NoTerms) ts
   unfolding run
   begins_function k bs b [] equals ts on some = absurd some
@@ -300,11 +300,11 @@ module _ (lambdas : Bool) (l : Room) where
         ∙ reads_body (Scrutinee k) e us (lexeme h.1 word.Of) (lexeme h.2 word.OpenBrace ∷ tail) h.8 refl
         ∙ reads_alts k e NoAlts alts vs h.3 (x ∷ rest) h.7 h.9
 
-    pub reads_alts : (k : Cont) (s : Expr) (sofar : Alts) (alts : Alts) (ts : List Lexeme) (q : ℕ) (rest : List Lexeme) → IsSomeAlts (sofar ⊹ alts) → SpellsAlts lambdas l (suc (nests k)) alts ts
+    pub reads_alts : (k : Cont) (s : Expr) (sofar : Alts) (alts : Alts) (ts : List Lexeme) (q : ℕ) (rest : List Lexeme) → IsNonemptyAlts (sofar ⊹ alts) → SpellsAlts lambdas l (suc (nests k)) alts ts
         → run lambdas l (AltStart k s sofar) (ts ++ lexeme q word.CloseBrace ∷ rest) ≡ run lambdas l (Ended k (Case s (sofar ⊹ alts))) rest
     reads_alts k s sofar NoAlts ts q rest some h =
         ap (λ w. run lambdas l (AltStart k s sofar) (w ++ lexeme q word.CloseBrace ∷ rest)) h
-        ∙ brace_after k s sofar q rest (subst IsSomeAlts (alts_none sofar) some)
+        ∙ brace_after k s sofar q rest (subst IsNonemptyAlts (alts_none sofar) some)
         ∙ ap (λ w. run lambdas l (Ended k (Case s w)) rest) (sym (alts_none sofar))
     reads_alts k s sofar (AndAlt p e xs) ts q rest some h =
         let us = h.0 in

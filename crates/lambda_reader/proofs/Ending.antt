@@ -8,9 +8,9 @@ use Rattle.core_reader.specs.declared.syntax.Pattern.TheVariants as pattern
 use Rattle.core_reader.specs.declared.token.Lexeme.{Lexeme}
 use Rattle.lambda_reader.specs.Tree.{Term, Terms, NoTerms, AndTerm, Group, Expr, App, Let, Case, NoAlts, AndAlt}
 use Rattle.lambda_reader.specs.Tree as tree
-use Rattle.core_reader.specs.Grammar.{Room, lexeme, name_id}
+use Rattle.core_reader.specs.Grammar.{NestingLimit, lexeme, name_id}
 use Rattle.core_reader.specs.TokensOf.{Piece}
-use Rattle.core_reader.specs.WordsOf.{said, said_by_letters, keyword_of, number_in}
+use Rattle.core_reader.specs.WordsOf.{said, keyword_or_name, keyword_of, number_in}
 use Rattle.core_reader.specs.Machine.{starts_atom, front}
 use Rattle.lambda_reader.specs.Machine.{Cont, Outermost, LetBody, Scrutinee, AltBody, LambdaBody, FunctionBody, Frame, InBody, InBind, Inside, BindName, BindEquals, FunctionNames, LambdaNames, Ended, Brace, AltStart, AltNames, AltArrow, State, Apply, run, with_last, ◌⊹◌, ◌⊕◌, value, local_function}
 use Rattle.core_reader.proofs.Ending.{piece, constructor}
@@ -62,7 +62,7 @@ more_last NoTerms a = tt
 more_last (AndTerm b xs) a = tt
 
 -- with the words and signs of any dialect, before a token that goes on with no application
-module _ (lambdas : Bool) (d : Dialect) (names : List (List ℕ)) (x : Lexeme) (rest : List Lexeme) (other : starts_atom x.token ≡ false) (l : Room) where
+module _ (lambdas : Bool) (d : Dialect) (names : List (List ℕ)) (x : Lexeme) (rest : List Lexeme) (other : starts_atom x.token ≡ false) (l : NestingLimit) where
   abbrev before : List Piece → List Lexeme
   before us = map (said d names) us ++ x ∷ rest
 
@@ -135,13 +135,13 @@ module _ (lambdas : Bool) (d : Dialect) (names : List (List ℕ)) (x : Lexeme) (
   ends (Apply k held) = ends_app_of k held
   ends (BindName k binds) =
       let more = piece (codes "=") ∷ constructor ∷ piece (codes "in") ∷ constructor ∷ closing k in
-      subst (λ o. Reaches (BindName k binds) (lexeme 0 (said_by_letters names (codes "a") o) ∷ before more)) (sym (no_keyword d))
+      subst (λ o. Reaches (BindName k binds) (lexeme 0 (keyword_or_name names (codes "a") o) ∷ before more)) (sym (no_keyword d))
       (ends_app_of (InBind k binds (name_id (number_in names (codes "a"))) 0) NoTerms)
   ends (BindEquals k binds n p) = ends_app_of (InBind k binds n p) NoTerms
   ends (FunctionNames k binds n p params) = begins_at (FunctionBody k binds n p params)
   ends (LambdaNames k held p params) =
       let more = piece (codes "->") ∷ constructor ∷ piece (codes ")") ∷ closing_frame k in
-      subst (λ o. Reaches (LambdaNames k held p params) (lexeme 0 (said_by_letters names (codes "a") o) ∷ before more)) (sym (no_keyword d))
+      subst (λ o. Reaches (LambdaNames k held p params) (lexeme 0 (keyword_or_name names (codes "a") o) ∷ before more)) (sym (no_keyword d))
       (arrow k held p params (record { name = name_id (number_in names (codes "a")); at = 0 }))
   ends (Ended k e) = ends_cont k e
   ends (Brace k e) = begins_at (AltBody k e NoAlts (pattern.Con (record { name = name_id (number_in names (codes "A")); at = 0 }) []))

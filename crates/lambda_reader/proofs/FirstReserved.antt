@@ -7,13 +7,13 @@ use Rattle.seq.specs.Lists.{or_empty}
 use Rattle.core_reader.specs.declared.dialect.Dialect.TheVariants.{Lambdas}
 use Rattle.core_reader.specs.declared.look.Sign as sign
 use Rattle.core_reader.specs.declared.look.Sign.TheVariants as signs
-use Rattle.core_reader.specs.declared.look.Kind.{Kind}
-use Rattle.core_reader.specs.declared.look.Kind.TheVariants.{Lower, Upper, Digits, Sign}
+use Rattle.core_reader.specs.declared.look.TokenKind.{TokenKind}
+use Rattle.core_reader.specs.declared.look.TokenKind.TheVariants.{Lower, Upper, Digits, Sign}
 use Rattle.core_reader.specs.declared.token.Token.{Token}
 use Rattle.core_reader.specs.declared.token.Token.TheVariants as word
 use Rattle.core_reader.specs.declared.token.Lexeme.{Lexeme}
 use Rattle.core_reader.specs.TokensOf.{Piece, Reads, Stops, Passes, Takes, IsTokens, kind_of}
-use Rattle.core_reader.specs.WordsOf.{said, said_by, said_by_letters, keyword_of, sign_token}
+use Rattle.core_reader.specs.WordsOf.{said, said_by, keyword_or_name, keyword_of, sign_token}
 use Rattle.core_reader.specs.NamesOf.{is_numbered_by}
 use Rattle.core_reader.specs.LexedOf.{StopsAt, AtEnd, AtBad, AtLarge, IsLexed}
 use Rattle.core_reader.proofs.NamingOf.{Texts, has, EachHeld, each_held}
@@ -40,12 +40,12 @@ sign_not names signs.Backslash e = cc
 sign_not names signs.Bar e = cc
 sign_not names signs.Colon e = cc
 
-by_letters : (names : Texts) (w : List ℕ) (o : Option Token) → IsKeyword o → kind_of Lambdas w ≡ Some Lower → (is_none o ≡ true → has names w ≡ true) → is_reserved_token names (said_by_letters names w o) ≡ true → IsReserved w
+by_letters : (names : Texts) (w : List ℕ) (o : Option Token) → IsKeyword o → kind_of Lambdas w ≡ Some Lower → (is_none o ≡ true → has names w ≡ true) → is_reserved_token names (keyword_or_name names w o) ≡ true → IsReserved w
 by_letters names w None k l h e = by_bytes w l (sym (ap (λ v. is_reserved (or_empty v)) (at_number names w (h refl))) ∙ e)
 by_letters names w (Some (word.Name n)) k l h e = absurd k
 by_letters names w (Some token) k l h e = absurd cc
 
-by_kind : (names : Texts) (w : List ℕ) (o : Option Kind) → kind_of Lambdas w ≡ o → (is_numbered_by Lambdas w o ≡ true → has names w ≡ true) → is_reserved_token names (said_by Lambdas names w o) ≡ true → IsReserved w
+by_kind : (names : Texts) (w : List ℕ) (o : Option TokenKind) → kind_of Lambdas w ≡ o → (is_numbered_by Lambdas w o ≡ true → has names w ≡ true) → is_reserved_token names (said_by Lambdas names w o) ≡ true → IsReserved w
 by_kind names w None k h e = absurd cc
 by_kind names w (Some Lower) k h e = by_letters names w (keyword_of Lambdas w) (keyword_is_word Lambdas w) k h e
 by_kind names w (Some Upper) k h e = absurd cc
@@ -61,7 +61,7 @@ says names w r held =
     let no_keyword : keyword_of Lambdas w ≡ None = ap (keyword_of Lambdas) r.2 ∙ no_word r.0 in
     let known : has names w ≡ true = held (ap (is_numbered_by Lambdas w) r.1 ∙ ap is_none no_keyword) in
     ap (λ k. is_reserved_token names (said_by Lambdas names w k)) r.1
-    ∙ ap (λ o. is_reserved_token names (said_by_letters names w o)) no_keyword
+    ∙ ap (λ o. is_reserved_token names (keyword_or_name names w o)) no_keyword
     ∙ ap (λ v. is_reserved (or_empty v)) (at_number names w known)
     ∙ (starts_is Decides-eqb w (codes "lift'") (is_reserved w) refl).1 r.0 r.2
 

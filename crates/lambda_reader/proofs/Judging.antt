@@ -8,7 +8,7 @@ use Rattle.core_reader.specs.declared.refusal.ReadRefusal.TheVariants.{Syntax, N
 use Rattle.core_reader.specs.declared.token.Further.TheVariants.{Backslash}
 use Rattle.lambda_reader.specs.Tree.{NoTerms, AndTerm, NoBinds, AndValue, AndFunction, Expr, App, Let, NoAlts, AndAlt}
 use Rattle.lambda_reader.specs.Tree as tree
-use Rattle.core_reader.specs.Grammar.{anywhere, at_most_200}
+use Rattle.core_reader.specs.Grammar.{unlimited_nesting, at_most_200}
 use Rattle.core_reader.specs.Machine.{refused}
 use Rattle.lambda_reader.specs.Machine.{Cont, Outermost, LetBody, Scrutinee, AltBody, LambdaBody, FunctionBody, nests, InBody, InBind, Inside, opens, BindName, BindEquals, FunctionNames, LambdaNames, Ended, Brace, AltStart, AltNames, AltArrow, give, State, Apply, go, done, stop, step, with_last}
 use Rattle.core_reader.proofs.ReadingOf.{IsLast, Verdict, Plain, refused_plain, by_plain, opened, Accepts}
@@ -26,7 +26,7 @@ gives_plain k e at token = refused_plain State Expr at token
 
 module _ (lambdas : Bool) where
   -- a step that the switch allows or refuses
-  switched : (b : Bool) (s next : State) (at : ℕ) (token : Token) → step lambdas anywhere s at token ≡ cond b (go next) (stop (Syntax at)) → (token ≡ word.Bad → ⊥) → Verdict (step lambdas) s at token (cond b (go next) (stop (Syntax at)))
+  switched : (b : Bool) (s next : State) (at : ℕ) (token : Token) → step lambdas unlimited_nesting s at token ≡ cond b (go next) (stop (Syntax at)) → (token ≡ word.Bad → ⊥) → Verdict (step lambdas) s at token (cond b (go next) (stop (Syntax at)))
   switched true s next at token e h = e
   switched false s next at token e h = (refl, e, h)
 
@@ -75,7 +75,7 @@ module _ (lambdas : Bool) where
   give_large (FunctionBody k binds n q params) e at p minus h = cc
 
   -- where an integer out of the range may stand, that number may
-  pub large_goes : (s : State) (at p : ℕ) (minus : Bool) (v : ℤ) → step lambdas anywhere s at (word.Large minus) ≡ stop (NumberRange p) → (minus ≡ false → (n : ℕ) × (v ≡ pos n)) → Accepts (step lambdas) s at minus v
+  pub large_goes : (s : State) (at p : ℕ) (minus : Bool) (v : ℤ) → step lambdas unlimited_nesting s at (word.Large minus) ≡ stop (NumberRange p) → (minus ≡ false → (n : ℕ) × (v ≡ pos n)) → Accepts (step lambdas) s at minus v
   large_goes (Apply k held) at p minus v h f = (Apply k (with_last held (tree.Int v at)), refl)
   large_goes (AltStart k s alts) at p minus v h f = (AltArrow k s alts (pattern.Int v at), refl)
   large_goes (BindName k NoBinds) at p minus v h f = absurd cc
@@ -98,7 +98,7 @@ module _ (lambdas : Bool) where
   give_number (LambdaBody k held q params) e at p minus v h = h
   give_number (FunctionBody k binds n q params) e at p minus v h = h
 
-  pub large_stops : (s : State) (at p : ℕ) (minus : Bool) (v : ℤ) → step lambdas anywhere s at (word.Large minus) ≡ stop (Syntax p) → step lambdas anywhere s at (word.Number minus v) ≡ stop (Syntax p)
+  pub large_stops : (s : State) (at p : ℕ) (minus : Bool) (v : ℤ) → step lambdas unlimited_nesting s at (word.Large minus) ≡ stop (Syntax p) → step lambdas unlimited_nesting s at (word.Number minus v) ≡ stop (Syntax p)
   large_stops (Apply k held) at p minus v h = absurd cc
   large_stops (AltStart k s alts) at p minus v h = absurd cc
   large_stops (BindName k NoBinds) at p minus v h = h
@@ -122,7 +122,7 @@ module _ (lambdas : Bool) where
   give_done (FunctionBody k binds n q params) e at minus v f h = absurd cc
 
   -- an expression that is whole before it is whole before that number
-  pub large_done : (s : State) (at : ℕ) (minus : Bool) (v : ℤ) (f : Expr) → step lambdas anywhere s at (word.Large minus) ≡ done f → step lambdas anywhere s at (word.Number minus v) ≡ done f
+  pub large_done : (s : State) (at : ℕ) (minus : Bool) (v : ℤ) (f : Expr) → step lambdas unlimited_nesting s at (word.Large minus) ≡ done f → step lambdas unlimited_nesting s at (word.Number minus v) ≡ done f
   large_done (Apply k held) at minus v f h = absurd cc
   large_done (AltStart k s alts) at minus v f h = absurd cc
   large_done (BindName k NoBinds) at minus v f h = absurd cc

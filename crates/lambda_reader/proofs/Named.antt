@@ -6,7 +6,7 @@ use Rattle.core_reader.specs.declared.token.Token.{Token}
 use Rattle.core_reader.specs.declared.token.Token.TheVariants as word
 use Rattle.core_reader.specs.declared.token.Lexeme.{Lexeme}
 use Rattle.core_reader.specs.declared.refusal.ReadRefusal.{ReadRefusal}
-use Rattle.core_reader.specs.Grammar.{Room, at_most_200, lexeme, binders}
+use Rattle.core_reader.specs.Grammar.{NestingLimit, at_most_200, lexeme, binders}
 use Rattle.core_reader.specs.Machine.{front, behind, refusal, starts_atom, is_name, Fails}
 use Rattle.core_reader.proofs.ReadingOf.{takes_names, reads_names}
 use Rattle.core_reader.proofs.Taking.{fails_from}
@@ -21,7 +21,7 @@ use Rattle.lambda_reader.proofs.TreeOf.{member_of-Value, member_of-Function}
 use Rattle.lambda_reader.proofs.Taking.{takes, refuses}
 use Rattle.lambda_reader.proofs.Taken.{no_equals, no_function_equals, no_next, no_function_end}
 
-module _ (l : Room) where
+module _ (l : NestingLimit) where
   pub lambda_names : (k : Frame) (held : Terms) (p : ℕ) (params : List Binder) (old new : List Lexeme) → old ≡ binders params ++ new → run true l (LambdaNames k held p []) old ≡ run true l (LambdaNames k held p params) new
   unfolding run
   lambda_names k held p params old new e = reads_names (run true l) (LambdaNames k held p) (λ names n at rest. refl) params old new e

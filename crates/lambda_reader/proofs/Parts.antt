@@ -6,7 +6,7 @@ use Rattle.core_reader.specs.declared.syntax.Binder.{Binder}
 use Rattle.core_reader.specs.declared.syntax.Pattern.{Pattern}
 use Rattle.core_reader.specs.declared.token.Token.TheVariants as word
 use Rattle.core_reader.specs.declared.token.Lexeme.{Lexeme}
-use Rattle.core_reader.specs.Grammar.{Room}
+use Rattle.core_reader.specs.Grammar.{NestingLimit}
 use Rattle.core_reader.specs.Machine.{behind}
 use Rattle.lambda_reader.specs.declared.syntax.Atom.{Atom}
 use Rattle.lambda_reader.specs.declared.syntax.Atom.TheVariants as atoms
@@ -55,7 +55,7 @@ pub behind_shorter : (ts : List Lexeme) → length (behind ts) ≤ length ts
 behind_shorter [] = omega arith
 behind_shorter (t ∷ ts) = omega arith
 
-module _ (lambdas : Bool) (l : Room) where
+module _ (lambdas : Bool) (l : NestingLimit) where
   pub pushed : (k : Frame) (h : Term) (items new : List Atom) (a : Atom) (ts : List Lexeme) → new ≡ items ++ a ∷ []
       → run lambdas l (Apply k (with_last (AndTerm h (terms items)) (term a))) ts ≡ run lambdas l (Apply k (AndTerm h (terms new))) ts
   pushed k h items new a ts e = ap (λ xs. run lambdas l (Apply k (AndTerm h xs)) ts) (sym (terms_last items a) ∙ ap terms (sym e))

@@ -2,12 +2,12 @@
 use Rattle.std.proofs.Common.{◌≡◌, ℕ, Bool, true, false, List, [], ◌∷◌, ◌++◌, refl, append_assoc}
 use Rattle.core_reader.specs.declared.token.Lexeme.{Lexeme}
 use Rattle.core_reader.specs.Tree as core
-use Rattle.core_reader.specs.Grammar.{Room}
+use Rattle.core_reader.specs.Grammar.{NestingLimit}
 use Rattle.core_reader.specs.Grammar as grammar
 use Rattle.lambda_reader.specs.Tree.{Term, Terms, NoTerms, AndTerm, Group, NoBinds, AndValue, AndFunction, Expr, App, Let, Case, Alts, NoAlts, AndAlt}
 use Rattle.lambda_reader.specs.Tree as tree
-use Rattle.lambda_reader.specs.Grammar.{SpellsTerm, SpellsTerms, AfterMember, IsGroup, SpellsGroup, IsSomeAlts, AfterAlt, SpellsExpr, SpellsAlts}
-use Rattle.lambda_reader.specs.Plain.{embed_term, embed_terms, embed_group, embed, embed_alts, plain_term, plain_terms, plain_group, plain, plain_alts}
+use Rattle.lambda_reader.specs.Grammar.{SpellsTerm, SpellsTerms, AfterMember, IsGroup, SpellsGroup, IsNonemptyAlts, AfterAlt, SpellsExpr, SpellsAlts}
+use Rattle.lambda_reader.specs.Plain.{embed_term, embed_terms, group_from_core, embed, embed_alts, plain_term, plain_terms, group_to_core, plain, plain_alts}
 
 -- ---- the tree that was embedded
 
@@ -22,7 +22,7 @@ mutual
   plain_embed_terms core.NoTerms = refl
   plain_embed_terms (core.AndTerm a xs) = λ i. core.AndTerm (plain_embed_term a i) (plain_embed_terms xs i)
 
-plain_embed_group : (bs : List core.Bind) → plain_group (embed_group bs) ≡ bs
+plain_embed_group : (bs : List core.Bind) → group_to_core (group_from_core bs) ≡ bs
 plain_embed_group [] = refl
 plain_embed_group (b ∷ bs) = λ i. record { binder = b.binder; app = record { head = plain_embed_term b.app.head i; args = plain_embed_terms b.app.args i } } ∷ plain_embed_group bs i
 
@@ -36,7 +36,7 @@ mutual
   plain_embed_alts core.NoAlts = refl
   plain_embed_alts (core.AndAlt p e xs) = λ i. core.AndAlt p (plain_embed e i) (plain_embed_alts xs i)
 
-module _ (l : Room) where
+module _ (l : NestingLimit) where
   -- ---- Core is spelled so
 
   mutual
@@ -50,15 +50,15 @@ module _ (l : Room) where
     embedded_terms lambdas d core.NoTerms ts h = h
     embedded_terms lambdas d (core.AndTerm a xs) ts h = (h.0, h.1, embedded_term lambdas d a h.0 h.2, embedded_terms lambdas d xs h.1 h.3, h.4)
 
-  embedded_after : (bs : List core.Bind) (ts : List Lexeme) → grammar.AfterBind bs ts → AfterMember (embed_group bs) ts
+  embedded_after : (bs : List core.Bind) (ts : List Lexeme) → grammar.AfterBind bs ts → AfterMember (group_from_core bs) ts
   embedded_after [] ts h = h
   embedded_after (b ∷ bs) ts h = h
 
-  embedded_some : (bs : List core.Bind) → grammar.IsGroup bs → IsGroup (embed_group bs)
+  embedded_some : (bs : List core.Bind) → grammar.IsGroup bs → IsGroup (group_from_core bs)
   embedded_some [] h = h
   embedded_some (b ∷ bs) h = h
 
-  embedded_group : (lambdas : Bool) (d : ℕ) (bs : List core.Bind) (ts : List Lexeme) → grammar.SpellsBinds l d bs ts → SpellsGroup lambdas l d (embed_group bs) ts
+  embedded_group : (lambdas : Bool) (d : ℕ) (bs : List core.Bind) (ts : List Lexeme) → grammar.SpellsBinds l d bs ts → SpellsGroup lambdas l d (group_from_core bs) ts
   embedded_group lambdas d [] ts h = h
   embedded_group lambdas d (b ∷ bs) ts h =
       let bind = h.3 in
@@ -69,7 +69,7 @@ module _ (l : Room) where
   embedded_alt core.NoAlts ts h = h
   embedded_alt (core.AndAlt p e xs) ts h = h
 
-  embedded_some_alts : (xs : core.Alts) → grammar.IsSomeAlts xs → IsSomeAlts (embed_alts xs)
+  embedded_some_alts : (xs : core.Alts) → grammar.IsNonemptyAlts xs → IsNonemptyAlts (embed_alts xs)
   embedded_some_alts core.NoAlts h = h
   embedded_some_alts (core.AndAlt p e xs) h = h
 
@@ -99,17 +99,17 @@ module _ (l : Room) where
     plain_is_terms d NoTerms ts h = h
     plain_is_terms d (AndTerm a xs) ts h = (h.0, h.1, plain_is_term d a h.0 h.2, plain_is_terms d xs h.1 h.3, h.4)
 
-  plain_is_after : (d : ℕ) (bs : Group) (us ts : List Lexeme) → SpellsGroup false l d bs us → AfterMember bs ts → grammar.AfterBind (plain_group bs) ts
+  plain_is_after : (d : ℕ) (bs : Group) (us ts : List Lexeme) → SpellsGroup false l d bs us → AfterMember bs ts → grammar.AfterBind (group_to_core bs) ts
   plain_is_after d NoBinds us ts g h = h
   plain_is_after d (AndValue b head args rest) us ts g h = h
   plain_is_after d (AndFunction b params body rest) us ts g h = absurd (let off : false ≡ true = g.4 in cc)
 
-  plain_is_some : (d : ℕ) (bs : Group) (us : List Lexeme) → SpellsGroup false l d bs us → IsGroup bs → grammar.IsGroup (plain_group bs)
+  plain_is_some : (d : ℕ) (bs : Group) (us : List Lexeme) → SpellsGroup false l d bs us → IsGroup bs → grammar.IsGroup (group_to_core bs)
   plain_is_some d NoBinds us g h = h
   plain_is_some d (AndValue b head args rest) us g h = h
   plain_is_some d (AndFunction b params body rest) us g h = absurd (let off : false ≡ true = g.4 in cc)
 
-  plain_is_group : (d : ℕ) (bs : Group) (ts : List Lexeme) → SpellsGroup false l d bs ts → grammar.SpellsBinds l d (plain_group bs) ts
+  plain_is_group : (d : ℕ) (bs : Group) (ts : List Lexeme) → SpellsGroup false l d bs ts → grammar.SpellsBinds l d (group_to_core bs) ts
   plain_is_group d NoBinds ts h = h
   plain_is_group d (AndValue b head args rest) ts h =
       let us : List Lexeme = h.1 ++ h.2 in
@@ -120,7 +120,7 @@ module _ (l : Room) where
   plain_is_alt NoAlts ts h = h
   plain_is_alt (AndAlt p e xs) ts h = h
 
-  plain_is_some_alts : (xs : Alts) → IsSomeAlts xs → grammar.IsSomeAlts (plain_alts xs)
+  plain_is_some_alts : (xs : Alts) → IsNonemptyAlts xs → grammar.IsNonemptyAlts (plain_alts xs)
   plain_is_some_alts NoAlts h = h
   plain_is_some_alts (AndAlt p e xs) h = h
 

@@ -9,8 +9,8 @@ use Rattle.core_reader.specs.declared.syntax.Pattern.{Pattern}
 use Rattle.core_reader.specs.declared.syntax.Pattern.TheVariants as pattern
 use Rattle.core_reader.specs.declared.token.Token.TheVariants as word
 use Rattle.core_reader.specs.declared.token.Lexeme.{Lexeme}
-use Rattle.core_reader.specs.Different.{AreDifferent}
-use Rattle.core_reader.specs.Grammar.{Room, lexeme, binders, SpellsPattern}
+use Rattle.core_reader.specs.Different.{AreDistinct}
+use Rattle.core_reader.specs.Grammar.{NestingLimit, lexeme, binders, SpellsPattern}
 use Rattle.core_reader.specs.TokensOf.{Piece}
 use Rattle.core_reader.specs.WordsOf.{said, IsInRange}
 use Rattle.core_reader.specs.LexedOf.{AreInRange}
@@ -27,7 +27,7 @@ use Rattle.lambda_reader.specs.Readable.{ReadableTerm, ReadableTerms, ReadableGr
 
 -- ---- what the grammar derives from tokens that are known
 
-module _ (names : Texts) (l : Room) where
+module _ (names : Texts) (l : NestingLimit) where
   mutual
     term_readable : (d : ℕ) (a : Term) (ts : List Lexeme) → SpellsTerm true l d a ts → EachKnown names ts → ReadableTerm names a
     term_readable d (tree.Name n at) ts h k = (subst (EachKnown names) h k).0
@@ -97,7 +97,7 @@ abbrev EachReadable : Texts → List Decl → Type 0
 EachReadable names [] = Unit {0}
 EachReadable names (d ∷ ds) = ReadableDecl names d × EachReadable names ds
 
-decl_readable : (names : Texts) (l : Room) (d : Decl) (ts : List Lexeme) → SpellsDecl l d ts → EachKnown names ts → ReadableDecl names d
+decl_readable : (names : Texts) (l : NestingLimit) (d : Decl) (ts : List Lexeme) → SpellsDecl l d ts → EachKnown names ts → ReadableDecl names d
 decl_readable names l (Declares d) ts h k =
     let k2 = subst (EachKnown names) h.3 k in
     let r : IsInRange (pos d.fields) = k2.1.1.0 in
@@ -109,7 +109,7 @@ decl_readable names l (Defines f) ts h k =
     let k3 = back_known names (binders f.params) rest k2.1 in
     (k2.0, binders_readable names f.params (front_known names (binders f.params) rest k2.1), expr_readable names l 0 f.body h.2 h.3 (front_known names h.2 close k3.1))
 
-decls_readable : (names : Texts) (l : Room) (ds : List Decl) (ts : List Lexeme) → SpellsDecls l ds ts → EachKnown names ts → EachReadable names ds
+decls_readable : (names : Texts) (l : NestingLimit) (ds : List Decl) (ts : List Lexeme) → SpellsDecls l ds ts → EachKnown names ts → EachReadable names ds
 decls_readable names l [] ts h k = tt
 decls_readable names l (d ∷ ds) ts h k =
     let k2 = subst (EachKnown names) h.4 k in
@@ -132,7 +132,7 @@ pattern_small (pattern.Con c fields) ts h = omega (arith, ap length h, binders_l
 pattern_small (pattern.Int v at) ts h = omega (arith, ap length h.1)
 pattern_small (pattern.Default x) ts h = omega (arith, ap length h)
 
-module _ (l : Room) where
+module _ (l : NestingLimit) where
   mutual
     term_small : (d : ℕ) (a : Term) (ts : List Lexeme) → SpellsTerm true l d a ts → term_size a ≤ length ts
     term_small d (tree.Name n at) ts h = omega (arith, ap length h)
@@ -190,7 +190,7 @@ module _ (l : Room) where
         let e3 = alts_small d xs h.3 h.8 in
         omega (arith, e1, e2, e3, ap length h.9, length-append h.0 (lexeme h.4 word.Arrow ∷ (h.1 ++ (h.2 ++ h.3))), length-append h.1 (h.2 ++ h.3), length-append h.2 h.3)
 
-decls_small : (l : Room) (ds : List Decl) (ts : List Lexeme) → SpellsDecls l ds ts → 2 * length (constructors_of ds) + sum_by function_size (functions_of ds) ≤ length ts
+decls_small : (l : NestingLimit) (ds : List Decl) (ts : List Lexeme) → SpellsDecls l ds ts → 2 * length (constructors_of ds) + sum_by function_size (functions_of ds) ≤ length ts
 decls_small l [] ts h = omega arith
 decls_small l (Declares d ∷ ds) ts h =
     let e = decls_small l ds h.1 h.3 in
@@ -207,14 +207,14 @@ map_length : (names : Texts) (ps : List Piece) → length (map (said Lambdas nam
 map_length names [] = refl
 map_length names (p ∷ ps) = ap suc (map_length names ps)
 
-pub readable : (l : Room) (p : Program) (pieces : List Piece) → IsProgram l p pieces → AreInRange Lambdas pieces → length pieces ≤ 1048576 → IsReadable p
+pub readable : (l : NestingLimit) (p : Program) (pieces : List Piece) → IsProgram l p pieces → AreInRange Lambdas pieces → length pieces ≤ 1048576 → IsReadable p
 readable l p pieces h small short =
     let held : EachHeld Lambdas p.names pieces = subst (λ v. EachHeld Lambdas v pieces) (sym h.names) (each_held Lambdas [] pieces) in
     let each : EachKnown p.names (map (said Lambdas p.names) pieces) = known Lambdas p.names pieces held small in
     let r = decls_readable p.names l h.decls (map (said Lambdas p.names) pieces) h.spelled each in
     let s = decls_small l h.decls (map (said Lambdas p.names) pieces) h.spelled in
     record {
-      different = subst AreDifferent (sym h.names) (different_from Lambdas [] pieces tt);
+      different = subst AreDistinct (sym h.names) (different_from Lambdas [] pieces tt);
       constructors = subst (All (ReadableData p.names)) h.constructors (constructors_readable p.names h.decls r);
       functions = subst (All (ReadableFunction p.names)) h.functions (functions_readable p.names h.decls r);
       size = subst (λ v. v ≤ 1048576) (λ i. 2 * length (h.constructors i) + sum_by function_size (h.functions i)) (omega (arith, s, short, map_length p.names pieces));

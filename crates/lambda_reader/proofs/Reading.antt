@@ -8,7 +8,7 @@ use Rattle.core_reader.specs.declared.token.Token.TheVariants as word
 use Rattle.core_reader.specs.declared.token.Lexeme.{Lexeme}
 use Rattle.core_reader.specs.declared.refusal.ReadRefusal.TheVariants.{BadByte, Syntax, NumberRange}
 use Rattle.lambda_reader.specs.Tree.{Program, Expr, NoTerms}
-use Rattle.core_reader.specs.Grammar.{Room, lexeme, name_id, binders}
+use Rattle.core_reader.specs.Grammar.{NestingLimit, lexeme, name_id, binders}
 use Rattle.lambda_reader.specs.Grammar.{SpellsExpr}
 use Rattle.lambda_reader.specs.Programs.{Decl, Declares, Defines, SpellsDecl, SpellsDecls, constructors_of, functions_of, IsProgram}
 use Rattle.core_reader.specs.TokensOf.{Piece}
@@ -18,8 +18,8 @@ use Rattle.core_reader.specs.ReadingOf.{follow, run_of}
 use Rattle.core_reader.specs.Machine.{starts_atom}
 use Rattle.lambda_reader.specs.Machine as expression
 use Rattle.lambda_reader.specs.Machine.{Outermost, InBody, Apply, Ended}
-use Rattle.lambda_reader.specs.AroundOf.{next, refuse, Outside, Within, moved}
-use Rattle.lambda_reader.specs.Declaring.{Own, Top, DataName, Count, DataEnd, Params, Hole, InFunction, move, finish, declared, defined, declarations, lambdas, top, run}
+use Rattle.lambda_reader.specs.AroundOf.{next, refuse, Outside, Within, step_of_move}
+use Rattle.lambda_reader.specs.Declaring.{Own, Top, DataName, Count, DataEnd, Params, Hole, InFunction, move, finish, declared, function_declaration, declarations, lambdas, top, run}
 use Rattle.core_reader.proofs.NamingOf.{Texts}
 use Rattle.core_reader.proofs.ReadingOf.{IsLast, ended, refused_plain, Laws, ReadsLanguage, takes_names}
 use Rattle.lambda_reader.proofs.AroundOf.{continue, through, lambda_views, GoodMove, PlainMove, LastMove, EndMove, AroundLaws, around_laws, by_move}
@@ -29,21 +29,21 @@ use Rattle.core_reader.proofs.Ending.{piece, constructor}
 
 -- ---- the tokens that were read
 
-abbrev Known : Room → Own → List Lexeme → Type 0
+abbrev Known : NestingLimit → Own → List Lexeme → Type 0
 Known l (Top ds) ts = SpellsDecls l ds ts
 Known l (DataName ds) ts = (us : List Lexeme) × (p : ℕ) × SpellsDecls l ds us × (ts ≡ us ++ lexeme p word.Data ∷ [])
 Known l (Count ds n at) ts = (us : List Lexeme) × (p : ℕ) × SpellsDecls l ds us × (ts ≡ us ++ lexeme p word.Data ∷ lexeme at (word.Con n) ∷ [])
 Known l (DataEnd ds n at fields) ts = (us : List Lexeme) × (p q : ℕ) × SpellsDecls l ds us × (ts ≡ us ++ lexeme p word.Data ∷ lexeme at (word.Con n) ∷ lexeme q (word.Number false (pos fields)) ∷ [])
 Known l (Params ds n p params) ts = (us : List Lexeme) × SpellsDecls l ds us × (ts ≡ us ++ lexeme p (word.Name n) ∷ binders params)
 
-abbrev Opens : Room → Hole → List Lexeme → Type 0
+abbrev Opens : NestingLimit → Hole → List Lexeme → Type 0
 Opens l (InFunction ds n p params) ts = (us : List Lexeme) × (q : ℕ) × SpellsDecls l ds us × (ts ≡ us ++ (lexeme p (word.Name n) ∷ (binders params ++ lexeme q word.Equals ∷ [])))
 
-decls_last : (l : Room) (ds : List Decl) (d : Decl) (us vs : List Lexeme) → SpellsDecls l ds us → SpellsDecl l d vs → SpellsDecls l (ds ++ d ∷ []) (us ++ vs)
+decls_last : (l : NestingLimit) (ds : List Decl) (d : Decl) (us vs : List Lexeme) → SpellsDecls l ds us → SpellsDecl l d vs → SpellsDecls l (ds ++ d ∷ []) (us ++ vs)
 decls_last l [] d us vs h g = (vs, [], g, refl, rw (h, append-nil) refl)
 decls_last l (e ∷ es) d us vs h g = (h.0, h.1 ++ vs, h.2, decls_last l es d h.1 vs h.3 g, ap (λ w. w ++ vs) h.4 ∙ append_assoc h.0 h.1 vs)
 
-sound_move : (l : Room) (o : Own) (ts : List Lexeme) (at : ℕ) (token : Token) → Known l o ts → GoodMove (Known l) (Opens l) (SpellsDecls l) (move o at token) (ts ++ lexeme at token ∷ [])
+sound_move : (l : NestingLimit) (o : Own) (ts : List Lexeme) (at : ℕ) (token : Token) → Known l o ts → GoodMove (Known l) (Opens l) (SpellsDecls l) (move o at token) (ts ++ lexeme at token ∷ [])
 sound_move l (Top ds) ts at word.Data h = (ts, at, h, refl)
 sound_move l (Top ds) ts at (word.Name n) h = (ts, h, refl)
 sound_move l (Top ds) ts at word.End h = (ts, at, h, refl)
@@ -58,11 +58,11 @@ sound_move l (Params ds n p params) ts at (word.Name m) h = (h.0, h.1, simp (h.2
 sound_move l (Params ds n p params) ts at word.Equals h = (h.0, at, h.1, simp (h.2, append_assoc))
 sound_move l o ts at token h = tt
 
-sound_finish : (l : Room) (k : Hole) (e : Expr) (us vs : List Lexeme) (at : ℕ) (token : Token) → Opens l k us → SpellsExpr true l 0 e vs → GoodMove (Known l) (Opens l) (SpellsDecls l) (finish k e at token) ((us ++ vs) ++ lexeme at token ∷ [])
+sound_finish : (l : NestingLimit) (k : Hole) (e : Expr) (us vs : List Lexeme) (at : ℕ) (token : Token) → Opens l k us → SpellsExpr true l 0 e vs → GoodMove (Known l) (Opens l) (SpellsDecls l) (finish k e at token) ((us ++ vs) ++ lexeme at token ∷ [])
 sound_finish l (InFunction ds n p params) e us vs at word.Semicolon h g =
     let ws = lexeme p (word.Name n) ∷ (binders params ++ (lexeme h.1 word.Equals ∷ (vs ++ lexeme at word.Semicolon ∷ []))) in
     let f : (us ++ vs) ++ lexeme at word.Semicolon ∷ [] ≡ h.0 ++ ws = simp (h.3, append_assoc) in
-    rw f (decls_last l ds (defined n p params e) h.0 ws h.2 (h.1, at, vs, g, refl))
+    rw f (decls_last l ds (function_declaration n p params e) h.0 ws h.2 (h.1, at, vs, g, refl))
 sound_finish l k e us vs at token h g = tt
 
 -- ---- the tokens that complete what was read
@@ -74,7 +74,7 @@ closing (Count ds n p) = piece (codes "0") ∷ piece (codes ";") ∷ []
 closing (DataEnd ds n p fields) = piece (codes ";") ∷ []
 closing (Params ds n p params) = piece (codes "=") ∷ constructor ∷ piece (codes ";") ∷ []
 
-closes : (names : Texts) (l : Room) (o : Own) → (ds : List Decl) × (run l (Outside o) (ended Lambdas names (closing o)) ≡ Ok ds)
+closes : (names : Texts) (l : NestingLimit) (o : Own) → (ds : List Decl) × (run l (Outside o) (ended Lambdas names (closing o)) ≡ Ok ds)
 unfolding closing run_of
 closes names l (Top ds) = (ds, refl)
 closes names l (DataName ds) = (_, refl)
@@ -82,19 +82,19 @@ closes names l (Count ds n at) = (_, refl)
 closes names l (DataEnd ds n at fields) = (_, refl)
 closes names l (Params ds n p params) = (_, refl)
 
-gives : (names : Texts) (l : Room) (k : Hole) (e : Expr) → (ds : List Decl) × (run l (Within k (Ended Outermost e)) (said Lambdas names (piece (codes ";")) ∷ ended Lambdas names []) ≡ Ok ds)
+gives : (names : Texts) (l : NestingLimit) (k : Hole) (e : Expr) → (ds : List Decl) × (run l (Within k (Ended Outermost e)) (said Lambdas names (piece (codes ";")) ∷ ended Lambdas names []) ≡ Ok ds)
 unfolding run_of
-gives names l (InFunction ds n p params) e = (ds ++ defined n p params e ∷ [], refl)
+gives names l (InFunction ds n p params) e = (ds ++ function_declaration n p params e ∷ [], refl)
 
 -- ---- what spells declarations is read as those
 
 pub finish_bad : (k : Hole) (e : Expr) (at : ℕ) → finish k e at word.Bad ≡ refuse (BadByte at)
 finish_bad (InFunction ds n p params) e at = refl
 
-body : (l : Room) (k : Hole) (e : Expr) (ts : List Lexeme) (x : Lexeme) (rest : List Lexeme) → SpellsExpr true l 0 e ts → starts_atom x.token ≡ false → run l (Within k (Apply (InBody Outermost) NoTerms)) (ts ++ x ∷ rest) ≡ follow (moved (finish k e x.at x.token)) (λ s. run l s rest)
+body : (l : NestingLimit) (k : Hole) (e : Expr) (ts : List Lexeme) (x : Lexeme) (rest : List Lexeme) → SpellsExpr true l 0 e ts → starts_atom x.token ≡ false → run l (Within k (Apply (InBody Outermost) NoTerms)) (ts ++ x ∷ rest) ≡ follow (step_of_move (finish k e x.at x.token)) (λ s. run l s rest)
 body l k e ts x rest h f = through declarations finish_bad l k (Apply (InBody Outermost) NoTerms) (ts ++ x ∷ rest) ∙ ap (continue declarations l k) (reads_body true l Outermost e ts x rest h f)
 
-reads_decl : (l : Room) (ds : List Decl) (d : Decl) (ts rest : List Lexeme) → SpellsDecl l d ts → run l (top ds) (ts ++ rest) ≡ run l (top (ds ++ d ∷ [])) rest
+reads_decl : (l : NestingLimit) (ds : List Decl) (d : Decl) (ts rest : List Lexeme) → SpellsDecl l d ts → run l (top ds) (ts ++ rest) ≡ run l (top (ds ++ d ∷ [])) rest
 unfolding run_of
 reads_decl l ds (Declares d) ts rest h = rw h.3 refl
 reads_decl l ds (Defines f) ts rest h =
@@ -111,7 +111,7 @@ reads_decl l ds (Defines f) ts rest h =
     ∙ ap (run l (Within (InFunction ds n f.at f.params) (Apply (InBody Outermost) NoTerms))) (append_assoc inner (lexeme q word.Semicolon ∷ []) rest)
     ∙ body l (InFunction ds n f.at f.params) f.body inner (lexeme q word.Semicolon) rest h.3 refl
 
-reads_decls : (l : Room) (ds es : List Decl) (ts rest : List Lexeme) → SpellsDecls l es ts → run l (top ds) (ts ++ rest) ≡ run l (top (ds ++ es)) rest
+reads_decls : (l : NestingLimit) (ds es : List Decl) (ts rest : List Lexeme) → SpellsDecls l es ts → run l (top ds) (ts ++ rest) ≡ run l (top (ds ++ es)) rest
 reads_decls l ds [] ts rest h = rw (h, append-nil) refl
 reads_decls l ds (e ∷ es) ts rest h =
     ap (λ w. run l (top ds) (w ++ rest)) h.4
@@ -120,7 +120,7 @@ reads_decls l ds (e ∷ es) ts rest h =
     ∙ reads_decls l (ds ++ e ∷ []) es h.1 rest h.3
     ∙ ap (λ w. run l (top w) rest) (append_assoc ds (e ∷ []) es)
 
-reads_program : (l : Room) (ds : List Decl) (ts : List Lexeme) (end : ℕ) (rest : List Lexeme) → SpellsDecls l ds ts → run l (top []) (ts ++ lexeme end word.End ∷ rest) ≡ Ok ds
+reads_program : (l : NestingLimit) (ds : List Decl) (ts : List Lexeme) (end : ℕ) (rest : List Lexeme) → SpellsDecls l ds ts → run l (top []) (ts ++ lexeme end word.End ∷ rest) ≡ Ok ds
 unfolding run_of
 reads_program l ds ts end rest h = reads_decls l [] ds ts (lexeme end word.End ∷ rest) h
 
@@ -228,16 +228,16 @@ lambda_laws = around_laws lambda_views declaring
 
 -- ---- programs
 
-spelled_by : (l : Room) (p : Program) (ps : List Piece) (h : IsProgram l p ps) → SpellsDecls l h.decls (map (said Lambdas (names_of Lambdas ps)) ps)
+spelled_by : (l : NestingLimit) (p : Program) (ps : List Piece) (h : IsProgram l p ps) → SpellsDecls l h.decls (map (said Lambdas (names_of Lambdas ps)) ps)
 spelled_by l p ps h = subst (λ v. SpellsDecls l h.decls (map (said Lambdas v) ps)) h.names h.spelled
 
-made_of : (l : Room) (ds : List Decl) (ps : List Piece) → SpellsDecls l ds (map (said Lambdas (names_of Lambdas ps)) ps) → (p : Program) × IsProgram l p ps
+made_of : (l : NestingLimit) (ds : List Decl) (ps : List Piece) → SpellsDecls l ds (map (said Lambdas (names_of Lambdas ps)) ps) → (p : Program) × IsProgram l p ps
 made_of l ds ps h = (
   record { names = names_of Lambdas ps; constructors = constructors_of ds; functions = functions_of ds },
   record { names = refl; decls = ds; constructors = refl; functions = refl; spelled = h },
 )
 
-same_by : (l : Room) (p q : Program) (ps : List Piece) (h : IsProgram l p ps) (g : IsProgram l q ps) → h.decls ≡ g.decls → p ≡ q
+same_by : (l : NestingLimit) (p q : Program) (ps : List Piece) (h : IsProgram l p ps) (g : IsProgram l q ps) → h.decls ≡ g.decls → p ≡ q
 same_by l p q ps h g e =
     let names : p.names ≡ q.names = h.names ∙ sym g.names in
     let constructors : p.constructors ≡ q.constructors = sym h.constructors ∙ ap constructors_of e ∙ g.constructors in

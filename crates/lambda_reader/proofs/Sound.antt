@@ -11,13 +11,13 @@ use Rattle.core_reader.specs.declared.token.Lexeme.{Lexeme}
 use Rattle.core_reader.specs.declared.refusal.ReadRefusal.{ReadRefusal}
 use Rattle.lambda_reader.specs.Tree.{Term, Terms, NoTerms, AndTerm, Group, NoBinds, AndValue, AndFunction, Expr, App, Let, Case, Alts, NoAlts, AndAlt}
 use Rattle.lambda_reader.specs.Tree as tree
-use Rattle.core_reader.specs.Grammar.{Room, lexeme, binders, SpellsPattern}
-use Rattle.lambda_reader.specs.Grammar.{IsSome, SpellsTerm, SpellsTerms, IsGroup, AfterMember, SpellsGroup, IsSomeAlts, AfterAlt, SpellsExpr, SpellsAlts}
+use Rattle.core_reader.specs.Grammar.{NestingLimit, lexeme, binders, SpellsPattern}
+use Rattle.lambda_reader.specs.Grammar.{HasParameter, SpellsTerm, SpellsTerms, IsGroup, AfterMember, SpellsGroup, IsNonemptyAlts, AfterAlt, SpellsExpr, SpellsAlts}
 use Rattle.lambda_reader.specs.Machine.{Cont, Outermost, LetBody, Scrutinee, AltBody, LambdaBody, FunctionBody, nests, Frame, InBody, InBind, Inside, opens, BindName, BindEquals, FunctionNames, LambdaNames, Ended, Brace, AltStart, AltNames, AltArrow, give, State, Apply, Step, go, done, stop, step, with_last, ◌⊹◌, ◌⊕◌, value, local_function}
 use Rattle.core_reader.proofs.Sound.{binders_last}
 use Rattle.lambda_reader.proofs.Complete.{some_last, alts_last}
 
-module _ (lambdas : Bool) (l : Room) where
+module _ (lambdas : Bool) (l : NestingLimit) where
   -- each member with a `;` after it
   abbrev pub EachMember : ℕ → Group → List Lexeme → Type 0
   EachMember d NoBinds ts = ts ≡ []
@@ -25,7 +25,7 @@ module _ (lambdas : Bool) (l : Room) where
       (us vs ws : List Lexeme) × (q r : ℕ) × SpellsTerm lambdas l d head us × SpellsTerms lambdas l d args vs × EachMember d rest ws
       × (ts ≡ lexeme b.at (word.Name b.name) ∷ lexeme q word.Equals ∷ (us ++ (vs ++ (lexeme r word.Semicolon ∷ ws))))
   EachMember d (AndFunction b params body rest) ts =
-      (us ws : List Lexeme) × (q r : ℕ) × (lambdas ≡ true) × IsSome params × SpellsExpr lambdas l d body us × EachMember d rest ws
+      (us ws : List Lexeme) × (q r : ℕ) × (lambdas ≡ true) × HasParameter params × SpellsExpr lambdas l d body us × EachMember d rest ws
       × (ts ≡ lexeme b.at (word.Name b.name) ∷ (binders params ++ (lexeme q word.Equals ∷ (us ++ (lexeme r word.Semicolon ∷ ws)))))
 
   abbrev pub EachAlt : ℕ → Alts → List Lexeme → Type 0
@@ -47,10 +47,10 @@ module _ (lambdas : Bool) (l : Room) where
     From (Scrutinee k) ts = (us : List Lexeme) × (p : ℕ) × (l (nests k) ≡ true) × From k us × (ts ≡ us ++ lexeme p word.Case ∷ [])
     From (AltBody k s alts pat) ts = (us vs : List Lexeme) × (q : ℕ) × AltsFrom (From k) (nests k) s alts us × SpellsPattern pat vs × (ts ≡ us ++ (vs ++ lexeme q word.Arrow ∷ []))
     From (LambdaBody k held at params) ts =
-        (us vs : List Lexeme) × (p q : ℕ) × (lambdas ≡ true) × (l (opens k) ≡ true) × IsSome params × Before k us × SpellsTerms lambdas l (opens k) held vs
+        (us vs : List Lexeme) × (p q : ℕ) × (lambdas ≡ true) × (l (opens k) ≡ true) × HasParameter params × Before k us × SpellsTerms lambdas l (opens k) held vs
         × (ts ≡ us ++ (vs ++ (lexeme p word.Open ∷ lexeme at (word.Further Backslash) ∷ (binders params ++ lexeme q word.Arrow ∷ []))))
     From (FunctionBody k binds n at params) ts =
-        (us : List Lexeme) × (q : ℕ) × (lambdas ≡ true) × IsSome params × BindsFrom (From k) (nests k) binds us
+        (us : List Lexeme) × (q : ℕ) × (lambdas ≡ true) × HasParameter params × BindsFrom (From k) (nests k) binds us
         × (ts ≡ us ++ (lexeme at (word.Name n) ∷ (binders params ++ lexeme q word.Equals ∷ [])))
 
     -- the tokens before an application that stands in a frame
@@ -64,7 +64,7 @@ module _ (lambdas : Bool) (l : Room) where
   Consumed (Apply k held) ts = (us vs : List Lexeme) × Before k us × SpellsTerms lambdas l (opens k) held vs × (ts ≡ us ++ vs)
   Consumed (BindName k binds) ts = BindsFrom (From k) (nests k) binds ts
   Consumed (BindEquals k binds n at) ts = (us : List Lexeme) × BindsFrom (From k) (nests k) binds us × (ts ≡ us ++ lexeme at (word.Name n) ∷ [])
-  Consumed (FunctionNames k binds n at params) ts = (us : List Lexeme) × (lambdas ≡ true) × IsSome params × BindsFrom (From k) (nests k) binds us × (ts ≡ us ++ lexeme at (word.Name n) ∷ binders params)
+  Consumed (FunctionNames k binds n at params) ts = (us : List Lexeme) × (lambdas ≡ true) × HasParameter params × BindsFrom (From k) (nests k) binds us × (ts ≡ us ++ lexeme at (word.Name n) ∷ binders params)
   Consumed (LambdaNames k held at params) ts =
       (us vs : List Lexeme) × (p : ℕ) × (lambdas ≡ true) × (l (opens k) ≡ true) × Before k us × SpellsTerms lambdas l (opens k) held vs
       × (ts ≡ us ++ (vs ++ (lexeme p word.Open ∷ lexeme at (word.Further Backslash) ∷ binders params)))
@@ -98,7 +98,7 @@ module _ (lambdas : Bool) (l : Room) where
       (us vs : List Lexeme) × (q : ℕ) × (rest ≡ NoBinds) × SpellsTerm lambdas l d head us × SpellsTerms lambdas l d args vs
       × (ts ≡ lexeme b.at (word.Name b.name) ∷ lexeme q word.Equals ∷ (us ++ vs))
   IsMember d (AndFunction b params body rest) ts =
-      (us : List Lexeme) × (q : ℕ) × (rest ≡ NoBinds) × (lambdas ≡ true) × IsSome params × SpellsExpr lambdas l d body us
+      (us : List Lexeme) × (q : ℕ) × (rest ≡ NoBinds) × (lambdas ≡ true) × HasParameter params × SpellsExpr lambdas l d body us
       × (ts ≡ lexeme b.at (word.Name b.name) ∷ (binders params ++ (lexeme q word.Equals ∷ us)))
 
   each_one : (d : ℕ) (m : Group) (vs : List Lexeme) (r : ℕ) → IsMember d m vs → EachMember d m (vs ++ lexeme r word.Semicolon ∷ [])
@@ -160,7 +160,7 @@ module _ (lambdas : Bool) (l : Room) where
       (h.0, h.1, lexeme h.4 word.Semicolon ∷ [], h.2 ++ (us ++ (lexeme q word.Arrow ∷ vs)), h.3, h.5, h.6, semicolon_alt (xs ⊹ AndAlt p e NoAlts) h.4, alts_end d xs p e h.2 us vs q h.7 g f, simp (h.8, append_assoc))
 
   -- a case is whole
-  case_whole : (k : Cont) (s : Expr) (alts all : Alts) (ts tail : List Lexeme) (at : ℕ) (h : AltsFrom (From k) (nests k) s alts ts) → IsSomeAlts all → SpellsAlts lambdas l (suc (nests k)) all (h.2 ++ tail)
+  case_whole : (k : Cont) (s : Expr) (alts all : Alts) (ts tail : List Lexeme) (at : ℕ) (h : AltsFrom (From k) (nests k) s alts ts) → IsNonemptyAlts all → SpellsAlts lambdas l (suc (nests k)) all (h.2 ++ tail)
       → Consumed (Ended k (Case s all)) (ts ++ (tail ++ lexeme at word.CloseBrace ∷ []))
   case_whole k s alts all ts tail at h some g = (
     h.0,
@@ -266,7 +266,7 @@ module _ (lambdas : Bool) (l : Room) where
   sound_step (BindEquals k binds n p) ts at (word.Name m) h = good_if lambdas _ _ _ (λ on. (h.0, on, tt, h.1, simp (h.2, append_assoc)))
   sound_step (FunctionNames k binds n p params) ts at (word.Name m) h = (h.0, h.1, some_names params (record { name = m; at = at }) h.2, h.3, simp (h.4, append_assoc, binders_last))
     where
-      some_names : (bs : List Binder) (b : Binder) → IsSome bs → IsSome (bs ++ b ∷ [])
+      some_names : (bs : List Binder) (b : Binder) → HasParameter bs → HasParameter (bs ++ b ∷ [])
       some_names [] b h = tt
       some_names (c ∷ bs) b h = tt
   sound_step (FunctionNames k binds n p params) ts at word.Equals h = (ts ++ lexeme at word.Equals ∷ [], [], (h.0, at, h.1, h.2, h.3, simp (h.4, append_assoc)), refl, sym (append-nil _))

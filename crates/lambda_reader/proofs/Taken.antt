@@ -13,12 +13,12 @@ use Rattle.core_reader.specs.declared.token.Lexeme.{Lexeme}
 use Rattle.core_reader.specs.declared.refusal.ReadRefusal.{ReadRefusal}
 use Rattle.core_reader.specs.declared.refusal.ReadRefusal.TheVariants.{TooDeep}
 use Rattle.lambda_reader.specs.Tree.{Term, Terms, NoTerms, AndTerm, Group, NoBinds, Expr, Alts}
-use Rattle.core_reader.specs.Grammar.{Room, at_most_200}
+use Rattle.core_reader.specs.Grammar.{NestingLimit, at_most_200}
 use Rattle.core_reader.specs.Machine.{refused, refusal, front, behind, starts_atom, is_name, Fails}
 use Rattle.lambda_reader.specs.Machine.{Cont, Scrutinee, AltBody, LambdaBody, FunctionBody, nests, Frame, InBody, InBind, Inside, opens, BindName, BindEquals, FunctionNames, LambdaNames, Ended, Brace, AltStart, AltNames, AltArrow, State, Apply, go, stop, step, run}
 use Rattle.lambda_reader.proofs.Taking.{takes, refuses}
 
-module _ (lambdas : Bool) (l : Room) where
+module _ (lambdas : Bool) (l : NestingLimit) where
   pub no_close : (k : Frame) (held : Terms) (p : ℕ) (a : Term) (xs : Terms) (at : ℕ) (token : Token) → starts_atom token ≡ false → (token ≡ word.Close → ⊥)
       → step lambdas l (Apply (Inside k held p) (AndTerm a xs)) at token ≡ stop (refused at token)
   no_close k held p a xs at (word.Name n) e h = absurd cc

@@ -6,9 +6,9 @@ use Rattle.core_reader.specs.declared.token.Lexeme.{Lexeme}
 use Rattle.core_reader.specs.declared.refusal.ReadRefusal.{ReadRefusal}
 use Rattle.core_reader.specs.declared.refusal.ReadRefusal.TheVariants.{BadByte}
 use Rattle.lambda_reader.specs.Tree.{Term, Terms, NoTerms, AndTerm, Group, NoBinds, AndValue, AndFunction, Expr, App, Let, NoAlts, AndAlt}
-use Rattle.core_reader.specs.Grammar.{Room}
+use Rattle.core_reader.specs.Grammar.{NestingLimit}
 use Rattle.core_reader.specs.Machine.{refusal, front, behind, starts_atom, Fails}
-use Rattle.lambda_reader.specs.Machine.{Cont, Outermost, LetBody, Scrutinee, AltBody, LambdaBody, FunctionBody, InBody, InBind, Inside, BindName, BindEquals, FunctionNames, LambdaNames, Ended, Brace, AltStart, AltNames, AltArrow, give, State, Step, Apply, go, done, stop, step, Found, follow, run}
+use Rattle.lambda_reader.specs.Machine.{Cont, Outermost, LetBody, Scrutinee, AltBody, LambdaBody, FunctionBody, InBody, InBind, Inside, BindName, BindEquals, FunctionNames, LambdaNames, Ended, Brace, AltStart, AltNames, AltArrow, give, State, Step, Apply, go, done, stop, step, ReadResult, follow, run}
 use Rattle.core_reader.proofs.Turns.{refused_fails}
 use Rattle.lambda_reader.proofs.Complete.{ends_step}
 
@@ -26,12 +26,12 @@ give_bad (AltBody k s alts p) e at = refl
 give_bad (LambdaBody k held p params) e at = refl
 give_bad (FunctionBody k binds n p params) e at = refl
 
-no_turn : (st : Step) (at : ℕ) (f g : State → Result Found ReadRefusal) → IsBad at st → follow st [] f ≡ follow st [] g
+no_turn : (st : Step) (at : ℕ) (f g : State → Result ReadResult ReadRefusal) → IsBad at st → follow st [] f ≡ follow st [] g
 no_turn (go s) at f g h = absurd h
 no_turn (done e) at f g h = refl
 no_turn (stop er) at f g h = refl
 
-module _ (lambdas : Bool) (l : Room) where
+module _ (lambdas : Bool) (l : NestingLimit) where
   pub is_bad : (s : State) (at : ℕ) → IsBad at (step lambdas l s at word.Bad)
   is_bad (Apply (Inside k held p) NoTerms) at = refl
   is_bad (Apply (Inside k held p) (AndTerm a xs)) at = refl

@@ -5,7 +5,7 @@ use Rattle.core_reader.specs.declared.token.Token.TheVariants as word
 use Rattle.core_reader.specs.declared.token.Lexeme.{Lexeme}
 use Rattle.core_reader.specs.declared.refusal.ReadRefusal.{ReadRefusal}
 use Rattle.core_reader.specs.Tree.{data_of}
-use Rattle.core_reader.specs.Grammar.{anywhere, at_most_200}
+use Rattle.core_reader.specs.Grammar.{unlimited_nesting, at_most_200}
 use Rattle.core_reader.specs.TokensOf.{Piece, Reads, Stops, Passes, Takes, IsTokens}
 use Rattle.core_reader.specs.ReadingOf.{run_of}
 use Rattle.core_reader.specs.LexedOf.{StopsAt, AtEnd, AtBad, AtLarge, IsLexed}
@@ -74,14 +74,14 @@ module _ (text : List ℕ) (lexemes : List Lexeme) (names : Texts) (l : IsLexed 
   pub reserved : (found : Declarations) → ReadsProgram lexemes (Ok found) → IsFirstReserved text (first_reserved names lexemes)
   reserved found h = reserved_first text lexemes names l (tokens_read h.0 h.3)
 
-  derived : (found : Declarations) → ReadsProgram lexemes (Ok found) → IsProgram anywhere (program_of names found) l.pieces
+  derived : (found : Declarations) → ReadsProgram lexemes (Ok found) → IsProgram unlimited_nesting (program_of names found) l.pieces
   derived found h = record { names = l.named; decls = h.0; constructors = h.1; functions = h.2; spelled = spelled_by lambda_reads text lexemes names h.0 l h.3 }
 
   pub is_found : length text ≤ 1048576 → (found : Declarations) → ReadsProgram lexemes (Ok found) → Found Lambdas IsProgram text (program_of names found)
   is_found short found h = found_by lambda_reads text lexemes names h.0 short l h.3 (program_of names found) (derived found h)
 
   pub is_readable : length text ≤ 1048576 → (found : Declarations) → ReadsProgram lexemes (Ok found) → IsReadable (program_of names found)
-  is_readable short found h = readable anywhere (program_of names found) l.pieces (derived found h) l.in_range (few text l.pieces l.at l.rest short l.reads)
+  is_readable short found h = readable unlimited_nesting (program_of names found) l.pieces (derived found h) l.in_range (few text l.pieces l.at l.rest short l.reads)
 
   pub is_refused : length text ≤ 1048576 → (e : ReadRefusal) → ReadsProgram lexemes (Err e) → IsUnreadCause text e
   is_refused short e h = refused_by lambda_reads text lexemes names e short l h

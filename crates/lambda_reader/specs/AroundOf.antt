@@ -6,7 +6,7 @@ use Rattle.core_reader.specs.declared.token.Lexeme.{Lexeme}
 use Rattle.core_reader.specs.declared.refusal.ReadRefusal.{ReadRefusal}
 use Rattle.core_reader.specs.Tree as core
 use Rattle.lambda_reader.specs.Tree.{Expr, NoTerms}
-use Rattle.core_reader.specs.Grammar.{Room}
+use Rattle.core_reader.specs.Grammar.{NestingLimit}
 use Rattle.core_reader.specs.Grammar as core-grammar
 use Rattle.lambda_reader.specs.Grammar.{SpellsExpr}
 use Rattle.lambda_reader.specs.Plain.{plain}
@@ -16,21 +16,21 @@ use Rattle.lambda_reader.specs.Machine.{Outermost, InBody, Apply}
 
 -- Which expressions stand in a text: whether lambdas and local functions may, what is made of one,
 -- and which tokens spell that.
-pub record Expressions : Type 1 where
+pub record ExpressionSyntax : Type 1 where
   pub lambdas : Bool
   pub Made : Type 0
   pub view : Expr → Made
-  pub Spells : Room → ℕ → Made → List Lexeme → Type 0
+  pub Spells : NestingLimit → ℕ → Made → List Lexeme → Type 0
 
-abbrev pub of_core : Expressions
-of_core = record {
+abbrev pub core_expressions : ExpressionSyntax
+core_expressions = record {
   lambdas = false;
   Made = core.Expr;
   view = plain;
   Spells = core-grammar.SpellsExpr;
 }
 
-abbrev pub with_lambdas : Expressions
+abbrev pub with_lambdas : ExpressionSyntax
 with_lambdas = record {
   lambdas = true;
   Made = Expr;
@@ -48,39 +48,40 @@ pub data Move (O H A : Type 0) : Type 0 where
 
 -- What stands around expressions: the states there, the places of expressions, what a token does,
 -- also behind a whole expression, and which tokens spell what is made.
-pub record Around (x : Expressions) : Type 1 where
+pub record ExpressionContext (x : ExpressionSyntax) : Type 1 where
   pub Own : Type 0
   pub Hole : Type 0
   pub Whole : Type 0
   pub start : Own
-  pub step : Room → Own → ℕ → Token → Move Own Hole Whole
+  pub step : NestingLimit → Own → ℕ → Token → Move Own Hole Whole
   pub give : Hole → x.Made → ℕ → Token → Move Own Hole Whole
-  pub Spells : Room → Whole → List Lexeme → Type 0
+  pub Spells : NestingLimit → Whole → List Lexeme → Type 0
 
-pub data AroundState (O H : Type 0) : Type 0 where
-  Outside : O → AroundState O H
-  Within : H → expression.State → AroundState O H
+pub data ContextState (O H : Type 0) : Type 0 where
+  Outside : O → ContextState O H
+  Within : H → expression.State → ContextState O H
 
-abbrev pub moved : {O H A : Type 0} → Move O H A → Step (AroundState O H) A
-moved (next o) = go (Outside o)
-moved (enter h) = go (Within h (Apply (InBody Outermost) NoTerms))
-moved (all a) = done a
-moved (refuse e) = stop e
+abbrev pub step_of_move : {O H A : Type 0} → Move O H A → Step (ContextState O H) A
+step_of_move (next o) = go (Outside o)
+step_of_move (enter h) = go (Within h (Apply (InBody Outermost) NoTerms))
+step_of_move (all a) = done a
+step_of_move (refuse e) = stop e
 
 abbrev pub within : {O H A M : Type 0} → (Expr → M) → (H → M → ℕ → Token → Move O H A) → H → ℕ
-    → Token → Step expression.State Expr → Step (AroundState O H) A
+    → Token → Step expression.State Expr → Step (ContextState O H) A
 within view give h at token (go s) = go (Within h s)
-within view give h at token (done e) = moved (give h (view e) at token)
+within view give h at token (done e) = step_of_move (give h (view e) at token)
 within view give h at token (stop er) = stop er
 
-abbrev pub steps : {x : Expressions} (r : Around x) → Steps (AroundState r.Own r.Hole) r.Whole
-steps r l (Outside o) at token = moved (r.step l o at token)
+abbrev pub steps : {x : ExpressionSyntax} (r : ExpressionContext x)
+    → Steps (ContextState r.Own r.Hole) r.Whole
+steps r l (Outside o) at token = step_of_move (r.step l o at token)
 steps {x = x} r l (Within h s) at token =
     within x.view r.give h at token (expression.step x.lambdas l s at token)
 
-abbrev pub around : {x : Expressions} → Around x → Reading
-around r = record {
-  State = AroundState r.Own r.Hole;
+abbrev pub context_reading : {x : ExpressionSyntax} → ExpressionContext x → Reading
+context_reading r = record {
+  State = ContextState r.Own r.Hole;
   Tree = r.Whole;
   start = Outside r.start;
   step = steps r;

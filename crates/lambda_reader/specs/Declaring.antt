@@ -11,7 +11,7 @@ use Rattle.core_reader.specs.declared.token.Lexeme.{Lexeme}
 use Rattle.core_reader.specs.declared.refusal.ReadRefusal.{ReadRefusal}
 use Rattle.core_reader.specs.declared.refusal.ReadRefusal.TheVariants.{NumberRange}
 use Rattle.core_reader.specs.Tree.{data_of}
-use Rattle.core_reader.specs.Grammar.{Room, at_most_200}
+use Rattle.core_reader.specs.Grammar.{NestingLimit, at_most_200}
 use Rattle.core_reader.specs.ReadingOf.{Steps, Reading, run_of}
 use Rattle.core_reader.specs.Machine.{refused, Goes, Fails}
 use Rattle.lambda_reader.specs.declared.declarations.Declarations.{Declarations}
@@ -19,13 +19,14 @@ use Rattle.lambda_reader.specs.Tree.{Expr}
 use Rattle.lambda_reader.specs.Code.{function}
 use Rattle.lambda_reader.specs.Programs.{Decl, Declares, Defines, SpellsDecls, constructors_of, functions_of}
 use Rattle.lambda_reader.specs.AroundOf as any
-use Rattle.lambda_reader.specs.AroundOf.{with_lambdas, next, enter, all, refuse, Around, AroundState, Outside, Within, around, steps}
+use Rattle.lambda_reader.specs.AroundOf.{with_lambdas, next, enter, all, refuse, ExpressionContext, ContextState, Outside, Within, context_reading, steps}
 
 abbrev pub declared : NameId → ℕ → ℕ → Decl
 declared n at fields = Declares (record { name = n.0; fields = fields; at = at })
 
-abbrev pub defined : NameId → ℕ → List Binder → Expr → Decl
-defined n at params body = Defines (record { name = n.0; at = at; params = params; body = body })
+abbrev pub function_declaration : NameId → ℕ → List Binder → Expr → Decl
+function_declaration n at params body =
+    Defines (record { name = n.0; at = at; params = params; body = body })
 
 pub data Own : Type 0 where
   Top : List Decl → Own
@@ -55,10 +56,11 @@ move (Params ds n p params) at word.Equals = enter (InFunction ds n p params)
 move o at token = refuse (refused at token)
 
 abbrev pub finish : Hole → Expr → ℕ → Token → Move
-finish (InFunction ds n p params) e at word.Semicolon = next (Top (ds ++ defined n p params e ∷ []))
+finish (InFunction ds n p params) e at word.Semicolon =
+    next (Top (ds ++ function_declaration n p params e ∷ []))
 finish h e at token = refuse (refused at token)
 
-abbrev pub declarations : Around with_lambdas
+abbrev pub declarations : ExpressionContext with_lambdas
 declarations = record {
   Own = Own;
   Hole = Hole;
@@ -71,10 +73,10 @@ declarations = record {
 
 -- the reading of a text with lambdas
 abbrev pub lambdas : Reading
-lambdas = around declarations
+lambdas = context_reading declarations
 
 abbrev pub State : Type 0
-State = AroundState Own Hole
+State = ContextState Own Hole
 
 abbrev pub top : List Decl → State
 top ds = Outside (Top ds)
@@ -82,7 +84,7 @@ top ds = Outside (Top ds)
 abbrev pub step : Steps State (List Decl)
 step = steps declarations
 
-abbrev pub run : Room → State → List Lexeme → Result (List Decl) ReadRefusal
+abbrev pub run : NestingLimit → State → List Lexeme → Result (List Decl) ReadRefusal
 run = run_of step
 
 -- ---- what the parts of the reader do that read declarations

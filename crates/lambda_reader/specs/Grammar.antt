@@ -7,12 +7,12 @@ use Rattle.core_reader.specs.declared.token.Further.TheVariants.{Backslash}
 use Rattle.core_reader.specs.declared.token.Lexeme.{Lexeme}
 use Rattle.lambda_reader.specs.Tree.{Term, Terms, NoTerms, AndTerm, Group, NoBinds, AndValue, AndFunction, Expr, App, Let, Case, Alts, NoAlts, AndAlt}
 use Rattle.lambda_reader.specs.Tree as tree
-use Rattle.core_reader.specs.Grammar.{Room, lexeme, IsSign, name_id, binders, IsOptional, SpellsPattern}
+use Rattle.core_reader.specs.Grammar.{NestingLimit, lexeme, IsSign, name_id, binders, IsOptional, SpellsPattern}
 
 -- A lambda and a local function have a parameter.
-abbrev pub IsSome : List Binder → Type 0
-IsSome [] = ⊥
-IsSome (b ∷ bs) = Unit {0}
+abbrev pub HasParameter : List Binder → Type 0
+HasParameter [] = ⊥
+HasParameter (b ∷ bs) = Unit {0}
 
 -- Between two members of a group stands one `;`, and after the last one may stand.
 abbrev pub AfterMember : Group → List Lexeme → Type 0
@@ -25,16 +25,16 @@ IsGroup NoBinds = ⊥
 IsGroup (AndValue b head args rest) = Unit {0}
 IsGroup (AndFunction b params body rest) = Unit {0}
 
-abbrev pub IsSomeAlts : Alts → Type 0
-IsSomeAlts NoAlts = ⊥
-IsSomeAlts (AndAlt p e xs) = Unit {0}
+abbrev pub IsNonemptyAlts : Alts → Type 0
+IsNonemptyAlts NoAlts = ⊥
+IsNonemptyAlts (AndAlt p e xs) = Unit {0}
 
 abbrev pub AfterAlt : Alts → List Lexeme → Type 0
 AfterAlt NoAlts ts = IsOptional ts
 AfterAlt (AndAlt p e xs) ts = IsSign word.Semicolon ts
 
 -- whether lambdas and local functions may stand
-module _ (lambdas : Bool) (room : Room) where
+module _ (lambdas : Bool) (room : NestingLimit) where
   abbrev mutual
     -- The tokens of a head or an argument where so many constructs are open.
     pub SpellsTerm : ℕ → Term → List Lexeme → Type 0
@@ -48,7 +48,7 @@ module _ (lambdas : Bool) (room : Room) where
         × (ts ≡ lexeme at word.Open ∷ (us ++ (vs ++ lexeme end word.Close ∷ [])))
     SpellsTerm depth (tree.Lambda params body at) ts =
         (start arrow close : ℕ) × (us : List Lexeme) × (lambdas ≡ true) × (room depth ≡ true)
-        × IsSome params × SpellsExpr (suc depth) body us
+        × HasParameter params × SpellsExpr (suc depth) body us
         × (ts ≡ lexeme start word.Open ∷ lexeme at (word.Further Backslash)
         ∷ (binders params ++ (lexeme arrow word.Arrow ∷ (us ++ lexeme close word.Close ∷ []))))
 
@@ -65,7 +65,7 @@ module _ (lambdas : Bool) (room : Room) where
         × (ts ≡ lexeme b.at (word.Name b.name) ∷ lexeme equals word.Equals
         ∷ (us ++ (vs ++ (semi ++ ws))))
     SpellsGroup depth (AndFunction b params body rest) ts =
-        (equals : ℕ) × (us semi ws : List Lexeme) × (lambdas ≡ true) × IsSome params
+        (equals : ℕ) × (us semi ws : List Lexeme) × (lambdas ≡ true) × HasParameter params
         × SpellsExpr depth body us × AfterMember rest semi × SpellsGroup depth rest ws
         × (ts ≡ lexeme b.at (word.Name b.name)
         ∷ (binders params ++ (lexeme equals word.Equals ∷ (us ++ (semi ++ ws)))))
@@ -79,7 +79,7 @@ module _ (lambdas : Bool) (room : Room) where
         × SpellsGroup (suc depth) group us × SpellsExpr (suc depth) e vs
         × (ts ≡ lexeme p word.Let ∷ (us ++ (lexeme q word.In ∷ vs)))
     SpellsExpr depth (Case e alts) ts =
-        (p q r s : ℕ) × (us vs : List Lexeme) × (room depth ≡ true) × IsSomeAlts alts
+        (p q r s : ℕ) × (us vs : List Lexeme) × (room depth ≡ true) × IsNonemptyAlts alts
         × SpellsExpr (suc depth) e us × SpellsAlts (suc depth) alts vs
         × (ts ≡ lexeme p word.Case ∷ (us
         ++ (lexeme q word.Of ∷ lexeme r word.OpenBrace ∷ (vs ++ lexeme s word.CloseBrace ∷ []))))

@@ -13,7 +13,7 @@ use Rattle.core_reader.specs.declared.refusal.ReadRefusal.{ReadRefusal}
 use Rattle.core_reader.specs.declared.refusal.ReadRefusal.TheVariants.{BadByte, Syntax, NumberRange, TooDeep}
 use Rattle.lambda_reader.specs.Tree.{Term, Terms, NoTerms, AndTerm, Group, NoBinds, AndValue, AndFunction, Expr, App, Let, Case, Alts, NoAlts, AndAlt}
 use Rattle.lambda_reader.specs.Tree as tree
-use Rattle.core_reader.specs.Grammar.{Room}
+use Rattle.core_reader.specs.Grammar.{NestingLimit}
 use Rattle.core_reader.specs.Machine.{refused}
 use Rattle.core_reader.specs.ReadingOf as any
 pub use Rattle.core_reader.specs.ReadingOf.{go, done, stop}
@@ -102,7 +102,7 @@ give k e at token = stop (refused at token)
 
 -- whether lambdas and local functions may stand
 module _ (lambdas : Bool) where
-  abbrev pub step : Room → State → ℕ → Token → Step
+  abbrev pub step : NestingLimit → State → ℕ → Token → Step
   step l (Apply k held) at (word.Name n) = go (Apply k (with_last held (tree.Name n.0 at)))
   step l (Apply k held) at (word.Con n) = go (Apply k (with_last held (tree.Con n.0 at)))
   step l (Apply k held) at (word.Number minus v) = go (Apply k (with_last held (tree.Int v at)))
@@ -157,17 +157,17 @@ module _ (lambdas : Bool) where
   step l s at token = stop (refused at token)
 
 -- an expression, and the tokens behind it
-pub record Found : Type 0 where
+pub record ReadResult : Type 0 where
   pub expr : Expr
   pub rest : List Lexeme
 
-abbrev pub follow : Step → List Lexeme → (State → Result Found ReadRefusal)
-    → Result Found ReadRefusal
+abbrev pub follow : Step → List Lexeme → (State → Result ReadResult ReadRefusal)
+    → Result ReadResult ReadRefusal
 follow (go s) ts next = next s
 follow (done e) ts next = Ok (record { expr = e; rest = ts })
 follow (stop er) ts next = Err er
 
-unfoldable pub run : Bool → Room → State → List Lexeme → Result Found ReadRefusal
+unfoldable pub run : Bool → NestingLimit → State → List Lexeme → Result ReadResult ReadRefusal
 run lambdas l s [] = follow (step lambdas l s 0 word.Bad) [] (λ s. Err (BadByte 0))
 run lambdas l s (t ∷ ts) =
     follow (step lambdas l s t.at t.token) (t ∷ ts) (λ s. run lambdas l s ts)

@@ -15,15 +15,15 @@ abbrev mutual
   embed_terms core.NoTerms = NoTerms
   embed_terms (core.AndTerm a xs) = AndTerm (embed_term a) (embed_terms xs)
 
-abbrev pub embed_group : List core.Bind → Group
-embed_group [] = NoBinds
-embed_group (b ∷ bs) =
-    AndValue b.binder (embed_term b.app.head) (embed_terms b.app.args) (embed_group bs)
+abbrev pub group_from_core : List core.Bind → Group
+group_from_core [] = NoBinds
+group_from_core (b ∷ bs) =
+    AndValue b.binder (embed_term b.app.head) (embed_terms b.app.args) (group_from_core bs)
 
 abbrev mutual
   pub embed : core.Expr → Expr
   embed (core.App app) = App (embed_term app.head) (embed_terms app.args)
-  embed (core.Let group e) = Let (embed_group group) (embed e)
+  embed (core.Let group e) = Let (group_from_core group) (embed e)
   embed (core.Case e alts) = Case (embed e) (embed_alts alts)
 
   pub embed_alts : core.Alts → Alts
@@ -44,18 +44,18 @@ abbrev mutual
   plain_terms NoTerms = core.NoTerms
   plain_terms (AndTerm a xs) = core.AndTerm (plain_term a) (plain_terms xs)
 
-abbrev pub plain_group : Group → List core.Bind
-plain_group NoBinds = []
-plain_group (AndValue b head args rest) =
+abbrev pub group_to_core : Group → List core.Bind
+group_to_core NoBinds = []
+group_to_core (AndValue b head args rest) =
     record { binder = b; app = record { head = plain_term head; args = plain_terms args } }
-    ∷ plain_group rest
-plain_group (AndFunction b params body rest) = plain_group rest
+    ∷ group_to_core rest
+group_to_core (AndFunction b params body rest) = group_to_core rest
 
 abbrev mutual
   pub plain : Expr → core.Expr
   plain (App head args) =
       core.App (record { head = plain_term head; args = plain_terms args })
-  plain (Let group e) = core.Let (plain_group group) (plain e)
+  plain (Let group e) = core.Let (group_to_core group) (plain e)
   plain (Case e alts) = core.Case (plain e) (plain_alts alts)
 
   pub plain_alts : Alts → core.Alts

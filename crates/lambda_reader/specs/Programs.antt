@@ -6,7 +6,7 @@ use Rattle.core_reader.specs.declared.token.Token.TheVariants as word
 use Rattle.core_reader.specs.declared.token.Lexeme.{Lexeme}
 use Rattle.core_reader.specs.declared.refusal.ReadRefusal.{ReadRefusal}
 use Rattle.core_reader.specs.Tree.{Data}
-use Rattle.core_reader.specs.Grammar.{Room, lexeme, name_id, binders}
+use Rattle.core_reader.specs.Grammar.{NestingLimit, lexeme, name_id, binders}
 use Rattle.lambda_reader.specs.Tree.{Function, Program}
 use Rattle.lambda_reader.specs.Grammar.{SpellsExpr}
 use Rattle.core_reader.specs.TokensOf.{Piece}
@@ -20,7 +20,7 @@ pub data Decl : Type 0 where
   Declares : Data → Decl
   Defines : Function → Decl
 
-abbrev pub SpellsDecl : Room → Decl → List Lexeme → Type 0
+abbrev pub SpellsDecl : NestingLimit → Decl → List Lexeme → Type 0
 SpellsDecl room (Declares d) ts =
     (p q r : ℕ)
     × (ts ≡ lexeme p word.Data ∷ lexeme d.at (word.Con (name_id d.name))
@@ -31,7 +31,7 @@ SpellsDecl room (Defines f) ts =
     ∷ (binders f.params ++ (lexeme p word.Equals ∷ (us ++ lexeme q word.Semicolon ∷ []))))
 
 -- the tokens of declarations, one after the other
-abbrev pub SpellsDecls : Room → List Decl → List Lexeme → Type 0
+abbrev pub SpellsDecls : NestingLimit → List Decl → List Lexeme → Type 0
 SpellsDecls room [] ts = ts ≡ []
 SpellsDecls room (d ∷ ds) ts =
     (us vs : List Lexeme) × SpellsDecl room d us × SpellsDecls room ds vs × (ts ≡ us ++ vs)
@@ -49,25 +49,25 @@ functions_of (Defines f ∷ ds) = f ∷ functions_of ds
 
 -- The grammar derives the program from the tokens, with as many open constructs as there is room
 -- for.
-pub record IsProgram (room : Room) (p : Program) (pieces : List Piece) : Type 0 where
+pub record IsProgram (room : NestingLimit) (p : Program) (pieces : List Piece) : Type 0 where
   pub names : p.names ≡ names_of Lambdas pieces
   pub decls : List Decl
   pub constructors : constructors_of decls ≡ p.constructors
   pub functions : functions_of decls ≡ p.functions
   pub spelled : SpellsDecls room decls (map (said Lambdas p.names) pieces)
 
-abbrev pub IsText : List ℕ → Program → Type 0
-IsText = any.IsText Lambdas IsProgram
+abbrev pub IsSourceText : List ℕ → Program → Type 0
+IsSourceText = any.IsText Lambdas IsProgram
 
 -- rule k, of 1 to 5, is broken at this place, or none of them
-abbrev pub IsUnread : List ℕ → (k at : ℕ) → Type 0
-IsUnread = rules.IsUnread Lambdas IsProgram
+abbrev pub IsReadingFault : List ℕ → (k at : ℕ) → Type 0
+IsReadingFault = rules.IsUnread Lambdas IsProgram
 
-abbrev pub IsFirstUnread : List ℕ → (k at : ℕ) → Type 0
-IsFirstUnread = rules.IsFirstUnread Lambdas IsProgram
+abbrev pub IsFirstReadingFault : List ℕ → (k at : ℕ) → Type 0
+IsFirstReadingFault = rules.IsFirstUnread Lambdas IsProgram
 
-abbrev pub IsRead : List ℕ → Type 0
-IsRead = rules.IsUnbroken Lambdas IsProgram
+abbrev pub BreaksNoReadingRule : List ℕ → Type 0
+BreaksNoReadingRule = rules.IsUnbroken Lambdas IsProgram
 
 -- the rule and the place that a refusal names
 abbrev pub IsUnreadCause : List ℕ → ReadRefusal → Type 0

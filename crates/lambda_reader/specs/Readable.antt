@@ -2,12 +2,13 @@
 -- nothing is empty or too large.
 use Rattle.std.specs.Prelude.{ℕ, ◌≤◌, List, All}
 use Rattle.core_reader.specs.Words.{IsInRange}
-use Rattle.core_reader.specs.Different.{AreDifferent}
+use Rattle.core_reader.specs.Different.{AreDistinct}
 use Rattle.core_reader.specs.Readable.{IsConstructor, IsTextAt, IsNamed, IsBound, ReadablePattern, ReadableData}
 use Rattle.lambda_reader.specs.Tree.{Term, Terms, NoTerms, AndTerm, Group, NoBinds, AndValue, AndFunction, Expr, App, Let, Case, Alts, NoAlts, AndAlt, Function, Program}
 use Rattle.lambda_reader.specs.Tree as tree
-use Rattle.lambda_reader.specs.Grammar.{IsSome, IsGroup, IsSomeAlts}
+use Rattle.lambda_reader.specs.Grammar.{HasParameter, IsGroup, IsNonemptyAlts}
 use Rattle.lambda_reader.specs.Size.{program_size}
+use Rattle.limits.specs.Limits.{most_bytes}
 
 -- no list of parameters, no let group and no list of alternatives is empty
 abbrev mutual
@@ -18,7 +19,7 @@ abbrev mutual
   ReadableTerm names (tree.Bracket head args at) =
       ReadableTerm names head × ReadableTerms names args
   ReadableTerm names (tree.Lambda params body at) =
-      IsSome params × All (IsBound names) params × ReadableExpr names body
+      HasParameter params × All (IsBound names) params × ReadableExpr names body
 
   pub ReadableTerms : List (List ℕ) → Terms → Type 0
   ReadableTerms names NoTerms = Unit {0}
@@ -30,7 +31,7 @@ abbrev mutual
       IsBound names b × ReadableTerm names head × ReadableTerms names args
       × ReadableGroup names rest
   ReadableGroup names (AndFunction b params body rest) =
-      IsBound names b × IsSome params × All (IsBound names) params × ReadableExpr names body
+      IsBound names b × HasParameter params × All (IsBound names) params × ReadableExpr names body
       × ReadableGroup names rest
 
   pub ReadableExpr : List (List ℕ) → Expr → Type 0
@@ -38,7 +39,7 @@ abbrev mutual
   ReadableExpr names (Let group e) =
       IsGroup group × ReadableGroup names group × ReadableExpr names e
   ReadableExpr names (Case e alts) =
-      IsSomeAlts alts × ReadableExpr names e × ReadableAlts names alts
+      IsNonemptyAlts alts × ReadableExpr names e × ReadableAlts names alts
 
   pub ReadableAlts : List (List ℕ) → Alts → Type 0
   ReadableAlts names NoAlts = Unit {0}
@@ -50,7 +51,7 @@ ReadableFunction names f =
     IsNamed names f.name × All (IsBound names) f.params × ReadableExpr names f.body
 
 pub record IsReadable (p : Program) : Type 0 where
-  pub different : AreDifferent p.names
+  pub different : AreDistinct p.names
   pub constructors : All (ReadableData p.names) p.constructors
   pub functions : All (ReadableFunction p.names) p.functions
-  pub size : program_size p ≤ 1048576
+  pub size : program_size p ≤ most_bytes

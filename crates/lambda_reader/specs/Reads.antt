@@ -57,8 +57,8 @@ module _ (lambdas : Bool) where
       → Goes result (run lambdas at_most_200 (Apply (InBind k bs n p) NoTerms) old) (λ a.
       run lambdas at_most_200 (Apply (InBind k bs n p) (whole a)) new)
 
-  -- A member of a group is whole in this state: `;` leads to the next one, `in` to the body, and the
-  -- token that stands next does not go on if it is neither.
+  -- A member of a group is whole in this state: `;` leads to the next one, `in` to the body, and
+  -- the token that stands next does not go on if it is neither.
   pub record IsBehind (s : State) (k : Cont) (bs : Group) (x : Lexeme) : Type 0 where
     pub next : (at : ℕ) → step lambdas at_most_200 s at word.Semicolon ≡ go (BindName k bs)
     pub body : (at : ℕ) → step lambdas at_most_200 s at word.In

@@ -1,7 +1,7 @@
 -- The names of a text that begin with `lift'`.
 use Rattle.std.specs.Prelude.{◌≡◌, ℕ, ◌≤◌, List, ◌++◌, codes, Option, Some, None, slice_get}
 use Rattle.core_reader.specs.declared.dialect.Dialect.TheVariants.{Lambdas}
-use Rattle.core_reader.specs.declared.look.Kind.TheVariants.{Lower}
+use Rattle.core_reader.specs.declared.look.TokenKind.TheVariants.{Lower}
 use Rattle.core_reader.specs.TokensOf.{Piece, IsTokens, kind_of}
 
 abbrev pub IsReserved : List ℕ → Type 0

@@ -9,10 +9,8 @@ ghost use Rattle.lambda_reader.specs.Reads.{ReadsAtom, ReadsInside, ReadsApp, Re
 use crate::patterns::pattern;
 use crate::syntax::{Alt, App, Atom, Bind, Expr};
 use core_reader::{Binder, Further, Parser, ReadRefusal, Token};
+use limits::MOST_OPEN;
 use seq::Seq;
-
-/// The most brackets, lets and cases that are open at one place.
-const MOST_OPEN: u32 = 200;
 
 /// The fewest parameters of a lambda.
 const FEWEST_PARAMETERS: usize = 1;

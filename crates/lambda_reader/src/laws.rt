@@ -1,8 +1,8 @@
 //! What the definitions of texts with lambdas say by themselves.
 
-ghost use Rattle.lambda_reader.specs.Laws.{OneProgram};
+ghost use Rattle.lambda_reader.specs.Laws.{ProgramIsUnique};
 
 /// A text stands for at most one program, with its places and its names.
-pub fn one_program()
-    ensures { OneProgram }
+pub fn program_is_unique()
+    ensures { ProgramIsUnique }
 {}

@@ -18,5 +18,5 @@ mod reader;
 mod reserved;
 mod syntax;
 
-pub use reader::{Found, read_lambdas};
+pub use reader::{ReadResult, read_lambdas};
 pub use syntax::{Alt, App, Atom, Bind, Expr, Function, Program};

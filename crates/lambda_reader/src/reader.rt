@@ -2,7 +2,7 @@
 
 ghost use Rattle.std.specs.Prelude.{◌≡◌, OnOk, IfOk, IfErr};
 ghost use Rattle.lambda_reader.specs.Code.{program};
-ghost use Rattle.lambda_reader.specs.Programs.{IsText, IsRead, IsUnreadCause};
+ghost use Rattle.lambda_reader.specs.Programs.{IsSourceText, BreaksNoReadingRule, IsUnreadCause};
 ghost use Rattle.lambda_reader.specs.Readable.{IsReadable};
 ghost use Rattle.lambda_reader.specs.Reserved.{IsFirstReserved};
 
@@ -10,15 +10,13 @@ use crate::declarations::all_declarations;
 use crate::reserved::first_reserved;
 use crate::syntax::Program;
 use core_reader::{Dialect, Parser, ReadRefusal, copied_names, lex};
+use limits::MOST_BYTES;
 use seq::Seq;
 use std::alloc::Global;
 
-/// The most bytes of a text.
-const MOST_BYTES: usize = 1048576;
-
 /// A text that was read.
 #[derive(Drop)]
-pub struct Found {
+pub struct ReadResult {
     /// Its program.
     pub program: Program,
     /// The place of the first name that begins with `lift'`, if there is one.
@@ -30,14 +28,14 @@ pub struct Found {
 /// The answer is `Ok` exactly where the text breaks none of the rules 1 to 5, and else one that it
 /// breaks, with its place: rule 5 before all others, else the break that comes first in the text,
 /// the smaller number where two begin at one byte. Want of memory may come in place of each answer.
-pub fn read_lambdas(alloc: Global, text: &[u8]) -> Result<Found, ReadRefusal>
-    ensures found { IfOk result (λ f. IsText text.now (program f.program)) }
+pub fn read_lambdas(alloc: Global, text: &[u8]) -> Result<ReadResult, ReadRefusal>
+    ensures found { IfOk result (λ f. IsSourceText text.now (program f.program)) }
     ensures reserved { IfOk result (λ f. IsFirstReserved text.now f.reserved) }
-    ensures unbroken { OnOk result (IsRead text.now) }
+    ensures unbroken { OnOk result (BreaksNoReadingRule text.now) }
     ensures readable { IfOk result (λ f. IsReadable (program f.program)) }
     ensures refused { IfErr result (IsUnreadCause text.now) }
 {
-    if text.len() > MOST_BYTES {
+    if text.len() > MOST_BYTES as usize {
         return Err(ReadRefusal::TextTooLong);
     }
     let lexed = lex(alloc, Dialect::Lambdas, text)?;
@@ -49,5 +47,5 @@ pub fn read_lambdas(alloc: Global, text: &[u8]) -> Result<Found, ReadRefusal>
         constructors: Seq::from_vec(parts.constructors),
         functions: Seq::from_vec(parts.functions),
     };
-    Ok(Found { program, reserved })
+    Ok(ReadResult { program, reserved })
 }

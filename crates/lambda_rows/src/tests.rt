@@ -10,8 +10,8 @@ use std::test::Fail;
 /// `Nil` and `Cons`, 25 bytes.
 const LISTS: &[u8] = b"data Nil 0; data Cons 2; ";
 
-/// What reading a text tells: how many functions it has and where its first reserved name stands, or
-/// the rule that it breaks first, and its place.
+/// What reading a text tells: how many functions it has and where its first reserved name stands,
+/// or the rule that it breaks first, and its place.
 type Told = Result<(usize, Option<u32>), (u8, u32)>;
 
 /// What reading a text tells. Want of memory is no answer.

@@ -1,6 +1,7 @@
 //! Lines by command, with the edges of each number and the ways to write an option.
 
-use command_line::{Command, Files, Line, Listing};
+use command_line::{Command, FileOperands, Line, Listing};
+use stage_names::PassName;
 use std::alloc::{AllocError, Global};
 use std::test::Fail;
 
@@ -257,9 +258,40 @@ fn lines_of_gen(rt: HostRuntime) -> Result<(), Fail> {
     Ok(())
 }
 
-/// `list a` with a pass.
+/// `list a` after what the line says.
 const fn list_a(after: Listing) -> Option<Command<'static>> {
     Some(Command::List { file: "a", after })
+}
+
+/// `list a` after a stage.
+const fn stage_of_a(stage: PassName) -> Option<Command<'static>> {
+    list_a(Listing::Stage(stage))
+}
+
+#[test]
+fn stages_by_their_words(rt: HostRuntime) -> Result<(), Fail> {
+    let stages = [
+        PassName::Translate,
+        PassName::Eval,
+        PassName::Apply,
+        PassName::Vectorise,
+        PassName::Simplify,
+        PassName::Fetch,
+        PassName::Copy,
+        PassName::Update,
+        PassName::Unbox,
+        PassName::Raise,
+        PassName::Flat,
+        PassName::Known,
+        PassName::Cells,
+        PassName::Dead,
+    ];
+    for stage in stages {
+        let mut line = line_of(rt.alloc(), "grinc list a --after")?;
+        line.add(stage.word())?;
+        assert_eq!(rt; line.command(), stage_of_a(stage), "{}", stage.word());
+    }
+    Ok(())
 }
 
 #[test]
@@ -327,20 +359,29 @@ fn other_lines(rt: HostRuntime) -> Result<(), Fail> {
         ("grinc check --heap 1 a", None),
         ("grinc exec --stack 1024 a", None),
         ("grinc list a --after read", list_a(Listing::Read)),
-        ("grinc list --after translate a", list_a(Listing::Translate)),
-        ("grinc list --after=eval a", list_a(Listing::Eval)),
-        ("grinc list --after=apply -- a", list_a(Listing::Apply)),
-        ("grinc list a --after vectorise", list_a(Listing::Vectorise)),
-        ("grinc list a --after simplify", list_a(Listing::Simplify)),
-        ("grinc list a --after fetch", list_a(Listing::Fetch)),
-        ("grinc list a --after copy", list_a(Listing::Copy)),
-        ("grinc list a --after update", list_a(Listing::Update)),
-        ("grinc list a --after unbox", list_a(Listing::Unbox)),
-        ("grinc list a --after raise", list_a(Listing::Raise)),
-        ("grinc list a --after flat", list_a(Listing::Flat)),
-        ("grinc list a --after known", list_a(Listing::Known)),
-        ("grinc list a --after cells", list_a(Listing::Cells)),
-        ("grinc list a --after dead", list_a(Listing::Dead)),
+        (
+            "grinc list --after translate a",
+            stage_of_a(PassName::Translate),
+        ),
+        ("grinc list --after=eval a", stage_of_a(PassName::Eval)),
+        ("grinc list --after=apply -- a", stage_of_a(PassName::Apply)),
+        (
+            "grinc list a --after vectorise",
+            stage_of_a(PassName::Vectorise),
+        ),
+        (
+            "grinc list a --after simplify",
+            stage_of_a(PassName::Simplify),
+        ),
+        ("grinc list a --after fetch", stage_of_a(PassName::Fetch)),
+        ("grinc list a --after copy", stage_of_a(PassName::Copy)),
+        ("grinc list a --after update", stage_of_a(PassName::Update)),
+        ("grinc list a --after unbox", stage_of_a(PassName::Unbox)),
+        ("grinc list a --after raise", stage_of_a(PassName::Raise)),
+        ("grinc list a --after flat", stage_of_a(PassName::Flat)),
+        ("grinc list a --after known", stage_of_a(PassName::Known)),
+        ("grinc list a --after cells", stage_of_a(PassName::Cells)),
+        ("grinc list a --after dead", stage_of_a(PassName::Dead)),
         ("grinc list --after code a", list_a(Listing::Code)),
         ("grinc list a", None),
         ("grinc list a --after", None),
@@ -366,7 +407,7 @@ fn are_named(words: &[String], names: &[&str]) -> bool {
 }
 
 /// The files that a line links, if it links any.
-fn linked<'a>(line: &'a Line) -> Option<Files<'a>> {
+fn linked<'a>(line: &'a Line) -> Option<FileOperands<'a>> {
     match line.command() {
         Some(Command::Link { files }) => Some(files),
         _ => None,

@@ -4,25 +4,25 @@ use Rattle.std.specs.Prelude.{nat_eq, slice_get, slice_set}
 use Rattle.std.proofs.Math.Nat.{le-max_left, le-max_right}
 use Rattle.std.proofs.lemmas.Bool.{ltb-true, lt-ltb}
 use Rattle.std.proofs.lemmas.List.{length-set, length-replicate, length-map}
-use Rattle.headline.specs.Carries.{Begins}
+use Rattle.headline.specs.Carries.{IsPrefixOf}
 use Rattle.low_code.specs.Tree.{Code, set, prim, load, save, take, put, get, call, join, give, tail, choose, fail, Arms, otherwise, arm, Procedure, Program}
 use Rattle.low_code.specs.Arithmetic.{arithmetic}
 use Rattle.low_code.specs.Values.{Word, number, Env, World, Stop, no_alternative, out_of_units, missing, heap_full, stack_full, Room, is_over, Answer, gives, stops, then_do, need, with_var, with_vars, no_vars}
-use Rattle.low_code.specs.Run.{Calls, written, next_byte, byte_taken, with_word, with_cells, spent, spend, places, start_words, within_limit, operand, operands, number_in, cell_in, holds, empty_cell, code, arms, as_many, body, calls, run_in, global_cell, start_world, world_of}
-use Rattle.low_code.specs.Laws.{with_more}
+use Rattle.low_code.specs.Run.{Calls, written, next_byte, byte_taken, with_word, with_cells, spent, spend, places, start_words, within_limit, operand, operands, number_in, cell_in, holds, empty_cell, code, arms, with_result_count, body, calls, run_in, global_cell, start_world, world_of}
+use Rattle.low_code.specs.Laws.{with_more_units}
 
 -- nothing is lost: output, entries, cells, frames and bytes taken
 pub record Grows (s t : World) : Type 0 where
-  pub output : Begins s.out t.out
-  pub entered : Begins s.entered t.entered
+  pub output : IsPrefixOf s.out t.out
+  pub entered : IsPrefixOf s.entered t.entered
   pub cells : length s.cells ≤ length t.cells
   pub frames : s.frames ≤ t.frames
   pub used : s.used ≤ t.used
 
-begins_same : (xs : List ℕ) → Begins xs xs
+begins_same : (xs : List ℕ) → IsPrefixOf xs xs
 begins_same xs = ([], sym (append-nil xs))
 
-pub begins_on : (xs ys zs : List ℕ) → Begins xs ys → Begins ys zs → Begins xs zs
+pub begins_on : (xs ys zs : List ℕ) → IsPrefixOf xs ys → IsPrefixOf ys zs → IsPrefixOf xs zs
 begins_on xs ys zs a b = (a.0 ++ b.0, b.1 ∙ ap (λ l. l ++ b.0) a.1 ∙ append_assoc xs a.0 b.0)
 
 pub grows_same : (s : World) → Grows s s
@@ -47,7 +47,7 @@ pub data Change : Type 0 where
   no_limits : Change
 
 abbrev pub more : Change → World → World
-more (units_more m) w = with_more m w
+more (units_more m) w = with_more_units m w
 more no_limits w = w
 
 abbrev pub extra : Change → ℕ
@@ -260,7 +260,7 @@ module _ (change : Change) (room : Room) where
   steady_cases true c c' d d' a b = a
   steady_cases false c c' d d' a b = b
 
-  steady_many : (n : ℕ) (c c' : World → Answer) → Steady c c' → Steady (λ w. as_many n (c w)) (λ w. as_many n (c' w))
+  steady_many : (n : ℕ) (c c' : World → Answer) → Steady c c' → Steady (λ w. with_result_count n (c w)) (λ w. with_result_count n (c' w))
   steady_many n c c' g = steady_then c c' _ _ g (λ vs. counted (nat_eq (length vs) n) vs)
     where
       counted : (b : Bool) (vs : List Word) → Steady (λ w. cond b (gives vs w) (stops missing w)) (λ w. cond b (gives vs w) (stops missing w))
@@ -405,7 +405,7 @@ module _ (p : Program) (frame_words : ℕ → ℕ) where
   calls_sound room (suc n) =
       let s = calls_sound room n in
       let on : (f : ℕ) (vs : List Word) (u : ℕ) → Steady (units_more 0) room (stuck f vs u) (calls p frame_words room n f vs u) = λ f vs u. record {
-        later = λ w. goes_on refl (grows_more (units_more 0) w _ (s.grows f vs u (with_more 0 w))) tt;
+        later = λ w. goes_on refl (grows_more (units_more 0) w _ (s.grows f vs u (with_more_units 0 w))) tt;
         grows = s.grows f vs u;
         counts = s.counts f vs u;
       } in

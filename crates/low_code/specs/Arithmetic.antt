@@ -5,14 +5,14 @@ use Rattle.low_code.specs.declared.program.PrimOp.{PrimOp}
 use Rattle.low_code.specs.declared.program.PrimOp.TheVariants.{Add, Sub, Mul, Quot, Rem, Eq, Lt}
 
 -- on the numbers that the patterns stand for
-abbrev pub operate : PrimOp → ℤ → ℤ → ℤ
-operate Add a b = sum a b
-operate Sub a b = difference a b
-operate Mul a b = product a b
-operate Quot a b = quotient a b
-operate Rem a b = remainder a b
-operate Eq a b = equal a b
-operate Lt a b = less a b
+abbrev pub primitive_result : PrimOp → ℤ → ℤ → ℤ
+primitive_result Add a b = sum a b
+primitive_result Sub a b = difference a b
+primitive_result Mul a b = product a b
+primitive_result Quot a b = quotient a b
+primitive_result Rem a b = remainder a b
+primitive_result Eq a b = equal a b
+primitive_result Lt a b = less a b
 
 abbrev pub arithmetic : PrimOp → ℕ → ℕ → ℕ
-arithmetic f a b = pattern (operate f (signed a) (signed b))
+arithmetic f a b = pattern (primitive_result f (signed a) (signed b))

@@ -93,43 +93,46 @@ abbrev mutual
   arms_calls (arm ts c as') = calls_in c ++ arms_calls as'
 
 -- an operand is a variable in scope, a number, or one of so many globals
-abbrev pub Known : ℕ → List ℕ → Operand → Type 0
-Known globals scope (Var x) = is_among x scope ≡ true
-Known globals scope (Num k) = Unit {0}
-Known globals scope (Cell i) = i < globals
+abbrev pub OperandInScope : ℕ → List ℕ → Operand → Type 0
+OperandInScope globals scope (Var x) = is_among x scope ≡ true
+OperandInScope globals scope (Num k) = Unit {0}
+OperandInScope globals scope (Cell i) = i < globals
 
-abbrev pub AllKnown : ℕ → List ℕ → List Operand → Type 0
-AllKnown globals scope [] = Unit {0}
-AllKnown globals scope (a ∷ as') = Known globals scope a × AllKnown globals scope as'
+abbrev pub OperandsInScope : ℕ → List ℕ → List Operand → Type 0
+OperandsInScope globals scope [] = Unit {0}
+OperandsInScope globals scope (a ∷ as') =
+    OperandInScope globals scope a × OperandsInScope globals scope as'
 
-abbrev pub TestsKnown : ℕ → List ℕ → List LowTest → Type 0
-TestsKnown globals scope [] = Unit {0}
-TestsKnown globals scope (t ∷ ts) = Known globals scope t.left × TestsKnown globals scope ts
+abbrev pub TestsInScope : ℕ → List ℕ → List LowTest → Type 0
+TestsInScope globals scope [] = Unit {0}
+TestsInScope globals scope (t ∷ ts) =
+    OperandInScope globals scope t.left × TestsInScope globals scope ts
 
 abbrev mutual
   -- each variable is bound before its uses on every way, and globals are in range
   pub Scoped : ℕ → List ℕ → Code → Type 0
-  Scoped globals scope (set x a c) = Known globals scope a × Scoped globals (x ∷ scope) c
+  Scoped globals scope (set x a c) = OperandInScope globals scope a × Scoped globals (x ∷ scope) c
   Scoped globals scope (prim f x a b c) =
-      Known globals scope a × Known globals scope b × Scoped globals (x ∷ scope) c
-  Scoped globals scope (load x a k c) = Known globals scope a × Scoped globals (x ∷ scope) c
+      OperandInScope globals scope a × OperandInScope globals scope b × Scoped globals (x ∷ scope) c
+  Scoped globals scope (load x a k c) =
+      OperandInScope globals scope a × Scoped globals (x ∷ scope) c
   Scoped globals scope (save a k b c) =
-      Known globals scope a × Known globals scope b × Scoped globals scope c
+      OperandInScope globals scope a × OperandInScope globals scope b × Scoped globals scope c
   Scoped globals scope (take xs c) = Scoped globals (xs ++ scope) c
-  Scoped globals scope (put a c) = Known globals scope a × Scoped globals scope c
+  Scoped globals scope (put a c) = OperandInScope globals scope a × Scoped globals scope c
   Scoped globals scope (get x c) = Scoped globals (x ∷ scope) c
   Scoped globals scope (call f site as' xs c) =
-      AllKnown globals scope as' × Scoped globals (xs ++ scope) c
+      OperandsInScope globals scope as' × Scoped globals (xs ++ scope) c
   Scoped globals scope (join xs b c) = Scoped globals scope b × Scoped globals (xs ++ scope) c
-  Scoped globals scope (give as') = AllKnown globals scope as'
-  Scoped globals scope (tail f site as') = AllKnown globals scope as'
+  Scoped globals scope (give as') = OperandsInScope globals scope as'
+  Scoped globals scope (tail f site as') = OperandsInScope globals scope as'
   Scoped globals scope (choose as') = ArmsScoped globals scope as'
   Scoped globals scope fail = Unit {0}
 
   pub ArmsScoped : ℕ → List ℕ → Arms → Type 0
   ArmsScoped globals scope (otherwise c) = Scoped globals scope c
   ArmsScoped globals scope (arm ts c as') =
-      TestsKnown globals scope ts × Scoped globals scope c × ArmsScoped globals scope as'
+      TestsInScope globals scope ts × Scoped globals scope c × ArmsScoped globals scope as'
 
 -- the variables of a procedure
 abbrev pub variables : Procedure → List ℕ
@@ -160,10 +163,10 @@ AllCallsInRange n [] = Unit {0}
 AllCallsInRange n (q ∷ qs) = CallsInRange n (calls_in q.body) × AllCallsInRange n qs
 
 -- the start has one parameter where there is an argument, which is a global, and none otherwise
-abbrev pub Starts : Program → Option Procedure → Option ℕ → Type 0
-Starts p None a = ⊥
-Starts p (Some q) None = q.params ≡ []
-Starts p (Some q) (Some i) = (length q.params ≡ 1) × (i < length p.globals)
+abbrev pub IsStartWellFormed : Program → Option Procedure → Option ℕ → Type 0
+IsStartWellFormed p None a = ⊥
+IsStartWellFormed p (Some q) None = q.params ≡ []
+IsStartWellFormed p (Some q) (Some i) = (length q.params ≡ 1) × (i < length p.globals)
 
 -- no variable and no site of a call stands twice in a program, uses come below what binds them,
 -- each procedure and global that is named is there, and literals are words
@@ -172,5 +175,5 @@ pub record Formed (p : Program) : Type 0 where
   pub sites_once : Distinct (all_sites p.procs)
   pub scoped : AllScoped (length p.globals) p.procs
   pub calls_in_range : AllCallsInRange (length p.procs) p.procs
-  pub starts : Starts p (slice_get p.procs p.start) p.argument
+  pub starts : IsStartWellFormed p (slice_get p.procs p.start) p.argument
   pub literals : LiteralsAreWords p

@@ -54,8 +54,9 @@ abbrev pub within_limit : Option ℕ → ℕ → Answer → Answer → Answer
 within_limit limit k full a = elim (is_over k limit) [ true ↦ full | false ↦ a ]
 
 -- a procedure gives as many words as it says
-abbrev pub as_many : ℕ → Answer → Answer
-as_many n a = then_do a (λ vs w. cond (nat_eq (length vs) n) (gives vs w) (stops missing w))
+abbrev pub with_result_count : ℕ → Answer → Answer
+with_result_count n a =
+    then_do a (λ vs w. cond (nat_eq (length vs) n) (gives vs w) (stops missing w))
 
 module _ (p : Program) (frame_words : ℕ → ℕ) where
   abbrev pub operand : Env → Operand → Option Word
@@ -127,7 +128,7 @@ module _ (p : Program) (frame_words : ℕ → ℕ) where
       body f under left q env w =
           within_limit room.stack (4 * (under + frame_words f))
           (stops stack_full (spent f (under + frame_words f) left w))
-          (as_many q.results (code env (under + frame_words f) (Some under)
+          (with_result_count q.results (code env (under + frame_words f) (Some under)
           q.body (spent f (under + frame_words f) left w)))
 
     -- calls, where at most n units are left
@@ -167,11 +168,11 @@ module _ (p : Program) (frame_words : ℕ → ℕ) where
   limited cells stack = run_in (record { cells = Some cells; stack = Some stack })
 
 -- how a run ends: as the start gives its words, or earlier
-pub data End : Type 0 where
-  done : End
-  ended : Stop → End
+pub data RunEnd : Type 0 where
+  done : RunEnd
+  ended : Stop → RunEnd
 
-abbrev pub end_of : Answer → End
+abbrev pub end_of : Answer → RunEnd
 end_of (gives vs w) = done
 end_of (stops s w) = ended s
 

@@ -31,8 +31,8 @@ sizes [] = 0
 sizes (q ∷ qs) = length q.params + code_size q.body + sizes qs
 
 -- the size of a whole program
-abbrev pub low_all : Program → ℕ
-low_all l = sizes l.procs
+abbrev pub program_size : Program → ℕ
+program_size l = sizes l.procs
 
 -- the number of calls, tail calls included
 abbrev pub calls_from : List Procedure → ℕ

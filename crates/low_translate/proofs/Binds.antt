@@ -13,7 +13,7 @@ use Rattle.low_code.specs.declared.program.Operand.{Operand}
 use Rattle.low_code.specs.Tree as low
 use Rattle.low_code.specs.Formed.{binds, arms_binds, variables, all_variables}
 use Rattle.low_translate.specs.declared.blocks.Goal.{Goal}
-use Rattle.low_translate.specs.Translation.{operand_of, operands_of, operands_of_words, operation_of, fitted, variables_of, sets, load_word, stores, results_of, to_join, end_words, plain_numbers, through_numbers, plain_end_numbers, act_numbers, end_numbers, code_numbers, arms_numbers, plain_code, through, plain_end, act_code, end_code, code_code, arms_code, procedure_code, procedures_code, procedure_numbers}
+use Rattle.low_translate.specs.Translation.{operand_of, operands_of, operands_of_words, operation_of, padded_to_width, variables_of, set_all, load_word, store_all, results_of, to_join, end_words, plain_numbers, through_numbers, plain_end_numbers, act_numbers, end_numbers, code_numbers, arms_numbers, plain_code, through, plain_end, act_code, end_code, code_code, arms_code, procedure_code, procedures_code, procedure_numbers}
 use Rattle.low_translate.proofs.Numbered.{taken_times, taken_both, times_parts, length_parts, procs_numbers}
 use Rattle.low_translate.proofs.Parts.{sets_binds, word_binds, loads_binds, first_binds, saves_binds, taken_binds, stores_binds}
 use Rattle.seq.specs.Lists.{numbers_from, times}
@@ -95,7 +95,7 @@ module _ (x : ℕ) where
     plain_binds xs n k v w (unit a) c h = same n k v w xs (binds c) _ (sets_binds xs (operands_of a) c) h
     plain_binds xs n k v w (fetch a) c h = same n k v w xs (binds c) _ (loads_binds width xs (operand_of a) 0 c) h
     plain_binds xs n k v w (fetch_word a i) c h = same n k v w xs (binds c) _ (first_binds xs (λ y. load_word width y (operand_of a) i) c (λ y b. word_binds width y (operand_of a) i b)) h
-    plain_binds xs n k v w (update a b) c h = same n k v w xs (binds c) _ (saves_binds (operand_of a) 0 (fitted width (operands_of b)) (sets xs [] c) ∙ sets_binds xs [] c) h
+    plain_binds xs n k v w (update a b) c h = same n k v w xs (binds c) _ (saves_binds (operand_of a) 0 (padded_to_width width (operands_of b)) (set_all xs [] c) ∙ sets_binds xs [] c) h
     plain_binds xs n k v w (call f ws) c h =
         let r : ℕ = results_of rs f.0 in
         subst (λ l. BindsAre n ((1 + (r - length xs)) + k) (times x xs + v) (length xs + (r - length xs) + w) ((take r xs ++ numbers_from (suc n) (r - length xs)) ++ l)) (sym (sets_binds (drop r xs) [] c)) (call_binds xs n k v w r (binds c) h)
@@ -113,7 +113,7 @@ module _ (x : ℕ) where
         let e : ℕ = end_words width rs goal.words o in
         let xs : List ℕ = numbers_from n e in
         let many : length xs ≡ e = length_numbers n e in
-        let body = plain_binds xs (n + e) 0 0 0 o (low.give (fitted goal.words (variables_of xs))) (binds_none (n + e + plain_numbers width rs (length xs) o) 0 0 0) in
+        let body = plain_binds xs (n + e) 0 0 0 o (low.give (padded_to_width goal.words (variables_of xs))) (binds_none (n + e + plain_numbers width rs (length xs) o) 0 0 0) in
         let p : plain_numbers width rs (length xs) o ≡ plain_numbers width rs e o = ap (λ m. plain_numbers width rs m o) many in
         let u : unused (length xs) o ≡ unused e o = ap (λ m. unused m o) many in
         let k : plain_numbers width rs (length xs) o + 0 ≡ plain_numbers width rs e o = omega (arith, p) in
@@ -243,7 +243,7 @@ module _ (x : ℕ) where
             let c : low.Code = code_code width rs goal n b in
             let t = times_append x (cell_vars cs) (code_vars b) in
             let m = cells_many cs in
-            subst (BindsAre n (code_numbers width rs goal b) (times x (cell_vars cs ++ code_vars b)) (length cs + code_words b)) (sym (taken_binds (cell_vars cs) (stores width cs c) ∙ ap (λ l. cell_vars cs ++ l) (stores_binds width cs c)))
+            subst (BindsAre n (code_numbers width rs goal b) (times x (cell_vars cs ++ code_vars b)) (length cs + code_words b)) (sym (taken_binds (cell_vars cs) (store_all width cs c) ∙ ap (λ l. cell_vars cs ++ l) (stores_binds width cs c)))
             (binds_as n n _ _ (times x (cell_vars cs) + times x (code_vars b)) _ (length (cell_vars cs) + code_words b) _ _ refl refl (omega (arith, t)) (omega (arith, m)) (binds_more n (code_numbers width rs goal b) (times x (code_vars b)) (code_words b) (cell_vars cs) (binds c) (code_binds goal n b)))
         code_binds goal n (bind t o b) =
             let m : ℕ = n + act_numbers width rs (length (target_vars t)) o in

@@ -12,7 +12,7 @@ use Rattle.grin_syntax.specs.Tree.{Act, Code, store}
 use Rattle.grin_meaning.specs.Values as grin
 use Rattle.grin_meaning.specs.Values.{cell, Value, HeapCell, Binding, with_vars, bindings_of}
 use Rattle.grin_meaning.specs.Run as grin_run
-use Rattle.grin_meaning.specs.Run.{code_by, looking, passing, cells_of}
+use Rattle.grin_meaning.specs.Run.{code_by, require_if_checked, with_state_seen, cells_of}
 use Rattle.grin_meaning.specs.Checks.{all_fill, is_bound_well}
 use Rattle.grin_meaning.specs.Ready.{NoNodeTarget, NoNodeVar, most_fields}
 use Rattle.low_code.specs.Tree as low_tree
@@ -20,8 +20,8 @@ use Rattle.low_code.specs.Values as low
 use Rattle.low_code.specs.Values.{need, with_var}
 use Rattle.low_code.specs.Run as low_run
 use Rattle.low_code.specs.Run.{Calls, code}
-use Rattle.low_translate.specs.Translation.{taken, stores}
-use Rattle.low_translate.specs.Writes.{cells_write, procs_write, reach}
+use Rattle.low_translate.specs.Translation.{take_if_any, store_all}
+use Rattle.low_translate.specs.Writes.{cells_write, procs_write, written_width}
 use Rattle.low_translate.specs.Lowered.{ValRanged}
 use Rattle.low_translate.proofs.Images.{images, words_of_value, fit, length_fit, cell_image, world_image, zeros, SoundCell, SoundValue, SoundWorld}
 use Rattle.low_translate.proofs.Operands.{bound, with_vars_bound, Agrees, agrees_alike, agrees_more, agrees_var}
@@ -82,16 +82,16 @@ module _ (g : grin_tree.Program) (p : low_tree.Program) (fw : ℕ → ℕ) (most
 
   module _ (P : Value → Type 0) (k n : ℕ) (t : Target) (o : Act) (nn : NoNodeTarget t) (scope : List ℕ) (env : grin.Env) (d : ℕ) (b : Code) where
     abbrev pub after_bound : Value → grin.World → grin.Answer
-    after_bound v w = looking true (is_bound_well g t o v) w (grin.need (bindings_of g t v) w (λ bs. code_by g gcalls true (with_vars bs env) d b (passing (with_vars bs env) w)))
+    after_bound v w = require_if_checked true (is_bound_well g t o v) w (grin.need (bindings_of g t v) w (λ bs. code_by g gcalls true (with_vars bs env) d b (with_state_seen (with_vars bs env) w)))
 
     pub bound_passes : Passes P k (target_vars t) after_bound
     bound_passes v w sv sw lt a = looks (is_bound_well g t o v)
       where
-        binds : (o : Option (List Binding)) → bindings_of g t v ≡ o → Matches P k (grin.need o w (λ bs. code_by g gcalls true (with_vars bs env) d b (passing (with_vars bs env) w))) a
+        binds : (o : Option (List Binding)) → bindings_of g t v ≡ o → Matches P k (grin.need o w (λ bs. code_by g gcalls true (with_vars bs env) d b (with_state_seen (with_vars bs env) w))) a
         binds None q = missed
         binds (Some bs) q = let f = bindings_are g t v bs q nn sv in let m = target_many t in absurd (let few = f.few in omega (arith, lt, few, m))
 
-        looks : (b' : Bool) → Matches P k (cond b' (grin.need (bindings_of g t v) w (λ bs. code_by g gcalls true (with_vars bs env) d b (passing (with_vars bs env) w))) (grin.stops grin.missing w)) a
+        looks : (b' : Bool) → Matches P k (cond b' (grin.need (bindings_of g t v) w (λ bs. code_by g gcalls true (with_vars bs env) d b (with_state_seen (with_vars bs env) w))) (grin.stops grin.missing w)) a
         looks false = missed
         looks true = binds (bindings_of g t v) refl
 
@@ -100,15 +100,15 @@ module _ (g : grin_tree.Program) (p : low_tree.Program) (fw : ℕ → ℕ) (most
         → m.Goes g p fw most rs first same_globals width wide gcalls lcalls top under P k n (target_vars t) e c after_bound
     bound_goes e c nf lts agrees rest v w frames e' sv sw le wi same = looks (is_bound_well g t o v)
       where
-        binds : (o : Option (List Binding)) → bindings_of g t v ≡ o → Matches P k (grin.need o w (λ bs. code_by g gcalls true (with_vars bs env) d b (passing (with_vars bs env) w))) (does e' c (world_image width frames w))
+        binds : (o : Option (List Binding)) → bindings_of g t v ≡ o → Matches P k (grin.need o w (λ bs. code_by g gcalls true (with_vars bs env) d b (with_state_seen (with_vars bs env) w))) (does e' c (world_image width frames w))
         binds None q = missed
-        binds (Some bs) q = rest (with_vars bs env) e' (passing (with_vars bs env) w) frames (record {
+        binds (Some bs) q = rest (with_vars bs env) e' (with_state_seen (with_vars bs env) w) frames (record {
           agrees = agrees_alike first (target_vars t ++ scope) (with_vars bs env) _ e' (agrees_target g first t v bs scope env e (bindings_are g t v bs q nn sv) lts agrees) (λ x lt. same x (omega (arith, lt, nf)));
           sound = record { cells = sw.cells; bytes = sw.bytes };
           within = wi;
         })
 
-        looks : (b' : Bool) → Matches P k (cond b' (grin.need (bindings_of g t v) w (λ bs. code_by g gcalls true (with_vars bs env) d b (passing (with_vars bs env) w))) (grin.stops grin.missing w)) (does e' c (world_image width frames w))
+        looks : (b' : Bool) → Matches P k (cond b' (grin.need (bindings_of g t v) w (λ bs. code_by g gcalls true (with_vars bs env) d b (with_state_seen (with_vars bs env) w))) (grin.stops grin.missing w)) (does e' c (world_image width frames w))
         looks false = missed
         looks true = binds (bindings_of g t v) refl
 
@@ -132,19 +132,19 @@ module _ (g : grin_tree.Program) (p : low_tree.Program) (fw : ℕ → ℕ) (most
       many = length-map w.cells (λ c. cell_image width c.node)
 
       -- the variables are set, and the cells are empty
-      taken_step : does e (taken (cell_vars cs) (stores (reach g) cs c)) (world_image width frames w) ≡ does e' (stores (reach g) cs c) (record (world_image width frames w) { cells = old ++ replicate (length cs) (zeros width) })
+      taken_step : does e (take_if_any (cell_vars cs) (store_all (written_width g) cs c)) (world_image width frames w) ≡ does e' (store_all (written_width g) cs c) (record (world_image width frames w) { cells = old ++ replicate (length cs) (zeros width) })
       taken_step =
-          taken_run g p fw same_globals width wide free lcalls top under (cell_vars cs) e (stores (reach g) cs c) (world_image width frames w) refl
-          ∙ (λ i. does (bound (cell_vars cs) (low_run.places (many i) (cell_vars cs)) e) (stores (reach g) cs c) (record (world_image width frames w) { cells = old ++ replicate (length-map cs (λ c. c.var.0) i) (replicate (same_width i) (low.number 0)) }))
+          taken_run g p fw same_globals width wide free lcalls top under (cell_vars cs) e (store_all (written_width g) cs c) (world_image width frames w) refl
+          ∙ (λ i. does (bound (cell_vars cs) (low_run.places (many i) (cell_vars cs)) e) (store_all (written_width g) cs c) (record (world_image width frames w) { cells = old ++ replicate (length-map cs (λ c. c.var.0) i) (replicate (same_width i) (low.number 0)) }))
 
       pub stores_go : (hs : List HeapCell) → cells_of g env' cs ≡ Some hs → all_fill g env' cs ≡ true
           → ((w' : grin.World) → At (cell_vars cs ++ scope) env' e' w' frames → Matches P k (code_by g gcalls true env' d b w') (does e' c (world_image width frames w')))
-          → Matches P k (code_by g gcalls true env' d b (passing env' (grin_run.with_cells hs w))) (does e (taken (cell_vars cs) (stores (reach g) cs c)) (world_image width frames w))
+          → Matches P k (code_by g gcalls true env' d b (with_state_seen env' (grin_run.with_cells hs w))) (does e (take_if_any (cell_vars cs) (store_all (written_width g) cs c)) (world_image width frames w))
       stores_go hs q f rest =
-          let next : grin.World = passing env' (grin_run.with_cells hs w) in
+          let next : grin.World = with_state_seen env' (grin_run.with_cells hs w) in
           let run = stores_run g p fw same_globals width wide free lcalls top under first (cell_vars cs ++ scope) env' e' agrees' cs hs old c (world_image width frames w) q f nn r
           (subst (λ a. Placed e' a cs) (sym many) (placed cs (length w.cells) e once)) few in
-          let path : does e (taken (cell_vars cs) (stores (reach g) cs c)) (world_image width frames w) ≡ does e' c (world_image width frames next) =
+          let path : does e (take_if_any (cell_vars cs) (store_all (written_width g) cs c)) (world_image width frames w) ≡ does e' c (world_image width frames next) =
           taken_step ∙ run.0 ∙ (λ i. does e' c (record (world_image width frames w) { cells = sym (map_append (λ c. cell_image width c.node) w.cells hs) i })) in
           subst (Matches P k (code_by g gcalls true env' d b next)) (sym path) (rest next (record {
             agrees = agrees';
@@ -153,15 +153,15 @@ module _ (g : grin_tree.Program) (p : low_tree.Program) (fw : ℕ → ℕ) (most
           }))
 
       pub store_runs : ((env' : grin.Env) (e' : low.Env) (w' : grin.World) → At (cell_vars cs ++ scope) env' e' w' frames → Matches P k (code_by g gcalls true env' d b w') (does e' c (world_image width frames w')))
-          → Matches P k (code_by g gcalls true env d (store cs b) w) (does e (taken (cell_vars cs) (stores (reach g) cs c)) (world_image width frames w))
+          → Matches P k (code_by g gcalls true env d (store cs b) w) (does e (take_if_any (cell_vars cs) (store_all (written_width g) cs c)) (world_image width frames w))
       unfolding code_by
       store_runs rest = by (cells_of g env' cs) refl
         where
           by : (o : Option (List HeapCell)) → cells_of g env' cs ≡ o
-              → Matches P k (grin.need o w (λ hs. looking true (all_fill g env' cs) w (code_by g gcalls true env' d b (passing env' (grin_run.with_cells hs w))))) (does e (taken (cell_vars cs) (stores (reach g) cs c)) (world_image width frames w))
+              → Matches P k (grin.need o w (λ hs. require_if_checked true (all_fill g env' cs) w (code_by g gcalls true env' d b (with_state_seen env' (grin_run.with_cells hs w))))) (does e (take_if_any (cell_vars cs) (store_all (written_width g) cs c)) (world_image width frames w))
           by None q = missed
           by (Some hs) q = looks (all_fill g env' cs) refl
             where
-              looks : (b' : Bool) → all_fill g env' cs ≡ b' → Matches P k (cond b' (code_by g gcalls true env' d b (passing env' (grin_run.with_cells hs w))) (grin.stops grin.missing w)) (does e (taken (cell_vars cs) (stores (reach g) cs c)) (world_image width frames w))
+              looks : (b' : Bool) → all_fill g env' cs ≡ b' → Matches P k (cond b' (code_by g gcalls true env' d b (with_state_seen env' (grin_run.with_cells hs w))) (grin.stops grin.missing w)) (does e (take_if_any (cell_vars cs) (store_all (written_width g) cs c)) (world_image width frames w))
               looks false f = missed
               looks true f = stores_go hs q f (λ w' at. rest env' e' w' at)

@@ -3,14 +3,14 @@ use Rattle.std.proofs.Common.{◌≡◌, ◌≤◌, ◌<◌, ℕ, suc, ◌+◌, 
 use Rattle.grin_syntax.specs.Binders.{target_vars, shape_vars, cell_vars}
 use Rattle.grin_syntax.specs.Tree as grin
 use Rattle.grin_syntax.specs.Tree.{Act, unit, fetch, fetch_word, update, eval, apply, call, prim, read, write, case, nested, fail, end, store, bind, no_arm, arm}
-use Rattle.grin_syntax.specs.Formed.{AllOf, Scope, with_words, with_target, params_scope, ActFormed, CodeFormed, ArmsFormed, ProcedureFormed}
+use Rattle.grin_syntax.specs.Formed.{AllOf, Scope, with_word_variables, with_target, params_scope, ActFormed, CodeFormed, ArmsFormed, ProcedureFormed}
 use Rattle.grin_meaning.specs.Slim.{act_calls, code_calls, arms_calls, procs_calls}
 use Rattle.low_code.specs.declared.program.Operand.{Operand}
 use Rattle.low_code.specs.Tree as low
 use Rattle.low_code.specs.Formed.{Site, calls_in, arms_calls as low_arms_calls, sites_of, all_sites, CallsInRange, AllCallsInRange}
 use Rattle.low_code.specs.Size.{calls_from}
 use Rattle.low_translate.specs.declared.blocks.Goal.{Goal}
-use Rattle.low_translate.specs.Translation.{operand_of, operands_of, operands_of_words, operation_of, fitted, variables_of, sets, load_word, stores, results_of, to_join, end_words, plain_numbers, through_numbers, plain_end_numbers, act_numbers, end_numbers, code_numbers, arms_numbers, plain_code, through, plain_end, act_code, end_code, code_code, arms_code, procedures_code, procedure_numbers}
+use Rattle.low_translate.specs.Translation.{operand_of, operands_of, operands_of_words, operation_of, padded_to_width, variables_of, set_all, load_word, store_all, results_of, to_join, end_words, plain_numbers, through_numbers, plain_end_numbers, act_numbers, end_numbers, code_numbers, arms_numbers, plain_code, through, plain_end, act_code, end_code, code_code, arms_code, procedures_code, procedure_numbers}
 use Rattle.low_translate.proofs.Numbered.{taken_times, taken_both, procs_numbers}
 use Rattle.low_translate.proofs.Parts.{sets_calls, word_calls, loads_calls, first_calls, saves_calls, taken_calls, stores_calls}
 use Rattle.seq.specs.Lists.{numbers_from, times}
@@ -68,7 +68,7 @@ module _ (procs : ℕ) where
     plain_calls_are xs n k d (unit v) c f h = same n k d _ _ (sets_calls xs (operands_of v) c) h
     plain_calls_are xs n k d (fetch a) c f h = same n k d _ _ (loads_calls width xs (operand_of a) 0 c) h
     plain_calls_are xs n k d (fetch_word a i) c f h = same n k d _ _ (first_calls xs (λ x. load_word width x (operand_of a) i) c (λ x b. word_calls width x (operand_of a) i b)) h
-    plain_calls_are xs n k d (update a v) c f h = same n k d _ _ (saves_calls (operand_of a) 0 (fitted width (operands_of v)) (sets xs [] c) ∙ sets_calls xs [] c) h
+    plain_calls_are xs n k d (update a v) c f h = same n k d _ _ (saves_calls (operand_of a) 0 (padded_to_width width (operands_of v)) (set_all xs [] c) ∙ sets_calls xs [] c) h
     plain_calls_are xs n k d (call f ws) c lt h =
         let r : ℕ = results_of rs f.0 in
         subst (λ l. CallsAre n ((1 + (r - length xs)) + k) (1 + d) ((n, f.0) ∷ l)) (sym (sets_calls (drop r xs) [] c))
@@ -87,7 +87,7 @@ module _ (procs : ℕ) where
         let e : ℕ = end_words width rs goal.words o in
         let xs : List ℕ = numbers_from n e in
         let more : plain_numbers width rs (length xs) o + 0 ≡ plain_numbers width rs e o = (let q = ap (λ m. plain_numbers width rs m o) (length_numbers n e) in omega (arith, q)) in
-        let body = plain_calls_are xs (n + e) 0 0 o (low.give (fitted goal.words (variables_of xs))) f (calls_none _ 0) in
+        let body = plain_calls_are xs (n + e) 0 0 o (low.give (padded_to_width goal.words (variables_of xs))) f (calls_none _ 0) in
         calls_as n n (through_numbers width rs goal o) (through_numbers width rs goal o) (0 + plain_calls o) (plain_calls o) _ refl refl (omega arith)
         (calls_both n e (plain_numbers width rs e o) 0 (plain_calls o) [] _ (calls_none n e) (calls_as (n + e) (n + e) _ (plain_numbers width rs e o) _ (plain_calls o) _ refl more (omega arith) body))
 
@@ -152,17 +152,17 @@ module _ (g : grin.Program) (width : ℕ) (rs : List ℕ) where
     code_calls_are scope goal n (end o) h = end_calls_are scope goal n o h
     code_calls_are scope goal n (store cs b) h =
         let c : low.Code = code_code width rs goal n b in
-        subst (CallsAre procs n (code_numbers width rs goal b) (code_calls b)) (sym (taken_calls (cell_vars cs) (stores width cs c) ∙ stores_calls width cs c)) (code_calls_are (with_words (cell_vars cs) scope) goal n b h.1)
+        subst (CallsAre procs n (code_numbers width rs goal b) (code_calls b)) (sym (taken_calls (cell_vars cs) (store_all width cs c) ∙ stores_calls width cs c)) (code_calls_are (with_word_variables (cell_vars cs) scope) goal n b h.1)
     code_calls_are scope goal n (bind t o b) h =
         let m : ℕ = n + act_numbers width rs (length (target_vars t)) o in
         act_calls_are scope (target_vars t) n (code_numbers width rs goal b) (code_calls b) o (code_code width rs goal m b) h.0 (code_calls_are (with_target t scope) goal m b h.1)
 
     arms_calls_are : (scope : Scope) (goal : Goal) (n : ℕ) (as' : List Operand) (l : grin.Arms) → ArmsFormed g scope l → CallsAre procs n (arms_numbers width rs goal l) (arms_calls l) (low_arms_calls (arms_code width rs goal n as' l))
     arms_calls_are scope goal n as' no_arm h = calls_none procs n 0
-    arms_calls_are scope goal n as' (arm s b no_arm) h = calls_as procs n n (code_numbers width rs goal b) _ (code_calls b) _ _ refl (omega arith) (omega arith) (code_calls_are (with_words (shape_vars s) scope) goal n b h.1)
+    arms_calls_are scope goal n as' (arm s b no_arm) h = calls_as procs n n (code_numbers width rs goal b) _ (code_calls b) _ _ refl (omega arith) (omega arith) (code_calls_are (with_word_variables (shape_vars s) scope) goal n b h.1)
     arms_calls_are scope goal n as' (arm s b (arm s' b' more)) h =
         let rest : grin.Arms = arm s' b' more in
-        calls_both procs n (code_numbers width rs goal b) (arms_numbers width rs goal rest) (code_calls b) (arms_calls rest) _ _ (code_calls_are (with_words (shape_vars s) scope) goal n b h.1)
+        calls_both procs n (code_numbers width rs goal b) (arms_numbers width rs goal rest) (code_calls b) (arms_calls rest) _ _ (code_calls_are (with_word_variables (shape_vars s) scope) goal n b h.1)
         (arms_calls_are scope goal (n + code_numbers width rs goal b) as' (arm s' b' more) h.2)
 
   -- ---- procedures

@@ -15,7 +15,7 @@ use Rattle.grin_syntax.specs.Binders.{shape_vars, numbers_of}
 use Rattle.grin_syntax.specs.Formed.{AllOf}
 use Rattle.grin_syntax.specs.Tree as grin_tree
 use Rattle.grin_meaning.specs.Values as grin
-use Rattle.grin_meaning.specs.Values.{Datum, number, tag, cell, Node, Value, node, words, Fit, fits, fits_not, unclear, as_node, value_of, words_of, fit_of}
+use Rattle.grin_meaning.specs.Values.{Datum, number, tag, cell, Node, Value, node, words, MatchOutcome, fits, fits_not, unclear, as_node, value_of, words_of, fit_of}
 use Rattle.grin_meaning.specs.Checks.{all_zero, is_zero, is_filled, fills, is_none_or}
 use Rattle.grin_meaning.specs.Ready.{NoNodeVar, BindsNothing}
 use Rattle.low_code.specs.declared.program.LowTest.{LowTest}
@@ -25,7 +25,7 @@ use Rattle.low_code.specs.Tree as low_tree
 use Rattle.low_code.specs.Values as low
 use Rattle.low_code.specs.Values.{Word, Env, and_then}
 use Rattle.low_code.specs.Run.{operand, operands, number_in, holds}
-use Rattle.low_translate.specs.Translation.{nth_operand, is_number, tested, tests}
+use Rattle.low_translate.specs.Translation.{nth_operand, is_number, with_test, tests}
 use Rattle.low_translate.specs.Lowered.{Has32Bits, ShapeRanged}
 use Rattle.low_translate.proofs.Images.{word_image, images, words_of_value, fit, nth_word, InRange, SoundNode, SoundValue, none_some, some_same}
 
@@ -136,7 +136,7 @@ filled_value g env (val.One w) x nn h f ds e n a = go (grin.word_of g env w) ref
 -- ---- tests
 
 -- a decision on a pattern
-pub data Decides : Fit → Option Bool → Type 0 where
+pub data Decides : MatchOutcome → Option Bool → Type 0 where
   taken' : Decides (fits []) (Some true)
   passed : Decides fits_not (Some false)
   free : {o : Option Bool} → Decides unclear o
@@ -165,7 +165,7 @@ module _ (p : low_tree.Program) (fw : ℕ → ℕ) (env : Env) where
       go (Some b) q (Some bs) qs m rec zero = q ∙ ap (λ l. Some (nth_word l 0)) (some_same m)
       go (Some b) q (Some bs) qs m rec (suc i) = rec bs i qs ∙ ap (λ l. Some (nth_word l (suc i))) (some_same m)
 
-  pub tested_run : (a : Operand) (k m : ℕ) (ts : List LowTest) → operand p fw env a ≡ Some (low.number m) → holds p fw env (tested a k ts) ≡ elim (nat_eq m k) [ true ↦ holds p fw env ts | false ↦ Some false ]
+  pub tested_run : (a : Operand) (k m : ℕ) (ts : List LowTest) → operand p fw env a ≡ Some (low.number m) → holds p fw env (with_test a k ts) ≡ elim (nat_eq m k) [ true ↦ holds p fw env ts | false ↦ Some false ]
   tested_run a k m ts h = go (is_number a k) refl
     where
       in_test : number_in p fw env a ≡ Some m
@@ -225,10 +225,10 @@ module _ (p : low_tree.Program) (fw : ℕ → ℕ) (env : Env) where
       go None q = free
       go (Some n) q =
           let s = stands g x n q in
-          let e = tested_run (nth_operand as' 0) 0 n.tag (tested (nth_operand as' 1) (pattern k) []) (nth_is as' _ 0 h ∙ ap Some (tag_word g x n s)) in
+          let e = tested_run (nth_operand as' 0) 0 n.tag (with_test (nth_operand as' 1) (pattern k) []) (nth_is as' _ 0 h ∙ ap Some (tag_word g x n s)) in
           by (nat_eq n.tag 0) e
         where
-          second : (fs : List Datum) → n.fields ≡ fs → Decides (grin.number_fit k fs) (holds p fw env (tested (nth_operand as' 1) (pattern k) []))
+          second : (fs : List Datum) → n.fields ≡ fs → Decides (grin.number_fit k fs) (holds p fw env (with_test (nth_operand as' 1) (pattern k) []))
           second [] e = free
           second (tag t ∷ rest) e = free
           second (cell a ∷ rest) e = free
@@ -238,10 +238,10 @@ module _ (p : low_tree.Program) (fw : ℕ → ℕ) (env : Env) where
               let d = tested_run (nth_operand as' 1) (pattern k) (pattern i) [] (nth_is as' _ 1 h ∙ ap Some (number_word g x n i rest s e)) in
               last (same_number k i) (d ∙ ap (λ c. elim c [ true ↦ Some true | false ↦ Some false ]) (pattern_same i k ri r))
             where
-              last : (c : Bool) → holds p fw env (tested (nth_operand as' 1) (pattern k) []) ≡ elim c [ true ↦ Some true | false ↦ Some false ] → Decides (cond c (fits []) fits_not) (holds p fw env (tested (nth_operand as' 1) (pattern k) []))
+              last : (c : Bool) → holds p fw env (with_test (nth_operand as' 1) (pattern k) []) ≡ elim c [ true ↦ Some true | false ↦ Some false ] → Decides (cond c (fits []) fits_not) (holds p fw env (with_test (nth_operand as' 1) (pattern k) []))
               last true d = subst (Decides (fits [])) (sym d) taken'
               last false d = subst (Decides fits_not) (sym d) passed
 
-          by : (c : Bool) → holds p fw env (tests as' (shape.Int k)) ≡ elim c [ true ↦ holds p fw env (tested (nth_operand as' 1) (pattern k) []) | false ↦ Some false ] → Decides (cond c (grin.number_fit k n.fields) fits_not) (holds p fw env (tests as' (shape.Int k)))
+          by : (c : Bool) → holds p fw env (tests as' (shape.Int k)) ≡ elim c [ true ↦ holds p fw env (with_test (nth_operand as' 1) (pattern k) []) | false ↦ Some false ] → Decides (cond c (grin.number_fit k n.fields) fits_not) (holds p fw env (tests as' (shape.Int k)))
           by true e = subst (Decides (grin.number_fit k n.fields)) (sym e) (second n.fields refl)
           by false e = subst (Decides fits_not) (sym e) passed

@@ -10,7 +10,7 @@ use Rattle.grin_syntax.specs.Tree.{Act, unit, fetch, fetch_word, update, eval, a
 use Rattle.grin_meaning.specs.Values as grin
 use Rattle.grin_meaning.specs.Values.{Datum, Node, Value, node, words_of, value_of}
 use Rattle.grin_meaning.specs.Run as grin_run
-use Rattle.grin_meaning.specs.Run.{act_by, looking}
+use Rattle.grin_meaning.specs.Run.{act_by, require_if_checked}
 use Rattle.grin_meaning.specs.Checks.{fills}
 use Rattle.grin_meaning.specs.Ready.{NoNodeVar, EachAct, most_fields, inlined_kind, vectorised_kind}
 use Rattle.low_code.specs.declared.program.Operand.{Operand}
@@ -19,8 +19,8 @@ use Rattle.low_code.specs.Values as low
 use Rattle.low_code.specs.Values.{need}
 use Rattle.low_code.specs.Run.{Calls, code, operands}
 use Rattle.low_translate.specs.declared.blocks.Goal.{Goal}
-use Rattle.low_translate.specs.Translation.{operands_of, operands_of_words, fitted, variables_of, results_of, end_words, through, plain_end}
-use Rattle.low_translate.specs.Writes.{act_writes, procs_write, reach}
+use Rattle.low_translate.specs.Translation.{operands_of, operands_of_words, padded_to_width, variables_of, results_of, end_words, through, plain_end}
+use Rattle.low_translate.specs.Writes.{act_writes, procs_write, written_width}
 use Rattle.low_translate.specs.Lowered.{WordRanged, ValRanged, PlainRanged, ActGives}
 use Rattle.low_translate.proofs.Images.{word_image, images, words_of_value, fit, fit_again, length_fit, world_image, SoundValue}
 use Rattle.low_translate.proofs.Operands.{words_are, value_is, fitted_are}
@@ -87,7 +87,7 @@ module _ (g : grin_tree.Program) (p : low_tree.Program) (fw : ℕ → ℕ) (most
   OnFetch _ T = Unit {0}
 
   -- an operation gives few words, if they fit
-  few_words : (k : ℕ) (o : Act) (v : Value) → IsThrough o → Wide o v → SoundValue g v → OnFetch o ((n : Node) → v ≡ node n → length (words_of_value v) ≤ k) → length (words_of_value v) ≤ end_words (reach g) rs k o
+  few_words : (k : ℕ) (o : Act) (v : Value) → IsThrough o → Wide o v → SoundValue g v → OnFetch o ((n : Node) → v ≡ node n → length (words_of_value v) ≤ k) → length (words_of_value v) ≤ end_words (written_width g) rs k o
   few_words k (unit u) v th wd sv f = absurd th
   few_words k (eval a) v th wd sv f = absurd th
   few_words k (apply u a) v th wd sv f = absurd th
@@ -101,32 +101,32 @@ module _ (g : grin_tree.Program) (p : low_tree.Program) (fw : ℕ → ℕ) (most
       omega (arith, le, n, s)
   few_words k _ v th wd sv f = wd
 
-  module _ (P : Value → Type 0) (goal : Goal) (d : ℕ) (s : Standing g rs (reach g) most P goal d top under) (n : ℕ) (n_first : first ≤ n) where
-    fetch_fits : (o : Act) (v : Value) → P v → SoundValue g v → Giving g rs (reach g) most goal (Gives g rs (reach g) most o) → OnFetch o ((m : Node) → v ≡ node m → length (words_of_value v) ≤ goal.words)
+  module _ (P : Value → Type 0) (goal : Goal) (d : ℕ) (s : Standing g rs (written_width g) most P goal d top under) (n : ℕ) (n_first : first ≤ n) where
+    fetch_fits : (o : Act) (v : Value) → P v → SoundValue g v → Giving g rs (written_width g) most goal (Gives g rs (written_width g) most o) → OnFetch o ((m : Node) → v ≡ node m → length (words_of_value v) ≤ goal.words)
     unfolding ActGives
-    fetch_fits (fetch a) v pv sv gives = λ m e. subst (λ x. length (words_of_value x) ≤ goal.words) (sym e) (node_fits_goal g rs (reach g) most P goal d top under s m (subst (SoundValue g) e sv) gives (subst P e pv))
+    fetch_fits (fetch a) v pv sv gives = λ m e. subst (λ x. length (words_of_value x) ≤ goal.words) (sym e) (node_fits_goal g rs (written_width g) most P goal d top under s m (subst (SoundValue g) e sv) gives (subst P e pv))
     fetch_fits _ v pv sv gives = tt
 
     module _ (scope : List ℕ) (below : (x : ℕ) → 0 < times x scope → x < first) (env : grin.Env) (e : low.Env) (w : grin.World) (frames : ℕ) (h : At scope env e w frames) where
       through_runs : (o : Act) → IsThrough o → EachAct inlined_kind o → EachAct vectorised_kind o → PlainRanged o → act_writes g.tags o ≤ procs_write g.tags g.procs → plain.Lies g p fw most rs first same_globals width wide gcalls lcalls calls_match top under o d
-          → Giving g rs (reach g) most goal (Gives g rs (reach g) most o)
-          → Matches P goal.words (act_by g gcalls true env d o w) (does e (through (reach g) rs goal n o) (world_image width frames w))
-      through_runs o th inl' vec r few lies gives = subst (λ a. Matches P goal.words a (does e (through (reach g) rs goal n o) (world_image width frames w))) (then_gives (act_by g gcalls true env d o w))
+          → Giving g rs (written_width g) most goal (Gives g rs (written_width g) most o)
+          → Matches P goal.words (act_by g gcalls true env d o w) (does e (through (written_width g) rs goal n o) (world_image width frames w))
+      through_runs o th inl' vec r few lies gives = subst (λ a. Matches P goal.words a (does e (through (written_width g) rs goal n o) (world_image width frames w))) (then_gives (act_by g gcalls true env d o w))
           (plain.plain_runs g p fw most rs first same_globals width wide gcalls lcalls calls_match top under P goal.words (n + ew) xs e c (λ v w. grin.gives v w) scope env w frames d
           (λ x lt. apart_numbers n ew x (let b = below x lt in omega (arith, b, n_first))) h o (through_plain o th) inl' vec r few lies go skip)
         where
           ew : ℕ
-          ew = end_words (reach g) rs goal.words o
+          ew = end_words (written_width g) rs goal.words o
 
           xs : List ℕ
           xs = numbers_from n ew
 
           c : low_tree.Code
-          c = low_tree.give (fitted goal.words (variables_of xs))
+          c = low_tree.give (padded_to_width goal.words (variables_of xs))
 
           go : plain.Going g p fw most rs first same_globals width wide gcalls lcalls calls_match top under P goal.words (n + ew) xs e c (λ v w. grin.gives v w)
           go v w' frames' e' sv sw le wi same = given sv sw (λ pv. record {
-            few = ends_fit g rs (reach g) most P goal d top under s o gives v pv (let m = length_numbers n ew in omega (arith, le, m));
+            few = ends_fit g rs (written_width g) most P goal d top under s o gives v pv (let m = length_numbers n ew in omega (arith, le, m));
             frames = frames';
             within = wi;
             is = give_is e' _ _ (world_image width frames' w') (fitted_are g p fw same_globals goal.words e' (variables_of xs) _ (numbered p fw n ew (fit (length xs) (images (words_of_value v))) e e' (length_fit (length xs) _ ∙ length_numbers n ew) same))
@@ -136,14 +136,14 @@ module _ (g : grin_tree.Program) (p : low_tree.Program) (fw : ℕ → ℕ) (most
           skip : plain.Skipping g p fw most rs first same_globals width wide gcalls lcalls calls_match top under P goal.words xs o (λ v w. grin.gives v w)
           skip v w' sv sw wd lt a = given sv sw (λ pv. absurd (let m = length_numbers n ew in let f = few_words goal.words o v th wd sv (fetch_fits o v pv sv gives) in omega (arith, lt, m, f)))
 
-      unit_ends : (v : V.Val) → NoNodeVar v → ValRanged v → Giving g rs (reach g) most goal (Gives g rs (reach g) most (unit v)) → Matches P goal.words (act_by g gcalls true env d (unit v) w) (does e (plain_end (reach g) rs goal n (unit v)) (world_image width frames w))
+      unit_ends : (v : V.Val) → NoNodeVar v → ValRanged v → Giving g rs (written_width g) most goal (Gives g rs (written_width g) most (unit v)) → Matches P goal.words (act_by g gcalls true env d (unit v) w) (does e (plain_end (written_width g) rs goal n (unit v)) (world_image width frames w))
       unfolding act_by ActGives
       unit_ends v nn r gives = by (value_of g env v) refl
         where
           low_answer : low.Answer
-          low_answer = does e (plain_end (reach g) rs goal n (unit v)) (world_image width frames w)
+          low_answer = does e (plain_end (written_width g) rs goal n (unit v)) (world_image width frames w)
 
-          by : (o : Option Value) → value_of g env v ≡ o → Matches P goal.words (grin.need o w (λ x. looking true (fills g env v) w (grin.gives x w))) low_answer
+          by : (o : Option Value) → value_of g env v ≡ o → Matches P goal.words (grin.need o w (λ x. require_if_checked true (fills g env v) w (grin.gives x w))) low_answer
           by None q = missed
           by (Some x) q = looks (fills g env v)
             where
@@ -152,7 +152,7 @@ module _ (g : grin_tree.Program) (p : low_tree.Program) (fw : ℕ → ℕ) (most
               looks true =
                   let u = value_is g p fw same_globals first scope env e h.agrees v x q nn r in
                   given u.sound h.sound (λ pv. record {
-                    few = value_fits_goal g rs (reach g) most P goal d top under s env v x q nn u.sound gives pv;
+                    few = value_fits_goal g rs (written_width g) most P goal d top under s env v x q nn u.sound gives pv;
                     frames = frames;
                     within = h.within;
                     is = give_is e _ _ (world_image width frames w) (fitted_are g p fw same_globals goal.words e (operands_of v) _ u.words.are);
@@ -173,12 +173,12 @@ module _ (g : grin_tree.Program) (p : low_tree.Program) (fw : ℕ → ℕ) (most
               (any_match P goal.words _ _ (subst (λ k. Matches (λ v. Unit {0}) k (gcalls f.0 ds d w) (lcalls f.0 (images ds) b.0 (world_image width frames w))) same
               (calls_match f.0 ds d w b.0 frames u.ranged h.sound b.2 h.within)))
 
-      call_ends : (f : ProcId) (ws : List W.Word) → EachAct inlined_kind (call f ws) → EachAct vectorised_kind (call f ws) → AllOf WordRanged ws → act_writes g.tags (call f ws) ≤ procs_write g.tags g.procs → Giving g rs (reach g) most goal (Gives g rs (reach g) most (call f ws))
-          → Matches P goal.words (act_by g gcalls true env d (call f ws) w) (does e (plain_end (reach g) rs goal n (call f ws)) (world_image width frames w))
+      call_ends : (f : ProcId) (ws : List W.Word) → EachAct inlined_kind (call f ws) → EachAct vectorised_kind (call f ws) → AllOf WordRanged ws → act_writes g.tags (call f ws) ≤ procs_write g.tags g.procs → Giving g rs (written_width g) most goal (Gives g rs (written_width g) most (call f ws))
+          → Matches P goal.words (act_by g gcalls true env d (call f ws) w) (does e (plain_end (written_width g) rs goal n (call f ws)) (world_image width frames w))
       unfolding ActGives
       call_ends f ws inl' vec r few gives = by goal.leaves refl
         where
-          by : (b : Bool) → goal.leaves ≡ b → Matches P goal.words (act_by g gcalls true env d (call f ws) w) (does e (elim b [ true ↦ low_tree.tail f.0 n (operands_of_words ws) | false ↦ through (reach g) rs goal n (call f ws) ]) (world_image width frames w))
+          by : (b : Bool) → goal.leaves ≡ b → Matches P goal.words (act_by g gcalls true env d (call f ws) w) (does e (elim b [ true ↦ low_tree.tail f.0 n (operands_of_words ws) | false ↦ through (written_width g) rs goal n (call f ws) ]) (world_image width frames w))
           by true q = tail_ends f ws r q (gives q)
           by false q = through_runs (call f ws) tt inl' vec r few (s.inside q) gives
 
@@ -186,8 +186,8 @@ module _ (g : grin_tree.Program) (p : low_tree.Program) (fw : ℕ → ℕ) (most
       unfolding act_by code
       fail_ends = fails h.within
 
-      pub end_runs : (o : Act) → IsLeaf o → EachAct inlined_kind o → EachAct vectorised_kind o → PlainRanged o → act_writes g.tags o ≤ procs_write g.tags g.procs → Giving g rs (reach g) most goal (Gives g rs (reach g) most o)
-          → Matches P goal.words (act_by g gcalls true env d o w) (does e (plain_end (reach g) rs goal n o) (world_image width frames w))
+      pub end_runs : (o : Act) → IsLeaf o → EachAct inlined_kind o → EachAct vectorised_kind o → PlainRanged o → act_writes g.tags o ≤ procs_write g.tags g.procs → Giving g rs (written_width g) most goal (Gives g rs (written_width g) most o)
+          → Matches P goal.words (act_by g gcalls true env d o w) (does e (plain_end (written_width g) rs goal n o) (world_image width frames w))
       unfolding EachAct
       end_runs (unit v) pl inl' vec r few gives = unit_ends v vec.1 r gives
       end_runs (fetch a) pl inl' vec r few gives = through_runs (fetch a) tt inl' vec r few tt gives

@@ -5,7 +5,7 @@ use Rattle.std.proofs.lemmas.List.{length-map}
 use Rattle.grin_syntax.specs.declared.program.Grin.{Grin}
 use Rattle.grin_syntax.specs.Binders.{shape_vars, cell_vars}
 use Rattle.grin_syntax.specs.Tree.{Code, end, store, bind, Act, unit, fetch, fetch_word, update, eval, apply, call, prim, read, write, case, nested, fail, Arms, no_arm, arm, Procedure, Program, procedure_of, program_of}
-use Rattle.grin_syntax.specs.Formed.{AllOf, Scope, with_words, with_target, params_scope, ActFormed, CodeFormed, ArmsFormed, ProcedureFormed, Formed}
+use Rattle.grin_syntax.specs.Formed.{AllOf, Scope, with_word_variables, with_target, params_scope, ActFormed, CodeFormed, ArmsFormed, ProcedureFormed, Formed}
 use Rattle.grin_meaning.specs.Ready.{Ready, NarrowAct, NarrowCode, NarrowArms, most_value_fields}
 use Rattle.low_translate.specs.Lowered.{ActEnds, CodeEnds, ArmsEnd}
 
@@ -30,12 +30,12 @@ module _ (g : Program) (node most : ℕ) where
 
     code_ends : (scope : Scope) (b : Code) → CodeFormed g scope b → NarrowCode node most b → CodeEnds (length g.procs) node most b
     code_ends scope (end o) h k = act_ends scope o h k
-    code_ends scope (store cs b) h k = code_ends (with_words (cell_vars cs) scope) b h.1 k
+    code_ends scope (store cs b) h k = code_ends (with_word_variables (cell_vars cs) scope) b h.1 k
     code_ends scope (bind t o b) h k = code_ends (with_target t scope) b h.1 k
 
     arms_end : (scope : Scope) (as' : Arms) → ArmsFormed g scope as' → NarrowArms node most as' → ArmsEnd (length g.procs) node most as'
     arms_end scope no_arm h k = tt
-    arms_end scope (arm s b as') h k = (code_ends (with_words (shape_vars s) scope) b h.1 k.0, arms_end scope as' h.2 k.1)
+    arms_end scope (arm s b as') h k = (code_ends (with_word_variables (shape_vars s) scope) b h.1 k.0, arms_end scope as' h.2 k.1)
 
   all_end : (qs : List Procedure) → AllOf (ProcedureFormed g) qs → AllOf (λ q. NarrowCode node most q.body) qs → AllOf (λ q. CodeEnds (length g.procs) node most q.body) qs
   all_end [] h k = tt

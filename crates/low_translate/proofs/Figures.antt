@@ -5,7 +5,7 @@ use Rattle.std.specs.Int.{w32, int_wrap}
 use Rattle.std.proofs.Math.Nat.{mod-le}
 use Rattle.std.proofs.lemmas.Bool.{lt-ltb, le-ltb}
 use Rattle.std.proofs.lemmas.Int.{SFits-int_wrap}
-use Rattle.numbers.specs.Numbers.{pattern, signed, low_byte, quotient, remainder, truth, same_number, wrap}
+use Rattle.numbers.specs.Numbers.{pattern, signed, low_byte, quotient, remainder, bool_as_number, same_number, wrap}
 use Rattle.grin_syntax.specs.declared.program.PrimOp as G
 use Rattle.grin_syntax.specs.declared.program.PrimOp.TheVariants as grin_op
 use Rattle.grin_meaning.specs.Run as grin
@@ -24,7 +24,7 @@ pub low_of_pattern : (k : ℤ) → Has32Bits k → pattern k % 256 ≡ low_byte 
 low_of_pattern (pos n) h = refl
 low_of_pattern (negsuc n) h = omega arith
 
-operate_same : (f : G.PrimOp) (a b : ℤ) → low.operate (operation_of f) a b ≡ grin.arithmetic f a b
+operate_same : (f : G.PrimOp) (a b : ℤ) → low.primitive_result (operation_of f) a b ≡ grin.arithmetic f a b
 operate_same grin_op.Add a b = refl
 operate_same grin_op.Sub a b = refl
 operate_same grin_op.Mul a b = refl
@@ -34,7 +34,7 @@ operate_same grin_op.Eq a b = refl
 operate_same grin_op.Lt a b = refl
 
 pub arithmetic_same : (f : G.PrimOp) (a b : ℤ) → Has32Bits a → Has32Bits b → low.arithmetic (operation_of f) (pattern a) (pattern b) ≡ pattern (grin.arithmetic f a b)
-arithmetic_same f a b ha hb = (λ i. pattern (low.operate (operation_of f) (signed_pattern a ha i) (signed_pattern b hb i))) ∙ ap pattern (operate_same f a b)
+arithmetic_same f a b ha hb = (λ i. pattern (low.primitive_result (operation_of f) (signed_pattern a ha i) (signed_pattern b hb i))) ∙ ap pattern (operate_same f a b)
 
 -- ---- the results have 32 bits
 
@@ -45,7 +45,7 @@ wrap_has z = fits (int_wrap w32 z) (SFits-int_wrap w32 z)
     fits (pos n) h = first_of (omega (arith, h), search (rules, h), grind (arith, h))
     fits (negsuc n) h = first_of (omega (arith, h), search (rules, h), grind (arith, h))
 
-truth_has : (b : Bool) → Has32Bits (truth b)
+truth_has : (b : Bool) → Has32Bits (bool_as_number b)
 truth_has true = lit< tt
 truth_has false = lit< tt
 

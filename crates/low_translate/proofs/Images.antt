@@ -16,7 +16,7 @@ use Rattle.grin_meaning.specs.Values.{Datum, number, tag, cell, Node, Value, nod
 use Rattle.low_code.specs.Values as low
 use Rattle.low_code.specs.Values.{Word}
 use Rattle.low_translate.specs.Lowered.{Has32Bits}
-use Rattle.low_translate.specs.Writes.{reach}
+use Rattle.low_translate.specs.Writes.{written_width}
 use Rattle.grin_meaning.proofs.Fields.{field_bound}
 
 abbrev pub word_image : Datum → Word
@@ -125,7 +125,7 @@ SoundValue g (words ds) = AllOf InRange ds
 -- the node of a cell has no more words than the program writes
 pub record SoundCell (g : Program) (n : Node) : Type 0 where
   pub sound : SoundNode g n
-  pub narrow : 1 + length n.fields ≤ reach g
+  pub narrow : 1 + length n.fields ≤ written_width g
 
 pub record SoundWorld (g : Program) (w : grin.World) : Type 0 where
   pub cells : AllOf (λ c. SoundCell g c.node) w.cells
@@ -155,7 +155,7 @@ pub node_fits : (g : Program) (n : Node) → SoundNode g n → length (images (t
 node_fits g n s = let a = fields_most g n.tag s.count s.has in let b = length-map n.fields word_image in omega (arith, a, b, s.few)
 
 -- the words of a cell's node
-pub cell_narrow : (g : Program) (n : Node) → SoundCell g n → length (images (tag n.tag ∷ n.fields)) ≤ reach g
+pub cell_narrow : (g : Program) (n : Node) → SoundCell g n → length (images (tag n.tag ∷ n.fields)) ≤ written_width g
 cell_narrow g n s = let b = length-map n.fields word_image in omega (arith, b, s.narrow)
 
 most_value_at : (ts : List Tag) (t : ℕ) (i : Tag) → slice_get ts t ≡ Some i → is_fun_kind i.kind ≡ false → i.fields ≤ most_value_fields ts

@@ -19,7 +19,7 @@ use Rattle.grin_syntax.specs.Tree.{Code, end, store, bind, Act, nested, case, ac
 use Rattle.grin_syntax.proofs.TreeOf.{arm_of-parts, code_of-parts, act_of-Call, act_of-Nested, act_of-Case}
 use Rattle.grin_syntax.specs.Formed.{AllOf}
 use Rattle.low_translate.specs.Translation.{results_of}
-use Rattle.low_translate.specs.Ends.{EndsDone}
+use Rattle.low_translate.specs.Ends.{ResultsCollected}
 use Rattle.low_translate.specs.Lowered.{ActEnds, CodeEnds, ArmsEnd, ActGives, CodeGives, ArmsGive}
 use Rattle.std.proofs.lemmas.List.{take_all}
 use Rattle.seq.proofs.Lists.{all_push, take_next}
@@ -78,7 +78,7 @@ all_so_far n node most (a ∷ alts) (suc i) h = (h.0, all_so_far n node most alt
 
 -- what is learnt of the first alternatives of these
 pub record SoFar (node node' : ℕ) (old calls : List ℕ) (width : ℕ) (alts : List Alt) (i : ℕ) : Type 0 where
-  pub done : EndsDone node node' old calls width (λ n. ArmsEnd n node 13 (arms_of (map arm_of alts))) (λ rs r. ArmsGive node rs r (arms_of (map arm_of (take i alts))))
+  pub done : ResultsCollected node node' old calls width (λ n. ArmsEnd n node 13 (arms_of (map arm_of alts))) (λ rs r. ArmsGive node rs r (arms_of (map arm_of (take i alts))))
 
 pub none_so_far : (node : ℕ) (old : List ℕ) (alts : List Alt) → SoFar node node old old 0 alts 0
 unfolding ActGives
@@ -89,7 +89,7 @@ none_so_far node old alts = record { done = record { same_node = refl; known = �
     none (a ∷ alts) rs r = tt
 
 pub one_so_far : (node node1 node2 : ℕ) (old calls calls2 : List ℕ) (w v u : ℕ) (alts : List Alt) (i : ℕ) (a : Alt) (o : Op) → i < length alts → a ≡ get_or alts i a → o ≡ a.body.last.value → u ≡ max v w
-    → SoFar node node1 old calls w alts i → EndsDone node1 node2 calls calls2 v (λ n. ActEnds n node1 13 (act_of o)) (λ rs r. ActGives node1 rs r (act_of o)) → SoFar node node2 old calls2 u alts (i + 1)
+    → SoFar node node1 old calls w alts i → ResultsCollected node1 node2 calls calls2 v (λ n. ActEnds n node1 13 (act_of o)) (λ rs r. ActGives node1 rs r (act_of o)) → SoFar node node2 old calls2 u alts (i + 1)
 one_so_far node node1 node2 old calls calls2 w v u alts i a o lt e l m s k =
     let d = s.done in
     let ends : (n : ℕ) → ArmsEnd n node 13 (arms_of (map arm_of alts)) → ActEnds n node1 13 (act_of o) = λ n h. subst (λ q. ActEnds n node1 13 (act_of q)) (sym l) (subst (λ q. ActEnds n q 13 (act_of a.body.last.value)) (sym d.same_node) (arm_ends n node 13 alts i a lt e h)) in
@@ -105,7 +105,7 @@ one_so_far node node1 node2 old calls calls2 w v u alts i a o lt e l m s k =
     }
 
 pub all_learnt : (node node' : ℕ) (old calls : List ℕ) (w : ℕ) (alts : List Alt) (i : ℕ) → length alts ≤ i → SoFar node node' old calls w alts i
-    → EndsDone node node' old calls w (λ n. ArmsEnd n node 13 (arms_of (map arm_of alts))) (λ rs r. ArmsGive node rs r (arms_of (map arm_of alts)))
+    → ResultsCollected node node' old calls w (λ n. ArmsEnd n node 13 (arms_of (map arm_of alts))) (λ rs r. ArmsGive node rs r (arms_of (map arm_of alts)))
 all_learnt node node' old calls w alts i le s = let d = s.done in record { same_node = d.same_node; known = d.known; narrow = d.narrow; before = d.before; gives = λ rs r h k. subst (λ l. ArmsGive node rs r (arms_of (map arm_of l))) (take_all i alts le) (d.gives rs r h k) }
 
 -- ---- operations
@@ -114,7 +114,7 @@ all_pop : {A : Type 0} (P : A → Type 0) (xs : List A) (x : A) → AllOf P (xs 
 all_pop P [] x h = (tt, h.0)
 all_pop P (y ∷ xs) x h = let t = all_pop P xs x h.1 in ((h.0, t.0), t.1)
 
-pub call_learnt : (node : ℕ) (old calls : List ℕ) (o : Op) (f : ProcId) (ws : List Word) → o ≡ op.Call f ws → calls ≡ old ++ f.0 ∷ [] → EndsDone node node old calls 0 (λ n. ActEnds n node 13 (act_of o)) (λ rs r. ActGives node rs r (act_of o))
+pub call_learnt : (node : ℕ) (old calls : List ℕ) (o : Op) (f : ProcId) (ws : List Word) → o ≡ op.Call f ws → calls ≡ old ++ f.0 ∷ [] → ResultsCollected node node old calls 0 (λ n. ActEnds n node 13 (act_of o)) (λ rs r. ActGives node rs r (act_of o))
 unfolding ActEnds ActGives
 call_learnt node old calls o f ws e q = record {
   same_node = refl;
@@ -125,7 +125,7 @@ call_learnt node old calls o f ws e q = record {
 }
 
 pub nested_learnt : (node node' : ℕ) (old calls : List ℕ) (w : ℕ) (o : Op) (b : Box Block Global) (t : Block) (last : Op) → o ≡ op.Nested b → t ≡ b.value → last ≡ t.last.value
-    → EndsDone node node' old calls w (λ n. ActEnds n node 13 (act_of last)) (λ rs r. ActGives node rs r (act_of last)) → EndsDone node node' old calls w (λ n. ActEnds n node 13 (act_of o)) (λ rs r. ActGives node rs r (act_of o))
+    → ResultsCollected node node' old calls w (λ n. ActEnds n node 13 (act_of last)) (λ rs r. ActGives node rs r (act_of last)) → ResultsCollected node node' old calls w (λ n. ActEnds n node 13 (act_of o)) (λ rs r. ActGives node rs r (act_of o))
 unfolding ActEnds ActGives
 nested_learnt node node' old calls w o b t last e q l d =
     let is : act_of o ≡ nested (code_of t) = ap act_of e ∙ act_of-Nested b ∙ ap (λ u. nested (code_of u)) (sym q) in
@@ -139,7 +139,7 @@ nested_learnt node node' old calls w o b t last e q l d =
     }
 
 pub case_learnt : (node node' : ℕ) (old calls : List ℕ) (w : ℕ) (o : Op) (v : Val) (alts all : List Alt) → o ≡ op.Case v alts → all ≡ alts
-    → EndsDone node node' old calls w (λ n. ArmsEnd n node 13 (arms_of (map arm_of all))) (λ rs r. ArmsGive node rs r (arms_of (map arm_of all))) → EndsDone node node' old calls w (λ n. ActEnds n node 13 (act_of o)) (λ rs r. ActGives node rs r (act_of o))
+    → ResultsCollected node node' old calls w (λ n. ArmsEnd n node 13 (arms_of (map arm_of all))) (λ rs r. ArmsGive node rs r (arms_of (map arm_of all))) → ResultsCollected node node' old calls w (λ n. ActEnds n node 13 (act_of o)) (λ rs r. ActGives node rs r (act_of o))
 unfolding ActEnds ActGives
 case_learnt node node' old calls w o v alts all e q d =
     let is : act_of o ≡ case v (arms_of (map arm_of all)) = ap act_of e ∙ act_of-Case v alts ∙ ap (λ l. case v (arms_of (map arm_of l))) (sym q) in

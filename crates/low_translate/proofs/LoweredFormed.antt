@@ -14,12 +14,12 @@ use Rattle.grin_syntax.proofs.Unbound.{past_procs_none}
 use Rattle.grin_meaning.specs.Ready.{Ready, IsVectorised, most_fields, most_value_fields}
 use Rattle.grin_meaning.specs.Slim.{procs_calls, procedure_words}
 use Rattle.low_code.specs.Tree as low
-use Rattle.low_code.specs.Formed.{Formed, all_variables, all_sites, variables, AllScoped, AllCallsInRange, Starts}
+use Rattle.low_code.specs.Formed.{Formed, all_variables, all_sites, variables, AllScoped, AllCallsInRange, IsStartWellFormed}
 use Rattle.low_code.specs.Literals.{TagsSmall}
 use Rattle.low_translate.specs.Translation.{results_of, procedures_code, procedure_code, procedure_numbers, program_code}
-use Rattle.low_translate.specs.Writes.{reach}
-use Rattle.low_translate.specs.Lowered.{CodeRanged, EachGives, IsLowered}
-use Rattle.low_translate.specs.Lowers.{EachPair, IsNarrow, LowersSmall}
+use Rattle.low_translate.specs.Writes.{written_width}
+use Rattle.low_translate.specs.Lowered.{CodeRanged, EachProcedureReturns, IsLowered}
+use Rattle.low_translate.specs.Lowers.{EachProcedurePair, TargetsFitCells, LoweredIsSmall}
 use Rattle.low_translate.proofs.Numbered.{taken_below, taken_once, distinct, procs_numbers}
 use Rattle.low_translate.proofs.Programs.{each_many}
 use Rattle.low_translate.proofs.Scoping.{AllFine, procedures_fine}
@@ -57,9 +57,9 @@ tags_small : (g : grin.Program) (cs : List GlobalCell) → length g.tags ≤ 2 ^
 tags_small g [] few h = tt
 tags_small g (c ∷ cs) few h = (let k = slice_get_within g.tags c.tag.0 h.0.0 h.0.1 in omega (arith, k, few), tags_small g cs few h.1)
 
-module _ (g : grin.Program) (formed : grin_formed.Formed g) (ready : Ready g) (vectorised : IsVectorised g) (rs : List ℕ) (gives : EachGives (1 + most_value_fields g.tags) rs rs g.procs) (few : AllOf (λ r. r ≤ 13) rs) (few_tags : length g.tags ≤ 2 ^ 32) where
+module _ (g : grin.Program) (formed : grin_formed.Formed g) (ready : Ready g) (vectorised : IsVectorised g) (rs : List ℕ) (gives : EachProcedureReturns (1 + most_value_fields g.tags) rs rs g.procs) (few : AllOf (λ r. r ≤ 13) rs) (few_tags : length g.tags ≤ 2 ^ 32) where
   abbrev width : ℕ
-  width = reach g
+  width = written_width g
 
   abbrev first : ℕ
   first = past_procs g.procs
@@ -93,12 +93,12 @@ module _ (g : grin.Program) (formed : grin_formed.Formed g) (ready : Ready g) (v
   fine : AllOf (λ q. CodeRanged q.body) g.procs → AllFine g few_tags width rs made.procs
   fine ranged = procedures_fine g few_tags width rs first rs g.procs formed.procedures ranged vectorised
 
-  starts : Starts made (slice_get made.procs made.start) made.argument
+  starts : IsStartWellFormed made (slice_get made.procs made.start) made.argument
   starts =
       let s = procedure_at width rs first rs g.procs g.start.0 formed.start.0 as_many formed.start.1 in
-      subst (λ o. Starts made o g.argument) (sym s.is) (by g.argument s formed.start.2 formed.argument)
+      subst (λ o. IsStartWellFormed made o g.argument) (sym s.is) (by g.argument s formed.start.2 formed.argument)
     where
-      by : (a : Option ℕ) (s : Stands (slice_get made.procs made.start) formed.start.0) → length formed.start.0.params ≡ argument_words a → grin_formed.ArgumentKnown g a → Starts made (Some s.made) a
+      by : (a : Option ℕ) (s : Stands (slice_get made.procs made.start) formed.start.0) → length formed.start.0.params ≡ argument_words a → grin_formed.ArgumentKnown g a → IsStartWellFormed made (Some s.made) a
       by None s e k = is_empty s.made.params (ap length s.params ∙ length_numbers formed.start.0.params ∙ e)
       by (Some i) s e k = (ap length s.params ∙ length_numbers formed.start.0.params ∙ e, subst (λ m. i < m) (sym (length-map g.globals (λ c. c.tag.0))) k)
 
@@ -116,13 +116,13 @@ module _ (g : grin.Program) (formed : grin_formed.Formed g) (ready : Ready g) (v
         literals = record { procedures = f.small; tags = tags_small g g.globals few_tags formed.globals };
       }
 
-  each_few : (n : ℕ) (ks : List ℕ) (qs : List grin.Procedure) → length ks ≡ length qs → EachPair (λ q r. length (variables r) ≤ procedure_words q) qs (procedures_code width rs n ks qs)
+  each_few : (n : ℕ) (ks : List ℕ) (qs : List grin.Procedure) → length ks ≡ length qs → EachProcedurePair (λ q r. length (variables r) ≤ procedure_words q) qs (procedures_code width rs n ks qs)
   each_few n [] [] e = tt
   each_few n [] (q ∷ qs) e = absurd (omega (arith, e))
   each_few n (k ∷ ks) [] e = absurd (omega (arith, e))
   each_few n (k ∷ ks) (q ∷ qs) e = ((procedure_binds 0 width rs (results_few rs few) narrow_cells n k q).few, each_few (n + procedure_numbers width rs k q) ks qs (omega (arith, e)))
 
-  pub small_code : AllOf (λ q. CodeRanged q.body) g.procs → IsNarrow g → LowersSmall g made
+  pub small_code : AllOf (λ q. CodeRanged q.body) g.procs → TargetsFitCells g → LoweredIsSmall g made
   small_code ranged narrow = record {
     few_tests = (fine ranged).few;
     light = procedures_light width rs (results_few rs few) narrow_cells first rs g.procs few narrow;
@@ -133,5 +133,5 @@ module _ (g : grin.Program) (formed : grin_formed.Formed g) (ready : Ready g) (v
 pub lowered_formed : (g : grin.Program) (l : low.Program) → grin_formed.Formed g → Ready g → IsVectorised g → IsLowered g l → Formed l
 lowered_formed g l f r v h = subst Formed (sym h.is) (formed_code g f r v h.results h.gives h.few h.few_tags h.ranged)
 
-pub lowered_small : (g : grin.Program) (l : low.Program) → grin_formed.Formed g → Ready g → IsVectorised g → IsLowered g l → IsNarrow g → LowersSmall g l
-lowered_small g l f r v h n = subst (LowersSmall g) (sym h.is) (small_code g f r v h.results h.gives h.few h.few_tags h.ranged n)
+pub lowered_small : (g : grin.Program) (l : low.Program) → grin_formed.Formed g → Ready g → IsVectorised g → IsLowered g l → TargetsFitCells g → LoweredIsSmall g l
+lowered_small g l f r v h n = subst (LoweredIsSmall g) (sym h.is) (small_code g f r v h.results h.gives h.few h.few_tags h.ranged n)

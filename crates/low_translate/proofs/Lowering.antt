@@ -3,7 +3,7 @@ use Rattle.std.proofs.Common.{◌≡◌, ◌≢◌, inl, inr, ◌≤◌, ◌<◌
 use Rattle.std.specs.Prelude.{max, slice_set}
 use Rattle.std.proofs.lemmas.List.{length-map}
 use Rattle.seq.proofs.Order.{le_or_lt}
-use Rattle.headline.specs.Carries.{IsBytes, Tells}
+use Rattle.headline.specs.Carries.{IsBytes, MeaningRefines}
 use Rattle.grin_syntax.specs.declared.program.GlobalCell.{GlobalCell}
 use Rattle.grin_syntax.specs.Formed.{AllOf, Formed, GlobalFormed}
 use Rattle.grin_syntax.specs.Fresh.{past_procs}
@@ -14,7 +14,7 @@ use Rattle.grin_meaning.specs.Values.{HeapCell}
 use Rattle.grin_meaning.specs.Run as grin_run
 use Rattle.grin_meaning.specs.Run.{run_by}
 use Rattle.grin_meaning.specs.Keeps as keeps
-use Rattle.grin_meaning.specs.Looking.{look, LooksNeverMissing, LooksWell}
+use Rattle.grin_meaning.specs.Looking.{checked_run, CheckedRunsNeverMissing, ChecksAreExact}
 use Rattle.grin_meaning.specs.Ready.{IsVectorised, Ready, most_fields}
 use Rattle.grin_meaning.specs.Told as grin_told
 use Rattle.grin_meaning.proofs.Looked.{looking_law}
@@ -23,8 +23,8 @@ use Rattle.low_code.specs.Values as low
 use Rattle.low_code.specs.Run as low_run
 use Rattle.low_code.specs.Told as low_told
 use Rattle.low_translate.specs.Translation.{results_of, procedures_code, procedure_numbers, program_code}
-use Rattle.low_translate.specs.Writes.{reach}
-use Rattle.low_translate.specs.Lowered.{EachGives, IsLowered}
+use Rattle.low_translate.specs.Writes.{written_width}
+use Rattle.low_translate.specs.Lowered.{EachProcedureReturns, IsLowered}
 use Rattle.low_translate.specs.Lowers.{Lowers}
 use Rattle.low_translate.proofs.Images.{images, cell_image, world_image, fit_none, InRange, SoundCell}
 use Rattle.low_translate.proofs.Matches.{free, Match, missed, fails, ran_out, given}
@@ -48,7 +48,7 @@ below_largest fw (suc k) f lt = elim (le_or_lt k f) [
 
 -- what low code tells, where GRIN misses nothing
 record SameTold (most : ℕ) (a : grin.Answer) (l : low.Answer) : Type 0 where
-  tells : Tells (grin_told.told_by a) (low_told.told_by l)
+  tells : MeaningRefines (grin_told.told_by a) (low_told.told_by l)
   enters : (low_run.world_of l).entered ≡ (keeps.world_of a).entered
   frames : (low_run.world_of l).frames ≤ ((keeps.world_of a).depth + 1) * most
 
@@ -88,19 +88,19 @@ argument_ranged (Some i) = (tt, tt)
 
 -- ---- procedures
 
-same_many : (width node : ℕ) (all : List ℕ) (n : ℕ) (rs : List ℕ) (qs : List Procedure) → EachGives node all rs qs → length (procedures_code width all n rs qs) ≡ length qs
+same_many : (width node : ℕ) (all : List ℕ) (n : ℕ) (rs : List ℕ) (qs : List Procedure) → EachProcedureReturns node all rs qs → length (procedures_code width all n rs qs) ≡ length qs
 same_many width node all n [] [] h = refl
 same_many width node all n [] (q ∷ qs) h = absurd h
 same_many width node all n (r ∷ rs) [] h = absurd h
 same_many width node all n (r ∷ rs) (q ∷ qs) h = ap suc (same_many width node all (n + procedure_numbers width all r q) rs qs h.1)
 
-few_params : (width node : ℕ) (all : List ℕ) (n : ℕ) (rs : List ℕ) (qs : List Procedure) → EachGives node all rs qs → AllOf (λ q. length q.params ≤ 16) qs → AllOf (λ q. length q.params ≤ 16) (procedures_code width all n rs qs)
+few_params : (width node : ℕ) (all : List ℕ) (n : ℕ) (rs : List ℕ) (qs : List Procedure) → EachProcedureReturns node all rs qs → AllOf (λ q. length q.params ≤ 16) qs → AllOf (λ q. length q.params ≤ 16) (procedures_code width all n rs qs)
 few_params width node all n [] [] h k = tt
 few_params width node all n [] (q ∷ qs) h k = absurd h
 few_params width node all n (r ∷ rs) [] h k = absurd h
 few_params width node all n (r ∷ rs) (q ∷ qs) h k = ((let a = length-map q.params (λ x. x.0) in let b = k.0 in omega (arith, a, b)), few_params width node all (n + procedure_numbers width all r q) rs qs h.1 k.1)
 
-few_results : (width node : ℕ) (all : List ℕ) (n : ℕ) (rs : List ℕ) (qs : List Procedure) → EachGives node all rs qs → AllOf (λ r. r ≤ 13) rs → AllOf (λ q. q.results ≤ 13) (procedures_code width all n rs qs)
+few_results : (width node : ℕ) (all : List ℕ) (n : ℕ) (rs : List ℕ) (qs : List Procedure) → EachProcedureReturns node all rs qs → AllOf (λ r. r ≤ 13) rs → AllOf (λ q. q.results ≤ 13) (procedures_code width all n rs qs)
 few_results width node all n [] [] h k = tt
 few_results width node all n [] (q ∷ qs) h k = absurd h
 few_results width node all n (r ∷ rs) [] h k = absurd h
@@ -113,22 +113,22 @@ module _ (g : grin_tree.Program) (l : low_tree.Program) (formed : Formed g) (rea
   width = 1 + most_fields g.tags
 
   p : low_tree.Program
-  p = program_code (1 + most_fields g.tags) (reach g) h.results (past_procs g.procs) g
+  p = program_code (1 + most_fields g.tags) (written_width g) h.results (past_procs g.procs) g
 
-  looks : LooksWell g
+  looks : ChecksAreExact g
   looks = looking_law g ready.inlined
 
-  never_missed : LooksNeverMissing g
+  never_missed : CheckedRunsNeverMissing g
   never_missed = looks.sees ready.never_missing ready.runs
 
   module _ (fw : ℕ → ℕ) (most : ℕ) (bounded : (f : ℕ) → f < length g.procs → fw f ≤ most) (i : List ℕ) (bytes : IsBytes i) (n : ℕ) where
     cells_same : GlobalImages (1 + most_fields g.tags) g.globals
     cells_same = subst (λ w. GlobalImages w g.globals) (let e : suc (most_fields g.tags) ≡ 1 + most_fields g.tags = omega arith in e) (global_images (most_fields g.tags) g.globals)
 
-    looked : SameTold most (look g i n) (low_run.run p fw i n)
+    looked : SameTold most (checked_run g i n) (low_run.run p fw i n)
     unfolding run_by low_run.run_in p GlobalImages
     looked = same_told g p fw most h.results (past_procs g.procs) (length-map g.globals (λ c. c.tag.0)) (1 + most_fields g.tags) refl (results_of h.results g.start.0) _ _
-        (subst (Match g p fw most h.results (past_procs g.procs) (length-map g.globals (λ c. c.tag.0)) (1 + most_fields g.tags) refl (λ v. Unit {0}) (results_of h.results g.start.0) (look g i n))
+        (subst (Match g p fw most h.results (past_procs g.procs) (length-map g.globals (λ c. c.tag.0)) (1 + most_fields g.tags) refl (λ v. Unit {0}) (results_of h.results g.start.0) (checked_run g i n))
         (λ j. low_run.calls p fw free n g.start.0 (sym (argument_images g.argument) j) 0 (record { cells = sym cells_same j; input = i; used = 0; out = []; left = n; frames = 0; entered = [] }))
         (calls.calls_match g h.results fw most ready.inlined vectorised h.ranged h.gives formed.variables_once bounded n g.start.0 (grin_run.start_words g.argument) 0 (grin_run.start_world g i n) 0 0 (argument_ranged g.argument)
         (record { cells = globals_sound g g.globals formed.globals; bytes = bytes }) (omega arith) (omega arith)))

@@ -10,15 +10,15 @@ use Rattle.grin_syntax.specs.Tree.{Act, unit, fetch, update, write}
 use Rattle.grin_meaning.specs.Values as grin
 use Rattle.grin_meaning.specs.Values.{Datum, number, tag, cell, Node, Value, node, words, HeapCell, word_of, value_of, node_of}
 use Rattle.grin_meaning.specs.Run as grin_run
-use Rattle.grin_meaning.specs.Run.{act_by, looking, place_of, node_word, nth_or_zero}
+use Rattle.grin_meaning.specs.Run.{act_by, require_if_checked, place_of, node_word, nth_or_zero}
 use Rattle.grin_meaning.specs.Checks.{fills}
 use Rattle.grin_meaning.specs.Ready.{NoNodeVar, most_fields}
 use Rattle.low_code.specs.Tree as low_tree
 use Rattle.low_code.specs.Values as low
 use Rattle.low_code.specs.Values.{Word, Room, need, and_then}
 use Rattle.low_code.specs.Run.{Calls, code, written}
-use Rattle.low_translate.specs.Translation.{operand_of, operands_of, fitted, sets, loads, saves, results_of, end_words}
-use Rattle.low_translate.specs.Writes.{fields_in, procs_write, reach}
+use Rattle.low_translate.specs.Translation.{operand_of, operands_of, padded_to_width, set_all, load_all, save_all, results_of, end_words}
+use Rattle.low_translate.specs.Writes.{fields_in, procs_write, written_width}
 use Rattle.low_translate.specs.Lowered.{WordRanged, ValRanged}
 use Rattle.low_translate.proofs.Images.{word_image, images, words_of_value, fit, nth_word, cell_image, world_image, InRange, SoundCell, SoundValue, SoundWorld, cell_narrow, none_some, some_same}
 use Rattle.low_translate.proofs.Operands.{bound, Agrees, Word', operand_is, value_is}
@@ -84,8 +84,8 @@ module _ (g : grin_tree.Program) (p : low_tree.Program) (fw : ℕ → ℕ) (most
     -- what is known of a value by the operation without blocks that gives it: a fetch gives a node, and others few words
     abbrev pub Wide : Act → Value → Type 0
     Wide (unit x) v = Unit {0}
-    Wide (fetch a) v = (m : Node) × (v ≡ node m) × (1 + length m.fields ≤ reach g)
-    Wide o v = length (words_of_value v) ≤ end_words (reach g) rs 0 o
+    Wide (fetch a) v = (m : Node) × (v ≡ node m) × (1 + length m.fields ≤ written_width g)
+    Wide o v = length (words_of_value v) ≤ end_words (written_width g) rs 0 o
 
     -- where a value has more words than there are variables
     abbrev pub Skips : (P : Value → Type 0) → (k : ℕ) → (xs : List ℕ) → Act → (Value → grin.World → grin.Answer) → Type 0
@@ -106,15 +106,15 @@ module _ (g : grin_tree.Program) (p : low_tree.Program) (fw : ℕ → ℕ) (most
       ]
 
       module _ (scope : List ℕ) (env : grin.Env) (w : grin.World) (frames d : ℕ) (apart : (x : ℕ) → 0 < times x scope → times x xs ≡ 0) (h : Here scope env e w frames) where
-        pub unit_runs : (v : V.Val) → NoNodeVar v → ValRanged v → Goes P k n xs e c goes → Skips P k xs (unit v) goes → Match P k (grin.then_do (act_by g gcalls true env d (unit v) w) goes) (does e (sets xs (operands_of v) c) (world_image width frames w))
+        pub unit_runs : (v : V.Val) → NoNodeVar v → ValRanged v → Goes P k n xs e c goes → Skips P k xs (unit v) goes → Match P k (grin.then_do (act_by g gcalls true env d (unit v) w) goes) (does e (set_all xs (operands_of v) c) (world_image width frames w))
         unfolding act_by
         unit_runs v nn r go skip = by (value_of g env v) refl
           where
-            by : (o : Option Value) → value_of g env v ≡ o → Match P k (grin.then_do (grin.need o w (λ x. looking true (fills g env v) w (grin.gives x w))) goes) (does e (sets xs (operands_of v) c) (world_image width frames w))
+            by : (o : Option Value) → value_of g env v ≡ o → Match P k (grin.then_do (grin.need o w (λ x. require_if_checked true (fills g env v) w (grin.gives x w))) goes) (does e (set_all xs (operands_of v) c) (world_image width frames w))
             by None q = missed
             by (Some x) q = looks (fills g env v)
               where
-                looks : (b : Bool) → Match P k (grin.then_do (cond b (grin.gives x w) (grin.stops grin.missing w)) goes) (does e (sets xs (operands_of v) c) (world_image width frames w))
+                looks : (b : Bool) → Match P k (grin.then_do (cond b (grin.gives x w) (grin.stops grin.missing w)) goes) (does e (set_all xs (operands_of v) c) (world_image width frames w))
                 looks false = missed
                 looks true =
                     let u = value_is g p fw same_globals first scope env e h.agrees v x q nn r in
@@ -131,75 +131,75 @@ module _ (g : grin_tree.Program) (p : low_tree.Program) (fw : ℕ → ℕ) (most
             by (Some (tag t)) z m = absurd (none_some m)
             by (Some (cell j)) z m = operand_is g p fw same_globals first scope env e h.agrees a (cell i) (z ∙ ap (λ k. Some (cell k)) (some_same m)) r
 
-        pub fetch_runs : (a : W.Word) → WordRanged a → Goes P k n xs e c goes → Skips P k xs (fetch a) goes → Match P k (grin.then_do (act_by g gcalls true env d (fetch a) w) goes) (does e (loads (reach g) xs (operand_of a) 0 c) (world_image width frames w))
+        pub fetch_runs : (a : W.Word) → WordRanged a → Goes P k n xs e c goes → Skips P k xs (fetch a) goes → Match P k (grin.then_do (act_by g gcalls true env d (fetch a) w) goes) (does e (load_all (written_width g) xs (operand_of a) 0 c) (world_image width frames w))
         unfolding act_by
         fetch_runs a r go skip = by (grin.and_then (word_of g env a) place_of) refl
           where
-            by : (o : Option ℕ) → grin.and_then (word_of g env a) place_of ≡ o → Match P k (grin.then_do (grin.need o w (λ i. grin.need (slice_get w.cells i) w (λ u. grin.gives (node u.node) w))) goes) (does e (loads (reach g) xs (operand_of a) 0 c) (world_image width frames w))
+            by : (o : Option ℕ) → grin.and_then (word_of g env a) place_of ≡ o → Match P k (grin.then_do (grin.need o w (λ i. grin.need (slice_get w.cells i) w (λ u. grin.gives (node u.node) w))) goes) (does e (load_all (written_width g) xs (operand_of a) 0 c) (world_image width frames w))
             by None q = missed
             by (Some i) q = inner (slice_get w.cells i) refl
               where
-                inner : (o : Option HeapCell) → slice_get w.cells i ≡ o → Match P k (grin.then_do (grin.need o w (λ u. grin.gives (node u.node) w)) goes) (does e (loads (reach g) xs (operand_of a) 0 c) (world_image width frames w))
+                inner : (o : Option HeapCell) → slice_get w.cells i ≡ o → Match P k (grin.then_do (grin.need o w (λ u. grin.gives (node u.node) w)) goes) (does e (load_all (written_width g) xs (operand_of a) 0 c) (world_image width frames w))
                 inner None z = missed
                 inner (Some u) z =
                     let o = place_is a i q r in
                     let s : SoundCell g u.node = all_get (λ x. SoundCell g x.node) w.cells i u h.sound.cells z in
-                    subst (Match P k (goes (node u.node) w)) (sym (loads_run p fw free lcalls top under (reach g) width (omega (arith, wide)) xs (operand_of a) 0 i (images (tag u.node.tag ∷ u.node.fields)) e c (world_image width frames w) o.is (o.avoids xs apart) (map_get (λ x. cell_image width x.node) w.cells i u z) (cell_narrow g u.node s)))
+                    subst (Match P k (goes (node u.node) w)) (sym (loads_run p fw free lcalls top under (written_width g) width (omega (arith, wide)) xs (operand_of a) 0 i (images (tag u.node.tag ∷ u.node.fields)) e c (world_image width frames w) o.is (o.avoids xs apart) (map_get (λ x. cell_image width x.node) w.cells i u z) (cell_narrow g u.node s)))
                     (finish (fetch a) go skip (node u.node) w frames s.sound h.sound (u.node, refl, s.narrow) h.within)
 
-        pub write_runs : (a : W.Word) → WordRanged a → Goes P k n xs e c goes → Skips P k xs (write a) goes → Match P k (grin.then_do (act_by g gcalls true env d (write a) w) goes) (does e (low_tree.put (operand_of a) (sets xs [] c)) (world_image width frames w))
+        pub write_runs : (a : W.Word) → WordRanged a → Goes P k n xs e c goes → Skips P k xs (write a) goes → Match P k (grin.then_do (act_by g gcalls true env d (write a) w) goes) (does e (low_tree.put (operand_of a) (set_all xs [] c)) (world_image width frames w))
         unfolding act_by code
         write_runs a r go skip = by (grin.and_then (word_of g env a) grin_run.number_of) refl
           where
-            by : (o : Option ℤ) → grin.and_then (word_of g env a) grin_run.number_of ≡ o → Match P k (grin.then_do (grin.need o w (λ j. grin.gives (words []) (grin_run.written j w))) goes) (does e (low_tree.put (operand_of a) (sets xs [] c)) (world_image width frames w))
+            by : (o : Option ℤ) → grin.and_then (word_of g env a) grin_run.number_of ≡ o → Match P k (grin.then_do (grin.need o w (λ j. grin.gives (words []) (grin_run.written j w))) goes) (does e (low_tree.put (operand_of a) (set_all xs [] c)) (world_image width frames w))
             by None q = missed
             by (Some j) q = inner (word_of g env a) refl q
               where
-                inner : (o : Option Datum) → word_of g env a ≡ o → grin.and_then o grin_run.number_of ≡ Some j → Match P k (goes (words []) (grin_run.written j w)) (does e (low_tree.put (operand_of a) (sets xs [] c)) (world_image width frames w))
+                inner : (o : Option Datum) → word_of g env a ≡ o → grin.and_then o grin_run.number_of ≡ Some j → Match P k (goes (words []) (grin_run.written j w)) (does e (low_tree.put (operand_of a) (set_all xs [] c)) (world_image width frames w))
                 inner None z m = absurd (none_some m)
                 inner (Some (tag t)) z m = absurd (none_some m)
                 inner (Some (cell t)) z m = absurd (none_some m)
                 inner (Some (number l)) z m =
                     let o = operand_is g p fw same_globals first scope env e h.agrees a (number j) (z ∙ ap (λ k. Some (number k)) (some_same m)) r in
-                    let path : does e (low_tree.put (operand_of a) (sets xs [] c)) (world_image width frames w) ≡ does (bound xs (fit (length xs) []) e) c (world_image width frames (grin_run.written j w)) =
-                    (λ t. need (and_then (o.is t) low.number_of) (world_image width frames w) (λ b. does e (sets xs [] c) (written b (world_image width frames w))))
-                    ∙ (λ t. does e (sets xs [] c) (record (world_image width frames w) { out = w.out ++ low_of_pattern j o.ranged t ∷ [] }))
+                    let path : does e (low_tree.put (operand_of a) (set_all xs [] c)) (world_image width frames w) ≡ does (bound xs (fit (length xs) []) e) c (world_image width frames (grin_run.written j w)) =
+                    (λ t. need (and_then (o.is t) low.number_of) (world_image width frames w) (λ b. does e (set_all xs [] c) (written b (world_image width frames w))))
+                    ∙ (λ t. does e (set_all xs [] c) (record (world_image width frames w) { out = w.out ++ low_of_pattern j o.ranged t ∷ [] }))
                     ∙ sets_run p fw free lcalls top under xs [] [] e c (world_image width frames (grin_run.written j w)) refl tt in
                     subst (Match P k (goes (words []) (grin_run.written j w))) (sym path)
                     (finish (write a) go skip (words []) (grin_run.written j w) frames tt (record { cells = h.sound.cells; bytes = h.sound.bytes }) (omega arith) h.within)
 
         pub update_runs : (a : W.Word) (v : V.Val) → WordRanged a → NoNodeVar v → ValRanged v → fields_in g.tags v ≤ procs_write g.tags g.procs → Goes P k n xs e c goes → Skips P k xs (update a v) goes
-            → Match P k (grin.then_do (act_by g gcalls true env d (update a v) w) goes) (does e (saves (operand_of a) 0 (fitted (reach g) (operands_of v)) (sets xs [] c)) (world_image width frames w))
+            → Match P k (grin.then_do (act_by g gcalls true env d (update a v) w) goes) (does e (save_all (operand_of a) 0 (padded_to_width (written_width g) (operands_of v)) (set_all xs [] c)) (world_image width frames w))
         unfolding act_by
         update_runs a v ra nn r few go skip = by (grin.and_then (word_of g env a) place_of) refl
           where
             low_code : low_tree.Code
-            low_code = saves (operand_of a) 0 (fitted (reach g) (operands_of v)) (sets xs [] c)
+            low_code = save_all (operand_of a) 0 (padded_to_width (written_width g) (operands_of v)) (set_all xs [] c)
 
             by : (o : Option ℕ) → grin.and_then (word_of g env a) place_of ≡ o
-                → Match P k (grin.then_do (grin.need o w (λ i. grin.need (slice_get w.cells i) w (λ u. grin.need (node_of g env v) w (λ m. looking true (fills g env v) w (grin.gives (words []) (grin_run.with_node i m u w)))))) goes) (does e (saves (operand_of a) 0 (fitted (reach g) (operands_of v)) (sets xs [] c)) (world_image width frames w))
+                → Match P k (grin.then_do (grin.need o w (λ i. grin.need (slice_get w.cells i) w (λ u. grin.need (node_of g env v) w (λ m. require_if_checked true (fills g env v) w (grin.gives (words []) (grin_run.with_node i m u w)))))) goes) (does e (save_all (operand_of a) 0 (padded_to_width (written_width g) (operands_of v)) (set_all xs [] c)) (world_image width frames w))
             by None q = missed
             by (Some i) q = at_cell (slice_get w.cells i) refl
               where
                 at_cell : (o : Option HeapCell) → slice_get w.cells i ≡ o
-                    → Match P k (grin.then_do (grin.need o w (λ u. grin.need (node_of g env v) w (λ m. looking true (fills g env v) w (grin.gives (words []) (grin_run.with_node i m u w))))) goes) (does e (saves (operand_of a) 0 (fitted (reach g) (operands_of v)) (sets xs [] c)) (world_image width frames w))
+                    → Match P k (grin.then_do (grin.need o w (λ u. grin.need (node_of g env v) w (λ m. require_if_checked true (fills g env v) w (grin.gives (words []) (grin_run.with_node i m u w))))) goes) (does e (save_all (operand_of a) 0 (padded_to_width (written_width g) (operands_of v)) (set_all xs [] c)) (world_image width frames w))
                 at_cell None z = missed
                 at_cell (Some u) z = with_node (node_of g env v) refl
                   where
                     with_node : (o : Option Node) → node_of g env v ≡ o
-                        → Match P k (grin.then_do (grin.need o w (λ m. looking true (fills g env v) w (grin.gives (words []) (grin_run.with_node i m u w)))) goes) (does e (saves (operand_of a) 0 (fitted (reach g) (operands_of v)) (sets xs [] c)) (world_image width frames w))
+                        → Match P k (grin.then_do (grin.need o w (λ m. require_if_checked true (fills g env v) w (grin.gives (words []) (grin_run.with_node i m u w)))) goes) (does e (save_all (operand_of a) 0 (padded_to_width (written_width g) (operands_of v)) (set_all xs [] c)) (world_image width frames w))
                     with_node None y = missed
                     with_node (Some m) y = looks (fills g env v) refl
                       where
-                        looks : (b : Bool) → fills g env v ≡ b → Match P k (grin.then_do (cond b (grin.gives (words []) (grin_run.with_node i m u w)) (grin.stops grin.missing w)) goes) (does e (saves (operand_of a) 0 (fitted (reach g) (operands_of v)) (sets xs [] c)) (world_image width frames w))
+                        looks : (b : Bool) → fills g env v ≡ b → Match P k (grin.then_do (cond b (grin.gives (words []) (grin_run.with_node i m u w)) (grin.stops grin.missing w)) goes) (does e (save_all (operand_of a) 0 (padded_to_width (written_width g) (operands_of v)) (set_all xs [] c)) (world_image width frames w))
                         looks false f = missed
                         looks true f =
                             let o = place_is a i q ra in
                             let next : grin.World = grin_run.with_node i m u w in
-                            let run = update_run g p fw same_globals width wide free lcalls top under first scope env e h.agrees (operand_of a) v i m (images (tag u.node.tag ∷ u.node.fields)) (sets xs [] c) (world_image width frames w) o.is (map_get (λ x. cell_image width x.node) w.cells i u z) (cell_narrow g u.node (all_get (λ x. SoundCell g x.node) w.cells i u h.sound.cells z)) y f nn r few in
-                            let path : does e (saves (operand_of a) 0 (fitted (reach g) (operands_of v)) (sets xs [] c)) (world_image width frames w) ≡ does (bound xs (fit (length xs) []) e) c (world_image width frames next) =
+                            let run = update_run g p fw same_globals width wide free lcalls top under first scope env e h.agrees (operand_of a) v i m (images (tag u.node.tag ∷ u.node.fields)) (set_all xs [] c) (world_image width frames w) o.is (map_get (λ x. cell_image width x.node) w.cells i u z) (cell_narrow g u.node (all_get (λ x. SoundCell g x.node) w.cells i u h.sound.cells z)) y f nn r few in
+                            let path : does e (save_all (operand_of a) 0 (padded_to_width (written_width g) (operands_of v)) (set_all xs [] c)) (world_image width frames w) ≡ does (bound xs (fit (length xs) []) e) c (world_image width frames next) =
                             run.0
-                            ∙ (λ t. does e (sets xs [] c) (record (world_image width frames w) { cells = sym (map_set (λ x. cell_image width x.node) w.cells i (record { site = u.site; node = m })) t }))
+                            ∙ (λ t. does e (set_all xs [] c) (record (world_image width frames w) { cells = sym (map_set (λ x. cell_image width x.node) w.cells i (record { site = u.site; node = m })) t }))
                             ∙ sets_run p fw free lcalls top under xs [] [] e c (world_image width frames next) refl tt in
                             subst (Match P k (goes (words []) next)) (sym path)
                             (finish (update a v) go skip (words []) next frames tt (record { cells = all_set (λ x. SoundCell g x.node) w.cells i _ h.sound.cells run.1; bytes = h.sound.bytes }) (omega arith) h.within)

@@ -21,7 +21,7 @@ use Rattle.low_code.specs.Tree as low_tree
 use Rattle.low_code.specs.Values as low
 use Rattle.low_code.specs.Values.{Word, with_var, and_then}
 use Rattle.low_code.specs.Run.{operand, operands}
-use Rattle.low_translate.specs.Translation.{operand_of, operands_of_words, operands_of, fitted}
+use Rattle.low_translate.specs.Translation.{operand_of, operands_of_words, operands_of, padded_to_width}
 use Rattle.low_translate.specs.Lowered.{WordRanged, ValRanged}
 use Rattle.low_translate.proofs.Images.{word_image, images, words_of_value, fit, InRange, SoundNode, SoundValue, none_some, some_same}
 use Rattle.seq.specs.Lists.{times}
@@ -215,18 +215,18 @@ module _ (g : grin_tree.Program) (p : low_tree.Program) (fw : ℕ → ℕ) (same
 
   -- ---- fitted words
 
-  pub fitted_are : (k : ℕ) (env : low.Env) (as' : List Operand) (ws : List Word) → operands p fw env as' ≡ Some ws → operands p fw env (fitted k as') ≡ Some (fit k ws)
+  pub fitted_are : (k : ℕ) (env : low.Env) (as' : List Operand) (ws : List Word) → operands p fw env as' ≡ Some ws → operands p fw env (padded_to_width k as') ≡ Some (fit k ws)
   fitted_are zero env as' ws h = refl
-  fitted_are (suc k) env [] ws h = subst (λ l. operands p fw env (fitted (suc k) []) ≡ Some (fit (suc k) l)) (some_same h) (λ i. and_then (fitted_are k env [] [] refl i) (λ bs. Some (low.number 0 ∷ bs)))
+  fitted_are (suc k) env [] ws h = subst (λ l. operands p fw env (padded_to_width (suc k) []) ≡ Some (fit (suc k) l)) (some_same h) (λ i. and_then (fitted_are k env [] [] refl i) (λ bs. Some (low.number 0 ∷ bs)))
   fitted_are (suc k) env (a ∷ as') ws h = go (operand p fw env a) refl (operands p fw env as') refl h (λ bs qs. fitted_are k env as' bs qs)
     where
       go : (o : Option Word) → operand p fw env a ≡ o → (os : Option (List Word)) → operands p fw env as' ≡ os → and_then o (λ b. and_then os (λ bs. Some (b ∷ bs))) ≡ Some ws
-          → ((bs : List Word) → operands p fw env as' ≡ Some bs → operands p fw env (fitted k as') ≡ Some (fit k bs)) → operands p fw env (a ∷ fitted k as') ≡ Some (fit (suc k) ws)
+          → ((bs : List Word) → operands p fw env as' ≡ Some bs → operands p fw env (padded_to_width k as') ≡ Some (fit k bs)) → operands p fw env (a ∷ padded_to_width k as') ≡ Some (fit (suc k) ws)
       go None q os qs m rec = absurd (none_some m)
       go (Some b) q None qs m rec = absurd (none_some m)
       go (Some b) q (Some bs) qs m rec = (λ i. and_then (q i) (λ b. and_then (rec bs qs i) (λ bs. Some (b ∷ bs)))) ∙ ap (λ l. Some (fit (suc k) l)) (some_same m)
 
-  fitted_avoid : (k : ℕ) (xs : List ℕ) (as' : List Operand) → AllOf (Avoids xs) as' → AllOf (Avoids xs) (fitted k as')
+  fitted_avoid : (k : ℕ) (xs : List ℕ) (as' : List Operand) → AllOf (Avoids xs) as' → AllOf (Avoids xs) (padded_to_width k as')
   fitted_avoid zero xs as' h = tt
   fitted_avoid (suc k) xs [] h = (tt, fitted_avoid k xs [] tt)
   fitted_avoid (suc k) xs (a ∷ as') h = (h.0, fitted_avoid k xs as' h.1)

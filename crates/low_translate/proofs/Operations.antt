@@ -30,22 +30,22 @@ use Rattle.low_code.specs.declared.program.Operand.{Operand}
 use Rattle.low_code.specs.Tree as low
 use Rattle.low_code.proofs.TreeOf as low_tree
 use Rattle.low_translate.specs.declared.blocks.Goal.{Goal}
-use Rattle.low_translate.specs.Translation.{operand_of, operands_of_words, operands_of, fitted, variables_of, sets, to_first, taken, stores, results_of, to_join, end_words, plain_numbers, through_numbers, act_numbers, code_numbers, arms_numbers, plain_code, through, act_code, code_code, arms_code}
+use Rattle.low_translate.specs.Translation.{operand_of, operands_of_words, operands_of, padded_to_width, variables_of, set_all, to_first, take_if_any, store_all, results_of, to_join, end_words, plain_numbers, through_numbers, act_numbers, code_numbers, arms_numbers, plain_code, through, act_code, code_code, arms_code}
 use Rattle.low_translate.specs.Lowered.{WordRanged, ValRanged, ActRanged, CodeRanged, ArmsRanged}
-use Rattle.low_translate.specs.Emitted.{emitted, Adds, PlainDone, ActDone, ThroughDone, PlainEndDone, EndDone, BlockDone, StmtDone, ArmsDone, ProcedureDone}
+use Rattle.low_translate.specs.Emitted.{emitted, AppendsBefore, PlainDone, ActDone, ThroughDone, PlainEndDone, EndDone, BlockDone, StmtDone, ArmsDone, ProcedureDone}
 use Rattle.low_translate.proofs.Emitting.{adds_then}
 use Rattle.seq.specs.Lists.{numbers_from}
 use Rattle.seq.proofs.Counted.{length_numbers}
 use Rattle.grin_meaning.proofs.Plain.{IsLeaf}
 
 -- the first variable, then the others
-pub first_done : (a b c : List LowStmt) (x : ℕ) (xs rest : List ℕ) (e : ℕ → low.Code → low.Code) → xs ≡ x ∷ rest → Adds a b (e x) → Adds b c (sets rest []) → Adds a c (to_first xs e)
-first_done a b c x xs rest e q h k = subst (λ l. Adds a c (to_first l e)) (sym q) (adds_then a b c (e x) (sets rest []) h k)
+pub first_done : (a b c : List LowStmt) (x : ℕ) (xs rest : List ℕ) (e : ℕ → low.Code → low.Code) → xs ≡ x ∷ rest → AppendsBefore a b (e x) → AppendsBefore b c (set_all rest []) → AppendsBefore a c (to_first xs e)
+first_done a b c x xs rest e q h k = subst (λ l. AppendsBefore a c (to_first l e)) (sym q) (adds_then a b c (e x) (set_all rest []) h k)
 
 pub first_rest : (xs : List ℕ) → 0 < length xs → xs ≡ get_or xs 0 0 ∷ take (length xs - 1) (drop 1 xs)
 first_rest xs h = drop_more xs 0 0 h ∙ ap (λ l. get_or xs 0 0 ∷ l) (sym (take_rest xs 1))
 
-pub length_fitted : (k : ℕ) (as' : List Operand) → length (fitted k as') ≡ k
+pub length_fitted : (k : ℕ) (as' : List Operand) → length (padded_to_width k as') ≡ k
 length_fitted zero as' = refl
 length_fitted (suc k) [] = ap suc (length_fitted k [])
 length_fitted (suc k) (a ∷ as') = ap suc (length_fitted k as')
@@ -91,11 +91,11 @@ end_alone b s = low_tree.code_of-parts b ∙ ap (λ l. low.all_before (map low.b
 module _ (w : ℕ) (rs : List ℕ) where
   pub call_done : (n n1 n2 : ℕ) (xs : List ℕ) (f : ProcId) (ws : List Word) (site count : ℕ) (front into more into' past : List ℕ) (arguments : List Operand) (a b c : List LowStmt)
       → site ≡ n → n1 ≡ suc n → count ≡ results_of rs f.0 → front ≡ take count xs → into ≡ front → more ≡ numbers_from n1 (count - length xs) → n2 ≡ n1 + (count - length xs) → into' ≡ into ++ more
-      → arguments ≡ operands_of_words ws → AllOf WordRanged ws → Adds a b (low.before_of (low_stmt.Call f.0 site arguments into')) → past ≡ drop count xs → Adds b c (sets past []) → PlainDone w rs n n2 xs (call f ws) a c
+      → arguments ≡ operands_of_words ws → AllOf WordRanged ws → AppendsBefore a b (low.before_of (low_stmt.Call f.0 site arguments into')) → past ≡ drop count xs → AppendsBefore b c (set_all past []) → PlainDone w rs n n2 xs (call f ws) a c
   call_done n n1 n2 xs f ws site count front into more into' past arguments a b c es en ec ef ei em e2 ej ea r h ep k = record {
     is = record {
-      by = λ x. k.by x ∙ h.by (sets past [] x) ∙ ap (λ g. emitted a (g (sets past [] x))) (low_tree.before_of-Call f.0 site arguments into')
-          ∙ (λ i. emitted a (low.call f.0 (es i) (ea i) (whole i) (sets (rest i) [] x)));
+      by = λ x. k.by x ∙ h.by (set_all past [] x) ∙ ap (λ g. emitted a (g (set_all past [] x))) (low_tree.before_of-Call f.0 site arguments into')
+          ∙ (λ i. emitted a (low.call f.0 (es i) (ea i) (whole i) (set_all (rest i) [] x)));
     };
     numbers = let m : count - length xs ≡ results_of rs f.0 - length xs = ap (λ q. q - length xs) ec in omega (arith, en, e2, m);
     ranged = r;
@@ -108,20 +108,20 @@ module _ (w : ℕ) (rs : List ℕ) where
       rest = ep ∙ ap (λ q. drop q xs) ec
 
   pub write_done : (n : ℕ) (xs : List ℕ) (o : Op) (word : Word) (v : Operand) (a b c : List LowStmt) → o ≡ op.Write word → v ≡ operand_of word → WordRanged word
-      → Adds a b (low.before_of (low_stmt.Put v)) → Adds b c (sets xs []) → PlainDone w rs n n xs (act_of o) a c
+      → AppendsBefore a b (low.before_of (low_stmt.Put v)) → AppendsBefore b c (set_all xs []) → PlainDone w rs n n xs (act_of o) a c
   write_done n xs o word v a b c q e r h k = subst (λ t. PlainDone w rs n n xs t a c) (sym (ap act_of q ∙ grin_tree.act_of-Write word)) (record {
-    is = record { by = λ x. k.by x ∙ h.by (sets xs [] x) ∙ ap (λ g. emitted a (g (sets xs [] x))) (low_tree.before_of-Put v) ∙ ap (λ u. emitted a (low.put u (sets xs [] x))) e };
+    is = record { by = λ x. k.by x ∙ h.by (set_all xs [] x) ∙ ap (λ g. emitted a (g (set_all xs [] x))) (low_tree.before_of-Put v) ∙ ap (λ u. emitted a (low.put u (set_all xs [] x))) e };
     numbers = omega arith;
     ranged = r;
   })
 
   pub through_done : (n n1 n2 : ℕ) (goal : Goal) (o : Act) (count : ℕ) (xs vars : List ℕ) (words given : List Operand) (a b : List LowStmt)
-      → count ≡ end_words w rs goal.words o → vars ≡ numbers_from n count → n1 ≡ n + count → xs ≡ vars → PlainDone w rs n1 n2 xs o a b → words ≡ variables_of xs → given ≡ fitted goal.words words
+      → count ≡ end_words w rs goal.words o → vars ≡ numbers_from n count → n1 ≡ n + count → xs ≡ vars → PlainDone w rs n1 n2 xs o a b → words ≡ variables_of xs → given ≡ padded_to_width goal.words words
       → ThroughDone w rs n n2 goal o a b (low.end_of (low_end.Give given))
   through_done n n1 n2 goal o count xs vars words given a b ec ev en ex d ew eg = record {
     is = record {
-      by = ap (emitted b) (low_tree.end_of-Give given ∙ ap low.give (eg ∙ ap (fitted goal.words) (ew ∙ ap variables_of same))) ∙ d.is.by _
-          ∙ (λ i. emitted a (plain_code w rs (same i) (first i) o (low.give (fitted goal.words (variables_of (numbers_from n (end_words w rs goal.words o)))))));
+      by = ap (emitted b) (low_tree.end_of-Give given ∙ ap low.give (eg ∙ ap (padded_to_width goal.words) (ew ∙ ap variables_of same))) ∙ d.is.by _
+          ∙ (λ i. emitted a (plain_code w rs (same i) (first i) o (low.give (padded_to_width goal.words (variables_of (numbers_from n (end_words w rs goal.words o)))))));
     };
     numbers =
         let m : n2 ≡ n1 + plain_numbers w rs (end_words w rs goal.words o) o = d.numbers ∙ ap (λ k. n1 + plain_numbers w rs k o) (ap length same ∙ length_numbers n (end_words w rs goal.words o)) in
@@ -143,10 +143,10 @@ module _ (w : ℕ) (rs : List ℕ) where
     ranged = r;
   }
 
-  pub unit_done : (n : ℕ) (goal : Goal) (o : Op) (v : Val) (words given : List Operand) (a : List LowStmt) → o ≡ op.Unit v → words ≡ operands_of v → ValRanged v → given ≡ fitted goal.words words
+  pub unit_done : (n : ℕ) (goal : Goal) (o : Op) (v : Val) (words given : List Operand) (a : List LowStmt) → o ≡ op.Unit v → words ≡ operands_of v → ValRanged v → given ≡ padded_to_width goal.words words
       → PlainEndDone w rs n n goal (act_of o) a a (low.end_of (low_end.Give given))
   unit_done n goal o v words given a q e r g = subst (λ t. PlainEndDone w rs n n goal t a a (low.end_of (low_end.Give given))) (sym (ap act_of q ∙ grin_tree.act_of-Unit v)) (record {
-    is = record { by = ap (emitted a) (low_tree.end_of-Give given ∙ ap low.give (g ∙ ap (fitted goal.words) e)) };
+    is = record { by = ap (emitted a) (low_tree.end_of-Give given ∙ ap low.give (g ∙ ap (padded_to_width goal.words) e)) };
     numbers = omega arith;
     ranged = r;
   })
@@ -175,7 +175,7 @@ module _ (w : ℕ) (rs : List ℕ) where
   plain_end_act n n1 goal o a b e h d = record { is = d.is; numbers = d.numbers; ranged = d.ranged }
 
   pub case_done : (n n1 : ℕ) (xs : List ℕ) (o : Op) (v : Val) (alts alts' : List Alt) (words : List Operand) (block : LowBlock) (e : low.Code) (a b : List LowStmt) → o ≡ op.Case v alts → alts' ≡ alts → words ≡ operands_of v → ValRanged v
-      → ArmsDone w rs n n1 (to_join xs) words (grin.arms_of (map grin.arm_of alts')) e → low.code_of block ≡ e → Adds a b (low.join xs (low.code_of block)) → ActDone w rs n n1 xs (act_of o) a b
+      → ArmsDone w rs n n1 (to_join xs) words (grin.arms_of (map grin.arm_of alts')) e → low.code_of block ≡ e → AppendsBefore a b (low.join xs (low.code_of block)) → ActDone w rs n n1 xs (act_of o) a b
   unfolding act_code act_numbers ActRanged
   case_done n n1 xs o v alts alts' words block e a b q qa h r d k j = subst (λ t. ActDone w rs n n1 xs t a b) (sym (ap act_of q ∙ grin_tree.act_of-Case v alts)) (record {
     is = record { by = λ c. j.by c ∙ ap (λ t. emitted a (low.join xs t c)) (k ∙ d.is ∙ (λ i. low.choose (arms_code w rs (to_join xs) n (h i) (grin.arms_of (map grin.arm_of (qa i)))))) };
@@ -184,7 +184,7 @@ module _ (w : ℕ) (rs : List ℕ) where
   })
 
   pub nested_done : (n n1 : ℕ) (xs : List ℕ) (o : Op) (inner : Box Block Global) (t : Block) (block : LowBlock) (a b : List LowStmt) → o ≡ op.Nested inner → t ≡ inner.value
-      → BlockDone w rs n n1 (to_join xs) (code_of t) [] [] (low.code_of block) → Adds a b (low.join xs (low.code_of block)) → ActDone w rs n n1 xs (act_of o) a b
+      → BlockDone w rs n n1 (to_join xs) (code_of t) [] [] (low.code_of block) → AppendsBefore a b (low.join xs (low.code_of block)) → ActDone w rs n n1 xs (act_of o) a b
   unfolding act_code act_numbers ActRanged
   nested_done n n1 xs o inner t block a b q e d j = subst (λ u. ActDone w rs n n1 xs u a b) (sym (ap act_of q ∙ grin_tree.act_of-Nested inner ∙ ap (λ u. nested (code_of u)) (sym e))) (record {
     is = record { by = λ c. j.by c ∙ ap (λ u. emitted a (low.join xs u c)) d.is.by };
@@ -208,7 +208,7 @@ module _ (w : ℕ) (rs : List ℕ) where
 
   -- ---- statements
 
-  pub store_done : (n : ℕ) (s : S.Stmt) (cells : List C.Cell) (a b : List LowStmt) → s ≡ stmt.Store cells → Adds a b (λ c. taken (cell_vars cells) (stores w cells c)) → AllOf (λ c. ValRanged c.val) cells → StmtDone w rs n n (before_of s) a b
+  pub store_done : (n : ℕ) (s : S.Stmt) (cells : List C.Cell) (a b : List LowStmt) → s ≡ stmt.Store cells → AppendsBefore a b (λ c. take_if_any (cell_vars cells) (store_all w cells c)) → AllOf (λ c. ValRanged c.val) cells → StmtDone w rs n n (before_of s) a b
   unfolding code_code code_numbers CodeRanged
   store_done n s cells a b q h r = subst (λ f. StmtDone w rs n n f a b) (sym (ap before_of q ∙ grin_tree.before_of-Store cells)) (record {
     is = λ goal c. record { by = h.by (code_code w rs goal n c) };

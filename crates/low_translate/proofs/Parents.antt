@@ -1,7 +1,7 @@
 -- Parents that become others.
 use Rattle.std.proofs.Common.{◌≡◌, ◌≢◌, ◌⊎◌, inl, inr, ◌≤◌, ◌<◌, ℕ, zero, suc, ◌+◌, List, [], ◌∷◌, length, get_or, set, max, min, refl, sym, ap, ◌∙◌, arith, get_or-set_same, get_or-set_other}
 use Rattle.std.proofs.lemmas.List.{length-set}
-use Rattle.low_translate.specs.Groups.{Ordered, Respects}
+use Rattle.low_translate.specs.Groups.{ParentsAreSmaller, IsConstantOnGroups}
 
 same_or_not : (x y : ℕ) → (x ≡ y) ⊎ (x ≢ y)
 same_or_not zero zero = inl refl
@@ -24,7 +24,7 @@ module _ (parents : List ℕ) (at to : ℕ) (known : at < length parents) where
   pub there : (x : ℕ) → x ≢ at → get_or (set parents at to) x 0 ≡ get_or parents x 0
   there x n = get_or-set_other parents at x to 0 n
 
-  pub ordered_still : Ordered parents → to ≤ at → Ordered (set parents at to)
+  pub ordered_still : ParentsAreSmaller parents → to ≤ at → ParentsAreSmaller (set parents at to)
   ordered_still o le x lt = elim (same_or_not x at) [
     | inl e ↦ let h : get_or (set parents at to) x 0 ≡ to = ap (λ k. get_or (set parents at to) k 0) e ∙ here in omega (arith, h, le, e)
     | inr n ↦ let h = there x n in let p = o x (omega (arith, lt, many)) in omega (arith, h, p)
@@ -34,17 +34,17 @@ module _ (parents : List ℕ) (at to : ℕ) (known : at < length parents) where
   firsts_still y n e = let d : y ≢ at = (λ q. n (ap (λ k. get_or parents k 0) (sym q) ∙ e ∙ q)) in there y d ∙ e
 
   -- what is one for each number and its new parent is so for the parents before, where it is for this number
-  pub respects_before : (c : ℕ → ℕ) → Respects c (set parents at to) → c (get_or parents at 0) ≡ c at → Respects c parents
+  pub respects_before : (c : ℕ → ℕ) → IsConstantOnGroups c (set parents at to) → c (get_or parents at 0) ≡ c at → IsConstantOnGroups c parents
   respects_before c r e x lt = elim (same_or_not x at) [
     | inl q ↦ ap (λ k. c (get_or parents k 0)) q ∙ e ∙ ap c (sym q)
     | inr n ↦ ap c (sym (there x n)) ∙ r x (omega (arith, lt, many))
   ]
 
-  pub respects_here : (c : ℕ → ℕ) → Respects c (set parents at to) → c to ≡ c at
+  pub respects_here : (c : ℕ → ℕ) → IsConstantOnGroups c (set parents at to) → c to ≡ c at
   respects_here c r = ap c (sym here) ∙ r at (omega (arith, known, many))
 
   -- a parent's parent
-  pub respects_parent : (c : ℕ → ℕ) (y : ℕ) → Respects c (set parents at to) → y ≢ at → y < length parents → y ≡ get_or parents at 0 → to ≡ get_or parents y 0 → c (get_or parents at 0) ≡ c at
+  pub respects_parent : (c : ℕ → ℕ) (y : ℕ) → IsConstantOnGroups c (set parents at to) → y ≢ at → y < length parents → y ≡ get_or parents at 0 → to ≡ get_or parents y 0 → c (get_or parents at 0) ≡ c at
   respects_parent c y r n lt e t = ap c (sym e) ∙ sym (r y (omega (arith, lt, many))) ∙ ap c (there y n ∙ sym t) ∙ respects_here c r
 
 -- the larger of two first numbers becomes the smaller one's
@@ -58,13 +58,13 @@ module _ (parents : List ℕ) (a b high low : ℕ) (a_known : a < length parents
     | inr p ↦ inl (omega (arith, p, h), omega (arith, p, l))
   ]
 
-  pub same_parent : (c : ℕ → ℕ) → Respects c (set parents high low) → c a ≡ c b
+  pub same_parent : (c : ℕ → ℕ) → IsConstantOnGroups c (set parents high low) → c a ≡ c b
   same_parent c r = elim either [
     | inl e ↦ ap c (sym e.0) ∙ sym (respects_here parents high low known_high c r) ∙ ap c e.1
     | inr e ↦ ap c (sym e.1) ∙ respects_here parents high low known_high c r ∙ ap c e.0
   ]
 
-  pub joined_then : get_or parents a 0 ≡ a → get_or parents b 0 ≡ b → (c : ℕ → ℕ) → Respects c (set parents high low) → Respects c parents
+  pub joined_then : get_or parents a 0 ≡ a → get_or parents b 0 ≡ b → (c : ℕ → ℕ) → IsConstantOnGroups c (set parents high low) → IsConstantOnGroups c parents
   joined_then fa fb c r = respects_before parents high low known_high c r (elim either [
     | inl e ↦ ap (λ k. c (get_or parents k 0)) e.0 ∙ ap c (fa ∙ sym e.0)
     | inr e ↦ ap (λ k. c (get_or parents k 0)) e.0 ∙ ap c (fb ∙ sym e.0)
@@ -91,7 +91,7 @@ module _ (values : List ℕ) (at to : ℕ) (known : at < length values) where
   ]
 
 -- one number more whose parent has no less
-pub raised_more : (parents values : List ℕ) (x p v : ℕ) → Ordered parents → x < length parents → p < length values → p ≡ get_or parents x 0 → get_or values x 0 ≤ v → get_or values p 0 ≤ v
+pub raised_more : (parents values : List ℕ) (x p v : ℕ) → ParentsAreSmaller parents → x < length parents → p < length values → p ≡ get_or parents x 0 → get_or values x 0 ≤ v → get_or values p 0 ≤ v
     → ((y : ℕ) → x + 1 ≤ y → y < length parents → get_or values y 0 ≤ get_or values (get_or parents y 0) 0)
     → (y : ℕ) → x ≤ y → y < length parents → get_or (set values p v) y 0 ≤ get_or (set values p v) (get_or parents y 0) 0
 raised_more parents values x p v o kx kp ep lx lp h y le ky = elim (same_or_not y x) [
@@ -115,7 +115,7 @@ raised_more parents values x p v o kx kp ep lx lp h y le ky = elim (same_or_not 
     ]
 
 -- one number more that has its parent's value
-pub same_more : (parents values : List ℕ) (x v : ℕ) → Ordered parents → x < length parents → length values ≡ length parents → v ≡ get_or values (get_or parents x 0) 0
+pub same_more : (parents values : List ℕ) (x v : ℕ) → ParentsAreSmaller parents → x < length parents → length values ≡ length parents → v ≡ get_or values (get_or parents x 0) 0
     → ((y : ℕ) → y < x → get_or values (get_or parents y 0) 0 ≡ get_or values y 0) → (y : ℕ) → y < x + 1 → get_or (set values x v) (get_or parents y 0) 0 ≡ get_or (set values x v) y 0
 same_more parents values x v o kx m ev h y lt = elim (same_or_not y x) [
   | inl e ↦ ap (λ k. get_or (set values x v) (get_or parents k 0) 0) e ∙ own ∙ sym (here values x v kv) ∙ ap (λ k. get_or (set values x v) k 0) (sym e)

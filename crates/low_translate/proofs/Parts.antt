@@ -11,11 +11,11 @@ use Rattle.low_code.specs.declared.program.Operand.TheVariants.{Var, Num}
 use Rattle.low_code.specs.Tree.{Code, set, load, save}
 use Rattle.low_code.specs.Formed.{binds, calls_in}
 use Rattle.low_code.specs.Size.{code_size}
-use Rattle.low_translate.specs.Translation.{operands_of, operands_of_words, sets, to_first, load_word, loads, saves, is_number, fill_word, fills, taken, stores}
+use Rattle.low_translate.specs.Translation.{operands_of, operands_of_words, set_all, to_first, load_word, load_all, save_all, is_number, fill_word, fills, take_if_any, store_all}
 
 -- ---- the variables that they bind
 
-pub sets_binds : (xs : List ℕ) (as' : List Operand) (c : Code) → binds (sets xs as' c) ≡ xs ++ binds c
+pub sets_binds : (xs : List ℕ) (as' : List Operand) (c : Code) → binds (set_all xs as' c) ≡ xs ++ binds c
 sets_binds [] as' c = refl
 sets_binds (x ∷ xs) [] c = ap (λ l. x ∷ l) (sets_binds xs [] c)
 sets_binds (x ∷ xs) (a ∷ as') c = ap (λ l. x ∷ l) (sets_binds xs as' c)
@@ -27,13 +27,13 @@ word_binds width x a i c = by (nat_lt i width)
     by true = refl
     by false = refl
 
-pub loads_binds : (width : ℕ) (xs : List ℕ) (a : Operand) (i : ℕ) (c : Code) → binds (loads width xs a i c) ≡ xs ++ binds c
+pub loads_binds : (width : ℕ) (xs : List ℕ) (a : Operand) (i : ℕ) (c : Code) → binds (load_all width xs a i c) ≡ xs ++ binds c
 loads_binds width [] a i c = refl
-loads_binds width (x ∷ xs) a i c = word_binds width x a i (loads width xs a (suc i) c) ∙ ap (λ l. x ∷ l) (loads_binds width xs a (suc i) c)
+loads_binds width (x ∷ xs) a i c = word_binds width x a i (load_all width xs a (suc i) c) ∙ ap (λ l. x ∷ l) (loads_binds width xs a (suc i) c)
 
 pub first_binds : (xs : List ℕ) (e : ℕ → Code → Code) (c : Code) → ((x : ℕ) (b : Code) → binds (e x b) ≡ x ∷ binds b) → binds (to_first xs e c) ≡ xs ++ binds c
 first_binds [] e c h = refl
-first_binds (x ∷ xs) e c h = h x (sets xs [] c) ∙ ap (λ l. x ∷ l) (sets_binds xs [] c)
+first_binds (x ∷ xs) e c h = h x (set_all xs [] c) ∙ ap (λ l. x ∷ l) (sets_binds xs [] c)
 
 fill_binds : (a : Operand) (i : ℕ) (b : Operand) (c : Code) → binds (fill_word a i b c) ≡ binds c
 fill_binds a i b c = by (is_number b 0)
@@ -46,21 +46,21 @@ fills_binds : (a : Operand) (i : ℕ) (bs : List Operand) (c : Code) → binds (
 fills_binds a i [] c = refl
 fills_binds a i (b ∷ bs) c = fill_binds a i b (fills a (suc i) bs c) ∙ fills_binds a (suc i) bs c
 
-pub saves_binds : (a : Operand) (i : ℕ) (bs : List Operand) (c : Code) → binds (saves a i bs c) ≡ binds c
+pub saves_binds : (a : Operand) (i : ℕ) (bs : List Operand) (c : Code) → binds (save_all a i bs c) ≡ binds c
 saves_binds a i [] c = refl
 saves_binds a i (b ∷ bs) c = saves_binds a (suc i) bs c
 
-pub taken_binds : (xs : List ℕ) (c : Code) → binds (taken xs c) ≡ xs ++ binds c
+pub taken_binds : (xs : List ℕ) (c : Code) → binds (take_if_any xs c) ≡ xs ++ binds c
 taken_binds [] c = refl
 taken_binds (x ∷ xs) c = refl
 
-pub stores_binds : (width : ℕ) (cs : List C.Cell) (c : Code) → binds (stores width cs c) ≡ binds c
+pub stores_binds : (width : ℕ) (cs : List C.Cell) (c : Code) → binds (store_all width cs c) ≡ binds c
 stores_binds width [] c = refl
-stores_binds width (x ∷ cs) c = fills_binds (Var x.var.0) 0 (take width (operands_of x.val)) (stores width cs c) ∙ stores_binds width cs c
+stores_binds width (x ∷ cs) c = fills_binds (Var x.var.0) 0 (take width (operands_of x.val)) (store_all width cs c) ∙ stores_binds width cs c
 
 -- ---- no calls
 
-pub sets_calls : (xs : List ℕ) (as' : List Operand) (c : Code) → calls_in (sets xs as' c) ≡ calls_in c
+pub sets_calls : (xs : List ℕ) (as' : List Operand) (c : Code) → calls_in (set_all xs as' c) ≡ calls_in c
 sets_calls [] as' c = refl
 sets_calls (x ∷ xs) [] c = sets_calls xs [] c
 sets_calls (x ∷ xs) (a ∷ as') c = sets_calls xs as' c
@@ -72,13 +72,13 @@ word_calls width x a i c = by (nat_lt i width)
     by true = refl
     by false = refl
 
-pub loads_calls : (width : ℕ) (xs : List ℕ) (a : Operand) (i : ℕ) (c : Code) → calls_in (loads width xs a i c) ≡ calls_in c
+pub loads_calls : (width : ℕ) (xs : List ℕ) (a : Operand) (i : ℕ) (c : Code) → calls_in (load_all width xs a i c) ≡ calls_in c
 loads_calls width [] a i c = refl
-loads_calls width (x ∷ xs) a i c = word_calls width x a i (loads width xs a (suc i) c) ∙ loads_calls width xs a (suc i) c
+loads_calls width (x ∷ xs) a i c = word_calls width x a i (load_all width xs a (suc i) c) ∙ loads_calls width xs a (suc i) c
 
 pub first_calls : (xs : List ℕ) (e : ℕ → Code → Code) (c : Code) → ((x : ℕ) (b : Code) → calls_in (e x b) ≡ calls_in b) → calls_in (to_first xs e c) ≡ calls_in c
 first_calls [] e c h = refl
-first_calls (x ∷ xs) e c h = h x (sets xs [] c) ∙ sets_calls xs [] c
+first_calls (x ∷ xs) e c h = h x (set_all xs [] c) ∙ sets_calls xs [] c
 
 fill_calls : (a : Operand) (i : ℕ) (b : Operand) (c : Code) → calls_in (fill_word a i b c) ≡ calls_in c
 fill_calls a i b c = by (is_number b 0)
@@ -91,21 +91,21 @@ fills_calls : (a : Operand) (i : ℕ) (bs : List Operand) (c : Code) → calls_i
 fills_calls a i [] c = refl
 fills_calls a i (b ∷ bs) c = fill_calls a i b (fills a (suc i) bs c) ∙ fills_calls a (suc i) bs c
 
-pub saves_calls : (a : Operand) (i : ℕ) (bs : List Operand) (c : Code) → calls_in (saves a i bs c) ≡ calls_in c
+pub saves_calls : (a : Operand) (i : ℕ) (bs : List Operand) (c : Code) → calls_in (save_all a i bs c) ≡ calls_in c
 saves_calls a i [] c = refl
 saves_calls a i (b ∷ bs) c = saves_calls a (suc i) bs c
 
-pub taken_calls : (xs : List ℕ) (c : Code) → calls_in (taken xs c) ≡ calls_in c
+pub taken_calls : (xs : List ℕ) (c : Code) → calls_in (take_if_any xs c) ≡ calls_in c
 taken_calls [] c = refl
 taken_calls (x ∷ xs) c = refl
 
-pub stores_calls : (width : ℕ) (cs : List C.Cell) (c : Code) → calls_in (stores width cs c) ≡ calls_in c
+pub stores_calls : (width : ℕ) (cs : List C.Cell) (c : Code) → calls_in (store_all width cs c) ≡ calls_in c
 stores_calls width [] c = refl
-stores_calls width (x ∷ cs) c = fills_calls (Var x.var.0) 0 (take width (operands_of x.val)) (stores width cs c) ∙ stores_calls width cs c
+stores_calls width (x ∷ cs) c = fills_calls (Var x.var.0) 0 (take width (operands_of x.val)) (store_all width cs c) ∙ stores_calls width cs c
 
 -- ---- their size
 
-pub sets_size : (xs : List ℕ) (as' : List Operand) (c : Code) → code_size (sets xs as' c) ≡ 3 * length xs + code_size c
+pub sets_size : (xs : List ℕ) (as' : List Operand) (c : Code) → code_size (set_all xs as' c) ≡ 3 * length xs + code_size c
 sets_size [] as' c = omega arith
 sets_size (x ∷ xs) [] c = let h = sets_size xs [] c in omega (arith, h)
 sets_size (x ∷ xs) (a ∷ as') c = let h = sets_size xs as' c in omega (arith, h)
@@ -117,15 +117,15 @@ word_size width x a i c = by (nat_lt i width)
     by true = refl
     by false = refl
 
-pub loads_size : (width : ℕ) (xs : List ℕ) (a : Operand) (i : ℕ) (c : Code) → code_size (loads width xs a i c) ≡ 3 * length xs + code_size c
+pub loads_size : (width : ℕ) (xs : List ℕ) (a : Operand) (i : ℕ) (c : Code) → code_size (load_all width xs a i c) ≡ 3 * length xs + code_size c
 loads_size width [] a i c = omega arith
-loads_size width (x ∷ xs) a i c = let h = loads_size width xs a (suc i) c in let k = word_size width x a i (loads width xs a (suc i) c) in omega (arith, h, k)
+loads_size width (x ∷ xs) a i c = let h = loads_size width xs a (suc i) c in let k = word_size width x a i (load_all width xs a (suc i) c) in omega (arith, h, k)
 
 pub first_size : (k : ℕ) (xs : List ℕ) (e : ℕ → Code → Code) (c : Code) → ((x : ℕ) (b : Code) → code_size (e x b) ≡ k + code_size b) → code_size (to_first xs e c) ≤ k + 3 * length xs + code_size c
 first_size k [] e c h = omega arith
-first_size k (x ∷ xs) e c h = let a = h x (sets xs [] c) in let b = sets_size xs [] c in omega (arith, a, b)
+first_size k (x ∷ xs) e c h = let a = h x (set_all xs [] c) in let b = sets_size xs [] c in omega (arith, a, b)
 
-pub saves_size : (a : Operand) (i : ℕ) (bs : List Operand) (c : Code) → code_size (saves a i bs c) ≡ 3 * length bs + code_size c
+pub saves_size : (a : Operand) (i : ℕ) (bs : List Operand) (c : Code) → code_size (save_all a i bs c) ≡ 3 * length bs + code_size c
 saves_size a i [] c = omega arith
 saves_size a i (b ∷ bs) c = let h = saves_size a (suc i) bs c in omega (arith, h)
 
@@ -140,7 +140,7 @@ fills_size : (a : Operand) (i : ℕ) (bs : List Operand) (c : Code) → code_siz
 fills_size a i [] c = omega arith
 fills_size a i (b ∷ bs) c = let h = fills_size a (suc i) bs c in let k = fill_size a i b (fills a (suc i) bs c) in omega (arith, h, k)
 
-pub taken_size : (xs : List ℕ) (c : Code) → code_size (taken xs c) ≤ 2 * length xs + code_size c
+pub taken_size : (xs : List ℕ) (c : Code) → code_size (take_if_any xs c) ≤ 2 * length xs + code_size c
 taken_size [] c = omega arith
 taken_size (x ∷ xs) c = omega arith
 
@@ -167,10 +167,10 @@ written_few width (val.Node t ws) le = let h = taken_few width (operands_of (val
 written_few width (val.Vector ws) le = let h = front_few width (operands_of_words ws) in let k = words_many ws in omega (arith, h, k)
 written_few width (val.One w) le = front_few width (operands_of (val.One w))
 
-pub stores_size : (width : ℕ) (cs : List C.Cell) (c : Code) → width ≤ 14 → code_size (stores width cs c) + 2 * length cs ≤ 4 * cells_weight cs + code_size c
+pub stores_size : (width : ℕ) (cs : List C.Cell) (c : Code) → width ≤ 14 → code_size (store_all width cs c) + 2 * length cs ≤ 4 * cells_weight cs + code_size c
 stores_size width [] c le = omega arith
 stores_size width (x ∷ cs) c le =
     let h = stores_size width cs c le in
-    let k = fills_size (Var x.var.0) 0 (take width (operands_of x.val)) (stores width cs c) in
+    let k = fills_size (Var x.var.0) 0 (take width (operands_of x.val)) (store_all width cs c) in
     let m = written_few width x.val le in
     omega (arith, h, k, m)

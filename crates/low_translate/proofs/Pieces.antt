@@ -12,7 +12,7 @@ use Rattle.low_code.specs.Tree.{Code, set, load, save}
 use Rattle.low_code.specs.Values as low
 use Rattle.low_code.specs.Values.{Word, Env, World, Room, Answer, need, with_var, and_then}
 use Rattle.low_code.specs.Run.{Calls, operand, operands, cell_in, code, with_word}
-use Rattle.low_translate.specs.Translation.{sets, loads, saves}
+use Rattle.low_translate.specs.Translation.{set_all, load_all, save_all}
 use Rattle.low_translate.proofs.Images.{fit, length_fit, nth_word, fit_from, get_fit, nth_past, fit_none, zeros, none_some, some_same}
 use Rattle.low_translate.proofs.Operands.{bound, Avoids}
 use Rattle.seq.specs.Lists.{times}
@@ -161,24 +161,24 @@ module _ (p : low_tree.Program) (fw : ℕ → ℕ) where
     abbrev does : Env → Code → World → Answer
     does env c w = code p fw room calls env top under c w
 
-    pub sets_run : (xs : List ℕ) (as' : List Operand) (ws : List Word) (env : Env) (c : Code) (w : World) → operands p fw env as' ≡ Some ws → AllOf (Avoids xs) as' → does env (sets xs as' c) w ≡ does (bound xs (fit (length xs) ws) env) c w
+    pub sets_run : (xs : List ℕ) (as' : List Operand) (ws : List Word) (env : Env) (c : Code) (w : World) → operands p fw env as' ≡ Some ws → AllOf (Avoids xs) as' → does env (set_all xs as' c) w ≡ does (bound xs (fit (length xs) ws) env) c w
     unfolding code
     sets_run [] as' ws env c w h a = refl
     sets_run (x ∷ xs) [] ws env c w h a = sets_run xs [] [] (with_var x (low.number 0) env) c w refl tt ∙ ap (λ l. does (bound (x ∷ xs) (fit (suc (length xs)) l) env) c w) (some_same h)
     sets_run (x ∷ xs) (b ∷ as') ws env c w h a = go (operand p fw env b) refl (operands p fw env as') refl h (λ v vs e. sets_run xs as' vs (with_var x v env) c w e (all_avoid_rest x xs as' a.1))
       where
         go : (o : Option Word) → operand p fw env b ≡ o → (os : Option (List Word)) → operands p fw env as' ≡ os → and_then o (λ v. and_then os (λ vs. Some (v ∷ vs))) ≡ Some ws
-            → ((v : Word) (vs : List Word) → operands p fw (with_var x v env) as' ≡ Some vs → does (with_var x v env) (sets xs as' c) w ≡ does (bound xs (fit (length xs) vs) (with_var x v env)) c w)
-            → need (operand p fw env b) w (λ v. does (with_var x v env) (sets xs as' c) w) ≡ does (bound (x ∷ xs) (fit (suc (length xs)) ws) env) c w
+            → ((v : Word) (vs : List Word) → operands p fw (with_var x v env) as' ≡ Some vs → does (with_var x v env) (set_all xs as' c) w ≡ does (bound xs (fit (length xs) vs) (with_var x v env)) c w)
+            → need (operand p fw env b) w (λ v. does (with_var x v env) (set_all xs as' c) w) ≡ does (bound (x ∷ xs) (fit (suc (length xs)) ws) env) c w
         go None q os qs k rec = absurd (none_some k)
         go (Some v) q None qs k rec = absurd (none_some k)
-        go (Some v) q (Some vs) qs k rec = ap (λ o. need o w (λ v. does (with_var x v env) (sets xs as' c) w)) q
+        go (Some v) q (Some vs) qs k rec = ap (λ o. need o w (λ v. does (with_var x v env) (set_all xs as' c) w)) q
             ∙ rec v vs (operands_other x v xs env as' a.1 ∙ qs)
             ∙ ap (λ l. does (bound (x ∷ xs) (fit (suc (length xs)) l) env) c w) (some_same k)
 
     -- the words of cell i from word j on, of which no more than the first r are others than zeros
     pub loads_run : (r width : ℕ) → r ≤ width → (xs : List ℕ) (a : Operand) (j i : ℕ) (ws : List Word) (env : Env) (c : Code) (w : World) → operand p fw env a ≡ Some (low.cell i) → Avoids xs a → slice_get w.cells i ≡ Some (fit width ws) → length ws ≤ r
-        → does env (loads r xs a j c) w ≡ does (bound xs (fit (length xs) (drop j ws)) env) c w
+        → does env (load_all r xs a j c) w ≡ does (bound xs (fit (length xs) (drop j ws)) env) c w
     unfolding code
     loads_run r width rw [] a j i ws env c w h v s le = refl
     loads_run r width rw (x ∷ xs) a j i ws env c w h v s le = word (nat_lt j r) refl
@@ -188,15 +188,15 @@ module _ (p : low_tree.Program) (fw : ℕ → ℕ) where
         in_cell : cell_in p fw env a ≡ Some i
         in_cell = ap (λ o. and_then o low.cell_of) h
 
-        word : (b : Bool) → nat_lt j r ≡ b → does env (elim b [ true ↦ load x a j (loads r xs a (suc j) c) | false ↦ set x (Num 0) (loads r xs a (suc j) c) ]) w ≡ does (with_var x (nth_word ws j) env) (loads r xs a (suc j) c) w
-        word true e = (λ k. need (in_cell k) w (λ i. need (slice_get w.cells i) w (λ l. need (slice_get l j) w (λ u. does (with_var x u env) (loads r xs a (suc j) c) w))))
-            ∙ (λ k. need (s k) w (λ l. need (slice_get l j) w (λ u. does (with_var x u env) (loads r xs a (suc j) c) w)))
-            ∙ (λ k. need (get_fit width j ws (let lt = ltb-true j r e in omega (arith, lt, rw)) k) w (λ u. does (with_var x u env) (loads r xs a (suc j) c) w))
-        word false e = ap (λ u. does (with_var x u env) (loads r xs a (suc j) c) w) (sym (nth_past ws j (omega (arith, le, ltb-false j r e))))
+        word : (b : Bool) → nat_lt j r ≡ b → does env (elim b [ true ↦ load x a j (load_all r xs a (suc j) c) | false ↦ set x (Num 0) (load_all r xs a (suc j) c) ]) w ≡ does (with_var x (nth_word ws j) env) (load_all r xs a (suc j) c) w
+        word true e = (λ k. need (in_cell k) w (λ i. need (slice_get w.cells i) w (λ l. need (slice_get l j) w (λ u. does (with_var x u env) (load_all r xs a (suc j) c) w))))
+            ∙ (λ k. need (s k) w (λ l. need (slice_get l j) w (λ u. does (with_var x u env) (load_all r xs a (suc j) c) w)))
+            ∙ (λ k. need (get_fit width j ws (let lt = ltb-true j r e in omega (arith, lt, rw)) k) w (λ u. does (with_var x u env) (load_all r xs a (suc j) c) w))
+        word false e = ap (λ u. does (with_var x u env) (load_all r xs a (suc j) c) w) (sym (nth_past ws j (omega (arith, le, ltb-false j r e))))
 
     -- words into cell i, from word j on
     pub saves_run : (a : Operand) (j : ℕ) (bs : List Operand) (vs : List Word) (i : ℕ) (cell : List Word) (env : Env) (c : Code) (w : World) → operand p fw env a ≡ Some (low.cell i) → operands p fw env bs ≡ Some vs → slice_get w.cells i ≡ Some cell → j + length vs ≤ length cell
-        → does env (saves a j bs c) w ≡ does env c (record w { cells = slice_set w.cells i (over j vs cell) })
+        → does env (save_all a j bs c) w ≡ does env c (record w { cells = slice_set w.cells i (over j vs cell) })
     unfolding code
     saves_run a j [] vs i cell env c w h k s le = (λ n. does env c (record w { cells = sym (set_same w.cells i cell s) n })) ∙ ap (λ l. does env c (record w { cells = slice_set w.cells i (over j l cell) })) (some_same k)
     saves_run a j (b ∷ bs) vs i cell env c w h k s le = go (operand p fw env b) refl (operands p fw env bs) refl k (λ l cell' next qs t n. saves_run a (suc j) bs l i cell' env c next h qs t n)
@@ -205,8 +205,8 @@ module _ (p : low_tree.Program) (fw : ℕ → ℕ) where
         in_cell = ap (λ o. and_then o low.cell_of) h
 
         go : (o : Option Word) → operand p fw env b ≡ o → (os : Option (List Word)) → operands p fw env bs ≡ os → and_then o (λ v. and_then os (λ l. Some (v ∷ l))) ≡ Some vs
-            → ((l : List Word) (cell' : List Word) (next : World) → operands p fw env bs ≡ Some l → slice_get next.cells i ≡ Some cell' → suc j + length l ≤ length cell' → does env (saves a (suc j) bs c) next ≡ does env c (record next { cells = slice_set next.cells i (over (suc j) l cell') }))
-            → does env (save a j b (saves a (suc j) bs c)) w ≡ does env c (record w { cells = slice_set w.cells i (over j vs cell) })
+            → ((l : List Word) (cell' : List Word) (next : World) → operands p fw env bs ≡ Some l → slice_get next.cells i ≡ Some cell' → suc j + length l ≤ length cell' → does env (save_all a (suc j) bs c) next ≡ does env c (record next { cells = slice_set next.cells i (over (suc j) l cell') }))
+            → does env (save a j b (save_all a (suc j) bs c)) w ≡ does env c (record w { cells = slice_set w.cells i (over j vs cell) })
         go None q os qs m rec = absurd (none_some m)
         go (Some v) q None qs m rec = absurd (none_some m)
         go (Some v) q (Some l) qs m rec =
@@ -215,10 +215,10 @@ module _ (p : low_tree.Program) (fw : ℕ → ℕ) where
             let lt : j < length cell = omega (arith, le, n) in
             let old = some_at cell j lt in
             let next : World = with_word i j v cell w in
-            (λ t. need (in_cell t) w (λ i. need (slice_get w.cells i) w (λ ws. need (slice_get ws j) w (λ old. need (operand p fw env b) w (λ v. does env (saves a (suc j) bs c) (with_word i j v ws w))))))
-            ∙ (λ t. need (s t) w (λ ws. need (slice_get ws j) w (λ old. need (operand p fw env b) w (λ v. does env (saves a (suc j) bs c) (with_word i j v ws w)))))
-            ∙ (λ t. need (old.1 t) w (λ old. need (operand p fw env b) w (λ v. does env (saves a (suc j) bs c) (with_word i j v cell w))))
-            ∙ (λ t. need (q t) w (λ v. does env (saves a (suc j) bs c) (with_word i j v cell w)))
+            (λ t. need (in_cell t) w (λ i. need (slice_get w.cells i) w (λ ws. need (slice_get ws j) w (λ old. need (operand p fw env b) w (λ v. does env (save_all a (suc j) bs c) (with_word i j v ws w))))))
+            ∙ (λ t. need (s t) w (λ ws. need (slice_get ws j) w (λ old. need (operand p fw env b) w (λ v. does env (save_all a (suc j) bs c) (with_word i j v ws w)))))
+            ∙ (λ t. need (old.1 t) w (λ old. need (operand p fw env b) w (λ v. does env (save_all a (suc j) bs c) (with_word i j v cell w))))
+            ∙ (λ t. need (q t) w (λ v. does env (save_all a (suc j) bs c) (with_word i j v cell w)))
             ∙ rec l (slice_set cell j v) next qs (get_set w.cells i (slice_set cell j v) (get_within w.cells i cell s)) (omega (arith, le, n, length_set cell j v))
             ∙ (λ t. does env c (record w { cells = set_twice w.cells i (slice_set cell j v) (over (suc j) l (slice_set cell j v)) t }))
             ∙ (λ t. does env c (record w { cells = slice_set w.cells i (over j (sym e t) cell) }))

@@ -16,8 +16,8 @@ use Rattle.low_code.specs.Tree as low_tree
 use Rattle.low_code.specs.Values as low
 use Rattle.low_code.specs.Values.{need}
 use Rattle.low_code.specs.Run.{Calls, code}
-use Rattle.low_translate.specs.Translation.{sets, results_of, plain_code}
-use Rattle.low_translate.specs.Writes.{act_writes, procs_write, reach}
+use Rattle.low_translate.specs.Translation.{set_all, results_of, plain_code}
+use Rattle.low_translate.specs.Writes.{act_writes, procs_write, written_width}
 use Rattle.low_translate.specs.Lowered.{WordRanged, PlainRanged}
 use Rattle.low_translate.proofs.Images.{word_image, images, words_of_value, fit, length_fit, world_image}
 use Rattle.low_translate.proofs.Operands.{bound, with_vars_bound, words_are}
@@ -54,7 +54,7 @@ module _ (g : grin_tree.Program) (p : low_tree.Program) (fw : ℕ → ℕ) (most
   module _ (P : Value → Type 0) (k n : ℕ) (xs : List ℕ) (e : low.Env) (c : low_tree.Code) (goes : Value → grin.World → grin.Answer) where
     -- what comes after the words of a call are there
     abbrev after_call : ℕ → List low.Word → low.World → low.Answer
-    after_call r vs w = need (low.with_vars (take r xs ++ numbers_from (suc n) (r - length xs)) vs e) w (λ env. does env (sets (drop r xs) [] c) w)
+    after_call r vs w = need (low.with_vars (take r xs ++ numbers_from (suc n) (r - length xs)) vs e) w (λ env. does env (set_all (drop r xs) [] c) w)
 
     call_goes : (f : ProcId) (ws : List W.Word) → Going P k n xs e c goes → Skipping P k xs (call f ws) goes → (ga : grin.Answer) (la : low.Answer) → Matches (λ v. Unit {0}) (results_of rs f.0) ga la
         → Matches P k (grin.then_do ga goes) (low.then_do la (after_call (results_of rs f.0)))
@@ -77,7 +77,7 @@ module _ (g : grin_tree.Program) (p : low_tree.Program) (fw : ℕ → ℕ) (most
           | inl le ↦
               let path : low.then_do a (after_call r) ≡ does (bound (drop r xs) (fit (length (drop r xs)) []) (bound ys (fit r vs) e)) c (world_image width q.frames w) =
               ap (λ l. low.then_do l (after_call r)) q.is
-              ∙ (λ t. need (with_vars_bound ys (fit r vs) e (length_fit r vs ∙ sym (call_many r xs (suc n))) t) (world_image width q.frames w) (λ env. does env (sets (drop r xs) [] c) (world_image width q.frames w)))
+              ∙ (λ t. need (with_vars_bound ys (fit r vs) e (length_fit r vs ∙ sym (call_many r xs (suc n))) t) (world_image width q.frames w) (λ env. does env (set_all (drop r xs) [] c) (world_image width q.frames w)))
               ∙ sets_run p fw free lcalls top under (drop r xs) [] [] (bound ys (fit r vs) e) c (world_image width q.frames w) refl tt in
               subst (Matches P k (goes v w)) (sym path) (go v w q.frames _ sv sw le q.within (λ x lt. call_bound r xs (suc n) vs e (image_few q.few) x (omega (arith, lt))))
           | inr lt ↦ skip v w sv sw q.few lt _
@@ -88,25 +88,25 @@ module _ (g : grin_tree.Program) (p : low_tree.Program) (fw : ℕ → ℕ) (most
 
     module _ (scope : List ℕ) (env : grin.Env) (w : grin.World) (frames d : ℕ) (apart : (x : ℕ) → 0 < times x scope → times x xs ≡ 0) (h : At scope env e w frames) where
       call_runs : (f : ProcId) (ws : List W.Word) → AllOf WordRanged ws → top ≤ d * most → Going P k n xs e c goes → Skipping P k xs (call f ws) goes
-          → Matches P k (grin.then_do (act_by g gcalls true env d (call f ws) w) goes) (does e (plain_code (reach g) rs xs n (call f ws) c) (world_image width frames w))
+          → Matches P k (grin.then_do (act_by g gcalls true env d (call f ws) w) goes) (does e (plain_code (written_width g) rs xs n (call f ws) c) (world_image width frames w))
       unfolding act_by code
       call_runs f ws r le go skip = by (words_of g env ws) refl
         where
-          by : (o : Option (List Datum)) → words_of g env ws ≡ o → Matches P k (grin.then_do (grin.need o w (λ ds. gcalls f.0 ds d w)) goes) (does e (plain_code (reach g) rs xs n (call f ws) c) (world_image width frames w))
+          by : (o : Option (List Datum)) → words_of g env ws ≡ o → Matches P k (grin.then_do (grin.need o w (λ ds. gcalls f.0 ds d w)) goes) (does e (plain_code (written_width g) rs xs n (call f ws) c) (world_image width frames w))
           by None q = missed
           by (Some ds) q =
               let u = words_are g p fw same_globals first scope env e h.agrees ws ds q r in
-              let path : does e (plain_code (reach g) rs xs n (call f ws) c) (world_image width frames w) ≡ low.then_do (lcalls f.0 (images ds) top (world_image width frames w)) (after_call (results_of rs f.0)) =
+              let path : does e (plain_code (written_width g) rs xs n (call f ws) c) (world_image width frames w) ≡ low.then_do (lcalls f.0 (images ds) top (world_image width frames w)) (after_call (results_of rs f.0)) =
               λ t. need (u.are t) (world_image width frames w) (λ vs. low.then_do (lcalls f.0 vs top (world_image width frames w)) (after_call (results_of rs f.0))) in
               subst (Matches P k (grin.then_do (gcalls f.0 ds d w) goes)) (sym path)
               (call_goes f ws go skip _ _ (calls_match f.0 ds d w top frames u.ranged h.sound le h.within))
 
-      fail_runs : Matches P k (grin.then_do (act_by g gcalls true env d fail w) goes) (does e (plain_code (reach g) rs xs n fail c) (world_image width frames w))
+      fail_runs : Matches P k (grin.then_do (act_by g gcalls true env d fail w) goes) (does e (plain_code (written_width g) rs xs n fail c) (world_image width frames w))
       unfolding act_by code
       fail_runs = fails h.within
 
       pub plain_runs : (o : Act) → IsLeaf o → EachAct inlined_kind o → EachAct vectorised_kind o → PlainRanged o → act_writes g.tags o ≤ procs_write g.tags g.procs → Lies o d → Going P k n xs e c goes → Skipping P k xs o goes
-          → Matches P k (grin.then_do (act_by g gcalls true env d o w) goes) (does e (plain_code (reach g) rs xs n o c) (world_image width frames w))
+          → Matches P k (grin.then_do (act_by g gcalls true env d o w) goes) (does e (plain_code (written_width g) rs xs n o c) (world_image width frames w))
       unfolding EachAct act_writes
       plain_runs (unit v) pl inl' vec r few le go skip = m.unit_runs g p fw most rs first same_globals width wide gcalls lcalls top under P k n xs e c goes scope env w frames d apart h v vec.1 r go skip
       plain_runs (fetch a) pl inl' vec r few le go skip = m.fetch_runs g p fw most rs first same_globals width wide gcalls lcalls top under P k n xs e c goes scope env w frames d apart h a r go skip

@@ -16,17 +16,17 @@ use Rattle.grin_syntax.proofs.Unbound.{past_procs_none}
 use Rattle.grin_meaning.specs.Values as grin
 use Rattle.grin_meaning.specs.Values.{Datum, Value, Binding, with_vars, one_each}
 use Rattle.grin_meaning.specs.Run as grin_run
-use Rattle.grin_meaning.specs.Run.{calls_by, code_by, looking_at, passing, spend}
+use Rattle.grin_meaning.specs.Run.{calls_by, code_by, require_value_if_checked, with_state_seen, spend}
 use Rattle.grin_meaning.specs.Checks.{is_given, not_delayed, plain_number}
 use Rattle.grin_meaning.specs.Ready.{EachCode, IsInlined, IsVectorised, most_fields, most_value_fields, inlined_kind, vectorised_kind}
 use Rattle.low_code.specs.Tree as low_tree
 use Rattle.low_code.specs.Values as low
 use Rattle.low_code.specs.Values.{need, no_vars}
 use Rattle.low_code.specs.Run as low_run
-use Rattle.low_code.specs.Run.{as_many}
+use Rattle.low_code.specs.Run.{with_result_count}
 use Rattle.low_translate.specs.Translation.{results_of, procedure_code, procedure_numbers, procedures_code, program_code}
-use Rattle.low_translate.specs.Writes.{code_writes, procs_write, reach}
-use Rattle.low_translate.specs.Lowered.{CodeRanged, CodeGives, EachGives}
+use Rattle.low_translate.specs.Writes.{code_writes, procs_write, written_width}
+use Rattle.low_translate.specs.Lowered.{CodeRanged, CodeGives, EachProcedureReturns}
 use Rattle.low_translate.proofs.Images.{images, word_image, words_of_value, fit, length_fit, world_image, InRange, SoundWorld, none_some, some_same}
 use Rattle.low_translate.proofs.Operands.{bound, with_vars_bound, agrees_each}
 use Rattle.low_translate.proofs.Bindings.{each_many}
@@ -67,7 +67,7 @@ record Translated (width node : ℕ) (all : List ℕ) (n r : ℕ) (made : Option
   there : made ≡ Some (procedure_code width all number r q)
   gives : CodeGives node all r q.body
 
-translated : (width node : ℕ) (all : List ℕ) (n : ℕ) (rs : List ℕ) (qs : List Procedure) (f : ℕ) (q : Procedure) → EachGives node all rs qs → slice_get qs f ≡ Some q → Translated width node all n (results_of rs f) (slice_get (procedures_code width all n rs qs) f) q
+translated : (width node : ℕ) (all : List ℕ) (n : ℕ) (rs : List ℕ) (qs : List Procedure) (f : ℕ) (q : Procedure) → EachProcedureReturns node all rs qs → slice_get qs f ≡ Some q → Translated width node all n (results_of rs f) (slice_get (procedures_code width all n rs qs) f) q
 translated width node all n [] [] f q h e = absurd (none_some e)
 translated width node all n [] (s ∷ qs) f q h e = absurd h
 translated width node all n (r ∷ rs) [] f q h e = absurd h
@@ -92,30 +92,30 @@ module _ (g : grin_tree.Program) (rs : List ℕ) (fw : ℕ → ℕ) (most : ℕ)
   width = 1 + most_fields g.tags
 
   abbrev p : low_tree.Program
-  p = program_code width (reach g) rs first g
+  p = program_code width (written_width g) rs first g
 
   abbrev Matches : (P : Value → Type 0) → ℕ → grin.Answer → low.Answer → Type 0
   Matches = Match g p fw most rs first (length-map g.globals (λ c. c.tag.0)) width refl
 
   -- a procedure gives what its block gives
-  given_match : (r : ℕ) (ga : grin.Answer) (la : low.Answer) → Matches (λ v. is_given g v ≡ true) r ga la → Matches (λ v. Unit {0}) r (looking_at true (is_given g) ga) (as_many r la)
+  given_match : (r : ℕ) (ga : grin.Answer) (la : low.Answer) → Matches (λ v. is_given g v ≡ true) r ga la → Matches (λ v. Unit {0}) r (require_value_if_checked true (is_given g) ga) (with_result_count r la)
   given_match r _ _ missed = missed
   given_match r _ _ (fails h) = fails h
   given_match r _ _ (ran_out h) = ran_out h
   given_match r _ _ (given {v = v} {w = w} {a = a} sv sw reached) = by (is_given g v) refl
     where
-      by : (b : Bool) → is_given g v ≡ b → Matches (λ v. Unit {0}) r (cond b (grin.gives v w) (grin.stops grin.missing w)) (as_many r a)
+      by : (b : Bool) → is_given g v ≡ b → Matches (λ v. Unit {0}) r (cond b (grin.gives v w) (grin.stops grin.missing w)) (with_result_count r a)
       by false e = missed
       by true e =
           let q = reached e in
           let vs : List low.Word = fit r (images (words_of_value v)) in
-          let same : as_many r a ≡ low.gives vs (world_image width q.frames w) =
-          ap (as_many r) q.is ∙ (λ t. cond (eq-eqb (length vs) r (length_fit r (images (words_of_value v))) t) (low.gives vs (world_image width q.frames w)) (low.stops low.missing (world_image width q.frames w))) in
+          let same : with_result_count r a ≡ low.gives vs (world_image width q.frames w) =
+          ap (with_result_count r) q.is ∙ (λ t. cond (eq-eqb (length vs) r (length_fit r (images (words_of_value v))) t) (low.gives vs (world_image width q.frames w)) (low.stops low.missing (world_image width q.frames w))) in
           given sv sw (λ u. record { few = q.few; frames = q.frames; within = q.within; is = same })
 
-  module _ (inlined : IsInlined g) (vectorised : IsVectorised g) (ranged : AllOf (λ q. CodeRanged q.body) g.procs) (gives : EachGives (1 + most_value_fields g.tags) rs rs g.procs) (once : (x : ℕ) → times x (program_vars g) ≤ 1) (bounded : (f : ℕ) → f < length g.procs → fw f ≤ most) where
+  module _ (inlined : IsInlined g) (vectorised : IsVectorised g) (ranged : AllOf (λ q. CodeRanged q.body) g.procs) (gives : EachProcedureReturns (1 + most_value_fields g.tags) rs rs g.procs) (once : (x : ℕ) → times x (program_vars g) ≤ 1) (bounded : (f : ℕ) → f < length g.procs → fw f ≤ most) where
     body_piece : (f : ℕ) (q : Procedure) → slice_get g.procs f ≡ Some q → (number : ℕ) → first ≤ number → CodeGives (1 + most_value_fields g.tags) rs (results_of rs f) q.body
-        → blocks.CodePiece g rs (reach g) most first (record { words = results_of rs f; leaves = true }) (numbers_of q.params ++ []) number q.body
+        → blocks.CodePiece g rs (written_width g) most first (record { words = results_of rs f; leaves = true }) (numbers_of q.params ++ []) number q.body
     body_piece f q e number past gv = record {
       inlined = all_get (λ q. EachCode inlined_kind q.body) g.procs f q inlined e;
       vectorised = all_get (λ q. EachCode vectorised_kind q.body) g.procs f q vectorised e;
@@ -126,7 +126,7 @@ module _ (g : grin_tree.Program) (rs : List ℕ) (fw : ℕ → ℕ) (most : ℕ)
       past = past;
     }
 
-    leaving : (r d top u : ℕ) → top ≤ suc d * most → u ≤ d * most → Standing g rs (reach g) most (λ v. is_given g v ≡ true) (record { words = r; leaves = true }) d top (Some u)
+    leaving : (r d top u : ℕ) → top ≤ suc d * most → u ≤ d * most → Standing g rs (written_width g) most (λ v. is_given g v ≡ true) (record { words = r; leaves = true }) d top (Some u)
     leaving r d top u le lu = record {
       narrow = λ e. absurd (let z : true ≡ false = e in cc);
       given = λ e v h. and_left (not_delayed g v) (plain_number v) h;
@@ -139,12 +139,12 @@ module _ (g : grin_tree.Program) (rs : List ℕ) (fw : ℕ → ℕ) (most : ℕ)
       -- a procedure that is entered
       entered : (f : ℕ) (q : Procedure) (xs : List Datum) (bs : List Binding) (d : ℕ) (w : grin.World) (u frames left number : ℕ) → slice_get g.procs f ≡ Some q → one_each q.params xs ≡ Some bs → AllOf InRange xs → SoundWorld g w → u ≤ d * most → frames ≤ (w.depth + 1) * most
           → first ≤ number → CodeGives (1 + most_value_fields g.tags) rs (results_of rs f) q.body
-          → Matches (λ v. Unit {0}) (results_of rs f) (looking_at true (is_given g) (code_by g (calls_by g true n) true (with_vars bs (λ y. None)) d q.body (passing (with_vars bs (λ y. None)) (grin_run.spent f d left w))))
-          (low_run.body p fw free (low_run.calls p fw free n) f u left (procedure_code (reach g) rs number (results_of rs f) q) (bound (numbers_of q.params) (images xs) no_vars) (world_image width frames w))
+          → Matches (λ v. Unit {0}) (results_of rs f) (require_value_if_checked true (is_given g) (code_by g (calls_by g true n) true (with_vars bs (λ y. None)) d q.body (with_state_seen (with_vars bs (λ y. None)) (grin_run.spent f d left w))))
+          (low_run.body p fw free (low_run.calls p fw free n) f u left (procedure_code (written_width g) rs number (results_of rs f) q) (bound (numbers_of q.params) (images xs) no_vars) (world_image width frames w))
       entered f q xs bs d w u frames left number eq eb ranged' sound lu wi past gv =
           given_match (results_of rs f) _ _ (blocks.code_runs g p fw most rs first (length-map g.globals (λ c. c.tag.0)) width refl refl (calls_by g true n) (low_run.calls p fw free n) calls_match
           (λ v. is_given g v ≡ true) (record { words = results_of rs f; leaves = true }) d (u + fw f) (Some u) (leaving (results_of rs f) d (u + fw f) u deeper lu) number (numbers_of q.params ++ []) q.body (body_piece f q eq number past gv)
-          (with_vars bs (λ y. None)) (bound (numbers_of q.params) (images xs) no_vars) (passing (with_vars bs (λ y. None)) (grin_run.spent f d left w)) (max frames (u + fw f)) (record {
+          (with_vars bs (λ y. None)) (bound (numbers_of q.params) (images xs) no_vars) (with_state_seen (with_vars bs (λ y. None)) (grin_run.spent f d left w)) (max frames (u + fw f)) (record {
             agrees = agrees_each first q.params xs bs [] (λ y. None) no_vars eb ranged' (scoped_below first [] (numbers_of q.params) (code_vars q.body) (scoped_body g once f q eq)) (λ x v h. absurd (none_some h));
             sound = record { cells = sound.cells; bytes = sound.bytes };
             within = both_within w.depth d frames (u + fw f) most wi deeper;
@@ -161,7 +161,7 @@ module _ (g : grin_tree.Program) (rs : List ℕ) (fw : ℕ → ℕ) (most : ℕ)
           Wanted = Matches (λ v. Unit {0}) (results_of rs f)
 
           goes : ℕ → Procedure → List Binding → grin.Answer
-          goes left q bs = looking_at true (is_given g) (code_by g (calls_by g true n) true (with_vars bs (λ y. None)) d q.body (passing (with_vars bs (λ y. None)) (grin_run.spent f d left w)))
+          goes left q bs = require_value_if_checked true (is_given g) (code_by g (calls_by g true n) true (with_vars bs (λ y. None)) d q.body (with_state_seen (with_vars bs (λ y. None)) (grin_run.spent f d left w)))
 
           lows : ℕ → Option low_tree.Procedure → low.Answer
           lows left o = need o (world_image width frames w) (λ q. need (low.with_vars q.params (images xs) no_vars) (world_image width frames w) (λ env. low_run.body p fw free (low_run.calls p fw free n) f u left q env (world_image width frames w)))
@@ -169,10 +169,10 @@ module _ (g : grin_tree.Program) (rs : List ℕ) (fw : ℕ → ℕ) (most : ℕ)
           params : (left : ℕ) (q : Procedure) → slice_get g.procs f ≡ Some q → (o : Option (List Binding)) → one_each q.params xs ≡ o → Wanted (grin.need o w (goes left q)) (lows left (slice_get p.procs f))
           params left q eq None eb = missed
           params left q eq (Some bs) eb =
-              let t = translated (reach g) (1 + most_value_fields g.tags) rs first rs g.procs f q gives eq in
+              let t = translated (written_width g) (1 + most_value_fields g.tags) rs first rs g.procs f q gives eq in
               let many : length (images xs) ≡ length (numbers_of q.params) = length-map xs word_image ∙ each_many q.params xs bs eb ∙ sym (length-map q.params (λ x. x.0)) in
-              let path : lows left (slice_get p.procs f) ≡ low_run.body p fw free (low_run.calls p fw free n) f u left (procedure_code (reach g) rs t.number (results_of rs f) q) (bound (numbers_of q.params) (images xs) no_vars) (world_image width frames w) =
-              ap (lows left) t.there ∙ (λ i. need (with_vars_bound (numbers_of q.params) (images xs) no_vars many i) (world_image width frames w) (λ env. low_run.body p fw free (low_run.calls p fw free n) f u left (procedure_code (reach g) rs t.number (results_of rs f) q) env (world_image width frames w))) in
+              let path : lows left (slice_get p.procs f) ≡ low_run.body p fw free (low_run.calls p fw free n) f u left (procedure_code (written_width g) rs t.number (results_of rs f) q) (bound (numbers_of q.params) (images xs) no_vars) (world_image width frames w) =
+              ap (lows left) t.there ∙ (λ i. need (with_vars_bound (numbers_of q.params) (images xs) no_vars many i) (world_image width frames w) (λ env. low_run.body p fw free (low_run.calls p fw free n) f u left (procedure_code (written_width g) rs t.number (results_of rs f) q) env (world_image width frames w))) in
               subst (Wanted (goes left q bs)) (sym path) (entered f q xs bs d w u frames left t.number eq eb ranged' sound lu wi t.past t.gives)
 
           procs : (left : ℕ) (o : Option Procedure) → slice_get g.procs f ≡ o → Wanted (grin.need o w (λ q. grin.need (one_each q.params xs) w (goes left q))) (lows left (slice_get p.procs f))

@@ -12,8 +12,8 @@ use Rattle.grin_meaning.specs.Ready.{most_fields, most_value_fields}
 use Rattle.low_code.specs.declared.program.LowProc.{LowProc}
 use Rattle.low_code.specs.Tree as low
 use Rattle.low_translate.specs.Translation.{procedures_code, program_code}
-use Rattle.low_translate.specs.Writes.{reach}
-use Rattle.low_translate.specs.Lowered.{CodeRanged, EachGives, IsLowered}
+use Rattle.low_translate.specs.Writes.{written_width}
+use Rattle.low_translate.specs.Lowered.{CodeRanged, EachProcedureReturns, IsLowered}
 use Rattle.low_translate.specs.Emitted.{ProcedureDone}
 
 module _ (w : ℕ) (rs : List ℕ) where
@@ -71,7 +71,7 @@ none_made w rs start made procs e = subst (λ l. ProcsSoFar w rs start start l p
 pub procs_as : (w : ℕ) (rs rs' : List ℕ) (start next : ℕ) (made : List LowProc) (procs : List Proc) (f : ℕ) → rs ≡ rs' → ProcsSoFar w rs start next made procs f → ProcsSoFar w rs' start next made procs f
 procs_as w rs rs' start next made procs f e s = subst (λ l. ProcsSoFar w l start next made procs f) e s
 
-pub each_many : (node : ℕ) (results rs : List ℕ) (qs : List grin.Procedure) → EachGives node results rs qs → length rs ≡ length qs
+pub each_many : (node : ℕ) (results rs : List ℕ) (qs : List grin.Procedure) → EachProcedureReturns node results rs qs → length rs ≡ length qs
 each_many node results [] [] h = refl
 each_many node results [] (q ∷ qs) h = absurd h
 each_many node results (r ∷ rs) [] h = absurd h
@@ -79,8 +79,8 @@ each_many node results (r ∷ rs) (q ∷ qs) h = ap suc (each_many node results 
 
 -- the code that is made
 pub code_is : (g : Grin) (rs : List ℕ) (wide w start next f : ℕ) (made : List LowProc) (globals : List ℕ) (procs : List Proc) → length rs ≡ length g.procs
-    → wide ≡ most_fields g.tags + 1 → w ≡ reach (program_of g) → start ≡ past_procs (map procedure_of g.procs) → globals ≡ map (λ c. c.tag.0) g.globals → procs ≡ g.procs → ProcsSoFar w rs start next made procs f → length procs ≤ f
-    → record { procs = map low.procedure_of made; start = g.start.0; argument = g.argument; globals = globals; width = wide } ≡ program_code (1 + most_fields g.tags) (reach (program_of g)) rs (past_procs (map procedure_of g.procs)) (program_of g)
+    → wide ≡ most_fields g.tags + 1 → w ≡ written_width (program_of g) → start ≡ past_procs (map procedure_of g.procs) → globals ≡ map (λ c. c.tag.0) g.globals → procs ≡ g.procs → ProcsSoFar w rs start next made procs f → length procs ≤ f
+    → record { procs = map low.procedure_of made; start = g.start.0; argument = g.argument; globals = globals; width = wide } ≡ program_code (1 + most_fields g.tags) (written_width (program_of g)) rs (past_procs (map procedure_of g.procs)) (program_of g)
 code_is g rs wide w start next f made globals procs many ev ew es el ep s le =
     let kr : length rs ≤ f = (let e = ap length ep in omega (arith, many, le, e)) in
     let width : wide ≡ 1 + most_fields g.tags = omega (arith, ev) in
@@ -91,15 +91,15 @@ code_is g rs wide w start next f made globals procs many ev ew es el ep s le =
 pub code_ranged : (g : Grin) (rs : List ℕ) (w start next f : ℕ) (made : List LowProc) (procs : List Proc) → procs ≡ g.procs → ProcsSoFar w rs start next made procs f → length procs ≤ f → AllOf (λ q. CodeRanged q.body) (map procedure_of g.procs)
 code_ranged g rs w start next f made procs ep s le = subst (λ l. AllOf (λ q. CodeRanged q.body) (map procedure_of l)) ep (all_ranged w rs start next made procs f s le)
 
-pub lowered_is : (g : Grin) (l : low.Program) (rs rs' : List ℕ) (node : ℕ) (ps : List Proc) → node ≡ most_value_fields g.tags + 1 → ps ≡ g.procs → EachGives node rs rs (map procedure_of ps) → AllOf (λ r. r ≤ 13) rs → length g.tags ≤ 2 ^ 32
-    → AllOf (λ q. CodeRanged q.body) (map procedure_of g.procs) → rs' ≡ rs → l ≡ program_code (1 + most_fields g.tags) (reach (program_of g)) rs' (past_procs (map procedure_of g.procs)) (program_of g) → IsLowered (program_of g) l
+pub lowered_is : (g : Grin) (l : low.Program) (rs rs' : List ℕ) (node : ℕ) (ps : List Proc) → node ≡ most_value_fields g.tags + 1 → ps ≡ g.procs → EachProcedureReturns node rs rs (map procedure_of ps) → AllOf (λ r. r ≤ 13) rs → length g.tags ≤ 2 ^ 32
+    → AllOf (λ q. CodeRanged q.body) (map procedure_of g.procs) → rs' ≡ rs → l ≡ program_code (1 + most_fields g.tags) (written_width (program_of g)) rs' (past_procs (map procedure_of g.procs)) (program_of g) → IsLowered (program_of g) l
 lowered_is g l rs rs' node ps en eps eg few tags ranged same is =
     let node_width : node ≡ 1 + most_value_fields g.tags = omega (arith, en) in
     record {
       results = rs;
-      gives = subst (λ k. EachGives k rs rs (map procedure_of g.procs)) node_width (subst (λ l. EachGives node rs rs (map procedure_of l)) eps eg);
+      gives = subst (λ k. EachProcedureReturns k rs rs (map procedure_of g.procs)) node_width (subst (λ l. EachProcedureReturns node rs rs (map procedure_of l)) eps eg);
       few = few;
       few_tags = tags;
       ranged = ranged;
-      is = is ∙ ap (λ k. program_code (1 + most_fields g.tags) (reach (program_of g)) k (past_procs (map procedure_of g.procs)) (program_of g)) same;
+      is = is ∙ ap (λ k. program_code (1 + most_fields g.tags) (written_width (program_of g)) k (past_procs (map procedure_of g.procs)) (program_of g)) same;
     }

@@ -9,10 +9,10 @@ use Rattle.low_code.specs.declared.program.PrimOp.{PrimOp}
 use Rattle.low_code.specs.declared.program.Operand.{Operand}
 use Rattle.low_code.specs.declared.program.Operand.TheVariants.{Var, Num, Cell}
 use Rattle.low_code.specs.Tree.{Code, set, prim, load, save, put, get, call, join, give, tail, choose, fail, Arms, otherwise, arm}
-use Rattle.low_code.specs.Formed.{Known, AllKnown, TestsKnown, Scoped, ArmsScoped}
+use Rattle.low_code.specs.Formed.{OperandInScope, OperandsInScope, TestsInScope, Scoped, ArmsScoped}
 use Rattle.low_code.specs.Literals.{IsSmall, AreSmall, TestsSmall, Small, ArmsSmall}
 use Rattle.low_code.specs.Size.{FewTests, ArmsFewTests}
-use Rattle.low_translate.specs.Translation.{operands_of, fitted, variables_of, nth_operand, is_number, tested, sets, to_first, load_word, loads, saves, fill_word, fills, taken, stores}
+use Rattle.low_translate.specs.Translation.{operands_of, padded_to_width, variables_of, nth_operand, is_number, with_test, set_all, to_first, load_word, load_all, save_all, fill_word, fills, take_if_any, store_all}
 use Rattle.seq.specs.Lists.{is_among}
 use Rattle.seq.proofs.Counted.{among_later, among_first}
 
@@ -71,7 +71,7 @@ module _ (globals : ℕ) where
   -- ---- operands
 
   abbrev pub Good : List ℕ → Operand → Type 0
-  Good scope a = Known globals scope a × IsSmall a
+  Good scope a = OperandInScope globals scope a × IsSmall a
 
   abbrev pub AllGood : List ℕ → List Operand → Type 0
   AllGood scope = AllOf (Good scope)
@@ -94,7 +94,7 @@ module _ (globals : ℕ) where
   goods_take (suc k) [] ys h = tt
   goods_take (suc k) (a ∷ as') ys h = (h.0, goods_take k as' ys h.1)
 
-  pub fitted_good : (k : ℕ) (as' : List Operand) (ys : List ℕ) → AllGood ys as' → AllGood ys (fitted k as')
+  pub fitted_good : (k : ℕ) (as' : List Operand) (ys : List ℕ) → AllGood ys as' → AllGood ys (padded_to_width k as')
   fitted_good zero as' ys h = tt
   fitted_good (suc k) [] ys h = (zero_good ys, fitted_good k [] ys tt)
   fitted_good (suc k) (a ∷ as') ys h = (h.0, fitted_good k as' ys h.1)
@@ -108,7 +108,7 @@ module _ (globals : ℕ) where
   variables_good [] ys m = tt
   variables_good (x ∷ xs) ys m = ((more_first x xs ys m, tt), variables_good xs ys (more_rest x xs ys m))
 
-  known_all : (as' : List Operand) (ys : List ℕ) → AllGood ys as' → AllKnown globals ys as'
+  known_all : (as' : List Operand) (ys : List ℕ) → AllGood ys as' → OperandsInScope globals ys as'
   known_all [] ys h = tt
   known_all (a ∷ as') ys h = (h.0.0, known_all as' ys h.1)
 
@@ -164,14 +164,14 @@ module _ (globals : ℕ) where
   -- ---- tests
 
   pub record TestsFine (ys : List ℕ) (ts : List LowTest) (k : ℕ) : Type 0 where
-    pub known : TestsKnown globals ys ts
+    pub known : TestsInScope globals ys ts
     pub small : TestsSmall ts
     pub few : length ts ≤ k
 
   pub no_tests : (ys : List ℕ) (k : ℕ) → TestsFine ys [] k
   no_tests ys k = record { known = tt; small = tt; few = omega arith }
 
-  pub tested_fine : (ys : List ℕ) (a : Operand) (n k : ℕ) (ts : List LowTest) → Good ys a → n < 2 ^ 32 → TestsFine ys ts k → TestsFine ys (tested a n ts) (suc k)
+  pub tested_fine : (ys : List ℕ) (a : Operand) (n k : ℕ) (ts : List LowTest) → Good ys a → n < 2 ^ 32 → TestsFine ys ts k → TestsFine ys (with_test a n ts) (suc k)
   tested_fine ys a n k ts h lt t = by (is_number a n)
     where
       by : (b : Bool) → TestsFine ys (elim b [ true ↦ ts | false ↦ record { left = a; right = n } ∷ ts ]) (suc k)
@@ -189,10 +189,10 @@ module _ (globals : ℕ) where
   onward_next : (ys : List ℕ) (x : ℕ) (xs : List ℕ) (c : Code) → Onward ys (x ∷ xs) c → Onward (x ∷ ys) xs c
   onward_next ys x xs c k zs m n = k zs (more_rest x ys zs m) (more_cons x xs zs (more_first x ys zs m) n)
 
-  pub sets_fine : (xs : List ℕ) (as' : List Operand) (ys : List ℕ) (c : Code) → AllGood ys as' → Onward ys xs c → Fine ys (sets xs as' c)
+  pub sets_fine : (xs : List ℕ) (as' : List Operand) (ys : List ℕ) (c : Code) → AllGood ys as' → Onward ys xs c → Fine ys (set_all xs as' c)
   sets_fine [] as' ys c h k = k ys (more_self ys) (more_none ys)
-  sets_fine (x ∷ xs) [] ys c h k = fine_set ys x (Num 0) (sets xs [] c) (zero_good ys) (sets_fine xs [] (x ∷ ys) c tt (onward_next ys x xs c k))
-  sets_fine (x ∷ xs) (a ∷ as') ys c h k = fine_set ys x a (sets xs as' c) h.0 (sets_fine xs as' (x ∷ ys) c (goods_more as' ys (x ∷ ys) (more_later x ys) h.1) (onward_next ys x xs c k))
+  sets_fine (x ∷ xs) [] ys c h k = fine_set ys x (Num 0) (set_all xs [] c) (zero_good ys) (sets_fine xs [] (x ∷ ys) c tt (onward_next ys x xs c k))
+  sets_fine (x ∷ xs) (a ∷ as') ys c h k = fine_set ys x a (set_all xs as' c) h.0 (sets_fine xs as' (x ∷ ys) c (goods_more as' ys (x ∷ ys) (more_later x ys) h.1) (onward_next ys x xs c k))
 
   pub word_fine : (width x : ℕ) (a : Operand) (i : ℕ) (ys : List ℕ) (c : Code) → Good ys a → Fine (x ∷ ys) c → Fine ys (load_word width x a i c)
   word_fine width x a i ys c h f = by (nat_lt i width)
@@ -201,15 +201,15 @@ module _ (globals : ℕ) where
       by true = record { scoped = (h.0, f.scoped); small = (h.1, f.small); few = f.few }
       by false = fine_set ys x (Num 0) c (zero_good ys) f
 
-  pub loads_fine : (width : ℕ) (xs : List ℕ) (a : Operand) (i : ℕ) (ys : List ℕ) (c : Code) → Good ys a → Onward ys xs c → Fine ys (loads width xs a i c)
+  pub loads_fine : (width : ℕ) (xs : List ℕ) (a : Operand) (i : ℕ) (ys : List ℕ) (c : Code) → Good ys a → Onward ys xs c → Fine ys (load_all width xs a i c)
   loads_fine width [] a i ys c h k = k ys (more_self ys) (more_none ys)
-  loads_fine width (x ∷ xs) a i ys c h k = word_fine width x a i ys (loads width xs a (suc i) c) h (loads_fine width xs a (suc i) (x ∷ ys) c (good_more a ys (x ∷ ys) (more_later x ys) h) (onward_next ys x xs c k))
+  loads_fine width (x ∷ xs) a i ys c h k = word_fine width x a i ys (load_all width xs a (suc i) c) h (loads_fine width xs a (suc i) (x ∷ ys) c (good_more a ys (x ∷ ys) (more_later x ys) h) (onward_next ys x xs c k))
 
   pub first_fine : (xs : List ℕ) (e : ℕ → Code → Code) (ys : List ℕ) (c : Code) → ((x : ℕ) (b : Code) → Fine (x ∷ ys) b → Fine ys (e x b)) → Onward ys xs c → Fine ys (to_first xs e c)
   first_fine [] e ys c h k = k ys (more_self ys) (more_none ys)
-  first_fine (x ∷ xs) e ys c h k = h x (sets xs [] c) (sets_fine xs [] (x ∷ ys) c tt (onward_next ys x xs c k))
+  first_fine (x ∷ xs) e ys c h k = h x (set_all xs [] c) (sets_fine xs [] (x ∷ ys) c tt (onward_next ys x xs c k))
 
-  pub saves_fine : (a : Operand) (i : ℕ) (bs : List Operand) (ys : List ℕ) (c : Code) → Good ys a → AllGood ys bs → Fine ys c → Fine ys (saves a i bs c)
+  pub saves_fine : (a : Operand) (i : ℕ) (bs : List Operand) (ys : List ℕ) (c : Code) → Good ys a → AllGood ys bs → Fine ys c → Fine ys (save_all a i bs c)
   saves_fine a i [] ys c h k f = f
   saves_fine a i (b ∷ bs) ys c h k f =
       let r = saves_fine a (suc i) bs ys c h k.1 f in
@@ -226,7 +226,7 @@ module _ (globals : ℕ) where
   fills_fine a i [] ys c h k f = f
   fills_fine a i (b ∷ bs) ys c h k f = fill_fine a i b ys (fills a (suc i) bs c) h k.0 (fills_fine a (suc i) bs ys c h k.1 f)
 
-  pub taken_fine : (xs ys : List ℕ) (c : Code) → Fine (xs ++ ys) c → Fine ys (taken xs c)
+  pub taken_fine : (xs ys : List ℕ) (c : Code) → Fine (xs ++ ys) c → Fine ys (take_if_any xs c)
   taken_fine [] ys c f = f
   taken_fine (x ∷ xs) ys c f = record { scoped = f.scoped; small = f.small; few = f.few }
 
@@ -234,6 +234,6 @@ module _ (globals : ℕ) where
   abbrev pub CellGood : List ℕ → C.Cell → Type 0
   CellGood ys x = (is_among x.var.0 ys ≡ true) × AllGood ys (operands_of x.val)
 
-  pub stores_fine : (width : ℕ) (cs : List C.Cell) (ys : List ℕ) (c : Code) → AllOf (CellGood ys) cs → Fine ys c → Fine ys (stores width cs c)
+  pub stores_fine : (width : ℕ) (cs : List C.Cell) (ys : List ℕ) (c : Code) → AllOf (CellGood ys) cs → Fine ys c → Fine ys (store_all width cs c)
   stores_fine width [] ys c h f = f
-  stores_fine width (x ∷ cs) ys c h f = fills_fine (Var x.var.0) 0 (take width (operands_of x.val)) ys (stores width cs c) (h.0.0, tt) (goods_take width (operands_of x.val) ys h.0.1) (stores_fine width cs ys c h.1 f)
+  stores_fine width (x ∷ cs) ys c h f = fills_fine (Var x.var.0) 0 (take width (operands_of x.val)) ys (store_all width cs c) (h.0.0, tt) (goods_take width (operands_of x.val) ys h.0.1) (stores_fine width cs ys c h.1 f)

@@ -13,7 +13,7 @@ use Rattle.grin_syntax.specs.declared.program.Cell as C
 use Rattle.grin_syntax.specs.Binders.{numbers_of, target_vars, shape_vars, cell_vars}
 use Rattle.grin_syntax.specs.Tree as grin
 use Rattle.grin_syntax.specs.Tree.{Act, unit, fetch, fetch_word, update, eval, apply, call, prim, read, write, case, nested, fail, end, store, bind, no_arm, arm}
-use Rattle.grin_syntax.specs.Formed.{AllOf, Scope, with_words, with_target, params_scope, WordFormed, ValFormed, CellFormed, ShapeFormed, ActFormed, CodeFormed, ArmsFormed, ProcedureFormed}
+use Rattle.grin_syntax.specs.Formed.{AllOf, Scope, with_word_variables, with_target, params_scope, WordFormed, ValFormed, CellFormed, ShapeFormed, ActFormed, CodeFormed, ArmsFormed, ProcedureFormed}
 use Rattle.grin_meaning.specs.Ready.{EachAct, EachCode, EachArms, vectorised_kind}
 use Rattle.low_code.specs.declared.program.Operand.{Operand}
 use Rattle.low_code.specs.Tree as low
@@ -21,7 +21,7 @@ use Rattle.low_code.specs.Formed.{AllScoped}
 use Rattle.low_code.specs.Literals.{AllSmall}
 use Rattle.low_code.specs.Size.{AllFewTests}
 use Rattle.low_translate.specs.declared.blocks.Goal.{Goal}
-use Rattle.low_translate.specs.Translation.{operand_of, operands_of, operands_of_words, operation_of, fitted, variables_of, nth_operand, tests, sets, load_word, results_of, to_join, end_words, plain_code, through, plain_end, act_code, end_code, code_code, arms_code, procedures_code, procedure_numbers, act_numbers, code_numbers}
+use Rattle.low_translate.specs.Translation.{operand_of, operands_of, operands_of_words, operation_of, padded_to_width, variables_of, nth_operand, tests, set_all, load_word, results_of, to_join, end_words, plain_code, through, plain_end, act_code, end_code, code_code, arms_code, procedures_code, procedure_numbers, act_numbers, code_numbers}
 use Rattle.low_translate.specs.Lowered.{Has32Bits, WordRanged, ValRanged, ShapeRanged, PlainRanged, ActRanged, CodeRanged, ArmsRanged}
 use Rattle.low_translate.proofs.Scopes.{More, more_self, more_chain, more_left, more_right, more_append, more_parts, more_first, more_rest, Good, AllGood, Fine, ArmsFine, TestsFine, Onward, CellGood, fitted_good, nth_good, variables_good, no_tests, tested_fine, fine_prim, fine_put, fine_get, fine_call, fine_join, fine_give, fine_tail, fine_fail, fine_choose, fine_otherwise, fine_arm, sets_fine, word_fine, loads_fine, first_fine, saves_fine, taken_fine, stores_fine}
 use Rattle.seq.specs.Lists.{numbers_from}
@@ -87,11 +87,11 @@ module _ (g : grin.Program) (few_tags : length g.tags ≤ 2 ^ 32) (width : ℕ) 
     failing : (xs : List ℕ) (c : low.Code) → Onward globals ys xs c → Fine globals ys (low.join xs low.fail c)
     failing xs c k = fine_join globals ys xs low.fail c (fine_fail globals ys) (k (xs ++ ys) (more_right xs ys) (more_left xs ys))
 
-    calling : (f n r : ℕ) (as' : List Operand) (xs : List ℕ) (c : low.Code) → AllGood globals ys as' → Onward globals ys xs c → Fine globals ys (low.call f n as' (take r xs ++ numbers_from (suc n) (r - length xs)) (sets (drop r xs) [] c))
+    calling : (f n r : ℕ) (as' : List Operand) (xs : List ℕ) (c : low.Code) → AllGood globals ys as' → Onward globals ys xs c → Fine globals ys (low.call f n as' (take r xs ++ numbers_from (suc n) (r - length xs)) (set_all (drop r xs) [] c))
     calling f n r as' xs c h k =
         let more : List ℕ = numbers_from (suc n) (r - length xs) in
         let bound : List ℕ = take r xs ++ more in
-        fine_call globals ys f n as' bound (sets (drop r xs) [] c) h
+        fine_call globals ys f n as' bound (set_all (drop r xs) [] c) h
         (sets_fine globals (drop r xs) [] (bound ++ ys) c tt (λ zs o l. k zs (more_chain (more_right bound ys) o) (more_parts r xs zs (more_chain (more_left (take r xs) more) (more_chain (more_left bound ys) o)) l)))
 
     plain_fine : (xs : List ℕ) (n : ℕ) (o : Act) (c : low.Code) → ActFormed g scope o → PlainRanged o → Onward globals ys xs c → Fine globals ys (plain_code width rs xs n o c)
@@ -99,11 +99,11 @@ module _ (g : grin.Program) (few_tags : length g.tags ≤ 2 ^ 32) (width : ℕ) 
     plain_fine xs n (unit v) c h r k = sets_fine globals xs (operands_of v) ys c (value_good scope ys m v h r) k
     plain_fine xs n (fetch a) c h r k = loads_fine globals width xs (operand_of a) 0 ys c (word_good scope ys m a h r) k
     plain_fine xs n (fetch_word a i) c h r k = first_fine globals xs (λ x. load_word width x (operand_of a) i) ys c (λ x b. word_fine globals width x (operand_of a) i ys b (word_good scope ys m a h r)) k
-    plain_fine xs n (update a v) c h r k = saves_fine globals (operand_of a) 0 (fitted width (operands_of v)) ys (sets xs [] c) (word_good scope ys m a h.0 r.0) (fitted_good globals width (operands_of v) ys (value_good scope ys m v h.1 r.1)) (sets_fine globals xs [] ys c tt k)
+    plain_fine xs n (update a v) c h r k = saves_fine globals (operand_of a) 0 (padded_to_width width (operands_of v)) ys (set_all xs [] c) (word_good scope ys m a h.0 r.0) (fitted_good globals width (operands_of v) ys (value_good scope ys m v h.1 r.1)) (sets_fine globals xs [] ys c tt k)
     plain_fine xs n (call f ws) c h r k = calling f.0 n (results_of rs f.0) (operands_of_words ws) xs c (words_good scope ys m ws h.1 r) k
     plain_fine xs n (prim f a b) c h r k = first_fine globals xs (λ x. low.prim (operation_of f) x (operand_of a) (operand_of b)) ys c (λ x e. fine_prim globals ys (operation_of f) x (operand_of a) (operand_of b) e (word_good scope ys m a h.0 r.0) (word_good scope ys m b h.1 r.1)) k
     plain_fine xs n read c h r k = first_fine globals xs (λ x. low.get x) ys c (λ x b. fine_get globals ys x b) k
-    plain_fine xs n (write a) c h r k = fine_put globals ys (operand_of a) (sets xs [] c) (word_good scope ys m a h r) (sets_fine globals xs [] ys c tt k)
+    plain_fine xs n (write a) c h r k = fine_put globals ys (operand_of a) (set_all xs [] c) (word_good scope ys m a h r) (sets_fine globals xs [] ys c tt k)
     plain_fine xs n (eval a) c h r k = failing xs c k
     plain_fine xs n (apply v a) c h r k = failing xs c k
     plain_fine xs n (case v as') c h r k = failing xs c k
@@ -113,12 +113,12 @@ module _ (g : grin.Program) (few_tags : length g.tags ≤ 2 ^ 32) (width : ℕ) 
     through_fine : (goal : Goal) (n : ℕ) (o : Act) → ActFormed g scope o → PlainRanged o → Fine globals ys (through width rs goal n o)
     through_fine goal n o h r =
         let xs : List ℕ = numbers_from n (end_words width rs goal.words o) in
-        plain_fine xs (n + end_words width rs goal.words o) o (low.give (fitted goal.words (variables_of xs))) h r
-        (λ zs l k. fine_give globals zs (fitted goal.words (variables_of xs)) (fitted_good globals goal.words (variables_of xs) zs (variables_good globals xs zs k)))
+        plain_fine xs (n + end_words width rs goal.words o) o (low.give (padded_to_width goal.words (variables_of xs))) h r
+        (λ zs l k. fine_give globals zs (padded_to_width goal.words (variables_of xs)) (fitted_good globals goal.words (variables_of xs) zs (variables_good globals xs zs k)))
 
     plain_end_fine : (goal : Goal) (n : ℕ) (o : Act) → ActFormed g scope o → PlainRanged o → Fine globals ys (plain_end width rs goal n o)
     unfolding ActFormed
-    plain_end_fine goal n (unit v) h r = fine_give globals ys (fitted goal.words (operands_of v)) (fitted_good globals goal.words (operands_of v) ys (value_good scope ys m v h r))
+    plain_end_fine goal n (unit v) h r = fine_give globals ys (padded_to_width goal.words (operands_of v)) (fitted_good globals goal.words (operands_of v) ys (value_good scope ys m v h r))
     plain_end_fine goal n fail h r = fine_fail globals ys
     plain_end_fine goal n (eval w) h r = fine_fail globals ys
     plain_end_fine goal n (apply v w) h r = fine_fail globals ys
@@ -176,15 +176,15 @@ module _ (g : grin.Program) (few_tags : length g.tags ≤ 2 ^ 32) (width : ℕ) 
     code_fine scope ys m goal n (store cs b) h r e =
         let zs : List ℕ = cell_vars cs ++ ys in
         let k : More (cell_vars cs ++ scope.words) zs = more_both (cell_vars cs) scope.words ys m in
-        taken_fine globals (cell_vars cs) ys _ (stores_fine globals width cs zs _ (cells_good (with_words (cell_vars cs) scope) zs k cs (more_left (cell_vars cs) ys) h.0 r.0) (code_fine (with_words (cell_vars cs) scope) zs k goal n b h.1 r.1 e.1))
+        taken_fine globals (cell_vars cs) ys _ (stores_fine globals width cs zs _ (cells_good (with_word_variables (cell_vars cs) scope) zs k cs (more_left (cell_vars cs) ys) h.0 r.0) (code_fine (with_word_variables (cell_vars cs) scope) zs k goal n b h.1 r.1 e.1))
     code_fine scope ys m goal n (bind t o b) h r e = act_fine scope ys m (target_vars t) n o _ h.0 r.0 e.1
         (λ zs l k. code_fine (with_target t scope) zs (more_target t scope zs (more_chain m l) k) goal (n + act_numbers width rs (length (target_vars t)) o) b h.1 r.1 e.2)
 
     arms_fine : (scope : Scope) (ys : List ℕ) (m : More scope.words ys) (goal : Goal) (n : ℕ) (as' : List Operand) (l : grin.Arms) → AllGood globals ys as' → ArmsFormed g scope l → ArmsRanged l → ArmsVectorised l → ArmsFine globals ys (arms_code width rs goal n as' l)
     arms_fine scope ys m goal n as' no_arm a h r e = fine_otherwise globals ys low.fail (fine_fail globals ys)
-    arms_fine scope ys m goal n as' (arm s b no_arm) a h r e = fine_otherwise globals ys _ (code_fine (with_words (shape_vars s) scope) ys (subst (λ l. More (l ++ scope.words) ys) (sym e.0) m) goal n b h.1 r.1 e.1)
+    arms_fine scope ys m goal n as' (arm s b no_arm) a h r e = fine_otherwise globals ys _ (code_fine (with_word_variables (shape_vars s) scope) ys (subst (λ l. More (l ++ scope.words) ys) (sym e.0) m) goal n b h.1 r.1 e.1)
     arms_fine scope ys m goal n as' (arm s b (arm s' b' more)) a h r e = fine_arm globals ys (tests as' s) _ _ (tests_fine ys as' s a h.0 r.0)
-        (code_fine (with_words (shape_vars s) scope) ys (subst (λ l. More (l ++ scope.words) ys) (sym e.0) m) goal n b h.1 r.1 e.1)
+        (code_fine (with_word_variables (shape_vars s) scope) ys (subst (λ l. More (l ++ scope.words) ys) (sym e.0) m) goal n b h.1 r.1 e.1)
         (arms_fine scope ys m goal (n + code_numbers width rs goal b) as' (arm s' b' more) a h.2 r.2 e.2)
 
   -- ---- procedures

@@ -8,7 +8,7 @@ use Rattle.grin_syntax.specs.Tree.{Act, call, case, nested, Code, end, store, bi
 use Rattle.grin_meaning.specs.Values as grin
 use Rattle.grin_meaning.specs.Values.{Value}
 use Rattle.grin_meaning.specs.Run as grin_run
-use Rattle.grin_meaning.specs.Run.{act_by, code_by, arms_by, passing}
+use Rattle.grin_meaning.specs.Run.{act_by, code_by, arms_by, with_state_seen}
 use Rattle.grin_meaning.specs.Ready.{EachAct, EachCode, EachArms, most_fields, most_value_fields, inlined_kind, vectorised_kind}
 use Rattle.low_code.specs.declared.program.Operand.{Operand}
 use Rattle.low_code.specs.Tree as low_tree
@@ -17,7 +17,7 @@ use Rattle.low_code.specs.Run as low_run
 use Rattle.low_code.specs.Run.{Calls, code, operands}
 use Rattle.low_translate.specs.declared.blocks.Goal.{Goal}
 use Rattle.low_translate.specs.Translation.{operands_of, to_join, act_numbers, code_numbers, act_code, end_code, code_code, arms_code}
-use Rattle.low_translate.specs.Writes.{cells_write, act_writes, code_writes, arms_write, procs_write, reach}
+use Rattle.low_translate.specs.Writes.{cells_write, act_writes, code_writes, arms_write, procs_write, written_width}
 use Rattle.low_translate.specs.Lowered.{ActRanged, CodeRanged, ArmsRanged, ActGives, CodeGives, ArmsGive}
 use Rattle.low_translate.proofs.Images.{images, words_of_value, world_image, SoundValue}
 use Rattle.low_translate.proofs.ScopedOnce.{Scoped, scoped_front, scoped_back, scoped_rest, scoped_apart, scoped_once, scoped_below}
@@ -149,7 +149,7 @@ module _ (g : grin_tree.Program) (p : low_tree.Program) (fw : ℕ → ℕ) (most
   here : (top : ℕ) (under : Option ℕ) (top' : ℕ) (under' : Option ℕ) (scope : List ℕ) (env : grin.Env) (e : low.Env) (w : grin.World) (frames : ℕ) → At top under scope env e w frames → At top' under' scope env e w frames
   here top under top' under' scope env e w frames h = record { agrees = h.agrees; sound = h.sound; within = h.within }
 
-  here_passing : (top : ℕ) (under : Option ℕ) (scope : List ℕ) (env : grin.Env) (e : low.Env) (w : grin.World) (frames : ℕ) → At top under scope env e w frames → At top under scope env e (passing env w) frames
+  here_passing : (top : ℕ) (under : Option ℕ) (scope : List ℕ) (env : grin.Env) (e : low.Env) (w : grin.World) (frames : ℕ) → At top under scope env e w frames → At top under scope env e (with_state_seen env w) frames
   here_passing top under scope env e w frames h = record { agrees = h.agrees; sound = record { cells = h.sound.cells; bytes = h.sound.bytes }; within = h.within }
 
   lies : (o : Act) (d top : ℕ) (under : Option ℕ) → top ≤ d * most → plain.Lies g p fw most rs first same_globals width wide gcalls lcalls calls_match top under o d
@@ -160,18 +160,18 @@ module _ (g : grin_tree.Program) (p : low_tree.Program) (fw : ℕ → ℕ) (most
   lows top under e c w = code p fw free lcalls e top under c w
 
   -- an operation without blocks
-  plain_act : (P : Value → Type 0) (k n : ℕ) (xs : List ℕ) (e : low.Env) (c : low_tree.Code) (goes : Value → grin.World → grin.Answer) (d top : ℕ) (under : Option ℕ) → top ≤ d * most → (scope : List ℕ) (o : Act) → IsLeaf o → ActPiece g rs (reach g) most first (to_join xs) scope n o
+  plain_act : (P : Value → Type 0) (k n : ℕ) (xs : List ℕ) (e : low.Env) (c : low_tree.Code) (goes : Value → grin.World → grin.Answer) (d top : ℕ) (under : Option ℕ) → top ≤ d * most → (scope : List ℕ) (o : Act) → IsLeaf o → ActPiece g rs (written_width g) most first (to_join xs) scope n o
       → ((x : ℕ) → 0 < times x scope → times x xs ≡ 0) → (env : grin.Env) (w : grin.World) (frames : ℕ) → At top under scope env e w frames
       → m.Goes g p fw most rs first same_globals width wide gcalls lcalls top under P k n xs e c goes → binds.Passes g p fw most rs first same_globals width wide gcalls lcalls top under P k xs goes
-      → Matches P k (grin.then_do (act_by g gcalls true env d o w) goes) (lows top under e (act_code (reach g) rs xs n o c) (world_image width frames w))
+      → Matches P k (grin.then_do (act_by g gcalls true env d o w) goes) (lows top under e (act_code (written_width g) rs xs n o c) (world_image width frames w))
   unfolding act_code ActRanged
   plain_act P k n xs e c goes d top under le scope (case v as') pl h apart env w frames at go pass = absurd pl
   plain_act P k n xs e c goes d top under le scope (nested b) pl h apart env w frames at go pass = absurd pl
   plain_act P k n xs e c goes d top under le scope o pl h apart env w frames at go pass =
       plain.plain_runs g p fw most rs first same_globals width wide gcalls lcalls calls_match top under P k n xs e c goes scope env w frames d apart at o pl h.inlined h.vectorised h.ranged h.few (lies o d top under le) go (λ v w' sv sw wd lt a. pass v w' sv sw lt a)
 
-  plain_end : (P : Value → Type 0) (goal : Goal) (d top : ℕ) (under : Option ℕ) → Standing g rs (reach g) most P goal d top under → (n : ℕ) (scope : List ℕ) (o : Act) → IsLeaf o → ActPiece g rs (reach g) most first goal scope n o → (env : grin.Env) (e : low.Env) (w : grin.World) (frames : ℕ) → At top under scope env e w frames
-      → Matches P goal.words (act_by g gcalls true env d o w) (lows top under e (end_code (reach g) rs goal n o) (world_image width frames w))
+  plain_end : (P : Value → Type 0) (goal : Goal) (d top : ℕ) (under : Option ℕ) → Standing g rs (written_width g) most P goal d top under → (n : ℕ) (scope : List ℕ) (o : Act) → IsLeaf o → ActPiece g rs (written_width g) most first goal scope n o → (env : grin.Env) (e : low.Env) (w : grin.World) (frames : ℕ) → At top under scope env e w frames
+      → Matches P goal.words (act_by g gcalls true env d o w) (lows top under e (end_code (written_width g) rs goal n o) (world_image width frames w))
   unfolding act_code ActRanged
   plain_end P goal d top under s n scope (case v as') pl h env e w frames at = absurd pl
   plain_end P goal d top under s n scope (nested b) pl h env e w frames at = absurd pl
@@ -181,46 +181,46 @@ module _ (g : grin_tree.Program) (p : low_tree.Program) (fw : ℕ → ℕ) (most
   mutual
     unfolding act_by code act_code EachAct ActRanged
 
-    act_runs : (P : Value → Type 0) (k n : ℕ) (xs : List ℕ) (e : low.Env) (c : low_tree.Code) (goes : Value → grin.World → grin.Answer) (d top : ℕ) (under : Option ℕ) → top ≤ d * most → (scope : List ℕ) (o : Act) → ActPiece g rs (reach g) most first (to_join xs) scope n o
+    act_runs : (P : Value → Type 0) (k n : ℕ) (xs : List ℕ) (e : low.Env) (c : low_tree.Code) (goes : Value → grin.World → grin.Answer) (d top : ℕ) (under : Option ℕ) → top ≤ d * most → (scope : List ℕ) (o : Act) → ActPiece g rs (written_width g) most first (to_join xs) scope n o
         → ((x : ℕ) → 0 < times x scope → times x xs ≡ 0) → (env : grin.Env) (w : grin.World) (frames : ℕ) → At top under scope env e w frames
         → m.Goes g p fw most rs first same_globals width wide gcalls lcalls top under P k n xs e c goes → binds.Passes g p fw most rs first same_globals width wide gcalls lcalls top under P k xs goes
-        → Matches P k (grin.then_do (act_by g gcalls true env d o w) goes) (lows top under e (act_code (reach g) rs xs n o c) (world_image width frames w))
+        → Matches P k (grin.then_do (act_by g gcalls true env d o w) goes) (lows top under e (act_code (written_width g) rs xs n o c) (world_image width frames w))
     act_runs P k n xs e c goes d top under le scope (case v as') h apart env w frames at go pass =
         binds.join_goes g p fw most rs first same_globals width wide gcalls lcalls top under P k n xs e c goes go pass _ _
         (choices.case_runs g p fw most rs first same_globals width wide gcalls lcalls top None (λ u. length (words_of_value u) ≤ length xs) (to_join xs) n d env e w frames scope (here top under top None scope env e w frames at) v as' h.vectorised.1 h.ranged.0
-        (λ x are sound. arms_runs (λ u. length (words_of_value u) ≤ length xs) (to_join xs) d top None (joining g rs (reach g) most first (length xs) d top le) n scope x (operands_of v) as' (inner_arms g rs (reach g) most first (to_join xs) scope n v as' h) env e w frames (here top under top None scope env e w frames at) are sound))
+        (λ x are sound. arms_runs (λ u. length (words_of_value u) ≤ length xs) (to_join xs) d top None (joining g rs (written_width g) most first (length xs) d top le) n scope x (operands_of v) as' (inner_arms g rs (written_width g) most first (to_join xs) scope n v as' h) env e w frames (here top under top None scope env e w frames at) are sound))
     act_runs P k n xs e c goes d top under le scope (nested b) h apart env w frames at go pass =
         binds.join_goes g p fw most rs first same_globals width wide gcalls lcalls top under P k n xs e c goes go pass _ _
-        (code_runs (λ u. length (words_of_value u) ≤ length xs) (to_join xs) d top None (joining g rs (reach g) most first (length xs) d top le) n scope b (inner_block g rs (reach g) most first (to_join xs) scope n b h) env e w frames (here top under top None scope env e w frames at))
+        (code_runs (λ u. length (words_of_value u) ≤ length xs) (to_join xs) d top None (joining g rs (written_width g) most first (length xs) d top le) n scope b (inner_block g rs (written_width g) most first (to_join xs) scope n b h) env e w frames (here top under top None scope env e w frames at))
     act_runs P k n xs e c goes d top under le scope o h apart env w frames at go pass = plain_act P k n xs e c goes d top under le scope o tt h apart env w frames at go pass
 
-    end_runs : (P : Value → Type 0) (goal : Goal) (d top : ℕ) (under : Option ℕ) → Standing g rs (reach g) most P goal d top under → (n : ℕ) (scope : List ℕ) (o : Act) → ActPiece g rs (reach g) most first goal scope n o → (env : grin.Env) (e : low.Env) (w : grin.World) (frames : ℕ) → At top under scope env e w frames
-        → Matches P goal.words (act_by g gcalls true env d o w) (lows top under e (end_code (reach g) rs goal n o) (world_image width frames w))
+    end_runs : (P : Value → Type 0) (goal : Goal) (d top : ℕ) (under : Option ℕ) → Standing g rs (written_width g) most P goal d top under → (n : ℕ) (scope : List ℕ) (o : Act) → ActPiece g rs (written_width g) most first goal scope n o → (env : grin.Env) (e : low.Env) (w : grin.World) (frames : ℕ) → At top under scope env e w frames
+        → Matches P goal.words (act_by g gcalls true env d o w) (lows top under e (end_code (written_width g) rs goal n o) (world_image width frames w))
     end_runs P goal d top under s n scope (case v as') h env e w frames at =
         choices.case_runs g p fw most rs first same_globals width wide gcalls lcalls top under P goal n d env e w frames scope at v as' h.vectorised.1 h.ranged.0
-        (λ x are sound. arms_runs P goal d top under s n scope x (operands_of v) as' (inner_arms g rs (reach g) most first goal scope n v as' h) env e w frames at are sound)
-    end_runs P goal d top under s n scope (nested b) h env e w frames at = code_runs P goal d top under s n scope b (inner_block g rs (reach g) most first goal scope n b h) env e w frames at
+        (λ x are sound. arms_runs P goal d top under s n scope x (operands_of v) as' (inner_arms g rs (written_width g) most first goal scope n v as' h) env e w frames at are sound)
+    end_runs P goal d top under s n scope (nested b) h env e w frames at = code_runs P goal d top under s n scope b (inner_block g rs (written_width g) most first goal scope n b h) env e w frames at
     end_runs P goal d top under s n scope o h env e w frames at = plain_end P goal d top under s n scope o tt h env e w frames at
 
-    pub code_runs : (P : Value → Type 0) (goal : Goal) (d top : ℕ) (under : Option ℕ) → Standing g rs (reach g) most P goal d top under → (n : ℕ) (scope : List ℕ) (b : Code) → CodePiece g rs (reach g) most first goal scope n b → (env : grin.Env) (e : low.Env) (w : grin.World) (frames : ℕ) → At top under scope env e w frames
-        → Matches P goal.words (code_by g gcalls true env d b w) (lows top under e (code_code (reach g) rs goal n b) (world_image width frames w))
-    code_runs P goal d top under s n scope (end o) h env e w frames at = end_runs P goal d top under s n scope o (last_act g rs (reach g) most first goal scope n o h) env e w frames at
+    pub code_runs : (P : Value → Type 0) (goal : Goal) (d top : ℕ) (under : Option ℕ) → Standing g rs (written_width g) most P goal d top under → (n : ℕ) (scope : List ℕ) (b : Code) → CodePiece g rs (written_width g) most first goal scope n b → (env : grin.Env) (e : low.Env) (w : grin.World) (frames : ℕ) → At top under scope env e w frames
+        → Matches P goal.words (code_by g gcalls true env d b w) (lows top under e (code_code (written_width g) rs goal n b) (world_image width frames w))
+    code_runs P goal d top under s n scope (end o) h env e w frames at = end_runs P goal d top under s n scope o (last_act g rs (written_width g) most first goal scope n o h) env e w frames at
     code_runs P goal d top under s n scope (store cs b) h env e w frames at =
-        binds.store_runs g p fw most rs first same_globals width wide gcalls lcalls top under same_width P goal.words cs d b (code_code (reach g) rs goal n b) scope env e w frames at
-        (scoped_once first scope (cell_vars cs) (code_vars b) (store_scoped g rs (reach g) most first goal scope n cs b h)) (scoped_below first scope (cell_vars cs) (code_vars b) (store_scoped g rs (reach g) most first goal scope n cs b h)) h.vectorised.0 h.ranged.0 (store_few g rs (reach g) most first goal scope n cs b h)
-        (λ env' e' w' at'. code_runs P goal d top under s n (cell_vars cs ++ scope) b (after_store g rs (reach g) most first goal scope n cs b h) env' e' w' frames at')
+        binds.store_runs g p fw most rs first same_globals width wide gcalls lcalls top under same_width P goal.words cs d b (code_code (written_width g) rs goal n b) scope env e w frames at
+        (scoped_once first scope (cell_vars cs) (code_vars b) (store_scoped g rs (written_width g) most first goal scope n cs b h)) (scoped_below first scope (cell_vars cs) (code_vars b) (store_scoped g rs (written_width g) most first goal scope n cs b h)) h.vectorised.0 h.ranged.0 (store_few g rs (written_width g) most first goal scope n cs b h)
+        (λ env' e' w' at'. code_runs P goal d top under s n (cell_vars cs ++ scope) b (after_store g rs (written_width g) most first goal scope n cs b h) env' e' w' frames at')
     code_runs P goal d top under s n scope (bind t o b) h env e w frames at =
-        act_runs P goal.words n (target_vars t) e (code_code (reach g) rs goal (n + act_numbers (reach g) rs (length (target_vars t)) o) b) (binds.after_bound g p fw most rs first same_globals width wide gcalls lcalls top under P goal.words n t o h.vectorised.0 scope env d b) (suc d) top under s.deeper scope o
-        (bound_act g rs (reach g) most first goal scope n t o b (length (target_vars t)) h) (scoped_apart first scope (target_vars t) (act_vars o ++ code_vars b) (bind_scoped g rs (reach g) most first goal scope n t o b h)) env w frames at
-        (binds.bound_goes g p fw most rs first same_globals width wide gcalls lcalls top under P goal.words n t o h.vectorised.0 scope env d b e (code_code (reach g) rs goal (n + act_numbers (reach g) rs (length (target_vars t)) o) b) h.past (scoped_below first scope (target_vars t) (act_vars o ++ code_vars b) (bind_scoped g rs (reach g) most first goal scope n t o b h)) at.agrees
-        (λ env' e' w' frames' at'. code_runs P goal d top under s (n + act_numbers (reach g) rs (length (target_vars t)) o) (target_vars t ++ scope) b (after_bind g rs (reach g) most first goal scope n t o b _ (omega arith) h) env' e' w' frames' at'))
+        act_runs P goal.words n (target_vars t) e (code_code (written_width g) rs goal (n + act_numbers (written_width g) rs (length (target_vars t)) o) b) (binds.after_bound g p fw most rs first same_globals width wide gcalls lcalls top under P goal.words n t o h.vectorised.0 scope env d b) (suc d) top under s.deeper scope o
+        (bound_act g rs (written_width g) most first goal scope n t o b (length (target_vars t)) h) (scoped_apart first scope (target_vars t) (act_vars o ++ code_vars b) (bind_scoped g rs (written_width g) most first goal scope n t o b h)) env w frames at
+        (binds.bound_goes g p fw most rs first same_globals width wide gcalls lcalls top under P goal.words n t o h.vectorised.0 scope env d b e (code_code (written_width g) rs goal (n + act_numbers (written_width g) rs (length (target_vars t)) o) b) h.past (scoped_below first scope (target_vars t) (act_vars o ++ code_vars b) (bind_scoped g rs (written_width g) most first goal scope n t o b h)) at.agrees
+        (λ env' e' w' frames' at'. code_runs P goal d top under s (n + act_numbers (written_width g) rs (length (target_vars t)) o) (target_vars t ++ scope) b (after_bind g rs (written_width g) most first goal scope n t o b _ (omega arith) h) env' e' w' frames' at'))
         (binds.bound_passes g p fw most rs first same_globals width wide gcalls lcalls top under P goal.words n t o h.vectorised.0 scope env d b)
 
-    arms_runs : (P : Value → Type 0) (goal : Goal) (d top : ℕ) (under : Option ℕ) → Standing g rs (reach g) most P goal d top under → (n : ℕ) (scope : List ℕ) (x : Value) (words : List Operand) (as' : Arms) → ArmsPiece g rs (reach g) most first goal scope n as' → (env : grin.Env) (e : low.Env) (w : grin.World) (frames : ℕ) → At top under scope env e w frames
+    arms_runs : (P : Value → Type 0) (goal : Goal) (d top : ℕ) (under : Option ℕ) → Standing g rs (written_width g) most P goal d top under → (n : ℕ) (scope : List ℕ) (x : Value) (words : List Operand) (as' : Arms) → ArmsPiece g rs (written_width g) most first goal scope n as' → (env : grin.Env) (e : low.Env) (w : grin.World) (frames : ℕ) → At top under scope env e w frames
         → operands p fw e words ≡ Some (images (words_of_value x)) → SoundValue g x
-        → Matches P goal.words (arms_by g gcalls true env d x as' w) (low_run.arms p fw free lcalls e top under (arms_code (reach g) rs goal n words as') (world_image width frames w))
+        → Matches P goal.words (arms_by g gcalls true env d x as' w) (low_run.arms p fw free lcalls e top under (arms_code (written_width g) rs goal n words as') (world_image width frames w))
     arms_runs P goal d top under s n scope x words no_arm h env e w frames at are sound = missed
     arms_runs P goal d top under s n scope x words (arm t b more) h env e w frames at are sound =
         choices.arm_runs g p fw most rs first same_globals width wide gcalls lcalls top under P goal n d env e w frames words x are sound t b more h.vectorised.0 h.ranged.0
-        (code_runs P goal d top under s n scope b (first_arm g rs (reach g) most first goal scope n t b more h) env e (passing env w) frames (here_passing top under scope env e w frames at))
-        (arms_runs P goal d top under s (n + code_numbers (reach g) rs goal b) scope x words more (other_arms g rs (reach g) most first goal scope n t b more _ (omega arith) h) env e w frames at are sound)
+        (code_runs P goal d top under s n scope b (first_arm g rs (written_width g) most first goal scope n t b more h) env e (with_state_seen env w) frames (here_passing top under scope env e w frames at))
+        (arms_runs P goal d top under s (n + code_numbers (written_width g) rs goal b) scope x words more (other_arms g rs (written_width g) most first goal scope n t b more _ (omega arith) h) env e w frames at are sound)

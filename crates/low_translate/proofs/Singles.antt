@@ -9,15 +9,15 @@ use Rattle.grin_syntax.specs.Tree.{Act, fetch_word, prim, read}
 use Rattle.grin_meaning.specs.Values as grin
 use Rattle.grin_meaning.specs.Values.{Datum, number, tag, cell, Value, node, words, HeapCell, word_of}
 use Rattle.grin_meaning.specs.Run as grin_run
-use Rattle.grin_meaning.specs.Run.{act_by, on_numbers, place_of, node_word, byte_or_end, after_read}
+use Rattle.grin_meaning.specs.Run.{act_by, apply_arithmetic, place_of, node_word, byte_or_end, after_read}
 use Rattle.grin_meaning.specs.Ready.{most_fields}
 use Rattle.low_code.specs.Arithmetic as low_arithmetic
 use Rattle.low_code.specs.Tree as low_tree
 use Rattle.low_code.specs.Values as low
 use Rattle.low_code.specs.Values.{with_var, need, and_then}
 use Rattle.low_code.specs.Run.{Calls, code, next_byte, byte_taken}
-use Rattle.low_translate.specs.Translation.{operand_of, operation_of, sets, to_first, load_word}
-use Rattle.low_translate.specs.Writes.{reach}
+use Rattle.low_translate.specs.Translation.{operand_of, operation_of, set_all, to_first, load_word}
+use Rattle.low_translate.specs.Writes.{written_width}
 use Rattle.low_translate.specs.Lowered.{Has32Bits, WordRanged}
 use Rattle.low_translate.proofs.Images.{word_image, images, fit, fit_from, cell_image, world_image, InRange, SoundCell, SoundWorld, cell_narrow}
 use Rattle.low_translate.proofs.Operands.{bound, operand_is}
@@ -50,8 +50,8 @@ module _ (g : grin_tree.Program) (p : low_tree.Program) (fw : ℕ → ℕ) (most
         → Matches P k (goes (words (d ∷ [])) w') (does e (to_first xs body c) (world_image width frames w))
     one_word o [] body d w w' frames wd r s wi go skip step = skip (words (d ∷ [])) w' (r, tt) s wd (omega arith) _
     one_word o (x ∷ xs) body d w w' frames wd r s wi go skip step =
-        let path : does e (body x (sets xs [] c)) (world_image width frames w) ≡ does (bound (x ∷ xs) (fit (suc (length xs)) (word_image d ∷ [])) e) c (world_image width frames w') =
-        step x xs (sets xs [] c) refl ∙ sets_run p fw free lcalls top under xs [] [] (with_var x (word_image d) e) c (world_image width frames w') refl tt in
+        let path : does e (body x (set_all xs [] c)) (world_image width frames w) ≡ does (bound (x ∷ xs) (fit (suc (length xs)) (word_image d ∷ [])) e) c (world_image width frames w') =
+        step x xs (set_all xs [] c) refl ∙ sets_run p fw free lcalls top under xs [] [] (with_var x (word_image d) e) c (world_image width frames w') refl tt in
         subst (Matches P k (goes (words (d ∷ [])) w')) (sym path)
         (finish g p fw most rs first same_globals width wide gcalls lcalls top under P k n (x ∷ xs) e c goes o go skip (words (d ∷ [])) w' frames (r, tt) s wd wi)
 
@@ -80,22 +80,22 @@ module _ (g : grin_tree.Program) (p : low_tree.Program) (fw : ℕ → ℕ) (most
       first_only x rest y e h = let k : times y (x ∷ rest) ≡ 0 = ap (times y) (sym e) ∙ h in omega (arith, k)
 
       pub fetch_word_runs : (a : W.Word) (j : ℕ) → WordRanged a → Going P k n xs e c goes → Skipping P k xs (fetch_word a j) goes
-          → Matches P k (grin.then_do (act_by g gcalls true env d (fetch_word a j) w) goes) (does e (to_first xs (λ x. load_word (reach g) x (operand_of a) j) c) (world_image width frames w))
+          → Matches P k (grin.then_do (act_by g gcalls true env d (fetch_word a j) w) goes) (does e (to_first xs (λ x. load_word (written_width g) x (operand_of a) j) c) (world_image width frames w))
       unfolding act_by
       fetch_word_runs a j r go skip = by (grin.and_then (word_of g env a) place_of) refl
         where
-          by : (o : Option ℕ) → grin.and_then (word_of g env a) place_of ≡ o → Matches P k (grin.then_do (grin.need o w (λ i. grin.need (slice_get w.cells i) w (λ u. grin.gives (words (node_word u.node j ∷ [])) w))) goes) (does e (to_first xs (λ x. load_word (reach g) x (operand_of a) j) c) (world_image width frames w))
+          by : (o : Option ℕ) → grin.and_then (word_of g env a) place_of ≡ o → Matches P k (grin.then_do (grin.need o w (λ i. grin.need (slice_get w.cells i) w (λ u. grin.gives (words (node_word u.node j ∷ [])) w))) goes) (does e (to_first xs (λ x. load_word (written_width g) x (operand_of a) j) c) (world_image width frames w))
           by None q = missed
           by (Some i) q = inner (slice_get w.cells i) refl
             where
-              inner : (o : Option HeapCell) → slice_get w.cells i ≡ o → Matches P k (grin.then_do (grin.need o w (λ u. grin.gives (words (node_word u.node j ∷ [])) w)) goes) (does e (to_first xs (λ x. load_word (reach g) x (operand_of a) j) c) (world_image width frames w))
+              inner : (o : Option HeapCell) → slice_get w.cells i ≡ o → Matches P k (grin.then_do (grin.need o w (λ u. grin.gives (words (node_word u.node j ∷ [])) w)) goes) (does e (to_first xs (λ x. load_word (written_width g) x (operand_of a) j) c) (world_image width frames w))
               inner None z = missed
               inner (Some u) z =
                   let o = place_is g p fw most rs first same_globals width wide gcalls lcalls top under P k n xs e c goes scope env w frames d apart h a i q r in
                   let s : SoundCell g u.node = all_get (λ x. SoundCell g x.node) w.cells i u h.sound.cells z in
                   let ws = images (tag u.node.tag ∷ u.node.fields) in
-                  one_word (fetch_word a j) xs (λ x. load_word (reach g) x (operand_of a) j) (node_word u.node j) w w frames (omega arith) (node_word_ranged u.node j s.sound.ranged) h.sound h.within go skip
-                  (λ x rest c' eq. loads_run p fw free lcalls top under (reach g) width (omega (arith, wide)) (x ∷ []) (operand_of a) j i ws e c' (world_image width frames w) o.is (o.avoids (x ∷ []) (λ y m. first_only x rest y eq (apart y m))) (map_get (λ x. cell_image width x.node) w.cells i u z) (cell_narrow g u.node s)
+                  one_word (fetch_word a j) xs (λ x. load_word (written_width g) x (operand_of a) j) (node_word u.node j) w w frames (omega arith) (node_word_ranged u.node j s.sound.ranged) h.sound h.within go skip
+                  (λ x rest c' eq. loads_run p fw free lcalls top under (written_width g) width (omega (arith, wide)) (x ∷ []) (operand_of a) j i ws e c' (world_image width frames w) o.is (o.avoids (x ∷ []) (λ y m. first_only x rest y eq (apart y m))) (map_get (λ x. cell_image width x.node) w.cells i u z) (cell_narrow g u.node s)
                   ∙ (λ t. does (bound (x ∷ []) (fit_from 0 j ws t) e) c' (world_image width frames w)) ∙ ap (λ v. does (with_var x v e) c' (world_image width frames w)) (sym (node_word_image u.node j)))
 
       pub prim_runs : (f : G.PrimOp) (a b : W.Word) → WordRanged a → WordRanged b → Going P k n xs e c goes → Skipping P k xs (prim f a b) goes
@@ -103,11 +103,11 @@ module _ (g : grin_tree.Program) (p : low_tree.Program) (fw : ℕ → ℕ) (most
       unfolding act_by code
       prim_runs f a b ra rb go skip = by (word_of g env a) refl
         where
-          by : (o : Option Datum) → word_of g env a ≡ o → Matches P k (grin.then_do (grin.need o w (λ x. grin.need (word_of g env b) w (λ y. grin.need (on_numbers f x y) w (λ v. grin.gives v w)))) goes) (does e (to_first xs (λ x. low_tree.prim (operation_of f) x (operand_of a) (operand_of b)) c) (world_image width frames w))
+          by : (o : Option Datum) → word_of g env a ≡ o → Matches P k (grin.then_do (grin.need o w (λ x. grin.need (word_of g env b) w (λ y. grin.need (apply_arithmetic f x y) w (λ v. grin.gives v w)))) goes) (does e (to_first xs (λ x. low_tree.prim (operation_of f) x (operand_of a) (operand_of b)) c) (world_image width frames w))
           by None q = missed
           by (Some x) q = second (word_of g env b) refl x q
             where
-              second : (o : Option Datum) → word_of g env b ≡ o → (x : Datum) → word_of g env a ≡ Some x → Matches P k (grin.then_do (grin.need o w (λ y. grin.need (on_numbers f x y) w (λ v. grin.gives v w))) goes) (does e (to_first xs (λ x. low_tree.prim (operation_of f) x (operand_of a) (operand_of b)) c) (world_image width frames w))
+              second : (o : Option Datum) → word_of g env b ≡ o → (x : Datum) → word_of g env a ≡ Some x → Matches P k (grin.then_do (grin.need o w (λ y. grin.need (apply_arithmetic f x y) w (λ v. grin.gives v w))) goes) (does e (to_first xs (λ x. low_tree.prim (operation_of f) x (operand_of a) (operand_of b)) c) (world_image width frames w))
               second None z x q = missed
               second (Some (tag t)) z (number i) q = missed
               second (Some (cell t)) z (number i) q = missed

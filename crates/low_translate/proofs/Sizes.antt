@@ -13,7 +13,7 @@ use Rattle.low_code.specs.declared.program.Operand.{Operand}
 use Rattle.low_code.specs.Tree as low
 use Rattle.low_code.specs.Size.{code_size, arms_size, sizes}
 use Rattle.low_translate.specs.declared.blocks.Goal.{Goal}
-use Rattle.low_translate.specs.Translation.{operand_of, operands_of, operands_of_words, operation_of, fitted, variables_of, sets, load_word, stores, results_of, to_join, end_words, act_numbers, code_numbers, plain_code, through, plain_end, act_code, end_code, code_code, arms_code, procedures_code, procedure_numbers}
+use Rattle.low_translate.specs.Translation.{operand_of, operands_of, operands_of_words, operation_of, padded_to_width, variables_of, set_all, load_word, store_all, results_of, to_join, end_words, act_numbers, code_numbers, plain_code, through, plain_end, act_code, end_code, code_code, arms_code, procedures_code, procedure_numbers}
 use Rattle.low_translate.proofs.Numbered.{length_parts, length_past}
 use Rattle.low_translate.proofs.Operations.{length_fitted}
 use Rattle.low_translate.proofs.Parts.{words_many, sets_size, word_size, loads_size, first_size, saves_size, taken_size, stores_size}
@@ -46,7 +46,7 @@ abbrev pub ArmsNarrow : grin.Arms → Type 0
 ArmsNarrow = EachArms (narrow_kind 14)
 
 module _ (width : ℕ) (rs : List ℕ) (few_results : (f : ℕ) → results_of rs f ≤ 13) (few_fields : width ≤ 14) where
-  call_size : (f n r : ℕ) (as' : List Operand) (xs : List ℕ) (c : low.Code) → code_size (low.call f n as' (take r xs ++ numbers_from (suc n) (r - length xs)) (sets (drop r xs) [] c)) ≡ 1 + length as' + r + 3 * (length xs - r) + code_size c
+  call_size : (f n r : ℕ) (as' : List Operand) (xs : List ℕ) (c : low.Code) → code_size (low.call f n as' (take r xs ++ numbers_from (suc n) (r - length xs)) (set_all (drop r xs) [] c)) ≡ 1 + length as' + r + 3 * (length xs - r) + code_size c
   call_size f n r as' xs c =
       let a = length-append (take r xs) (numbers_from (suc n) (r - length xs)) in
       let b = length_numbers (suc n) (r - length xs) in
@@ -72,7 +72,7 @@ module _ (width : ℕ) (rs : List ℕ) (few_results : (f : ℕ) → results_of r
   plain_size xs n (fetch a) c = let h = loads_size width xs (operand_of a) 0 c in omega (arith, h)
   plain_size xs n (fetch_word a i) c = first_size 3 xs (λ x. load_word width x (operand_of a) i) c (λ x b. word_size width x (operand_of a) i b)
   plain_size xs n (update a v) c =
-      let h = saves_size (operand_of a) 0 (fitted width (operands_of v)) (sets xs [] c) in
+      let h = saves_size (operand_of a) 0 (padded_to_width width (operands_of v)) (set_all xs [] c) in
       let k = sets_size xs [] c in
       let m = length_fitted width (operands_of v) in
       omega (arith, h, k, m, few_fields)
@@ -118,17 +118,17 @@ module _ (width : ℕ) (rs : List ℕ) (few_results : (f : ℕ) → results_of r
     single_size n o s =
         let e : ℕ = end_words width rs goal.words o in
         let xs : List ℕ = numbers_from n e in
-        let h = plain_size xs (n + e) o (low.give (fitted goal.words (variables_of xs))) in
+        let h = plain_size xs (n + e) o (low.give (padded_to_width goal.words (variables_of xs))) in
         let m = length_numbers n e in
         let k = length_fitted goal.words (variables_of xs) in
         let l = single_light goal.words o s in
         omega (arith, h, m, k, l, few_words)
 
     through_call_size : (n f : ℕ) (as' : List Operand) (r : ℕ) → r ≤ 13 →
-        code_size (low.call f (n + r) as' (take r (numbers_from n r) ++ numbers_from (suc (n + r)) (r - length (numbers_from n r))) (sets (drop r (numbers_from n r)) [] (low.give (fitted goal.words (variables_of (numbers_from n r))))))
+        code_size (low.call f (n + r) as' (take r (numbers_from n r) ++ numbers_from (suc (n + r)) (r - length (numbers_from n r))) (set_all (drop r (numbers_from n r)) [] (low.give (padded_to_width goal.words (variables_of (numbers_from n r))))))
         ≤ 64 + 4 * length as'
     through_call_size n f as' r le =
-        let h = call_size f (n + r) r as' (numbers_from n r) (low.give (fitted goal.words (variables_of (numbers_from n r)))) in
+        let h = call_size f (n + r) r as' (numbers_from n r) (low.give (padded_to_width goal.words (variables_of (numbers_from n r)))) in
         let m = length_numbers n r in
         let k = length_fitted goal.words (variables_of (numbers_from n r)) in
         omega (arith, h, m, k, le, few_words)
@@ -213,7 +213,7 @@ module _ (width : ℕ) (rs : List ℕ) (few_results : (f : ℕ) → results_of r
         let c : low.Code = code_code width rs goal n b in
         let k = code_light goal n b le h.1 in
         let s = stores_size width cs c few_fields in
-        let t = taken_size (cell_vars cs) (stores width cs c) in
+        let t = taken_size (cell_vars cs) (store_all width cs c) in
         let m = cells_many cs in
         omega (arith, k, s, t, m)
     code_light goal n (bind t o b) le h =

@@ -26,9 +26,9 @@ use Rattle.low_code.specs.Tree.{Code}
 use Rattle.low_code.specs.Values as low
 use Rattle.low_code.specs.Values.{Word, Env, World, Room, need, and_then, with_vars, with_var}
 use Rattle.low_code.specs.Run.{Calls, operand, operands, code, places, with_cells, empty_cell, within_limit}
-use Rattle.low_translate.specs.Translation.{operands_of, fitted, taken, stores, saves}
+use Rattle.low_translate.specs.Translation.{operands_of, padded_to_width, take_if_any, store_all, save_all}
 use Rattle.low_translate.specs.Lowered.{ValRanged}
-use Rattle.low_translate.specs.Writes.{cut, fields_in, cells_write, procs_write, reach}
+use Rattle.low_translate.specs.Writes.{cut, fields_in, cells_write, procs_write, written_width}
 use Rattle.low_translate.proofs.Images.{word_image, images, words_of_value, fit, length_fit, zeros, cell_image, SoundNode, SoundCell, node_fits, cell_narrow, none_some, some_same}
 use Rattle.low_translate.proofs.Operands.{bound, with_vars_bound, Agrees, value_is, fitted_are}
 use Rattle.low_translate.proofs.Parts.{words_many}
@@ -163,15 +163,15 @@ module _ (g : grin_tree.Program) (p : low_tree.Program) (fw : ℕ → ℕ) (same
   -- the nodes of new cells
   pub stores_run : (first : ℕ) (scope : List ℕ) (env : grin.Env) (e : Env) → Agrees first scope env e → (cs : List C.Cell) (hs : List HeapCell) (pre : List (List Word)) (c : Code) (w : World)
       → cells_of g env cs ≡ Some hs → all_fill g env cs ≡ true → AllOf (λ c. NoNodeVar c.val) cs → AllOf (λ c. ValRanged c.val) cs → Placed e (length pre) cs → cells_write g.tags cs ≤ procs_write g.tags g.procs
-      → (runs e (stores (reach g) cs c) (record w { cells = pre ++ replicate (length cs) (zeros width) }) ≡ runs e c (record w { cells = pre ++ map (λ h. cell_image width h.node) hs })) × AllOf (λ h. SoundCell g h.node) hs
+      → (runs e (store_all (written_width g) cs c) (record w { cells = pre ++ replicate (length cs) (zeros width) }) ≡ runs e c (record w { cells = pre ++ map (λ h. cell_image width h.node) hs })) × AllOf (λ h. SoundCell g h.node) hs
   stores_run first scope env e a [] hs pre c w h f nn r pl most = subst (λ l. (runs e c (record w { cells = pre ++ [] }) ≡ runs e c (record w { cells = pre ++ map (λ h. cell_image width h.node) l })) × AllOf (λ h. SoundCell g h.node) l) (some_same h) (refl, tt)
   stores_run first scope env e a (k ∷ cs) hs pre c w h f nn r pl most = go (node_of g env k.val) refl (cells_of g env cs) refl h
       (λ l next qs t pl'. stores_run first scope env e a cs l next c w qs t nn.1 r.1 pl' (let m : max (fields_in g.tags k.val) (cells_write g.tags cs) ≤ procs_write g.tags g.procs = most in omega (arith, m)))
     where
       go : (o : Option Node) → node_of g env k.val ≡ o → (os : Option (List HeapCell)) → cells_of g env cs ≡ os → grin.and_then (grin.and_then o (λ n. Some (record { site = k.site.0; node = n }))) (λ b. grin.and_then os (λ bs. Some (b ∷ bs))) ≡ Some hs
           → ((l : List HeapCell) (next : List (List Word)) → cells_of g env cs ≡ Some l → all_fill g env cs ≡ true → Placed e (length next) cs
-          → (runs e (stores (reach g) cs c) (record w { cells = next ++ replicate (length cs) (zeros width) }) ≡ runs e c (record w { cells = next ++ map (λ h. cell_image width h.node) l })) × AllOf (λ h. SoundCell g h.node) l)
-          → (runs e (stores (reach g) (k ∷ cs) c) (record w { cells = pre ++ replicate (suc (length cs)) (zeros width) }) ≡ runs e c (record w { cells = pre ++ map (λ h. cell_image width h.node) hs })) × AllOf (λ h. SoundCell g h.node) hs
+          → (runs e (store_all (written_width g) cs c) (record w { cells = next ++ replicate (length cs) (zeros width) }) ≡ runs e c (record w { cells = next ++ map (λ h. cell_image width h.node) l })) × AllOf (λ h. SoundCell g h.node) l)
+          → (runs e (store_all (written_width g) (k ∷ cs) c) (record w { cells = pre ++ replicate (suc (length cs)) (zeros width) }) ≡ runs e c (record w { cells = pre ++ map (λ h. cell_image width h.node) hs })) × AllOf (λ h. SoundCell g h.node) hs
       go None q os qs m rec = absurd (none_some m)
       go (Some n) q None qs m rec = absurd (none_some m)
       go (Some n) q (Some l) qs m rec =
@@ -182,29 +182,29 @@ module _ (g : grin_tree.Program) (p : low_tree.Program) (fw : ℕ → ℕ) (same
           let one : length next ≡ suc (length pre) = length-append pre (img ∷ []) ∙ omega arith in
           let rest = rec l next qs (and_right (fills g env k.val) (all_fill g env cs) f) (subst (λ j. Placed e j cs) (sym one) pl.1) in
           let is : hs ≡ record { site = k.site.0; node = n } ∷ l = sym (some_same m) in
-          let step : runs e (stores (reach g) (k ∷ cs) c) (record w { cells = pre ++ (zeros width ∷ replicate (length cs) (zeros width)) }) ≡ runs e (stores (reach g) cs c) (record w { cells = next ++ replicate (length cs) (zeros width) }) =
-          fills_run p fw room calls top under (Var k.var.0) 0 (take (reach g) (operands_of k.val)) (take (reach g) ws) (length pre) (zeros width) e (stores (reach g) cs c) (record w { cells = pre ++ (zeros width ∷ replicate (length cs) (zeros width)) })
-          pl.0 (operands_front p fw e (reach g) (operands_of k.val) ws d.words) (at_end pre (zeros width) _) (omega (arith, wide, length-take (reach g) ws, length-replicate width (low.number 0))) (all_zeros width)
-          ∙ (λ i. runs e (stores (reach g) cs c) (record w { cells = slice_set (pre ++ (zeros width ∷ replicate (length cs) (zeros width))) (length pre) (over_front (reach g) width ws (images (tag n.tag ∷ n.fields)) (omega (arith, wide)) (cell_narrow g n d.sound) d.same i) }))
-          ∙ (λ i. runs e (stores (reach g) cs c) (record w { cells = (set_end pre (zeros width) img (replicate (length cs) (zeros width)) ∙ sym (append_assoc pre (img ∷ []) (replicate (length cs) (zeros width)))) i })) in (
+          let step : runs e (store_all (written_width g) (k ∷ cs) c) (record w { cells = pre ++ (zeros width ∷ replicate (length cs) (zeros width)) }) ≡ runs e (store_all (written_width g) cs c) (record w { cells = next ++ replicate (length cs) (zeros width) }) =
+          fills_run p fw room calls top under (Var k.var.0) 0 (take (written_width g) (operands_of k.val)) (take (written_width g) ws) (length pre) (zeros width) e (store_all (written_width g) cs c) (record w { cells = pre ++ (zeros width ∷ replicate (length cs) (zeros width)) })
+          pl.0 (operands_front p fw e (written_width g) (operands_of k.val) ws d.words) (at_end pre (zeros width) _) (omega (arith, wide, length-take (written_width g) ws, length-replicate width (low.number 0))) (all_zeros width)
+          ∙ (λ i. runs e (store_all (written_width g) cs c) (record w { cells = slice_set (pre ++ (zeros width ∷ replicate (length cs) (zeros width))) (length pre) (over_front (written_width g) width ws (images (tag n.tag ∷ n.fields)) (omega (arith, wide)) (cell_narrow g n d.sound) d.same i) }))
+          ∙ (λ i. runs e (store_all (written_width g) cs c) (record w { cells = (set_end pre (zeros width) img (replicate (length cs) (zeros width)) ∙ sym (append_assoc pre (img ∷ []) (replicate (length cs) (zeros width)))) i })) in (
             step ∙ rest.0 ∙ (λ i. runs e c (record w { cells = (append_assoc pre (img ∷ []) (map (λ h. cell_image width h.node) l) ∙ ap (λ z. pre ++ map (λ h. cell_image width h.node) z) (sym is)) i })),
             subst (AllOf (λ h. SoundCell g h.node)) (sym is) (d.sound, rest.1),
           )
 
   -- a cell that is written over
   pub update_run : (first : ℕ) (scope : List ℕ) (env : grin.Env) (e : Env) → Agrees first scope env e → (b : Operand) (v : V.Val) (i : ℕ) (n : Node) (us : List Word) (c : Code) (w : World)
-      → operand p fw e b ≡ Some (low.cell i) → slice_get w.cells i ≡ Some (fit width us) → length us ≤ reach g → node_of g env v ≡ Some n → fills g env v ≡ true → NoNodeVar v → ValRanged v → fields_in g.tags v ≤ procs_write g.tags g.procs
-      → (runs e (saves b 0 (fitted (reach g) (operands_of v)) c) w ≡ runs e c (record w { cells = slice_set w.cells i (cell_image width n) })) × SoundCell g n
+      → operand p fw e b ≡ Some (low.cell i) → slice_get w.cells i ≡ Some (fit width us) → length us ≤ written_width g → node_of g env v ≡ Some n → fills g env v ≡ true → NoNodeVar v → ValRanged v → fields_in g.tags v ≤ procs_write g.tags g.procs
+      → (runs e (save_all b 0 (padded_to_width (written_width g) (operands_of v)) c) w ≡ runs e c (record w { cells = slice_set w.cells i (cell_image width n) })) × SoundCell g n
   update_run first scope env e a b v i n us c w hb hc hl hn f nn r most =
       let d = node_is first scope env e a v n hn f nn r most in
       let ws : List Word = images (words_of_value d.value) in (
-        saves_run p fw room calls top under b 0 (fitted (reach g) (operands_of v)) (fit (reach g) ws) i (fit width us) e c w hb (fitted_are g p fw same_globals (reach g) e (operands_of v) ws d.words) hc (omega (arith, wide, length_fit (reach g) ws, length_fit width us))
-            ∙ (λ t. runs e c (record w { cells = slice_set w.cells i (over_like (reach g) width ws (images (tag n.tag ∷ n.fields)) us (omega (arith, wide)) (cell_narrow g n d.sound) hl d.same t) })),
+        saves_run p fw room calls top under b 0 (padded_to_width (written_width g) (operands_of v)) (fit (written_width g) ws) i (fit width us) e c w hb (fitted_are g p fw same_globals (written_width g) e (operands_of v) ws d.words) hc (omega (arith, wide, length_fit (written_width g) ws, length_fit width us))
+            ∙ (λ t. runs e c (record w { cells = slice_set w.cells i (over_like (written_width g) width ws (images (tag n.tag ∷ n.fields)) us (omega (arith, wide)) (cell_narrow g n d.sound) hl d.same t) })),
         d.sound,
       )
 
   -- new cells, if any, where no limit is said
-  pub taken_run : (xs : List ℕ) (env : Env) (c : Code) (w : World) → room.cells ≡ None → runs env (taken xs c) w ≡ runs (bound xs (places (length w.cells) xs) env) c (with_cells (replicate (length xs) (empty_cell p fw)) w)
+  pub taken_run : (xs : List ℕ) (env : Env) (c : Code) (w : World) → room.cells ≡ None → runs env (take_if_any xs c) w ≡ runs (bound xs (places (length w.cells) xs) env) c (with_cells (replicate (length xs) (empty_cell p fw)) w)
   unfolding code
   taken_run [] env c w nn = λ i. runs env c (record w { cells = sym (append-nil w.cells) i })
   taken_run (x ∷ xs) env c w nn =

@@ -5,7 +5,7 @@ use Rattle.grin_syntax.specs.declared.program.Proc.{Proc}
 use Rattle.grin_syntax.specs.Formed.{AllOf}
 use Rattle.grin_syntax.specs.Tree.{act_of, code_of, procedure_of}
 use Rattle.low_translate.specs.Translation.{results_of}
-use Rattle.low_translate.specs.Lowered.{ActEnds, CodeEnds, CodeGives, EachGives}
+use Rattle.low_translate.specs.Lowered.{ActEnds, CodeEnds, CodeGives, EachProcedureReturns}
 use Rattle.low_translate.proofs.Items.{results_of-get}
 use Rattle.low_translate.proofs.LastOps.{last_ends}
 
@@ -18,7 +18,7 @@ pub all_few : (most : ℕ) (xs : List ℕ) → ((i : ℕ) → get_or xs i 0 ≤ 
 all_few most [] h = tt
 all_few most (x ∷ xs) h = (h 0, all_few most xs (λ i. h (suc i)))
 
-pub each_gives : (node : ℕ) (results rs : List ℕ) (qs : List Proc) → length rs ≡ length qs → ((x : ℕ) (q : Proc) → x < length qs → q ≡ get_or qs x q → CodeGives node results (get_or rs x 0) (code_of q.body)) → EachGives node results rs (map procedure_of qs)
+pub each_gives : (node : ℕ) (results rs : List ℕ) (qs : List Proc) → length rs ≡ length qs → ((x : ℕ) (q : Proc) → x < length qs → q ≡ get_or qs x q → CodeGives node results (get_or rs x 0) (code_of q.body)) → EachProcedureReturns node results rs (map procedure_of qs)
 each_gives node results [] [] e h = tt
 each_gives node results [] (q ∷ qs) e h = absurd (omega (arith, e))
 each_gives node results (r ∷ rs) [] e h = absurd (omega (arith, e))

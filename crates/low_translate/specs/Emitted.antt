@@ -15,7 +15,7 @@ abbrev pub emitted : List LowStmt → Code → Code
 emitted made c = all_before (map before_of made) c
 
 -- `new` is `old` with more behind it, which is what f puts before a block
-pub record Adds (old new : List LowStmt) (f : Code → Code) : Type 0 where
+pub record AppendsBefore (old new : List LowStmt) (f : Code → Code) : Type 0 where
   pub by : (c : Code) → emitted new c ≡ emitted old (f c)
 
 -- `new` and then e are `old` and then c
@@ -25,12 +25,12 @@ pub record Ends (old new : List LowStmt) (c e : Code) : Type 0 where
 module _ (width : ℕ) (results : List ℕ) (n next : ℕ) where
   -- an operation, its words in variables
   pub record PlainDone (xs : List ℕ) (o : Act) (old new : List LowStmt) : Type 0 where
-    pub is : Adds old new (plain_code width results xs n o)
+    pub is : AppendsBefore old new (plain_code width results xs n o)
     pub numbers : next ≡ n + plain_numbers width results (length xs) o
     pub ranged : PlainRanged o
 
   pub record ActDone (xs : List ℕ) (o : Act) (old new : List LowStmt) : Type 0 where
-    pub is : Adds old new (act_code width results xs n o)
+    pub is : AppendsBefore old new (act_code width results xs n o)
     pub numbers : next ≡ n + act_numbers width results (length xs) o
     pub ranged : ActRanged o
 

@@ -6,7 +6,7 @@ use Rattle.low_translate.specs.Translation.{results_of}
 -- `calls` are calls known before with those of this piece, whose ends are so wide: a piece that
 -- ends well calls procedures that there are and is not wide; and where all of these give r words,
 -- and r is at least that width, the piece gives r words
-pub record EndsDone (node node' : ℕ) (old calls : List ℕ) (width : ℕ)
+pub record ResultsCollected (node node' : ℕ) (old calls : List ℕ) (width : ℕ)
     (Ends : ℕ → Type 0) (Gives : List ℕ → ℕ → Type 0) : Type 0 where
   pub same_node : node' ≡ node
   pub known : (n : ℕ) → Ends n → AllOf (λ f. f < n) old → AllOf (λ f. f < n) calls

@@ -13,7 +13,7 @@ use Rattle.grin_syntax.specs.Formed.{AllOf}
 use Rattle.grin_meaning.specs.Ready.{most_fields, most_value_fields, val_width}
 use Rattle.low_code.specs.Tree as low
 use Rattle.low_translate.specs.Translation.{results_of, program_code}
-use Rattle.low_translate.specs.Writes.{reach}
+use Rattle.low_translate.specs.Writes.{written_width}
 
 -- ---- the numbers of a program have 32 bits
 
@@ -91,11 +91,12 @@ module _ (node_width : ℕ) (results : List ℕ) (r : ℕ) where
     ArmsGive no_arm = Unit {0}
     ArmsGive (arm s b as') = CodeGives b × ArmsGive as'
 
-abbrev pub EachGives : (node_width : ℕ) → (results : List ℕ) → List ℕ → List Procedure → Type 0
-EachGives node_width results [] [] = Unit {0}
-EachGives node_width results (r ∷ rs) (q ∷ qs) =
-    CodeGives node_width results r q.body × EachGives node_width results rs qs
-EachGives node_width results _ _ = ⊥
+abbrev pub EachProcedureReturns : (node_width : ℕ) → (results : List ℕ)
+    → List ℕ → List Procedure → Type 0
+EachProcedureReturns node_width results [] [] = Unit {0}
+EachProcedureReturns node_width results (r ∷ rs) (q ∷ qs) =
+    CodeGives node_width results r q.body × EachProcedureReturns node_width results rs qs
+EachProcedureReturns node_width results _ _ = ⊥
 
 -- each end has at most so many words, and each tail call is of one of n procedures
 module _ (n node_width most : ℕ) where
@@ -120,8 +121,9 @@ module _ (n node_width most : ℕ) where
 -- l is the translation of g
 pub record IsLowered (g : grin.Program) (l : low.Program) : Type 0 where
   pub results : List ℕ
-  pub gives : EachGives (1 + most_value_fields g.tags) results results g.procs
+  pub gives : EachProcedureReturns (1 + most_value_fields g.tags) results results g.procs
   pub few : AllOf (λ r. r ≤ 13) results
   pub few_tags : length g.tags ≤ 2 ^ 32
   pub ranged : AllOf (λ q. CodeRanged q.body) g.procs
-  pub is : l ≡ program_code (1 + most_fields g.tags) (reach g) results (past_procs g.procs) g
+  pub is : l
+      ≡ program_code (1 + most_fields g.tags) (written_width g) results (past_procs g.procs) g

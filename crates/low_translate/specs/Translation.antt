@@ -44,10 +44,10 @@ operands_of (val.Vector ws) = operands_of_words ws
 operands_of (val.One w) = operand_of w ∷ []
 
 -- exactly k words, with zeros at the end
-abbrev pub fitted : ℕ → List Operand → List Operand
-fitted zero as' = []
-fitted (suc k) [] = Num 0 ∷ fitted k []
-fitted (suc k) (a ∷ as') = a ∷ fitted k as'
+abbrev pub padded_to_width : ℕ → List Operand → List Operand
+padded_to_width zero as' = []
+padded_to_width (suc k) [] = Num 0 ∷ padded_to_width k []
+padded_to_width (suc k) (a ∷ as') = a ∷ padded_to_width k as'
 
 abbrev pub operation_of : G.PrimOp → PrimOp
 operation_of grin_op.Add = op.Add
@@ -64,29 +64,29 @@ abbrev pub variables_of : List ℕ → List Operand
 variables_of xs = map Var xs
 
 -- each variable becomes the word at its place, or zero
-abbrev pub sets : List ℕ → List Operand → Code → Code
-sets [] as' c = c
-sets (x ∷ xs) [] c = set x (Num 0) (sets xs [] c)
-sets (x ∷ xs) (a ∷ as') c = set x a (sets xs as' c)
+abbrev pub set_all : List ℕ → List Operand → Code → Code
+set_all [] as' c = c
+set_all (x ∷ xs) [] c = set x (Num 0) (set_all xs [] c)
+set_all (x ∷ xs) (a ∷ as') c = set x a (set_all xs as' c)
 
 -- what an operation gives as its one word goes to the first variable
 abbrev pub to_first : List ℕ → (ℕ → Code → Code) → Code → Code
 to_first [] e c = c
-to_first (x ∷ xs) e c = e x (sets xs [] c)
+to_first (x ∷ xs) e c = e x (set_all xs [] c)
 
 -- word i of a cell: past the width it is zero
 abbrev pub load_word : (width x : ℕ) → Operand → ℕ → Code → Code
 load_word width x a i c = elim (nat_lt i width) [ true ↦ load x a i c | false ↦ set x (Num 0) c ]
 
 -- the words of a cell from word i on
-abbrev pub loads : (width : ℕ) → List ℕ → Operand → ℕ → Code → Code
-loads width [] a i c = c
-loads width (x ∷ xs) a i c = load_word width x a i (loads width xs a (suc i) c)
+abbrev pub load_all : (width : ℕ) → List ℕ → Operand → ℕ → Code → Code
+load_all width [] a i c = c
+load_all width (x ∷ xs) a i c = load_word width x a i (load_all width xs a (suc i) c)
 
 -- words into a cell, from word i on
-abbrev pub saves : Operand → ℕ → List Operand → Code → Code
-saves a i [] c = c
-saves a i (b ∷ bs) c = save a i b (saves a (suc i) bs c)
+abbrev pub save_all : Operand → ℕ → List Operand → Code → Code
+save_all a i [] c = c
+save_all a i (b ∷ bs) c = save a i b (save_all a (suc i) bs c)
 
 abbrev pub is_number : Operand → ℕ → Bool
 is_number (Num j) k = nat_eq j k
@@ -102,14 +102,15 @@ fills a i [] c = c
 fills a i (b ∷ bs) c = fill_word a i b (fills a (suc i) bs c)
 
 -- new cells, if any
-abbrev pub taken : List ℕ → Code → Code
-taken [] c = c
-taken (x ∷ xs) c = take_cells (x ∷ xs) c
+abbrev pub take_if_any : List ℕ → Code → Code
+take_if_any [] c = c
+take_if_any (x ∷ xs) c = take_cells (x ∷ xs) c
 
 -- a new cell's words are zeros: of the tag and the fields those are written that are others
-abbrev pub stores : (width : ℕ) → List C.Cell → Code → Code
-stores width [] c = c
-stores width (x ∷ xs) c = fills (Var x.var.0) 0 (take width (operands_of x.val)) (stores width xs c)
+abbrev pub store_all : (width : ℕ) → List C.Cell → Code → Code
+store_all width [] c = c
+store_all width (x ∷ xs) c =
+    fills (Var x.var.0) 0 (take width (operands_of x.val)) (store_all width xs c)
 
 -- ---- tests
 
@@ -119,13 +120,14 @@ nth_operand (a ∷ as') zero = a
 nth_operand (a ∷ as') (suc i) = nth_operand as' i
 
 -- a test, unless it is of the number itself
-abbrev pub tested : Operand → ℕ → List LowTest → List LowTest
-tested a k ts = elim (is_number a k) [ true ↦ ts | false ↦ record { left = a; right = k } ∷ ts ]
+abbrev pub with_test : Operand → ℕ → List LowTest → List LowTest
+with_test a k ts = elim (is_number a k) [ true ↦ ts | false ↦ record { left = a; right = k } ∷ ts ]
 
 -- the tests of a pattern on the words of a value: the tag, and after the tag of numbers the number
 abbrev pub tests : List Operand → S.Shape → List LowTest
-tests as' (shape.Node t xs) = tested (nth_operand as' 0) t.0 []
-tests as' (shape.Int k) = tested (nth_operand as' 0) 0 (tested (nth_operand as' 1) (pattern k) [])
+tests as' (shape.Node t xs) = with_test (nth_operand as' 0) t.0 []
+tests as' (shape.Int k) =
+    with_test (nth_operand as' 0) 0 (with_test (nth_operand as' 1) (pattern k) [])
 tests as' shape.Else = []
 
 -- ---- blocks
@@ -191,29 +193,30 @@ module _ (width : ℕ) (results : List ℕ) where
 
   -- an operation without blocks whose words go to variables; the further numbers begin at n
   abbrev pub plain_code : (xs : List ℕ) → (n : ℕ) → Act → Code → Code
-  plain_code xs n (unit v) c = sets xs (operands_of v) c
-  plain_code xs n (fetch w) c = loads width xs (operand_of w) 0 c
+  plain_code xs n (unit v) c = set_all xs (operands_of v) c
+  plain_code xs n (fetch w) c = load_all width xs (operand_of w) 0 c
   plain_code xs n (fetch_word w i) c = to_first xs (λ x. load_word width x (operand_of w) i) c
   plain_code xs n (update w v) c =
-      saves (operand_of w) 0 (fitted width (operands_of v)) (sets xs [] c)
+      save_all (operand_of w) 0 (padded_to_width width (operands_of v)) (set_all xs [] c)
   plain_code xs n (call f ws) c =
       let r = results_of results f.0 in
       low.call f.0 n (operands_of_words ws) (take r xs ++ numbers_from (suc n) (r - length xs))
-      (sets (drop r xs) [] c)
+      (set_all (drop r xs) [] c)
   plain_code xs n (prim f a b) c =
       to_first xs (λ x. low.prim (operation_of f) x (operand_of a) (operand_of b)) c
   plain_code xs n read c = to_first xs (λ x. get x) c
-  plain_code xs n (write w) c = put (operand_of w) (sets xs [] c)
+  plain_code xs n (write w) c = put (operand_of w) (set_all xs [] c)
   plain_code xs n _ c = join xs low.fail c
 
   -- one at the end of a block, whose words go to variables of their own and are given
   abbrev pub through : Goal → (n : ℕ) → Act → Code
   through goal n o =
       let xs = numbers_from n (end_words goal.words o) in
-      plain_code xs (n + end_words goal.words o) o (give (fitted goal.words (variables_of xs)))
+      plain_code xs (n + end_words goal.words o) o
+      (give (padded_to_width goal.words (variables_of xs)))
 
   abbrev pub plain_end : Goal → (n : ℕ) → Act → Code
-  plain_end goal n (unit v) = give (fitted goal.words (operands_of v))
+  plain_end goal n (unit v) = give (padded_to_width goal.words (operands_of v))
   plain_end goal n grin.fail = low.fail
   plain_end goal n (eval w) = low.fail
   plain_end goal n (apply v w) = low.fail
@@ -240,7 +243,8 @@ module _ (width : ℕ) (results : List ℕ) where
 
     pub code_code : Goal → (n : ℕ) → grin.Code → Code
     code_code goal n (end o) = end_code goal n o
-    code_code goal n (store cs b) = taken (cell_vars cs) (stores width cs (code_code goal n b))
+    code_code goal n (store cs b) =
+        take_if_any (cell_vars cs) (store_all width cs (code_code goal n b))
     code_code goal n (bind t o b) =
         act_code (target_vars t) n o (code_code goal (n + act_numbers (length (target_vars t)) o) b)
 

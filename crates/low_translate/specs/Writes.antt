@@ -59,5 +59,5 @@ module _ (tags : List Tag) where
   procs_write (q ∷ qs) = max (code_writes q.body) (procs_write qs)
 
 -- the tag, and as many fields as are written and a tag has
-abbrev pub reach : Program → ℕ
-reach g = 1 + min (procs_write g.tags g.procs) (most_fields g.tags)
+abbrev pub written_width : Program → ℕ
+written_width g = 1 + min (procs_write g.tags g.procs) (most_fields g.tags)

@@ -6,14 +6,14 @@ ghost use Rattle.grin_syntax.specs.Binders.{numbers_of, target_vars};
 ghost use Rattle.grin_syntax.specs.Formed.{AllOf};
 ghost use Rattle.grin_syntax.specs.Tree.{call, act_of, arms_of, arm_of, before_of, code_of, procedure_of};
 ghost use Rattle.low_code.specs.Tree as low;
-ghost use Rattle.low_translate.specs.Emitted.{Adds, PlainDone, ActDone, ThroughDone, PlainEndDone, EndDone, BlockDone, StmtDone, ArmsDone, ProcedureDone};
-ghost use Rattle.low_translate.specs.Translation.{operand_of, operands_of, operation_of, variables_of, results_of, to_first, sets, saves, fitted, load_word, end_words};
+ghost use Rattle.low_translate.specs.Emitted.{AppendsBefore, PlainDone, ActDone, ThroughDone, PlainEndDone, EndDone, BlockDone, StmtDone, ArmsDone, ProcedureDone};
+ghost use Rattle.low_translate.specs.Translation.{operand_of, operands_of, operation_of, variables_of, results_of, to_first, set_all, save_all, padded_to_width, load_word, end_words};
 ghost use Rattle.low_translate.specs.Lowered.{WordRanged, ValRanged};
 
 use crate::emit::{emit, front, load, load_words, past, save_words, set_words, store};
 use crate::fresh::Numbers;
 use crate::patterns::tests_of;
-use crate::words::{fit, operand, operands, value};
+use crate::words::{operand, operands, padded_operands, value};
 use grin_syntax::{Alt, Block, Op, Proc, ProcId, Stmt, Target, Val, VarId, Word};
 use low_code::{LowArm, LowBlock, LowEnd, LowProc, LowStmt, Operand, PrimOp};
 use seq::Seq;
@@ -30,12 +30,12 @@ pub(crate) struct Goal {
 /// What the translation of a block depends on: how many words of a cell are written, and how many
 /// words each procedure gives.
 #[derive(Drop)]
-pub(crate) struct Plan<'a> {
+pub(crate) struct LoweringPlan<'a> {
     pub width: u32,
     pub results: &'a [u32],
 }
 
-impl Plan<'_> {
+impl LoweringPlan<'_> {
     // How many words a procedure gives.
     fn results(&self, f: ProcId) -> u32
         ensures { result ≡ results_of self.now.results.now f.0 }
@@ -55,7 +55,7 @@ impl Plan<'_> {
         i: u32,
     ) -> Result<(), AllocError>
         ensures is { OnOk result
-            (Adds made.old made.new
+            (AppendsBefore made.old made.new
             (to_first vars.now (λ x. load_word self.now.width x (operand_of cell.now) i))) }
         ensures ranged { WordRanged cell.now }
     {
@@ -77,13 +77,13 @@ impl Plan<'_> {
         v: &Val,
     ) -> Result<(), AllocError>
         ensures is { OnOk result
-            (Adds made.old made.new (λ c.
-            saves (operand_of cell.now) 0 (fitted self.now.width (operands_of v.now))
-            (sets vars.now [] c))) }
+            (AppendsBefore made.old made.new (λ c.
+            save_all (operand_of cell.now) 0 (padded_to_width self.now.width (operands_of v.now))
+            (set_all vars.now [] c))) }
         ensures ranged { OnOk result (WordRanged cell.now × ValRanged v.now) }
     {
         let words = value(alloc, v)?;
-        let words = fit(alloc, self.width as usize, words.as_slice())?;
+        let words = padded_operands(alloc, self.width as usize, words.as_slice())?;
         save_words(made, operand(cell), words.as_slice())?;
         set_words(made, vars, &[])?;
         Ok(())
@@ -176,7 +176,7 @@ impl Plan<'_> {
         let vars = numbers.many(alloc, self.end_words(goal.words, op))?;
         self.plain(alloc, numbers, made, vars.as_slice(), op)?;
         let words = as_operands(alloc, vars.as_slice())?;
-        let given = fit(alloc, goal.words, words.as_slice())?;
+        let given = padded_operands(alloc, goal.words, words.as_slice())?;
         Ok(LowEnd::Give(given))
     }
 
@@ -220,7 +220,7 @@ impl Plan<'_> {
         match op {
             Op::Unit(v) => {
                 let words = value(alloc, v)?;
-                let given = fit(alloc, goal.words, words.as_slice())?;
+                let given = padded_operands(alloc, goal.words, words.as_slice())?;
                 Ok(LowEnd::Give(given))
             }
             Op::Call(f, words) => self.last_call(
@@ -435,7 +435,7 @@ fn primitive(
     a: &Word,
     b: &Word,
 ) -> Result<(), AllocError>
-    ensures is { OnOk result (Adds made.old made.new
+    ensures is { OnOk result (AppendsBefore made.old made.new
         (to_first vars.now (λ x.
         low.prim (operation_of op) x (operand_of a.now) (operand_of b.now)))) }
     ensures ranged { WordRanged a.now × WordRanged b.now }
@@ -450,7 +450,7 @@ fn primitive(
 
 // The next byte for the first variable, and zeros for the others.
 fn read_byte(made: &mut Seq<LowStmt>, vars: &[u32]) -> Result<(), AllocError>
-    ensures { OnOk result (Adds made.old made.new (to_first vars.now (λ x. low.get x))) }
+    ensures { OnOk result (AppendsBefore made.old made.new (to_first vars.now (λ x. low.get x))) }
 {
     if let [x, rest @ ..] = vars {
         emit(made, LowStmt::Get(*x))?;
@@ -476,7 +476,7 @@ fn join(
     vars: &[u32],
     block: LowBlock,
 ) -> Result<(), AllocError>
-    ensures { OnOk result (Adds made.old made.new (low.join vars.now (low.code_of block))) }
+    ensures { OnOk result (AppendsBefore made.old made.new (low.join vars.now (low.code_of block))) }
 {
     let vars = Seq::from_slice(alloc, vars)?;
     emit(made, LowStmt::Join(vars, Box::new(alloc, block)?))?;

@@ -5,12 +5,12 @@ ghost use Rattle.std.specs.Prelude.{◌≡◌, ◌<◌, ◌^◌, length, take, d
 ghost use Rattle.low_code.specs.Tree.{before_of};
 ghost use Rattle.grin_syntax.specs.Binders.{cell_vars};
 ghost use Rattle.grin_syntax.specs.Formed.{AllOf};
-ghost use Rattle.low_translate.specs.Emitted.{Adds};
-ghost use Rattle.low_translate.specs.Translation.{sets, load_word, loads, saves, fill_word, fills, taken, stores};
+ghost use Rattle.low_translate.specs.Emitted.{AppendsBefore};
+ghost use Rattle.low_translate.specs.Translation.{set_all, load_word, load_all, save_all, fill_word, fills, take_if_any, store_all};
 ghost use Rattle.low_translate.specs.Lowered.{ValRanged};
 
-use crate::patterns::is_known;
-use crate::words::{nth, value};
+use crate::patterns::is_number_operand;
+use crate::words::{operand_or_zero, value};
 use grin_syntax::Cell;
 use low_code::{LowStmt, Operand};
 use seq::Seq;
@@ -18,7 +18,7 @@ use std::alloc::{AllocError, Global};
 
 /// Puts a statement after the others.
 pub(crate) fn emit(made: &mut Seq<LowStmt>, stmt: LowStmt) -> Result<(), AllocError>
-    ensures { OnOk result (Adds made.old made.new (before_of stmt)) }
+    ensures { OnOk result (AppendsBefore made.old made.new (before_of stmt)) }
 {
     made.push(stmt)?;
     Ok(())
@@ -30,10 +30,10 @@ pub(crate) fn set_words(
     vars: &[u32],
     words: &[Operand],
 ) -> Result<(), AllocError>
-    ensures { OnOk result (Adds made.old made.new (sets vars.now words.now)) }
+    ensures { OnOk result (AppendsBefore made.old made.new (set_all vars.now words.now)) }
 {
     for (i, x) in vars.iter().enumerate() {
-        emit(made, LowStmt::Set(*x, nth(words, i)))?;
+        emit(made, LowStmt::Set(*x, operand_or_zero(words, i)))?;
     }
     Ok(())
 }
@@ -46,7 +46,7 @@ pub(crate) fn load(
     cell: Operand,
     i: usize,
 ) -> Result<(), AllocError>
-    ensures { OnOk result (Adds made.old made.new (load_word width x cell i)) }
+    ensures { OnOk result (AppendsBefore made.old made.new (load_word width x cell i)) }
 {
     if i < width as usize {
         emit(made, LowStmt::Load(x, cell, i as u32))?;
@@ -63,7 +63,7 @@ pub(crate) fn load_words(
     vars: &[u32],
     cell: Operand,
 ) -> Result<(), AllocError>
-    ensures { OnOk result (Adds made.old made.new (loads width vars.now cell 0)) }
+    ensures { OnOk result (AppendsBefore made.old made.new (load_all width vars.now cell 0)) }
 {
     for (i, x) in vars.iter().enumerate() {
         load(made, width, *x, cell, i)?;
@@ -78,7 +78,7 @@ pub(crate) fn save_words(
     words: &[Operand],
 ) -> Result<(), AllocError>
     requires { length words.now < 2 ^ 32 }
-    ensures { OnOk result (Adds made.old made.new (saves cell 0 words.now)) }
+    ensures { OnOk result (AppendsBefore made.old made.new (save_all cell 0 words.now)) }
 {
     for (i, word) in words.iter().enumerate() {
         emit(made, LowStmt::Save(cell, i as u32, *word))?;
@@ -88,9 +88,9 @@ pub(crate) fn save_words(
 
 // Puts a word into a new cell: a zero stands there already.
 fn fill(made: &mut Seq<LowStmt>, cell: Operand, i: u32, word: Operand) -> Result<(), AllocError>
-    ensures { OnOk result (Adds made.old made.new (fill_word cell i word)) }
+    ensures { OnOk result (AppendsBefore made.old made.new (fill_word cell i word)) }
 {
-    if !is_known(word, 0) {
+    if !is_number_operand(word, 0) {
         emit(made, LowStmt::Save(cell, i, word))?;
     }
     Ok(())
@@ -99,7 +99,7 @@ fn fill(made: &mut Seq<LowStmt>, cell: Operand, i: u32, word: Operand) -> Result
 // Puts words into a new cell, from its first one on.
 fn fill_words(made: &mut Seq<LowStmt>, cell: Operand, words: &[Operand]) -> Result<(), AllocError>
     requires { length words.now < 2 ^ 32 }
-    ensures { OnOk result (Adds made.old made.new (fills cell 0 words.now)) }
+    ensures { OnOk result (AppendsBefore made.old made.new (fills cell 0 words.now)) }
 {
     for (i, word) in words.iter().enumerate() {
         fill(made, cell, i as u32, *word)?;
@@ -136,7 +136,7 @@ fn fill_cells(
     width: u32,
     cells: &[Cell],
 ) -> Result<(), AllocError>
-    ensures is { OnOk result (Adds made.old made.new (stores width cells.now)) }
+    ensures is { OnOk result (AppendsBefore made.old made.new (store_all width cells.now)) }
     ensures ranged { OnOk result (AllOf (λ c. ValRanged c.val) cells.now) }
 {
     for cell in cells {
@@ -162,7 +162,7 @@ fn variables(alloc: Global, cells: &[Cell]) -> Result<Seq<u32>, AllocError>
 
 // Takes new cells, if there are any.
 fn take_cells(made: &mut Seq<LowStmt>, vars: Seq<u32>) -> Result<(), AllocError>
-    ensures { OnOk result (Adds made.old made.new (taken vars)) }
+    ensures { OnOk result (AppendsBefore made.old made.new (take_if_any vars)) }
 {
     if !vars.is_empty() {
         emit(made, LowStmt::Take(vars))?;
@@ -177,8 +177,8 @@ pub(crate) fn store(
     width: u32,
     cells: &[Cell],
 ) -> Result<(), AllocError>
-    ensures is { OnOk result (Adds made.old made.new (λ c.
-        taken (cell_vars cells.now) (stores width cells.now c))) }
+    ensures is { OnOk result (AppendsBefore made.old made.new (λ c.
+        take_if_any (cell_vars cells.now) (store_all width cells.now c))) }
     ensures ranged { OnOk result (AllOf (λ c. ValRanged c.val) cells.now) }
 {
     let vars = variables(alloc, cells)?;

@@ -1,7 +1,7 @@
 // Groups of numbers that are joined one after the other.
 
 ghost use Rattle.std.specs.Prelude.{◌≡◌, ℕ, ◌≤◌, ◌<◌, ◌+◌, length, slice_index, IfOk};
-ghost use Rattle.low_translate.specs.Groups.{Ordered, Respects};
+ghost use Rattle.low_translate.specs.Groups.{ParentsAreSmaller, IsConstantOnGroups};
 
 use seq::Seq;
 use std::alloc::{AllocError, Global};
@@ -16,7 +16,7 @@ impl Groups {
     /// So many numbers, each in a group of its own.
     pub(crate) fn new(alloc: Global, count: u32) -> Result<Groups, AllocError>
         ensures many { IfOk result (λ g. length g.parents.items ≡ count) }
-        ensures ordered { IfOk result (λ g. Ordered g.parents.items) }
+        ensures ordered { IfOk result (λ g. ParentsAreSmaller g.parents.items) }
     {
         let mut parents = Vec::new(alloc);
         for x in 0..count {
@@ -28,14 +28,14 @@ impl Groups {
     // The first number of a group. On the way, parents become nearer to it.
     fn first(&mut self, x: u32) -> u32
         requires known { x < length self.old.parents.items }
-        requires ordered { Ordered self.old.parents.items }
+        requires ordered { ParentsAreSmaller self.old.parents.items }
         ensures many { length self.new.parents.items ≡ length self.old.parents.items }
-        ensures ordered { Ordered self.new.parents.items }
+        ensures ordered { ParentsAreSmaller self.new.parents.items }
         ensures known { result < length self.old.parents.items }
         ensures first { slice_index self.new.parents.items result ≡ result }
-        ensures joined { (c : ℕ → ℕ) → Respects c self.new.parents.items → c result ≡ c x }
-        ensures older { (c : ℕ → ℕ) → Respects c self.new.parents.items
-            → Respects c self.old.parents.items }
+        ensures joined { (c : ℕ → ℕ) → IsConstantOnGroups c self.new.parents.items → c result ≡ c x }
+        ensures older { (c : ℕ → ℕ) → IsConstantOnGroups c self.new.parents.items
+            → IsConstantOnGroups c self.old.parents.items }
         ensures firsts { (y : ℕ) → slice_index self.old.parents.items y ≡ y
             → slice_index self.new.parents.items y ≡ y }
     {
@@ -52,12 +52,12 @@ impl Groups {
     pub(crate) fn join(&mut self, x: u32, y: u32)
         requires x_known { x < length self.old.parents.items }
         requires y_known { y < length self.old.parents.items }
-        requires ordered { Ordered self.old.parents.items }
+        requires ordered { ParentsAreSmaller self.old.parents.items }
         ensures many { length self.new.parents.items ≡ length self.old.parents.items }
-        ensures ordered { Ordered self.new.parents.items }
-        ensures joined { (c : ℕ → ℕ) → Respects c self.new.parents.items → c x ≡ c y }
-        ensures older { (c : ℕ → ℕ) → Respects c self.new.parents.items
-            → Respects c self.old.parents.items }
+        ensures ordered { ParentsAreSmaller self.new.parents.items }
+        ensures joined { (c : ℕ → ℕ) → IsConstantOnGroups c self.new.parents.items → c x ≡ c y }
+        ensures older { (c : ℕ → ℕ) → IsConstantOnGroups c self.new.parents.items
+            → IsConstantOnGroups c self.old.parents.items }
     {
         let a = self.first(x);
         let b = self.first(y);
@@ -67,7 +67,7 @@ impl Groups {
     /// Raises the values of numbers so that no parent has less than the number.
     pub(crate) fn raise(&self, values: &mut Vec<u32>)
         requires many { length values.old.items ≡ length self.now.parents.items }
-        requires ordered { Ordered self.now.parents.items }
+        requires ordered { ParentsAreSmaller self.now.parents.items }
         ensures many { length values.new.items ≡ length values.old.items }
         ensures more { (x : ℕ) → slice_index values.old.items x ≤ slice_index values.new.items x }
         ensures raised { (x : ℕ) → x < length self.now.parents.items
@@ -87,13 +87,13 @@ impl Groups {
     /// Gives each number the value of the first one of its group.
     pub(crate) fn spread(&self, values: &mut Vec<u32>)
         requires many { length values.old.items ≡ length self.now.parents.items }
-        requires ordered { Ordered self.now.parents.items }
+        requires ordered { ParentsAreSmaller self.now.parents.items }
         requires raised { (x : ℕ) → x < length self.now.parents.items
             → slice_index values.old.items x
             ≤ slice_index values.old.items (slice_index self.now.parents.items x) }
         ensures many { length values.new.items ≡ length values.old.items }
         ensures more { (x : ℕ) → slice_index values.old.items x ≤ slice_index values.new.items x }
-        ensures same { Respects (slice_index values.new.items) self.now.parents.items }
+        ensures same { IsConstantOnGroups (slice_index values.new.items) self.now.parents.items }
         ensures few { (most : ℕ) → ((x : ℕ) → slice_index values.old.items x ≤ most) → (x : ℕ)
             → slice_index values.new.items x ≤ most }
     {

@@ -7,7 +7,7 @@ ghost use Rattle.grin_syntax.specs.Tree.{program_of};
 ghost use Rattle.grin_meaning.specs.Ready.{Ready, IsVectorised};
 ghost use Rattle.low_code.specs.Formed as low_formed;
 ghost use Rattle.low_code.specs.Tree as low;
-ghost use Rattle.low_translate.specs.Lowers.{Lowers, IsNarrow, LowersSmall};
+ghost use Rattle.low_translate.specs.Lowers.{Lowers, TargetsFitCells, LoweredIsSmall};
 
 use grin_syntax::Grin;
 use low_code::Low;
@@ -36,8 +36,8 @@ pub fn lower(alloc: Global, g: &Grin) -> Result<Low, AllocError>
     requires vectorised { IsVectorised (program_of g.now) }
     ensures formed { IfOk result (λ l. low_formed.Formed (low.program_of l)) }
     ensures lowers { IfOk result (λ l. Lowers (program_of g.now) (low.program_of l)) }
-    ensures small { IfOk result (λ l. IsNarrow (program_of g.now)
-        → LowersSmall (program_of g.now) (low.program_of l)) }
+    ensures small { IfOk result (λ l. TargetsFitCells (program_of g.now)
+        → LoweredIsSmall (program_of g.now) (low.program_of l)) }
 {
     let low = program::translated(alloc, g)?;
     Ok(low)

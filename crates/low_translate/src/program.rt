@@ -7,10 +7,10 @@ ghost use Rattle.grin_syntax.specs.Tree.{procedure_of, program_of};
 ghost use Rattle.grin_meaning.specs.Ready.{most_fields, most_value_fields, value_fields};
 ghost use Rattle.low_code.specs.Tree as low;
 ghost use Rattle.low_translate.specs.Translation.{program_code};
-ghost use Rattle.low_translate.specs.Writes.{reach};
+ghost use Rattle.low_translate.specs.Writes.{written_width};
 ghost use Rattle.low_translate.specs.Lowered.{CodeEnds, CodeRanged, IsLowered};
 
-use crate::blocks::Plan;
+use crate::blocks::LoweringPlan;
 use crate::fresh::Numbers;
 use crate::results::results;
 use crate::writes::most_written;
@@ -78,7 +78,7 @@ pub(crate) fn count_tags(tags: &[Tag]) -> Result<u32, AllocError>
 // How many words of its cells a program writes.
 fn words_written(g: &Grin) -> u32
     requires { most_fields g.now.tags ≤ 13 }
-    ensures { result ≡ reach (program_of g.now) }
+    ensures { result ≡ written_width (program_of g.now) }
 {
     let most = most_fields(g.tags.as_slice()) as usize;
     most_written(g.tags.as_slice(), g.procs.as_slice()).min(most) as u32 + 1
@@ -89,14 +89,14 @@ pub(crate) fn with_results(alloc: Global, g: &Grin, results: &[u32]) -> Result<L
     requires few_fields { most_fields g.now.tags ≤ 13 }
     requires many { length results.now ≡ length g.now.procs }
     ensures is { IfOk result (λ l. low.program_of l
-        ≡ program_code (1 + most_fields g.now.tags) (reach (program_of g.now)) results.now
+        ≡ program_code (1 + most_fields g.now.tags) (written_width (program_of g.now)) results.now
         (past_procs (map procedure_of g.now.procs)) (program_of g.now)) }
     ensures ranged { IfOk result (λ l.
         AllOf (λ q. CodeRanged q.body) (map procedure_of g.now.procs)) }
 {
     let width = most_fields(g.tags.as_slice()) + 1;
     let words = words_written(g);
-    let plan = Plan {
+    let plan = LoweringPlan {
         width: words,
         results,
     };

@@ -6,9 +6,9 @@ ghost use Rattle.std.specs.Prelude.{◌≡◌, ℕ, List, [], ◌≤◌, ◌<◌
 ghost use Rattle.grin_syntax.specs.Tree.{act_of, arms_of, arm_of, code_of, procedure_of};
 ghost use Rattle.grin_syntax.specs.Formed.{AllOf};
 ghost use Rattle.grin_meaning.specs.Ready.{val_width};
-ghost use Rattle.low_translate.specs.Groups.{Ordered, Respects};
-ghost use Rattle.low_translate.specs.Ends.{EndsDone};
-ghost use Rattle.low_translate.specs.Lowered.{ActEnds, CodeEnds, ArmsEnd, ActGives, CodeGives, ArmsGive, EachGives};
+ghost use Rattle.low_translate.specs.Groups.{ParentsAreSmaller, IsConstantOnGroups};
+ghost use Rattle.low_translate.specs.Ends.{ResultsCollected};
+ghost use Rattle.low_translate.specs.Lowered.{ActEnds, CodeEnds, ArmsEnd, ActGives, CodeGives, ArmsGive, EachProcedureReturns};
 
 use crate::groups::Groups;
 use grin_syntax::{Alt, Op, Proc, Val};
@@ -38,7 +38,7 @@ impl Ends {
     #[cycle(ends)]
     fn op(&mut self, op: &Op) -> Result<usize, AllocError>
         ensures { IfOk result (λ width.
-            EndsDone self.old.node self.new.node self.old.calls.items self.new.calls.items width
+            ResultsCollected self.old.node self.new.node self.old.calls.items self.new.calls.items width
             (λ n. ActEnds n self.old.node 13 (act_of op.now)) (λ rs r.
             ActGives self.old.node rs r (act_of op.now))) }
     {
@@ -60,7 +60,7 @@ impl Ends {
     #[cycle(ends)]
     fn alts(&mut self, alts: &[Alt]) -> Result<usize, AllocError>
         ensures { IfOk result (λ width.
-            EndsDone self.old.node self.new.node self.old.calls.items self.new.calls.items width
+            ResultsCollected self.old.node self.new.node self.old.calls.items self.new.calls.items width
             (λ n. ArmsEnd n self.old.node 13 (arms_of (map arm_of alts.now))) (λ rs r.
             ArmsGive self.old.node rs r (arms_of (map arm_of alts.now)))) }
     {
@@ -77,12 +77,12 @@ impl Ends {
 fn join_all(groups: &mut Groups, f: u32, calls: &[u32])
     requires f_known { f < length groups.old.parents.items }
     requires known { AllOf (λ h. h < length groups.old.parents.items) calls.now }
-    requires ordered { Ordered groups.old.parents.items }
+    requires ordered { ParentsAreSmaller groups.old.parents.items }
     ensures many { length groups.new.parents.items ≡ length groups.old.parents.items }
-    ensures ordered { Ordered groups.new.parents.items }
-    ensures older { (c : ℕ → ℕ) → Respects c groups.new.parents.items
-        → Respects c groups.old.parents.items }
-    ensures joined { (c : ℕ → ℕ) → Respects c groups.new.parents.items
+    ensures ordered { ParentsAreSmaller groups.new.parents.items }
+    ensures older { (c : ℕ → ℕ) → IsConstantOnGroups c groups.new.parents.items
+        → IsConstantOnGroups c groups.old.parents.items }
+    ensures joined { (c : ℕ → ℕ) → IsConstantOnGroups c groups.new.parents.items
         → AllOf (λ h. c h ≡ c f) calls.now }
 {
     for call in calls {
@@ -95,7 +95,7 @@ pub(crate) fn results(alloc: Global, node: usize, procs: &[Proc]) -> Result<Vec<
     requires { AllOf (λ q. CodeEnds (length procs.now) node 13 q.body)
         (map procedure_of procs.now) }
     ensures gives { IfOk result (λ rs.
-        EachGives node rs.items rs.items (map procedure_of procs.now)) }
+        EachProcedureReturns node rs.items rs.items (map procedure_of procs.now)) }
     ensures few { IfOk result (λ rs. AllOf (λ r. r ≤ 13) rs.items) }
 {
     let Ok(count) = u32::try_from(procs.len()) else {

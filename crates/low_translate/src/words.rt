@@ -2,7 +2,7 @@
 
 ghost use Rattle.std.specs.Prelude.{◌≡◌, ◌++◌, IfOk, OnOk};
 ghost use Rattle.grin_syntax.specs.Formed.{AllOf};
-ghost use Rattle.low_translate.specs.Translation.{operand_of, operands_of_words, operands_of, fitted, nth_operand};
+ghost use Rattle.low_translate.specs.Translation.{operand_of, operands_of_words, operands_of, padded_to_width, nth_operand};
 ghost use Rattle.low_translate.specs.Lowered.{WordRanged, ValRanged};
 
 use grin_syntax::{Val, Word};
@@ -61,7 +61,7 @@ pub(crate) fn value(alloc: Global, v: &Val) -> Result<Seq<Operand>, AllocError>
 }
 
 /// The operand at a place, or zero past the last one.
-pub(crate) fn nth(words: &[Operand], at: usize) -> Operand
+pub(crate) fn operand_or_zero(words: &[Operand], at: usize) -> Operand
     ensures { result ≡ nth_operand words.now at }
 {
     match words.get(at) {
@@ -71,16 +71,16 @@ pub(crate) fn nth(words: &[Operand], at: usize) -> Operand
 }
 
 /// Exactly so many words, with zeros at the end.
-pub(crate) fn fit(
+pub(crate) fn padded_operands(
     alloc: Global,
     count: usize,
     words: &[Operand],
 ) -> Result<Seq<Operand>, AllocError>
-    ensures { IfOk result (λ list. list ≡ fitted count words.now) }
+    ensures { IfOk result (λ list. list ≡ padded_to_width count words.now) }
 {
     let mut made = Seq::new(alloc);
     for i in 0..count {
-        made.push(nth(words, i))?;
+        made.push(operand_or_zero(words, i))?;
     }
     Ok(made)
 }

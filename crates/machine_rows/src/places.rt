@@ -129,8 +129,8 @@ fn a_dead_target_is_apart_from_live_ones(rt: HostRuntime) -> Result<(), AllocErr
 }
 
 /// x4 is dead, and x3 is live to the end of the join; in the other arm x1 is dead and x7 has its
-/// register. The join's target has the register of x6, which the first end gives, and the sum stands
-/// where the tail call wants it.
+/// register. The join's target has the register of x6, which the first end gives, and the sum
+/// stands where the tail call wants it.
 #[test]
 fn arms_free_registers_for_each_other(rt: HostRuntime) -> Result<(), AllocError> {
     let low = arms(rt.alloc())?;

@@ -14,13 +14,13 @@ use Rattle.arity_check.specs.declared.meaning.Meaning.{Meaning}
 use Rattle.arity_check.specs.declared.meaning.Meaning.TheVariants.{Local, Function, Primitive, Unbound}
 use Rattle.arity_check.specs.Scope.{Scope, means, con_number}
 use Rattle.arity_check.specs.Normal.{append, bound, HasTerm, Pairwise, itself, itself_as, IsFlat, Number, Constructor, Named, NumberApplied, BracketApplied, LoneHead, LoneBracket, IsNamed, OfPrimitive, OfLocal, OfGlobal, Called, Partial, Exceeded, IsApplied, Applied, AreArgs, NoArgs, AndArg, IsArg, Itself, New}
-use Rattle.match_compile.specs.Renamed.{name_for, renamed_term, renamed_terms}
-use Rattle.match_compile.specs.Alike.{Pairs, Linked, VarAlike, AlikeLocal, AlikeGlobal, VarsAlike, FlatAlike, AlikeInt, AlikeCon, AlikePart, AlikeCall, AlikeApply, AlikePrim}
+use Rattle.match_compile.specs.Renamed.{renamed_name, renamed_term, renamed_terms}
+use Rattle.match_compile.specs.Alike.{LocalPairs, LocalsCorrespond, VarAlike, AlikeLocal, AlikeGlobal, VarsAlike, FlatAlike, AlikeInt, AlikeCon, AlikePart, AlikeCall, AlikeApply, AlikePrim}
 
 -- ---- what is renamed to a term
 
-name_of : (s : Scope) {y at : ℕ} (a : Term) → Name y at ≡ renamed_term s a → (x : ℕ) × ((a ≡ Name x at) × (y ≡ name_for s x))
-name_of s {y = y} {at = at} (Name x at') e = let f : at' ≡ at = cc in let g : y ≡ name_for s x = cc in (x, (ap (Name x) f, g))
+name_of : (s : Scope) {y at : ℕ} (a : Term) → Name y at ≡ renamed_term s a → (x : ℕ) × ((a ≡ Name x at) × (y ≡ renamed_name s x))
+name_of s {y = y} {at = at} (Name x at') e = let f : at' ≡ at = cc in let g : y ≡ renamed_name s x = cc in (x, (ap (Name x) f, g))
 name_of s (Con c at') e = absurd cc
 name_of s (Int k at') e = absurd cc
 name_of s (Bracket h xs at') e = absurd cc
@@ -147,41 +147,41 @@ pairs_append R (x ∷ xs) xs' (y ∷ ys) ys' h g = (h.0, pairs_append R xs xs' y
 -- The first program has the terms, the second what they are renamed to. Names below the top are those of
 -- the text.
 module _ (arity many : ℕ → ℕ) (IsFun : ℕ → Type 0) (first second : Program) (cons : (c : ℕ) → con_number second c ≡ con_number first c) (top : ℕ) where
-  pub data SameMeaning (ps : Pairs) : Meaning → Meaning → Type 0 where
-    SameLocal : {x y : ℕ} → Linked ps x y → SameMeaning ps (Local x) (Local y)
+  pub data SameMeaning (ps : LocalPairs) : Meaning → Meaning → Type 0 where
+    SameLocal : {x y : ℕ} → LocalsCorrespond ps x y → SameMeaning ps (Local x) (Local y)
     SameFunction : {f k : ℕ} → IsFun f → arity f ≡ k → SameMeaning ps (Function f k) (Function f k)
     SamePrimitive : {op : PrimOp} → SameMeaning ps (Primitive op) (Primitive op)
     SameNothing : SameMeaning ps Unbound Unbound
 
   -- what the names of the text stand for, and what they are renamed to does
-  pub record Sees (ps : Pairs) (t t' s : Scope) : Type 0 where
-    pub meaning : (x : ℕ) → x < top → SameMeaning ps (means first t x) (means second t' (name_for s x))
-    pub image : (x : ℕ) → x < top → (name_for s x ≡ x) ⊎ (top ≤ name_for s x)
+  pub record Sees (ps : LocalPairs) (t t' s : Scope) : Type 0 where
+    pub meaning : (x : ℕ) → x < top → SameMeaning ps (means first t x) (means second t' (renamed_name s x))
+    pub image : (x : ℕ) → x < top → (renamed_name s x ≡ x) ⊎ (top ≤ renamed_name s x)
 
-  abbrev pub AlikeVar : Pairs → Var → Var → Type 0
+  abbrev pub AlikeVar : LocalPairs → Var → Var → Type 0
   AlikeVar = VarAlike arity many IsFun
 
-  abbrev pub AlikeFlat : Pairs → Flat → Flat → Type 0
+  abbrev pub AlikeFlat : LocalPairs → Flat → Flat → Type 0
   AlikeFlat = FlatAlike arity many IsFun
 
   -- so many locals from n and n' on stand for one another
-  abbrev pub Placed : Pairs → (n n' len : ℕ) → Type 0
-  Placed ps n n' len = (i : ℕ) → i < len → Linked ps (n + i) (n' + i)
+  abbrev pub Placed : LocalPairs → (n n' len : ℕ) → Type 0
+  Placed ps n n' len = (i : ℕ) → i < len → LocalsCorrespond ps (n + i) (n' + i)
 
-  pub placed_left : (ps : Pairs) (n n' : ℕ) (xs ys zs : List Bound) → zs ≡ xs ++ ys → Placed ps n n' (length zs) → Placed ps n n' (length xs)
+  pub placed_left : (ps : LocalPairs) (n n' : ℕ) (xs ys zs : List Bound) → zs ≡ xs ++ ys → Placed ps n n' (length zs) → Placed ps n n' (length xs)
   placed_left ps n n' xs ys zs e p i lt = let l = ap length e ∙ length-append xs ys in p i (omega (arith, l, lt))
 
-  pub placed_right : (ps : Pairs) (n n' m m' : ℕ) (xs ys zs : List Bound) → zs ≡ xs ++ ys → m ≡ n + length xs → m' ≡ n' + length xs → Placed ps n n' (length zs) → Placed ps m m' (length ys)
+  pub placed_right : (ps : LocalPairs) (n n' m m' : ℕ) (xs ys zs : List Bound) → zs ≡ xs ++ ys → m ≡ n + length xs → m' ≡ n' + length xs → Placed ps n n' (length zs) → Placed ps m m' (length ys)
   placed_right ps n n' m m' xs ys zs e f g p i lt =
       let l = ap length e ∙ length-append xs ys in
       let a : n + (length xs + i) ≡ m + i = omega (arith, f) in
       let b : n' + (length xs + i) ≡ m' + i = omega (arith, g) in
-      subst (λ z. Linked ps z (m' + i)) a (subst (λ z. Linked ps (n + (length xs + i)) z) b (p (length xs + i) (omega (arith, l, lt))))
+      subst (λ z. LocalsCorrespond ps z (m' + i)) a (subst (λ z. LocalsCorrespond ps (n + (length xs + i)) z) b (p (length xs + i) (omega (arith, l, lt))))
 
-  abbrev pub NewsAlike : Pairs → List Bound → List Bound → Type 0
+  abbrev pub NewsAlike : LocalPairs → List Bound → List Bound → Type 0
   NewsAlike ps = Pairwise (λ b c. AlikeFlat ps b.flat c.flat)
 
-  module _ (ps : Pairs) (t t' s : Scope) (sees : Sees ps t t' s) where
+  module _ (ps : LocalPairs) (t t' s : Scope) (sees : Sees ps t t' s) where
     -- ---- what there is for the terms themselves
 
     pub record FlatMade (n : ℕ) (head : Term) (args : Terms) (news' : List Bound) (form' : Flat) : Type 0 where
@@ -372,11 +372,11 @@ module _ (arity many : ℕ → ℕ) (IsFun : ℕ → Type 0) (first second : Pro
           let m = args_alike (n + 1) d args f fs (λ i lt.
           let a : n + suc i ≡ n + 1 + i = omega arith in
           let b : n' + suc i ≡ n' + 1 + i = omega arith in
-          subst (λ z. Linked ps z (n' + 1 + i)) a (subst (λ z. Linked ps (n + suc i) z) b (p (suc i) (omega (arith, lt))))) nf.1 in
-          let here : Linked ps n n' =
+          subst (λ z. LocalsCorrespond ps z (n' + 1 + i)) a (subst (λ z. LocalsCorrespond ps (n + suc i) z) b (p (suc i) (omega (arith, lt))))) nf.1 in
+          let here : LocalsCorrespond ps n n' =
           let a : n + 0 ≡ n = omega arith in
           let b : n' + 0 ≡ n' = omega arith in
-          subst (λ z. Linked ps z n') a (subst (λ z. Linked ps (n + 0) z) b (p 0 (omega arith))) in
+          subst (λ z. LocalsCorrespond ps z n') a (subst (λ z. LocalsCorrespond ps (n + 0) z) b (p 0 (omega arith))) in
           record { news = bound n inner ∷ m.news; form = flat.Apply (var.Local n) m.xs; is = Applied m.is; alike = (alike, m.alike); form_alike = AlikeApply (AlikeLocal here) m.xs_alike }
 
       args_alike : (n : ℕ) {n' : ℕ} {ts : Terms} {news' : List Bound} {xs' : List Var} → AreArgs second t' n' ts news' xs' → (args : Terms) → ts ≡ renamed_terms s args
@@ -408,11 +408,11 @@ module _ (arity many : ℕ → ℕ) (IsFun : ℕ → Type 0) (first second : Pro
           let nf2 = right_of (λ (b : Bound). ConFits many b.flat) news' (bound place form' ∷ []) _ cut nf in
           let m = flat_alike n d a NoTerms e refl fa tt (placed_left ps n n' news' (bound place form' ∷ []) _ cut p) nf1 nf2.0 in
           let l = pairs_long (λ b c. AlikeFlat ps b.flat c.flat) m.news news' m.alike in
-          let here : Linked ps (n + length m.news) place =
+          let here : LocalsCorrespond ps (n + length m.news) place =
           let k = placed_right ps n n' (n + length m.news) place news' (bound place form' ∷ []) _ cut (omega (arith, l)) place_is p 0 (omega arith) in
           let a : n + length m.news + 0 ≡ n + length m.news = omega arith in
           let b : place + 0 ≡ place = omega arith in
-          subst (λ z. Linked ps z place) a (subst (λ z. Linked ps (n + length m.news + 0) z) b k) in
+          subst (λ z. LocalsCorrespond ps z place) a (subst (λ z. LocalsCorrespond ps (n + length m.news + 0) z) b k) in
           record {
             news = m.news ++ bound (n + length m.news) m.form ∷ [];
             x = var.Local (n + length m.news);

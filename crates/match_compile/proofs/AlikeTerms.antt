@@ -14,10 +14,10 @@ use Rattle.arity_check.specs.Program as normal
 use Rattle.arity_check.specs.Scope.{Scope, con_number, is_named, binds, binds_all}
 use Rattle.arity_check.specs.Pieces.{binders_of, bound_by}
 use Rattle.arity_check.specs.Normal.{bound, Pairwise, IsFlat, IsGroup, NoMembers, AndMember, IsNormal, PlainApp, BoundApp, Group, Choice, AreBranches, NoBranches, ConBranch, IntBranch, NamelessBranch, NamedBranch}
-use Rattle.arity_check.specs.Numbered.{Numbered}
+use Rattle.arity_check.specs.Numbered.{LocalsAreConsecutive}
 use Rattle.arity_check.proofs.Numbers.{flat_numbered, numbered_both}
-use Rattle.match_compile.specs.Renamed.{hidden, renamed_app, renamed_bind, renamed_expr, renamed_alts}
-use Rattle.match_compile.specs.Alike.{Pairs, Linked, linked_all, FlatAlike, TermAlike, AlikeApp, AlikeLet, AlikeCase, BranchesAlike, AlikeNoMore, AlikeOnCon, AlikeOnInt, AlikeOnAny, AlikeOnName}
+use Rattle.match_compile.specs.Renamed.{shadowing, renamed_app, renamed_bind, renamed_expr, renamed_alts}
+use Rattle.match_compile.specs.Alike.{LocalPairs, LocalsCorrespond, linked_all, FlatAlike, TermAlike, AlikeApp, AlikeLet, AlikeCase, BranchesAlike, AlikeNoMore, AlikeOnCon, AlikeOnInt, AlikeOnAny, AlikeOnName}
 use Rattle.match_compile.proofs.AlikeFlats.{FitsTerm, FitsTerms, ConFits, NewsFit, left_of, right_of, pairs_long, pairs_append, Sees, placed_left, placed_right, NewsAlike, flat_alike}
 use Rattle.match_compile.proofs.AlikeScopes.{Below, grown, kept_one, below_one, below_more, kept_grown, below_grown, placed_grown, group_grown, sees_more, sees_one, sees_nameless, sees_all, placed_pairs}
 
@@ -37,14 +37,14 @@ pub record IsLet (s : Scope) (g' : List Bind) (y : Expr) (x : Expr) : Type 0 whe
   pub group : List Bind
   pub body : Expr
   pub is : x ≡ Let group body
-  pub group_is : g' ≡ map (renamed_bind (hidden (binders_of group) s)) group
-  pub body_is : y ≡ renamed_expr (hidden (binders_of group) s) body
+  pub group_is : g' ≡ map (renamed_bind (shadowing (binders_of group) s)) group
+  pub body_is : y ≡ renamed_expr (shadowing (binders_of group) s) body
 
 let_of : (s : Scope) {g' : List Bind} {y : Expr} (x : Expr) → Let g' y ≡ renamed_expr s x → IsLet s g' y x
 let_of s (App a) e = absurd cc
 let_of s {g' = g'} {y = y} (Let g x) e =
-    let f : g' ≡ map (renamed_bind (hidden (binders_of g) s)) g = cc in
-    let i : y ≡ renamed_expr (hidden (binders_of g) s) x = cc in
+    let f : g' ≡ map (renamed_bind (shadowing (binders_of g) s)) g = cc in
+    let i : y ≡ renamed_expr (shadowing (binders_of g) s) x = cc in
     record { group = g; body = x; is = refl; group_is = f; body_is = i }
 let_of s (Case x alts) e = absurd cc
 
@@ -71,16 +71,16 @@ pub record IsAlt (s : Scope) (p : Pattern) (y : Expr) (ys alts : Alts) : Type 0 
   pub body : Expr
   pub rest : Alts
   pub is : alts ≡ AndAlt p body rest
-  pub body_is : y ≡ renamed_expr (hidden (bound_by p) s) body
+  pub body_is : y ≡ renamed_expr (shadowing (bound_by p) s) body
   pub rest_is : ys ≡ renamed_alts s rest
 
 alt_of : (s : Scope) {p : Pattern} {y : Expr} {ys : Alts} (alts : Alts) → AndAlt p y ys ≡ renamed_alts s alts → IsAlt s p y ys alts
 alt_of s NoAlts e = absurd cc
 alt_of s {p = p} {y = y} {ys = ys} (AndAlt q x rest) e =
     let f : q ≡ p = cc in
-    let g : y ≡ renamed_expr (hidden (bound_by q) s) x = cc in
+    let g : y ≡ renamed_expr (shadowing (bound_by q) s) x = cc in
     let h : ys ≡ renamed_alts s rest = cc in
-    record { body = x; rest = rest; is = ap (λ w. AndAlt w x rest) f; body_is = g ∙ ap (λ w. renamed_expr (hidden (bound_by w) s) x) f; rest_is = h }
+    record { body = x; rest = rest; is = ap (λ w. AndAlt w x rest) f; body_is = g ∙ ap (λ w. renamed_expr (shadowing (bound_by w) s) x) f; rest_is = h }
 
 pub record IsMember (s : Scope) (b' : Bind) (bs' bs : List Bind) : Type 0 where
   pub member : Bind
@@ -156,10 +156,10 @@ mutual
   branches_grow (NamelessBranch e a b) = let h = normal_grows a in let i = branches_grow b in omega (arith, h, i)
   branches_grow (NamedBranch e a b) = let h = normal_grows a in let i = branches_grow b in omega (arith, h, i)
 
-group_numbered : {p : Program} {s : Scope} {n : ℕ} {bs : List Bind} {bounds : List Bound} {xs : List ℕ} → IsGroup p s n bs bounds xs → Numbered n bounds
+group_numbered : {p : Program} {s : Scope} {n : ℕ} {bs : List Bind} {bounds : List Bound} {xs : List ℕ} → IsGroup p s n bs bounds xs → LocalsAreConsecutive n bounds
 group_numbered NoMembers = tt
 group_numbered {p = p} {s = s} {n = n} (AndMember news bounds form t d e g is) =
-    subst (Numbered n) (sym is) (numbered_both n t news (bound t form ∷ bounds) e (flat_numbered p s d) (refl, group_numbered g))
+    subst (LocalsAreConsecutive n) (sym is) (numbered_both n t news (bound t form ∷ bounds) e (flat_numbered p s d) (refl, group_numbered g))
 
 -- the locals of the members, in another numbering
 abbrev pub moved : (n n' : ℕ) → List ℕ → List ℕ
@@ -170,50 +170,50 @@ group_many NoMembers = refl
 group_many (AndMember news bounds form t d e g is) = ap suc (group_many g)
 
 -- each is one of the locals of the group
-members_linked : (ps : Pairs) (n0 n0' : ℕ) {p : Program} {s : Scope} (n : ℕ) {n' : ℕ} {bs : List Bind} {bounds : List Bound} {xs : List ℕ} → IsGroup p s n' bs bounds xs → n0' ≤ n' → n + n0' ≡ n' + n0
-    → ((i : ℕ) → i < length bounds → Linked ps (n + i) (n' + i)) → Pairwise (Linked ps) (moved n0 n0' xs) xs
+members_linked : (ps : LocalPairs) (n0 n0' : ℕ) {p : Program} {s : Scope} (n : ℕ) {n' : ℕ} {bs : List Bind} {bounds : List Bound} {xs : List ℕ} → IsGroup p s n' bs bounds xs → n0' ≤ n' → n + n0' ≡ n' + n0
+    → ((i : ℕ) → i < length bounds → LocalsCorrespond ps (n + i) (n' + i)) → Pairwise (LocalsCorrespond ps) (moved n0 n0' xs) xs
 members_linked ps n0 n0' n NoMembers le e h = tt
 members_linked ps n0 n0' n {n' = n'} {xs = xs} (AndMember news bounds form t d at g is) le e h =
     let l = ap length is ∙ length-append news (bound t form ∷ bounds) in
     let a : n + length news ≡ n0 + (t - n0') = omega (arith, at, le, e) in
     let b : n' + length news ≡ t = omega (arith, at) in
-    let first : Linked ps (n0 + (t - n0')) t = subst (λ z. Linked ps z t) a (subst (λ z. Linked ps (n + length news) z) b (h (length news) (omega (arith, l)))) in
-    let rest : (i : ℕ) → i < length bounds → Linked ps (n + length news + 1 + i) (t + 1 + i) =
+    let first : LocalsCorrespond ps (n0 + (t - n0')) t = subst (λ z. LocalsCorrespond ps z t) a (subst (λ z. LocalsCorrespond ps (n + length news) z) b (h (length news) (omega (arith, l)))) in
+    let rest : (i : ℕ) → i < length bounds → LocalsCorrespond ps (n + length news + 1 + i) (t + 1 + i) =
     λ i lt.
     let c : n + (length news + suc i) ≡ n + length news + 1 + i = omega arith in
     let c' : n' + (length news + suc i) ≡ t + 1 + i = omega (arith, at) in
-    subst (λ z. Linked ps z (t + 1 + i)) c (subst (λ z. Linked ps (n + (length news + suc i)) z) c' (h (length news + suc i) (omega (arith, lt, l)))) in
+    subst (λ z. LocalsCorrespond ps z (t + 1 + i)) c (subst (λ z. LocalsCorrespond ps (n + (length news + suc i)) z) c' (h (length news + suc i) (omega (arith, lt, l)))) in
     (first, members_linked ps n0 n0' (n + length news + 1) g (omega (arith, le, at)) (omega (arith, e, at)) rest)
 
-placed_next : (ps : Pairs) (n n' len : ℕ) → ((i : ℕ) → i < suc len → Linked ps (n + i) (n' + i)) → (i : ℕ) → i < len → Linked ps (n + 1 + i) (n' + 1 + i)
+placed_next : (ps : LocalPairs) (n n' len : ℕ) → ((i : ℕ) → i < suc len → LocalsCorrespond ps (n + i) (n' + i)) → (i : ℕ) → i < len → LocalsCorrespond ps (n + 1 + i) (n' + 1 + i)
 placed_next ps n n' len h i lt =
     let a : n + suc i ≡ n + 1 + i = omega arith in
     let b : n' + suc i ≡ n' + 1 + i = omega arith in
-    subst (λ z. Linked ps z (n' + 1 + i)) a (subst (λ z. Linked ps (n + suc i) z) b (h (suc i) (omega (arith, lt))))
+    subst (λ z. LocalsCorrespond ps z (n' + 1 + i)) a (subst (λ z. LocalsCorrespond ps (n + suc i) z) b (h (suc i) (omega (arith, lt))))
 
 none_alike : {X Y : Type 0} (R : X → Y → Type 0) (xs : List X) → Pairwise R xs [] → xs ≡ []
 none_alike R [] h = refl
 none_alike R (x ∷ xs) h = absurd h
 
 module _ (arity many : ℕ → ℕ) (IsFun : ℕ → Type 0) (first second : Program) (cons : (c : ℕ) → con_number second c ≡ con_number first c) (top : ℕ) (named : (w : List ℕ) (x : ℕ) → x < top → is_named second w x ≡ is_named first w x) where
-  abbrev Seen : Pairs → Scope → Scope → Scope → Type 0
+  abbrev Seen : LocalPairs → Scope → Scope → Scope → Type 0
   Seen = Sees arity many IsFun first second cons top
 
-  abbrev Alike : Pairs → List Bound → List Bound → Type 0
+  abbrev Alike : LocalPairs → List Bound → List Bound → Type 0
   Alike = NewsAlike arity many IsFun first second cons top
 
-  abbrev AlikeBound : Pairs → Bound → Bound → Type 0
+  abbrev AlikeBound : LocalPairs → Bound → Bound → Type 0
   AlikeBound ps b c = FlatAlike arity many IsFun ps b.flat c.flat
 
   -- ---- groups
 
-  record GroupMade (ps : Pairs) (t : Scope) (n : ℕ) (bs : List Bind) (xs : List ℕ) (group' : List Bound) : Type 0 where
+  record GroupMade (ps : LocalPairs) (t : Scope) (n : ℕ) (bs : List Bind) (xs : List ℕ) (group' : List Bound) : Type 0 where
     group : List Bound
     is : IsGroup first t n bs group xs
     alike : Alike ps group group'
 
-  group_alike : (ps : Pairs) (t t' s : Scope) → Seen ps t t' s → (n0 n0' n : ℕ) {n' : ℕ} {bs' : List Bind} {group' : List Bound} {xs' : List ℕ} → IsGroup second t' n' bs' group' xs' → (bs : List Bind) → bs' ≡ map (renamed_bind s) bs
-      → AllOf (λ b. AppFits top b.app) bs → n0' ≤ n' → n + n0' ≡ n' + n0 → ((i : ℕ) → i < length group' → Linked ps (n + i) (n' + i)) → NewsFit many group' → GroupMade ps t n bs (moved n0 n0' xs') group'
+  group_alike : (ps : LocalPairs) (t t' s : Scope) → Seen ps t t' s → (n0 n0' n : ℕ) {n' : ℕ} {bs' : List Bind} {group' : List Bound} {xs' : List ℕ} → IsGroup second t' n' bs' group' xs' → (bs : List Bind) → bs' ≡ map (renamed_bind s) bs
+      → AllOf (λ b. AppFits top b.app) bs → n0' ≤ n' → n + n0' ≡ n' + n0 → ((i : ℕ) → i < length group' → LocalsCorrespond ps (n + i) (n' + i)) → NewsFit many group' → GroupMade ps t n bs (moved n0 n0' xs') group'
   group_alike ps t t' s sees n0 n0' n NoMembers bs e fits le o p nf = subst (λ z. GroupMade ps t n z [] []) (sym (no_members_of s bs e)) (record { group = []; is = NoMembers; alike = tt })
   group_alike ps t t' s sees n0 n0' n {n' = n'} {group' = group'} (AndMember {xs = xs'} news' bounds' form' place d at g cut) bs e fits le o p nf =
       let q = member_of s bs e in
@@ -235,30 +235,30 @@ module _ (arity many : ℕ → ℕ) (IsFun : ℕ → Type 0) (first second : Pro
 
   -- ---- expressions
 
-  pub record NormalMade (ps : Pairs) (t : Scope) (n : ℕ) (x : Expr) (e' : normal.Term) : Type 0 where
+  pub record NormalMade (ps : LocalPairs) (t : Scope) (n : ℕ) (x : Expr) (e' : normal.Term) : Type 0 where
     pub term : normal.Term
     pub after : ℕ
     pub is : IsNormal first t n x term after
     pub alike : TermAlike arity many IsFun ps term e'
 
-  pub record BranchesMade (ps : Pairs) (t : Scope) (n : ℕ) (alts : Alts) (bs' : normal.Branches) : Type 0 where
+  pub record BranchesMade (ps : LocalPairs) (t : Scope) (n : ℕ) (alts : Alts) (bs' : normal.Branches) : Type 0 where
     pub branches : normal.Branches
     pub after : ℕ
     pub is : AreBranches first t n alts branches after
     pub alike : BranchesAlike arity many IsFun ps branches bs'
 
-  plain_made : (ps : Pairs) (t : Scope) (n : ℕ) (a : Application) (news : List Bound) (form form' : Flat) → IsFlat first t n a.head a.args news form → Alike ps news [] → FlatAlike arity many IsFun ps form form' → NormalMade ps t n (App a) (normal.App form')
+  plain_made : (ps : LocalPairs) (t : Scope) (n : ℕ) (a : Application) (news : List Bound) (form form' : Flat) → IsFlat first t n a.head a.args news form → Alike ps news [] → FlatAlike arity many IsFun ps form form' → NormalMade ps t n (App a) (normal.App form')
   plain_made ps t n a news form form' d h f =
       record { term = normal.App form; after = n; is = PlainApp (subst (λ z. IsFlat first t n a.head a.args z form) (none_alike (AlikeBound ps) news h) d); alike = AlikeApp f }
 
   -- a group whose bindings are alike under all of its locals
-  let_made : (ps : Pairs) (n n' : ℕ) (group group' : List Bound) (e e' : normal.Term) → Numbered n group → Numbered n' group' → Alike (grown ps n n' (length group')) group group' → TermAlike arity many IsFun (grown ps n n' (length group')) e e'
+  let_made : (ps : LocalPairs) (n n' : ℕ) (group group' : List Bound) (e e' : normal.Term) → LocalsAreConsecutive n group → LocalsAreConsecutive n' group' → Alike (grown ps n n' (length group')) group group' → TermAlike arity many IsFun (grown ps n n' (length group')) e e'
       → TermAlike arity many IsFun ps (normal.Let group e) (normal.Let group' e')
   let_made ps n n' group group' e e' a b h f =
       let same = group_grown group group' ps n n' a b (pairs_long (AlikeBound (grown ps n n' (length group'))) group group' h) in
       AlikeLet (subst (λ z. Alike z group group') (sym same) h) (subst (λ z. TermAlike arity many IsFun z e e') (sym same) f)
 
-  bound_made : (ps : Pairs) (t : Scope) (n n' : ℕ) (a : Application) (news : List Bound) (form : Flat) (new' : Bound) (news' : List Bound) (form' : Flat) → IsFlat first t n a.head a.args news form → Numbered n' (new' ∷ news')
+  bound_made : (ps : LocalPairs) (t : Scope) (n n' : ℕ) (a : Application) (news : List Bound) (form : Flat) (new' : Bound) (news' : List Bound) (form' : Flat) → IsFlat first t n a.head a.args news form → LocalsAreConsecutive n' (new' ∷ news')
       → Alike (grown ps n n' (length (new' ∷ news'))) news (new' ∷ news') → FlatAlike arity many IsFun (grown ps n n' (length (new' ∷ news'))) form form' → NormalMade ps t n (App a) (normal.Let (new' ∷ news') (normal.App form'))
   bound_made ps t n n' a [] form new' news' form' d b h f = absurd h
   bound_made ps t n n' a (new ∷ news) form new' news' form' d b h f = record {
@@ -269,7 +269,7 @@ module _ (arity many : ℕ → ℕ) (IsFun : ℕ → Type 0) (first second : Pro
   }
 
   mutual
-    pub normal_alike : (ps : Pairs) (t t' s : Scope) → Seen ps t t' s → (n : ℕ) {n' m' : ℕ} {y : Expr} {e' : normal.Term} → Below ps n n' → IsNormal second t' n' y e' m' → (x : Expr) → y ≡ renamed_expr s x → FitsExpr top x → TermFits many e' → NormalMade ps t n x e'
+    pub normal_alike : (ps : LocalPairs) (t t' s : Scope) → Seen ps t t' s → (n : ℕ) {n' m' : ℕ} {y : Expr} {e' : normal.Term} → Below ps n n' → IsNormal second t' n' y e' m' → (x : Expr) → y ≡ renamed_expr s x → FitsExpr top x → TermFits many e' → NormalMade ps t n x e'
     normal_alike ps t t' s sees n {n' = n'} below (PlainApp {form = form'} d) x e fits tf =
         let q = app_of s x e in
         let fq : FitsExpr top (App q.app) = subst (FitsExpr top) q.is fits in
@@ -278,20 +278,20 @@ module _ (arity many : ℕ → ℕ) (IsFun : ℕ → Type 0) (first second : Pro
     normal_alike ps t t' s sees n {n' = n'} below (BoundApp {new = new'} {news = news'} {form = form'} d) x e fits tf =
         let q = app_of s x e in
         let fq : FitsExpr top (App q.app) = subst (FitsExpr top) q.is fits in
-        let qs : Pairs = grown ps n n' (length (new' ∷ news')) in
+        let qs : LocalPairs = grown ps n n' (length (new' ∷ news')) in
         let sees' : Seen qs t t' s = sees_more arity many IsFun first second cons top named ps qs t t' s (kept_grown (length (new' ∷ news')) ps n n' below) sees in
         let m = flat_alike arity many IsFun first second cons top qs t t' s sees' n d q.app.head q.app.args (ap (λ (a : Application). a.head) q.app_is) (ap (λ (a : Application). a.args) q.app_is) fq.0 fq.1 (placed_grown (length (new' ∷ news')) ps n n' below) tf.0 tf.1 in
         subst (λ z. NormalMade ps t n z (normal.Let (new' ∷ news') (normal.App form'))) (sym q.is) (bound_made ps t n n' q.app m.news m.form new' news' form' m.is (flat_numbered second t' d) m.alike m.form_alike)
     normal_alike ps t t' s sees n {n' = n'} below (Group {group = group'} {e = e'} inner' xs' bounds' inner_is g b) x e fits tf =
         let q = let_of s x e in
         let fq : FitsExpr top (Let q.group q.body) = subst (FitsExpr top) q.is fits in
-        let s2 : Scope = hidden (binders_of q.group) s in
+        let s2 : Scope = shadowing (binders_of q.group) s in
         let len : ℕ = length bounds' in
-        let qs : Pairs = grown ps n n' len in
+        let qs : LocalPairs = grown ps n n' len in
         let xs : List ℕ = moved n n' xs' in
         let inner : Scope = binds_all first (map (λ (b : Bind). b.binder.name.0) q.group) xs t in
         let placed = placed_grown len ps n n' below in
-        let linked : Pairwise (Linked qs) xs xs' = members_linked qs n n' n g (omega arith) (omega arith) placed in
+        let linked : Pairwise (LocalsCorrespond qs) xs xs' = members_linked qs n n' n g (omega arith) (omega arith) placed in
         let many_of : length xs ≡ length (binders_of q.group) =
         length_map (λ x. n + (x - n')) xs' ∙ group_many g ∙ ap length q.group_is ∙ length_map (renamed_bind s2) q.group ∙ sym (length_map (λ (b : Bind). b.binder) q.group) in
         let sees' : Seen qs t t' s = sees_more arity many IsFun first second cons top named ps qs t t' s (kept_grown len ps n n' below) sees in
@@ -317,16 +317,16 @@ module _ (arity many : ℕ → ℕ) (IsFun : ℕ → Type 0) (first second : Pro
         let bm = branches_alike ps t t' s sees am.after (below_more ps n n' am.after _ (normal_grows am.is) (normal_grows a) below) b q.alts q.alts_is fq.1 tf.1 in
         subst (λ z. NormalMade ps t n z (normal.Case e' bs')) (sym q.is) (record { term = normal.Case am.term bm.branches; after = bm.after; is = Choice am.is bm.is; alike = AlikeCase am.alike bm.alike })
 
-    pub branches_alike : (ps : Pairs) (t t' s : Scope) → Seen ps t t' s → (n : ℕ) {n' m' : ℕ} {ys : Alts} {bs' : normal.Branches} → Below ps n n' → AreBranches second t' n' ys bs' m' → (alts : Alts) → ys ≡ renamed_alts s alts → FitsAlts top alts → BranchesFit many bs' → BranchesMade ps t n alts bs'
+    pub branches_alike : (ps : LocalPairs) (t t' s : Scope) → Seen ps t t' s → (n : ℕ) {n' m' : ℕ} {ys : Alts} {bs' : normal.Branches} → Below ps n n' → AreBranches second t' n' ys bs' m' → (alts : Alts) → ys ≡ renamed_alts s alts → FitsAlts top alts → BranchesFit many bs' → BranchesMade ps t n alts bs'
     branches_alike ps t t' s sees n below NoBranches alts e fits tf = subst (λ z. BranchesMade ps t n z normal.NoMore) (sym (no_alts_of s alts e)) (record { branches = normal.NoMore; after = n; is = NoBranches; alike = AlikeNoMore })
     branches_alike ps t t' s sees n {n' = n'} below (ConBranch {number = number} {at = at} {fields = fields} {e = e'} {branches = bs'} xs' known xs_is a b) alts e fits tf =
         let q = alt_of s alts e in
         let fq : FitsAlts top (AndAlt (pattern.Con at fields) q.body q.rest) = subst (FitsAlts top) q.is fits in
         let len : ℕ = length fields in
-        let qs : Pairs = grown ps n n' len in
+        let qs : LocalPairs = grown ps n n' len in
         let xs : List ℕ = range_with_len n len in
         let names : List ℕ = map (λ (b : Binder). b.name.0) fields in
-        let s2 : Scope = hidden fields s in
+        let s2 : Scope = shadowing fields s in
         let sees' : Seen qs t t' s = sees_more arity many IsFun first second cons top named ps qs t t' s (kept_grown len ps n n' below) sees in
         let sees2 : Seen qs (binds_all first names xs t) (binds_all second names xs' t') s2 =
         subst (λ w. Seen qs (binds_all first names xs t) (binds_all second names w t') s2) (sym xs_is)
@@ -364,7 +364,7 @@ module _ (arity many : ℕ → ℕ) (IsFun : ℕ → Type 0) (first second : Pro
         let some1 : is_named first (codes "_") x.name.0 ≡ false = sym (named (codes "_") x.name.0 fq.0.0) ∙ some in
         let b0 : ℕ = x.name.0 in
         let s2 : Scope = (b0, b0) ∷ s in
-        let qs : Pairs = (n, n') ∷ ps in
+        let qs : LocalPairs = (n, n') ∷ ps in
         let sees2 : Seen qs (binds first b0 n t) (binds second b0 n' t') s2 =
         sees_one arity many IsFun first second cons top named qs b0 n n' t t' s fq.0.0 (inl (refl, refl)) (sees_more arity many IsFun first second cons top named ps qs t t' s (kept_one ps n n' below) sees) in
         let am = normal_alike qs (binds first b0 n t) (binds second b0 n' t') s2 sees2 (n + 1) (below_one ps n n' below) a q.body q.body_is fq.1.0 tf.0 in

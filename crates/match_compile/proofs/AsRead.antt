@@ -9,7 +9,7 @@ use Rattle.core_reader.specs.declared.dialect.Dialect.TheVariants.{Core}
 use Rattle.core_reader.specs.declared.syntax.Binder.{Binder}
 use Rattle.core_reader.specs.declared.token.Token.TheVariants as word
 use Rattle.core_reader.specs.declared.token.Lexeme.{Lexeme}
-use Rattle.core_reader.specs.Grammar.{Room, anywhere, lexeme}
+use Rattle.core_reader.specs.Grammar.{NestingLimit, unlimited_nesting, lexeme}
 use Rattle.core_reader.specs.TokensOf.{Piece, IsTokens}
 use Rattle.core_reader.specs.WordsOf.{said, written_number, IsInRange}
 use Rattle.core_reader.specs.RulesOf.{NumberRange}
@@ -20,7 +20,7 @@ use Rattle.core_reader.proofs.NamingOf.{EachHeld, each_held}
 use Rattle.core_reader.proofs.Readability.{EachKnown, front_known, back_known, known, expr_readable}
 use Rattle.match_compile.specs.Source.{Pat, Name, Int, Con, Pats, NoPats, AndPat, Equation, Source}
 use Rattle.match_compile.specs.Parts.{names_in, names_of}
-use Rattle.match_compile.specs.Grammar.{SpellsPat, SpellsPats, Decl, Declares, Equates, SpellsDecls, equations_of, IsText, IsRead}
+use Rattle.match_compile.specs.Grammar.{SpellsPat, SpellsPats, Decl, Declares, Equates, SpellsDecls, equations_of, IsSourceText, BreaksNoReadingRule}
 use Rattle.match_compile.proofs.Placed.{WasRead}
 
 -- ---- numbers in range
@@ -38,7 +38,7 @@ in_range (negsuc n) h = go (nat_lt 2147483647 n) refl
     go true e = absurd (h (λ r. let lt : 2147483647 < n = grind (arith, nat_tests) in omega (arith, ints, r.0)))
     go false e = let le : n ≤ 2147483647 = grind (arith, nat_tests) in (omega (arith, ints), omega (arith, ints))
 
-pub all_in_range : (text : List ℕ) → IsRead text → (us vs : List Piece) → IsTokens Core text (us ++ vs) → AreInRange Core vs
+pub all_in_range : (text : List ℕ) → BreaksNoReadingRule text → (us vs : List Piece) → IsTokens Core text (us ++ vs) → AreInRange Core vs
 all_in_range text u us [] r = tt
 all_in_range text u us (x ∷ vs) r = (
   λ digits. in_range (written_number x.bytes) (λ outside. u 3 x.at (NumberRange x.at (record {
@@ -53,7 +53,7 @@ all_in_range text u us (x ∷ vs) r = (
 
 -- ---- names of patterns and bodies
 
-module _ (names : List (List ℕ)) (room : Room) where
+module _ (names : List (List ℕ)) (room : NestingLimit) where
   mutual
     pat_named : (depth : ℕ) (p : Pat) (ts : List Lexeme) → SpellsPat room depth p ts → EachKnown names ts → (b : Binder) → In b (names_in p) → IsNamed names b.name.0
     pat_named depth (Name d) ts h k b i = subst (λ (w : Binder). IsNamed names w.name.0) (sym (one_in d i)) (subst (EachKnown names) h k).0
@@ -94,12 +94,12 @@ module _ (names : List (List ℕ)) (room : Room) where
             body = expr_readable names room 0 f.body g.3 g.5 (front_known names g.3 close (back_known names g.2 rest k2.1).1);
           }
 
-pub was_read : (text : List ℕ) (c : Source) → IsRead text → IsText text c → WasRead c
+pub was_read : (text : List ℕ) (c : Source) → BreaksNoReadingRule text → IsSourceText text c → WasRead c
 was_read text c read is =
     let s = is.program in
     let held : EachHeld Core c.names is.pieces = subst (λ v. EachHeld Core v is.pieces) (sym s.names) (each_held Core [] is.pieces) in
     let each = known Core c.names is.pieces held (all_in_range text read [] is.pieces is.tokens) in
-    let of : (e : Equation) → In e c.equations → IsKnown c.names anywhere e = λ e i. equations_known c.names anywhere s.decls (map (said Core c.names) is.pieces) s.spelled each e (subst (In e) (sym s.equations) i) in
+    let of : (e : Equation) → In e c.equations → IsKnown c.names unlimited_nesting e = λ e i. equations_known c.names unlimited_nesting s.decls (map (said Core c.names) is.pieces) s.spelled each e (subst (In e) (sym s.equations) i) in
     record {
       names = λ e i. (of e i).name;
       patterns = λ e i. (of e i).patterns;

@@ -7,8 +7,8 @@ use Rattle.seq.proofs.Lists.{all_append, all_set}
 use Rattle.seq.proofs.Order.{lt_from, le_from}
 use Rattle.core_meaning.specs.Heap.{Value, Int, Con, Part, Delayed, Call, Apply, Prim, Global, Input, Binding, Known, Waiting, Heap}
 use Rattle.core_meaning.specs.Forcing as forcing
-use Rattle.core_meaning.specs.Evaluation.{State, Answer, Gives, NoAlternative, OutOfBound, Onward, and_then, with_number, spend_of, append, update, taken}
-use Rattle.core_meaning.specs.Numbers.{operate}
+use Rattle.core_meaning.specs.Evaluation.{State, Answer, Gives, NoAlternative, OutOfBound, DelayedEvaluator, and_then, with_number, spend_of, append, update, taken}
+use Rattle.core_meaning.specs.Numbers.{primitive_result}
 
 -- The second language has so many units more for each one of the first, or at most as many as the
 -- first, or the same.
@@ -124,7 +124,7 @@ module _ (arity arity' many : ℕ → ℕ) (IsFun : ℕ → Type 0) (counts : (f
   number_beside pace n m spare (Con c xs) s t go go' h = NeitherAccepts
   number_beside pace n m spare (Part f xs) s t go go' h = NeitherAccepts
 
-  abbrev pub SameOnward : (pace : Pace) (n m : ℕ) → Onward → Onward → Type 0
+  abbrev pub SameOnward : (pace : Pace) (n m : ℕ) → DelayedEvaluator → DelayedEvaluator → Type 0
   SameOnward pace n m onward onward' =
       (t : Delayed) → DelayedOk t → (spare d : ℕ) (s : State) (u e : ℕ) → Beside pace n m spare s u → Answers pace n m spare (onward t d s) (onward' t d (units s u e))
 
@@ -165,7 +165,7 @@ module _ (arity arity' many : ℕ → ℕ) (IsFun : ℕ → Type 0) (counts : (f
   found_ok (b ∷ heap) zero h = h.0
   found_ok (b ∷ heap) (suc a) h = found_ok heap a h.1
 
-  module _ (pace : Pace) (n m : ℕ) (onward onward' : Onward) (on : SameOnward pace n m onward onward') where
+  module _ (pace : Pace) (n m : ℕ) (onward onward' : DelayedEvaluator) (on : SameOnward pace n m onward onward') where
     abbrev Same : (State → Answer) → (State → Answer) → Type 0
     Same go go' = (spare : ℕ) (s : State) (u e : ℕ) → Beside pace n m spare s u → Answers pace n m spare (go s) (go' (units s u e))
 
@@ -212,15 +212,15 @@ module _ (arity arity' many : ℕ → ℕ) (IsFun : ℕ → Type 0) (counts : (f
     pub prim_beside : (op : _) (a b d : ℕ) → Same (forcing.prim arity NoAlternative onward op a b d) (forcing.prim arity' NoAlternative onward' op a b d)
     prim_beside op a b d spare s u e k =
         then_beside pace n m spare _ _ (force_beside a (suc d) spare s u e k) (λ v s u e g k. number_beside pace n m spare v s (units s u e) _ _ (λ i.
-        then_beside pace n m spare _ _ (force_beside b (suc d) spare s u e k) (λ w s u e g k. number_beside pace n m spare w s (units s u e) _ _ (λ j. BothGive (OkInt {k = operate op i j}) k))))
+        then_beside pace n m spare _ _ (force_beside b (suc d) spare s u e k) (λ w s u e g k. number_beside pace n m spare w s (units s u e) _ _ (λ j. BothGive (OkInt {k = primitive_result op i j}) k))))
 
   -- ---- languages
 
-  module _ (pace : Pace) (nil cons nil' cons' : ℕ) (same_nil : nil' ≡ nil) (same_cons : cons' ≡ cons) (no_fields : many nil ≡ 0) (two_fields : many cons ≡ 2) (enter enter' : Onward → ℕ → List ℕ → ℕ → State → Answer) where
-    abbrev pub within : ℕ → Onward
+  module _ (pace : Pace) (nil cons nil' cons' : ℕ) (same_nil : nil' ≡ nil) (same_cons : cons' ≡ cons) (no_fields : many nil ≡ 0) (two_fields : many cons ≡ 2) (enter enter' : DelayedEvaluator → ℕ → List ℕ → ℕ → State → Answer) where
+    abbrev pub within : ℕ → DelayedEvaluator
     within n = forcing.within arity NoAlternative nil cons enter n
 
-    abbrev pub within' : ℕ → Onward
+    abbrev pub within' : ℕ → DelayedEvaluator
     within' m = forcing.within arity' NoAlternative nil' cons' enter' m
 
     -- an entry in both, where the second has some units to spare

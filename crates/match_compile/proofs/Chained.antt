@@ -9,8 +9,8 @@ use Rattle.match_compile.specs.Source.{Equation, Source}
 use Rattle.match_compile.specs.Trees as tree
 use Rattle.match_compile.specs.Trees.{Tree, IsTree, OfBody, OfCase}
 use Rattle.match_compile.specs.Form.{Row}
-use Rattle.match_compile.specs.Decisions.{Decision, row_of, StandFor, NoneLeft, More}
-use Rattle.match_compile.specs.Decides.{way, ways, settled, Decides, Serves, ByOne, ByMore}
+use Rattle.match_compile.specs.Decisions.{Decision, row_of, DecideAllEquations, NoneLeft, More}
+use Rattle.match_compile.specs.Decides.{way, pending_attempts, settled, Decides, Serves, ByOne, ByMore}
 use Rattle.match_compile.proofs.Rowed.{OneName}
 use Rattle.match_compile.proofs.Coded.{Places, Stands, Codes, codes_decide}
 
@@ -56,30 +56,30 @@ module _ (c : Source) (B : Expr → List Binder → normal.Term → Type 0) (ari
     pub below : more < most
     pub serves : Serves arity many IsFun p width more gs g
 
-  rows_for : (es : List Equation) (gs : List Row) → Pairwise RowFor es gs → Pairwise (Stands c B arity many IsFun width None ctx) (map row_of es) (ways width gs)
+  rows_for : (es : List Equation) (gs : List Row) → Pairwise RowFor es gs → Pairwise (Stands c B arity many IsFun width None ctx) (map row_of es) (pending_attempts width gs)
   rows_for [] [] h = tt
   rows_for [] (g ∷ gs) h = absurd h
   rows_for (e ∷ es) [] h = absurd h
   rows_for (e ∷ es) (g ∷ gs) h = (h.0, rows_for es gs h.1)
 
-  none_stand : {k : ℕ} {es : List Equation} {ds : List Decision} → StandFor k es ds → ds ≡ [] → es ≡ []
+  none_stand : {k : ℕ} {es : List Equation} {ds : List Decision} → DecideAllEquations k es ds → ds ≡ [] → es ≡ []
   none_stand NoneLeft e = refl
   none_stand (More is rest) e = absurd cc
 
   module _ (one : OneName c B many) where
-    pub chained_serves : {ds : List Decision} {g : ℕ} → Chained ds g → {k : ℕ} {es : List Equation} → StandFor k es ds → (gs : List Row) → Pairwise RowFor es gs → ServesFew ds (length es) gs g
+    pub chained_serves : {ds : List Decision} {g : ℕ} → Chained ds g → {k : ℕ} {es : List Equation} → DecideAllEquations k es ds → (gs : List Row) → Pairwise RowFor es gs → ServesFew ds (length es) gs g
     chained_serves {g = g} (LastTree {d = d} f found code) (More {es = es} {rest = rest} is others) gs h =
         let q = parts_of RowFor es rest gs h in
         let none : rest ≡ [] = none_stand others refl in
         let nothing : q.rest ≡ [] = nothing_more RowFor q.rest (subst (λ z. Pairwise RowFor z q.rest) none q.rest_are) in
         let same : q.first ≡ gs = sym (q.is ∙ ap (λ w. q.first ++ w) nothing ∙ append_nil q.first) in
-        let dec : Decides arity many IsFun width None width (ways width q.first) f.body = codes_decide c B arity many IsFun width None one code is.tree (ways width q.first) (rows_for es q.first q.first_are) in
+        let dec : Decides arity many IsFun width None width (pending_attempts width q.first) f.body = codes_decide c B arity many IsFun width None one code is.tree (pending_attempts width q.first) (rows_for es q.first q.first_are) in
         let some = some_equations es d.tree is.tree in
         let l = length-append es rest in
-        record { more = 0; trees = refl; below = omega (arith, some, l); serves = ByOne f found (subst (λ z. Decides arity many IsFun width None width (ways width z) f.body) same dec) }
+        record { more = 0; trees = refl; below = omega (arith, some, l); serves = ByOne f found (subst (λ z. Decides arity many IsFun width None width (pending_attempts width z) f.body) same dec) }
     chained_serves {g = g} (AndTree {d = d} g' f found code chain) (More {es = es} {rest = rest} is others) gs h =
         let q = parts_of RowFor es rest gs h in
-        let dec : Decides arity many IsFun width (Some g') width (ways width q.first) f.body = codes_decide c B arity many IsFun width (Some g') one code is.tree (ways width q.first) (rows_for es q.first q.first_are) in
+        let dec : Decides arity many IsFun width (Some g') width (pending_attempts width q.first) f.body = codes_decide c B arity many IsFun width (Some g') one code is.tree (pending_attempts width q.first) (rows_for es q.first q.first_are) in
         let s = chained_serves chain others q.rest q.rest_are in
         let some = some_equations es d.tree is.tree in
         let l = length-append es rest in

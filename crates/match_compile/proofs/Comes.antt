@@ -8,36 +8,36 @@ use Rattle.seq.specs.Lists.{numbers_from}
 use Rattle.core_reader.specs.declared.syntax.Binder.{Binder}
 use Rattle.core_reader.specs.declared.syntax.Expr as code-expr
 use Rattle.core_reader.specs.Tree.{Expr}
-use Rattle.match_compile.specs.declared.row.Way.{Way}
+use Rattle.match_compile.specs.declared.row.Pending.{Pending}
 use Rattle.match_compile.specs.declared.row.Test.{Test}
 use Rattle.match_compile.specs.declared.tree.Tree as code-tree
 use Rattle.match_compile.specs.declared.tree.Tree.TheVariants as code
 use Rattle.match_compile.specs.declared.tree.Branch.{Branch}
-use Rattle.match_compile.specs.declared.tree.Grown.{Grown}
+use Rattle.match_compile.specs.declared.tree.TreeAfterInsertion.{TreeAfterInsertion}
 use Rattle.match_compile.specs.declared.tree.Put.{Put}
 use Rattle.match_compile.specs.Heads.{Head, Integer, Constructor, same_head}
 use Rattle.match_compile.specs.Source.{Pat, Name, Int, Con, Pats, NoPats, AndPat}
 use Rattle.match_compile.specs.Parts.{count, tests_in, tests_of}
-use Rattle.match_compile.specs.Trees.{Job, Row, row, jobs_at, head_of, fields_of, Tree, Body, Case, Branches, NoBranch, AndBranch, NoDefault, ATree, branches_fail, fits, opened, places_from, tests_left, one_branch, by_head, alone, alone_from, in_default, in_branch, in_later, or_default, pred, most_chained, insert, insert_branch}
-use Rattle.match_compile.specs.RowOf.{rows_of, opened_at, a_test, first_of}
-use Rattle.match_compile.specs.TreeOf.{tree_of, branches_of, left_of, outcome, grown_of, put_of, if_fits, in_branches, joined, behind, with_new, or_alone, after_branches, branch_for, replaced}
+use Rattle.match_compile.specs.Trees.{PendingPattern, Row, row, pending_patterns_at, head_of, fields_of, Tree, Body, Case, Branches, NoBranch, AndBranch, NoDefault, ATree, branches_fail, fits, opened, places_from, tests_left, one_branch, by_head, alone, alone_from, in_default, in_branch, in_later, or_default, pred, max_chained_cases, insert, insert_branch}
+use Rattle.match_compile.specs.RowOf.{rows_of, row_with_field_places, test_at_place, first_of}
+use Rattle.match_compile.specs.TreeOf.{tree_of, branches_of, left_of, insertion_result, tree_after_insertion, branches_after_insertion, if_fits, in_branches, joined, behind, with_new, or_alone, after_branches, branch_for, replaced}
 use Rattle.match_compile.proofs.TreesOf.{tree_of-Body, tree_of-Tests, tree_of-Otherwise, branch_is}
 use Rattle.match_compile.proofs.Inserted.{some_is, settled_tests, tests_append, test_counts}
 
 -- ---- the test that comes next
 
-pub record Tested (js : List Job) (t : Test) : Type 0 where
+pub record Tested (js : List PendingPattern) (t : Test) : Type 0 where
   pub pat : Pat
-  pub rest : List Job
+  pub rest : List PendingPattern
   pub is : js ≡ (t.place, pat) ∷ rest
   pub head : head_of pat ≡ Some t.head
   pub fields : count (fields_of pat) ≡ t.fields
 
-pub tested : (js : List Job) (t : Test) → first_of js ≡ Some t → Tested js t
+pub tested : (js : List PendingPattern) (t : Test) → first_of js ≡ Some t → Tested js t
 tested [] t e = absurd cc
 tested ((p, Name b) ∷ js) t e = absurd cc
-tested ((p, Int k at) ∷ js) t e = subst (λ t. Tested ((p, Int k at) ∷ js) t) (some_is (a_test p (Integer k) 0) t e) (record { pat = Int k at; rest = js; is = refl; head = refl; fields = refl })
-tested ((p, Con c ps) ∷ js) t e = subst (λ t. Tested ((p, Con c ps) ∷ js) t) (some_is (a_test p (Constructor c.name.0) (count ps)) t e) (record { pat = Con c ps; rest = js; is = refl; head = refl; fields = refl })
+tested ((p, Int k at) ∷ js) t e = subst (λ t. Tested ((p, Int k at) ∷ js) t) (some_is (test_at_place p (Integer k) 0) t e) (record { pat = Int k at; rest = js; is = refl; head = refl; fields = refl })
+tested ((p, Con c ps) ∷ js) t e = subst (λ t. Tested ((p, Con c ps) ∷ js) t) (some_is (test_at_place p (Constructor c.name.0) (count ps)) t e) (record { pat = Con c ps; rest = js; is = refl; head = refl; fields = refl })
 
 module _ (body : Expr) (bound : List (Binder × ℕ)) where
   abbrev pub at_head : Pat → Branches → ℕ → Row → Option Head → Option (Branches × ℕ)
@@ -50,18 +50,18 @@ module _ (body : Expr) (bound : List (Binder × ℕ)) where
   name_nowhere true x bs n r = refl
   name_nowhere false x bs n r = refl
 
-  pub no_test : (p : ℕ) (bs : Branches) (n : ℕ) (js : List Job) → first_of js ≡ None → in_branches p bs n (row body bound js) ≡ None
+  pub no_test : (p : ℕ) (bs : Branches) (n : ℕ) (js : List PendingPattern) → first_of js ≡ None → in_branches p bs n (row body bound js) ≡ None
   no_test p bs n [] e = refl
   no_test p bs n ((q, Name x) ∷ js) e = name_nowhere (q == p) x bs n (row body bound ((q, Name x) ∷ js))
   no_test p bs n ((q, Int k at) ∷ js) e = absurd cc
   no_test p bs n ((q, Con c ps) ∷ js) e = absurd cc
 
-  pub elsewhere : (p : ℕ) (bs : Branches) (n : ℕ) (js : List Job) (t : Test) → Tested js t → (t.place == p) ≡ false → in_branches p bs n (row body bound js) ≡ None
+  pub elsewhere : (p : ℕ) (bs : Branches) (n : ℕ) (js : List PendingPattern) (t : Test) → Tested js t → (t.place == p) ≡ false → in_branches p bs n (row body bound js) ≡ None
   elsewhere p bs n js t h e =
       ap (λ js. in_branches p bs n (row body bound js)) h.is
       ∙ ap (λ b. at_place b h.pat bs n (row body bound ((t.place, h.pat) ∷ h.rest))) e
 
-  pub there_is : (p : ℕ) (bs : Branches) (n : ℕ) (js : List Job) (t : Test) (h : Tested js t) (b : Bool) → (t.place == p) ≡ true → fits t.head bs ≡ b → in_branches p bs n (row body bound js) ≡ if_fits b (insert_branch h.pat t.head bs n (row body bound js))
+  pub there_is : (p : ℕ) (bs : Branches) (n : ℕ) (js : List PendingPattern) (t : Test) (h : Tested js t) (b : Bool) → (t.place == p) ≡ true → fits t.head bs ≡ b → in_branches p bs n (row body bound js) ≡ if_fits b (insert_branch h.pat t.head bs n (row body bound js))
   there_is p bs n js t h b e f =
       ap (λ js. in_branches p bs n (row body bound js)) h.is
       ∙ ap (λ b. at_place b h.pat bs n (row body bound ((t.place, h.pat) ∷ h.rest))) e
@@ -69,31 +69,31 @@ module _ (body : Expr) (bound : List (Binder × ℕ)) where
       ∙ ap (λ js. if_fits (fits t.head bs) (insert_branch h.pat t.head bs n (row body bound js))) (sym h.is)
       ∙ ap (λ b. if_fits b (insert_branch h.pat t.head bs n (row body bound js))) f
 
-  pub opens : (js : List Job) (t : Test) (h : Tested js t) (places : List ℕ) → opened_at (row body bound js) places ≡ opened (row body bound js) h.pat places
+  pub opens : (js : List PendingPattern) (t : Test) (h : Tested js t) (places : List ℕ) → row_with_field_places (row body bound js) places ≡ opened (row body bound js) h.pat places
   opens js t h places =
-      ap (λ js. opened_at (row body bound js) places) h.is
+      ap (λ js. row_with_field_places (row body bound js) places) h.is
       ∙ ap (λ js. opened (row body bound js) h.pat places) (sym h.is)
 
   -- ---- the tree of one row
 
-  name_alone : (k n q : ℕ) (x : Binder) (js : List Job) → alone k n (row body bound ((q, Name x) ∷ js)) ≡ (Body (row body bound ((q, Name x) ∷ js)), n)
+  name_alone : (k n q : ℕ) (x : Binder) (js : List PendingPattern) → alone k n (row body bound ((q, Name x) ∷ js)) ≡ (Body (row body bound ((q, Name x) ∷ js)), n)
   name_alone zero n q x js = refl
   name_alone (suc k) n q x js = refl
 
-  pub body_alone : (n : ℕ) (js : List Job) → first_of js ≡ None → alone_from n (row body bound js) ≡ (Body (row body bound js), n)
+  pub body_alone : (n : ℕ) (js : List PendingPattern) → first_of js ≡ None → alone_from n (row body bound js) ≡ (Body (row body bound js), n)
   body_alone n [] e = refl
   body_alone n ((q, Name x) ∷ js) e = name_alone (tests_left ((q, Name x) ∷ js)) n q x js
   body_alone n ((q, Int k at) ∷ js) e = absurd cc
   body_alone n ((q, Con c ps) ∷ js) e = absurd cc
 
-  all_tests : (n : ℕ) (ps : Pats) → tests_left (jobs_at (numbers_from n (count ps)) ps) ≡ tests_of ps
+  all_tests : (n : ℕ) (ps : Pats) → tests_left (pending_patterns_at (numbers_from n (count ps)) ps) ≡ tests_of ps
   all_tests n NoPats = refl
   all_tests n (AndPat p ps) = ap (λ m. tests_in p + m) (all_tests (suc n) ps)
 
-  tests_behind : (n p : ℕ) (pat : Pat) (js : List Job) (h : Head) → head_of pat ≡ Some h → tests_left ((p, pat) ∷ js) ≡ suc (tests_left (opened (row body bound ((p, pat) ∷ js)) pat (places_from n (fields_of pat))).jobs)
+  tests_behind : (n p : ℕ) (pat : Pat) (js : List PendingPattern) (h : Head) → head_of pat ≡ Some h → tests_left ((p, pat) ∷ js) ≡ suc (tests_left (opened (row body bound ((p, pat) ∷ js)) pat (places_from n (fields_of pat))).jobs)
   tests_behind n p pat js h e =
-      let a = settled_tests body bound (jobs_at (places_from n (fields_of pat)) (fields_of pat) ++ js) in
-      let b = tests_append (jobs_at (places_from n (fields_of pat)) (fields_of pat)) js in
+      let a = settled_tests body bound (pending_patterns_at (places_from n (fields_of pat)) (fields_of pat) ++ js) in
+      let b = tests_append (pending_patterns_at (places_from n (fields_of pat)) (fields_of pat)) js in
       let c = all_tests n (fields_of pat) in
       let d = test_counts pat h e in
       omega (arith, a, b, c, d)
@@ -101,13 +101,13 @@ module _ (body : Expr) (bound : List (Binder × ℕ)) where
   abbrev made : ℕ → ℕ → Pat → Head → Row → Tree × ℕ
   made n p pat h r = one_branch p h (places_from n (fields_of pat)) (alone_from (n + count (fields_of pat)) (opened r pat (places_from n (fields_of pat))))
 
-  one_opens : (n p : ℕ) (pat : Pat) (js : List Job) (h : Head) → head_of pat ≡ Some h → alone_from n (row body bound ((p, pat) ∷ js)) ≡ made n p pat h (row body bound ((p, pat) ∷ js))
+  one_opens : (n p : ℕ) (pat : Pat) (js : List PendingPattern) (h : Head) → head_of pat ≡ Some h → alone_from n (row body bound ((p, pat) ∷ js)) ≡ made n p pat h (row body bound ((p, pat) ∷ js))
   one_opens n p pat js h e =
       let r : Row = row body bound ((p, pat) ∷ js) in
       ap (λ k. alone k n r) (tests_behind n p pat js h e)
       ∙ ap (by_head (Body r, n) (λ h. made n p pat h r)) e
 
-  pub test_alone : (n : ℕ) (js : List Job) (t : Test) → Tested js t → alone_from n (row body bound js) ≡ one_branch t.place t.head (numbers_from n t.fields) (behind t n (row body bound js))
+  pub test_alone : (n : ℕ) (js : List PendingPattern) (t : Test) → Tested js t → alone_from n (row body bound js) ≡ one_branch t.place t.head (numbers_from n t.fields) (behind t n (row body bound js))
   test_alone n js t h =
       ap (λ js. alone_from n (row body bound js)) h.is
       ∙ one_opens n t.place h.pat h.rest t.head h.head
@@ -119,7 +119,7 @@ module _ (body : Expr) (bound : List (Binder × ℕ)) where
 
 module _ (pat : Pat) (h : Head) (n : ℕ) (r : Row) where
   abbrev by_same : Branches → Branch → Bool → Option (Branches × ℕ)
-  by_same rest b y = elim y [ true ↦ in_branch b.head b.places rest (insert most_chained (tree_of b.tree) n (opened r pat b.places)) | false ↦ in_later b.head b.places (tree_of b.tree) (insert_branch pat h rest n r) ]
+  by_same rest b y = elim y [ true ↦ in_branch b.head b.places rest (insert max_chained_cases (tree_of b.tree) n (opened r pat b.places)) | false ↦ in_later b.head b.places (tree_of b.tree) (insert_branch pat h rest n r) ]
 
   one_first : (b : Branch) (bs : List Branch) → insert_branch pat h (branches_of (b ∷ bs)) n r ≡ by_same (branches_of bs) b (same_head b.head h)
   one_first b bs = ap (λ w. insert_branch pat h w n r) (branch_is b (branches_of bs))
@@ -143,7 +143,7 @@ module _ (pat : Pat) (h : Head) (n : ℕ) (r : Row) where
   with_tree f (Some u) = Some (f u.0, u.1)
 
   abbrev pub goes_on : Branch → Option (Tree × ℕ)
-  goes_on b = insert most_chained (tree_of b.tree) n (opened r pat b.places)
+  goes_on b = insert max_chained_cases (tree_of b.tree) n (opened r pat b.places)
 
   branch_tree : (b : Branch) (rest : Branches) (o : Option (Tree × ℕ)) → in_branch b.head b.places rest o ≡ with_tree (λ u. AndBranch b.head b.places u rest) o
   branch_tree b rest None = refl
@@ -205,19 +205,19 @@ kept_one (c ∷ cs) (suc k) b e =
 abbrev pub in_replaced : Branches → ℕ → (Tree × ℕ) × Option Expr → (Branches × ℕ) × Option Expr
 in_replaced bs k g = ((replaced bs k g.0.0, g.0.1), g.1)
 
-replaced_outcome : (pat : Pat) (h : Head) (n : ℕ) (r : Row) (bs : Branches) (k : ℕ) (t : Tree) (body : Expr) (o : Option (Tree × ℕ)) → replaced bs k t ≡ bs → in_replaced bs k (outcome (t, n) body o) ≡ outcome (bs, n) body (with_tree pat h n r (λ u. replaced bs k u) o)
+replaced_outcome : (pat : Pat) (h : Head) (n : ℕ) (r : Row) (bs : Branches) (k : ℕ) (t : Tree) (body : Expr) (o : Option (Tree × ℕ)) → replaced bs k t ≡ bs → in_replaced bs k (insertion_result (t, n) body o) ≡ insertion_result (bs, n) body (with_tree pat h n r (λ u. replaced bs k u) o)
 replaced_outcome pat h n r bs k t body None e = ap (λ w. ((w, n), Some body)) e
 replaced_outcome pat h n r bs k t body (Some u) e = refl
 
-module _ (body : Expr) (bound : List (Binder × ℕ)) (js : List Job) (p n : ℕ) (bs : List Branch) where
+module _ (body : Expr) (bound : List (Binder × ℕ)) (js : List PendingPattern) (p n : ℕ) (bs : List Branch) where
   abbrev the_row : Row
   the_row = row body bound js
 
   abbrev pub PutIn : (Branches × ℕ) × Option Expr → Type 0
-  PutIn q = q ≡ outcome (branches_of bs, n) body (in_branches p (branches_of bs) n the_row)
+  PutIn q = q ≡ insertion_result (branches_of bs, n) body (in_branches p (branches_of bs) n the_row)
 
   left_over : in_branches p (branches_of bs) n the_row ≡ None → PutIn ((branches_of bs, n), Some body)
-  left_over e = sym (ap (outcome (branches_of bs, n) body) e)
+  left_over e = sym (ap (insertion_result (branches_of bs, n) body) e)
 
   pub without_test : first_of js ≡ None → PutIn ((branches_of bs, n), Some body)
   without_test e = left_over (no_test body bound p (branches_of bs) n js e)
@@ -237,21 +237,21 @@ module _ (body : Expr) (bound : List (Binder × ℕ)) (js : List Job) (p n : ℕ
 
     pub makes_one : (t.place == p) ≡ true → fits t.head (branches_of bs) ≡ true → branch_for t.head bs ≡ length bs → PutIn (with_new t (branches_of bs) n the_row)
     makes_one f g k =
-        sym (ap (outcome (branches_of bs, n) body) (goes_in f g ∙ new_one h.pat t.head n the_row bs k)
+        sym (ap (insertion_result (branches_of bs, n) body) (goes_in f g ∙ new_one h.pat t.head n the_row bs k)
         ∙ ap (λ m. ((joined (branches_of bs) (AndBranch t.head (numbers_from n m) (alone_from (n + m) (opened the_row h.pat (numbers_from n m))).0 NoBranch), (alone_from (n + m) (opened the_row h.pat (numbers_from n m))).1), None)) h.fields
         ∙ ap (λ r. ((joined (branches_of bs) (AndBranch t.head (numbers_from n t.fields) (alone_from (n + t.fields) r).0 NoBranch), (alone_from (n + t.fields) r).1), None)) (sym (opens body bound js t h (numbers_from n t.fields))))
 
-    pub goes_to_one : (t.place == p) ≡ true → fits t.head (branches_of bs) ≡ true → (k : ℕ) (b x : Branch) (g : Grown) → branch_for t.head bs ≡ k → slice_get bs k ≡ Some b → x.head ≡ b.head → x.places ≡ b.places → x.tree ≡ g.tree
-        → grown_of g ≡ outcome (tree_of b.tree, n) body (insert most_chained (tree_of b.tree) n (opened_at the_row b.places))
+    pub goes_to_one : (t.place == p) ≡ true → fits t.head (branches_of bs) ≡ true → (k : ℕ) (b x : Branch) (g : TreeAfterInsertion) → branch_for t.head bs ≡ k → slice_get bs k ≡ Some b → x.head ≡ b.head → x.places ≡ b.places → x.tree ≡ g.tree
+        → tree_after_insertion g ≡ insertion_result (tree_of b.tree, n) body (insert max_chained_cases (tree_of b.tree) n (row_with_field_places the_row b.places))
         → PutIn ((branches_of (put_at (remove bs k) k x), g.free), left_of g.left)
     goes_to_one f fit k b x g is at hd ps tr e' =
         let there : slice_get bs (branch_for t.head bs) ≡ Some b = ap (slice_get bs) is ∙ at in
         let o : Option (Tree × ℕ) = goes_on h.pat t.head n the_row b in
         (λ i. ((put_back bs k b x at hd ps i, g.free), left_of g.left))
         ∙ (λ i. ((replaced (branches_of bs) k (tree_of (tr i)), g.free), left_of g.left))
-        ∙ ap (in_replaced (branches_of bs) k) (e' ∙ ap (λ r. outcome (tree_of b.tree, n) body (insert most_chained (tree_of b.tree) n r)) (opens body bound js t h b.places))
+        ∙ ap (in_replaced (branches_of bs) k) (e' ∙ ap (λ r. insertion_result (tree_of b.tree, n) body (insert max_chained_cases (tree_of b.tree) n r)) (opens body bound js t h b.places))
         ∙ replaced_outcome h.pat t.head n the_row (branches_of bs) k (tree_of b.tree) body o (kept_one bs k b at)
-        ∙ ap (outcome (branches_of bs, n) body) (sym (goes_in f fit ∙ known_one h.pat t.head n the_row bs b there ∙ ap (λ k. with_tree h.pat t.head n the_row (λ u. replaced (branches_of bs) k u) o) is))
+        ∙ ap (insertion_result (branches_of bs, n) body) (sym (goes_in f fit ∙ known_one h.pat t.head n the_row bs b there ∙ ap (λ k. with_tree h.pat t.head n the_row (λ u. replaced (branches_of bs) k u) o) is))
 
 -- ---- what became of it at a tree
 
@@ -261,36 +261,36 @@ less_one (suc n) = omega arith
 
 module _ (room n : ℕ) (body : Expr) (r : Row) (t : code-tree.Tree) where
   abbrev pub GrowsTo : (Tree × ℕ) × Option Expr → Type 0
-  GrowsTo g = g ≡ outcome (tree_of t, n) body (insert room (tree_of t) n r)
+  GrowsTo g = g ≡ insertion_result (tree_of t, n) body (insert room (tree_of t) n r)
 
-  pub at_body : (e : code-expr.Expr) (w : Way) → t ≡ code.Body e w → GrowsTo ((tree_of (code.Body e w), n), Some body)
+  pub at_body : (e : code-expr.Expr) (w : Pending) → t ≡ code.Body e w → GrowsTo ((tree_of (code.Body e w), n), Some body)
   at_body e w is =
       ap (λ x. ((x, n), Some body)) (tree_of-Body e w)
-      ∙ ap (λ x. outcome (x, n) body (insert room x n r)) (sym (ap tree_of is ∙ tree_of-Body e w))
+      ∙ ap (λ x. insertion_result (x, n) body (insert room x n r)) (sym (ap tree_of is ∙ tree_of-Body e w))
 
   abbrev pub in_other : ℕ → Branches → (Tree × ℕ) × Option Expr → (Tree × ℕ) × Option Expr
   in_other p bs g = ((Case p bs (ATree g.0.0), g.0.1), g.1)
 
-  other_outcome : (p : ℕ) (bs : Branches) (u : Tree) (o : Option (Tree × ℕ)) → in_other p bs (outcome (u, n) body o) ≡ outcome (Case p bs (ATree u), n) body (in_default p bs o)
+  other_outcome : (p : ℕ) (bs : Branches) (u : Tree) (o : Option (Tree × ℕ)) → in_other p bs (insertion_result (u, n) body o) ≡ insertion_result (Case p bs (ATree u), n) body (in_default p bs o)
   other_outcome p bs u None = refl
   other_outcome p bs u (Some v) = refl
 
-  pub at_otherwise : (p : ℕ) (bs : List Branch) (d d' : Box code-tree.Tree Global) (m : ℕ) (g : Grown) → t ≡ code.Otherwise p bs d → m ≡ pred room → d'.value ≡ g.tree
-      → grown_of g ≡ outcome (tree_of d.value, n) body (insert m (tree_of d.value) n r)
+  pub at_otherwise : (p : ℕ) (bs : List Branch) (d d' : Box code-tree.Tree Global) (m : ℕ) (g : TreeAfterInsertion) → t ≡ code.Otherwise p bs d → m ≡ pred room → d'.value ≡ g.tree
+      → tree_after_insertion g ≡ insertion_result (tree_of d.value, n) body (insert m (tree_of d.value) n r)
       → GrowsTo ((tree_of (code.Otherwise p bs d'), g.free), left_of g.left)
   at_otherwise p bs d d' m g is e v f =
       ap (λ x. ((x, g.free), left_of g.left)) (tree_of-Otherwise p bs d')
       ∙ ap (λ x. ((Case p (branches_of bs) (ATree (tree_of x)), g.free), left_of g.left)) v
-      ∙ ap (in_other p (branches_of bs)) (f ∙ ap (λ m. outcome (tree_of d.value, n) body (insert m (tree_of d.value) n r)) e)
+      ∙ ap (in_other p (branches_of bs)) (f ∙ ap (λ m. insertion_result (tree_of d.value, n) body (insert m (tree_of d.value) n r)) e)
       ∙ other_outcome p (branches_of bs) (tree_of d.value) (insert (pred room) (tree_of d.value) n r)
-      ∙ ap (λ x. outcome (x, n) body (insert room x n r)) (sym (ap tree_of is ∙ tree_of-Otherwise p bs d))
+      ∙ ap (λ x. insertion_result (x, n) body (insert room x n r)) (sym (ap tree_of is ∙ tree_of-Otherwise p bs d))
 
-module _ (way : Way) (body : Expr) where
+module _ (way : Pending) (body : Expr) where
   abbrev or_by : ℕ → ℕ → Branches → ℕ → Bool → Option (Tree × ℕ)
   or_by zero p bs n b = None
   or_by (suc room) p bs n b = cond b None (in_default p bs (Some (alone_from n (rows_of way body))))
 
-  alone_or : (room p : ℕ) (bs : Branches) (n : ℕ) (b : Bool) → or_alone room p bs n (rows_of way body) b ≡ outcome (Case p bs NoDefault, n) body (or_by room p bs n b)
+  alone_or : (room p : ℕ) (bs : Branches) (n : ℕ) (b : Bool) → or_alone room p bs n (rows_of way body) b ≡ insertion_result (Case p bs NoDefault, n) body (or_by room p bs n b)
   alone_or zero p bs n b = refl
   alone_or (suc room) p bs n true = refl
   alone_or (suc room) p bs n false = refl
@@ -299,15 +299,15 @@ module _ (way : Way) (body : Expr) where
   is_default zero p bs n = refl
   is_default (suc room) p bs n = refl
 
-  after_outcome : (room p : ℕ) (bs : Branches) (n : ℕ) (o : Option (Branches × ℕ)) → after_branches room p (outcome (bs, n) body o) (rows_of way) ≡ outcome (Case p bs NoDefault, n) body (or_default room p bs n (rows_of way body) o)
+  after_outcome : (room p : ℕ) (bs : Branches) (n : ℕ) (o : Option (Branches × ℕ)) → after_branches room p (insertion_result (bs, n) body o) (rows_of way) ≡ insertion_result (Case p bs NoDefault, n) body (or_default room p bs n (rows_of way body) o)
   after_outcome room p bs n (Some b) = refl
-  after_outcome room p bs n None = alone_or room p bs n (branches_fail bs) ∙ ap (outcome (Case p bs NoDefault, n) body) (is_default room p bs n)
+  after_outcome room p bs n None = alone_or room p bs n (branches_fail bs) ∙ ap (insertion_result (Case p bs NoDefault, n) body) (is_default room p bs n)
 
-  pub at_tests : (room n : ℕ) (t : code-tree.Tree) (p : ℕ) (bs : List Branch) (m : ℕ) (put : Put) (g : Grown) → t ≡ code.Tests p bs → m ≡ pred room
-      → put_of put ≡ outcome (branches_of bs, n) body (in_branches p (branches_of bs) n (rows_of way body))
-      → grown_of g ≡ after_branches m p (put_of put) (rows_of way)
-      → GrowsTo room n body (rows_of way body) t (grown_of g)
+  pub at_tests : (room n : ℕ) (t : code-tree.Tree) (p : ℕ) (bs : List Branch) (m : ℕ) (put : Put) (g : TreeAfterInsertion) → t ≡ code.Tests p bs → m ≡ pred room
+      → branches_after_insertion put ≡ insertion_result (branches_of bs, n) body (in_branches p (branches_of bs) n (rows_of way body))
+      → tree_after_insertion g ≡ after_branches m p (branches_after_insertion put) (rows_of way)
+      → GrowsTo room n body (rows_of way body) t (tree_after_insertion g)
   at_tests room n t p bs m put g is e f k =
       k ∙ (λ i. after_branches (e i) p (f i) (rows_of way))
       ∙ after_outcome (pred room) p (branches_of bs) n (in_branches p (branches_of bs) n (rows_of way body))
-      ∙ ap (λ x. outcome (x, n) body (insert room x n (rows_of way body))) (sym (ap tree_of is ∙ tree_of-Tests p bs))
+      ∙ ap (λ x. insertion_result (x, n) body (insert room x n (rows_of way body))) (sym (ap tree_of is ∙ tree_of-Tests p bs))

@@ -6,15 +6,15 @@ use Rattle.core_reader.specs.Tree.{Expr}
 use Rattle.match_compile.specs.declared.source.Pat as code-pat
 use Rattle.match_compile.specs.declared.decide.Clause.{Clause}
 use Rattle.match_compile.specs.declared.decide.Decision as code
-use Rattle.match_compile.specs.declared.decide.Came.{Came}
+use Rattle.match_compile.specs.declared.decide.InsertionOutcome.{InsertionOutcome}
 use Rattle.match_compile.specs.Source.{Equation}
 use Rattle.match_compile.specs.SourceOf.{pat_of, pats_of}
 use Rattle.match_compile.specs.Parts.{count, tests_in, tests_of}
 use Rattle.match_compile.specs.Sizes.{joined, functions, rows}
-use Rattle.match_compile.specs.Trees.{Row, Tree, insert, most_chained, alone_from}
+use Rattle.match_compile.specs.Trees.{Row, Tree, insert, max_chained_cases, alone_from}
 use Rattle.match_compile.specs.Decisions.{Decision, row_of, begun, grown, decided, decisions_from, all_decisions}
-use Rattle.match_compile.specs.TreeOf.{outcome}
-use Rattle.match_compile.specs.DecisionOf.{goes_before, clause_of, clauses_of, functions_of, decision_of, decisions_of, left_clause, with_body, came_of, taken_by, taken_or_left}
+use Rattle.match_compile.specs.TreeOf.{insertion_result}
+use Rattle.match_compile.specs.DecisionOf.{goes_before, clause_of, clauses_of, functions_of, decision_of, decisions_of, left_clause, with_body, insertion_outcome, taken_by, decision_or_left}
 
 -- ---- names alone
 
@@ -39,12 +39,12 @@ count_is (p ∷ ps) = ap suc (count_is ps)
 abbrev came : Decision → Equation → (Tree × ℕ) × Option Expr → Decision × Option Equation
 came d e g = (grown d g.0, with_body e.name e.at e.pats g.1)
 
-came_outcome : (d : Decision) (e : Equation) (o : Option (Tree × ℕ)) → came d e (outcome (d.tree, d.free) e.body o) ≡ taken_by d e o
+came_outcome : (d : Decision) (e : Equation) (o : Option (Tree × ℕ)) → came d e (insertion_result (d.tree, d.free) e.body o) ≡ taken_by d e o
 came_outcome d e None = refl
 came_outcome d e (Some t) = refl
 
-pub came_is : (d : Decision) (e : Equation) (g : (Tree × ℕ) × Option Expr) → g ≡ outcome (d.tree, d.free) e.body (insert most_chained d.tree d.free (row_of e)) → came d e g ≡ taken_or_left d e
-came_is d e g f = ap (came d e) f ∙ came_outcome d e (insert most_chained d.tree d.free (row_of e))
+pub came_is : (d : Decision) (e : Equation) (g : (Tree × ℕ) × Option Expr) → g ≡ insertion_result (d.tree, d.free) e.body (insert max_chained_cases d.tree d.free (row_of e)) → came d e g ≡ decision_or_left d e
+came_is d e g f = ap (came d e) f ∙ came_outcome d e (insert max_chained_cases d.tree d.free (row_of e))
 
 pub planted_is : (k : ℕ) (e : Equation) (n m : ℕ) (t : Tree) (way : Expr → Row) → n ≡ count e.pats → way e.body ≡ row_of e → (t, m) ≡ alone_from n (way e.body) → ◌≡◌ {A = Decision} (record { name = e.name; at = e.at; number = k; params = n; tree = t; free = m }) (begun k e)
 planted_is k e n m t way is f g =
@@ -80,26 +80,26 @@ decided_by : (d : Decision) (k : ℕ) (e : Equation) (es : List Equation) (o : O
 decided_by d k e es None = refl
 decided_by d k e es (Some t) = refl
 
-one_comes : (k : ℕ) (d : Decision) (all cs : List Clause) (c : Clause) (b : Bool) (g : Decision × Option Equation) → all ≡ cs ++ c ∷ [] → b ≡ (tests_of (clause_of c).pats == 0) → g ≡ taken_or_left d (clause_of c) → goes_on g k (open_rows b cs) ≡ decided d k (rows (clauses_of all))
+one_comes : (k : ℕ) (d : Decision) (all cs : List Clause) (c : Clause) (b : Bool) (g : Decision × Option Equation) → all ≡ cs ++ c ∷ [] → b ≡ (tests_of (clause_of c).pats == 0) → g ≡ decision_or_left d (clause_of c) → goes_on g k (open_rows b cs) ≡ decided d k (rows (clauses_of all))
 one_comes k d all cs c b g is e f =
     ap (λ g. goes_on g k (open_rows b cs)) f
     ∙ sym (ap (λ es. decided d k (rows es)) (ap clauses_of is ∙ clauses_more cs c)
     ∙ ap (decided d k) (rows_first cs c b e)
-    ∙ decided_by d k (clause_of c) (open_rows b cs) (insert most_chained d.tree d.free (row_of (clause_of c))))
+    ∙ decided_by d k (clause_of c) (open_rows b cs) (insert max_chained_cases d.tree d.free (row_of (clause_of c))))
 
 module _ (whole : List Decision) (made : List code.Decision) (d : code.Decision) (k : ℕ) (all : List Clause) where
   abbrev pub Made : Bool → Type 0
   Made is_last = decisions_of made ++ decided (decision_of d) (suc k) (open_rows is_last all) ≡ whole
 
   -- a tree takes the next equation
-  pub takes_one : (cs : List Clause) (c : Clause) (b : Bool) (g : Came) → Made false → all ≡ cs ++ c ∷ [] → b ≡ (tests_of (clause_of c).pats == 0) → came_of g ≡ taken_or_left (decision_of d) (clause_of c) → g.left ≡ None
+  pub takes_one : (cs : List Clause) (c : Clause) (b : Bool) (g : InsertionOutcome) → Made false → all ≡ cs ++ c ∷ [] → b ≡ (tests_of (clause_of c).pats == 0) → insertion_outcome g ≡ decision_or_left (decision_of d) (clause_of c) → g.left ≡ None
       → decisions_of made ++ decided (decision_of g.decision) (suc (suc k)) (open_rows b cs) ≡ whole
   takes_one cs c b g h is e f none =
       ap (λ o. decisions_of made ++ goes_on (decision_of g.decision, left_clause o) (suc k) (open_rows b cs)) (sym none)
-      ∙ ap (λ es. decisions_of made ++ es) (one_comes (suc k) (decision_of d) all cs c b (came_of g) is e f) ∙ h
+      ∙ ap (λ es. decisions_of made ++ es) (one_comes (suc k) (decision_of d) all cs c b (insertion_outcome g) is e f) ∙ h
 
   -- or leaves it, and it begins another one
-  pub leaves_one : (cs : List Clause) (c x : Clause) (b : Bool) (g : Came) (more : List code.Decision) (next : code.Decision) → Made false → all ≡ cs ++ c ∷ [] → b ≡ (tests_of (clause_of c).pats == 0) → came_of g ≡ taken_or_left (decision_of d) (clause_of c) → g.left ≡ Some x
+  pub leaves_one : (cs : List Clause) (c x : Clause) (b : Bool) (g : InsertionOutcome) (more : List code.Decision) (next : code.Decision) → Made false → all ≡ cs ++ c ∷ [] → b ≡ (tests_of (clause_of c).pats == 0) → insertion_outcome g ≡ decision_or_left (decision_of d) (clause_of c) → g.left ≡ Some x
       → more ≡ made ++ g.decision ∷ [] → decision_of next ≡ begun (suc k) (clause_of x)
       → decisions_of more ++ decided (decision_of next) (suc (suc k)) (open_rows b cs) ≡ whole
   leaves_one cs c x b g more next h is e f some put n =
@@ -107,7 +107,7 @@ module _ (whole : List Decision) (made : List code.Decision) (d : code.Decision)
       ∙ ap (λ ds. ds ++ decided (begun (suc k) (clause_of x)) (suc (suc k)) (open_rows b cs)) (map-append decision_of made (g.decision ∷ []))
       ∙ append_assoc (decisions_of made) (decision_of g.decision ∷ []) (decided (begun (suc k) (clause_of x)) (suc (suc k)) (open_rows b cs))
       ∙ ap (λ o. decisions_of made ++ goes_on (decision_of g.decision, left_clause o) (suc k) (open_rows b cs)) (sym some)
-      ∙ ap (λ es. decisions_of made ++ es) (one_comes (suc k) (decision_of d) all cs c b (came_of g) is e f) ∙ h
+      ∙ ap (λ es. decisions_of made ++ es) (one_comes (suc k) (decision_of d) all cs c b (insertion_outcome g) is e f) ∙ h
 
   -- no equation is left
   pub last_one : (more : List code.Decision) (b : Bool) → Made b → open_rows b all ≡ [] → more ≡ made ++ d ∷ [] → decisions_of more ≡ whole

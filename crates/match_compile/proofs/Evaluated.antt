@@ -9,21 +9,21 @@ use Rattle.arity_check.specs.declared.normal.Var.{Var}
 use Rattle.arity_check.specs.Normal.{Pairwise}
 use Rattle.arity_check.specs.Program.{Program, Term, Branches}
 use Rattle.core_meaning.specs.Heap.{Value, Con, Part, Call, Apply, Prim, Binding, Known, Waiting, Heap, Env, with_local, with_locals}
-use Rattle.core_meaning.specs.Evaluation.{State, Answer, Gives, Onward, is_con, is_int, fields_of, append, params, global, name, names, binding, with_group, apply, prim, form, eval, select}
-use Rattle.match_compile.specs.Alike.{Pairs, Linked, linked_all, linked_group, VarAlike, AlikeLocal, AlikeGlobal, VarsAlike, FlatAlike, AlikeInt, AlikeCon, AlikePart, AlikeCall, AlikeApply, AlikePrim, TermAlike, AlikeApp, AlikeLet, AlikeCase, BranchesAlike, AlikeNoMore, AlikeOnCon, AlikeOnInt, AlikeOnAny, AlikeOnName}
+use Rattle.core_meaning.specs.Evaluation.{State, Answer, Gives, DelayedEvaluator, is_con, is_int, fields_of, append, params, global, name, names, binding, with_group, apply, prim, form, eval, select}
+use Rattle.match_compile.specs.Alike.{LocalPairs, LocalsCorrespond, linked_all, linked_group, VarAlike, AlikeLocal, AlikeGlobal, VarsAlike, FlatAlike, AlikeInt, AlikeCon, AlikePart, AlikeCall, AlikeApply, AlikePrim, TermAlike, AlikeApp, AlikeLet, AlikeCase, BranchesAlike, AlikeNoMore, AlikeOnCon, AlikeOnInt, AlikeOnAny, AlikeOnName}
 use Rattle.match_compile.proofs.Beside as both
 use Rattle.match_compile.proofs.Beside.{Pace, units}
 
 -- ---- environments
 
-abbrev pub Agree : Env → Env → Pairs → Type 0
-Agree env env' ps = (x y : ℕ) → Linked ps x y → env' y ≡ env x
+abbrev pub Agree : Env → Env → LocalPairs → Type 0
+Agree env env' ps = (x y : ℕ) → LocalsCorrespond ps x y → env' y ≡ env x
 
-pub agree_local : (env env' : Env) (ps : Pairs) (x y a : ℕ) → Agree env env' ps → Agree (with_local env x a) (with_local env' y a) ((x, y) ∷ ps)
+pub agree_local : (env env' : Env) (ps : LocalPairs) (x y a : ℕ) → Agree env env' ps → Agree (with_local env x a) (with_local env' y a) ((x, y) ∷ ps)
 agree_local env env' ps x y a g z w (inl h) = rw (eq_true z x h.0, eq_true w y h.1) refl
 agree_local env env' ps x y a g z w (inr h) = rw (eq_false z x h.0, eq_false w y h.1.0) (g z w h.1.1)
 
-pub agree_all : (xs ys as' : List ℕ) (env env' : Env) (ps : Pairs) → length xs ≡ length as' → length ys ≡ length as' → Agree env env' ps → Agree (with_locals env xs as') (with_locals env' ys as') (linked_all xs ys ps)
+pub agree_all : (xs ys as' : List ℕ) (env env' : Env) (ps : LocalPairs) → length xs ≡ length as' → length ys ≡ length as' → Agree env env' ps → Agree (with_locals env xs as') (with_locals env' ys as') (linked_all xs ys ps)
 agree_all [] [] as' env env' ps e f g = g
 agree_all [] (y ∷ ys) as' env env' ps e f g = absurd (omega (arith, e, f))
 agree_all (x ∷ xs) [] as' env env' ps e f g = absurd (omega (arith, e, f))
@@ -32,7 +32,7 @@ agree_all (x ∷ xs) (y ∷ ys) (a ∷ as') env env' ps e f g =
     agree_all xs ys as' (with_local env x a) (with_local env' y a) ((x, y) ∷ ps) (omega (arith, e)) (omega (arith, f)) (agree_local env env' ps x y a g)
 
 module _ (p p' : Program) where
-  pub agree_group : (R : Bound → Bound → Type 0) (bs cs : List Bound) (a : ℕ) (env env' : Env) (ps : Pairs) → Pairwise R bs cs → Agree env env' ps → Agree (with_group p env bs a) (with_group p' env' cs a) (linked_group bs cs ps)
+  pub agree_group : (R : Bound → Bound → Type 0) (bs cs : List Bound) (a : ℕ) (env env' : Env) (ps : LocalPairs) → Pairwise R bs cs → Agree env env' ps → Agree (with_group p env bs a) (with_group p' env' cs a) (linked_group bs cs ps)
   agree_group R [] [] a env env' ps h g = g
   agree_group R [] (c ∷ cs) a env env' ps h g = absurd h
   agree_group R (b ∷ bs) [] a env env' ps h g = absurd h
@@ -42,11 +42,11 @@ module _ (p p' : Program) where
   module _ (many : ℕ → ℕ) (IsFun : ℕ → Type 0) (counts : (f : ℕ) → IsFun f → params p' f ≡ params p f) (same_global : (f : ℕ) → IsFun f → params p f ≡ 0 → global p' f ≡ global p f) where
     -- ---- names
 
-    name_same : (env env' : Env) (ps : Pairs) → Agree env env' ps → (x y : Var) → VarAlike (params p) many IsFun ps x y → name p' env' y ≡ name p env x
+    name_same : (env env' : Env) (ps : LocalPairs) → Agree env env' ps → (x y : Var) → VarAlike (params p) many IsFun ps x y → name p' env' y ≡ name p env x
     name_same env env' ps g x y (AlikeLocal {x = a} {y = b} l) = g a b l
     name_same env env' ps g x y (AlikeGlobal {f = f} is z) = same_global f is z
 
-    pub names_same : (env env' : Env) (ps : Pairs) → Agree env env' ps → (xs ys : List Var) → VarsAlike (params p) many IsFun ps xs ys → names p' env' ys ≡ names p env xs
+    pub names_same : (env env' : Env) (ps : LocalPairs) → Agree env env' ps → (xs ys : List Var) → VarsAlike (params p) many IsFun ps xs ys → names p' env' ys ≡ names p env xs
     names_same env env' ps g [] [] h = refl
     names_same env env' ps g [] (y ∷ ys) h = absurd h
     names_same env env' ps g (x ∷ xs) [] h = absurd h
@@ -63,7 +63,7 @@ module _ (p p' : Program) where
     abbrev ValueOk : Value → Type 0
     ValueOk = both.ValueOk (params p) (params p') many IsFun counts
 
-    binding_ok : (env : Env) (ps : Pairs) (f g : Flat) → FlatAlike (params p) many IsFun ps f g → BindingOk (binding p env f)
+    binding_ok : (env : Env) (ps : LocalPairs) (f g : Flat) → FlatAlike (params p) many IsFun ps f g → BindingOk (binding p env f)
     binding_ok env ps f g AlikeInt = both.OkKnown both.OkInt
     binding_ok env ps f g (AlikeCon {xs = xs} e h) = both.OkKnown (both.OkCon (names_long env xs ∙ e))
     binding_ok env ps f g (AlikePart {xs = xs} is lt h) = let l = names_long env xs in both.OkKnown (both.OkPart is (omega (arith, l, lt)))
@@ -71,7 +71,7 @@ module _ (p p' : Program) where
     binding_ok env ps f g (AlikeApply a h) = both.OkWaiting both.OkApply
     binding_ok env ps f g (AlikePrim a b) = both.OkWaiting both.OkPrim
 
-    binding_same : (env env' : Env) (ps : Pairs) → Agree env env' ps → (f g : Flat) → FlatAlike (params p) many IsFun ps f g → binding p' env' g ≡ binding p env f
+    binding_same : (env env' : Env) (ps : LocalPairs) → Agree env env' ps → (f g : Flat) → FlatAlike (params p) many IsFun ps f g → binding p' env' g ≡ binding p env f
     binding_same env env' ps a f g AlikeInt = refl
     binding_same env env' ps a f g (AlikeCon {c = c} {xs = xs} {ys = ys} e h) = ap (λ w. Known (Con c w)) (names_same env env' ps a xs ys h)
     binding_same env env' ps a f g (AlikePart {f = k} {xs = xs} {ys = ys} is lt h) = ap (λ w. Known (Part k w)) (names_same env env' ps a xs ys h)
@@ -82,13 +82,13 @@ module _ (p p' : Program) where
     abbrev made : Program → Env → List Bound → Heap
     made r env bs = map (λ b. binding r env b.flat) bs
 
-    group_ok : (env : Env) (ps : Pairs) (bs cs : List Bound) → Pairwise (λ b c. FlatAlike (params p) many IsFun ps b.flat c.flat) bs cs → AllOf BindingOk (made p env bs)
+    group_ok : (env : Env) (ps : LocalPairs) (bs cs : List Bound) → Pairwise (λ b c. FlatAlike (params p) many IsFun ps b.flat c.flat) bs cs → AllOf BindingOk (made p env bs)
     group_ok env ps [] [] h = tt
     group_ok env ps [] (c ∷ cs) h = absurd h
     group_ok env ps (b ∷ bs) [] h = absurd h
     group_ok env ps (b ∷ bs) (c ∷ cs) h = (binding_ok env ps b.flat c.flat h.0, group_ok env ps bs cs h.1)
 
-    group_same : (env env' : Env) (ps : Pairs) → Agree env env' ps → (bs cs : List Bound) → Pairwise (λ b c. FlatAlike (params p) many IsFun ps b.flat c.flat) bs cs → made p' env' cs ≡ made p env bs
+    group_same : (env env' : Env) (ps : LocalPairs) → Agree env env' ps → (bs cs : List Bound) → Pairwise (λ b c. FlatAlike (params p) many IsFun ps b.flat c.flat) bs cs → made p' env' cs ≡ made p env bs
     group_same env env' ps a [] [] h = refl
     group_same env env' ps a [] (c ∷ cs) h = absurd h
     group_same env env' ps a (b ∷ bs) [] h = absurd h
@@ -102,14 +102,14 @@ module _ (p p' : Program) where
 
     -- ---- evaluation
 
-    module _ (pace : Pace) (n m : ℕ) (onward onward' : Onward) (on : both.SameOnward (params p) (params p') many IsFun counts pace n m onward onward') where
+    module _ (pace : Pace) (n m : ℕ) (onward onward' : DelayedEvaluator) (on : both.SameOnward (params p) (params p') many IsFun counts pace n m onward onward') where
       abbrev Answers : (spare : ℕ) → Answer → Answer → Type 0
       Answers = both.Answers (params p) (params p') many IsFun counts pace n m
 
       abbrev Beside : (spare : ℕ) → State → ℕ → Type 0
       Beside = both.Beside (params p) (params p') many IsFun counts pace n m
 
-      form_beside : (env env' : Env) (ps : Pairs) → Agree env env' ps → (f g : Flat) → FlatAlike (params p) many IsFun ps f g → (spare d : ℕ) (s : State) (u e : ℕ) → Beside spare s u
+      form_beside : (env env' : Env) (ps : LocalPairs) → Agree env env' ps → (f g : Flat) → FlatAlike (params p) many IsFun ps f g → (spare d : ℕ) (s : State) (u e : ℕ) → Beside spare s u
           → Answers spare (form p onward env f d s) (form p' onward' env' g d (units s u e))
       form_beside env env' ps a f g AlikeInt spare d s u e k = both.BothGive both.OkInt k
       form_beside env env' ps a f g (AlikeCon {c = c} {xs = xs} {ys = ys} l h) spare d s u e k =
@@ -132,11 +132,11 @@ module _ (p p' : Program) where
       cases_beside spare false x x' y y' f g = g
 
       mutual
-        pub eval_beside : (env env' : Env) (ps : Pairs) (t t' : Term) → TermAlike (params p) many IsFun ps t t' → Agree env env' ps → (spare d : ℕ) (s : State) (u e : ℕ) → Beside spare s u
+        pub eval_beside : (env env' : Env) (ps : LocalPairs) (t t' : Term) → TermAlike (params p) many IsFun ps t t' → Agree env env' ps → (spare d : ℕ) (s : State) (u e : ℕ) → Beside spare s u
             → Answers spare (eval p onward t env d s) (eval p' onward' t' env' d (units s u e))
         eval_beside env env' ps t t' (AlikeApp {f = f} {g = g} h) a spare d s u e k = form_beside env env' ps a f g h spare d s u e k
         eval_beside env env' ps t t' (AlikeLet {bs = bs} {cs = cs} {e = x} {e' = x'} h b) a spare d s u e k =
-            let ps' : Pairs = linked_group bs cs ps in
+            let ps' : LocalPairs = linked_group bs cs ps in
             let inner : Env = with_group p env bs (length s.heap) in
             let inner' : Env = with_group p' env' cs (length s.heap) in
             let a' : Agree inner inner' ps' = agree_group (λ b c. FlatAlike (params p) many IsFun ps' b.flat c.flat) bs cs (length s.heap) env env' ps h a in
@@ -147,7 +147,7 @@ module _ (p p' : Program) where
             both.then_beside (params p) (params p') many IsFun counts pace n m spare (λ v s. select p onward bs v env d s) (λ v s. select p' onward' cs v env' d s) (eval_beside env env' ps x x' h a spare (suc d) s u e k)
             (λ v s u e g k. select_beside env env' ps bs cs b a v g spare d s u e k)
 
-        pub select_beside : (env env' : Env) (ps : Pairs) (bs cs : Branches) → BranchesAlike (params p) many IsFun ps bs cs → Agree env env' ps → (v : Value) → ValueOk v → (spare d : ℕ) (s : State) (u e : ℕ) → Beside spare s u
+        pub select_beside : (env env' : Env) (ps : LocalPairs) (bs cs : Branches) → BranchesAlike (params p) many IsFun ps bs cs → Agree env env' ps → (v : Value) → ValueOk v → (spare d : ℕ) (s : State) (u e : ℕ) → Beside spare s u
             → Answers spare (select p onward bs v env d s) (select p' onward' cs v env' d (units s u e))
         select_beside env env' ps bs cs AlikeNoMore a v g spare d s u e k = both.NeitherAccepts
         select_beside env env' ps bs cs (AlikeOnCon {c = c} {xs = xs} {ys = ys} {e = x} {e' = x'} l l' h b) a v g spare d s u e k =

@@ -14,8 +14,8 @@ use Rattle.match_compile.specs.Source.{Source, Equation}
 use Rattle.match_compile.specs.Parts.{count, names_of, constructors_of}
 use Rattle.match_compile.specs.Rules.{Behind, text_in, fields_in, arity_in, last_name, Broken}
 use Rattle.match_compile.specs.Rules as rules
-use Rattle.match_compile.specs.Refusal.{rule, place, noted}
-use Rattle.match_compile.specs.Faults.{is_last, first_arity, with_equation, order_faults, orders_faults, also, is_nameless, names_faults, constructor_faults, equation_faults, faults}
+use Rattle.match_compile.specs.Refusal.{rule, place, refusal_if}
+use Rattle.match_compile.specs.Faults.{is_last, first_arity, with_equation, order_faults, orders_faults, with_member, is_nameless, names_faults, constructor_faults, equation_faults, faults}
 
 some_same : {X : Type 0} (a b : X) → ◌≡◌ {A = Option X} (Some a) (Some b) → a ≡ b
 some_same a b e = cc
@@ -99,16 +99,16 @@ or_parts : (a b : Bool) → (a || b) ≡ true → (a ≡ true) ⊎ (b ≡ true)
 or_parts true b e = inl refl
 or_parts false b e = inr e
 
-one_seen : (seen : ℕ → Bool) (before : List Binder) (x : Binder) → Seen seen before → Seen (also x.name.0 seen) (before ++ x ∷ [])
+one_seen : (seen : ℕ → Bool) (before : List Binder) (x : Binder) → Seen seen before → Seen (with_member x.name.0 seen) (before ++ x ∷ [])
 one_seen seen before x w = record { from = from; to = to }
   where
-    from : (y : ℕ) → also x.name.0 seen y ≡ true → (z : Binder) × In z (before ++ x ∷ []) × (z.name.0 ≡ y)
+    from : (y : ℕ) → with_member x.name.0 seen y ≡ true → (z : Binder) × In z (before ++ x ∷ []) × (z.name.0 ≡ y)
     from y e = elim (or_parts (x.name.0 == y) (seen y) e) [
       | inl h ↦ (x, in_right before (x ∷ []) here, eq_from x.name.0 y h)
       | inr h ↦ let z = w.from y h in (z.0, in_left before (x ∷ []) z.1, z.2)
     ]
 
-    to : (z : Binder) → In z (before ++ x ∷ []) → also x.name.0 seen z.name.0 ≡ true
+    to : (z : Binder) → In z (before ++ x ∷ []) → with_member x.name.0 seen z.name.0 ≡ true
     to z i = elim (in_split before (x ∷ []) i) [
       | inl j ↦ ap (λ b. (x.name.0 == z.name.0) || b) (w.to z j) ∙ or_true (x.name.0 == z.name.0)
       | inr j ↦ ap (λ b. b || seen z.name.0) (ap (λ (v : Binder). x.name.0 == v.name.0) (one_in x j) ∙ eq_self x.name.0)
@@ -142,7 +142,7 @@ names_sound names all before (x ∷ xs) seen w h r i = elim (in_split _ _ i) [
         named = λ e. not_nameless (is_nameless names x.name.0) b.0 ((bytes_eq-Decides (text_in names x.name.0) (codes "_")).1 e);
         is = one_in (DuplicateName x.at) met.1;
       }
-  | inr j ↦ names_sound names all (before ++ x ∷ []) xs (also x.name.0 seen) (one_seen seen before x w) (h ∙ sym (append_assoc before (x ∷ []) xs)) r j
+  | inr j ↦ names_sound names all (before ++ x ∷ []) xs (with_member x.name.0 seen) (one_seen seen before x w) (h ∙ sym (append_assoc before (x ∷ []) xs)) r j
 ]
   where
     not_nameless : (b : Bool) → not b ≡ true → b ≡ true → ⊥
@@ -155,8 +155,8 @@ in_names names before [] y after seen w x i s n =
     let met : seen y.name.0 ≡ true = subst (λ v. seen v ≡ true) s (w.to x (subst (In x) (append-nil before) i)) in
     in_left _ _ (in_when (not (is_nameless names y.name.0) && seen y.name.0) (DuplicateName y.at ∷ []) (and_from (not (is_nameless names y.name.0)) (seen y.name.0) (ap not n) met) here)
 in_names names before (u ∷ us) y after seen w x i s n =
-    in_right (noted (not (is_nameless names u.name.0) && seen u.name.0) (DuplicateName u.at)) _
-    (in_names names (before ++ u ∷ []) us y after (also u.name.0 seen) (one_seen seen before u w) x (subst (In x) (sym (append_assoc before (u ∷ []) us)) i) s n)
+    in_right (refusal_if (not (is_nameless names u.name.0) && seen u.name.0) (DuplicateName u.at)) _
+    (in_names names (before ++ u ∷ []) us y after (with_member u.name.0 seen) (one_seen seen before u w) x (subst (In x) (sym (append_assoc before (u ∷ []) us)) i) s n)
 
 nameless_not : (names : List (List ℕ)) (x : ℕ) → text_in names x ≢ codes "_" → is_nameless names x ≡ false
 nameless_not names x h = elim (two_ways (is_nameless names x)) [
@@ -214,7 +214,7 @@ complete c (rules.DuplicateFunction {before = before} {e = e} {n = n} b h l) = r
 }
 complete c (rules.ArityDiffers {before = before} {e = e} {n = n} b h d) = record {
   refusal = ArityDiffers e.at;
-  met = met_order c before e n (ArityDiffers e.at) b h (in_right (noted (not (is_last (last_name before) e.name)) (DuplicateFunction e.at)) _ (in_when (not (n == count e.pats)) (ArityDiffers e.at ∷ []) (ap not (eq_false n (count e.pats) d)) here));
+  met = met_order c before e n (ArityDiffers e.at) b h (in_right (refusal_if (not (is_last (last_name before) e.name)) (DuplicateFunction e.at)) _ (in_when (not (n == count e.pats)) (ArityDiffers e.at ∷ []) (ap not (eq_false n (count e.pats) d)) here));
   rule_is = refl;
   place_is = refl;
 }

@@ -4,7 +4,7 @@ use Rattle.std.specs.Prelude.{nat_lt, ◌==◌, ◌&&◌, ◌||◌, if◌then◌
 use Rattle.seq.specs.Lists.{In, here, there}
 use Rattle.seq.proofs.Truth.{two_ways}
 use Rattle.match_compile.specs.declared.refusal.MatchRefusal.{MatchRefusal}
-use Rattle.match_compile.specs.Refusal.{rule, place, precedes, earlier, least}
+use Rattle.match_compile.specs.Refusal.{rule, place, precedes, earlier_refusal, least_refusal}
 use Rattle.std.proofs.lemmas.Bool.Decides.{nat_tests}
 
 -- one is not after the other
@@ -48,19 +48,19 @@ with_one x r rs h all q (there i) = all q i
 some_same : (a b : MatchRefusal) → Some a ≡ Some b → a ≡ b
 some_same a b e = cc
 
-first : (o r : MatchRefusal) (rs : List MatchRefusal) → least (Some o) rs ≡ Some r → First o r rs
-unfolding earlier
+first : (o r : MatchRefusal) (rs : List MatchRefusal) → least_refusal (Some o) rs ≡ Some r → First o r rs
+unfolding earlier_refusal
 first o r [] e = record { among = inl (some_same o r e); first = subst (λ r. NoLater r o) (some_same o r e) (itself o); all = λ q i. elim i [ ] }
 first o r (x ∷ rs) e = elim (two_ways (precedes x o)) [
   | inl y ↦
-      let w = first x r rs (ap (λ b. least (if b then Some x else Some o) rs) (sym y) ∙ e) in
+      let w = first x r rs (ap (λ b. least_refusal (if b then Some x else Some o) rs) (sym y) ∙ e) in
       record {
         among = elim w.among [ inl s ↦ inr (subst (λ r. In r (x ∷ rs)) s here) | inr i ↦ inr (there i) ];
         first = trans r x o w.first (is_first x o y);
         all = with_one x r rs w.first w.all;
       }
   | inr n ↦
-      let w = first o r rs (ap (λ b. least (if b then Some x else Some o) rs) (sym n) ∙ e) in
+      let w = first o r rs (ap (λ b. least_refusal (if b then Some x else Some o) rs) (sym n) ∙ e) in
       record {
         among = elim w.among [ inl s ↦ inl s | inr i ↦ inr (there i) ];
         first = w.first;
@@ -68,22 +68,22 @@ first o r (x ∷ rs) e = elim (two_ways (precedes x o)) [
       }
 ]
 
-pub some_first : (rs : List MatchRefusal) (r : MatchRefusal) → least None rs ≡ Some r → In r rs × ((q : MatchRefusal) → In q rs → NoLater r q)
-unfolding earlier
+pub some_first : (rs : List MatchRefusal) (r : MatchRefusal) → least_refusal None rs ≡ Some r → In r rs × ((q : MatchRefusal) → In q rs → NoLater r q)
+unfolding earlier_refusal
 some_first [] r e = absurd cc
 some_first (x ∷ rs) r e =
     let w = first x r rs e in
     (elim w.among [ inl s ↦ subst (λ r. In r (x ∷ rs)) s here | inr i ↦ there i ], with_one x r rs w.first w.all)
 
-some_stays : (o : MatchRefusal) (rs : List MatchRefusal) → least (Some o) rs ≡ None → ⊥
-unfolding earlier
+some_stays : (o : MatchRefusal) (rs : List MatchRefusal) → least_refusal (Some o) rs ≡ None → ⊥
+unfolding earlier_refusal
 some_stays o [] e = cc
 some_stays o (x ∷ rs) e = elim (two_ways (precedes x o)) [
-  | inl y ↦ some_stays x rs (ap (λ b. least (if b then Some x else Some o) rs) (sym y) ∙ e)
-  | inr n ↦ some_stays o rs (ap (λ b. least (if b then Some x else Some o) rs) (sym n) ∙ e)
+  | inl y ↦ some_stays x rs (ap (λ b. least_refusal (if b then Some x else Some o) rs) (sym y) ∙ e)
+  | inr n ↦ some_stays o rs (ap (λ b. least_refusal (if b then Some x else Some o) rs) (sym n) ∙ e)
 ]
 
-pub none_first : (rs : List MatchRefusal) → least None rs ≡ None → rs ≡ []
-unfolding earlier
+pub none_first : (rs : List MatchRefusal) → least_refusal None rs ≡ None → rs ≡ []
+unfolding earlier_refusal
 none_first [] e = refl
 none_first (x ∷ rs) e = absurd (some_stays x rs e)

@@ -19,7 +19,7 @@ use Rattle.match_compile.specs.Rules.{Broken}
 use Rattle.match_compile.specs.Sizes.{functions, rows}
 use Rattle.match_compile.specs.Decisions.{Decision, decisions_from}
 use Rattle.match_compile.specs.Translated.{translated}
-use Rattle.match_compile.specs.Form.{Row, Rows, heads, headed, IsRow, AreRows}
+use Rattle.match_compile.specs.Form.{Row, Rows, heads, program_of_heads, IsRow, AreRows}
 use Rattle.match_compile.specs.Jobs as tries
 use Rattle.match_compile.specs.Decides as decides
 use Rattle.match_compile.proofs.Grouped.{all_are, all_in, all_of, rows_all, functions_all, OneName, functions_one}
@@ -59,9 +59,9 @@ head_at ((e ∷ es) ∷ fs) some zero h i = record { first = e; rest = es; is = 
 head_at ((e ∷ es) ∷ fs) some (suc j) h i = let r = head_at fs some.1 j h i in record { first = r.first; rest = r.rest; is = r.is; params = r.params }
 
 -- the function of a name has equations
-pub named_head : (c : Source) (x g k : ℕ) → function_from (headed c) (headed c).functions 0 x ≡ stands.Function g k → IsHead (functions c.equations) g k
+pub named_head : (c : Source) (x g k : ℕ) → function_from (program_of_heads c) (program_of_heads c).functions 0 x ≡ stands.Function g k → IsHead (functions c.equations) g k
 named_head c x g k e =
-    let r = function_is (headed c) (headed c).functions 0 x g k e in
+    let r = function_is (program_of_heads c) (program_of_heads c).functions 0 x g k e in
     let z = r.2 in
     let same : r.0 ≡ g = omega (arith, z) in
     subst (λ w. IsHead (functions c.equations) g w) r.4 (subst (λ w. IsHead (functions c.equations) w (length r.1.params)) same (head_at (functions c.equations) (functions_first c.equations) r.0 r.1 r.3))
@@ -83,15 +83,15 @@ pub record AllRows (c : Source) (many : ℕ → ℕ) (fs : List (List Equation))
   pub funs : List Rows
   pub are : Pairwise (FunctionRows c many) fs funs
 
-module _ (c : Source) (unbroken : (k at : ℕ) → Broken c k at → ⊥) (read : WasRead c) (fits : AllOf (EquationFits (length c.names)) c.equations) (sound : check.IsUnbroken (translated c)) (p : normal.Program) (nf : IsNormalForm (translated c) p) (ok : AllOf (FunOk p) p.funs) where
+module _ (c : Source) (unbroken : (k at : ℕ) → Broken c k at → ⊥) (read : WasRead c) (fits : AllOf (EquationFits (length c.names)) c.equations) (sound : check.BreaksNoRule (translated c)) (p : normal.Program) (nf : IsNormalForm (translated c) p) (ok : AllOf (FunOk p) p.funs) where
   abbrev text : Program
-  text = headed c
+  text = program_of_heads c
 
   abbrev many : ℕ → ℕ
   many n = decides.fields_in (slice_get p.cons n)
 
   -- functions of the text, and whether they are so
-  module _ (arity : ℕ → ℕ) (IsFun : ℕ → Type 0) (known : (x : ℕ) → x < length c.names → (g k : ℕ) → function_from (headed c) (headed c).functions 0 x ≡ stands.Function g k → IsFun g × (arity g ≡ k)) where
+  module _ (arity : ℕ → ℕ) (IsFun : ℕ → Type 0) (known : (x : ℕ) → x < length c.names → (g k : ℕ) → function_from (program_of_heads c) (program_of_heads c).functions 0 x ≡ stands.Function g k → IsFun g × (arity g ≡ k)) where
     pub each_function : EachMade c unbroken read fits sound p nf.funs ok arity IsFun known (functions c.equations) 0 0
     each_function =
         all_functions_made c unbroken read fits sound p nf.funs ok arity IsFun known (functions_all (λ e. In e c.equations) c.equations (all_in c.equations)) (functions_one c.equations) (functions_first c.equations) (functions_total c.equations) (decisions_stood c unbroken)

@@ -11,9 +11,9 @@ use Rattle.match_compile.specs.Source.{Equation, Source}
 use Rattle.match_compile.specs.Parts.{count, tests_of}
 use Rattle.match_compile.specs.Rules.{Behind, arity_in, last_name, Broken, DuplicateFunction, ArityDiffers}
 use Rattle.match_compile.specs.Sizes.{joined, functions, rows}
-use Rattle.match_compile.specs.Trees.{most_chained, insert}
+use Rattle.match_compile.specs.Trees.{max_chained_cases, insert}
 use Rattle.match_compile.specs.Decisions.{Decision, row_of, begun, grown, decided, decisions_from, all_decisions, decisions}
-use Rattle.match_compile.specs.Translated.{words_of, with_nameless, equation_name, first_of, each_of, firsts, others, translated}
+use Rattle.match_compile.specs.Translated.{name_supply_of, with_nameless, equation_name, first_of, each_of, firsts, others, translated}
 use Rattle.match_compile.proofs.Decided.{by_insert}
 use Rattle.match_compile.proofs.NamedAs.{nameless_length}
 
@@ -298,7 +298,7 @@ record FirstIs (d : Decision) (ds : List Decision) : Type 0 where
 decided_first : (d : Decision) (k : ℕ) (es : List Equation) → FirstIs d (decided d k es)
 decided_first d k [] = record { head = d; tail = []; is = refl; name = refl }
 decided_first d k (e ∷ es) =
-    by_insert (FirstIs d) d k e es (insert most_chained d.tree d.free (row_of e))
+    by_insert (FirstIs d) d k e es (insert max_chained_cases d.tree d.free (row_of e))
     (λ t i. let r = decided_first (grown d t) (suc k) es in record { head = r.head; tail = r.tail; is = r.is; name = r.name })
     (record { head = d; tail = decided (begun k e) (suc k) es; is = refl; name = refl })
 
@@ -309,7 +309,7 @@ numbers_of (d ∷ ds) = d.number ∷ numbers_of ds
 decided_climb : (d : Decision) (k : ℕ) (es : List Equation) → d.number < k → Climbs d.number (k + length es) (numbers_of (decided d k es))
 decided_climb d k [] lt = (omega arith, omega (arith, lt))
 decided_climb d k (e ∷ es) lt =
-    by_insert (λ ds. Climbs d.number (k + length (e ∷ es)) (numbers_of ds)) d k e es (insert most_chained d.tree d.free (row_of e))
+    by_insert (λ ds. Climbs d.number (k + length (e ∷ es)) (numbers_of ds)) d k e es (insert max_chained_cases d.tree d.free (row_of e))
     (λ t i. to_higher d.number (suc k + length es) (k + length (e ∷ es)) (numbers_of (decided (grown d t) (suc k) es)) (omega arith) (decided_climb (grown d t) (suc k) es (omega (arith, lt)))) (
       omega arith,
       from_lower (suc d.number) k (k + length (e ∷ es)) (numbers_of (decided (begun k e) (suc k) es)) (omega (arith, lt))
@@ -375,27 +375,27 @@ below_all n ([] ∷ fs) h = below_all n fs h.1
 below_all n ((e ∷ es) ∷ fs) h = (h.0.0, below_all n fs h.1)
 
 module _ (c : Source) where
-  each_names : (ds : List Decision) → function_names (each_of (words_of c) ds) ≡ map (equation_name (words_of c)) (numbers_of ds)
+  each_names : (ds : List Decision) → function_names (each_of (name_supply_of c) ds) ≡ map (equation_name (name_supply_of c)) (numbers_of ds)
   each_names [] = refl
-  each_names (d ∷ ds) = ap (λ w. equation_name (words_of c) d.number ∷ w) (each_names ds)
+  each_names (d ∷ ds) = ap (λ w. equation_name (name_supply_of c) d.number ∷ w) (each_names ds)
 
-  pub others_names : (fs : List (List Decision)) → function_names (others (words_of c) fs) ≡ map (equation_name (words_of c)) (other_numbers fs)
+  pub others_names : (fs : List (List Decision)) → function_names (others (name_supply_of c) fs) ≡ map (equation_name (name_supply_of c)) (other_numbers fs)
   others_names [] = refl
   others_names ([] ∷ fs) = others_names fs
   others_names ((d ∷ ds) ∷ fs) =
-      names_append (each_of (words_of c) ds) (others (words_of c) fs) ∙ (λ i. each_names ds i ++ others_names fs i) ∙ sym (map_append (equation_name (words_of c)) (numbers_of ds) (other_numbers fs))
+      names_append (each_of (name_supply_of c) ds) (others (name_supply_of c) fs) ∙ (λ i. each_names ds i ++ others_names fs i) ∙ sym (map_append (equation_name (name_supply_of c)) (numbers_of ds) (other_numbers fs))
 
-  pub firsts_names : (k : ℕ) (fs : List (List Equation)) → function_names (firsts (words_of c) (all_decisions k fs)) ≡ first_names fs
+  pub firsts_names : (k : ℕ) (fs : List (List Equation)) → function_names (firsts (name_supply_of c) (all_decisions k fs)) ≡ first_names fs
   firsts_names k [] = refl
   firsts_names k ([] ∷ fs) = firsts_names (k + 0) fs
   firsts_names k ((e ∷ es) ∷ fs) = go (decisions_from k (rows (e ∷ es))) (decided_first (begun k e) (suc k) (if tests_of e.pats == 0 then [] else rows es)) (firsts_names (k + length (e ∷ es)) fs)
     where
-      go : (ds : List Decision) → FirstIs (begun k e) ds → function_names (firsts (words_of c) (all_decisions (k + length (e ∷ es)) fs)) ≡ first_names fs → function_names (firsts (words_of c) (ds ∷ all_decisions (k + length (e ∷ es)) fs)) ≡ e.name ∷ first_names fs
+      go : (ds : List Decision) → FirstIs (begun k e) ds → function_names (firsts (name_supply_of c) (all_decisions (k + length (e ∷ es)) fs)) ≡ first_names fs → function_names (firsts (name_supply_of c) (ds ∷ all_decisions (k + length (e ∷ es)) fs)) ≡ e.name ∷ first_names fs
       go ds r ih =
-          ap (λ (w : List Decision). function_names (first_of (words_of c) w ++ firsts (words_of c) (all_decisions (k + length (e ∷ es)) fs))) r.is
+          ap (λ (w : List Decision). function_names (first_of (name_supply_of c) w ++ firsts (name_supply_of c) (all_decisions (k + length (e ∷ es)) fs))) r.is
           ∙ (λ i. r.name i ∷ ih i)
 
-  pub equation_apart : (m n : ℕ) → equation_name (words_of c) m ≡ equation_name (words_of c) n → m ≡ n
+  pub equation_apart : (m n : ℕ) → equation_name (name_supply_of c) m ≡ equation_name (name_supply_of c) n → m ≡ n
   equation_apart m n e = omega (arith, e)
 
   module _ (unbroken : (k at : ℕ) → Broken c k at → ⊥) where
@@ -421,13 +421,13 @@ module _ (c : Source) where
         let lower = all_are (λ (e : Equation). e.name < length c.names) (λ (e : Equation). e.name < n) (λ e lt. omega (arith, le, lt)) c.equations below in
         let firsts_are = firsts_names 0 fs in
         let others_are = others_names (decisions c) in
-        let are : function_names (translated c).functions ≡ first_names fs ++ map (equation_name (words_of c)) (other_numbers (decisions c)) =
-        names_append (firsts (words_of c) (decisions c)) (others (words_of c) (decisions c)) ∙ (λ i. firsts_are i ++ others_are i) in
+        let are : function_names (translated c).functions ≡ first_names fs ++ map (equation_name (name_supply_of c)) (other_numbers (decisions c)) =
+        names_append (firsts (name_supply_of c) (decisions c)) (others (name_supply_of c) (decisions c)) ∙ (λ i. firsts_are i ++ others_are i) in
         subst Differ (sym are)
-        (differ_append n (first_names fs) (map (equation_name (words_of c)) (other_numbers (decisions c))) (firsts_differ [] c.equations refl)
-        (climbs_differ (equation_name (words_of c)) equation_apart 0 (0 + total fs) (other_numbers (decisions c)) (others_climb 0 fs))
+        (differ_append n (first_names fs) (map (equation_name (name_supply_of c)) (other_numbers (decisions c))) (firsts_differ [] c.equations refl)
+        (climbs_differ (equation_name (name_supply_of c)) equation_apart 0 (0 + total fs) (other_numbers (decisions c)) (others_climb 0 fs))
         (below_all n fs (functions_all (λ (e : Equation). e.name < n) c.equations lower))
-        (all_mapped (equation_name (words_of c)) n (λ k. omega arith) (other_numbers (decisions c))))
+        (all_mapped (equation_name (name_supply_of c)) n (λ k. omega arith) (other_numbers (decisions c))))
 
     pub differ_names : AllOf (λ (e : Equation). e.name < length c.names) c.equations → (i j : ℕ) (f g : Function) → i < j → slice_get (translated c).functions i ≡ Some f → slice_get (translated c).functions j ≡ Some g → g.name ≢ f.name
     differ_names below i j f g lt e h = differ_at (function_names (translated c).functions) i j f.name g.name (names_differ below) lt (name_at (translated c).functions i e) (name_at (translated c).functions j h)

@@ -6,23 +6,23 @@ use Rattle.std.specs.declared.alloc.Global.{Global}
 use Rattle.seq.specs.Lists.{numbers_from}
 use Rattle.core_reader.specs.declared.syntax.Expr as code-expr
 use Rattle.core_reader.specs.Tree.{Expr, expr}
-use Rattle.match_compile.specs.declared.row.Way.{Way}
+use Rattle.match_compile.specs.declared.row.Pending.{Pending}
 use Rattle.match_compile.specs.declared.row.Test.{Test}
 use Rattle.match_compile.specs.declared.tree.Tree as code-tree
 use Rattle.match_compile.specs.declared.tree.Tree.TheVariants as code
 use Rattle.match_compile.specs.declared.tree.Branch.{Branch}
 use Rattle.match_compile.specs.Trees.{Tree, Case, NoBranch, AndBranch, NoDefault, ATree, branches_fail, one_branch, alone_from}
-use Rattle.match_compile.specs.RowOf.{pending, rows_of, opened_at, opening, first_of}
+use Rattle.match_compile.specs.RowOf.{pending, rows_of, row_with_field_places, opening, first_of}
 use Rattle.match_compile.specs.TreeOf.{tree_of, branches_of, planted_of, left_of, joined, behind, with_new, or_alone, after_branches}
 use Rattle.match_compile.proofs.TreesOf.{tree_of-Body, tree_of-Tests, tree_of-Otherwise}
 use Rattle.match_compile.proofs.Comes.{tested, body_alone, test_alone, one_behind}
 
-pub alone_body : (n : ℕ) (body : code-expr.Expr) (w : Way) → first_of (pending w.jobs) ≡ None → planted_of (code.Body body w, n) ≡ alone_from n (rows_of w (expr body))
+pub alone_body : (n : ℕ) (body : code-expr.Expr) (w : Pending) → first_of (pending w.jobs) ≡ None → planted_of (code.Body body w, n) ≡ alone_from n (rows_of w (expr body))
 alone_body n body w e = ap (λ t. (t, n)) (tree_of-Body body w) ∙ sym (body_alone (expr body) w.bound n (pending w.jobs) e)
 
-module _ (n : ℕ) (body : Expr) (w v : Way) (t : Test) (places : List ℕ) (next : ℕ) (made : code-tree.Tree × ℕ) (p : places ≡ numbers_from n t.fields) (m : next ≡ n + t.fields) (o : rows_of v ≡ opening w places) (g : planted_of made ≡ alone_from next (rows_of v body)) where
+module _ (n : ℕ) (body : Expr) (w v : Pending) (t : Test) (places : List ℕ) (next : ℕ) (made : code-tree.Tree × ℕ) (p : places ≡ numbers_from n t.fields) (m : next ≡ n + t.fields) (o : rows_of v ≡ opening w places) (g : planted_of made ≡ alone_from next (rows_of v body)) where
   is_behind : planted_of made ≡ behind t n (rows_of w body)
-  is_behind = g ∙ (λ i. alone_from (m i) (o i body)) ∙ ap (λ ps. alone_from (n + t.fields) (opened_at (rows_of w body) ps)) p
+  is_behind = g ∙ (λ i. alone_from (m i) (o i body)) ∙ ap (λ ps. alone_from (n + t.fields) (row_with_field_places (rows_of w body) ps)) p
 
   pub alone_test : (bs : List Branch) → first_of (pending w.jobs) ≡ Some t → branches_of bs ≡ AndBranch t.head places (tree_of made.0) NoBranch → planted_of (code.Tests t.place bs, made.1) ≡ alone_from n (rows_of w body)
   alone_test bs e f =
@@ -38,7 +38,7 @@ module _ (n : ℕ) (body : Expr) (w v : Way) (t : Test) (places : List ℕ) (nex
       ∙ (λ i. ((joined (branches_of bs) (AndBranch (hd i) (ps i) (tree_of (tr i)) NoBranch), made.1), None))
       ∙ (λ i. ((joined (branches_of bs) (AndBranch t.head (p i) (is_behind i).0 NoBranch), (is_behind i).1), None))
 
-module _ (room p : ℕ) (bs : List Branch) (n : ℕ) (w : Way) where
+module _ (room p : ℕ) (bs : List Branch) (n : ℕ) (w : Pending) where
   abbrev pub After : Option code-expr.Expr → (Tree × ℕ) × Option Expr
   After left = after_branches room p ((branches_of bs, n), left_of left) (rows_of w)
 
@@ -59,7 +59,7 @@ module _ (room p : ℕ) (bs : List Branch) (n : ℕ) (w : Way) where
       ap (λ x. ((x, n), Some (expr body))) (tree_of-Tests p bs)
       ∙ sym (ap After e ∙ ap (λ room. or_alone room p (branches_of bs) n (rows_of w (expr body)) (branches_fail (branches_of bs))) z)
 
-  pub or_new : (left : Option code-expr.Expr) (body : code-expr.Expr) (k : ℕ) (v : Way) (made : code-tree.Tree × ℕ) (d : Box code-tree.Tree Global) → left ≡ Some body → room ≡ suc k → branches_fail (branches_of bs) ≡ false → v ≡ w → planted_of made ≡ alone_from n (rows_of v (expr body)) → d.value ≡ made.0
+  pub or_new : (left : Option code-expr.Expr) (body : code-expr.Expr) (k : ℕ) (v : Pending) (made : code-tree.Tree × ℕ) (d : Box code-tree.Tree Global) → left ≡ Some body → room ≡ suc k → branches_fail (branches_of bs) ≡ false → v ≡ w → planted_of made ≡ alone_from n (rows_of v (expr body)) → d.value ≡ made.0
       → ((tree_of (code.Otherwise p bs d), made.1), None) ≡ After left
   or_new left body k v made d e s f same g b =
       ap (λ x. ((x, made.1), None)) (tree_of-Otherwise p bs d)

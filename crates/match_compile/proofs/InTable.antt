@@ -8,16 +8,16 @@ use Rattle.core_reader.specs.declared.dialect.Dialect.{Dialect}
 use Rattle.core_reader.specs.declared.syntax.Binder.{Binder}
 use Rattle.core_reader.specs.declared.syntax.Pattern.{Pattern}
 use Rattle.core_reader.specs.declared.syntax.Pattern.TheVariants as pattern
-use Rattle.core_reader.specs.declared.look.Kind.{Kind}
-use Rattle.core_reader.specs.declared.look.Kind.TheVariants.{Lower, Upper, Digits, Sign}
+use Rattle.core_reader.specs.declared.look.TokenKind.{TokenKind}
+use Rattle.core_reader.specs.declared.look.TokenKind.TheVariants.{Lower, Upper, Digits, Sign}
 use Rattle.core_reader.specs.declared.token.Token.{Token}
 use Rattle.core_reader.specs.declared.token.Token.TheVariants as word
 use Rattle.core_reader.specs.declared.token.Lexeme.{Lexeme}
 use Rattle.core_reader.specs.Tree.{Term, Terms, NoTerms, AndTerm, Application, Bind, Expr, App, Let, Case, Alts, NoAlts, AndAlt, Data}
 use Rattle.core_reader.specs.Tree as core
-use Rattle.core_reader.specs.Grammar.{Room, lexeme, binders, SpellsPattern, SpellsTerm, SpellsTerms, SpellsApp, SpellsBinds, SpellsExpr, SpellsAlts}
+use Rattle.core_reader.specs.Grammar.{NestingLimit, lexeme, binders, SpellsPattern, SpellsTerm, SpellsTerms, SpellsApp, SpellsBinds, SpellsExpr, SpellsAlts}
 use Rattle.core_reader.specs.TokensOf.{Piece, kind_of}
-use Rattle.core_reader.specs.WordsOf.{said, said_by, said_by_letters, keyword_of, sign_token, number_in}
+use Rattle.core_reader.specs.WordsOf.{said, said_by, keyword_or_name, keyword_of, sign_token, number_in}
 use Rattle.core_reader.specs.NamesOf.{is_numbered_by}
 use Rattle.core_reader.proofs.NamingOf.{Texts, has, EachHeld, each_held}
 use Rattle.core_reader.proofs.Proper.{IsWord, IsKeyword, sign_is_word, keyword_is_word}
@@ -25,7 +25,7 @@ use Rattle.core_reader.proofs.Readability.{at_number}
 use Rattle.arity_check.specs.Pieces.{binders_of, bound_by}
 use Rattle.match_compile.specs.Source.{Pat, Name, Int, Con, Pats, NoPats, AndPat, Equation, Source}
 use Rattle.match_compile.specs.Parts.{names_in, names_of}
-use Rattle.match_compile.specs.Grammar.{IsBare, SpellsPat, SpellsPats, SpellsEquation, Decl, Declares, Equates, SpellsDecls, constructors_of, equations_of, IsText}
+use Rattle.match_compile.specs.Grammar.{IsUnbracketed, SpellsPat, SpellsPats, SpellsEquation, Decl, Declares, Equates, SpellsDecls, constructors_of, equations_of, IsSourceText}
 use Rattle.match_compile.proofs.AlikeFlats.{FitsTerm, FitsTerms}
 use Rattle.match_compile.proofs.AlikeTerms.{BinderFits, AppFits, FitsExpr, FitsAlts}
 
@@ -56,11 +56,11 @@ word_below N token h = tt
 number_below : (names : Texts) (w : List ℕ) → has names w ≡ true → number_in names w < length names
 number_below names w h = get_within names (number_in names w) w (at_number names w h)
 
-letters_below : (names : Texts) (w : List ℕ) (o : Option Token) → IsKeyword o → (is_none o ≡ true → has names w ≡ true) → BelowToken (length names) (said_by_letters names w o)
+letters_below : (names : Texts) (w : List ℕ) (o : Option Token) → IsKeyword o → (is_none o ≡ true → has names w ≡ true) → BelowToken (length names) (keyword_or_name names w o)
 letters_below names w (Some token) k h = word_below (length names) token k
 letters_below names w None k h = number_below names w (h refl)
 
-token_below : (d : Dialect) (names : Texts) (w : List ℕ) (kind : Option Kind) → (is_numbered_by d w kind ≡ true → has names w ≡ true) → BelowToken (length names) (said_by d names w kind)
+token_below : (d : Dialect) (names : Texts) (w : List ℕ) (kind : Option TokenKind) → (is_numbered_by d w kind ≡ true → has names w ≡ true) → BelowToken (length names) (said_by d names w kind)
 token_below d names w None h = tt
 token_below d names w (Some Lower) h = letters_below names w (keyword_of d w) (keyword_is_word d w) h
 token_below d names w (Some Upper) h = number_below names w (h refl)
@@ -82,7 +82,7 @@ pattern_below N (pattern.Con c fields) ts h k = binders_below N fields (subst (E
 pattern_below N (pattern.Int v at) ts h k = tt
 pattern_below N (pattern.Default x) ts h k = ((subst (EachBelow N) h k).0, tt)
 
-module _ (N : ℕ) (room : Room) where
+module _ (N : ℕ) (room : NestingLimit) where
   mutual
     term_below : (d : ℕ) (a : Term) (ts : List Lexeme) → SpellsTerm room d a ts → EachBelow N ts → FitsTerm N a
     term_below d (core.Name n at) ts h k = (subst (EachBelow N) h k).0
@@ -147,7 +147,7 @@ module _ (N : ℕ) (room : Room) where
     pat_below d (Int v at) ts h k = tt
     pat_below d (Con c ps) ts (inl h) k = bare c ps h
       where
-        bare : (c : Binder) (ps : Pats) → IsBare c ps ts → AllOf (BinderFits N) (names_of ps)
+        bare : (c : Binder) (ps : Pats) → IsUnbracketed c ps ts → AllOf (BinderFits N) (names_of ps)
         bare c NoPats h = tt
         bare c (AndPat p ps) h = absurd h
     pat_below d (Con c ps) ts (inr h) k =
@@ -167,7 +167,7 @@ pub record EquationFits (N : ℕ) (e : Equation) : Type 0 where
   pub pats : AllOf (BinderFits N) (names_of e.pats)
   pub body : FitsExpr N e.body
 
-equation_below : (N : ℕ) (room : Room) (e : Equation) (ts : List Lexeme) → SpellsEquation room e ts → EachBelow N ts → EquationFits N e
+equation_below : (N : ℕ) (room : NestingLimit) (e : Equation) (ts : List Lexeme) → SpellsEquation room e ts → EachBelow N ts → EquationFits N e
 equation_below N room e ts h k =
     let close = lexeme h.1 word.Semicolon ∷ [] in
     let rest = lexeme h.0 word.Equals ∷ (h.3 ++ close) in
@@ -175,7 +175,7 @@ equation_below N room e ts h k =
     let k3 : EachBelow N (h.3 ++ close) = (back N h.2 rest k2.1).1 in
     record { name = k2.0; pats = pats_below N room 0 e.pats h.2 h.4 (front N h.2 rest k2.1); body = expr_below N room 0 e.body h.3 h.5 (front N h.3 close k3) }
 
-decls_below : (N : ℕ) (room : Room) (ds : List Decl) (ts : List Lexeme) → SpellsDecls room ds ts → EachBelow N ts → AllOf (EquationFits N) (equations_of ds)
+decls_below : (N : ℕ) (room : NestingLimit) (ds : List Decl) (ts : List Lexeme) → SpellsDecls room ds ts → EachBelow N ts → AllOf (EquationFits N) (equations_of ds)
 decls_below N room [] ts h k = tt
 decls_below N room (Declares d ∷ ds) ts h k =
     let k2 = subst (EachBelow N) h.4 k in
@@ -184,13 +184,13 @@ decls_below N room (Equates e ∷ ds) ts h k =
     let k2 = subst (EachBelow N) h.4 k in
     (equation_below N room e h.0 h.2 (front N h.0 h.1 k2), decls_below N room ds h.1 h.3 (back N h.0 h.1 k2))
 
-pub text_fits : (text : List ℕ) (c : Source) → IsText text c → AllOf (EquationFits (length c.names)) c.equations
+pub text_fits : (text : List ℕ) (c : Source) → IsSourceText text c → AllOf (EquationFits (length c.names)) c.equations
 text_fits text c t =
     let q = t.program in
     let held : EachHeld Core c.names t.pieces = subst (λ v. EachHeld Core v t.pieces) (sym q.names) (each_held Core [] t.pieces) in
     subst (AllOf (EquationFits (length c.names))) q.equations (decls_below (length c.names) _ q.decls (map (said Core c.names) t.pieces) q.spelled (each_below Core c.names t.pieces held))
 
-declared_below : (N : ℕ) (room : Room) (ds : List Decl) (ts : List Lexeme) → SpellsDecls room ds ts → EachBelow N ts → AllOf (λ (d : Data). d.name < N) (constructors_of ds)
+declared_below : (N : ℕ) (room : NestingLimit) (ds : List Decl) (ts : List Lexeme) → SpellsDecls room ds ts → EachBelow N ts → AllOf (λ (d : Data). d.name < N) (constructors_of ds)
 declared_below N room [] ts h k = tt
 declared_below N room (Declares d ∷ ds) ts h k =
     let k2 = subst (EachBelow N) h.4 k in
@@ -199,7 +199,7 @@ declared_below N room (Declares d ∷ ds) ts h k =
 declared_below N room (Equates e ∷ ds) ts h k = let k2 = subst (EachBelow N) h.4 k in declared_below N room ds h.1 h.3 (back N h.0 h.1 k2)
 
 -- the names of its constructors are below the number of names too
-pub constructors_fit : (text : List ℕ) (c : Source) → IsText text c → AllOf (λ (d : Data). d.name < length c.names) c.constructors
+pub constructors_fit : (text : List ℕ) (c : Source) → IsSourceText text c → AllOf (λ (d : Data). d.name < length c.names) c.constructors
 constructors_fit text c t =
     let q = t.program in
     let held : EachHeld Core c.names t.pieces = subst (λ v. EachHeld Core v t.pieces) (sym q.names) (each_held Core [] t.pieces) in

@@ -8,11 +8,11 @@ use Rattle.seq.proofs.Lists.{map_append, map_push, all_append, append_again}
 use Rattle.seq.proofs.Order.{eq_self, eq_false, eq_from}
 use Rattle.arity_check.specs.Program as normal
 use Rattle.core_meaning.specs.Heap.{Value, Env, with_local, with_locals}
-use Rattle.core_meaning.specs.Evaluation.{State, Onward, is_con, is_int, fields_of, parameters, eval}
+use Rattle.core_meaning.specs.Evaluation.{State, DelayedEvaluator, is_con, is_int, fields_of, parameters, eval}
 use Rattle.match_compile.specs.Form.{Form, Any, Is, Has, Forms, NoForms, AndForm, Equations}
-use Rattle.match_compile.specs.ByEquations.{bare}
-use Rattle.match_compile.specs.Jobs.{Task, Attempt, attempt, tasks_of, meets, attempts, kept_by, decided_by, known_first, with_known}
-use Rattle.match_compile.specs.Decides.{Kind, Integer, Constructor, IsKind, settled_by, settled, Left, NoneLeft, Stays, Goes, FormOk, FormsOk}
+use Rattle.match_compile.specs.ByEquations.{without_bodies}
+use Rattle.match_compile.specs.Jobs.{MatchTask, MatchAttempt, attempt, tasks_of, meets, attempts, kept_by, decided_by, known_first, attempts_with_value}
+use Rattle.match_compile.specs.Decides.{TestKind, Integer, Constructor, IsTestOfKind, with_names_bound, settled, AttemptsLeftOver, NoneLeft, Stays, Goes, FormOk, FormsOk}
 use Rattle.match_compile.proofs.Special.{SomeDecided, NoneDecided, OneStays, OneDecided}
 
 -- ---- environments
@@ -39,20 +39,20 @@ locals_are (suc len) m (a ∷ as') env e =
 
 -- ---- instances
 
-abbrev pub at : Env → Task → Task
+abbrev pub at : Env → MatchTask → MatchTask
 at env j = (env j.0, j.1)
 
-abbrev pub instance : Env → Attempt → Attempt
+abbrev pub instance : Env → MatchAttempt → MatchAttempt
 instance env r = attempt r.body (map env r.bound) (map (at env) r.tasks)
 
-abbrev pub instances : Env → List Attempt → List Attempt
+abbrev pub instances : Env → List MatchAttempt → List MatchAttempt
 instances env rs = map (instance env) rs
 
 -- names below n, with forms that have all their fields
-abbrev pub TasksOk : (many : ℕ → ℕ) (n : ℕ) → List Task → Type 0
+abbrev pub TasksOk : (many : ℕ → ℕ) (n : ℕ) → List MatchTask → Type 0
 TasksOk many n = AllOf (λ j. (j.0 < n) × FormOk many j.1)
 
-pub record RowOk (many : ℕ → ℕ) (n : ℕ) (r : Attempt) : Type 0 where
+pub record RowOk (many : ℕ → ℕ) (n : ℕ) (r : MatchAttempt) : Type 0 where
   pub bound : AllOf (λ x. x < n) r.bound
   pub tasks : TasksOk many n r.tasks
 
@@ -64,11 +64,11 @@ names_same n env env' b [] h = refl
 names_same n env env' b (x ∷ xs) h = λ i. b x h.0 i ∷ names_same n env env' b xs h.1 i
 
 module _ (many : ℕ → ℕ) where
-  tasks_same : (n : ℕ) (env env' : Env) → Below n env env' → (js : List Task) → TasksOk many n js → map (at env') js ≡ map (at env) js
+  tasks_same : (n : ℕ) (env env' : Env) → Below n env env' → (js : List MatchTask) → TasksOk many n js → map (at env') js ≡ map (at env) js
   tasks_same n env env' b [] h = refl
   tasks_same n env env' b (j ∷ js) h = λ i. (b j.0 h.0.0 i, j.1) ∷ tasks_same n env env' b js h.1 i
 
-  instance_same : (n : ℕ) (env env' : Env) → Below n env env' → (r : Attempt) → RowOk many n r → instance env' r ≡ instance env r
+  instance_same : (n : ℕ) (env env' : Env) → Below n env env' → (r : MatchAttempt) → RowOk many n r → instance env' r ≡ instance env r
   instance_same n env env' b r ok = λ i. attempt r.body (names_same n env env' b r.bound ok.bound i) (tasks_same n env env' b r.tasks ok.tasks i)
 
   -- ---- rows stay in order
@@ -77,24 +77,24 @@ module _ (many : ℕ → ℕ) where
   names_more n m le [] h = tt
   names_more n m le (x ∷ xs) h = (let lt = h.0 in omega (arith, le, lt), names_more n m le xs h.1)
 
-  tasks_more : (n m : ℕ) → n ≤ m → (js : List Task) → TasksOk many n js → TasksOk many m js
+  tasks_more : (n m : ℕ) → n ≤ m → (js : List MatchTask) → TasksOk many n js → TasksOk many m js
   tasks_more n m le [] h = tt
   tasks_more n m le (j ∷ js) h = ((let lt = h.0.0 in omega (arith, le, lt), h.0.1), tasks_more n m le js h.1)
 
-  row_more : (n m : ℕ) → n ≤ m → (r : Attempt) → RowOk many n r → RowOk many m r
+  row_more : (n m : ℕ) → n ≤ m → (r : MatchAttempt) → RowOk many n r → RowOk many m r
   row_more n m le r h = record { bound = names_more n m le r.bound h.bound; tasks = tasks_more n m le r.tasks h.tasks }
 
-  pub rows_more : (n m : ℕ) → n ≤ m → (rs : List Attempt) → AllOf (RowOk many n) rs → AllOf (RowOk many m) rs
+  pub rows_more : (n m : ℕ) → n ≤ m → (rs : List MatchAttempt) → AllOf (RowOk many n) rs → AllOf (RowOk many m) rs
   rows_more n m le [] h = tt
   rows_more n m le (r ∷ rs) h = (row_more n m le r h.0, rows_more n m le rs h.1)
 
-  settled_by_ok : (n : ℕ) (body : normal.Term) (bound : List ℕ) (js : List Task) → AllOf (λ x. x < n) bound → TasksOk many n js → RowOk many n (settled_by body bound js)
+  settled_by_ok : (n : ℕ) (body : normal.Term) (bound : List ℕ) (js : List MatchTask) → AllOf (λ x. x < n) bound → TasksOk many n js → RowOk many n (with_names_bound body bound js)
   settled_by_ok n body bound [] b h = record { bound = b; tasks = tt }
   settled_by_ok n body bound ((a, Any) ∷ js) b h = settled_by_ok n body (bound ++ a ∷ []) js (all_append (λ x. x < n) bound (a ∷ []) b (h.0.0, tt)) h.1
   settled_by_ok n body bound ((a, Is k) ∷ js) b h = record { bound = b; tasks = h }
   settled_by_ok n body bound ((a, Has c fs) ∷ js) b h = record { bound = b; tasks = h }
 
-  pub settled_ok : (n : ℕ) (rs : List Attempt) → AllOf (RowOk many n) rs → AllOf (RowOk many n) (map settled rs)
+  pub settled_ok : (n : ℕ) (rs : List MatchAttempt) → AllOf (RowOk many n) rs → AllOf (RowOk many n) (map settled rs)
   settled_ok n [] h = tt
   settled_ok n (r ∷ rs) h = (settled_by_ok n r.body r.bound r.tasks h.0.bound h.0.tasks, settled_ok n rs h.1)
 
@@ -103,17 +103,17 @@ module _ (many : ℕ → ℕ) where
   tasks_ok n [] (AndForm f fs) b h = tt
   tasks_ok n (x ∷ xs) (AndForm f fs) b h = ((b.0, h.0), tasks_ok n xs fs b.1 h.1)
 
-  kept_ok : (n : ℕ) (b : Bool) (r : Attempt) → RowOk many n r → AllOf (RowOk many n) (kept_by b r)
+  kept_ok : (n : ℕ) (b : Bool) (r : MatchAttempt) → RowOk many n r → AllOf (RowOk many n) (kept_by b r)
   kept_ok n true r h = (h, tt)
   kept_ok n false r h = tt
 
-  decided_ok : (n : ℕ) (w : Value) → AllOf (λ x. x < n) (fields_of w) → (r : Attempt) (f : Form) (js : List Task) → RowOk many n r → FormOk many f → TasksOk many n js → AllOf (RowOk many n) (decided_by w r f js)
+  decided_ok : (n : ℕ) (w : Value) → AllOf (λ x. x < n) (fields_of w) → (r : MatchAttempt) (f : Form) (js : List MatchTask) → RowOk many n r → FormOk many f → TasksOk many n js → AllOf (RowOk many n) (decided_by w r f js)
   decided_ok n w b r Any js h g t = (h, tt)
   decided_ok n w b r (Is k) js h g t = kept_ok n (is_int k w) (attempt r.body r.bound js) (record { bound = h.bound; tasks = t })
   decided_ok n w b r (Has k fs) js h g t =
       kept_ok n (is_con k w) (attempt r.body r.bound (tasks_of (fields_of w) fs ++ js)) (record { bound = h.bound; tasks = all_append (λ j. (j.0 < n) × FormOk many j.1) (tasks_of (fields_of w) fs) js (tasks_ok n (fields_of w) fs b g.1) t })
 
-  first_ok : (n y : ℕ) (w : Value) → AllOf (λ x. x < n) (fields_of w) → (r : Attempt) (ts : List Task) → RowOk many n r → TasksOk many n ts → AllOf (RowOk many n) (known_first y w r ts)
+  first_ok : (n y : ℕ) (w : Value) → AllOf (λ x. x < n) (fields_of w) → (r : MatchAttempt) (ts : List MatchTask) → RowOk many n r → TasksOk many n ts → AllOf (RowOk many n) (known_first y w r ts)
   first_ok n y w b r [] h t = (h, tt)
   first_ok n y w b r (j ∷ js) h t = by (j.0 == y)
     where
@@ -121,11 +121,11 @@ module _ (many : ℕ → ℕ) where
       by true = decided_ok n w b r j.1 js h t.0.1 t.1
       by false = (h, tt)
 
-  pub known_ok : (n y : ℕ) (w : Value) → AllOf (λ x. x < n) (fields_of w) → (rs : List Attempt) → AllOf (RowOk many n) rs → AllOf (RowOk many n) (with_known y w rs)
+  pub known_ok : (n y : ℕ) (w : Value) → AllOf (λ x. x < n) (fields_of w) → (rs : List MatchAttempt) → AllOf (RowOk many n) rs → AllOf (RowOk many n) (attempts_with_value y w rs)
   known_ok n y w b [] h = tt
-  known_ok n y w b (r ∷ rs) h = all_append (RowOk many n) (known_first y w r r.tasks) (with_known y w rs) (first_ok n y w b r r.tasks h.0 h.0.tasks) (known_ok n y w b rs h.1)
+  known_ok n y w b (r ∷ rs) h = all_append (RowOk many n) (known_first y w r r.tasks) (attempts_with_value y w rs) (first_ok n y w b r r.tasks h.0 h.0.tasks) (known_ok n y w b rs h.1)
 
-  pub left_ok : (n y : ℕ) (seen : List Kind) (rs left : List Attempt) → Left y seen rs left → AllOf (RowOk many n) rs → AllOf (RowOk many n) left
+  pub left_ok : (n y : ℕ) (seen : List TestKind) (rs left : List MatchAttempt) → AttemptsLeftOver y seen rs left → AllOf (RowOk many n) rs → AllOf (RowOk many n) left
   left_ok n y seen rs left NoneLeft h = tt
   left_ok n y seen rs left (Stays l) h = (h.0, left_ok n y seen _ _ l h.1)
   left_ok n y seen rs left (Goes f js k is kind at l) h = left_ok n y seen _ left l h.1
@@ -144,15 +144,15 @@ module _ (many : ℕ → ℕ) where
   tasks_at env [] (AndForm f fs) = refl
   tasks_at env (x ∷ xs) (AndForm f fs) = λ i. (env x, f) ∷ tasks_at env xs fs i
 
-  kept_at : (env : Env) (b c : Bool) (r r' : Attempt) → b ≡ c → instance env r ≡ r' → instances env (kept_by b r) ≡ kept_by c r'
+  kept_at : (env : Env) (b c : Bool) (r r' : MatchAttempt) → b ≡ c → instance env r ≡ r' → instances env (kept_by b r) ≡ kept_by c r'
   kept_at env true c r r' e f = subst (λ c. instances env (r ∷ []) ≡ kept_by c r') e (λ i. f i ∷ [])
-  kept_at env false c r r' e f = subst (λ c. ◌≡◌ {A = List Attempt} [] (kept_by c r')) e refl
+  kept_at env false c r r' e f = subst (λ c. ◌≡◌ {A = List MatchAttempt} [] (kept_by c r')) e refl
 
   module _ (n : ℕ) (env env' : Env) (below : Below n env env') (y : ℕ) (w v : Value) (stands : StandsFor env' w v) where
-    stays_there : (r : Attempt) (rs rs' : List Attempt) → RowOk many n r → SomeDecided (env y) v rs rs' → SomeDecided (env y) v (instance env r ∷ rs) (instance env' r ∷ rs')
+    stays_there : (r : MatchAttempt) (rs rs' : List MatchAttempt) → RowOk many n r → SomeDecided (env y) v rs rs' → SomeDecided (env y) v (instance env r ∷ rs) (instance env' r ∷ rs')
     stays_there r rs rs' ok h = subst (λ z. SomeDecided (env y) v (instance env r ∷ rs) (z ∷ rs')) (sym (instance_same n env env' below r ok)) (OneStays h)
 
-    test_there : (r : Attempt) (f : Form) (js : List Task) (rs rs' : List Attempt) → r.tasks ≡ (y, f) ∷ js → RowOk many n r → FormOk many f → TasksOk many n js → SomeDecided (env y) v rs rs'
+    test_there : (r : MatchAttempt) (f : Form) (js : List MatchTask) (rs rs' : List MatchAttempt) → r.tasks ≡ (y, f) ∷ js → RowOk many n r → FormOk many f → TasksOk many n js → SomeDecided (env y) v rs rs'
         → SomeDecided (env y) v (instance env r ∷ rs) (instances env' (decided_by w r f js) ++ rs')
     test_there r Any js rs rs' is ok g t h = stays_there r rs rs' ok h
     test_there r (Is k) js rs rs' is ok g t h =
@@ -165,7 +165,7 @@ module _ (many : ℕ → ℕ) where
         (ap (λ z. z ++ rs') (kept_at env' (is_con k w) (is_con k v) (attempt r.body r.bound (tasks_of (fields_of w) fs ++ js)) (attempt r.body (map env r.bound) (tasks_of (fields_of v) fs ++ map (at env) js)) (stands.con k)
         (λ i. attempt r.body (names_same n env env' below r.bound ok.bound i) (tasks i)))) h
 
-    first_there : (r : Attempt) (ts : List Task) (rs rs' : List Attempt) → r.tasks ≡ ts → RowOk many n r → TasksOk many n ts → SomeDecided (env y) v rs rs'
+    first_there : (r : MatchAttempt) (ts : List MatchTask) (rs rs' : List MatchAttempt) → r.tasks ≡ ts → RowOk many n r → TasksOk many n ts → SomeDecided (env y) v rs rs'
         → SomeDecided (env y) v (instance env r ∷ rs) (instances env' (known_first y w r ts) ++ rs')
     first_there r [] rs rs' is ok t h = stays_there r rs rs' ok h
     first_there r (j ∷ js) rs rs' is ok t h = by (j.0 == y) refl
@@ -174,30 +174,30 @@ module _ (many : ℕ → ℕ) where
         by true e = test_there r j.1 js rs rs' (is ∙ ap (λ (z : ℕ). (z, j.1) ∷ js) (eq_from j.0 y e)) ok t.0.1 t.1 h
         by false e = stays_there r rs rs' ok h
 
-    pub rows_there : (rs behind : List Attempt) → AllOf (RowOk many n) rs → SomeDecided (env y) v behind behind → SomeDecided (env y) v (instances env rs ++ behind) (instances env' (with_known y w rs) ++ behind)
+    pub rows_there : (rs behind : List MatchAttempt) → AllOf (RowOk many n) rs → SomeDecided (env y) v behind behind → SomeDecided (env y) v (instances env rs ++ behind) (instances env' (attempts_with_value y w rs) ++ behind)
     rows_there [] behind ok h = h
     rows_there (r ∷ rs) behind ok h =
         subst (λ z. SomeDecided (env y) v (instance env r ∷ (instances env rs ++ behind)) z) (sym (again r rs behind))
-        (first_there r r.tasks (instances env rs ++ behind) (instances env' (with_known y w rs) ++ behind) refl ok.0 ok.0.tasks (rows_there rs behind ok.1 h))
+        (first_there r r.tasks (instances env rs ++ behind) (instances env' (attempts_with_value y w rs) ++ behind) refl ok.0 ok.0.tasks (rows_there rs behind ok.1 h))
       where
-        again : (r : Attempt) (rs behind : List Attempt) → instances env' (with_known y w (r ∷ rs)) ++ behind ≡ instances env' (known_first y w r r.tasks) ++ (instances env' (with_known y w rs) ++ behind)
-        again r rs behind = ap (λ z. z ++ behind) (map_append (instance env') (known_first y w r r.tasks) (with_known y w rs)) ∙ append_again (instances env' (known_first y w r r.tasks)) (instances env' (with_known y w rs)) behind
+        again : (r : MatchAttempt) (rs behind : List MatchAttempt) → instances env' (attempts_with_value y w (r ∷ rs)) ++ behind ≡ instances env' (known_first y w r r.tasks) ++ (instances env' (attempts_with_value y w rs) ++ behind)
+        again r rs behind = ap (λ z. z ++ behind) (map_append (instance env') (known_first y w r r.tasks) (attempts_with_value y w rs)) ∙ append_again (instances env' (known_first y w r r.tasks)) (instances env' (attempts_with_value y w rs)) behind
 
   -- ---- where a value is of none of some kinds
 
-  abbrev pub accepts : Kind → Value → Bool
+  abbrev pub accepts : TestKind → Value → Bool
   accepts (Integer k) v = is_int k v
   accepts (Constructor c) v = is_con c v
 
-  abbrev pub OfNone : List Kind → Value → Type 0
-  OfNone seen v = (h : Kind) → In h seen → accepts h v ≡ false
+  abbrev pub OfNone : List TestKind → Value → Type 0
+  OfNone seen v = (h : TestKind) → In h seen → accepts h v ≡ false
 
-  pub of_none_more : (seen : List Kind) (h : Kind) (v : Value) → accepts h v ≡ false → OfNone seen v → OfNone (h ∷ seen) v
+  pub of_none_more : (seen : List TestKind) (h : TestKind) (v : Value) → accepts h v ≡ false → OfNone seen v → OfNone (h ∷ seen) v
   of_none_more seen h v e o k here = e
   of_none_more seen h v e o k (there i) = o k i
 
   module _ (env : Env) (y : ℕ) (v : Value) where
-    leaves_there : (seen : List Kind) → OfNone seen v → (r : Attempt) (f : Form) (js : List Task) (k : Kind) (rs rs' : List Attempt) → r.tasks ≡ (y, f) ∷ js → IsKind f k → In k seen → SomeDecided (env y) v rs rs' → SomeDecided (env y) v (instance env r ∷ rs) rs'
+    leaves_there : (seen : List TestKind) → OfNone seen v → (r : MatchAttempt) (f : Form) (js : List MatchTask) (k : TestKind) (rs rs' : List MatchAttempt) → r.tasks ≡ (y, f) ∷ js → IsTestOfKind f k → In k seen → SomeDecided (env y) v rs rs' → SomeDecided (env y) v (instance env r ∷ rs) rs'
     leaves_there seen o r Any js k rs rs' is kind i h = absurd kind
     leaves_there seen o r (Is j) js k rs rs' is kind i h =
         let e : is_int j v ≡ false = subst (λ z. accepts z v ≡ false) kind (o k i) in
@@ -207,22 +207,22 @@ module _ (many : ℕ → ℕ) where
         OneDecided (Has c fs) (map (at env) js) (ap (map (at env)) is) (λ t. let z : true ≡ false = sym t ∙ e in absurd cc)
         (ap (λ b. kept_by b (attempt r.body (map env r.bound) (tasks_of (fields_of v) fs ++ map (at env) js)) ++ rs') (sym e)) h
 
-    pub rows_left : (seen : List Kind) → OfNone seen v → (rs left behind : List Attempt) → Left y seen rs left → SomeDecided (env y) v behind behind → SomeDecided (env y) v (instances env rs ++ behind) (instances env left ++ behind)
+    pub rows_left : (seen : List TestKind) → OfNone seen v → (rs left behind : List MatchAttempt) → AttemptsLeftOver y seen rs left → SomeDecided (env y) v behind behind → SomeDecided (env y) v (instances env rs ++ behind) (instances env left ++ behind)
     rows_left seen o rs left behind NoneLeft h = h
     rows_left seen o rs left behind (Stays {r = r} {rs = ss} {left = l} g) h = OneStays (rows_left seen o ss l behind g h)
     rows_left seen o rs left behind (Goes {r = r} {rs = ss} f js k is kind i g) h =
         leaves_there seen o r f js k (instances env ss ++ behind) (instances env left ++ behind) is kind i (rows_left seen o ss left behind g h)
 
 -- nothing is decided
-pub all_stay : (a : ℕ) (v : Value) (rs : List Attempt) → SomeDecided a v rs rs
+pub all_stay : (a : ℕ) (v : Value) (rs : List MatchAttempt) → SomeDecided a v rs rs
 all_stay a v [] = NoneDecided
 all_stay a v (r ∷ rs) = OneStays (all_stay a v rs)
 
 -- ---- settled rows
 
-module _ (q : Equations) (onward : Onward) where
-  settled_first : (env : Env) (rest : List Attempt) (d : ℕ) (s : State) (body : normal.Term) (bound : List ℕ) (js : List Task)
-      → attempts q onward (instance env (settled_by body bound js) ∷ rest) d s ≡ attempts q onward (instance env (attempt body bound js) ∷ rest) d s
+module _ (q : Equations) (onward : DelayedEvaluator) where
+  settled_first : (env : Env) (rest : List MatchAttempt) (d : ℕ) (s : State) (body : normal.Term) (bound : List ℕ) (js : List MatchTask)
+      → attempts q onward (instance env (with_names_bound body bound js) ∷ rest) d s ≡ attempts q onward (instance env (attempt body bound js) ∷ rest) d s
   settled_first env rest d s body bound [] = refl
   settled_first env rest d s body bound ((a, Any) ∷ js) =
       settled_first env rest d s body (bound ++ a ∷ []) js
@@ -230,8 +230,8 @@ module _ (q : Equations) (onward : Onward) where
   settled_first env rest d s body bound ((a, Is k) ∷ js) = refl
   settled_first env rest d s body bound ((a, Has c fs) ∷ js) = refl
 
-  pub settled_rows : (env : Env) (rs behind : List Attempt) (d : ℕ) (s : State) → attempts q onward (instances env (map settled rs) ++ behind) d s ≡ attempts q onward (instances env rs ++ behind) d s
+  pub settled_rows : (env : Env) (rs behind : List MatchAttempt) (d : ℕ) (s : State) → attempts q onward (instances env (map settled rs) ++ behind) d s ≡ attempts q onward (instances env rs ++ behind) d s
   settled_rows env [] behind d s = refl
   settled_rows env (r ∷ rs) behind d s =
       settled_first env (instances env (map settled rs) ++ behind) d s r.body r.bound r.tasks
-      ∙ ap (λ fails. meets q onward (map (at env) r.tasks) (map env r.bound) d s (λ xs t. eval (bare q) onward r.body (parameters xs) d t) fails) (λ i t. settled_rows env rs behind d t i)
+      ∙ ap (λ fails. meets q onward (map (at env) r.tasks) (map env r.bound) d s (λ xs t. eval (without_bodies q) onward r.body (parameters xs) d t) fails) (λ i t. settled_rows env rs behind d t i)

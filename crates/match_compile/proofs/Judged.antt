@@ -8,18 +8,18 @@ use Rattle.core_reader.specs.declared.refusal.ReadRefusal.TheVariants as from
 use Rattle.match_compile.specs.declared.refusal.MatchRefusal.{MatchRefusal}
 use Rattle.match_compile.specs.declared.refusal.MatchRefusal.TheVariants as refusal
 use Rattle.match_compile.specs.Source.{Source}
-use Rattle.match_compile.specs.Grammar.{IsText, IsRead, IsReadCause}
+use Rattle.match_compile.specs.Grammar.{IsSourceText, BreaksNoReadingRule, IsReadCause}
 use Rattle.match_compile.specs.Rules.{Broken, BrokenIn, OfSource, ReservedMatch, IsUnbroken, IsFirstBroken, IsCause}
 use Rattle.match_compile.specs.Rules as rules
-use Rattle.match_compile.specs.Refusal.{rule, place, earlier, least, unread}
-use Rattle.match_compile.specs.Faults.{faults, IsMet}
+use Rattle.match_compile.specs.Refusal.{rule, place, earlier_refusal, least_refusal, refusal_of_reading}
+use Rattle.match_compile.specs.Faults.{faults, IsFirstReserved}
 use Rattle.match_compile.proofs.Reading.{source_reads}
 use Rattle.match_compile.proofs.Firsts.{some_first, none_first}
 use Rattle.match_compile.proofs.Faulty.{sound, complete}
 
-pub least_append : (o : Option MatchRefusal) (rs qs : List MatchRefusal) → least o (rs ++ qs) ≡ least (least o rs) qs
+pub least_append : (o : Option MatchRefusal) (rs qs : List MatchRefusal) → least_refusal o (rs ++ qs) ≡ least_refusal (least_refusal o rs) qs
 least_append o [] qs = refl
-least_append o (r ∷ rs) qs = least_append (earlier o r) rs qs
+least_append o (r ∷ rs) qs = least_append (earlier_refusal o r) rs qs
 
 -- a refusal of a rule at a place is among these
 record Among (all : List MatchRefusal) (k at : ℕ) : Type 0 where
@@ -28,12 +28,12 @@ record Among (all : List MatchRefusal) (k at : ℕ) : Type 0 where
   rule_is : rule refusal ≡ k
   place_is : place refusal ≡ at
 
-module _ (text : List ℕ) (c : Source) (is_text : IsText text c) (first : Option MatchRefusal) (met : IsMet text first) where
+module _ (text : List ℕ) (c : Source) (is_text : IsSourceText text c) (first : Option MatchRefusal) (met : IsFirstReserved text first) where
   abbrev all : List MatchRefusal
   all = met.all ++ faults c
 
-  joined : (o : Option MatchRefusal) → o ≡ least first (faults c) → least None all ≡ o
-  joined o e = least_append None met.all (faults c) ∙ ap (λ w. least w (faults c)) (sym met.is) ∙ sym e
+  joined : (o : Option MatchRefusal) → o ≡ least_refusal first (faults c) → least_refusal None all ≡ o
+  joined o e = least_append None met.all (faults c) ∙ ap (λ w. least_refusal w (faults c)) (sym met.is) ∙ sym e
 
   is_broken : (r : MatchRefusal) → In r all → BrokenIn text (rule r) (place r)
   is_broken r i = elim (in_split met.all (faults c) i) [
@@ -49,10 +49,10 @@ module _ (text : List ℕ) (c : Source) (is_text : IsText text c) (first : Optio
   is_met (ReservedMatch {at = at} h) = record { refusal = refusal.ReservedMatch at; met = in_left met.all (faults c) (met.complete at h); rule_is = refl; place_is = refl }
 
   -- where nothing was met no rule is broken
-  pub unbroken : IsRead text → None ≡ least first (faults c) → IsUnbroken text
+  pub unbroken : BreaksNoReadingRule text → None ≡ least_refusal first (faults c) → IsUnbroken text
   unbroken read e = record { read = read; sound = λ k at b. let w = is_met b in none_in (subst (In w.refusal) (none_first all (joined None e)) w.met) }
 
-  first_broken : (r : MatchRefusal) → IsRead text → Some r ≡ least first (faults c) → IsFirstBroken text (rule r) (place r)
+  first_broken : (r : MatchRefusal) → BreaksNoReadingRule text → Some r ≡ least_refusal first (faults c) → IsFirstBroken text (rule r) (place r)
   first_broken r read e =
       let w = some_first all r (joined (Some r) e) in
       record {
@@ -101,10 +101,10 @@ cause text (refusal.TooDeep at) h = absurd (no_rule 4 (is_rule text h.broken) (�
 cause text refusal.TextTooLong h = absurd (no_rule 5 (is_rule text h.broken) (λ e. cc) (λ e. cc) (λ e. cc) (λ e. cc) (λ e. cc) (λ e. cc))
 
 -- what was met first is the cause
-pub met_cause : (text : List ℕ) (c : Source) → IsText text c → (first : Option MatchRefusal) → IsMet text first → IsRead text → (r : MatchRefusal) → Some r ≡ least first (faults c) → IsCause text r
+pub met_cause : (text : List ℕ) (c : Source) → IsSourceText text c → (first : Option MatchRefusal) → IsFirstReserved text first → BreaksNoReadingRule text → (r : MatchRefusal) → Some r ≡ least_refusal first (faults c) → IsCause text r
 met_cause text c t first met read r e = cause text r (first_broken text c t first met r read e)
 
-pub unread_cause : (text : List ℕ) (e : ReadRefusal) → IsReadCause text e → IsCause text (unread e)
+pub unread_cause : (text : List ℕ) (e : ReadRefusal) → IsReadCause text e → IsCause text (refusal_of_reading e)
 unread_cause text (from.BadByte at) h = h
 unread_cause text (from.Syntax at) h = h
 unread_cause text (from.NumberRange at) h = h

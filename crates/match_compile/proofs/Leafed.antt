@@ -21,11 +21,11 @@ use Rattle.match_compile.specs.Source.{Source}
 use Rattle.match_compile.specs.Parts.{names_of}
 use Rattle.match_compile.specs.Rules.{Broken}
 use Rattle.match_compile.specs.Trees.{Row}
-use Rattle.match_compile.specs.Renamed.{name_for, renamed_expr}
-use Rattle.match_compile.specs.Translated.{words_of, bound_at, is_name, is_nameless, is_primitive, is_kept, keeps, most_params, with_nameless, taken, translated}
-use Rattle.match_compile.specs.Form.{headed}
-use Rattle.match_compile.specs.Alike.{Pairs, Linked, TermAlike}
-use Rattle.match_compile.specs.Jobs.{Attempt}
+use Rattle.match_compile.specs.Renamed.{renamed_name, renamed_expr}
+use Rattle.match_compile.specs.Translated.{name_supply_of, bound_at, is_name, is_nameless, is_primitive, is_kept, keeps, most_params, with_nameless, taken, translated}
+use Rattle.match_compile.specs.Form.{program_of_heads}
+use Rattle.match_compile.specs.Alike.{LocalPairs, LocalsCorrespond, TermAlike}
+use Rattle.match_compile.specs.Jobs.{MatchAttempt}
 use Rattle.match_compile.proofs.NamedAs.{named_by, new_named, new_primitive, nameless_length, in_at, is_in}
 use Rattle.match_compile.proofs.Grouped.{Differ}
 use Rattle.match_compile.proofs.Sown.{job_names, bound_names, bound_places, job_places, Comes}
@@ -39,21 +39,21 @@ use Rattle.match_compile.proofs.Scoped.{At}
 
 -- ---- locals with those of the other term
 
-abbrev pub numbered : ℕ → List ℕ → Pairs
+abbrev pub numbered : ℕ → List ℕ → LocalPairs
 numbered i [] = []
 numbered i (y ∷ ys) = (i, y) ∷ numbered (suc i) ys
 
-linked_get : (ys : List ℕ) (i x y : ℕ) → Linked (numbered i ys) x y → (k : ℕ) × (x ≡ i + k) × (slice_get ys k ≡ Some y)
+linked_get : (ys : List ℕ) (i x y : ℕ) → LocalsCorrespond (numbered i ys) x y → (k : ℕ) × (x ≡ i + k) × (slice_get ys k ≡ Some y)
 linked_get [] i x y h = absurd h
 linked_get (z ∷ ys) i x y (inl h) = let e = h.0 in (0, omega (arith, e), ap Some (sym h.1))
 linked_get (z ∷ ys) i x y (inr h) = let r = linked_get ys (suc i) x y h.1.1 in let e = r.1 in (suc r.0, omega (arith, e), r.2)
 
-get_linked : (ys : List ℕ) (i k y : ℕ) → Differ ys → slice_get ys k ≡ Some y → Linked (numbered i ys) (i + k) y
+get_linked : (ys : List ℕ) (i k y : ℕ) → Differ ys → slice_get ys k ≡ Some y → LocalsCorrespond (numbered i ys) (i + k) y
 get_linked [] i k y d e = absurd cc
 get_linked (z ∷ ys) i zero y d e = inl (omega arith, sym (some_is e))
 get_linked (z ∷ ys) i (suc k) y d e =
     let next : suc i + k ≡ i + suc k = omega arith in
-    inr ((λ f. omega (arith, f)), (all_get (λ w. w ≡ z → ⊥) ys k y d.0 e, subst (λ w. Linked (numbered (suc i) ys) w y) next (get_linked ys (suc i) k y d.1 e)))
+    inr ((λ f. omega (arith, f)), (all_get (λ w. w ≡ z → ⊥) ys k y d.0 e, subst (λ w. LocalsCorrespond (numbered (suc i) ys) w y) next (get_linked ys (suc i) k y d.1 e)))
 
 map_at : {X Y : Type 0} (f : X → Y) (xs : List X) (k : ℕ) (y : Y) → slice_get (map f xs) k ≡ Some y → (x : X) × (slice_get xs k ≡ Some x) × (f x ≡ y)
 map_at f [] k y e = absurd cc
@@ -186,9 +186,9 @@ module _ (ctx : Places) where
 -- ---- the body of a leaf
 
 module _ (c : Source) (unbroken : (k at : ℕ) → Broken c k at → ⊥) (read : WasRead c) (arity many : ℕ → ℕ) (IsFun : ℕ → Type 0)
-    (known : (x : ℕ) → x < length c.names → (g k : ℕ) → function_from (headed c) (headed c).functions 0 x ≡ stands.Function g k → IsFun g × (arity g ≡ k)) where
+    (known : (x : ℕ) → x < length c.names → (g k : ℕ) → function_from (program_of_heads c) (program_of_heads c).functions 0 x ≡ stands.Function g k → IsFun g × (arity g ≡ k)) where
   abbrev text : Program
-  text = headed c
+  text = program_of_heads c
 
   abbrev out : Program
   out = translated c
@@ -216,7 +216,7 @@ module _ (c : Source) (unbroken : (k at : ℕ) → Broken c k at → ⊥) (read 
     ys = locals_of ctx r.bound
 
     abbrev taking : Scope
-    taking = taken (words_of c) places r.bound
+    taking = taken (name_supply_of c) places r.bound
 
     names_are : names ≡ names_of comes.equation.pats
     names_are = sym (append_nil names) ∙ ap (λ js. names ++ job_names js) (sym done) ∙ comes.names
@@ -265,14 +265,14 @@ module _ (c : Source) (unbroken : (k at : ℕ) → Broken c k at → ⊥) (read 
       named_in : (v : List ℕ) → is_named text v x ≡ bytes_eq w v
       named_in v = named_by c text v w x w_is
 
-      keeps_is : keeps (words_of c) x ≡ is_kept w
+      keeps_is : keeps (name_supply_of c) x ≡ is_kept w
       keeps_is = ap (λ o. is_kept (or_empty o)) w_is
 
       no_more : {P : Type 0} → true ≡ false → P
       no_more e = absurd cc
 
       -- a name that is not kept
-      module _ (free : keeps (words_of c) x ≡ false) where
+      module _ (free : keeps (name_supply_of c) x ≡ false) where
         plain : is_named text (codes "_") x ≡ false
         plain = elim (two_ways (is_named text (codes "_") x)) [
           | inl e ↦ no_more (sym (keeps_is ∙ or_left (is_nameless w) (is_primitive primitives w) (sym (named_in (codes "_")) ∙ e)) ∙ free)
@@ -286,30 +286,30 @@ module _ (c : Source) (unbroken : (k at : ℕ) → Broken c k at → ⊥) (read 
         plain_out = grounds.same_named c (codes "_") x lt ∙ plain
 
         -- where the row binds it
-        at_place : (b : Binder × ℕ) → In b r.bound → b.0.name.0 ≡ x → (y : ℕ) → y ≡ name_for places b.1 → Same (means text (scope_of names) x) (means out s y)
+        at_place : (b : Binder × ℕ) → In b r.bound → b.0.name.0 ≡ x → (y : ℕ) → y ≡ renamed_name places b.1 → Same (means text (scope_of names) x) (means out s y)
         at_place b i e y f =
             let k = in_at r.bound i in
             let at_k : slice_get (map (λ (d : Binder). d.name.0) names) k.0 ≡ Some x = name_of r.bound k.0 b k.1 ∙ ap Some e in
             let first : means text (scope_of names) x ≡ stands.Local (0 + k.0) =
             plain_means text (scope_of names) x plain no_primitive ∙ one_found text (map (λ (d : Binder). d.name.0) names) 0 [] k.0 x at_k (λ j g. one_place x plain_out j k.0 g at_k) plain in
-            let linked : Linked (numbered 0 ys) (0 + k.0) (local_of ctx b.1) = get_linked ys 0 k.0 (local_of ctx b.1) apart (map_get (λ (d : Binder × ℕ). local_of ctx d.1) r.bound k.0 b k.1) in
+            let linked : LocalsCorrespond (numbered 0 ys) (0 + k.0) (local_of ctx b.1) = get_linked ys 0 k.0 (local_of ctx b.1) apart (map_get (λ (d : Binder × ℕ). local_of ctx d.1) r.bound k.0 b k.1) in
             let scope : InScope ctx b.1 = used b.1 (place_among r.bound i) in
             let second : means out s y ≡ stands.Local (local_of ctx b.1) = ap (means out s) f ∙ stands_for scope (at.place b.1 scope) in
             subst (λ m. Same m (means out s y)) (sym first) (subst (λ m. Same (stands.Local (0 + k.0)) m) (sym second) (SameLocal linked))
           where
-            stands_for : InScope ctx b.1 → IsPlace c unbroken read params within_most (λ p x. is_name x (bound_at p r.bound)) b.1 (name_for places b.1) → means out s (name_for places b.1) ≡ stands.Local (local_of ctx b.1)
+            stands_for : InScope ctx b.1 → IsPlace c unbroken read params within_most (λ p x. is_name x (bound_at p r.bound)) b.1 (renamed_name places b.1) → means out s (renamed_name places b.1) ≡ stands.Local (local_of ctx b.1)
             stands_for scope (inl q) =
-                let le : length (with_nameless c.names) ≤ name_for places b.1 = subst (λ z. length (with_nameless c.names) ≤ z) (sym q) (place_new c unbroken read params b.1) in
-                let named : is_named out (codes "_") (name_for places b.1) ≡ false = new_named c (name_for places b.1) le in
-                let unbound = new_primitive c (name_for places b.1) le in
-                plain_means out s (name_for places b.1) named (λ op h. not_both unbound h) ∙ at.local b.1 scope named
+                let le : length (with_nameless c.names) ≤ renamed_name places b.1 = subst (λ z. length (with_nameless c.names) ≤ z) (sym q) (place_new c unbroken read params b.1) in
+                let named : is_named out (codes "_") (renamed_name places b.1) ≡ false = new_named c (renamed_name places b.1) le in
+                let unbound = new_primitive c (renamed_name places b.1) le in
+                plain_means out s (renamed_name places b.1) named (λ op h. not_both unbound h) ∙ at.local b.1 scope named
               where
                 not_both : {op : PrimOp} {m : Meaning} → m ≡ stands.Unbound → m ≡ stands.Primitive op → ⊥
                 not_both a b = absurd cc
             stands_for scope (inr q) =
-                let same : name_for places b.1 ≡ x = some_is (sym (is_name_some (name_for places b.1) (bound_at b.1 r.bound) q) ∙ at_bound r.bound b places_differ i) ∙ e in
-                let named : is_named out (codes "_") (name_for places b.1) ≡ false = ap (is_named out (codes "_")) same ∙ plain_out in
-                plain_means out s (name_for places b.1) named (λ op h. no_primitive op (sym (same_primitive primitives x lt) ∙ sym (ap (primitive_from out primitives) same) ∙ h)) ∙ at.local b.1 scope named
+                let same : renamed_name places b.1 ≡ x = some_is (sym (is_name_some (renamed_name places b.1) (bound_at b.1 r.bound) q) ∙ at_bound r.bound b places_differ i) ∙ e in
+                let named : is_named out (codes "_") (renamed_name places b.1) ≡ false = ap (is_named out (codes "_")) same ∙ plain_out in
+                plain_means out s (renamed_name places b.1) named (λ op h. no_primitive op (sym (same_primitive primitives x lt) ∙ sym (ap (primitive_from out primitives) same) ∙ h)) ∙ at.local b.1 scope named
 
         -- where it doesn't
         elsewhere : ((b : Binder) → In b names → b.name.0 ≡ x → ⊥) → Same (means text (scope_of names) x) (means out s x)
@@ -326,24 +326,24 @@ module _ (c : Source) (unbroken : (k at : ℕ) → Broken c k at → ⊥) (read 
             function_same m e (AFunction {g = g} {k = k}) = let h = known x lt g k e in SameFunction h.0 h.1
             function_same m e Nothing = SameNothing
 
-        becomes : Same (means text (scope_of names) x) (means out s (name_for taking x))
+        becomes : Same (means text (scope_of names) x) (means out s (renamed_name taking x))
         becomes = elim (taken_name c unbroken read params within_most places r.bound x free) [
-          | inl b ↦ at_place b.0 b.1 b.2 (name_for taking x) b.3
+          | inl b ↦ at_place b.0 b.1 b.2 (renamed_name taking x) b.3
           | inr h ↦ subst (λ y. Same (means text (scope_of names) x) (means out s y)) (sym h.0) (elsewhere h.1)
         ]
 
-        image_free : (name_for taking x ≡ x) ⊎ (top ≤ name_for taking x)
+        image_free : (renamed_name taking x ≡ x) ⊎ (top ≤ renamed_name taking x)
         image_free = elim (taken_name c unbroken read params within_most places r.bound x free) [
           | inl b ↦ of_place b.0 b.1 b.2 b.3 (at.place b.0.1 (used b.0.1 (place_among r.bound b.1)))
           | inr h ↦ inl h.0
         ]
           where
-            of_place : (b : Binder × ℕ) → In b r.bound → b.0.name.0 ≡ x → name_for taking x ≡ name_for places b.1 → IsPlace c unbroken read params within_most (λ p x. is_name x (bound_at p r.bound)) b.1 (name_for places b.1) → (name_for taking x ≡ x) ⊎ (top ≤ name_for taking x)
+            of_place : (b : Binder × ℕ) → In b r.bound → b.0.name.0 ≡ x → renamed_name taking x ≡ renamed_name places b.1 → IsPlace c unbroken read params within_most (λ p x. is_name x (bound_at p r.bound)) b.1 (renamed_name places b.1) → (renamed_name taking x ≡ x) ⊎ (top ≤ renamed_name taking x)
             of_place b i e f (inl q) = let le = place_new c unbroken read params b.1 in let more = nameless_length c.names in inr (omega (arith, f, q, le, more))
-            of_place b i e f (inr q) = inl (f ∙ some_is (sym (is_name_some (name_for places b.1) (bound_at b.1 r.bound) q) ∙ at_bound r.bound b places_differ i) ∙ e)
+            of_place b i e f (inr q) = inl (f ∙ some_is (sym (is_name_some (renamed_name places b.1) (bound_at b.1 r.bound) q) ∙ at_bound r.bound b places_differ i) ∙ e)
 
       -- a name that is kept
-      stays : keeps (words_of c) x ≡ true → Same (means text (scope_of names) x) (means out s x)
+      stays : keeps (name_supply_of c) x ≡ true → Same (means text (scope_of names) x) (means out s x)
       stays k = elim (two_ways (is_named text (codes "_") x)) [
         | inl e ↦ subst (λ m. Same m (means out s x)) (sym (nameless_means text (scope_of names) x e)) (subst (λ m. Same stands.Unbound m) (sym (nameless_means out s x (grounds.same_named c (codes "_") x lt ∙ e))) SameNothing)
         | inr e ↦ of_primitive e (or_cases (is_nameless w) (is_primitive primitives w) (sym keeps_is ∙ k))
@@ -356,14 +356,14 @@ module _ (c : Source) (unbroken : (k at : ℕ) → Broken c k at → ⊥) (read 
               subst (λ m. Same m (means out s x)) (sym (primitive_means text (scope_of names) x f.0 e f.1))
               (subst (λ m. Same (stands.Primitive f.0) m) (sym (primitive_means out s x f.0 (grounds.same_named c (codes "_") x lt ∙ e) (same_primitive primitives x lt ∙ f.1))) SamePrimitive)
 
-      meaning : Same (means text (scope_of names) x) (means out s (name_for taking x))
-      meaning = elim (two_ways (keeps (words_of c) x)) [
+      meaning : Same (means text (scope_of names) x) (means out s (renamed_name taking x))
+      meaning = elim (two_ways (keeps (name_supply_of c) x)) [
         | inl k ↦ subst (λ y. Same (means text (scope_of names) x) (means out s y)) (sym (taken_kept c unbroken read params within_most places r.bound x k)) (stays k)
         | inr f ↦ becomes f
       ]
 
-      image : (name_for taking x ≡ x) ⊎ (top ≤ name_for taking x)
-      image = elim (two_ways (keeps (words_of c) x)) [
+      image : (renamed_name taking x ≡ x) ⊎ (top ≤ renamed_name taking x)
+      image = elim (two_ways (keeps (name_supply_of c) x)) [
         | inl k ↦ inl (taken_kept c unbroken read params within_most places r.bound x k)
         | inr f ↦ image_free f
       ]
@@ -394,7 +394,7 @@ module _ (c : Source) (unbroken : (k at : ℕ) → Broken c k at → ⊥) (read 
         record { term = made.term; is = (made.after, made.is); alike = made.alike }
 
     -- what stands for the row has a body that is alike to the leaf
-    pub body_alike : (next : Option ℕ) {e : normal.Term} {m : ℕ} → IsNormal out s n (renamed_expr taking r.body) e m → FitsExpr top r.body → TermFits many e → (a : Attempt) → Stands c NormalIn arity many IsFun params next ctx r a → BodyAlike c NormalIn arity many IsFun params next a e
+    pub body_alike : (next : Option ℕ) {e : normal.Term} {m : ℕ} → IsNormal out s n (renamed_expr taking r.body) e m → FitsExpr top r.body → TermFits many e → (a : MatchAttempt) → Stands c NormalIn arity many IsFun params next ctx r a → BodyAlike c NormalIn arity many IsFun params next a e
     body_alike next {e = e} d fits tf a h =
         let made = leaf_made d fits tf in
         let body : NormalIn r.body names a.body = subst (λ z. NormalIn r.body z a.body) (ap (λ js. names ++ job_names js) done ∙ append_nil names) h.body in

@@ -15,7 +15,7 @@ use Rattle.arity_check.specs.declared.normal.PrimOp.{PrimOp}
 use Rattle.arity_check.specs.declared.meaning.Meaning.TheVariants.{Primitive, Unbound}
 use Rattle.arity_check.specs.Scope.{is_named, primitives, primitive_from}
 use Rattle.match_compile.specs.Source.{Source}
-use Rattle.match_compile.specs.Sound.{name_of_equation, spread}
+use Rattle.match_compile.specs.Sound.{name_of_equation, equations_as_functions}
 use Rattle.match_compile.specs.Decisions.{decisions}
 use Rattle.match_compile.specs.Translated.{is_nameless, param_name, field_name, most_params, most_fields_of, with_nameless, texts, translated}
 
@@ -133,7 +133,7 @@ module _ (c : Source) where
   abbrev spread_texts : List (List ℕ)
   spread_texts = map name_of_equation (range_with_len 0 (length c.equations))
 
-  pub text_of_spread : {b : List ℕ} (x : ℕ) → slice_get (spread c).names x ≡ Some b → (slice_get c.names x ≡ Some b) ⊎ IsNew b
+  pub text_of_spread : {b : List ℕ} (x : ℕ) → slice_get (equations_as_functions c).names x ≡ Some b → (slice_get c.names x ≡ Some b) ⊎ IsNew b
   text_of_spread x e = ⊎_elim (λ l. inl l) (λ r. inr (texts_new (length c.equations) name_of_equation equation_new r.1)) (get_split c.names spread_texts x e)
 
   -- those behind the source's texts
@@ -158,7 +158,7 @@ module _ (c : Source) where
   pub translated_text : {b : List ℕ} (x : ℕ) → slice_get c.names x ≡ Some b → slice_get (translated c).names x ≡ Some b
   translated_text {b = b} x e = get_left (with_nameless c.names) new_texts x b (nameless_left c.names x e)
 
-  pub spread_text : {b : List ℕ} (x : ℕ) → slice_get c.names x ≡ Some b → slice_get (spread c).names x ≡ Some b
+  pub spread_text : {b : List ℕ} (x : ℕ) → slice_get c.names x ≡ Some b → slice_get (equations_as_functions c).names x ≡ Some b
   spread_text {b = b} x e = get_left c.names spread_texts x b e
 
   -- ---- what is named how
@@ -177,22 +177,22 @@ module _ (c : Source) where
   no_made w b a m e = let f : bytes_eq b w ≡ false = a b m in absurd cc
 
   -- for a text that is not made it is the same in both programs
-  pub same_named : (w : List ℕ) → IsApart w → (x : ℕ) → is_named (translated c) w x ≡ is_named (spread c) w x
-  same_named w a x = both_ways (is_named (translated c) w x) (is_named (spread c) w x) there_too back_too
+  pub same_named : (w : List ℕ) → IsApart w → (x : ℕ) → is_named (translated c) w x ≡ is_named (equations_as_functions c) w x
+  same_named w a x = both_ways (is_named (translated c) w x) (is_named (equations_as_functions c) w x) there_too back_too
     where
-      there_too : is_named (translated c) w x ≡ true → is_named (spread c) w x ≡ true
+      there_too : is_named (translated c) w x ≡ true → is_named (equations_as_functions c) w x ≡ true
       there_too e =
           let t = named_text (translated c) w x e in
-          ⊎_elim (λ l. named_by (spread c) w t.0 x (spread_text x l) ∙ t.2) (λ m. no_made w t.0 a m t.2) (text_of_translated x t.1)
+          ⊎_elim (λ l. named_by (equations_as_functions c) w t.0 x (spread_text x l) ∙ t.2) (λ m. no_made w t.0 a m t.2) (text_of_translated x t.1)
 
-      back_too : is_named (spread c) w x ≡ true → is_named (translated c) w x ≡ true
+      back_too : is_named (equations_as_functions c) w x ≡ true → is_named (translated c) w x ≡ true
       back_too e =
-          let t = named_text (spread c) w x e in
+          let t = named_text (equations_as_functions c) w x e in
           ⊎_elim (λ l. named_by (translated c) w t.0 x (translated_text x l) ∙ t.2) (λ m. no_made w t.0 a (inr m) t.2) (text_of_spread x t.1)
 
   -- a name of the source is named by its text
-  pub old_named : (w b : List ℕ) (x : ℕ) → slice_get c.names x ≡ Some b → is_named (translated c) w x ≡ is_named (spread c) w x
-  old_named w b x e = named_by (translated c) w b x (translated_text x e) ∙ sym (named_by (spread c) w b x (spread_text x e))
+  pub old_named : (w b : List ℕ) (x : ℕ) → slice_get c.names x ≡ Some b → is_named (translated c) w x ≡ is_named (equations_as_functions c) w x
+  old_named w b x e = named_by (translated c) w b x (translated_text x e) ∙ sym (named_by (equations_as_functions c) w b x (spread_text x e))
 
   -- what a name behind them is not
   new_behind : (w : List ℕ) → ((b : List ℕ) → IsNew b → bytes_eq b w ≡ false) → (x : ℕ) → length (with_nameless c.names) ≤ x → is_named (translated c) w x ≡ false
@@ -259,11 +259,11 @@ module _ (c : Source) where
 
   -- ---- primitives
 
-  primitive_same : (qs : List (List ℕ × PrimOp)) → AllOf (λ (q : List ℕ × PrimOp). IsApart q.0) qs → (x : ℕ) → primitive_from (translated c) qs x ≡ primitive_from (spread c) qs x
+  primitive_same : (qs : List (List ℕ × PrimOp)) → AllOf (λ (q : List ℕ × PrimOp). IsApart q.0) qs → (x : ℕ) → primitive_from (translated c) qs x ≡ primitive_from (equations_as_functions c) qs x
   primitive_same [] h x = refl
   primitive_same (q ∷ qs) h x = λ i. if same_named q.0 h.0 x i then Primitive q.1 else primitive_same qs h.1 x i
 
-  pub same_primitive : (x : ℕ) → primitive_from (translated c) primitives x ≡ primitive_from (spread c) primitives x
+  pub same_primitive : (x : ℕ) → primitive_from (translated c) primitives x ≡ primitive_from (equations_as_functions c) primitives x
   same_primitive x = primitive_same primitives all_apart x
 
   -- a name behind those of the source is that of no primitive

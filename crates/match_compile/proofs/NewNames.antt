@@ -13,32 +13,32 @@ use Rattle.seq.specs.Lists.{In, here, there}
 use Rattle.core_reader.specs.declared.dialect.Dialect.TheVariants.{Core}
 use Rattle.core_reader.specs.TokensOf.{Piece}
 use Rattle.core_reader.specs.NamesOf.{is_numbered, with_piece}
-use Rattle.core_reader.specs.Different.{AreDifferent}
+use Rattle.core_reader.specs.Different.{AreDistinct}
 use Rattle.match_compile.specs.Source.{Source}
-use Rattle.match_compile.specs.Grammar.{IsText}
+use Rattle.match_compile.specs.Grammar.{IsSourceText}
 use Rattle.match_compile.specs.Rules.{is_reserved, IsReserved}
 use Rattle.match_compile.specs.Sound.{name_of_equation}
 use Rattle.match_compile.specs.Translated.{is_nameless, with_nameless, texts, param_name, field_name}
-use Rattle.match_compile.specs.NamesOf.{IsFree}
+use Rattle.match_compile.specs.NamesOf.{IsUnreservedName}
 
 -- ---- of a text
 
 reserved : (w rest : List ℕ) → w ≡ codes "match'" ++ rest → is_reserved w ≡ true
 reserved w rest e = ap is_reserved e
 
-name_by : (a b : Bool) (names : List (List ℕ)) (w : List ℕ) → All IsFree names → IsFree w → All IsFree (if a then (if b then names else names ++ w ∷ []) else names)
+name_by : (a b : Bool) (names : List (List ℕ)) (w : List ℕ) → All IsUnreservedName names → IsUnreservedName w → All IsUnreservedName (if a then (if b then names else names ++ w ∷ []) else names)
 name_by false b names w h f = h
 name_by true true names w h f = h
-name_by true false names w h f = All-push IsFree names w h f
+name_by true false names w h f = All-push IsUnreservedName names w h f
 
-free_from : (names : List (List ℕ)) (ps : List Piece) → All IsFree names → ((p : Piece) → In p ps → IsFree p.bytes) → All IsFree (fold (with_piece Core) names ps)
+free_from : (names : List (List ℕ)) (ps : List Piece) → All IsUnreservedName names → ((p : Piece) → In p ps → IsUnreservedName p.bytes) → All IsUnreservedName (fold (with_piece Core) names ps)
 free_from names [] h f = h
 free_from names (p ∷ ps) h f = free_from (with_piece Core names p) ps (name_by (is_numbered Core p) (list_any (bytes_eq p.bytes) names) names p.bytes h (f p here)) (λ q i. f q (there i))
 
 -- the names of a text that has none that begins so
-pub text_free : (text : List ℕ) (c : Source) → IsText text c → ((at : ℕ) → IsReserved text at → ⊥) → All IsFree c.names
+pub text_free : (text : List ℕ) (c : Source) → IsSourceText text c → ((at : ℕ) → IsReserved text at → ⊥) → All IsUnreservedName c.names
 text_free text c t none =
-    subst (All IsFree) (sym t.program.names) (free_from [] t.pieces (All-nil IsFree) (λ p i rest e. none p.at (record { pieces = t.pieces; tokens = t.tokens; name = p; stands = i; begins = reserved p.bytes rest e; place = refl })))
+    subst (All IsUnreservedName) (sym t.program.names) (free_from [] t.pieces (All-nil IsUnreservedName) (λ p i rest e. none p.at (record { pieces = t.pieces; tokens = t.tokens; name = p; stands = i; begins = reserved p.bytes rest e; place = refl })))
 
 -- ---- new ones
 
@@ -67,7 +67,7 @@ module _ (start : List ℕ) where
   all_differ k m zero l h = All-nil (λ v. v ≢ name k)
   all_differ k m (suc n) l h = All-cons (λ v. v ≢ name k) (name m) (map name (range_with_len (m + 1) n)) (differs k m l (omega arith)) (all_differ k (m + 1) n (omega arith) (omega arith))
 
-  pub numbered_different : (k n : ℕ) → k + n ≤ 2 ^ 32 → AreDifferent (map name (range_with_len k n))
+  pub numbered_different : (k n : ℕ) → k + n ≤ 2 ^ 32 → AreDistinct (map name (range_with_len k n))
   numbered_different k zero h = tt
   numbered_different k (suc n) h = (all_differ k (k + 1) n (omega arith) (omega arith), numbered_different (k + 1) n (omega arith))
 
@@ -100,7 +100,7 @@ apart_append : (us vs ws : List (List ℕ)) → Apart us ws → Apart vs ws → 
 apart_append us vs [] a b = All-nil (λ w. All (λ v. v ≢ w) (us ++ vs))
 apart_append us vs (w ∷ ws) a b = All-cons (λ w. All (λ v. v ≢ w) (us ++ vs)) w ws (All-append (λ v. v ≢ w) us vs (All-head (λ w. All (λ v. v ≢ w) us) w ws a) (All-head (λ w. All (λ v. v ≢ w) vs) w ws b)) (apart_append us vs ws (All-tail (λ w. All (λ v. v ≢ w) us) w ws a) (All-tail (λ w. All (λ v. v ≢ w) vs) w ws b))
 
-pub append_different : (ws vs : List (List ℕ)) → AreDifferent ws → AreDifferent vs → Apart vs ws → AreDifferent (ws ++ vs)
+pub append_different : (ws vs : List (List ℕ)) → AreDistinct ws → AreDistinct vs → Apart vs ws → AreDistinct (ws ++ vs)
 append_different [] vs d e a = e
 append_different (w ∷ ws) vs d e a =
     (All-append (λ v. v ≢ w) ws vs d.0 (All-head (λ w. All (λ v. v ≢ w) vs) w ws a), append_different ws vs d.1 e (All-tail (λ w. All (λ v. v ≢ w) vs) w ws a))
@@ -110,9 +110,9 @@ apart_by text k zero w h = All-nil (λ v. v ≢ w)
 apart_by text k (suc n) w h = All-cons (λ v. v ≢ w) (text k) (map text (range_with_len (k + 1) n)) (h k) (apart_by text (k + 1) n w h)
 
 -- free names, and names that begin so
-free_apart : (text after : ℕ → List ℕ) (n : ℕ) (ws : List (List ℕ)) → ((k : ℕ) → text k ≡ codes "match'" ++ after k) → All IsFree ws → Apart (texts n text) ws
+free_apart : (text after : ℕ → List ℕ) (n : ℕ) (ws : List (List ℕ)) → ((k : ℕ) → text k ≡ codes "match'" ++ after k) → All IsUnreservedName ws → Apart (texts n text) ws
 free_apart text after n [] b f = All-nil (λ w. All (λ v. v ≢ w) (texts n text))
-free_apart text after n (w ∷ ws) b f = All-cons (λ w. All (λ v. v ≢ w) (texts n text)) w ws (apart_by text 0 n w (λ m e. All-head IsFree w ws f (after m) (sym e ∙ b m))) (free_apart text after n ws b (All-tail IsFree w ws f))
+free_apart text after n (w ∷ ws) b f = All-cons (λ w. All (λ v. v ≢ w) (texts n text)) w ws (apart_by text 0 n w (λ m e. All-head IsUnreservedName w ws f (after m) (sym e ∙ b m))) (free_apart text after n ws b (All-tail IsUnreservedName w ws f))
 
 texts_apart : (text text' : ℕ → List ℕ) (n k m : ℕ) → k + m ≤ 2 ^ 32 → ((i j : ℕ) → j < 2 ^ 32 → text i ≢ text' j) → Apart (texts n text) (map text' (range_with_len k m))
 texts_apart text text' n k zero l h = All-nil (λ w. All (λ v. v ≢ w) (texts n text))
@@ -156,31 +156,31 @@ with_nameless_is names b e = ap (λ b. by (cond b (Some (position_or_len is_name
     go true = refl
     go false = refl
 
-pub with_nameless_different : (names : List (List ℕ)) → AreDifferent names → AreDifferent (with_nameless names)
+pub with_nameless_different : (names : List (List ℕ)) → AreDistinct names → AreDistinct (with_nameless names)
 with_nameless_different names d = go (position is_nameless names) (sym (position_from-zero is_nameless names))
   where
-    go : (o : Option ℕ) → position_from is_nameless 0 names ≡ o → AreDifferent (elim o [ Some n ↦ names | None ↦ names ++ codes "_" ∷ [] ])
+    go : (o : Option ℕ) → position_from is_nameless 0 names ≡ o → AreDistinct (elim o [ Some n ↦ names | None ↦ names ++ codes "_" ∷ [] ])
     go (Some n) e = d
     go None e = append_different names (codes "_" ∷ []) d (All-nil (λ v. v ≢ codes "_"), tt) (none_named 0 names e)
 
-nameless_free : IsFree (codes "_")
+nameless_free : IsUnreservedName (codes "_")
 nameless_free rest e = absurd cc
 
-pub with_nameless_free : (names : List (List ℕ)) → All IsFree names → All IsFree (with_nameless names)
+pub with_nameless_free : (names : List (List ℕ)) → All IsUnreservedName names → All IsUnreservedName (with_nameless names)
 with_nameless_free names f = go (position is_nameless names)
   where
-    go : (o : Option ℕ) → All IsFree (elim o [ Some n ↦ names | None ↦ names ++ codes "_" ∷ [] ])
+    go : (o : Option ℕ) → All IsUnreservedName (elim o [ Some n ↦ names | None ↦ names ++ codes "_" ∷ [] ])
     go (Some n) = f
-    go None = All-push IsFree names (codes "_") f nameless_free
+    go None = All-push IsUnreservedName names (codes "_") f nameless_free
 
 -- all names of the program
-pub all_different : (names : List (List ℕ)) (e p f : ℕ) → e ≤ 2 ^ 32 → p ≤ 2 ^ 32 → f ≤ 2 ^ 32 → AreDifferent names → All IsFree names
-    → AreDifferent (names ++ (texts e name_of_equation ++ (texts p param_name ++ texts f field_name)))
+pub all_different : (names : List (List ℕ)) (e p f : ℕ) → e ≤ 2 ^ 32 → p ≤ 2 ^ 32 → f ≤ 2 ^ 32 → AreDistinct names → All IsUnreservedName names
+    → AreDistinct (names ++ (texts e name_of_equation ++ (texts p param_name ++ texts f field_name)))
 all_different names e p f le lp lf d free =
     let params = texts p param_name in
     let fields = texts f field_name in
     let equations = texts e name_of_equation in
-    let new : AreDifferent (equations ++ (params ++ fields)) =
+    let new : AreDistinct (equations ++ (params ++ fields)) =
     append_different equations (params ++ fields) (numbered_different (codes "match'") 0 e (omega (arith, le)))
     (append_different params fields (numbered_different (codes "match'p") 0 p (omega (arith, lp))) (numbered_different (codes "match'q") 0 f (omega (arith, lf))) (texts_apart field_name param_name f 0 p (omega (arith, lp)) letters_apart))
     (apart_append params fields equations (texts_apart param_name name_of_equation p 0 e (omega (arith, le)) param_apart) (texts_apart field_name name_of_equation f 0 e (omega (arith, le)) field_apart)) in
@@ -188,8 +188,8 @@ all_different names e p f le lp lf d free =
     (apart_append equations (params ++ fields) names (free_apart name_of_equation decimal e names (λ k. refl) free)
     (apart_append params fields names (free_apart param_name (λ k. 112 ∷ decimal k) p names (λ k. refl) free) (free_apart field_name (λ k. 113 ∷ decimal k) f names (λ k. refl) free)))
 
-pub new_different : (names : List (List ℕ)) (e p f : ℕ) → e < 2 ^ 32 → p < 2 ^ 32 → f < 2 ^ 32 → AreDifferent names → All IsFree names
-    → AreDifferent (with_nameless names ++ (texts e name_of_equation ++ (texts p param_name ++ texts f field_name)))
+pub new_different : (names : List (List ℕ)) (e p f : ℕ) → e < 2 ^ 32 → p < 2 ^ 32 → f < 2 ^ 32 → AreDistinct names → All IsUnreservedName names
+    → AreDistinct (with_nameless names ++ (texts e name_of_equation ++ (texts p param_name ++ texts f field_name)))
 new_different names e p f le lp lf d free =
     all_different (with_nameless names) e p f (omega (arith, le)) (omega (arith, lp)) (omega (arith, lf)) (with_nameless_different names d) (with_nameless_free names free)
 

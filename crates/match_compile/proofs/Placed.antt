@@ -21,10 +21,10 @@ use Rattle.match_compile.specs.Source.{Equation, Source}
 use Rattle.match_compile.specs.Parts.{count}
 use Rattle.match_compile.specs.Parts as parts
 use Rattle.match_compile.specs.Rules.{Behind, text_in, Broken, DuplicateName}
-use Rattle.match_compile.specs.Sound.{spread, spread_function, spread_functions, IsSound}
+use Rattle.match_compile.specs.Sound.{equations_as_functions, spread_function, spread_functions, IsSound}
 use Rattle.match_compile.specs.Trees.{Row, Tree, Body, Case, NoBranch, AndBranch}
-use Rattle.match_compile.specs.Renamed.{name_for}
-use Rattle.match_compile.specs.Translated.{words_of, bound_at, first_bound, is_name, all_bind, branches_bind, default_binds, stays, most_params, with_nameless, nameless, keeps, place_name, taken, binder, name_or, with_fields, binders, translated}
+use Rattle.match_compile.specs.Renamed.{renamed_name}
+use Rattle.match_compile.specs.Translated.{name_supply_of, bound_at, first_bound, is_name, all_bind, branches_bind, default_binds, stays, most_params, with_nameless, nameless, keeps, place_name, taken, binder, name_or, with_fields, binders, translated}
 use Rattle.match_compile.proofs.NamedAs.{named_by, old_named, new_named, new_apart, nameless_apart, same_named, primitive_apart, translated_text, nameless_length, is_in, in_at}
 use Rattle.match_compile.proofs.Grouped.{Differ, all_of, split_at, differ_at}
 use Rattle.match_compile.proofs.Bodies.{name_here, name_at, name_other, is_local, local_within, bound_within, within_either, IsPlain, Becomes, Fits}
@@ -107,7 +107,7 @@ most_is (d ∷ es) e (there i) = omega (arith, most_is es e i)
 pub record IsSpread (c : Source) (e : Equation) : Type 0 where
   pub number : ℕ
   pub function : Function
-  pub is : slice_get (spread c).functions number ≡ Some function
+  pub is : slice_get (equations_as_functions c).functions number ≡ Some function
   pub params : function.params ≡ parts.names_of e.pats
   pub body : function.body ≡ e.body
 
@@ -179,7 +179,7 @@ module _ (c : Source) (unbroken : (k at : ℕ) → Broken c k at → ⊥) (read 
 
   -- ---- names of places
 
-  place_apart : (params : ℕ) → params ≤ most_params c.equations → (p q : ℕ) → place_name (words_of c) params p ≡ place_name (words_of c) params q → p ≡ q
+  place_apart : (params : ℕ) → params ≤ most_params c.equations → (p q : ℕ) → place_name (name_supply_of c) params p ≡ place_name (name_supply_of c) params q → p ≡ q
   place_apart params le p q e = go (nat_lt p params) (nat_lt q params) refl refl e
     where
       go : (s t : Bool) → nat_lt p params ≡ s → nat_lt q params ≡ t
@@ -189,22 +189,22 @@ module _ (c : Source) (unbroken : (k at : ℕ) → Broken c k at → ⊥) (read 
       go false true h k e = let lt : q < params = grind (arith, nat_tests) in absurd (omega (arith, e, lt, le))
       go false false h k e = let l : params ≤ p = grind (arith, nat_tests) in let m : params ≤ q = grind (arith, nat_tests) in omega (arith, e, l, m)
 
-  pub place_new : (params p : ℕ) → length (with_nameless c.names) ≤ place_name (words_of c) params p
+  pub place_new : (params p : ℕ) → length (with_nameless c.names) ≤ place_name (name_supply_of c) params p
   place_new params p = omega arith
 
   module _ (params : ℕ) (within_most : params ≤ most_params c.equations) where
     -- a new name, or one that all rows bind
     abbrev pub IsPlace : (ℕ → ℕ → Bool) → ℕ → ℕ → Type 0
-    IsPlace binds p y = (y ≡ place_name (words_of c) params p) ⊎ (binds p y ≡ true)
+    IsPlace binds p y = (y ≡ place_name (name_supply_of c) params p) ⊎ (binds p y ≡ true)
 
-    stays_is : (at p : ℕ) (t : Tree) → IsPlace (λ p x. all_bind p x t) p (name_or (words_of c) at params (stays p t) p)
+    stays_is : (at p : ℕ) (t : Tree) → IsPlace (λ p x. all_bind p x t) p (name_or (name_supply_of c) at params (stays p t) p)
     stays_is at p t = go (bound_at p (first_bound t))
       where
-        go : (o : Option ℕ) → IsPlace (λ p x. all_bind p x t) p (name_or (words_of c) at params (elim o [ None ↦ None | Some x ↦ if all_bind p x t then Some x else None ]) p)
+        go : (o : Option ℕ) → IsPlace (λ p x. all_bind p x t) p (name_or (name_supply_of c) at params (elim o [ None ↦ None | Some x ↦ if all_bind p x t then Some x else None ]) p)
         go None = inl refl
         go (Some x) = by (all_bind p x t) refl
           where
-            by : (b : Bool) → all_bind p x t ≡ b → IsPlace (λ p x. all_bind p x t) p (name_or (words_of c) at params (if b then Some x else None) p)
+            by : (b : Bool) → all_bind p x t ≡ b → IsPlace (λ p x. all_bind p x t) p (name_or (name_supply_of c) at params (if b then Some x else None) p)
             by true e = inr e
             by false e = inl refl
 
@@ -225,18 +225,18 @@ module _ (c : Source) (unbroken : (k at : ℕ) → Broken c k at → ⊥) (read 
 
     -- ---- scopes of places
 
-    pub fields_old : (at : ℕ) (t : Tree) (ps : List ℕ) (places : Scope) (p : ℕ) → NotIn p ps → name_for (with_fields (words_of c) at params t ps places) p ≡ name_for places p
+    pub fields_old : (at : ℕ) (t : Tree) (ps : List ℕ) (places : Scope) (p : ℕ) → NotIn p ps → renamed_name (with_fields (name_supply_of c) at params t ps places) p ≡ renamed_name places p
     fields_old at t [] places p n = refl
     fields_old at t (q ∷ ps) places p n =
-        fields_old at t ps ((q, name_or (words_of c) at params (stays q t) q) ∷ places) p (λ i. n (there i))
-        ∙ name_other q (name_or (words_of c) at params (stays q t) q) places p (eq_false q p (λ e. n (subst (λ z. In z (q ∷ ps)) e here)))
+        fields_old at t ps ((q, name_or (name_supply_of c) at params (stays q t) q) ∷ places) p (λ i. n (there i))
+        ∙ name_other q (name_or (name_supply_of c) at params (stays q t) q) places p (eq_false q p (λ e. n (subst (λ z. In z (q ∷ ps)) e here)))
 
-    fields_new : (at : ℕ) (t : Tree) (ps : List ℕ) (places : Scope) (p : ℕ) → Differ ps → In p ps → name_for (with_fields (words_of c) at params t ps places) p ≡ name_or (words_of c) at params (stays p t) p
+    fields_new : (at : ℕ) (t : Tree) (ps : List ℕ) (places : Scope) (p : ℕ) → Differ ps → In p ps → renamed_name (with_fields (name_supply_of c) at params t ps places) p ≡ name_or (name_supply_of c) at params (stays p t) p
     fields_new at t [] places p d i = none_in i
     fields_new at t (q ∷ ps) places p d here =
-        fields_old at t ps ((p, name_or (words_of c) at params (stays p t) p) ∷ places) p (λ i. all_of (λ y. y ≢ p) ps d.0 i refl)
-        ∙ name_here p (name_or (words_of c) at params (stays p t) p) places
-    fields_new at t (q ∷ ps) places p d (there i) = fields_new at t ps ((q, name_or (words_of c) at params (stays q t) q) ∷ places) p d.1 i
+        fields_old at t ps ((p, name_or (name_supply_of c) at params (stays p t) p) ∷ places) p (λ i. all_of (λ y. y ≢ p) ps d.0 i refl)
+        ∙ name_here p (name_or (name_supply_of c) at params (stays p t) p) places
+    fields_new at t (q ∷ ps) places p d (there i) = fields_new at t ps ((q, name_or (name_supply_of c) at params (stays q t) q) ∷ places) p d.1 i
 
     -- a place's name is in scope, or is `_`
     pub record Placed (binds : ℕ → ℕ → Bool) (inner : Scope) (p y : ℕ) : Type 0 where
@@ -244,7 +244,7 @@ module _ (c : Source) (unbroken : (k at : ℕ) → Broken c k at → ⊥) (read 
       pub local : is_named (translated c) (codes "_") y ≡ false → is_local inner y ≡ true
 
     abbrev pub Known : List ℕ → (ℕ → ℕ → Bool) → Scope → Scope → Type 0
-    Known ks binds places inner = (p : ℕ) → In p ks → Placed binds inner p (name_for places p)
+    Known ks binds places inner = (p : ℕ) → In p ks → Placed binds inner p (renamed_name places p)
 
     pub placed_less : (f g : ℕ → ℕ → Bool) (inner : Scope) (p y : ℕ) → (f p y ≡ true → g p y ≡ true) → Placed f inner p y → Placed g inner p y
     placed_less f g inner p y h k = record { place = ⊎_elim (λ l. inl l) (λ r. inr (h r)) k.place; local = k.local }
@@ -252,48 +252,48 @@ module _ (c : Source) (unbroken : (k at : ℕ) → Broken c k at → ⊥) (read 
     pub placed_within : (f : ℕ → ℕ → Bool) (bs : List Binder) (inner : Scope) (p y : ℕ) → Placed f inner p y → Placed f (within (translated c) bs inner) p y
     placed_within f bs inner p y k = record { place = k.place; local = λ n. local_within (translated c) bs inner y (k.local n) }
 
-    pub binders_in : (at : ℕ) (s : Scope) (ps : List ℕ) (p : ℕ) → In p ps → In (binder (words_of c) at params (name_for s p)) (binders (words_of c) at params s ps)
+    pub binders_in : (at : ℕ) (s : Scope) (ps : List ℕ) (p : ℕ) → In p ps → In (binder (name_supply_of c) at params (renamed_name s p)) (binders (name_supply_of c) at params s ps)
     binders_in at s [] p i = none_in i
     binders_in at s (q ∷ ps) p here = here
     binders_in at s (q ∷ ps) p (there i) = there (binders_in at s ps p i)
 
     -- the names of places that are bound here
-    pub placed_bound : (f : ℕ → ℕ → Bool) (at : ℕ) (s : Scope) (ps : List ℕ) (inner : Scope) (p : ℕ) → In p ps → IsPlace f p (name_for s p) → Placed f (within (translated c) (binders (words_of c) at params s ps) inner) p (name_for s p)
-    placed_bound f at s ps inner p i h = record { place = h; local = λ n. bound_within (translated c) (binders (words_of c) at params s ps) inner (binder (words_of c) at params (name_for s p)) (binders_in at s ps p i) n }
+    pub placed_bound : (f : ℕ → ℕ → Bool) (at : ℕ) (s : Scope) (ps : List ℕ) (inner : Scope) (p : ℕ) → In p ps → IsPlace f p (renamed_name s p) → Placed f (within (translated c) (binders (name_supply_of c) at params s ps) inner) p (renamed_name s p)
+    placed_bound f at s ps inner p i h = record { place = h; local = λ n. bound_within (translated c) (binders (name_supply_of c) at params s ps) inner (binder (name_supply_of c) at params (renamed_name s p)) (binders_in at s ps p i) n }
 
-    pub field_place : (at : ℕ) (t : Tree) (ps : List ℕ) (places : Scope) → Differ ps → (p : ℕ) → In p ps → IsPlace (λ p x. all_bind p x t) p (name_for (with_fields (words_of c) at params t ps places) p)
+    pub field_place : (at : ℕ) (t : Tree) (ps : List ℕ) (places : Scope) → Differ ps → (p : ℕ) → In p ps → IsPlace (λ p x. all_bind p x t) p (renamed_name (with_fields (name_supply_of c) at params t ps places) p)
     field_place at t ps places d p i = subst (IsPlace (λ p x. all_bind p x t) p) (sym (fields_new at t ps places p d i)) (stays_is at p t)
 
     pub known_branch : (at : ℕ) (t : Tree) (ps ks : List ℕ) (places inner : Scope) → Differ ps → AllOf (λ p. NotIn p ks) ps → Known ks (λ p x. all_bind p x t) places inner
-        → Known (ps ++ ks) (λ p x. all_bind p x t) (with_fields (words_of c) at params t ps places) (within (translated c) (binders (words_of c) at params (with_fields (words_of c) at params t ps places) ps) inner)
+        → Known (ps ++ ks) (λ p x. all_bind p x t) (with_fields (name_supply_of c) at params t ps places) (within (translated c) (binders (name_supply_of c) at params (with_fields (name_supply_of c) at params t ps places) ps) inner)
     known_branch at t ps ks places inner d n k p i = elim (in_split ps ks i) [
-      | inl l ↦ placed_bound (λ p x. all_bind p x t) at (with_fields (words_of c) at params t ps places) ps inner p l (field_place at t ps places d p l)
+      | inl l ↦ placed_bound (λ p x. all_bind p x t) at (with_fields (name_supply_of c) at params t ps places) ps inner p l (field_place at t ps places d p l)
       | inr r ↦
           let old = fields_old at t ps places p (λ l. all_of (λ q. NotIn q ks) ps n l r) in
-          subst (Placed (λ p x. all_bind p x t) (within (translated c) (binders (words_of c) at params (with_fields (words_of c) at params t ps places) ps) inner) p) (sym old)
-          (placed_within (λ p x. all_bind p x t) (binders (words_of c) at params (with_fields (words_of c) at params t ps places) ps) inner p (name_for places p) (k p r))
+          subst (Placed (λ p x. all_bind p x t) (within (translated c) (binders (name_supply_of c) at params (with_fields (name_supply_of c) at params t ps places) ps) inner) p) (sym old)
+          (placed_within (λ p x. all_bind p x t) (binders (name_supply_of c) at params (with_fields (name_supply_of c) at params t ps places) ps) inner p (renamed_name places p) (k p r))
     ]
 
     -- ---- what the names in a row's patterns have become
 
-    pub taken_kept : (places : Scope) (bs : List (Binder × ℕ)) (x : ℕ) → keeps (words_of c) x ≡ true → name_for (taken (words_of c) places bs) x ≡ x
+    pub taken_kept : (places : Scope) (bs : List (Binder × ℕ)) (x : ℕ) → keeps (name_supply_of c) x ≡ true → renamed_name (taken (name_supply_of c) places bs) x ≡ x
     taken_kept places [] x k = refl
-    taken_kept places (b ∷ bs) x k = go (keeps (words_of c) b.0.name.0) refl (taken_kept places bs x k)
+    taken_kept places (b ∷ bs) x k = go (keeps (name_supply_of c) b.0.name.0) refl (taken_kept places bs x k)
       where
-        go : (t : Bool) → keeps (words_of c) b.0.name.0 ≡ t → name_for (taken (words_of c) places bs) x ≡ x → name_for (if t then taken (words_of c) places bs else (b.0.name.0, name_for places b.1) ∷ taken (words_of c) places bs) x ≡ x
+        go : (t : Bool) → keeps (name_supply_of c) b.0.name.0 ≡ t → renamed_name (taken (name_supply_of c) places bs) x ≡ x → renamed_name (if t then taken (name_supply_of c) places bs else (b.0.name.0, renamed_name places b.1) ∷ taken (name_supply_of c) places bs) x ≡ x
         go true h f = f
-        go false h f = name_other b.0.name.0 (name_for places b.1) (taken (words_of c) places bs) x (eq_false b.0.name.0 x (λ e. no_both (sym h ∙ ap (keeps (words_of c)) e ∙ k))) ∙ f
+        go false h f = name_other b.0.name.0 (renamed_name places b.1) (taken (name_supply_of c) places bs) x (eq_false b.0.name.0 x (λ e. no_both (sym h ∙ ap (keeps (name_supply_of c)) e ∙ k))) ∙ f
           where
             no_both : false ≡ true → ⊥
             no_both e = cc
 
     -- a name that is not kept is that of a place, or none of them
     abbrev pub Became : (places : Scope) (bs : List (Binder × ℕ)) (x y : ℕ) → Type 0
-    Became places bs x y = ((b : Binder × ℕ) × In b bs × (b.0.name.0 ≡ x) × (y ≡ name_for places b.1)) ⊎ ((y ≡ x) × ((b : Binder) → In b (bound_names bs) → b.name.0 ≢ x))
+    Became places bs x y = ((b : Binder × ℕ) × In b bs × (b.0.name.0 ≡ x) × (y ≡ renamed_name places b.1)) ⊎ ((y ≡ x) × ((b : Binder) → In b (bound_names bs) → b.name.0 ≢ x))
 
-    pub taken_name : (places : Scope) (bs : List (Binder × ℕ)) (x : ℕ) → keeps (words_of c) x ≡ false → Became places bs x (name_for (taken (words_of c) places bs) x)
+    pub taken_name : (places : Scope) (bs : List (Binder × ℕ)) (x : ℕ) → keeps (name_supply_of c) x ≡ false → Became places bs x (renamed_name (taken (name_supply_of c) places bs) x)
     taken_name places [] x k = inr (refl, λ b i e. none_in i)
-    taken_name places (b ∷ bs) x k = go (keeps (words_of c) b.0.name.0) (two_ways (b.0.name.0 == x)) refl (taken_name places bs x k)
+    taken_name places (b ∷ bs) x k = go (keeps (name_supply_of c) b.0.name.0) (two_ways (b.0.name.0 == x)) refl (taken_name places bs x k)
       where
         no_both : true ≡ false → ⊥
         no_both e = cc
@@ -302,15 +302,15 @@ module _ (c : Source) (unbroken : (k at : ℕ) → Broken c k at → ⊥) (read 
         later y n (inl l) = inl (l.0, there l.1, l.2, l.3)
         later y n (inr r) = inr (r.0, λ d i. ⊎_elim (λ q e. n (ap (λ (w : Binder). w.name.0) (sym q) ∙ e)) (λ j. r.1 d j) (cons_in b.0 (bound_names bs) i))
 
-        go : (t : Bool) → ((b.0.name.0 == x) ≡ true) ⊎ ((b.0.name.0 == x) ≡ false) → keeps (words_of c) b.0.name.0 ≡ t → Became places bs x (name_for (taken (words_of c) places bs) x)
-            → Became places (b ∷ bs) x (name_for (if t then taken (words_of c) places bs else (b.0.name.0, name_for places b.1) ∷ taken (words_of c) places bs) x)
-        go true (inl e) h f = absurd (no_both (sym h ∙ ap (keeps (words_of c)) (eq_from b.0.name.0 x e) ∙ k))
-        go true (inr e) h f = later (name_for (taken (words_of c) places bs) x) (differs_from b.0.name.0 x e) f
-        go false (inl e) h f = inl (b, here, eq_from b.0.name.0 x e, name_at b.0.name.0 (name_for places b.1) (taken (words_of c) places bs) x e)
-        go false (inr e) h f = subst (Became places (b ∷ bs) x) (sym (name_other b.0.name.0 (name_for places b.1) (taken (words_of c) places bs) x e)) (later (name_for (taken (words_of c) places bs) x) (differs_from b.0.name.0 x e) f)
+        go : (t : Bool) → ((b.0.name.0 == x) ≡ true) ⊎ ((b.0.name.0 == x) ≡ false) → keeps (name_supply_of c) b.0.name.0 ≡ t → Became places bs x (renamed_name (taken (name_supply_of c) places bs) x)
+            → Became places (b ∷ bs) x (renamed_name (if t then taken (name_supply_of c) places bs else (b.0.name.0, renamed_name places b.1) ∷ taken (name_supply_of c) places bs) x)
+        go true (inl e) h f = absurd (no_both (sym h ∙ ap (keeps (name_supply_of c)) (eq_from b.0.name.0 x e) ∙ k))
+        go true (inr e) h f = later (renamed_name (taken (name_supply_of c) places bs) x) (differs_from b.0.name.0 x e) f
+        go false (inl e) h f = inl (b, here, eq_from b.0.name.0 x e, name_at b.0.name.0 (renamed_name places b.1) (taken (name_supply_of c) places bs) x e)
+        go false (inr e) h f = subst (Became places (b ∷ bs) x) (sym (name_other b.0.name.0 (renamed_name places b.1) (taken (name_supply_of c) places bs) x e)) (later (renamed_name (taken (name_supply_of c) places bs) x) (differs_from b.0.name.0 x e) f)
 
     pub fits_row : (ks : List ℕ) (r : Row) (w : Comes c ks r) (places inner : Scope) → r.jobs ≡ [] → Known ks (λ p x. is_name x (bound_at p r.bound)) places inner
-        → Fits c (taken (words_of c) places r.bound) (within (spread c) (parts.names_of w.equation.pats) []) inner
+        → Fits c (taken (name_supply_of c) places r.bound) (within (equations_as_functions c) (parts.names_of w.equation.pats) []) inner
     fits_row ks r w places inner done k = record {
       kept = λ x h. taken_kept places r.bound x h;
       other = λ x plain. becomes x plain (taken_name places r.bound x plain.free);
@@ -331,12 +331,12 @@ module _ (c : Source) (unbroken : (k at : ℕ) → Broken c k at → ⊥) (read 
         known {b = b} i = all_of (λ q. In q ks) (bound_places r.bound ++ job_places r.jobs) w.known (in_left (bound_places r.bound) (job_places r.jobs) (place_in r.bound i))
 
         outer : Scope
-        outer = within (spread c) (parts.names_of w.equation.pats) []
+        outer = within (equations_as_functions c) (parts.names_of w.equation.pats) []
 
-        becomes : (x : ℕ) → IsPlain c x → Became places r.bound x (name_for (taken (words_of c) places r.bound) x) → Becomes c x (taken (words_of c) places r.bound) outer inner
+        becomes : (x : ℕ) → IsPlain c x → Became places r.bound x (renamed_name (taken (name_supply_of c) places r.bound) x) → Becomes c x (taken (name_supply_of c) places r.bound) outer inner
         becomes x plain (inr n) = record {
           either = inl n.0;
-          local = λ l. absurd (⊎_elim (λ (f : (b : Binder) × In b (parts.names_of w.equation.pats) × (b.name.0 ≡ x)). n.1 f.0 (subst (In f.0) (sym names) f.1) f.2) (λ e. no_both e) (within_either (spread c) (parts.names_of w.equation.pats) [] x l));
+          local = λ l. absurd (⊎_elim (λ (f : (b : Binder) × In b (parts.names_of w.equation.pats) × (b.name.0 ≡ x)). n.1 f.0 (subst (In f.0) (sym names) f.1) f.2) (λ e. no_both e) (within_either (equations_as_functions c) (parts.names_of w.equation.pats) [] x l));
         }
           where
             no_both : false ≡ true → ⊥
@@ -344,19 +344,19 @@ module _ (c : Source) (unbroken : (k at : ℕ) → Broken c k at → ⊥) (read 
         becomes x plain (inl f) =
             let p = k f.0.1 (known f.1) in
             let named : is_named (translated c) (codes "_") x ≡ false = old_named c (codes "_") plain.text x plain.is ∙ plain.named in
-            at_place (name_for (taken (words_of c) places r.bound) x) f.3 p.place p.local named
+            at_place (renamed_name (taken (name_supply_of c) places r.bound) x) f.3 p.place p.local named
           where
-            at_place : (y : ℕ) → name_for (taken (words_of c) places r.bound) x ≡ name_for places f.0.1 → IsPlace (λ p x. is_name x (bound_at p r.bound)) f.0.1 (name_for places f.0.1) → (is_named (translated c) (codes "_") (name_for places f.0.1) ≡ false → is_local inner (name_for places f.0.1) ≡ true)
-                → is_named (translated c) (codes "_") x ≡ false → Becomes c x (taken (words_of c) places r.bound) outer inner
+            at_place : (y : ℕ) → renamed_name (taken (name_supply_of c) places r.bound) x ≡ renamed_name places f.0.1 → IsPlace (λ p x. is_name x (bound_at p r.bound)) f.0.1 (renamed_name places f.0.1) → (is_named (translated c) (codes "_") (renamed_name places f.0.1) ≡ false → is_local inner (renamed_name places f.0.1) ≡ true)
+                → is_named (translated c) (codes "_") x ≡ false → Becomes c x (taken (name_supply_of c) places r.bound) outer inner
             at_place y q (inl a) g n =
-                let le : length (with_nameless c.names) ≤ name_for places f.0.1 = subst (λ z. length (with_nameless c.names) ≤ z) (sym a) (place_new params f.0.1) in
-                let l = g (new_named c (name_for places f.0.1) le) in
+                let le : length (with_nameless c.names) ≤ renamed_name places f.0.1 = subst (λ z. length (with_nameless c.names) ≤ z) (sym a) (place_new params f.0.1) in
+                let l = g (new_named c (renamed_name places f.0.1) le) in
                 record {
                   either = inr (subst (λ z. length (with_nameless c.names) ≤ z) (sym q) le, ap (is_local inner) q ∙ l);
                   local = λ h. ap (is_local inner) q ∙ l;
                 }
             at_place y q (inr a) g n =
-                let same : name_for places f.0.1 ≡ x = some_is (sym (is_name_some (name_for places f.0.1) (bound_at f.0.1 r.bound) a) ∙ at_bound r.bound f.0 once f.1) ∙ f.2 in
+                let same : renamed_name places f.0.1 ≡ x = some_is (sym (is_name_some (renamed_name places f.0.1) (bound_at f.0.1 r.bound) a) ∙ at_bound r.bound f.0 once f.1) ∙ f.2 in
                 record {
                   either = inl (q ∙ same);
                   local = λ h. ap (is_local inner) q ∙ g (ap (is_named (translated c) (codes "_")) same ∙ n);
@@ -369,7 +369,7 @@ module _ (c : Source) (unbroken : (k at : ℕ) → Broken c k at → ⊥) (sound
   spread_is e i = let r = spread_at [] (length c.names) c.equations e i in record { number = r.0; function = r.1; is = r.2; params = r.3; body = r.4 }
 
   -- a name of a pattern is that of no primitive
-  pattern_apart : (e : Equation) → In e c.equations → (b : Binder) → In b (parts.names_of e.pats) → (n : ℕ) (q : List ℕ × PrimOp) → slice_get primitives n ≡ Some q → is_named (spread c) q.0 b.name.0 ≡ true → ⊥
+  pattern_apart : (e : Equation) → In e c.equations → (b : Binder) → In b (parts.names_of e.pats) → (n : ℕ) (q : List ℕ × PrimOp) → slice_get primitives n ≡ Some q → is_named (equations_as_functions c) q.0 b.name.0 ≡ true → ⊥
   pattern_apart e i b m n q s h =
       let f = spread_is e i in
       let at = in_at (parts.names_of e.pats) m in
@@ -383,7 +383,7 @@ module _ (c : Source) (unbroken : (k at : ℕ) → Broken c k at → ⊥) (sound
         no_both e = cc
     place_plain n ks t f p y m q (inr a) s h =
         let w = bound_name c unbroken read n ks t f p y a in
-        pattern_apart w.0 w.1 w.2.0 w.2.1 m q s (ap (is_named (spread c) q.0) w.2.2 ∙ sym (same_named c q.0 (primitive_apart m s) y) ∙ h)
+        pattern_apart w.0 w.1 w.2.0 w.2.1 m q s (ap (is_named (equations_as_functions c) q.0) w.2.2 ∙ sym (same_named c q.0 (primitive_apart m s) y) ∙ h)
 
     -- ---- lists of binders at places
 
@@ -392,7 +392,7 @@ module _ (c : Source) (unbroken : (k at : ℕ) → Broken c k at → ⊥) (sound
       pub once : (at : ℕ) → Repeats (translated c) xs at → ⊥
       pub plain : (i n : ℕ) (x : Binder) (q : List ℕ × PrimOp) → slice_get xs i ≡ Some x → slice_get primitives n ≡ Some q → is_named (translated c) q.0 x.name.0 ≡ true → ⊥
 
-    binder_at : (at : ℕ) (s : Scope) (ps : List ℕ) (i : ℕ) (x : Binder) → slice_get (binders (words_of c) at params s ps) i ≡ Some x → (p : ℕ) × (slice_get ps i ≡ Some p) × (name_for s p ≡ x.name.0)
+    binder_at : (at : ℕ) (s : Scope) (ps : List ℕ) (i : ℕ) (x : Binder) → slice_get (binders (name_supply_of c) at params s ps) i ≡ Some x → (p : ℕ) × (slice_get ps i ≡ Some p) × (renamed_name s p ≡ x.name.0)
     binder_at at s [] i x e = absurd cc
     binder_at at s (p ∷ ps) zero x e = (p, refl, ap (λ (b : Binder). b.name.0) (some_is e))
     binder_at at s (p ∷ ps) (suc i) x e = binder_at at s ps i x e
@@ -400,35 +400,35 @@ module _ (c : Source) (unbroken : (k at : ℕ) → Broken c k at → ⊥) (sound
     differ_items : (ps : List ℕ) (i j p q : ℕ) → Differ ps → i < j → slice_get ps i ≡ Some p → slice_get ps j ≡ Some q → p ≢ q
     differ_items ps i j p q d lt e f h = differ_at ps i j p q d lt e f (sym h)
 
-    pub good_binders : (at n : ℕ) (ks : List ℕ) (t : Tree) (s : Scope) (ps : List ℕ) → Fine c n ks t → Differ ps → ((p : ℕ) → In p ps → IsPlace c unbroken read params within_most (λ p x. all_bind p x t) p (name_for s p)) → IsGood (binders (words_of c) at params s ps)
+    pub good_binders : (at n : ℕ) (ks : List ℕ) (t : Tree) (s : Scope) (ps : List ℕ) → Fine c n ks t → Differ ps → ((p : ℕ) → In p ps → IsPlace c unbroken read params within_most (λ p x. all_bind p x t) p (renamed_name s p)) → IsGood (binders (name_supply_of c) at params s ps)
     good_binders at n ks t s ps f d are = record {
       once = λ place r.
           let a = binder_at at s ps r.i r.first r.is_first in
           let b = binder_at at s ps r.j r.second r.is_second in
-          place_once c unbroken read params within_most n ks t f a.0 b.0 (name_for s b.0) (differ_items ps r.i r.j a.0 b.0 d r.before a.1 b.1)
+          place_once c unbroken read params within_most n ks t f a.0 b.0 (renamed_name s b.0) (differ_items ps r.i r.j a.0 b.0 d r.before a.1 b.1)
           (subst (IsPlace c unbroken read params within_most (λ p x. all_bind p x t) a.0) (a.2 ∙ sym r.same ∙ sym b.2) (are a.0 (is_in ps r.i a.1))) (are b.0 (is_in ps r.j b.1))
           (ap (is_named (translated c) (codes "_")) b.2 ∙ r.named);
       plain = λ i m x q e g h.
           let a = binder_at at s ps i x e in
-          place_plain n ks t f a.0 (name_for s a.0) m q (are a.0 (is_in ps i a.1)) g (ap (is_named (translated c) q.0) a.2 ∙ h);
+          place_plain n ks t f a.0 (renamed_name s a.0) m q (are a.0 (is_in ps i a.1)) g (ap (is_named (translated c) q.0) a.2 ∙ h);
     }
 
     -- the list of `_` alone
-    pub good_nameless : (at : ℕ) → IsGood (binder (words_of c) at params (nameless (words_of c)) ∷ [])
+    pub good_nameless : (at : ℕ) → IsGood (binder (name_supply_of c) at params (nameless (name_supply_of c)) ∷ [])
     good_nameless at = record {
       once = λ place r. no_second r.i r.j r.second r.before r.is_second;
       plain = λ i m x q e g h. only q m g h (one i x e);
     }
       where
-        no_second : (i j : ℕ) (x : Binder) → i < j → slice_get (binder (words_of c) at params (nameless (words_of c)) ∷ []) j ≡ Some x → ⊥
+        no_second : (i j : ℕ) (x : Binder) → i < j → slice_get (binder (name_supply_of c) at params (nameless (name_supply_of c)) ∷ []) j ≡ Some x → ⊥
         no_second i zero x lt e = omega (arith, lt)
         no_second i (suc j) x lt e = absurd cc
 
-        one : (i : ℕ) (x : Binder) → slice_get (binder (words_of c) at params (nameless (words_of c)) ∷ []) i ≡ Some x → x.name.0 ≡ nameless (words_of c)
+        one : (i : ℕ) (x : Binder) → slice_get (binder (name_supply_of c) at params (nameless (name_supply_of c)) ∷ []) i ≡ Some x → x.name.0 ≡ nameless (name_supply_of c)
         one zero x e = ap (λ (b : Binder). b.name.0) (sym (some_is e))
         one (suc i) x e = absurd cc
 
-        only : (q : List ℕ × PrimOp) (m : ℕ) → slice_get primitives m ≡ Some q → {x : ℕ} → is_named (translated c) q.0 x ≡ true → x ≡ nameless (words_of c) → ⊥
+        only : (q : List ℕ × PrimOp) (m : ℕ) → slice_get primitives m ≡ Some q → {x : ℕ} → is_named (translated c) q.0 x ≡ true → x ≡ nameless (name_supply_of c) → ⊥
         only q m g h e = no_both (sym (nameless_apart c q.0 (primitive_apart m g)) ∙ ap (is_named (translated c) q.0) (sym e) ∙ h)
           where
             no_both : false ≡ true → ⊥

@@ -4,35 +4,35 @@ use Rattle.std.specs.Prelude.{◌==◌, ◌≢◌}
 use Rattle.std.proofs.lemmas.Bool.{eq-eqb}
 use Rattle.seq.specs.Lists.{AllOf}
 use Rattle.seq.proofs.Order.{eq_from}
-use Rattle.headline.specs.Carries.{Begins}
+use Rattle.headline.specs.Carries.{IsPrefixOf}
 use Rattle.core_meaning.specs.Heap.{Value, Int, Con, Part, Call, Input, Waiting, Heap}
 use Rattle.core_meaning.specs.Forcing as forcing
-use Rattle.core_meaning.specs.Forcing.{Printed, End, Unaccepted, Going, stops, on_value, on_list, on_byte}
-use Rattle.core_meaning.specs.Evaluation.{State, Answer, Gives, NoAlternative, OutOfBound, Onward, append}
+use Rattle.core_meaning.specs.Forcing.{PrintedRun, PrintingEnd, Unaccepted, Going, stops, on_value, on_list, on_byte}
+use Rattle.core_meaning.specs.Evaluation.{State, Answer, Gives, NoAlternative, OutOfBound, DelayedEvaluator, append}
 use Rattle.match_compile.proofs.Beside as both
 use Rattle.match_compile.proofs.Beside.{Pace, Ahead, Behind, Together, Fits, IsAhead, IsBehind, units}
 
 -- ---- what was put out stays
 
-pub nothing_first : (xs : List ℕ) → Begins [] xs
+pub nothing_first : (xs : List ℕ) → IsPrefixOf [] xs
 nothing_first xs = (xs, refl)
 
-itself_first : (xs : List ℕ) → Begins xs xs
+itself_first : (xs : List ℕ) → IsPrefixOf xs xs
 itself_first xs = ([], sym (append-nil xs))
 
-more_first : (xs more ys : List ℕ) → Begins (xs ++ more) ys → Begins xs ys
+more_first : (xs more ys : List ℕ) → IsPrefixOf (xs ++ more) ys → IsPrefixOf xs ys
 more_first xs more ys b = (more ++ b.0, b.1 ∙ append_assoc xs more b.0)
 
-value_keeps : (out : List ℕ) (r : Answer) (go : Value → State → Printed) → ((v : Value) (s : State) → Begins out (go v s).out) → Begins out (on_value r out go).out
+value_keeps : (out : List ℕ) (r : Answer) (go : Value → State → PrintedRun) → ((v : Value) (s : State) → IsPrefixOf out (go v s).out) → IsPrefixOf out (on_value r out go).out
 value_keeps out (Gives v s) go h = h v s
 value_keeps out (NoAlternative s) go h = itself_first out
 value_keeps out (OutOfBound s) go h = itself_first out
 
-if_keeps : (out : List ℕ) (b : Bool) (x y : Printed) → Begins out x.out → Begins out y.out → Begins out (elim b as (λ _. Printed) [ true ↦ x | false ↦ y ]).out
+if_keeps : (out : List ℕ) (b : Bool) (x y : PrintedRun) → IsPrefixOf out x.out → IsPrefixOf out y.out → IsPrefixOf out (elim b as (λ _. PrintedRun) [ true ↦ x | false ↦ y ]).out
 if_keeps out true x y h g = h
 if_keeps out false x y h g = g
 
-list_keeps : (n c : ℕ) (out : List ℕ) (v : Value) (s : State) (go : ℕ → ℕ → Printed) → ((h t : ℕ) → Begins out (go h t).out) → Begins out (on_list n c v out s go).out
+list_keeps : (n c : ℕ) (out : List ℕ) (v : Value) (s : State) (go : ℕ → ℕ → PrintedRun) → ((h t : ℕ) → IsPrefixOf out (go h t).out) → IsPrefixOf out (on_list n c v out s go).out
 list_keeps n c out (Int k) s go h = itself_first out
 list_keeps n c out (Part f xs) s go h = itself_first out
 list_keeps n c out (Con d []) s go h = itself_first out
@@ -40,13 +40,13 @@ list_keeps n c out (Con d (x ∷ [])) s go h = itself_first out
 list_keeps n c out (Con d (x ∷ t ∷ [])) s go h = if_keeps out (d == c) _ _ (h x t) (itself_first out)
 list_keeps n c out (Con d (x ∷ t ∷ u ∷ xs)) s go h = itself_first out
 
-byte_keeps : (out : List ℕ) (v : Value) (s : State) (go : ℕ → Printed) → ((b : ℕ) → Begins out (go b).out) → Begins out (on_byte v out s go).out
+byte_keeps : (out : List ℕ) (v : Value) (s : State) (go : ℕ → PrintedRun) → ((b : ℕ) → IsPrefixOf out (go b).out) → IsPrefixOf out (on_byte v out s go).out
 byte_keeps out (Int k) s go h = h _
 byte_keeps out (Con c xs) s go h = itself_first out
 byte_keeps out (Part f xs) s go h = itself_first out
 
-module _ (arity : ℕ → ℕ) (nil cons : ℕ) (enter : Onward → ℕ → List ℕ → ℕ → State → Answer) where
-  pub print_keeps : (n a : ℕ) (out : List ℕ) (s : State) → Begins out (forcing.print arity NoAlternative nil cons enter n a out s).out
+module _ (arity : ℕ → ℕ) (nil cons : ℕ) (enter : DelayedEvaluator → ℕ → List ℕ → ℕ → State → Answer) where
+  pub print_keeps : (n a : ℕ) (out : List ℕ) (s : State) → IsPrefixOf out (forcing.print arity NoAlternative nil cons enter n a out s).out
   print_keeps zero a out s = itself_first out
   print_keeps (suc n) a out s =
       value_keeps out _ _ (λ v s. list_keeps nil cons out v s _ (λ h t.
@@ -55,35 +55,35 @@ module _ (arity : ℕ → ℕ) (nil cons : ℕ) (enter : Onward → ℕ → List
 -- ---- what both put out
 
 -- what b puts out begins with what a does, and where a has ended it is the same, with the same end
-pub record Reaches (a b : Printed) : Type 0 where
-  pub out : Begins a.out b.out
+pub record Reaches (a b : PrintedRun) : Type 0 where
+  pub out : IsPrefixOf a.out b.out
   pub ended : a.end ≢ Going → (b.out ≡ a.out) × (b.end ≡ a.end)
 
-abbrev pub Puts : Pace → Printed → Printed → Type 0
+abbrev pub Puts : Pace → PrintedRun → PrintedRun → Type 0
 Puts (Ahead k) r r' = Reaches r r'
 Puts Behind r r' = Reaches r' r
 Puts Together r r' = (r'.out ≡ r.out) × (r'.end ≡ r.end)
 
-both_stop : (pace : Pace) (out : List ℕ) (e : End) (s t : State) → Puts pace (stops out e s) (stops out e t)
+both_stop : (pace : Pace) (out : List ℕ) (e : PrintingEnd) (s t : State) → Puts pace (stops out e s) (stops out e t)
 both_stop (Ahead k) out e s t = record { out = itself_first out; ended = λ _. (refl, refl) }
 both_stop Behind out e s t = record { out = itself_first out; ended = λ _. (refl, refl) }
 both_stop Together out e s t = (refl, refl)
 
-first_stops : (pace : Pace) → IsAhead pace → (out : List ℕ) (s : State) (r : Printed) → Begins out r.out → Puts pace (stops out Going s) r
+first_stops : (pace : Pace) → IsAhead pace → (out : List ℕ) (s : State) (r : PrintedRun) → IsPrefixOf out r.out → Puts pace (stops out Going s) r
 first_stops (Ahead k) i out s r b = record { out = b; ended = λ h. absurd (h refl) }
 first_stops Behind i out s r b = absurd i
 first_stops Together i out s r b = absurd i
 
-second_stops : (pace : Pace) → IsBehind pace → (out : List ℕ) (t : State) (r : Printed) → Begins out r.out → Puts pace r (stops out Going t)
+second_stops : (pace : Pace) → IsBehind pace → (out : List ℕ) (t : State) (r : PrintedRun) → IsPrefixOf out r.out → Puts pace r (stops out Going t)
 second_stops (Ahead k) i out t r b = absurd i
 second_stops Behind i out t r b = record { out = b; ended = λ h. absurd (h refl) }
 second_stops Together i out t r b = absurd i
 
-if_puts : (pace : Pace) (b : Bool) (x x' y y' : Printed) → Puts pace x x' → Puts pace y y' → Puts pace (elim b as (λ _. Printed) [ true ↦ x | false ↦ y ]) (elim b as (λ _. Printed) [ true ↦ x' | false ↦ y' ])
+if_puts : (pace : Pace) (b : Bool) (x x' y y' : PrintedRun) → Puts pace x x' → Puts pace y y' → Puts pace (elim b as (λ _. PrintedRun) [ true ↦ x | false ↦ y ]) (elim b as (λ _. PrintedRun) [ true ↦ x' | false ↦ y' ])
 if_puts pace true x x' y y' h g = h
 if_puts pace false x x' y y' h g = g
 
-list_puts : (pace : Pace) (n c n' c' : ℕ) → n' ≡ n → c' ≡ c → (v : Value) (out : List ℕ) (s t : State) (go go' : ℕ → ℕ → Printed) → ((h tl : ℕ) → Puts pace (go h tl) (go' h tl)) → Puts pace (on_list n c v out s go) (on_list n' c' v out t go')
+list_puts : (pace : Pace) (n c n' c' : ℕ) → n' ≡ n → c' ≡ c → (v : Value) (out : List ℕ) (s t : State) (go go' : ℕ → ℕ → PrintedRun) → ((h tl : ℕ) → Puts pace (go h tl) (go' h tl)) → Puts pace (on_list n c v out s go) (on_list n' c' v out t go')
 list_puts pace n c n' c' e f (Int k) out s t go go' h = both_stop pace out Unaccepted s t
 list_puts pace n c n' c' e f (Part g xs) out s t go go' h = both_stop pace out Unaccepted s t
 list_puts pace n c n' c' e f (Con d []) out s t go go' h = subst (λ z. Puts pace (on_list n c (Con d []) out s go) (on_list z c (Con d []) out t go')) (sym e) (both_stop pace out _ s t)
@@ -92,7 +92,7 @@ list_puts pace n c n' c' e f (Con d (x ∷ tl ∷ [])) out s t go go' h =
     subst (λ z. Puts pace (on_list n c (Con d (x ∷ tl ∷ [])) out s go) (on_list n z (Con d (x ∷ tl ∷ [])) out t go')) (sym f) (if_puts pace (d == c) _ _ _ _ (h x tl) (both_stop pace out Unaccepted s t))
 list_puts pace n c n' c' e f (Con d (x ∷ tl ∷ u ∷ xs)) out s t go go' h = both_stop pace out Unaccepted s t
 
-byte_puts : (pace : Pace) (v : Value) (out : List ℕ) (s t : State) (go go' : ℕ → Printed) → ((b : ℕ) → Puts pace (go b) (go' b)) → Puts pace (on_byte v out s go) (on_byte v out t go')
+byte_puts : (pace : Pace) (v : Value) (out : List ℕ) (s t : State) (go go' : ℕ → PrintedRun) → ((b : ℕ) → Puts pace (go b) (go' b)) → Puts pace (on_byte v out s go) (on_byte v out t go')
 byte_puts pace (Int k) out s t go go' h = h _
 byte_puts pace (Con c xs) out s t go go' h = both_stop pace out Unaccepted s t
 byte_puts pace (Part f xs) out s t go go' h = both_stop pace out Unaccepted s t
@@ -104,7 +104,7 @@ module _ (arity arity' many : ℕ → ℕ) (IsFun : ℕ → Type 0) (counts : (f
   abbrev Answers : (n m : ℕ) → Answer → Answer → Type 0
   Answers n m = both.Answers arity arity' many IsFun counts pace n m 0
 
-  value_puts : (n m : ℕ) {r r' : Answer} (out : List ℕ) (go go' : Value → State → Printed) → Answers n m r r' → ((v : Value) (s : State) → Begins out (go v s).out) → ((v : Value) (s : State) → Begins out (go' v s).out)
+  value_puts : (n m : ℕ) {r r' : Answer} (out : List ℕ) (go go' : Value → State → PrintedRun) → Answers n m r r' → ((v : Value) (s : State) → IsPrefixOf out (go v s).out) → ((v : Value) (s : State) → IsPrefixOf out (go' v s).out)
       → ((v : Value) (s : State) (u e : ℕ) → Beside n m s u → Puts pace (go v s) (go' v (units s u e))) → Puts pace (on_value r out go) (on_value r' out go')
   value_puts n m out go go' (both.BothGive {v = v} {s = s} {u = u} {e = e} g k) b b' h = h v s u e k
   value_puts n m out go go' (both.NeitherAccepts {s = s} {t = t}) b b' h = both_stop pace out Unaccepted s t
@@ -112,15 +112,15 @@ module _ (arity arity' many : ℕ → ℕ) (IsFun : ℕ → Type 0) (counts : (f
   value_puts n m {r' = r'} out go go' (both.FirstEnds {s = s} i) b b' h = first_stops pace i out s (on_value r' out go') (value_keeps out r' go' b')
   value_puts n m {r = r} out go go' (both.SecondEnds {t = t} i) b b' h = second_stops pace i out t (on_value r out go) (value_keeps out r go b)
 
-  module _ (nil cons nil' cons' : ℕ) (same_nil : nil' ≡ nil) (same_cons : cons' ≡ cons) (no_fields : many nil ≡ 0) (two_fields : many cons ≡ 2) (enter enter' : Onward → ℕ → List ℕ → ℕ → State → Answer)
+  module _ (nil cons nil' cons' : ℕ) (same_nil : nil' ≡ nil) (same_cons : cons' ≡ cons) (no_fields : many nil ≡ 0) (two_fields : many cons ≡ 2) (enter enter' : DelayedEvaluator → ℕ → List ℕ → ℕ → State → Answer)
       (entered : both.Entered arity arity' many IsFun counts pace nil cons nil' cons' same_nil same_cons no_fields two_fields enter enter') where
-    abbrev print : ℕ → ℕ → List ℕ → State → Printed
+    abbrev print : ℕ → ℕ → List ℕ → State → PrintedRun
     print n = forcing.print arity NoAlternative nil cons enter n
 
-    abbrev print' : ℕ → ℕ → List ℕ → State → Printed
+    abbrev print' : ℕ → ℕ → List ℕ → State → PrintedRun
     print' m = forcing.print arity' NoAlternative nil' cons' enter' m
 
-    print_keeps' : (m a : ℕ) (out : List ℕ) (s : State) → Begins out (print' m a out s).out
+    print_keeps' : (m a : ℕ) (out : List ℕ) (s : State) → IsPrefixOf out (print' m a out s).out
     print_keeps' = print_keeps arity' nil' cons' enter'
 
     -- one of them has no units left
@@ -133,7 +133,7 @@ module _ (arity arity' many : ℕ → ℕ) (IsFun : ℕ → Type 0) (counts : (f
     first_none Behind (suc m) (suc u) a e out s f z = absurd (omega (arith, f, z))
     first_none Together (suc m) (suc u) a e out s f z = absurd (omega (arith, f, z))
 
-    abbrev turn : ℕ → List ℕ → Value → State → Printed
+    abbrev turn : ℕ → List ℕ → Value → State → PrintedRun
     turn n out v s =
         on_list nil cons v out s (λ h t. on_value (forcing.force arity NoAlternative (forcing.within arity NoAlternative nil cons enter n) h 1 s) out (λ w s. on_byte w out s (λ b. print n t (out ++ b ∷ []) s)))
 
@@ -196,12 +196,12 @@ module _ (arity arity' many : ℕ → ℕ) (IsFun : ℕ → Type 0) (counts : (f
           → Puts pace (forcing.printed arity NoAlternative nil cons enter heap main name i n) (forcing.printed arity' NoAlternative nil' cons' enter' heap' main name' i m)
       printed_puts i n m f =
           subst (λ w. Puts pace (forcing.printed arity NoAlternative nil cons enter heap main name i n) (forcing.printed arity' NoAlternative nil' cons' enter' w main name' i m)) (sym heaps)
-          (subst (λ w. Puts pace (forcing.printed arity NoAlternative nil cons enter heap main name i n) (elim (w == 0) as (λ _. Printed) [ true ↦ print' m name' [] (forcing.start heap i m) | false ↦ forcing.printed_from_input arity' NoAlternative nil' cons' enter' heap main name' i m ])) (sym (counts main is_fun))
+          (subst (λ w. Puts pace (forcing.printed arity NoAlternative nil cons enter heap main name i n) (elim (w == 0) as (λ _. PrintedRun) [ true ↦ print' m name' [] (forcing.start heap i m) | false ↦ forcing.printed_from_input arity' NoAlternative nil' cons' enter' heap main name' i m ])) (sym (counts main is_fun))
           (by (arity main == 0) refl))
         where
           by : (b : Bool) → (arity main == 0) ≡ b
-              → Puts pace (elim b as (λ _. Printed) [ true ↦ print n name [] (forcing.start heap i n) | false ↦ forcing.printed_from_input arity NoAlternative nil cons enter heap main name i n ])
-              (elim b as (λ _. Printed) [ true ↦ print' m name' [] (forcing.start heap i m) | false ↦ forcing.printed_from_input arity' NoAlternative nil' cons' enter' heap main name' i m ])
+              → Puts pace (elim b as (λ _. PrintedRun) [ true ↦ print n name [] (forcing.start heap i n) | false ↦ forcing.printed_from_input arity NoAlternative nil cons enter heap main name i n ])
+              (elim b as (λ _. PrintedRun) [ true ↦ print' m name' [] (forcing.start heap i m) | false ↦ forcing.printed_from_input arity' NoAlternative nil' cons' enter' heap main name' i m ])
           by true e = subst (λ w. Puts pace (print n name [] (forcing.start heap i n)) (print' m w [] (forcing.start heap i m))) (sym (names (eq_from (arity main) 0 e))) (print_puts n m name [] (forcing.start heap i n) m 0 (start_beside i n m f))
           by false e =
               let some : arity main ≡ 0 → ⊥ = λ z. let t : true ≡ false = sym (eq-eqb (arity main) 0 z) ∙ e in absurd cc in

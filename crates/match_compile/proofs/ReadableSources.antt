@@ -9,23 +9,23 @@ use Rattle.seq.proofs.Lists.{length_map}
 use Rattle.core_reader.specs.declared.dialect.Dialect.TheVariants.{Core}
 use Rattle.core_reader.specs.declared.token.Token.TheVariants as word
 use Rattle.core_reader.specs.declared.token.Lexeme.{Lexeme}
-use Rattle.core_reader.specs.Grammar.{Room, anywhere, lexeme}
+use Rattle.core_reader.specs.Grammar.{NestingLimit, unlimited_nesting, lexeme}
 use Rattle.core_reader.specs.Grammar as core
 use Rattle.core_reader.specs.TokensOf.{Piece, Reads, Stops, Passes, Takes}
 use Rattle.core_reader.specs.WordsOf.{said}
 use Rattle.core_reader.specs.RulesOf.{TextTooLong}
-use Rattle.core_reader.specs.Readable.{ReadableData, AreDifferent}
+use Rattle.core_reader.specs.Readable.{ReadableData, AreDistinct}
 use Rattle.core_reader.proofs.Unique.{longest_some}
 use Rattle.core_reader.proofs.NamingOf.{EachHeld, each_held}
 use Rattle.core_reader.proofs.Readability.{EachKnown, front_known, back_known, known, expr_readable, expr_small, decl_readable, different_from}
 use Rattle.match_compile.specs.Source.{Pat, Name, Int, Con, Pats, NoPats, AndPat, Equation, Source}
 use Rattle.match_compile.specs.Parts.{tests_in, tests_of}
 use Rattle.match_compile.specs.Sizes.{pat_size, pats_size, equation_size}
-use Rattle.match_compile.specs.Grammar.{SpellsPat, SpellsPats, SpellsEquation, Decl, Declares, Equates, SpellsDecls, constructors_of, equations_of, IsText, IsRead}
+use Rattle.match_compile.specs.Grammar.{SpellsPat, SpellsPats, SpellsEquation, Decl, Declares, Equates, SpellsDecls, constructors_of, equations_of, IsSourceText, BreaksNoReadingRule}
 use Rattle.match_compile.specs.Readable.{ReadablePat, ReadablePats, ReadableEquation, IsReadable}
 use Rattle.match_compile.proofs.AsRead.{all_in_range}
 
-module _ (names : List (List ℕ)) (room : Room) where
+module _ (names : List (List ℕ)) (room : NestingLimit) where
   -- ---- names and integers
 
   mutual
@@ -70,7 +70,7 @@ module _ (names : List (List ℕ)) (room : Room) where
 
 -- ---- each token is paid once, and a test 16 times more
 
-module _ (room : Room) where
+module _ (room : NestingLimit) where
   mutual
     pat_small : (depth : ℕ) (p : Pat) (ts : List Lexeme) → SpellsPat room depth p ts → pat_size p + 16 * tests_in p ≤ 17 * length ts
     pat_small depth (Name b) ts h = omega (arith, ap length h)
@@ -108,24 +108,24 @@ fewer (Stops at rest) = omega arith
 fewer (Passes at n bytes pieces end rest h r) = omega (arith, fewer r)
 fewer (Takes at n bytes k pieces end rest h r) = omega (arith, fewer r, longest_some bytes n k h)
 
-short : (text : List ℕ) → IsRead text → length text ≤ 1048576
+short : (text : List ℕ) → BreaksNoReadingRule text → length text ≤ 1048576
 short text read = go (nat_lt 1048576 (length text)) refl
   where
     go : (b : Bool) → nat_lt 1048576 (length text) ≡ b → length text ≤ 1048576
     go true e = absurd (read 5 1048576 (TextTooLong (grind (arith, nat_tests))))
     go false e = grind (arith, nat_tests)
 
-pub text_readable : (text : List ℕ) (c : Source) → IsRead text → IsText text c → IsReadable c
+pub text_readable : (text : List ℕ) (c : Source) → BreaksNoReadingRule text → IsSourceText text c → IsReadable c
 text_readable text c read is =
     let s = is.program in
     let ts : List Lexeme = map (said Core c.names) is.pieces in
     let held : EachHeld Core c.names is.pieces = subst (λ v. EachHeld Core v is.pieces) (sym s.names) (each_held Core [] is.pieces) in
     let each = known Core c.names is.pieces held (all_in_range text read [] is.pieces is.tokens) in
-    let paid = decls_small anywhere s.decls ts s.spelled in
+    let paid = decls_small unlimited_nesting s.decls ts s.spelled in
     let few : 0 + length is.pieces ≤ length text = fewer is.tokens in
     record {
-      different = subst AreDifferent (sym s.names) (different_from Core [] is.pieces tt);
-      constructors = subst (All (ReadableData c.names)) s.constructors (constructors_readable c.names anywhere s.decls ts s.spelled each);
-      equations = subst (AllOf (ReadableEquation c.names)) s.equations (equations_readable c.names anywhere s.decls ts s.spelled each);
+      different = subst AreDistinct (sym s.names) (different_from Core [] is.pieces tt);
+      constructors = subst (All (ReadableData c.names)) s.constructors (constructors_readable c.names unlimited_nesting s.decls ts s.spelled each);
+      equations = subst (AllOf (ReadableEquation c.names)) s.equations (equations_readable c.names unlimited_nesting s.decls ts s.spelled each);
       size = subst (λ n. n < 2 ^ 64) (λ i. 2 * length (s.constructors i) + sum_by equation_size (s.equations i) + 16 * sum_by (λ (e : Equation). tests_of e.pats) (s.equations i)) (omega (arith, paid, few, short text read, length_map (said Core c.names) is.pieces));
     }

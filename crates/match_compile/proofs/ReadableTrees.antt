@@ -12,7 +12,7 @@ use Rattle.match_compile.specs.Parts.{count}
 use Rattle.match_compile.specs.Heads.{Head, Integer, Constructor, same_head}
 use Rattle.match_compile.specs.Readable.{ReadablePat, ReadablePats, ReadableEquation}
 use Rattle.match_compile.specs.Sizes.{rows}
-use Rattle.match_compile.specs.Trees.{Job, Row, row, settled, jobs_at, places_from, head_of, fields_of, Tree, Body, Case, Branches, NoBranch, AndBranch, Default, NoDefault, ATree, branches_fail, fits, test_at, later, opened, tests_left, one_branch, by_head, alone, alone_from, in_default, in_branch, in_later, or_default, pred, most_chained, insert, insert_branch}
+use Rattle.match_compile.specs.Trees.{PendingPattern, Row, row, settled, pending_patterns_at, places_from, head_of, fields_of, Tree, Body, Case, Branches, NoBranch, AndBranch, Default, NoDefault, ATree, branches_fail, fits, test_at, later, opened, tests_left, one_branch, by_head, alone, alone_from, in_default, in_branch, in_later, or_default, pred, max_chained_cases, insert, insert_branch}
 use Rattle.match_compile.specs.Decisions.{Decision, row_of, begun, grown, decided, decisions_from, all_decisions}
 use Rattle.match_compile.proofs.Inserted.{at_head, at_pat, at_test, branch_by, by_test}
 use Rattle.match_compile.proofs.Decided.{by_insert}
@@ -20,7 +20,7 @@ use Rattle.match_compile.proofs.Grouped.{rows_all}
 use Rattle.match_compile.proofs.Sown.{test_is}
 
 module _ (names : List (List ℕ)) where
-  abbrev ReadableJobs : List Job → Type 0
+  abbrev ReadableJobs : List PendingPattern → Type 0
   ReadableJobs [] = Unit {0}
   ReadableJobs (j ∷ js) = ReadablePat names j.1 × ReadableJobs js
 
@@ -51,18 +51,18 @@ module _ (names : List (List ℕ)) where
 
   -- ---- rows
 
-  settled_readable : (body : Expr) (bound : List (Binder × ℕ)) (js : List Job) → ReadableExpr names body → AreBound bound → ReadableJobs js → ReadableRow (settled body bound js)
+  settled_readable : (body : Expr) (bound : List (Binder × ℕ)) (js : List PendingPattern) → ReadableExpr names body → AreBound bound → ReadableJobs js → ReadableRow (settled body bound js)
   settled_readable body bound [] h g k = record { body = h; bound = g; jobs = k }
   settled_readable body bound ((p, Name b) ∷ js) h g k = settled_readable body (bound ++ (b, p) ∷ []) js h (all_append (λ (d : Binder × ℕ). IsBound names d.0) bound ((b, p) ∷ []) g (k.0, tt)) k.1
   settled_readable body bound ((p, Int i at) ∷ js) h g k = record { body = h; bound = g; jobs = k }
   settled_readable body bound ((p, Con c ps) ∷ js) h g k = record { body = h; bound = g; jobs = k }
 
-  jobs_readable : (places : List ℕ) (ps : Pats) → ReadablePats names ps → ReadableJobs (jobs_at places ps)
+  jobs_readable : (places : List ℕ) (ps : Pats) → ReadablePats names ps → ReadableJobs (pending_patterns_at places ps)
   jobs_readable places NoPats h = tt
   jobs_readable [] (AndPat p ps) h = tt
   jobs_readable (x ∷ places) (AndPat p ps) h = (h.0, jobs_readable places ps h.1)
 
-  jobs_joined : (js ks : List Job) → ReadableJobs js → ReadableJobs ks → ReadableJobs (js ++ ks)
+  jobs_joined : (js ks : List PendingPattern) → ReadableJobs js → ReadableJobs ks → ReadableJobs (js ++ ks)
   jobs_joined [] ks h g = g
   jobs_joined (j ∷ js) ks h g = (h.0, jobs_joined js ks h.1 g)
 
@@ -82,17 +82,17 @@ module _ (names : List (List ℕ)) where
   opened_readable : (p : ℕ) (r : Row) (pat : Pat) (ps : List ℕ) → test_at p r.jobs ≡ Some pat → ReadableRow r → ReadableRow (opened r pat ps)
   opened_readable p r pat ps t w =
       let g = pat_readable p r pat t w in
-      settled_readable r.body r.bound (jobs_at ps (fields_of pat) ++ later r.jobs) w.body w.bound (jobs_joined (jobs_at ps (fields_of pat)) (later r.jobs) (jobs_readable ps (fields_of pat) (fields_readable pat g.0)) g.1)
+      settled_readable r.body r.bound (pending_patterns_at ps (fields_of pat) ++ later r.jobs) w.body w.bound (jobs_joined (pending_patterns_at ps (fields_of pat)) (later r.jobs) (jobs_readable ps (fields_of pat) (fields_readable pat g.0)) g.1)
 
   -- ---- trees
 
-  alone_readable : (k n : ℕ) (body : Expr) (bound : List (Binder × ℕ)) (js : List Job) → ReadableRow (row body bound js) → ReadableTree (alone k n (row body bound js)).0
+  alone_readable : (k n : ℕ) (body : Expr) (bound : List (Binder × ℕ)) (js : List PendingPattern) → ReadableRow (row body bound js) → ReadableTree (alone k n (row body bound js)).0
   alone_readable zero n body bound js w = w
   alone_readable (suc k) n body bound [] w = w
   alone_readable (suc k) n body bound (j ∷ js) w =
       let ps : List ℕ = places_from n (fields_of j.1) in
-      let fields : ReadableJobs (jobs_at ps (fields_of j.1)) = jobs_readable ps (fields_of j.1) (fields_readable j.1 w.jobs.0) in
-      let inner : ReadableRow (opened (row body bound (j ∷ js)) j.1 ps) = settled_readable body bound (jobs_at ps (fields_of j.1) ++ js) w.body w.bound (jobs_joined (jobs_at ps (fields_of j.1)) js fields w.jobs.1) in
+      let fields : ReadableJobs (pending_patterns_at ps (fields_of j.1)) = jobs_readable ps (fields_of j.1) (fields_readable j.1 w.jobs.0) in
+      let inner : ReadableRow (opened (row body bound (j ∷ js)) j.1 ps) = settled_readable body bound (pending_patterns_at ps (fields_of j.1) ++ js) w.body w.bound (jobs_joined (pending_patterns_at ps (fields_of j.1)) js fields w.jobs.1) in
       let next : Row = opened (row body bound (j ∷ js)) j.1 ps in
       go (head_of j.1) refl (alone_readable k (n + count (fields_of j.1)) next.body next.bound next.jobs inner)
     where
@@ -148,19 +148,19 @@ module _ (names : List (List ℕ)) where
         (head_readable pat h head (pat_readable p r pat test w).0, alone_from_readable (n + count (fields_of pat)) (opened r pat ps) (opened_readable p r pat ps test w), tt)
     sorted_readable pat h (AndBranch g ps t bs) n r p test head f w v e = elim (two_ways (same_head g h)) [
       | inl y ↦
-          branch_readable g ps bs (insert most_chained t n (opened r pat ps)) v f.0 f.2
-          (ap (branch_by (in_branch g ps bs (insert most_chained t n (opened r pat ps))) (in_later g ps t (insert_branch pat h bs n r))) (sym y) ∙ e)
-          (λ x i. inserted_readable most_chained t n (opened r pat ps) f.1 (opened_readable p r pat ps test w) x i)
+          branch_readable g ps bs (insert max_chained_cases t n (opened r pat ps)) v f.0 f.2
+          (ap (branch_by (in_branch g ps bs (insert max_chained_cases t n (opened r pat ps))) (in_later g ps t (insert_branch pat h bs n r))) (sym y) ∙ e)
+          (λ x i. inserted_readable max_chained_cases t n (opened r pat ps) f.1 (opened_readable p r pat ps test w) x i)
       | inr m ↦
           later_readable g ps t (insert_branch pat h bs n r) v f.0 f.1
-          (ap (branch_by (in_branch g ps bs (insert most_chained t n (opened r pat ps))) (in_later g ps t (insert_branch pat h bs n r))) (sym m) ∙ e)
+          (ap (branch_by (in_branch g ps bs (insert max_chained_cases t n (opened r pat ps))) (in_later g ps t (insert_branch pat h bs n r))) (sym m) ∙ e)
           (λ x i. sorted_readable pat h bs n r p test head f.2 w x i)
     ]
 
   -- ---- the trees of a text
 
   row_readable : (e : Equation) → ReadableEquation names e → ReadableRow (row_of e)
-  row_readable e h = settled_readable e.body [] (jobs_at (places_from 0 e.pats) e.pats) h.2 tt (jobs_readable (places_from 0 e.pats) e.pats h.1)
+  row_readable e h = settled_readable e.body [] (pending_patterns_at (places_from 0 e.pats) e.pats) h.2 tt (jobs_readable (places_from 0 e.pats) e.pats h.1)
 
   abbrev pub HasReadable : Decision → Type 0
   HasReadable d = ReadableTree d.tree
@@ -171,8 +171,8 @@ module _ (names : List (List ℕ)) where
   decided_readable : (d : Decision) (k : ℕ) (es : List Equation) → HasReadable d → AllOf (ReadableEquation names) es → AllOf HasReadable (decided d k es)
   decided_readable d k [] s h = (s, tt)
   decided_readable d k (e ∷ es) s h =
-      by_insert (AllOf HasReadable) d k e es (insert most_chained d.tree d.free (row_of e))
-      (λ t i. decided_readable (grown d t) (suc k) es (inserted_readable most_chained d.tree d.free (row_of e) s (row_readable e h.0) t i) h.1)
+      by_insert (AllOf HasReadable) d k e es (insert max_chained_cases d.tree d.free (row_of e))
+      (λ t i. decided_readable (grown d t) (suc k) es (inserted_readable max_chained_cases d.tree d.free (row_of e) s (row_readable e h.0) t i) h.1)
       (s, decided_readable (begun k e) (suc k) es (begun_readable k e h.0) h.1)
 
   trees_readable : (k : ℕ) (es : List Equation) → AllOf (ReadableEquation names) es → AllOf HasReadable (decisions_from k es)

@@ -17,16 +17,16 @@ use Rattle.seq.proofs.Order.{eq_false, same_or_not}
 use Rattle.core_reader.specs.declared.syntax.Binder.{Binder}
 use Rattle.core_reader.specs.declared.syntax.Pattern.{Pattern}
 use Rattle.core_reader.specs.declared.syntax.Pattern.TheVariants as pattern
-use Rattle.core_reader.specs.declared.look.Kind.TheVariants.{Lower}
+use Rattle.core_reader.specs.declared.look.TokenKind.TheVariants.{Lower}
 use Rattle.core_reader.specs.Bytes.{is_lower, is_upper, is_digit, is_inner}
 use Rattle.core_reader.specs.TokensOf.{every}
 use Rattle.core_reader.specs.Tree.{Term, Terms, NoTerms, AndTerm, Bind, Expr, App, Let, Alts, NoAlts, AndAlt, Function}
 use Rattle.core_reader.specs.Tree as core
-use Rattle.core_reader.specs.Grammar.{IsGroup, IsSomeAlts}
+use Rattle.core_reader.specs.Grammar.{IsGroup, IsNonemptyAlts}
 use Rattle.core_reader.specs.Readable.{IsName, IsConstructor, IsTextAt, IsNamed, IsBound, ReadableTerm, ReadableTerms, ReadableBind, ReadablePattern, ReadableExpr, ReadableAlts, ReadableData, ReadableFunction}
 use Rattle.core_reader.specs.Readable as core-readable
 use Rattle.arity_check.specs.Scope.{Scope}
-use Rattle.arity_check.specs.Locals.{local_in}
+use Rattle.arity_check.specs.Locals.{innermost_local}
 use Rattle.arity_check.specs.Pieces.{binders_of, bound_by}
 use Rattle.match_compile.specs.Source.{Source}
 use Rattle.match_compile.specs.Rules.{text_in, Broken}
@@ -36,9 +36,9 @@ use Rattle.match_compile.specs.Readable.{ReadableEquation, IsReadable}
 use Rattle.match_compile.specs.Heads.{Head, Integer, Constructor}
 use Rattle.match_compile.specs.Trees.{Tree, Body, Case, Branches, NoBranch, AndBranch, Default, NoDefault, ATree}
 use Rattle.match_compile.specs.Decisions.{Decision, decisions}
-use Rattle.match_compile.specs.Renamed.{name_for, hidden, renamed_term, renamed_terms, renamed_bind, renamed_expr, renamed_alts}
-use Rattle.match_compile.specs.Translated.{words_of, bound_at, first_bound, first_bound_in, all_bind, stays, is_nameless, param_name, field_name, most_params, most_fields, most_fields_of, with_nameless, texts, nameless, equation_name, keeps, place_name, taken, binder, name_or, with_fields, binders, pattern_of, expr_of, alts_of, default_of, param_stays, with_params, arguments, call, is_called, function_of, next_of, first_of, each_of, others_of, firsts, others, translated}
-use Rattle.match_compile.specs.NamesOf.{IsFree, AreFew}
+use Rattle.match_compile.specs.Renamed.{renamed_name, shadowing, renamed_term, renamed_terms, renamed_bind, renamed_expr, renamed_alts}
+use Rattle.match_compile.specs.Translated.{name_supply_of, bound_at, first_bound, first_bound_in, all_bind, stays, is_nameless, param_name, field_name, most_params, most_fields, most_fields_of, with_nameless, texts, nameless, equation_name, keeps, place_name, taken, binder, name_or, with_fields, binders, pattern_of, expr_of, alts_of, default_of, param_stays, with_params, arguments, call, is_called, function_of, next_of, first_of, each_of, others_of, firsts, others, translated}
+use Rattle.match_compile.specs.NamesOf.{IsUnreservedName, NewNamesFit}
 use Rattle.match_compile.proofs.NewNames.{new_different}
 use Rattle.match_compile.proofs.NamedAs.{translated_text, nameless_text}
 use Rattle.match_compile.proofs.Grouped.{all_are, all_in, all_of, front_all, back_all, functions_all, total, other_numbers, numbers_of, others_climb, all_below}
@@ -102,15 +102,15 @@ module _ (c : Source) where
   abbrev AreNamed : Scope → Type 0
   AreNamed s = AllOf (λ (b : ℕ × ℕ). IsNamed all b.1) s
 
-  name_named : (s : Scope) (x : ℕ) → AreNamed s → IsNamed all x → IsNamed all (name_for s x)
+  name_named : (s : Scope) (x : ℕ) → AreNamed s → IsNamed all x → IsNamed all (renamed_name s x)
   name_named [] x h n = n
   name_named (b ∷ s) x h n = go (b.0 == x) (name_named s x h.1 n)
     where
-      go : (t : Bool) → IsNamed all (name_for s x) → IsNamed all (elim (if t then Some b.1 else local_in s x) [ Some y ↦ y | None ↦ x ])
+      go : (t : Bool) → IsNamed all (renamed_name s x) → IsNamed all (elim (if t then Some b.1 else innermost_local s x) [ Some y ↦ y | None ↦ x ])
       go true g = h.0
       go false g = g
 
-  hidden_named : (bs : List Binder) (s : Scope) → All (IsBound c.names) bs → AreNamed s → AreNamed (hidden bs s)
+  hidden_named : (bs : List Binder) (s : Scope) → All (IsBound c.names) bs → AreNamed s → AreNamed (shadowing bs s)
   hidden_named [] s h g = g
   hidden_named (b ∷ bs) s h g = hidden_named bs ((b.name.0, b.name.0) ∷ s) (All-tail (IsBound c.names) b bs h) (front IsName b.name.0 (All-head (IsBound c.names) b bs h), g)
 
@@ -126,7 +126,7 @@ module _ (c : Source) where
   group_some s [] h = h
   group_some s (b ∷ bs) h = tt
 
-  alts_some : (s : Scope) (alts : Alts) → IsSomeAlts alts → IsSomeAlts (renamed_alts s alts)
+  alts_some : (s : Scope) (alts : Alts) → IsNonemptyAlts alts → IsNonemptyAlts (renamed_alts s alts)
   alts_some s NoAlts h = h
   alts_some s (AndAlt p e alts) h = tt
 
@@ -152,13 +152,13 @@ module _ (c : Source) where
     expr_renamed : (s : Scope) (e : Expr) → AreNamed s → ReadableExpr c.names e → ReadableExpr all (renamed_expr s e)
     expr_renamed s (App a) g h = (term_renamed s a.head g h.0, terms_renamed s a.args g h.1)
     expr_renamed s (Let group e) g h =
-        let inner : AreNamed (hidden (binders_of group) s) = hidden_named (binders_of group) s (group_bound group h.1) g in
-        (group_some (hidden (binders_of group) s) group h.0, binds_renamed (hidden (binders_of group) s) group inner h.1, expr_renamed (hidden (binders_of group) s) e inner h.2)
+        let inner : AreNamed (shadowing (binders_of group) s) = hidden_named (binders_of group) s (group_bound group h.1) g in
+        (group_some (shadowing (binders_of group) s) group h.0, binds_renamed (shadowing (binders_of group) s) group inner h.1, expr_renamed (shadowing (binders_of group) s) e inner h.2)
     expr_renamed s (core.Case e alts) g h = (alts_some s alts h.0, expr_renamed s e g h.1, alts_renamed s alts g h.2)
 
     alts_renamed : (s : Scope) (alts : Alts) → AreNamed s → ReadableAlts c.names alts → ReadableAlts all (renamed_alts s alts)
     alts_renamed s NoAlts g h = tt
-    alts_renamed s (AndAlt p e alts) g h = (pattern_front p h.0, expr_renamed (hidden (bound_by p) s) e (hidden_named (bound_by p) s (bound_readable p h.0) g) h.1, alts_renamed s alts g h.2)
+    alts_renamed s (AndAlt p e alts) g h = (pattern_front p h.0, expr_renamed (shadowing (bound_by p) s) e (hidden_named (bound_by p) s (bound_readable p h.0) g) h.1, alts_renamed s alts g h.2)
 
   -- ---- names of places
 
@@ -171,8 +171,8 @@ module _ (c : Source) where
   abbrev fields_most : ℕ
   fields_most = most_fields_of (decisions c)
 
-  module _ (few : AreFew c) where
-    equation_named : (k : ℕ) → k < equations → IsNamed all (equation_name (words_of c) k)
+  module _ (few : NewNamesFit c) where
+    equation_named : (k : ℕ) → k < equations → IsNamed all (equation_name (name_supply_of c) k)
     equation_named k l = (
       name_of_equation k,
       get_right (with_nameless c.names) (texts equations name_of_equation ++ (texts params_most param_name ++ texts fields_most field_name)) k (name_of_equation k)
@@ -205,20 +205,20 @@ module _ (c : Source) where
           name_is (codes "q" ++ decimal i) (decimal_inner i (omega (arith, l, few.fields))),
         )
 
-    place_named : (params free p : ℕ) → params ≤ params_most → free - params ≤ fields_most → p < free → IsNamed all (place_name (words_of c) params p)
+    place_named : (params free p : ℕ) → params ≤ params_most → free - params ≤ fields_most → p < free → IsNamed all (place_name (name_supply_of c) params p)
     place_named params free p within fits l = go (nat_lt p params) refl
       where
         go : (b : Bool) → nat_lt p params ≡ b → IsNamed all (length (with_nameless c.names) + equations + (if b then p else params_most + (p - params)))
         go true e = let lt : p < params = grind (arith, nat_tests) in column_named p (omega (arith, lt, within))
         go false e = let le : params ≤ p = grind (arith, nat_tests) in field_named (p - params) (omega (arith, le, l, fits))
 
-    nameless_named : IsNamed all (nameless (words_of c))
+    nameless_named : IsNamed all (nameless (name_supply_of c))
     nameless_named =
         let t = nameless_text c in
         let same : t.0 ≡ codes "_" = (bytes_eq-Decides t.0 (codes "_")).0 t.2 in
         let kind : IsName (codes "_") = (refl, refl) in (
           t.0,
-          get_left (with_nameless c.names) (texts equations name_of_equation ++ (texts params_most param_name ++ texts fields_most field_name)) (nameless (words_of c)) t.0 t.1,
+          get_left (with_nameless c.names) (texts equations name_of_equation ++ (texts params_most param_name ++ texts fields_most field_name)) (nameless (name_supply_of c)) t.0 t.1,
           subst IsName (sym same) kind,
         )
 
@@ -252,7 +252,7 @@ module _ (c : Source) where
             by true e = subst (IsNamed c.names) (some_is e) (f y refl)
             by false e = absurd cc
 
-    param_named : (called : Bool) (o : Option ℕ) (x : ℕ) → ((y : ℕ) → o ≡ Some y → IsNamed all y) → param_stays (words_of c) called o ≡ Some x → IsNamed all x
+    param_named : (called : Bool) (o : Option ℕ) (x : ℕ) → ((y : ℕ) → o ≡ Some y → IsNamed all y) → param_stays (name_supply_of c) called o ≡ Some x → IsNamed all x
     param_named called None x f e = absurd cc
     param_named called (Some y) x f e = go (called && is_nameless (text_in c.names y)) e
       where
@@ -263,11 +263,11 @@ module _ (c : Source) where
     -- ---- names of known places
 
     abbrev Named : List ℕ → Scope → Type 0
-    Named ks s = (p : ℕ) → In p ks → IsNamed all (name_for s p)
+    Named ks s = (p : ℕ) → In p ks → IsNamed all (renamed_name s p)
 
     named_more : (p y : ℕ) (ks : List ℕ) (s : Scope) → IsNamed all y → Named ks s → Named (p ∷ ks) ((p, y) ∷ s)
     named_more p y ks s n h q i = elim (same_or_not p q) [
-      | inl e ↦ subst (λ z. IsNamed all (name_for ((p, y) ∷ s) z)) e (subst (IsNamed all) (sym (name_here p y s)) n)
+      | inl e ↦ subst (λ z. IsNamed all (renamed_name ((p, y) ∷ s) z)) e (subst (IsNamed all) (sym (name_here p y s)) n)
       | inr d ↦ subst (IsNamed all) (sym (name_other p y s q (eq_false p q d))) (⊎_elim (λ e. absurd (d (sym e))) (λ j. h q j) (cons_in p ks i))
     ]
 
@@ -275,64 +275,64 @@ module _ (c : Source) where
     moved p ps ks q i = ⊎_elim (λ e. in_right ps (p ∷ ks) (subst (λ z. In z (p ∷ ks)) (sym e) here)) (λ j. ⊎_elim (λ l. in_left ps (p ∷ ks) l) (λ r. in_right ps (p ∷ ks) (there r)) (in_split ps ks j)) (cons_in p (ps ++ ks) i)
 
     module _ (at params free : ℕ) (within : params ≤ params_most) (fits : free - params ≤ fields_most) where
-      given : (o : Option ℕ) (p : ℕ) → p < free → ((x : ℕ) → o ≡ Some x → IsNamed all x) → IsNamed all (name_or (words_of c) at params o p)
+      given : (o : Option ℕ) (p : ℕ) → p < free → ((x : ℕ) → o ≡ Some x → IsNamed all x) → IsNamed all (name_or (name_supply_of c) at params o p)
       given None p l f = place_named params free p within fits l
       given (Some x) p l f = f x refl
 
-      fields_named : (t : Tree) (ps ks : List ℕ) (places : Scope) → AllOf (λ p. p < free) ps → ReadableTree c.names t → Named ks places → Named (ps ++ ks) (with_fields (words_of c) at params t ps places)
+      fields_named : (t : Tree) (ps ks : List ℕ) (places : Scope) → AllOf (λ p. p < free) ps → ReadableTree c.names t → Named ks places → Named (ps ++ ks) (with_fields (name_supply_of c) at params t ps places)
       fields_named t [] ks places l h n = n
       fields_named t (p ∷ ps) ks places l h n =
-          let y : ℕ = name_or (words_of c) at params (stays p t) p in
+          let y : ℕ = name_or (name_supply_of c) at params (stays p t) p in
           let more = named_more p y ks places (given (stays p t) p l.0 (λ x e. stays_named p t x h e)) n in
           λ q i. fields_named t ps (p ∷ ks) ((p, y) ∷ places) l.1 h more q (moved p ps ks q i)
 
-      binders_named : (s : Scope) (ps : List ℕ) → AllOf (λ p. IsNamed all (name_for s p)) ps → All (IsBound all) (binders (words_of c) at params s ps)
+      binders_named : (s : Scope) (ps : List ℕ) → AllOf (λ p. IsNamed all (renamed_name s p)) ps → All (IsBound all) (binders (name_supply_of c) at params s ps)
       binders_named s [] h = All-nil (IsBound all)
-      binders_named s (p ∷ ps) h = All-cons (IsBound all) (binder (words_of c) at params (name_for s p)) (binders (words_of c) at params s ps) h.0 (binders_named s ps h.1)
+      binders_named s (p ∷ ps) h = All-cons (IsBound all) (binder (name_supply_of c) at params (renamed_name s p)) (binders (name_supply_of c) at params s ps) h.0 (binders_named s ps h.1)
 
-      pattern_readable : (h : Head) (fields : List Binder) → ReadableHead c.names h → All (IsBound all) fields → ReadablePattern all (pattern_of (words_of c) at params h fields)
+      pattern_readable : (h : Head) (fields : List Binder) → ReadableHead c.names h → All (IsBound all) fields → ReadablePattern all (pattern_of (name_supply_of c) at params h fields)
       pattern_readable (Integer k) fields g b = g
       pattern_readable (Constructor d) fields g b = (front IsConstructor d g, b)
 
-      taken_named : (ks : List ℕ) (places : Scope) (bs : List (Binder × ℕ)) → AllOf (λ p. In p ks) (bound_places bs) → Named ks places → AreNamed (taken (words_of c) places bs)
+      taken_named : (ks : List ℕ) (places : Scope) (bs : List (Binder × ℕ)) → AllOf (λ p. In p ks) (bound_places bs) → Named ks places → AreNamed (taken (name_supply_of c) places bs)
       taken_named ks places [] k n = tt
-      taken_named ks places (b ∷ bs) k n = go (keeps (words_of c) b.0.name.0) (taken_named ks places bs k.1 n)
+      taken_named ks places (b ∷ bs) k n = go (keeps (name_supply_of c) b.0.name.0) (taken_named ks places bs k.1 n)
         where
-          go : (t : Bool) → AreNamed (taken (words_of c) places bs) → AreNamed (if t then taken (words_of c) places bs else (b.0.name.0, name_for places b.1) ∷ taken (words_of c) places bs)
+          go : (t : Bool) → AreNamed (taken (name_supply_of c) places bs) → AreNamed (if t then taken (name_supply_of c) places bs else (b.0.name.0, renamed_name places b.1) ∷ taken (name_supply_of c) places bs)
           go true h = h
           go false h = (n b.1 k.0, h)
 
       module _ (rest : Alts) (rest_readable : ReadableAlts all rest) where
         mutual
-          tree_readable : (ks : List ℕ) (t : Tree) (places : Scope) → Fine c free ks t → ReadableTree c.names t → Named ks places → ReadableExpr all (expr_of (words_of c) at params rest places t)
+          tree_readable : (ks : List ℕ) (t : Tree) (places : Scope) → Fine c free ks t → ReadableTree c.names t → Named ks places → ReadableExpr all (expr_of (name_supply_of c) at params rest places t)
           tree_readable ks (Body r) places f h n =
-              expr_renamed (taken (words_of c) places r.bound) r.body (taken_named ks places r.bound (front_all (λ p. In p ks) (bound_places r.bound) (job_places r.jobs) f.0.known) n) h.body
+              expr_renamed (taken (name_supply_of c) places r.bound) r.body (taken_named ks places r.bound (front_all (λ p. In p ks) (bound_places r.bound) (job_places r.jobs) f.0.known) n) h.body
           tree_readable ks (Case p NoBranch o) places f h n = absurd (no_branch (f.1 0))
             where
               no_branch : true ≡ false → ⊥
               no_branch e = cc
           tree_readable ks (Case p (AndBranch d ps t bs) o) places f h n =
-              (tt, (n p f.0, tt), alts_readable ks (AndBranch d ps t bs) places (default_of (words_of c) at params rest places o) f.3 h.0 n (default_readable ks o places f.4 h.1 n))
+              (tt, (n p f.0, tt), alts_readable ks (AndBranch d ps t bs) places (default_of (name_supply_of c) at params rest places o) f.3 h.0 n (default_readable ks o places f.4 h.1 n))
 
-          alts_readable : (ks : List ℕ) (bs : Branches) (places : Scope) (others : Alts) → FineBranches c free ks bs → ReadableBranches c.names bs → Named ks places → ReadableAlts all others → ReadableAlts all (alts_of (words_of c) at params rest places bs others)
+          alts_readable : (ks : List ℕ) (bs : Branches) (places : Scope) (others : Alts) → FineBranches c free ks bs → ReadableBranches c.names bs → Named ks places → ReadableAlts all others → ReadableAlts all (alts_of (name_supply_of c) at params rest places bs others)
           alts_readable ks NoBranch places others f h n o = o
           alts_readable ks (AndBranch d ps t bs) places others f h n o =
-              let s : Scope = with_fields (words_of c) at params t ps places in
+              let s : Scope = with_fields (name_supply_of c) at params t ps places in
               let inner : Named (ps ++ ks) s = fields_named t ps ks places f.3 h.1 n in
-              let own : AllOf (λ p. IsNamed all (name_for s p)) ps = all_are (λ p. In p ps) (λ p. IsNamed all (name_for s p)) (λ p i. inner p (in_left ps ks i)) ps (all_in ps) in
-              (pattern_readable d (binders (words_of c) at params s ps) h.0 (binders_named s ps own), tree_readable (ps ++ ks) t s f.4 h.1 inner, alts_readable ks bs places others f.5 h.2 n o)
+              let own : AllOf (λ p. IsNamed all (renamed_name s p)) ps = all_are (λ p. In p ps) (λ p. IsNamed all (renamed_name s p)) (λ p i. inner p (in_left ps ks i)) ps (all_in ps) in
+              (pattern_readable d (binders (name_supply_of c) at params s ps) h.0 (binders_named s ps own), tree_readable (ps ++ ks) t s f.4 h.1 inner, alts_readable ks bs places others f.5 h.2 n o)
 
-          default_readable : (ks : List ℕ) (o : Default) (places : Scope) → FineDefault c free ks o → ReadableDefault c.names o → Named ks places → ReadableAlts all (default_of (words_of c) at params rest places o)
+          default_readable : (ks : List ℕ) (o : Default) (places : Scope) → FineDefault c free ks o → ReadableDefault c.names o → Named ks places → ReadableAlts all (default_of (name_supply_of c) at params rest places o)
           default_readable ks NoDefault places f h n = rest_readable
           default_readable ks (ATree t) places f h n = (nameless_named, tree_readable ks t places f h n, tt)
 
     -- ---- functions
 
-    arguments_readable : (at : ℕ) (bs : List Binder) → All (IsBound all) bs → ReadableTerms all (arguments (words_of c) at bs)
+    arguments_readable : (at : ℕ) (bs : List Binder) → All (IsBound all) bs → ReadableTerms all (arguments (name_supply_of c) at bs)
     arguments_readable at [] h = tt
     arguments_readable at (b ∷ bs) h = (All-head (IsBound all) b bs h, arguments_readable at bs (All-tail (IsBound all) b bs h))
 
-    call_readable : (at : ℕ) (next : Option ℕ) (bs : List Binder) → ((f : ℕ) → next ≡ Some f → IsNamed all f) → All (IsBound all) bs → ReadableAlts all (call (words_of c) at next bs)
+    call_readable : (at : ℕ) (next : Option ℕ) (bs : List Binder) → ((f : ℕ) → next ≡ Some f → IsNamed all f) → All (IsBound all) bs → ReadableAlts all (call (name_supply_of c) at next bs)
     call_readable at None bs f h = tt
     call_readable at (Some g) bs f h = (nameless_named, (f g refl, arguments_readable at bs h), tt)
 
@@ -343,25 +343,25 @@ module _ (c : Source) where
     params_few : (d : Decision) → Stood c d → d.params ≤ params_most
     params_few d s = let is = s.params in let le = most_is c.equations s.first s.is_in in omega (arith, is, le)
 
-    params_named : (d : Decision) (w : Whole d) (called : Bool) (ps ks : List ℕ) (places : Scope) → AllOf (λ p. p < d.free) ps → Named ks places → Named (ps ++ ks) (with_params (words_of c) called d ps places)
+    params_named : (d : Decision) (w : Whole d) (called : Bool) (ps ks : List ℕ) (places : Scope) → AllOf (λ p. p < d.free) ps → Named ks places → Named (ps ++ ks) (with_params (name_supply_of c) called d ps places)
     params_named d w called [] ks places l n = n
     params_named d w called (p ∷ ps) ks places l n =
-        let o : Option ℕ = param_stays (words_of c) called (stays p d.tree) in
-        let y : ℕ = name_or (words_of c) d.at d.params o p in
+        let o : Option ℕ = param_stays (name_supply_of c) called (stays p d.tree) in
+        let y : ℕ = name_or (name_supply_of c) d.at d.params o p in
         let more = named_more p y ks places (given d.at d.params d.free (params_few d w.0) w.1.1 o p l.0 (λ x e. param_named called (stays p d.tree) x (λ z g. stays_named p d.tree z w.1.0 g) e)) n in
         λ q i. params_named d w called ps (p ∷ ks) ((p, y) ∷ places) l.1 more q (moved p ps ks q i)
 
-    function_readable : (name : ℕ) (d : Decision) (next : Option ℕ) → IsNamed all name → Whole d → ((f : ℕ) → next ≡ Some f → IsNamed all f) → ReadableFunction all (function_of (words_of c) name d next)
+    function_readable : (name : ℕ) (d : Decision) (next : Option ℕ) → IsNamed all name → Whole d → ((f : ℕ) → next ≡ Some f → IsNamed all f) → ReadableFunction all (function_of (name_supply_of c) name d next)
     function_readable name d next n w f =
         let columns : List ℕ = numbers_from 0 d.params in
-        let places : Scope = with_params (words_of c) (is_called (words_of c) d next) d columns [] in
+        let places : Scope = with_params (name_supply_of c) (is_called (name_supply_of c) d next) d columns [] in
         let low : d.params ≤ d.free = w.0.low in
         let below : AllOf (λ p. p < d.free) columns = all_are (λ p. p < 0 + d.params) (λ p. p < d.free) (λ p lt. omega (arith, lt, low)) columns (numbers_below 0 d.params) in
-        let known : Named columns places = λ p i. params_named d w (is_called (words_of c) d next) columns [] [] below (λ q j. none_in j) p (in_left columns [] i) in
-        let own : AllOf (λ p. IsNamed all (name_for places p)) columns = all_are (λ p. In p columns) (λ p. IsNamed all (name_for places p)) (λ p i. known p i) columns (all_in columns) in
-        let bs : List Binder = binders (words_of c) d.at d.params places columns in
+        let known : Named columns places = λ p i. params_named d w (is_called (name_supply_of c) d next) columns [] [] below (λ q j. none_in j) p (in_left columns [] i) in
+        let own : AllOf (λ p. IsNamed all (renamed_name places p)) columns = all_are (λ p. In p columns) (λ p. IsNamed all (renamed_name places p)) (λ p i. known p i) columns (all_in columns) in
+        let bs : List Binder = binders (name_supply_of c) d.at d.params places columns in
         let bound : All (IsBound all) bs = binders_named d.at d.params d.free (params_few d w.0) w.1.1 places columns own in
-        (n, bound, tree_readable d.at d.params d.free (params_few d w.0) w.1.1 (call (words_of c) d.at next bs) (call_readable d.at next bs f bound) columns d.tree places w.0.fine w.1.0 known)
+        (n, bound, tree_readable d.at d.params d.free (params_few d w.0) w.1.1 (call (name_supply_of c) d.at next bs) (call_readable d.at next bs f bound) columns d.tree places w.0.fine w.1.0 known)
 
     abbrev Numbered : Decision → Type 0
     Numbered d = d.number < equations
@@ -370,43 +370,43 @@ module _ (c : Source) where
     LaterNumbered [] = Unit {0}
     LaterNumbered (d ∷ ds) = AllOf Numbered ds
 
-    next_named : (d : Decision) (ds : List Decision) → AllOf Numbered ds → (f : ℕ) → next_of (words_of c) d ds ≡ Some f → IsNamed all f
+    next_named : (d : Decision) (ds : List Decision) → AllOf Numbered ds → (f : ℕ) → next_of (name_supply_of c) d ds ≡ Some f → IsNamed all f
     next_named d [] h f e = absurd cc
     next_named d (g ∷ ds) h f e = go (nat_le d.params 12) e
       where
-        go : (b : Bool) → (if b then Some (equation_name (words_of c) g.number) else None) ≡ Some f → IsNamed all f
+        go : (b : Bool) → (if b then Some (equation_name (name_supply_of c) g.number) else None) ≡ Some f → IsNamed all f
         go true e = subst (IsNamed all) (some_is e) (equation_named g.number h.0)
         go false e = absurd cc
 
-    each_readable : (ds : List Decision) → AllOf Whole ds → AllOf Numbered ds → All (ReadableFunction all) (each_of (words_of c) ds)
+    each_readable : (ds : List Decision) → AllOf Whole ds → AllOf Numbered ds → All (ReadableFunction all) (each_of (name_supply_of c) ds)
     each_readable [] w h = All-nil (ReadableFunction all)
     each_readable (d ∷ ds) w h =
-        All-cons (ReadableFunction all) (function_of (words_of c) (equation_name (words_of c) d.number) d (next_of (words_of c) d ds)) (each_of (words_of c) ds)
-        (function_readable (equation_name (words_of c) d.number) d (next_of (words_of c) d ds) (equation_named d.number h.0) w.0 (λ f e. next_named d ds h.1 f e))
+        All-cons (ReadableFunction all) (function_of (name_supply_of c) (equation_name (name_supply_of c) d.number) d (next_of (name_supply_of c) d ds)) (each_of (name_supply_of c) ds)
+        (function_readable (equation_name (name_supply_of c) d.number) d (next_of (name_supply_of c) d ds) (equation_named d.number h.0) w.0 (λ f e. next_named d ds h.1 f e))
         (each_readable ds w.1 h.1)
 
     module _ (read : IsReadable c) where
       stood_named : (d : Decision) → Stood c d → IsNamed all d.name
       stood_named d s = subst (IsNamed all) (sym s.name) (front IsName s.first.name (all_of (ReadableEquation c.names) c.equations read.equations s.is_in).0)
 
-      first_of_readable : (ds : List Decision) → AllOf Whole ds → LaterNumbered ds → All (ReadableFunction all) (first_of (words_of c) ds)
+      first_of_readable : (ds : List Decision) → AllOf Whole ds → LaterNumbered ds → All (ReadableFunction all) (first_of (name_supply_of c) ds)
       first_of_readable [] w h = All-nil (ReadableFunction all)
       first_of_readable (d ∷ ds) w h =
-          All-cons (ReadableFunction all) (function_of (words_of c) d.name d (next_of (words_of c) d ds)) []
-          (function_readable d.name d (next_of (words_of c) d ds) (stood_named d w.0.0) w.0 (λ f e. next_named d ds h f e))
+          All-cons (ReadableFunction all) (function_of (name_supply_of c) d.name d (next_of (name_supply_of c) d ds)) []
+          (function_readable d.name d (next_of (name_supply_of c) d ds) (stood_named d w.0.0) w.0 (λ f e. next_named d ds h f e))
           (All-nil (ReadableFunction all))
 
-      others_of_readable : (ds : List Decision) → AllOf Whole ds → LaterNumbered ds → All (ReadableFunction all) (others_of (words_of c) ds)
+      others_of_readable : (ds : List Decision) → AllOf Whole ds → LaterNumbered ds → All (ReadableFunction all) (others_of (name_supply_of c) ds)
       others_of_readable [] w h = All-nil (ReadableFunction all)
       others_of_readable (d ∷ ds) w h = each_readable ds w.1 h
 
-      firsts_readable : (fs : List (List Decision)) → AllOf (AllOf Whole) fs → AllOf LaterNumbered fs → All (ReadableFunction all) (firsts (words_of c) fs)
+      firsts_readable : (fs : List (List Decision)) → AllOf (AllOf Whole) fs → AllOf LaterNumbered fs → All (ReadableFunction all) (firsts (name_supply_of c) fs)
       firsts_readable [] w h = All-nil (ReadableFunction all)
-      firsts_readable (ds ∷ fs) w h = All-append (ReadableFunction all) (first_of (words_of c) ds) (firsts (words_of c) fs) (first_of_readable ds w.0 h.0) (firsts_readable fs w.1 h.1)
+      firsts_readable (ds ∷ fs) w h = All-append (ReadableFunction all) (first_of (name_supply_of c) ds) (firsts (name_supply_of c) fs) (first_of_readable ds w.0 h.0) (firsts_readable fs w.1 h.1)
 
-      others_readable : (fs : List (List Decision)) → AllOf (AllOf Whole) fs → AllOf LaterNumbered fs → All (ReadableFunction all) (others (words_of c) fs)
+      others_readable : (fs : List (List Decision)) → AllOf (AllOf Whole) fs → AllOf LaterNumbered fs → All (ReadableFunction all) (others (name_supply_of c) fs)
       others_readable [] w h = All-nil (ReadableFunction all)
-      others_readable (ds ∷ fs) w h = All-append (ReadableFunction all) (others_of (words_of c) ds) (others (words_of c) fs) (others_of_readable ds w.0 h.0) (others_readable fs w.1 h.1)
+      others_readable (ds ∷ fs) w h = All-append (ReadableFunction all) (others_of (name_supply_of c) ds) (others (name_supply_of c) fs) (others_of_readable ds w.0 h.0) (others_readable fs w.1 h.1)
 
     -- ---- all trees
 
@@ -437,7 +437,7 @@ module _ (c : Source) where
     whole_all (ds ∷ fs) s h l =
         (both_all (Stood c) (λ d. HasReadable c.names d × (d.free - d.params ≤ fields_most)) ds s.0 (both_all (HasReadable c.names) (λ d. d.free - d.params ≤ fields_most) ds h.0 l.0), whole_all fs s.1 h.1 l.1)
 
-    pub translated_readable : IsReadable c → All IsFree c.names → ((k at : ℕ) → Broken c k at → ⊥) → core-readable.IsReadable (translated c)
+    pub translated_readable : IsReadable c → All IsUnreservedName c.names → ((k at : ℕ) → Broken c k at → ⊥) → core-readable.IsReadable (translated c)
     translated_readable read free unbroken =
         let fs : List (List Decision) = decisions c in
         let trees = all_readable c.names 0 (functions c.equations) (functions_all (ReadableEquation c.names) c.equations read.equations) in
@@ -448,6 +448,6 @@ module _ (c : Source) where
         record {
           different = new_different c.names equations params_most fields_most few.equations few.params few.fields read.different free;
           constructors = All-weaker (ReadableData c.names) (ReadableData all) (λ d g. (front IsConstructor d.name g.0, g.1)) c.constructors read.constructors;
-          functions = All-append (ReadableFunction all) (firsts (words_of c) fs) (others (words_of c) fs) (firsts_readable read fs whole later) (others_readable read fs whole later);
+          functions = All-append (ReadableFunction all) (firsts (name_supply_of c) fs) (others (name_supply_of c) fs) (firsts_readable read fs whole later) (others_readable read fs whole later);
           size = omega (arith, small, size);
         }

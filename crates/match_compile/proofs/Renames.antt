@@ -8,18 +8,18 @@ use Rattle.core_reader.proofs.TreeOf.{application_of, term_of-Name, term_of-Con,
 use Rattle.arity_check.specs.Scope.{Scope}
 use Rattle.arity_check.specs.Pieces.{binders_of}
 use Rattle.arity_check.proofs.Counts.{left_append}
-use Rattle.match_compile.specs.Renamed.{hidden, renamed_term, renamed_terms, renamed_bind, renamed_expr, renamed_alts}
+use Rattle.match_compile.specs.Renamed.{shadowing, renamed_term, renamed_terms, renamed_bind, renamed_expr, renamed_alts}
 
 pub ruleset trees = (application_of, term_of-Name, term_of-Con, term_of-Int, term_of-Bracket, alternative_of, expr_of-App, expr_of-Let, expr_of-Case)
 
-hidden_append : (bs : List Binder) (s : Scope) → (added : Scope) × (hidden bs s ≡ added ++ s)
+hidden_append : (bs : List Binder) (s : Scope) → (added : Scope) × (shadowing bs s ≡ added ++ s)
 hidden_append [] s = ([], refl)
 hidden_append (b ∷ bs) s =
     let rest = hidden_append bs ((b.name.0, b.name.0) ∷ s) in
     (rest.0 ++ ((b.name.0, b.name.0) ∷ []), rest.1 ∙ sym (append_assoc rest.0 ((b.name.0, b.name.0) ∷ []) s))
 
 -- the scope around is left, where the names that are bound leave it
-pub leaves : (bs : List Binder) (s t u v : Scope) (n : ℕ) → n ≡ length s → t ≡ hidden bs s → u ≡ t → v ≡ drop (length u - n) u → v ≡ s
+pub leaves : (bs : List Binder) (s t u v : Scope) (n : ℕ) → n ≡ length s → t ≡ shadowing bs s → u ≡ t → v ≡ drop (length u - n) u → v ≡ s
 leaves bs s t u v n len e f g =
     let added = hidden_append bs s in
     let is : u ≡ added.0 ++ s = f ∙ e ∙ added.1 in
@@ -47,7 +47,7 @@ module _ (s : Scope) where
   renews_more (c ∷ as') [] a b h r = absurd h
   renews_more (c ∷ as') (d ∷ bs) a b h r = (h.0, renews_more as' bs a b h.1 r)
 
-  pub let_renamed : (t : Scope) (g h : List Bind) (e f : Expr) → t ≡ hidden (binders_of g) s → h ≡ map (renamed_bind t) g → f ≡ renamed_expr t e → Let h f ≡ renamed_expr s (Let g e)
+  pub let_renamed : (t : Scope) (g h : List Bind) (e f : Expr) → t ≡ shadowing (binders_of g) s → h ≡ map (renamed_bind t) g → f ≡ renamed_expr t e → Let h f ≡ renamed_expr s (Let g e)
   let_renamed t g h e f a b c = (λ i. Let (b i) (c i)) ∙ ap (λ u. Let (map (renamed_bind u) g) (renamed_expr u e)) a
 
   pub case_renamed : (e f : Expr) (xs ys : Alts) → f ≡ renamed_expr s e → ys ≡ renamed_alts s xs → Case f ys ≡ renamed_expr s (Case e xs)

@@ -8,8 +8,8 @@ use Rattle.core_reader.specs.Tree.{Expr}
 use Rattle.match_compile.specs.declared.source.Pat as code
 use Rattle.match_compile.specs.Source.{Pat, Name, Int, Con, Pats, NoPats, AndPat}
 use Rattle.match_compile.specs.SourceOf.{pat_of, pats_of}
-use Rattle.match_compile.specs.Trees.{Job, Row, row, jobs_at, fields_of}
-use Rattle.match_compile.specs.RowOf.{job_of, pending, settling, opened_at, test_of, first_of, name_of}
+use Rattle.match_compile.specs.Trees.{PendingPattern, Row, row, pending_patterns_at, fields_of}
+use Rattle.match_compile.specs.RowOf.{pending_pattern_of, pending, names_bound_row, row_with_field_places, test_of, first_of, name_of}
 use Rattle.match_compile.proofs.PatOf.{pat_of-Name, pat_of-Int, pat_of-Con}
 use Rattle.match_compile.proofs.Walks.{count_all}
 use Rattle.match_compile.proofs.Inserted.{some_is}
@@ -17,8 +17,8 @@ use Rattle.match_compile.proofs.Inserted.{some_is}
 abbrev pub CodeJob : Type 0
 CodeJob = ℕ × Bor code.Pat
 
-pub pending_more : (js : List CodeJob) (j : CodeJob) → pending (js ++ j ∷ []) ≡ job_of j ∷ pending js
-pending_more js j = ap (map job_of) (reverse-append js (j ∷ []))
+pub pending_more : (js : List CodeJob) (j : CodeJob) → pending (js ++ j ∷ []) ≡ pending_pattern_of j ∷ pending js
+pending_more js j = ap (map pending_pattern_of) (reverse-append js (j ∷ []))
 
 pub ruleset steps = (pat_of-Name, pat_of-Int, pat_of-Con, count_all)
 
@@ -28,36 +28,36 @@ is_named (Int k at) b e = absurd cc
 is_named (Con c ps) b e = absurd cc
 
 -- a name is bound
-pub bind_name : (bound : List (Binder × ℕ)) (js rest : List CodeJob) (p : ℕ) (pat : Bor code.Pat) (b : Binder) → js ≡ rest ++ (p, pat) ∷ [] → name_of (pat_of pat.now) ≡ Some b → settling (bound ++ (b, p) ∷ []) (pending rest) ≡ settling bound (pending js)
+pub bind_name : (bound : List (Binder × ℕ)) (js rest : List CodeJob) (p : ℕ) (pat : Bor code.Pat) (b : Binder) → js ≡ rest ++ (p, pat) ∷ [] → name_of (pat_of pat.now) ≡ Some b → names_bound_row (bound ++ (b, p) ∷ []) (pending rest) ≡ names_bound_row bound (pending js)
 bind_name bound js rest p pat b is name =
-    sym (ap (λ js. settling bound (pending js)) is ∙ ap (settling bound) (pending_more rest (p, pat)) ∙ ap (λ n. settling bound ((p, n) ∷ pending rest)) (is_named (pat_of pat.now) b name))
+    sym (ap (λ js. names_bound_row bound (pending js)) is ∙ ap (names_bound_row bound) (pending_more rest (p, pat)) ∙ ap (λ n. names_bound_row bound ((p, n) ∷ pending rest)) (is_named (pat_of pat.now) b name))
 
-settled_test : (bound : List (Binder × ℕ)) (p : ℕ) (pat : Pat) (js : List Job) → name_of pat ≡ None → settling bound ((p, pat) ∷ js) ≡ (λ body. row body bound ((p, pat) ∷ js))
+settled_test : (bound : List (Binder × ℕ)) (p : ℕ) (pat : Pat) (js : List PendingPattern) → name_of pat ≡ None → names_bound_row bound ((p, pat) ∷ js) ≡ (λ body. row body bound ((p, pat) ∷ js))
 settled_test bound p (Name b) js is = absurd cc
 settled_test bound p (Int k at) js is = refl
 settled_test bound p (Con c ps) js is = refl
 
 -- a test stays
-pub stops_at : (bound : List (Binder × ℕ)) (js rest more : List CodeJob) (p : ℕ) (pat : Bor code.Pat) → js ≡ rest ++ (p, pat) ∷ [] → name_of (pat_of pat.now) ≡ None → more ≡ rest ++ (p, pat) ∷ [] → (λ body. row body bound (pending more)) ≡ settling bound (pending js)
+pub stops_at : (bound : List (Binder × ℕ)) (js rest more : List CodeJob) (p : ℕ) (pat : Bor code.Pat) → js ≡ rest ++ (p, pat) ∷ [] → name_of (pat_of pat.now) ≡ None → more ≡ rest ++ (p, pat) ∷ [] → (λ body. row body bound (pending more)) ≡ names_bound_row bound (pending js)
 stops_at bound js rest more p pat is test put =
     let first : pending (rest ++ (p, pat) ∷ []) ≡ (p, pat_of pat.now) ∷ pending rest = pending_more rest (p, pat) in
     ap (λ jobs body. row body bound (pending jobs)) put
     ∙ ap (λ jobs body. row body bound jobs) first
-    ∙ sym (ap (λ js. settling bound (pending js)) is ∙ ap (settling bound) first ∙ settled_test bound p (pat_of pat.now) (pending rest) test)
+    ∙ sym (ap (λ js. names_bound_row bound (pending js)) is ∙ ap (names_bound_row bound) first ∙ settled_test bound p (pat_of pat.now) (pending rest) test)
 
-pub none_left : (bound : List (Binder × ℕ)) (js : List CodeJob) → js ≡ [] → (λ body. row body bound (pending js)) ≡ settling bound (pending js)
-none_left bound js is = ap (λ jobs body. row body bound (pending jobs)) is ∙ sym (ap (λ jobs. settling bound (pending jobs)) is)
+pub none_left : (bound : List (Binder × ℕ)) (js : List CodeJob) → js ≡ [] → (λ body. row body bound (pending js)) ≡ names_bound_row bound (pending js)
+none_left bound js is = ap (λ jobs body. row body bound (pending jobs)) is ∙ sym (ap (λ jobs. names_bound_row bound (pending jobs)) is)
 
 -- the way behind its first pattern
-pub way_opened : (bound : List (Binder × ℕ)) (js rest : List CodeJob) (p : ℕ) (pat : Bor code.Pat) (places : List ℕ) (jobs : List Job) → js ≡ rest ++ (p, pat) ∷ [] → jobs ≡ jobs_at places (fields_of (pat_of pat.now)) ++ pending rest → settling bound jobs ≡ (λ body. opened_at (row body bound (pending js)) places)
+pub way_opened : (bound : List (Binder × ℕ)) (js rest : List CodeJob) (p : ℕ) (pat : Bor code.Pat) (places : List ℕ) (jobs : List PendingPattern) → js ≡ rest ++ (p, pat) ∷ [] → jobs ≡ pending_patterns_at places (fields_of (pat_of pat.now)) ++ pending rest → names_bound_row bound jobs ≡ (λ body. row_with_field_places (row body bound (pending js)) places)
 way_opened bound js rest p pat places jobs is e =
-    ap (settling bound) e ∙ sym (ap (λ js body. opened_at (row body bound js) places) (ap pending is ∙ pending_more rest (p, pat)))
+    ap (names_bound_row bound) e ∙ sym (ap (λ js body. row_with_field_places (row body bound js) places) (ap pending is ∙ pending_more rest (p, pat)))
 
 abbrev all_at : List (Binder × ℕ) → List CodeJob → Expr → Row
 all_at bound js body = row body bound (pending js)
 
 abbrev opened_all : List (Binder × ℕ) → List ℕ → List CodeJob → Expr → Row
-opened_all bound places js body = opened_at (row body bound (pending js)) places
+opened_all bound places js body = row_with_field_places (row body bound (pending js)) places
 
 pub way_over : (bound : List (Binder × ℕ)) (js : List CodeJob) (places : List ℕ) → js ≡ [] → all_at bound js ≡ opened_all bound places js
 way_over bound js places is = ap (all_at bound) is ∙ sym (ap (opened_all bound places) is)
@@ -71,26 +71,26 @@ first_is js rest p pat is = sym (ap first_of (ap pending is ∙ pending_more res
 abbrev pub all_pats : List code.Pat → Pats
 all_pats ps = pats_of (map pat_of ps)
 
-jobs_nowhere : (ps : Pats) → jobs_at [] ps ≡ []
+jobs_nowhere : (ps : Pats) → pending_patterns_at [] ps ≡ []
 jobs_nowhere NoPats = refl
 jobs_nowhere (AndPat p ps) = refl
 
-pub none_put : (places : List ℕ) (pats : List code.Pat) (n : ℕ) (js : List Job) → length pats ≤ n → jobs_at (drop n places) (all_pats (drop n pats)) ++ js ≡ js
-none_put places pats n js l = ap (λ ps. jobs_at (drop n places) (all_pats ps) ++ js) (drop_all n pats l)
+pub none_put : (places : List ℕ) (pats : List code.Pat) (n : ℕ) (js : List PendingPattern) → length pats ≤ n → pending_patterns_at (drop n places) (all_pats (drop n pats)) ++ js ≡ js
+none_put places pats n js l = ap (λ ps. pending_patterns_at (drop n places) (all_pats ps) ++ js) (drop_all n pats l)
 
 -- one more is put
-pub one_put : (places : List ℕ) (pats : List code.Pat) (n p : ℕ) (pat : Bor code.Pat) (js : List CodeJob) (rest : List Job) → n < length places → n < length pats → p ≡ get_or places n p → pat.now ≡ get_or pats n pat.now
-    → pending js ≡ jobs_at (drop (n + 1) places) (all_pats (drop (n + 1) pats)) ++ rest → pending (js ++ (p, pat) ∷ []) ≡ jobs_at (drop n places) (all_pats (drop n pats)) ++ rest
+pub one_put : (places : List ℕ) (pats : List code.Pat) (n p : ℕ) (pat : Bor code.Pat) (js : List CodeJob) (rest : List PendingPattern) → n < length places → n < length pats → p ≡ get_or places n p → pat.now ≡ get_or pats n pat.now
+    → pending js ≡ pending_patterns_at (drop (n + 1) places) (all_pats (drop (n + 1) pats)) ++ rest → pending (js ++ (p, pat) ∷ []) ≡ pending_patterns_at (drop n places) (all_pats (drop n pats)) ++ rest
 one_put places pats n p pat js rest a b place is ih =
     let at : drop n places ≡ p ∷ drop (n + 1) places = drop_more places n p a ∙ ap (λ x. x ∷ drop (n + 1) places) (sym place) in
     let of : drop n pats ≡ pat.now ∷ drop (n + 1) pats = drop_more pats n pat.now b ∙ ap (λ x. x ∷ drop (n + 1) pats) (sym is) in
-    pending_more js (p, pat) ∙ ap (λ k. (p, pat_of pat.now) ∷ k) ih ∙ sym (λ i. jobs_at (at i) (all_pats (of i)) ++ rest)
+    pending_more js (p, pat) ∙ ap (λ k. (p, pat_of pat.now) ∷ k) ih ∙ sym (λ i. pending_patterns_at (at i) (all_pats (of i)) ++ rest)
 
 -- there is no place
-pub none_there : (places : List ℕ) (ps qs : Pats) (n : ℕ) (rest : List Job) → length places ≤ n → jobs_at (drop (n + 1) places) ps ++ rest ≡ jobs_at (drop n places) qs ++ rest
+pub none_there : (places : List ℕ) (ps qs : Pats) (n : ℕ) (rest : List PendingPattern) → length places ≤ n → pending_patterns_at (drop (n + 1) places) ps ++ rest ≡ pending_patterns_at (drop n places) qs ++ rest
 none_there places ps qs n rest l =
-    let one : jobs_at (drop (n + 1) places) ps ≡ [] = ap (λ x. jobs_at x ps) (drop_all (n + 1) places (more l)) ∙ jobs_nowhere ps in
-    let two : jobs_at (drop n places) qs ≡ [] = ap (λ x. jobs_at x qs) (drop_all n places l) ∙ jobs_nowhere qs in
+    let one : pending_patterns_at (drop (n + 1) places) ps ≡ [] = ap (λ x. pending_patterns_at x ps) (drop_all (n + 1) places (more l)) ∙ jobs_nowhere ps in
+    let two : pending_patterns_at (drop n places) qs ≡ [] = ap (λ x. pending_patterns_at x qs) (drop_all n places l) ∙ jobs_nowhere qs in
     ap (λ x. x ++ rest) (one ∙ sym two)
   where
     more : length places ≤ n → length places ≤ n + 1

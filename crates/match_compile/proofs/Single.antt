@@ -11,10 +11,10 @@ use Rattle.core_reader.specs.Tree.{Expr, Function}
 use Rattle.match_compile.specs.Source.{Pat, Name, Int, Con, Pats, NoPats, AndPat, Equation, Source}
 use Rattle.match_compile.specs.Parts.{count, tests_of}
 use Rattle.match_compile.specs.Heads.{Head, Integer, Constructor, same_head, same_kind}
-use Rattle.match_compile.specs.Sizes.{joined, functions, rows, Test, NoTest, OneTest, OtherTest, test_from, beside, is_one, test_of, all_beside, is_simple, is_plain}
-use Rattle.match_compile.specs.Trees.{Job, Row, row, settled, jobs_at, head_of, fields_of, Tree, Body, Case, Branches, NoBranch, AndBranch, NoDefault, has_head, opened, places_from, tests_left, one_branch, by_head, alone, alone_from, fits, in_branch, in_later, new_branch, or_default, pred, most_chained, insert, insert_branch}
-use Rattle.match_compile.specs.Decisions.{Decision, row_of, begun, grown, decided, decisions_from, all_decisions, decisions, IsOf, StandFor, NoneLeft, More}
-use Rattle.match_compile.specs.Translated.{words_of, with_nameless, equation_name, function_of, first_of, firsts, others, translated}
+use Rattle.match_compile.specs.Sizes.{joined, functions, rows, Test, NoTest, OneTest, OtherTest, test_from, beside, is_single_test, test_of, all_beside, is_simple, is_plain}
+use Rattle.match_compile.specs.Trees.{PendingPattern, Row, row, settled, pending_patterns_at, head_of, fields_of, Tree, Body, Case, Branches, NoBranch, AndBranch, NoDefault, has_head, opened, places_from, tests_left, one_branch, by_head, alone, alone_from, fits, in_branch, in_later, new_branch, or_default, pred, max_chained_cases, insert, insert_branch}
+use Rattle.match_compile.specs.Decisions.{Decision, row_of, begun, grown, decided, decisions_from, all_decisions, decisions, DecidesEquations, DecideAllEquations, NoneLeft, More}
+use Rattle.match_compile.specs.Translated.{name_supply_of, with_nameless, equation_name, function_of, first_of, firsts, others, translated}
 use Rattle.match_compile.specs.OneFunction.{IsOneFunction}
 use Rattle.match_compile.proofs.Inserted.{or_false, zero_plus, first_test, no_tests, or_neither}
 use Rattle.match_compile.proofs.Decided.{trees_stand}
@@ -29,7 +29,7 @@ record Tests (p : ℕ) (h : Head) (r : Row) : Type 0 where
   body : Expr
   bound : List (Binder × ℕ)
   pat : Pat
-  rest : List Job
+  rest : List PendingPattern
   is : r ≡ row body bound ((p, pat) ∷ rest)
   head : head_of pat ≡ Some h
 
@@ -58,7 +58,7 @@ head_or g NoTest = g
 head_or g (OneTest n h) = h
 head_or g OtherTest = g
 
-test_first : (n : ℕ) (g : Head) (body : Expr) (bound : List (Binder × ℕ)) (pat : Pat) (rest : List Job) (p : ℕ) (h : Head) → head_of pat ≡ Some g → OneTest n g ≡ OneTest p h → Tests p h (row body bound ((n, pat) ∷ rest))
+test_first : (n : ℕ) (g : Head) (body : Expr) (bound : List (Binder × ℕ)) (pat : Pat) (rest : List PendingPattern) (p : ℕ) (h : Head) → head_of pat ≡ Some g → OneTest n g ≡ OneTest p h → Tests p h (row body bound ((n, pat) ∷ rest))
 test_first n g body bound pat rest p h is e = record {
   body = body;
   bound = bound;
@@ -68,15 +68,15 @@ test_first n g body bound pat rest p h is e = record {
   head = is ∙ ap (λ t. Some (head_or g t)) e;
 }
 
-first_is : (n : ℕ) (body : Expr) (bound : List (Binder × ℕ)) (ps : Pats) (p : ℕ) (h : Head) → test_from NoTest n ps ≡ OneTest p h → Tests p h (settled body bound (jobs_at (numbers_from n (count ps)) ps))
+first_is : (n : ℕ) (body : Expr) (bound : List (Binder × ℕ)) (ps : Pats) (p : ℕ) (h : Head) → test_from NoTest n ps ≡ OneTest p h → Tests p h (settled body bound (pending_patterns_at (numbers_from n (count ps)) ps))
 first_is n body bound NoPats p h e = absurd cc
 first_is n body bound (AndPat (Name b) ps) p h e = first_is (suc n) body (bound ++ (b, n) ∷ []) ps p h e
 first_is n body bound (AndPat (Int k at) ps) p h e =
-    test_first n (Integer k) body bound (Int k at) (jobs_at (numbers_from (suc n) (count ps)) ps) p h refl (found_stays n (Integer k) (suc n) ps p h e)
+    test_first n (Integer k) body bound (Int k at) (pending_patterns_at (numbers_from (suc n) (count ps)) ps) p h refl (found_stays n (Integer k) (suc n) ps p h e)
 first_is n body bound (AndPat (Con c qs) ps) p h e = go (tests_of qs == 0) e
   where
-    go : (b : Bool) → test_from (cond b (OneTest n (Constructor c.name.0)) OtherTest) (suc n) ps ≡ OneTest p h → Tests p h (row body bound ((n, Con c qs) ∷ jobs_at (numbers_from (suc n) (count ps)) ps))
-    go true e = test_first n (Constructor c.name.0) body bound (Con c qs) (jobs_at (numbers_from (suc n) (count ps)) ps) p h refl (found_stays n (Constructor c.name.0) (suc n) ps p h e)
+    go : (b : Bool) → test_from (cond b (OneTest n (Constructor c.name.0)) OtherTest) (suc n) ps ≡ OneTest p h → Tests p h (row body bound ((n, Con c qs) ∷ pending_patterns_at (numbers_from (suc n) (count ps)) ps))
+    go true e = test_first n (Constructor c.name.0) body bound (Con c qs) (pending_patterns_at (numbers_from (suc n) (count ps)) ps) p h refl (found_stays n (Constructor c.name.0) (suc n) ps p h e)
     go false e = absurd (other_is_none (sym (other_stays (suc n) ps) ∙ e))
 
 row_tests : (e : Equation) (p : ℕ) (h : Head) → test_of e ≡ OneTest p h → Tests p h (row_of e)
@@ -101,7 +101,7 @@ record OfTest (t : Test) : Type 0 where
   head : Head
   is : t ≡ OneTest column head
 
-of_test : (t : Test) → is_one t ≡ true → OfTest t
+of_test : (t : Test) → is_single_test t ≡ true → OfTest t
 of_test NoTest e = absurd cc
 of_test (OneTest n h) e = record { column = n; head = h; is = refl }
 of_test OtherTest e = absurd cc
@@ -128,7 +128,7 @@ record IsCase (p : ℕ) (h : Head) (t : Tree) : Type 0 where
   tree : Tree
   is : t ≡ Case p (AndBranch h places tree NoBranch) NoDefault
 
-alone_is_case : (k n : ℕ) (body : Expr) (bound : List (Binder × ℕ)) (p : ℕ) (pat : Pat) (rest : List Job) (h : Head) → head_of pat ≡ Some h → tests_left ((p, pat) ∷ rest) ≤ k → IsCase p h (alone k n (row body bound ((p, pat) ∷ rest))).0
+alone_is_case : (k n : ℕ) (body : Expr) (bound : List (Binder × ℕ)) (p : ℕ) (pat : Pat) (rest : List PendingPattern) (h : Head) → head_of pat ≡ Some h → tests_left ((p, pat) ∷ rest) ≤ k → IsCase p h (alone k n (row body bound ((p, pat) ∷ rest))).0
 alone_is_case zero n body bound p pat rest h e l = absurd (no_tests (p, pat) rest h e l)
 alone_is_case (suc k) n body bound p pat rest h e l =
     let r : Row = row body bound ((p, pat) ∷ rest) in
@@ -172,7 +172,7 @@ added pat h (AndBranch g ps t bs) n r e =
       branches = AndBranch g ps t more.branches;
       free = more.free;
       is =
-          ap (λ b. elim b [ true ↦ in_branch g ps bs (insert most_chained t n (opened r pat ps)) | false ↦ in_later g ps t (insert_branch pat h bs n r) ]) parts.0
+          ap (λ b. elim b [ true ↦ in_branch g ps bs (insert max_chained_cases t n (opened r pat ps)) | false ↦ in_later g ps t (insert_branch pat h bs n r) ]) parts.0
           ∙ ap (in_later g ps t) more.is;
       kinds = λ x f k. f;
       heads = λ x f k. let both = or_false (same_head g x) (has_head x bs) f in or_neither (same_head g x) (has_head x more.branches) both.0 (more.heads x both.1 k);
@@ -185,7 +185,7 @@ record Taken (p : ℕ) (h : Head) (bs : Branches) (o : Option (Tree × ℕ)) : T
   kinds : (g : Head) → fits g bs ≡ true → same_kind h g ≡ true → fits g branches ≡ true
   heads : (g : Head) → has_head g bs ≡ false → same_head h g ≡ false → has_head g branches ≡ false
 
-taken_row : (room p : ℕ) (bs : Branches) (n : ℕ) (body : Expr) (bound : List (Binder × ℕ)) (pat : Pat) (rest : List Job) (h : Head) → head_of pat ≡ Some h → fits h bs ≡ true → has_head h bs ≡ false → Taken p h bs (insert room (Case p bs NoDefault) n (row body bound ((p, pat) ∷ rest)))
+taken_row : (room p : ℕ) (bs : Branches) (n : ℕ) (body : Expr) (bound : List (Binder × ℕ)) (pat : Pat) (rest : List PendingPattern) (h : Head) → head_of pat ≡ Some h → fits h bs ≡ true → has_head h bs ≡ false → Taken p h bs (insert room (Case p bs NoDefault) n (row body bound ((p, pat) ∷ rest)))
 taken_row room p bs n body bound pat rest h e f k =
     let r : Row = row body bound ((p, pat) ∷ rest) in
     let a = added pat h bs n r k in
@@ -241,16 +241,16 @@ one_tree : (p : ℕ) (bs : Branches) (d : Decision) (k : ℕ) (es : List Equatio
 one_tree p bs d k [] t g s = record { decision = d; is = refl }
 one_tree p bs d k (e ∷ es) t g s =
     let first : Goes p bs e = g.0 in
-    let parts = and_parts (is_one (test_of e)) (all_beside (test_of e) es && is_simple es) s in
+    let parts = and_parts (is_single_test (test_of e)) (all_beside (test_of e) es && is_simple es) s in
     let rest = and_parts (all_beside (test_of e) es) (is_simple es) parts.1 in
-    let put : Taken p first.head bs (insert most_chained (Case p bs NoDefault) d.free (row_of e)) = taken most_chained p bs d.free (row_of e) first.head (row_tests e p first.head first.test) first.kind first.other in
+    let put : Taken p first.head bs (insert max_chained_cases (Case p bs NoDefault) d.free (row_of e)) = taken max_chained_cases p bs d.free (row_of e) first.head (row_tests e p first.head first.test) first.kind first.other in
     let u : Tree × ℕ = (Case p put.branches NoDefault, put.free) in
     let goes = still_go p first.head bs put.branches put.kinds put.heads es g.1 (ap (λ w. all_beside w es) (sym first.test) ∙ rest.0) in
     let more = one_tree p put.branches (grown d u) (suc k) es refl goes rest.1 in
     record {
       decision = more.decision;
       is =
-          ap (λ o. elim o [ Some t ↦ decided (grown d t) (suc k) es | None ↦ d ∷ decided (begun k e) (suc k) es ]) (ap (λ w. insert most_chained w d.free (row_of e)) t ∙ put.is)
+          ap (λ o. elim o [ Some t ↦ decided (grown d t) (suc k) es | None ↦ d ∷ decided (begun k e) (suc k) es ]) (ap (λ w. insert max_chained_cases w d.free (row_of e)) t ∙ put.is)
           ∙ more.is;
     }
 
@@ -265,14 +265,14 @@ all_go p h places t (e ∷ es) b =
 all_rows : (es : List Equation) → is_simple es ≡ true → rows es ≡ es
 all_rows [] s = refl
 all_rows (e ∷ es) s =
-    let parts = and_parts (is_one (test_of e)) (all_beside (test_of e) es && is_simple es) s in
+    let parts = and_parts (is_single_test (test_of e)) (all_beside (test_of e) es && is_simple es) s in
     let rest = and_parts (all_beside (test_of e) es) (is_simple es) parts.1 in
     let t = of_test (test_of e) parts.0 in
     ap (λ b. e ∷ (if b then [] else rows es)) (is_tested 0 e.pats t.column t.head t.is) ∙ ap (λ w. e ∷ w) (all_rows es rest.1)
 
 simple_one : (k : ℕ) (e : Equation) (es : List Equation) → is_simple (e ∷ es) ≡ true → One (decisions_from k (e ∷ es))
 simple_one k e es s =
-    let parts = and_parts (is_one (test_of e)) (all_beside (test_of e) es && is_simple es) s in
+    let parts = and_parts (is_single_test (test_of e)) (all_beside (test_of e) es && is_simple es) s in
     let rest = and_parts (all_beside (test_of e) es) (is_simple es) parts.1 in
     let t = of_test (test_of e) parts.0 in
     let first = tests_alone (count e.pats) (row_of e) t.column t.head (row_tests e t.column t.head t.is) in
@@ -302,7 +302,7 @@ whole k e es s = go (is_simple (e ∷ es)) refl s
     go true h s = record { all = all_rows (e ∷ es) h; one = simple_one k e es h }
     go false h s = plain_whole k e es s
 
-none_stand : {k : ℕ} {es : List Equation} {ds : List Decision} → StandFor k es ds → ds ≡ [] → es ≡ []
+none_stand : {k : ℕ} {es : List Equation} {ds : List Decision} → DecideAllEquations k es ds → ds ≡ [] → es ≡ []
 none_stand NoneLeft e = refl
 none_stand (More is rest) e = absurd cc
 
@@ -313,10 +313,10 @@ tails_same : {d g : Decision} {ds gs : List Decision} → d ∷ ds ≡ g ∷ gs 
 tails_same e = cc
 
 -- one tree stands for all of the equations
-one_stands : {k : ℕ} {es : List Equation} {ds : List Decision} (d : Decision) → StandFor k es ds → ds ≡ d ∷ [] → IsOf k es d
+one_stands : {k : ℕ} {es : List Equation} {ds : List Decision} (d : Decision) → DecideAllEquations k es ds → ds ≡ d ∷ [] → DecidesEquations k es d
 one_stands d NoneLeft e = absurd cc
 one_stands {k = k} d (More {es = es} {rest = rest} is more) e =
-    subst (λ w. IsOf k w d) (sym (append-nil es) ∙ ap (λ w. es ++ w) (sym (none_stand more (tails_same e)))) (subst (λ w. IsOf k es w) (heads_same e) is)
+    subst (λ w. DecidesEquations k w d) (sym (append-nil es) ∙ ap (λ w. es ++ w) (sym (none_stand more (tails_same e)))) (subst (λ w. DecidesEquations k es w) (heads_same e) is)
 
 -- ---- the functions of the program
 
@@ -373,11 +373,11 @@ all_under lo hi [] h = tt
 all_under lo hi (n ∷ ns) h = let m = climbs_up (suc n) hi ns h.1 in (omega (arith, m), all_under (suc n) hi ns h.1)
 
 module _ (c : Source) where
-  firsts_append : (xs ys : List (List Decision)) → firsts (words_of c) (xs ++ ys) ≡ firsts (words_of c) xs ++ firsts (words_of c) ys
+  firsts_append : (xs ys : List (List Decision)) → firsts (name_supply_of c) (xs ++ ys) ≡ firsts (name_supply_of c) xs ++ firsts (name_supply_of c) ys
   firsts_append [] ys = refl
-  firsts_append (f ∷ xs) ys = ap (λ w. first_of (words_of c) f ++ w) (firsts_append xs ys) ∙ sym (append_assoc (first_of (words_of c) f) (firsts (words_of c) xs) (firsts (words_of c) ys))
+  firsts_append (f ∷ xs) ys = ap (λ w. first_of (name_supply_of c) f ++ w) (firsts_append xs ys) ∙ sym (append_assoc (first_of (name_supply_of c) f) (firsts (name_supply_of c) xs) (firsts (name_supply_of c) ys))
 
-  all_equations : (P : ℕ → Type 0) (ns : List ℕ) → AllOf (λ n. P (equation_name (words_of c) n)) ns → AllOf P (map (equation_name (words_of c)) ns)
+  all_equations : (P : ℕ → Type 0) (ns : List ℕ) → AllOf (λ n. P (equation_name (name_supply_of c) n)) ns → AllOf P (map (equation_name (name_supply_of c)) ns)
   all_equations P [] h = tt
   all_equations P (n ∷ ns) h = (h.0, all_equations P ns h.1)
 
@@ -388,17 +388,17 @@ module _ (c : Source) where
         ∙ ap (λ n. all_decisions 0 before ++ all_decisions n (es ∷ after)) (sym (zero_plus (total before)))
         ∙ ap (λ ds. all_decisions 0 before ++ ds ∷ all_decisions (total before + length es) after) one
 
-    place : AllOf HasFirst before → length (firsts (words_of c) (all_decisions 0 before)) + 0 ≡ length before
-    place h = omega (arith, names_count (firsts (words_of c) (all_decisions 0 before)), first_count before h, ap (λ (w : List ℕ). length w) (firsts_names c 0 before))
+    place : AllOf HasFirst before → length (firsts (name_supply_of c) (all_decisions 0 before)) + 0 ≡ length before
+    place h = omega (arith, names_count (firsts (name_supply_of c) (all_decisions 0 before)), first_count before h, ap (λ (w : List ℕ). length w) (firsts_names c 0 before))
 
-    its_function : AllOf HasFirst before → slice_get (translated c).functions (length before) ≡ Some (function_of (words_of c) d.name d None)
+    its_function : AllOf HasFirst before → slice_get (translated c).functions (length before) ≡ Some (function_of (name_supply_of c) d.name d None)
     its_function h =
         let ds : List (List Decision) = all_decisions (total before + length es) after in
-        let f : Function = function_of (words_of c) d.name d None in
-        let at : slice_get (firsts (words_of c) (all_decisions 0 before) ++ f ∷ firsts (words_of c) ds) (length before) ≡ Some f =
-        ap (slice_get (firsts (words_of c) (all_decisions 0 before) ++ f ∷ firsts (words_of c) ds)) (sym (place h)) ∙ get_right (firsts (words_of c) (all_decisions 0 before)) (f ∷ firsts (words_of c) ds) 0 f refl in
-        let are : firsts (words_of c) (decisions c) ≡ firsts (words_of c) (all_decisions 0 before) ++ f ∷ firsts (words_of c) ds = ap (firsts (words_of c)) decisions_are ∙ firsts_append (all_decisions 0 before) ((d ∷ []) ∷ ds) in
-        get_left (firsts (words_of c) (decisions c)) (others (words_of c) (decisions c)) (length before) f (ap (λ w. slice_get w (length before)) are ∙ at)
+        let f : Function = function_of (name_supply_of c) d.name d None in
+        let at : slice_get (firsts (name_supply_of c) (all_decisions 0 before) ++ f ∷ firsts (name_supply_of c) ds) (length before) ≡ Some f =
+        ap (slice_get (firsts (name_supply_of c) (all_decisions 0 before) ++ f ∷ firsts (name_supply_of c) ds)) (sym (place h)) ∙ get_right (firsts (name_supply_of c) (all_decisions 0 before)) (f ∷ firsts (name_supply_of c) ds) 0 f refl in
+        let are : firsts (name_supply_of c) (decisions c) ≡ firsts (name_supply_of c) (all_decisions 0 before) ++ f ∷ firsts (name_supply_of c) ds = ap (firsts (name_supply_of c)) decisions_are ∙ firsts_append (all_decisions 0 before) ((d ∷ []) ∷ ds) in
+        get_left (firsts (name_supply_of c) (decisions c)) (others (name_supply_of c) (decisions c)) (length before) f (ap (λ w. slice_get w (length before)) are ∙ at)
 
     module _ (j : ℕ) (lt : j < length es) where
       numbers_apart : AllOf (λ n. n ≢ total before + j) (other_numbers (decisions c))
@@ -411,7 +411,7 @@ module _ (c : Source) where
           (all_are (λ n. total before + length es ≤ n) (λ n. n ≢ total before + j) (λ n l e. omega (arith, l, e, lt)) (other_numbers ds)
           (all_above (total before + length es) (total before + length es + total after) (other_numbers ds) (others_climb (total before + length es) after))))
 
-      names_apart : AllOf (λ (e : Equation). e.name < length c.names) c.equations → AllOf (λ x. x ≢ equation_name (words_of c) (total before + j)) (function_names (translated c).functions)
+      names_apart : AllOf (λ (e : Equation). e.name < length c.names) c.equations → AllOf (λ x. x ≢ equation_name (name_supply_of c) (total before + j)) (function_names (translated c).functions)
       names_apart below =
           let n : ℕ = length (with_nameless c.names) in
           let le : length c.names ≤ n = nameless_length c.names in
@@ -419,13 +419,13 @@ module _ (c : Source) where
           let lower = all_are (λ (e : Equation). e.name < length c.names) (λ (e : Equation). e.name < n) (λ e l. omega (arith, le, l)) c.equations below in
           let firsts_are = firsts_names c 0 fs in
           let others_are = others_names c (decisions c) in
-          let are : function_names (translated c).functions ≡ first_names fs ++ map (equation_name (words_of c)) (other_numbers (decisions c)) =
-          names_append (firsts (words_of c) (decisions c)) (others (words_of c) (decisions c)) ∙ (λ i. firsts_are i ++ others_are i) in
-          subst (AllOf (λ x. x ≢ equation_name (words_of c) (total before + j))) (sym are)
-          (all_append (λ x. x ≢ equation_name (words_of c) (total before + j)) (first_names fs) (map (equation_name (words_of c)) (other_numbers (decisions c)))
-          (all_are (λ x. x < n) (λ x. x ≢ equation_name (words_of c) (total before + j)) (λ x l e. omega (arith, l, e)) (first_names fs) (below_all n fs (functions_all (λ (e : Equation). e.name < n) c.equations lower)))
-          (all_equations (λ x. x ≢ equation_name (words_of c) (total before + j)) (other_numbers (decisions c))
-          (all_are (λ n. n ≢ total before + j) (λ n. equation_name (words_of c) n ≢ equation_name (words_of c) (total before + j)) (λ n f e. f (equation_apart c n (total before + j) e)) (other_numbers (decisions c)) numbers_apart)))
+          let are : function_names (translated c).functions ≡ first_names fs ++ map (equation_name (name_supply_of c)) (other_numbers (decisions c)) =
+          names_append (firsts (name_supply_of c) (decisions c)) (others (name_supply_of c) (decisions c)) ∙ (λ i. firsts_are i ++ others_are i) in
+          subst (AllOf (λ x. x ≢ equation_name (name_supply_of c) (total before + j))) (sym are)
+          (all_append (λ x. x ≢ equation_name (name_supply_of c) (total before + j)) (first_names fs) (map (equation_name (name_supply_of c)) (other_numbers (decisions c)))
+          (all_are (λ x. x < n) (λ x. x ≢ equation_name (name_supply_of c) (total before + j)) (λ x l e. omega (arith, l, e)) (first_names fs) (below_all n fs (functions_all (λ (e : Equation). e.name < n) c.equations lower)))
+          (all_equations (λ x. x ≢ equation_name (name_supply_of c) (total before + j)) (other_numbers (decisions c))
+          (all_are (λ n. n ≢ total before + j) (λ n. equation_name (name_supply_of c) n ≢ equation_name (name_supply_of c) (total before + j)) (λ n f e. f (equation_apart c n (total before + j) e)) (other_numbers (decisions c)) numbers_apart)))
 
 pub stays_one : (c : Source) → WasRead c → (before after : List (List Equation)) (es : List Equation) → functions c.equations ≡ before ++ es ∷ after → (is_simple es || is_plain es) ≡ true → IsOneFunction c (length before) (sum_of (map length before)) es
 stays_one c read before after [] parts s =
@@ -436,7 +436,7 @@ stays_one c read before after (e ∷ es) parts s =
     let below = all_are (λ e. In e c.equations) (λ (e : Equation). e.name < length c.names) (λ e i. let r = read.names e i in get_within c.names e.name r.0 r.1) c.equations (all_in c.equations) in
     record {
       decision = w.one.decision;
-      stands = subst (λ x. IsOf k x w.one.decision) w.all (one_stands w.one.decision (trees_stand k (rows (e ∷ es))) (ap (decisions_from k) w.all ∙ w.one.is));
+      stands = subst (λ x. DecidesEquations k x w.one.decision) w.all (one_stands w.one.decision (trees_stand k (rows (e ∷ es))) (ap (decisions_from k) w.all ∙ w.one.is));
       function = its_function c before after (e ∷ es) parts w.one.decision (ap (decisions_from k) w.all ∙ w.one.is) (front_all HasFirst before ((e ∷ es) ∷ after) (subst (AllOf HasFirst) parts (functions_first c.equations)));
-      no_other = λ f i j lt. all_of (λ x. x ≢ equation_name (words_of c) (k + j)) (function_names (translated c).functions) (names_apart c before after (e ∷ es) parts w.one.decision (ap (decisions_from k) w.all ∙ w.one.is) j lt below) (name_among (translated c).functions i);
+      no_other = λ f i j lt. all_of (λ x. x ≢ equation_name (name_supply_of c) (k + j)) (function_names (translated c).functions) (names_apart c before after (e ∷ es) parts w.one.decision (ap (decisions_from k) w.all ∙ w.one.is) j lt below) (name_among (translated c).functions i);
     }

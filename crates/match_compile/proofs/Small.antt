@@ -17,9 +17,9 @@ use Rattle.match_compile.specs.Heads.{Head, Integer, Constructor}
 use Rattle.match_compile.specs.Sizes.{equation_size, source_size, tests, joined, functions, rows}
 use Rattle.match_compile.specs.Trees.{Tree, Body, Case, Branches, NoBranch, AndBranch, Default, NoDefault, ATree}
 use Rattle.match_compile.specs.Decisions.{Decision, all_decisions, decisions}
-use Rattle.match_compile.specs.Renamed.{name_for, hidden, renamed_term, renamed_terms, renamed_bind, renamed_expr, renamed_alts}
-use Rattle.match_compile.specs.Translated.{taken, binder, with_fields, binders, pattern_of, expr_of, alts_of, default_of, with_params, arguments, call, is_called, function_of, equation_name, next_of, first_of, each_of, others_of, firsts, others, Words, words_of}
-use Rattle.match_compile.specs.Laws.{IsSmall}
+use Rattle.match_compile.specs.Renamed.{renamed_name, shadowing, renamed_term, renamed_terms, renamed_bind, renamed_expr, renamed_alts}
+use Rattle.match_compile.specs.Translated.{taken, binder, with_fields, binders, pattern_of, expr_of, alts_of, default_of, with_params, arguments, call, is_called, function_of, equation_name, next_of, first_of, each_of, others_of, firsts, others, Words, name_supply_of}
+use Rattle.match_compile.specs.Laws.{SizeIsBounded}
 use Rattle.match_compile.proofs.Weights.{weight, branches_weight, default_weight, cost, costs, whole, wholes, decisions_cost}
 
 -- ---- renaming keeps sizes
@@ -43,12 +43,12 @@ group_same s (b ∷ bs) =
 mutual
   expr_same : (s : Scope) (e : Expr) → expr_size (renamed_expr s e) ≡ expr_size e
   expr_same s (App a) = λ i. term_same s a.head i + terms_same s a.args i
-  expr_same s (Let group e) = λ i. group_same (hidden (binders_of group) s) group i + expr_same (hidden (binders_of group) s) e i
+  expr_same s (Let group e) = λ i. group_same (shadowing (binders_of group) s) group i + expr_same (shadowing (binders_of group) s) e i
   expr_same s (core.Case e alts) = λ i. expr_same s e i + alts_same s alts i
 
   alts_same : (s : Scope) (alts : Alts) → alts_size (renamed_alts s alts) ≡ alts_size alts
   alts_same s NoAlts = refl
-  alts_same s (AndAlt p e alts) = λ i. pattern_size p + expr_same (hidden (bound_by p) s) e i + alts_same s alts i
+  alts_same s (AndAlt p e alts) = λ i. pattern_size p + expr_same (shadowing (bound_by p) s) e i + alts_same s alts i
 
 -- ---- trees
 
@@ -61,7 +61,7 @@ pattern_small c at params (Integer k) bs = omega arith
 pattern_small c at params (Constructor d) bs = omega arith
 
 binders_count : (c : Words) (at params : ℕ) (s : Scope) (ps : List ℕ) → length (binders c at params s ps) ≡ length ps
-binders_count c at params s ps = map_length (λ p. binder c at params (name_for s p)) ps
+binders_count c at params s ps = map_length (λ p. binder c at params (renamed_name s p)) ps
 
 module _ (c : Words) (at params : ℕ) (rest : Alts) (short : alts_size rest ≤ 14) where
   mutual
@@ -171,11 +171,11 @@ costs_are [] = refl
 costs_are (e ∷ es) =
     omega (arith, sum_by-cons equation_size e es, sum_by-cons (λ (e : Equation). tests_of e.pats) e es, costs_are es)
 
-small : (c : Source) (ds : List (List Decision)) → all_wholes ds ≤ costs c.equations → 2 * length c.constructors + sizes (firsts (words_of c) ds ++ others (words_of c) ds) ≤ source_size c + 16 * tests c
-small c ds l = omega (arith, sum_by-append function_size (firsts (words_of c) ds) (others (words_of c) ds), all_small (words_of c) ds, l, costs_are c.equations)
+small : (c : Source) (ds : List (List Decision)) → all_wholes ds ≤ costs c.equations → 2 * length c.constructors + sizes (firsts (name_supply_of c) ds ++ others (name_supply_of c) ds) ≤ source_size c + 16 * tests c
+small c ds l = omega (arith, sum_by-append function_size (firsts (name_supply_of c) ds) (others (name_supply_of c) ds), all_small (name_supply_of c) ds, l, costs_are c.equations)
 
 paid_for : (c : Source) → all_wholes (decisions c) ≤ costs c.equations
 paid_for c = subst (λ n. all_wholes (decisions c) ≤ n) (functions_cost c.equations) (all_cost 0 (functions c.equations))
 
-pub is_small : IsSmall
+pub is_small : SizeIsBounded
 is_small c = small c (decisions c) (paid_for c)

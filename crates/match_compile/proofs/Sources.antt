@@ -7,17 +7,17 @@ use Rattle.seq.proofs.Truth.{and_left}
 use Rattle.seq.proofs.Order.{eq_from}
 use Rattle.core_reader.specs.declared.dialect.Dialect.TheVariants.{Core}
 use Rattle.core_reader.specs.declared.look.Sign.TheVariants as signs
-use Rattle.core_reader.specs.declared.look.Kind.{Kind}
-use Rattle.core_reader.specs.declared.look.Kind.TheVariants.{Lower, Upper, Digits, Sign}
+use Rattle.core_reader.specs.declared.look.TokenKind.{TokenKind}
+use Rattle.core_reader.specs.declared.look.TokenKind.TheVariants.{Lower, Upper, Digits, Sign}
 use Rattle.core_reader.specs.declared.token.Token.{Token}
 use Rattle.core_reader.specs.declared.token.Token.TheVariants as word
 use Rattle.core_reader.specs.declared.token.Lexeme.{Lexeme}
 use Rattle.core_reader.specs.declared.refusal.ReadRefusal.{ReadRefusal}
 use Rattle.core_reader.specs.Bytes.{is_inner}
 use Rattle.core_reader.specs.Tree.{data_of}
-use Rattle.core_reader.specs.Grammar.{anywhere, at_most_200}
+use Rattle.core_reader.specs.Grammar.{unlimited_nesting, at_most_200}
 use Rattle.core_reader.specs.TokensOf.{Piece, Reads, Stops, Passes, Takes, IsTokens, kind_of, every}
-use Rattle.core_reader.specs.WordsOf.{said, said_by, said_by_letters, keyword_of, sign_token}
+use Rattle.core_reader.specs.WordsOf.{said, said_by, keyword_or_name, keyword_of, sign_token}
 use Rattle.core_reader.specs.NamesOf.{is_numbered_by}
 use Rattle.core_reader.specs.ReadingOf.{run_of}
 use Rattle.core_reader.specs.LexedOf.{StopsAt, AtEnd, AtBad, AtLarge, IsLexed}
@@ -37,8 +37,8 @@ use Rattle.match_compile.specs.SourceOf.{equation_of}
 use Rattle.match_compile.specs.Grammar.{Decl, IsSource, IsReadCause}
 use Rattle.match_compile.specs.Reading.{top, step, run, ReadsSource}
 use Rattle.match_compile.specs.Rules.{is_reserved, IsReserved}
-use Rattle.match_compile.specs.Refusal.{rule, place, least, noted}
-use Rattle.match_compile.specs.Faults.{is_reserved_token, reserved_faults, IsMet}
+use Rattle.match_compile.specs.Refusal.{rule, place, least_refusal, refusal_if}
+use Rattle.match_compile.specs.Faults.{is_reserved_token, reserved_faults, IsFirstReserved}
 use Rattle.match_compile.proofs.Reading.{source_reads}
 
 -- ---- the equations of a text
@@ -51,7 +51,7 @@ source_from names parts = record {
 }
 
 module _ (text : List ℕ) (lexemes : List Lexeme) (names : Texts) (short : length text ≤ 1048576) (l : IsLexed Core text lexemes names) where
-  pub derived : (parts : Parts) → ReadsSource lexemes (Ok parts) → IsSource anywhere (source_from names parts) l.pieces
+  pub derived : (parts : Parts) → ReadsSource lexemes (Ok parts) → IsSource unlimited_nesting (source_from names parts) l.pieces
   derived parts h = record { names = l.named; decls = h.0; constructors = h.1; equations = h.2; spelled = spelled_by source_reads text lexemes names h.0 l h.3 }
 
   pub found : (parts : Parts) → ReadsSource lexemes (Ok parts) → Found Core IsSource text (source_from names parts)
@@ -95,7 +95,7 @@ not_last names at rest last (AtEnd e) = refl
 not_last names at rest last (AtBad e) = refl
 not_last names at rest last (AtLarge n l o) = refl
 
-word_not : (names : Texts) (w : List ℕ) (o : Option Token) → IsKeyword o → (is_none o ≡ true → has names w ≡ true) → is_reserved_token names (said_by_letters names w o) ≡ true → is_reserved w ≡ true
+word_not : (names : Texts) (w : List ℕ) (o : Option Token) → IsKeyword o → (is_none o ≡ true → has names w ≡ true) → is_reserved_token names (keyword_or_name names w o) ≡ true → is_reserved w ≡ true
 word_not names w None k h e = sym (ap (λ v. is_reserved (or_empty v)) (at_number names w (h refl))) ∙ e
 word_not names w (Some (word.Name n)) k h e = absurd k
 word_not names w (Some token) k h e = absurd cc
@@ -113,7 +113,7 @@ sign_not names signs.Bar e = cc
 sign_not names signs.Colon e = cc
 
 -- the token of a name that begins so has bytes that do
-begins_by : (names : Texts) (w : List ℕ) (o : Option Kind) → kind_of Core w ≡ o → (is_numbered_by Core w o ≡ true → has names w ≡ true) → is_reserved_token names (said_by Core names w o) ≡ true → is_reserved w ≡ true
+begins_by : (names : Texts) (w : List ℕ) (o : Option TokenKind) → kind_of Core w ≡ o → (is_numbered_by Core w o ≡ true → has names w ≡ true) → is_reserved_token names (said_by Core names w o) ≡ true → is_reserved w ≡ true
 begins_by names w None k h e = absurd cc
 begins_by names w (Some Lower) k h e = word_not names w (keyword_of Core w) (keyword_is_word Core w) h e
 begins_by names w (Some Upper) k h e = absurd cc
@@ -121,7 +121,7 @@ begins_by names w (Some Digits) k h e = absurd cc
 begins_by names w (Some (Sign s)) k h e = absurd (sign_not names s e)
 
 -- and the other way round
-at_letter : (names : Texts) (bs : List ℕ) (k : Kind) → kind_of Core (109 ∷ bs) ≡ Some k → is_reserved (109 ∷ bs) ≡ true → (is_numbered_by Core (109 ∷ bs) (kind_of Core (109 ∷ bs)) ≡ true → has names (109 ∷ bs) ≡ true)
+at_letter : (names : Texts) (bs : List ℕ) (k : TokenKind) → kind_of Core (109 ∷ bs) ≡ Some k → is_reserved (109 ∷ bs) ≡ true → (is_numbered_by Core (109 ∷ bs) (kind_of Core (109 ∷ bs)) ≡ true → has names (109 ∷ bs) ≡ true)
     → is_reserved_token names (said_by Core names (109 ∷ bs) (kind_of Core (109 ∷ bs))) ≡ true
 at_letter names bs k e r h = by (every is_inner bs) refl
   where
@@ -134,13 +134,13 @@ at_letter names bs k e r h = by (every is_inner bs) refl
     by true f = lower (ap (λ b. if b then Some Lower else None) f)
     by false f = absurd (none_some (sym (ap (λ b. if b then Some Lower else None) f) ∙ e))
       where
-        none_some : ◌≡◌ {A = Option Kind} None (Some k) → ⊥
+        none_some : ◌≡◌ {A = Option TokenKind} None (Some k) → ⊥
         none_some g = cc
 
-abbrev Begins : Texts → List ℕ → Kind → ℕ → Type 0
+abbrev Begins : Texts → List ℕ → TokenKind → ℕ → Type 0
 Begins names bs k b = kind_of Core (b ∷ bs) ≡ Some k → is_reserved (b ∷ bs) ≡ true → (is_numbered_by Core (b ∷ bs) (kind_of Core (b ∷ bs)) ≡ true → has names (b ∷ bs) ≡ true) → is_reserved_token names (said_by Core names (b ∷ bs) (kind_of Core (b ∷ bs))) ≡ true
 
-token_begins : (names : Texts) (w : List ℕ) (k : Kind) → kind_of Core w ≡ Some k → is_reserved w ≡ true → (is_numbered_by Core w (kind_of Core w) ≡ true → has names w ≡ true) → is_reserved_token names (said_by Core names w (kind_of Core w)) ≡ true
+token_begins : (names : Texts) (w : List ℕ) (k : TokenKind) → kind_of Core w ≡ Some k → is_reserved w ≡ true → (is_numbered_by Core w (kind_of Core w) ≡ true → has names w ≡ true) → is_reserved_token names (said_by Core names w (kind_of Core w)) ≡ true
 token_begins names [] k e r h = absurd (no_letter r)
   where
     no_letter : is_reserved [] ≡ true → ⊥
@@ -149,7 +149,7 @@ token_begins names (b ∷ bs) k e r h =
     let same : 109 ≡ b = eq_from 109 b (and_left (nat_eq 109 b) _ r) in
     subst (Begins names bs k) same (at_letter names bs k) e r h
 
-kind_in : {at end : ℕ} {bytes rest : List ℕ} {pieces : List Piece} → Reads Core at bytes pieces end rest → (p : Piece) → In p pieces → (k : Kind) × (kind_of Core p.bytes ≡ Some k)
+kind_in : {at end : ℕ} {bytes rest : List ℕ} {pieces : List Piece} → Reads Core at bytes pieces end rest → (p : Piece) → In p pieces → (k : TokenKind) × (kind_of Core p.bytes ≡ Some k)
 kind_in (Stops at rest) p i = none_in i
 kind_in (Passes at n bytes pieces end rest h r) p i = kind_in r p i
 kind_in (Takes at n bytes k pieces end rest h r) p here = (k, h.is_token)
@@ -166,7 +166,7 @@ held_in names (q ∷ ps) h p (there i) = held_in names ps h.1 p i
 module _ (text : List ℕ) (lexemes : List Lexeme) (names : Texts) (l : IsLexed Core text lexemes names) where
   reserved_sound : (ds : List Decl) → run (top []) lexemes ≡ Ok ds → (r : MatchRefusal) → In r (reserved_faults names lexemes) → (rule r ≡ 74) × IsReserved text (place r)
   reserved_sound ds h r i =
-      let w = flat_in (λ l. noted (is_reserved_token names l.token) (ReservedMatch l.at)) lexemes i in
+      let w = flat_in (λ l. refusal_if (is_reserved_token names l.token) (ReservedMatch l.at)) lexemes i in
       let x = w.0 in
       let n = when_in (is_reserved_token names x.token) (ReservedMatch x.at ∷ []) w.2 in
       let is = one_in (ReservedMatch x.at) n.1 in
@@ -197,8 +197,8 @@ module _ (text : List ℕ) (lexemes : List Lexeme) (names : Texts) (l : IsLexed 
       let x = said Core names p in
       let j : In x lexemes = subst (In x) (sym l.lexed) (in_left (map (said Core names) l.pieces) (l.last ∷ []) (in_map (said Core names) l.pieces i)) in
       let b : is_reserved_token names x.token ≡ true = token_begins names p.bytes k.0 k.1 w.begins held in
-      let met : In (ReservedMatch x.at) (reserved_faults names lexemes) = in_flat (λ l. noted (is_reserved_token names l.token) (ReservedMatch l.at)) lexemes j (in_when (is_reserved_token names x.token) (ReservedMatch x.at ∷ []) b here) in
+      let met : In (ReservedMatch x.at) (reserved_faults names lexemes) = in_flat (λ l. refusal_if (is_reserved_token names l.token) (ReservedMatch l.at)) lexemes j (in_when (is_reserved_token names x.token) (ReservedMatch x.at ∷ []) b here) in
       subst (λ n. In (ReservedMatch n) (reserved_faults names lexemes)) w.place met
 
-  pub are_met : (ds : List Decl) → run (top []) lexemes ≡ Ok ds → IsMet text (least None (reserved_faults names lexemes))
+  pub are_met : (ds : List Decl) → run (top []) lexemes ≡ Ok ds → IsFirstReserved text (least_refusal None (reserved_faults names lexemes))
   are_met ds h = record { all = reserved_faults names lexemes; is = refl; sound = reserved_sound ds h; complete = reserved_complete ds h }

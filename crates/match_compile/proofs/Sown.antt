@@ -14,7 +14,7 @@ use Rattle.match_compile.specs.Source.{Pat, Name, Int, Con, Pats, NoPats, AndPat
 use Rattle.match_compile.specs.Parts.{count, tests_of, names_in, names_of, constructors_in, constructors_of}
 use Rattle.match_compile.specs.Rules.{fields_in, Broken, UnknownName, PatternArity}
 use Rattle.match_compile.specs.Heads.{Head, Integer, Constructor, same_head, same_kind}
-use Rattle.match_compile.specs.Trees.{Job, Row, row, settled, IsSettled, jobs_at, places_from, head_of, fields_of, Tree, Body, Case, Branches, NoBranch, AndBranch, Default, NoDefault, ATree, branches_fail, test_at, later, opened, tests_left, one_branch, by_head, alone, alone_from, fits, in_default, in_branch, in_later, new_branch, or_default, pred, most_chained, insert, insert_branch}
+use Rattle.match_compile.specs.Trees.{PendingPattern, Row, row, settled, BeginsWithTest, pending_patterns_at, places_from, head_of, fields_of, Tree, Body, Case, Branches, NoBranch, AndBranch, Default, NoDefault, ATree, branches_fail, test_at, later, opened, tests_left, one_branch, by_head, alone, alone_from, fits, in_default, in_branch, in_later, new_branch, or_default, pred, max_chained_cases, insert, insert_branch}
 use Rattle.match_compile.specs.Sizes.{functions, rows}
 use Rattle.match_compile.specs.Decisions.{Decision, row_of, begun, grown, decided, decisions_from, all_decisions, decisions}
 use Rattle.match_compile.specs.Translated.{bound_at, is_name, all_bind, branches_bind}
@@ -68,15 +68,15 @@ not_middle (x ∷ xs) ys p d i = ⊎_elim (λ q. (back_all (λ y. y ≢ x) xs (p
 
 -- ---- names, constructors and places of what is still to be matched
 
-abbrev pub job_names : List Job → List Binder
+abbrev pub job_names : List PendingPattern → List Binder
 job_names [] = []
 job_names (j ∷ js) = names_in j.1 ++ job_names js
 
-abbrev pub job_constructors : List Job → List (Binder × ℕ)
+abbrev pub job_constructors : List PendingPattern → List (Binder × ℕ)
 job_constructors [] = []
 job_constructors (j ∷ js) = constructors_in j.1 ++ job_constructors js
 
-abbrev pub job_places : List Job → List ℕ
+abbrev pub job_places : List PendingPattern → List ℕ
 job_places [] = []
 job_places (j ∷ js) = j.0 ∷ job_places js
 
@@ -88,36 +88,36 @@ abbrev pub bound_places : List (Binder × ℕ) → List ℕ
 bound_places [] = []
 bound_places (b ∷ bs) = b.1 ∷ bound_places bs
 
-pub names_append : (xs ys : List Job) → job_names (xs ++ ys) ≡ job_names xs ++ job_names ys
+pub names_append : (xs ys : List PendingPattern) → job_names (xs ++ ys) ≡ job_names xs ++ job_names ys
 names_append [] ys = refl
 names_append (x ∷ xs) ys = ap (λ w. names_in x.1 ++ w) (names_append xs ys) ∙ sym (append_assoc (names_in x.1) (job_names xs) (job_names ys))
 
-places_append : (xs ys : List Job) → job_places (xs ++ ys) ≡ job_places xs ++ job_places ys
+places_append : (xs ys : List PendingPattern) → job_places (xs ++ ys) ≡ job_places xs ++ job_places ys
 places_append [] ys = refl
 places_append (x ∷ xs) ys = ap (λ w. x.0 ∷ w) (places_append xs ys)
 
-constructors_split : (xs ys : List Job) {b : Binder × ℕ} → In b (job_constructors (xs ++ ys)) → In b (job_constructors xs) ⊎ In b (job_constructors ys)
+constructors_split : (xs ys : List PendingPattern) {b : Binder × ℕ} → In b (job_constructors (xs ++ ys)) → In b (job_constructors xs) ⊎ In b (job_constructors ys)
 constructors_split [] ys h = inr h
 constructors_split (x ∷ xs) ys h = elim (in_split (constructors_in x.1) (job_constructors (xs ++ ys)) h) [
   | inl i ↦ inl (in_left (constructors_in x.1) (job_constructors xs) i)
   | inr i ↦ ⊎_elim (λ l. inl (in_right (constructors_in x.1) (job_constructors xs) l)) (λ r. inr r) (constructors_split xs ys i)
 ]
 
-pub names_at : (places : List ℕ) (ps : Pats) → length places ≡ count ps → job_names (jobs_at places ps) ≡ names_of ps
+pub names_at : (places : List ℕ) (ps : Pats) → length places ≡ count ps → job_names (pending_patterns_at places ps) ≡ names_of ps
 names_at places NoPats e = refl
 names_at [] (AndPat p ps) e = absurd (omega (arith, e))
 names_at (x ∷ places) (AndPat p ps) e = ap (λ w. names_in p ++ w) (names_at places ps (omega (arith, e)))
 
-places_at : (places : List ℕ) (ps : Pats) → length places ≡ count ps → job_places (jobs_at places ps) ≡ places
+places_at : (places : List ℕ) (ps : Pats) → length places ≡ count ps → job_places (pending_patterns_at places ps) ≡ places
 places_at [] NoPats e = refl
 places_at (x ∷ places) NoPats e = absurd (omega (arith, e))
 places_at [] (AndPat p ps) e = absurd (omega (arith, e))
 places_at (x ∷ places) (AndPat p ps) e = ap (λ w. x ∷ w) (places_at places ps (omega (arith, e)))
 
-constructors_at : (places : List ℕ) (ps : Pats) {b : Binder × ℕ} → In b (job_constructors (jobs_at places ps)) → In b (constructors_of ps)
+constructors_at : (places : List ℕ) (ps : Pats) {b : Binder × ℕ} → In b (job_constructors (pending_patterns_at places ps)) → In b (constructors_of ps)
 constructors_at places NoPats h = h
 constructors_at [] (AndPat p ps) h = none_in h
-constructors_at (x ∷ places) (AndPat p ps) h = ⊎_elim (λ l. in_left (constructors_in p) (constructors_of ps) l) (λ r. in_right (constructors_in p) (constructors_of ps) (constructors_at places ps r)) (in_split (constructors_in p) (job_constructors (jobs_at places ps)) h)
+constructors_at (x ∷ places) (AndPat p ps) h = ⊎_elim (λ l. in_left (constructors_in p) (constructors_of ps) l) (λ r. in_right (constructors_in p) (constructors_of ps) (constructors_at places ps r)) (in_split (constructors_in p) (job_constructors (pending_patterns_at places ps)) h)
 
 pub bound_names_last : (bs : List (Binder × ℕ)) (b : Binder) (p : ℕ) (ys : List Binder) → bound_names (bs ++ (b, p) ∷ []) ++ ys ≡ bound_names bs ++ b ∷ ys
 bound_names_last [] b p ys = refl
@@ -131,7 +131,7 @@ bound_places_last (x ∷ bs) b p ys = ap (λ w. x.1 ∷ w) (bound_places_last bs
 abbrev pub places_of : Row → List ℕ
 places_of r = bound_places r.bound ++ job_places r.jobs
 
-settled_places : (body : Expr) (bound : List (Binder × ℕ)) (js : List Job) → places_of (settled body bound js) ≡ bound_places bound ++ job_places js
+settled_places : (body : Expr) (bound : List (Binder × ℕ)) (js : List PendingPattern) → places_of (settled body bound js) ≡ bound_places bound ++ job_places js
 settled_places body bound [] = refl
 settled_places body bound ((p, Name b) ∷ js) = settled_places body (bound ++ (b, p) ∷ []) js ∙ bound_places_last bound b p (job_places js)
 settled_places body bound ((p, Int k at) ∷ js) = refl
@@ -147,7 +147,7 @@ pat_constructors (Name b) h = h
 pat_constructors (Int k at) h = h
 pat_constructors (Con c ps) h = there h
 
-pub test_is : (p : ℕ) (js : List Job) (pat : Pat) → test_at p js ≡ Some pat → js ≡ (p, pat) ∷ later js
+pub test_is : (p : ℕ) (js : List PendingPattern) (pat : Pat) → test_at p js ≡ Some pat → js ≡ (p, pat) ∷ later js
 test_is p [] pat e = absurd cc
 test_is p (j ∷ js) pat e = go (j.0 == p) refl e
   where
@@ -236,7 +236,7 @@ abbrev mutual
 abbrev pub leaf_of : Row → Leaf
 leaf_of r = (r.body, bound_names r.bound ++ job_names r.jobs)
 
-settled_leaf : (body : Expr) (bound : List (Binder × ℕ)) (js : List Job) → leaf_of (settled body bound js) ≡ (body, bound_names bound ++ job_names js)
+settled_leaf : (body : Expr) (bound : List (Binder × ℕ)) (js : List PendingPattern) → leaf_of (settled body bound js) ≡ (body, bound_names bound ++ job_names js)
 settled_leaf body bound [] = refl
 settled_leaf body bound ((p, Name b) ∷ js) = settled_leaf body (bound ++ (b, p) ∷ []) js ∙ ap (λ (w : List Binder). (body, w)) (bound_names_last bound b p (job_names js))
 settled_leaf body bound ((p, Int k at) ∷ js) = refl
@@ -245,8 +245,8 @@ settled_leaf body bound ((p, Con c ps) ∷ js) = refl
 -- behind its first test a row comes to the same
 opened_leaf : (p : ℕ) (r : Row) (pat : Pat) (h : Head) (ps : List ℕ) → test_at p r.jobs ≡ Some pat → head_of pat ≡ Some h → length ps ≡ count (fields_of pat) → leaf_of (opened r pat ps) ≡ leaf_of r
 opened_leaf p r pat h ps t e len =
-    let fs : List Job = jobs_at ps (fields_of pat) in
-    let js : List Job = later r.jobs in
+    let fs : List PendingPattern = pending_patterns_at ps (fields_of pat) in
+    let js : List PendingPattern = later r.jobs in
     let same : job_names fs ≡ names_in pat = names_at ps (fields_of pat) len ∙ sym (pat_names pat h e) in
     let all : job_names (fs ++ js) ≡ job_names r.jobs = names_append fs js ∙ ap (λ w. w ++ job_names js) same ∙ sym (ap job_names (test_is p r.jobs pat t)) in
     settled_leaf r.body r.bound (fs ++ js) ∙ ap (λ (w : List Binder). (r.body, bound_names r.bound ++ w)) all
@@ -260,7 +260,7 @@ other_side : (xs ys zs : List Leaf) (l : Leaf) → (In l xs → In l ys) → In 
 other_side xs ys zs l f i = ⊎_elim (λ a. in_left ys zs (f a)) (λ b. in_right ys zs b) (in_split xs zs i)
 
 row_leaf : (e : Equation) → leaf_of (row_of e) ≡ (e.body, names_of e.pats)
-row_leaf e = settled_leaf e.body [] (jobs_at (places_from 0 e.pats) e.pats) ∙ ap (λ (w : List Binder). (e.body, w)) (names_at (places_from 0 e.pats) e.pats (length_numbers 0 (count e.pats)))
+row_leaf e = settled_leaf e.body [] (pending_patterns_at (places_from 0 e.pats) e.pats) ∙ ap (λ (w : List Binder). (e.body, w)) (names_at (places_from 0 e.pats) e.pats (length_numbers 0 (count e.pats)))
 
 module _ (c : Source) where
   -- ---- rows
@@ -275,7 +275,7 @@ module _ (c : Source) where
     pub once : Differ (places_of r)
     pub known : AllOf (λ p. In p ks) (places_of r)
 
-  settled_comes : (ks : List ℕ) (body : Expr) (bound : List (Binder × ℕ)) (js : List Job) → Comes ks (row body bound js) → Comes ks (settled body bound js)
+  settled_comes : (ks : List ℕ) (body : Expr) (bound : List (Binder × ℕ)) (js : List PendingPattern) → Comes ks (row body bound js) → Comes ks (settled body bound js)
   settled_comes ks body bound [] h = h
   settled_comes ks body bound ((p, Int k at) ∷ js) h = h
   settled_comes ks body bound ((p, Con d ps) ∷ js) h = h
@@ -297,8 +297,8 @@ module _ (c : Source) where
       → Comes (ps ++ ks) (opened r pat ps)
   opened_comes ks p r pat h ps t e len d n w =
       let f = first_comes ks p r pat t w in
-      let fs : List Job = jobs_at ps (fields_of pat) in
-      let js : List Job = later r.jobs in
+      let fs : List PendingPattern = pending_patterns_at ps (fields_of pat) in
+      let js : List PendingPattern = later r.jobs in
       let are : job_places (fs ++ js) ≡ ps ++ job_places js = places_append fs js ∙ ap (λ w. w ++ job_places js) (places_at ps (fields_of pat) len) in
       let places : bound_places r.bound ++ job_places (fs ++ js) ≡ bound_places r.bound ++ (ps ++ job_places js) = ap (λ w. bound_places r.bound ++ w) are in
       let same : names_in pat ≡ job_names fs = pat_names pat h e ∙ sym (names_at ps (fields_of pat) len) in
@@ -316,8 +316,8 @@ module _ (c : Source) where
   opened_past : (ks : List ℕ) (p : ℕ) (r : Row) (pat : Pat) (ps : List ℕ) → test_at p r.jobs ≡ Some pat → length ps ≡ count (fields_of pat) → NotIn p ps → Comes ks r → NotIn p (places_of (opened r pat ps))
   opened_past ks p r pat ps t len n w i =
       let f = first_comes ks p r pat t w in
-      let fs : List Job = jobs_at ps (fields_of pat) in
-      let js : List Job = later r.jobs in
+      let fs : List PendingPattern = pending_patterns_at ps (fields_of pat) in
+      let js : List PendingPattern = later r.jobs in
       let are : job_places (fs ++ js) ≡ ps ++ job_places js = places_append fs js ∙ ap (λ w. w ++ job_places js) (places_at ps (fields_of pat) len) in
       let places : places_of (opened r pat ps) ≡ bound_places r.bound ++ (ps ++ job_places js) = settled_places r.body r.bound (fs ++ js) ∙ ap (λ w. bound_places r.bound ++ w) are in
       let m = not_middle (bound_places r.bound) (job_places js) p f.once in
@@ -328,8 +328,8 @@ module _ (c : Source) where
   -- and another place that is none of the row's is none then, if it is none of the fields'
   opened_other : (p q : ℕ) (r : Row) (pat : Pat) (ps : List ℕ) → test_at p r.jobs ≡ Some pat → length ps ≡ count (fields_of pat) → NotIn q ps → NotIn q (places_of r) → NotIn q (places_of (opened r pat ps))
   opened_other p q r pat ps t len n m i =
-      let fs : List Job = jobs_at ps (fields_of pat) in
-      let js : List Job = later r.jobs in
+      let fs : List PendingPattern = pending_patterns_at ps (fields_of pat) in
+      let js : List PendingPattern = later r.jobs in
       let are : job_places (fs ++ js) ≡ ps ++ job_places js = places_append fs js ∙ ap (λ w. w ++ job_places js) (places_at ps (fields_of pat) len) in
       let places : places_of (opened r pat ps) ≡ bound_places r.bound ++ (ps ++ job_places js) = settled_places r.body r.bound (fs ++ js) ∙ ap (λ w. bound_places r.bound ++ w) are in
       ⊎_elim (λ l. m (in_left (bound_places r.bound) (job_places r.jobs) l))
@@ -485,7 +485,7 @@ module _ (c : Source) where
       leaf = subst (λ (w : List Binder). In {X = Leaf} (body, w) ((body, bound_names bound) ∷ [])) (sym (append_nil (bound_names bound))) here;
     }
 
-    alone_fine : (k n : ℕ) (ks : List ℕ) (body : Expr) (bound : List (Binder × ℕ)) (js : List Job) → AllOf (λ q. q < n) ks → IsSettled js → tests_left js ≤ k → Comes ks (row body bound js) → Alone n ks (row body bound js) (alone k n (row body bound js))
+    alone_fine : (k n : ℕ) (ks : List ℕ) (body : Expr) (bound : List (Binder × ℕ)) (js : List PendingPattern) → AllOf (λ q. q < n) ks → BeginsWithTest js → tests_left js ≤ k → Comes ks (row body bound js) → Alone n ks (row body bound js) (alone k n (row body bound js))
     alone_fine zero n ks body bound [] low s l w = body_alone n ks body bound w
     alone_fine zero n ks body bound (j ∷ js) low s l w = absurd (no_tests j js s.0 s.1 l)
     alone_fine (suc k) n ks body bound [] low s l w = body_alone n ks body bound w
@@ -495,12 +495,12 @@ module _ (c : Source) where
         let next : Row = opened r j.1 ps in
         let test = first_test j js in
         let o = opens n ks j.0 r j.1 s.0 low test s.1 w in
-        let inner = alone_fine k (n + count (fields_of j.1)) (ps ++ ks) next.body next.bound next.jobs o.under (settled_is body bound (jobs_at ps (fields_of j.1) ++ js)) (fewer body bound j js ps s.0 k s.1 l) o.comes in
+        let inner = alone_fine k (n + count (fields_of j.1)) (ps ++ ks) next.body next.bound next.jobs o.under (settled_is body bound (pending_patterns_at ps (fields_of j.1) ++ js)) (fewer body bound j js ps s.0 k s.1 l) o.comes in
         let i : In j.0 ks = (back_all (λ q. In q ks) (bound_places bound) (j.0 ∷ job_places js) w.known).0 in
         subst (λ g. Alone n ks r (by_head (Body r, n) (λ h. one_branch j.0 h ps (alone k (n + count (fields_of j.1)) next)) g)) (sym s.1)
         (one_case n ks j.0 r j.1 s.0 (alone k (n + count (fields_of j.1)) next) low i test w o inner)
 
-    alone_sown : (n : ℕ) (ks : List ℕ) (r : Row) → AllOf (λ q. q < n) ks → IsSettled r.jobs → Comes ks r → Alone n ks r (alone_from n r)
+    alone_sown : (n : ℕ) (ks : List ℕ) (r : Row) → AllOf (λ q. q < n) ks → BeginsWithTest r.jobs → Comes ks r → Alone n ks r (alone_from n r)
     alone_sown n ks r low s w = alone_fine (tests_left r.jobs) n ks r.body r.bound r.jobs low s (omega arith) w
 
     sown_default : (n : ℕ) (ks : List ℕ) (p : ℕ) (bs : Branches) (t : Tree) (r : Row) (o : Option (Tree × ℕ)) (u : Tree × ℕ) → Fine n ks (Case p bs (ATree t)) → in_default p bs o ≡ Some u → ((v : Tree × ℕ) → o ≡ Some v → Sown n ks r t v) → Sown n ks r (Case p bs (ATree t)) u
@@ -515,7 +515,7 @@ module _ (c : Source) where
           leaf = in_right (leaves_in bs) (leaves v.0) s.leaf;
         })
 
-    sown_new : (n : ℕ) (ks : List ℕ) (p : ℕ) (bs : Branches) (r : Row) (room : ℕ) (u : Tree × ℕ) → Fine n ks (Case p bs NoDefault) → AllOf (λ q. q < n) ks → IsSettled r.jobs → Comes ks r → or_default room p bs n r None ≡ Some u → Sown n ks r (Case p bs NoDefault) u
+    sown_new : (n : ℕ) (ks : List ℕ) (p : ℕ) (bs : Branches) (r : Row) (room : ℕ) (u : Tree × ℕ) → Fine n ks (Case p bs NoDefault) → AllOf (λ q. q < n) ks → BeginsWithTest r.jobs → Comes ks r → or_default room p bs n r None ≡ Some u → Sown n ks r (Case p bs NoDefault) u
     sown_new n ks p bs r zero u f low s w e = absurd cc
     sown_new n ks p bs r (suc room) u f low s w e = go (branches_fail bs) e
       where
@@ -532,7 +532,7 @@ module _ (c : Source) where
               leaf = in_right (leaves_in bs) (leaves t.0) a.leaf;
             })
 
-    sown_case : (n : ℕ) (ks : List ℕ) (p : ℕ) (bs : Branches) (r : Row) (room : ℕ) (o : Option (Branches × ℕ)) (u : Tree × ℕ) → Fine n ks (Case p bs NoDefault) → AllOf (λ q. q < n) ks → IsSettled r.jobs → Comes ks r → or_default room p bs n r o ≡ Some u
+    sown_case : (n : ℕ) (ks : List ℕ) (p : ℕ) (bs : Branches) (r : Row) (room : ℕ) (o : Option (Branches × ℕ)) (u : Tree × ℕ) → Fine n ks (Case p bs NoDefault) → AllOf (λ q. q < n) ks → BeginsWithTest r.jobs → Comes ks r → or_default room p bs n r o ≡ Some u
         → ((v : Branches × ℕ) → o ≡ Some v → (h : Head) × AllKind h bs × SownIn n ks r h bs v) → Sown n ks r (Case p bs NoDefault) u
     sown_case n ks p bs r room None u f low s w e ih = sown_new n ks p bs r room u f low s w e
     sown_case n ks p bs r room (Some v) u f low s w e ih =
@@ -591,7 +591,7 @@ module _ (c : Source) where
         }
 
     mutual
-      sown : (room : ℕ) (t : Tree) (n : ℕ) (r : Row) (ks : List ℕ) → AllOf (λ q. q < n) ks → IsSettled r.jobs → Fine n ks t → Comes ks r → (u : Tree × ℕ) → insert room t n r ≡ Some u → Sown n ks r t u
+      sown : (room : ℕ) (t : Tree) (n : ℕ) (r : Row) (ks : List ℕ) → AllOf (λ q. q < n) ks → BeginsWithTest r.jobs → Fine n ks t → Comes ks r → (u : Tree × ℕ) → insert room t n r ≡ Some u → Sown n ks r t u
       sown room (Body q) n r ks low s f w u e = absurd cc
       sown room (Case p bs (ATree t)) n r ks low s f w u e = sown_default n ks p bs t r (insert (pred room) t n r) u f e (λ v i. sown (pred room) t n r ks low s f.4 w v i)
       sown room (Case p bs NoDefault) n r ks low s f w u e =
@@ -603,17 +603,17 @@ module _ (c : Source) where
           let ps : List ℕ = places_from n (fields_of pat) in
           let o = opens n ks p r pat h low test head w in
           let next : Row = opened r pat ps in
-          let a = alone_sown (n + count (fields_of pat)) (ps ++ ks) next o.under (settled_is r.body r.bound (jobs_at ps (fields_of pat) ++ later r.jobs)) o.comes in
+          let a = alone_sown (n + count (fields_of pat)) (ps ++ ks) next o.under (settled_is r.body r.bound (pending_patterns_at ps (fields_of pat) ++ later r.jobs)) o.comes in
           subst (SownIn n ks r h NoBranch) (some_is (new_branch h ps (alone_from (n + count (fields_of pat)) next)) v e) (sown_first n ks p r pat h (alone_from (n + count (fields_of pat)) next) o a)
       sown_in pat h (AndBranch g ps t bs) n r p ks low test head f w v e = elim (two_ways (same_head g h)) [
         | inl y ↦
             let len : length ps ≡ count (fields_of pat) = suits_same g h (length ps) (count (fields_of pat)) y f.0 (test_suits unbroken ks p r pat h test head w) in
-            sown_branch n ks g h ps t bs r (opened r pat ps) (opened_leaf p r pat h ps test head len) (insert most_chained t n (opened r pat ps)) v f
-            (ap (branch_by (in_branch g ps bs (insert most_chained t n (opened r pat ps))) (in_later g ps t (insert_branch pat h bs n r))) (sym y) ∙ e)
-            (λ x i. sown most_chained t n (opened r pat ps) (ps ++ ks) (all_append (λ q. q < n) ps ks f.3 low) (settled_is r.body r.bound (jobs_at ps (fields_of pat) ++ later r.jobs)) f.4 (opened_comes ks p r pat h ps test head len f.1 f.2 w) x i)
+            sown_branch n ks g h ps t bs r (opened r pat ps) (opened_leaf p r pat h ps test head len) (insert max_chained_cases t n (opened r pat ps)) v f
+            (ap (branch_by (in_branch g ps bs (insert max_chained_cases t n (opened r pat ps))) (in_later g ps t (insert_branch pat h bs n r))) (sym y) ∙ e)
+            (λ x i. sown max_chained_cases t n (opened r pat ps) (ps ++ ks) (all_append (λ q. q < n) ps ks f.3 low) (settled_is r.body r.bound (pending_patterns_at ps (fields_of pat) ++ later r.jobs)) f.4 (opened_comes ks p r pat h ps test head len f.1 f.2 w) x i)
         | inr m ↦
             sown_later n ks g h ps t bs r (insert_branch pat h bs n r) v m f
-            (ap (branch_by (in_branch g ps bs (insert most_chained t n (opened r pat ps))) (in_later g ps t (insert_branch pat h bs n r))) (sym m) ∙ e)
+            (ap (branch_by (in_branch g ps bs (insert max_chained_cases t n (opened r pat ps))) (in_later g ps t (insert_branch pat h bs n r))) (sym m) ∙ e)
             (λ x i. sown_in pat h bs n r p ks low test head f.5 w x i)
       ]
 
@@ -624,7 +624,7 @@ module _ (c : Source) where
         let n : ℕ = count e.pats in
         let ps : List ℕ = numbers_from 0 n in
         let len : length ps ≡ n = length_numbers 0 n in
-        settled_comes ps e.body [] (jobs_at ps e.pats) (record {
+        settled_comes ps e.body [] (pending_patterns_at ps e.pats) (record {
           equation = e;
           is_in = i;
           body = refl;
@@ -659,15 +659,15 @@ module _ (c : Source) where
     begun_stood : (k : ℕ) (e : Equation) → In e c.equations → Stood (begun k e)
     begun_stood k e i =
         let n : ℕ = count e.pats in
-        let a = alone_sown unbroken n (numbers_from 0 n) (row_of e) (params_low n n (omega arith)) (settled_is e.body [] (jobs_at (places_from 0 e.pats) e.pats)) (row_comes unbroken e i) in
+        let a = alone_sown unbroken n (numbers_from 0 n) (row_of e) (params_low n n (omega arith)) (settled_is e.body [] (pending_patterns_at (places_from 0 e.pats) e.pats)) (row_comes unbroken e i) in
         record { first = e; is_in = i; name = refl; params = refl; low = a.more; fine = a.fine }
 
-    equation_sown : (d : Decision) (e : Equation) (t : Tree × ℕ) → Stood d → In e c.equations → count e.pats ≡ d.params → insert most_chained d.tree d.free (row_of e) ≡ Some t → Sown d.free (numbers_from 0 d.params) (row_of e) d.tree t
+    equation_sown : (d : Decision) (e : Equation) (t : Tree × ℕ) → Stood d → In e c.equations → count e.pats ≡ d.params → insert max_chained_cases d.tree d.free (row_of e) ≡ Some t → Sown d.free (numbers_from 0 d.params) (row_of e) d.tree t
     equation_sown d e t s i n q =
         let w : Comes (numbers_from 0 d.params) (row_of e) = subst (λ n. Comes (numbers_from 0 n) (row_of e)) n (row_comes unbroken e i) in
-        sown unbroken most_chained d.tree d.free (row_of e) (numbers_from 0 d.params) (params_low d.params d.free s.low) (settled_is e.body [] (jobs_at (places_from 0 e.pats) e.pats)) s.fine w t q
+        sown unbroken max_chained_cases d.tree d.free (row_of e) (numbers_from 0 d.params) (params_low d.params d.free s.low) (settled_is e.body [] (pending_patterns_at (places_from 0 e.pats) e.pats)) s.fine w t q
 
-    grown_stood : (d : Decision) (e : Equation) (t : Tree × ℕ) → Stood d → In e c.equations → count e.pats ≡ d.params → insert most_chained d.tree d.free (row_of e) ≡ Some t → Stood (grown d t)
+    grown_stood : (d : Decision) (e : Equation) (t : Tree × ℕ) → Stood d → In e c.equations → count e.pats ≡ d.params → insert max_chained_cases d.tree d.free (row_of e) ≡ Some t → Stood (grown d t)
     grown_stood d e t s i n q =
         let le : d.params ≤ d.free = s.low in
         let g = equation_sown d e t s i n q in
@@ -681,14 +681,14 @@ module _ (c : Source) where
     decided_stood : (d : Decision) (k : ℕ) (es : List Equation) → Stood d → AllOf (Takes d.params) es → AllOf Stood (decided d k es)
     decided_stood d k [] s h = (s, tt)
     decided_stood d k (e ∷ es) s h =
-        by_insert (AllOf Stood) d k e es (insert most_chained d.tree d.free (row_of e))
+        by_insert (AllOf Stood) d k e es (insert max_chained_cases d.tree d.free (row_of e))
         (λ t i. decided_stood (grown d t) (suc k) es (grown_stood d e t s h.0.0 h.0.1 i) h.1)
         (s, decided_stood (begun k e) (suc k) es (begun_stood k e h.0.0) (all_are (Takes d.params) (Takes (count e.pats)) (λ f g. (g.0, g.1 ∙ sym h.0.1)) es h.1))
 
     begun_leaf : (k : ℕ) (e : Equation) → In e c.equations → In (e.body, names_of e.pats) (leaves (begun k e).tree)
     begun_leaf k e i =
         let n : ℕ = count e.pats in
-        let a = alone_sown unbroken n (numbers_from 0 n) (row_of e) (params_low n n (omega arith)) (settled_is e.body [] (jobs_at (places_from 0 e.pats) e.pats)) (row_comes unbroken e i) in
+        let a = alone_sown unbroken n (numbers_from 0 n) (row_of e) (params_low n n (omega arith)) (settled_is e.body [] (pending_patterns_at (places_from 0 e.pats) e.pats)) (row_comes unbroken e i) in
         subst (λ l. In l (leaves (begun k e).tree)) (row_leaf e) a.leaf
 
     -- the leaves that there are stay, and each equation has one
@@ -696,7 +696,7 @@ module _ (c : Source) where
         → ((l : Leaf) → In l (leaves d.tree) → HasLeaf (decided d k es) l) × AllOf (λ e. HasLeaf (decided d k es) (e.body, names_of e.pats)) es
     decided_leaves d k [] s h = ((λ l i. record { decision = d; is_in = here; leaf = i }), tt)
     decided_leaves d k (e ∷ es) s h =
-        by_insert (λ ds. ((l : Leaf) → In l (leaves d.tree) → HasLeaf ds l) × AllOf (λ e. HasLeaf ds (e.body, names_of e.pats)) (e ∷ es)) d k e es (insert most_chained d.tree d.free (row_of e))
+        by_insert (λ ds. ((l : Leaf) → In l (leaves d.tree) → HasLeaf ds l) × AllOf (λ e. HasLeaf ds (e.body, names_of e.pats)) (e ∷ es)) d k e es (insert max_chained_cases d.tree d.free (row_of e))
         (λ t i.
         let g = equation_sown d e t s h.0.0 h.0.1 i in
         let r = decided_leaves (grown d t) (suc k) es (grown_stood d e t s h.0.0 h.0.1 i) h.1 in

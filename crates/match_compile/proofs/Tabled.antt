@@ -17,8 +17,8 @@ use Rattle.match_compile.specs.Parts.{count, constructors_in, constructors_of}
 use Rattle.match_compile.specs.Rules as rules
 use Rattle.match_compile.specs.Sizes.{functions, rows}
 use Rattle.match_compile.specs.Decisions.{decisions_from, all_decisions}
-use Rattle.match_compile.specs.Translated.{words_of, first_of, firsts, translated}
-use Rattle.match_compile.specs.Form.{Form, Any, Is, Has, Forms, NoForms, AndForm, head_of, heads, headed, IsForm, OfName, OfInt, OfCon, AreForms, NoneOf, OneOf}
+use Rattle.match_compile.specs.Translated.{name_supply_of, first_of, firsts, translated}
+use Rattle.match_compile.specs.Form.{Form, Any, Is, Has, Forms, NoForms, AndForm, head_of, heads, program_of_heads, IsForm, OfName, OfInt, OfCon, AreForms, NoneOf, OneOf}
 use Rattle.match_compile.specs.Jobs as jobs
 use Rattle.match_compile.specs.Decides as decides
 use Rattle.match_compile.proofs.Grounds.{same_named, name_kept, SameHead, NoHead, OneHead, same_head}
@@ -69,7 +69,7 @@ module _ (c : Source) (cons : List constructors.Con) (matched : Pairwise (IsCons
   abbrev pub many : ℕ → ℕ
   many n = decides.fields_in (slice_get cons n)
 
-  known : (d k : ℕ) → rules.fields_in c.constructors d ≡ Some k → (n : ℕ) × (con_number (headed c) d ≡ Some n) × (many n ≡ k)
+  known : (d k : ℕ) → rules.fields_in c.constructors d ≡ Some k → (n : ℕ) × (con_number (program_of_heads c) d ≡ Some n) × (many n ≡ k)
   known d k e =
       let r = numbered_from c.constructors 0 d k e in
       let z : 0 + r.0 ≡ r.0 = omega arith in
@@ -77,7 +77,7 @@ module _ (c : Source) (cons : List constructors.Con) (matched : Pairwise (IsCons
       (r.0, position_from-zero (λ y. y.name == d) c.constructors ∙ r.2 ∙ ap Some z, ap decides.fields_in con.1 ∙ con.2.fields ∙ r.4)
 
   -- constructors of one number have one name
-  pub one_name : (d e n : ℕ) → con_number (headed c) d ≡ Some n → con_number (headed c) e ≡ Some n → d ≡ e
+  pub one_name : (d e n : ℕ) → con_number (program_of_heads c) d ≡ Some n → con_number (program_of_heads c) e ≡ Some n → d ≡ e
   one_name d e n f g =
       let a = get_position (λ y. y.name == d) c.constructors n f in
       let b = get_position (λ y. y.name == e) c.constructors n g in
@@ -112,10 +112,10 @@ module _ (c : Source) (cons : List constructors.Con) (matched : Pairwise (IsCons
         record { forms = AndForm f.form fs.forms; are = OneOf f.is fs.are; ok = (f.ok, fs.ok); count_is = ap suc fs.count_is }
 
   -- they are the constructors of the text
-  pub headed_constructors : AllOf (λ (d : Data). d.name < length c.names) c.constructors → Pairwise (IsConstructor (headed c)) c.constructors cons
+  pub headed_constructors : AllOf (λ (d : Data). d.name < length c.names) c.constructors → Pairwise (IsConstructor (program_of_heads c)) c.constructors cons
   headed_constructors below = each c.constructors cons below matched
     where
-      each : (ds : List Data) (cs : List constructors.Con) → AllOf (λ (d : Data). d.name < length c.names) ds → Pairwise (IsConstructor (translated c)) ds cs → Pairwise (IsConstructor (headed c)) ds cs
+      each : (ds : List Data) (cs : List constructors.Con) → AllOf (λ (d : Data). d.name < length c.names) ds → Pairwise (IsConstructor (translated c)) ds cs → Pairwise (IsConstructor (program_of_heads c)) ds cs
       each [] [] b h = tt
       each [] (x ∷ cs) b h = absurd h
       each (d ∷ ds) [] b h = absurd h
@@ -128,7 +128,7 @@ module _ (c : Source) where
   there_main f = is_named (translated c) (codes "main") f.name
 
   abbrev here_main : Function → Bool
-  here_main f = is_named (headed c) (codes "main") f.name
+  here_main f = is_named (program_of_heads c) (codes "main") f.name
 
   -- no function is named so
   none_main : (fs : List Function) (i : ℕ) → AllOf (λ (f : Function). there_main f ≡ false) fs → position_from there_main i fs ≡ None
@@ -144,14 +144,14 @@ module _ (c : Source) where
   heads_below (e ∷ es) h = (h.0, tt)
 
   mains : (fs : List (List Equation)) (k : ℕ) (others : List Function) → AllOf (AllOf (λ (e : Equation). e.name < length c.names)) fs → AllOf (λ (f : Function). there_main f ≡ false) others
-      → (i : ℕ) → position_from there_main i (firsts (words_of c) (all_decisions k fs) ++ others) ≡ position_from here_main i (heads fs)
+      → (i : ℕ) → position_from there_main i (firsts (name_supply_of c) (all_decisions k fs) ++ others) ≡ position_from here_main i (heads fs)
   mains [] k others b h i = none_main others i h
   mains (f ∷ fs) k others b h i =
-      ap (position_from there_main i) (append_again (first_of (words_of c) (decisions_from k (rows f))) (firsts (words_of c) (all_decisions (k + length f) fs)) others)
-      ∙ one_main (head_of f) (first_of (words_of c) (decisions_from k (rows f))) (heads fs) (firsts (words_of c) (all_decisions (k + length f) fs) ++ others) (same_head c k f) (heads_below f b.0) (mains fs (k + length f) others b.1 h) i
+      ap (position_from there_main i) (append_again (first_of (name_supply_of c) (decisions_from k (rows f))) (firsts (name_supply_of c) (all_decisions (k + length f) fs)) others)
+      ∙ one_main (head_of f) (first_of (name_supply_of c) (decisions_from k (rows f))) (heads fs) (firsts (name_supply_of c) (all_decisions (k + length f) fs) ++ others) (same_head c k f) (heads_below f b.0) (mains fs (k + length f) others b.1 h) i
 
   pub same_main : (others : List Function) → AllOf (AllOf (λ (e : Equation). e.name < length c.names)) (functions c.equations) → AllOf (λ (f : Function). there_main f ≡ false) others
-      → position there_main (firsts (words_of c) (all_decisions 0 (functions c.equations)) ++ others) ≡ position here_main (headed c).functions
+      → position there_main (firsts (name_supply_of c) (all_decisions 0 (functions c.equations)) ++ others) ≡ position here_main (program_of_heads c).functions
   same_main others b h =
-      position_from-zero there_main (firsts (words_of c) (all_decisions 0 (functions c.equations)) ++ others)
-      ∙ mains (functions c.equations) 0 others b h 0 ∙ sym (position_from-zero here_main (headed c).functions)
+      position_from-zero there_main (firsts (name_supply_of c) (all_decisions 0 (functions c.equations)) ++ others)
+      ∙ mains (functions c.equations) 0 others b h 0 ∙ sym (position_from-zero here_main (program_of_heads c).functions)

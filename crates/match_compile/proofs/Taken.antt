@@ -15,7 +15,7 @@ use Rattle.core_reader.specs.Grammar.{at_most_200}
 use Rattle.core_reader.specs.ReadingOf.{Step, follow, go, stop}
 use Rattle.core_reader.specs.Machine as expression
 use Rattle.core_reader.specs.Machine.{Outermost, InBody, Apply, Ended, refused, refusal, front, behind, starts_atom, Fails}
-use Rattle.core_reader.specs.AroundOf.{next, refuse, moved, Outside, Within}
+use Rattle.core_reader.specs.AroundOf.{next, refuse, step_of_move, Outside, Within}
 use Rattle.core_reader.proofs.Turns as any
 use Rattle.core_reader.proofs.Turns.{turns, bad_halts}
 use Rattle.core_reader.proofs.AroundOf.{through, continue}
@@ -23,7 +23,7 @@ use Rattle.match_compile.specs.declared.source.Pat as code-pat
 use Rattle.match_compile.specs.Source.{Pats, NoPats, AndPat, Equation}
 use Rattle.match_compile.specs.SourceOf.{pat_of, pats_of}
 use Rattle.match_compile.specs.Grammar.{Decl, Declares, Equates, constructors_of, equations_of}
-use Rattle.match_compile.specs.Reading.{with_last, Place, InLine, InBracket, opens, Begun, Move, DataName, Count, DataEnd, Matching, Opened, Hole, InEquation, equations, State, top, step, run}
+use Rattle.match_compile.specs.Reading.{with_last, Place, InLine, InBracket, opens, EquationStart, Transition, DataName, Count, DataEnd, Matching, Opened, Hole, InEquation, equations, State, top, step, run}
 use Rattle.match_compile.proofs.Reading.{finish_bad, matching_laws}
 
 pub takes : (s t : State) (ts : List Lexeme) (x : Lexeme) (token : Token) (after : List Lexeme) → x ≡ front ts → x.token ≡ token → after ≡ behind ts
@@ -75,11 +75,11 @@ good_count ds n p at (negsuc k) h = absurd (omega (arith, ints))
 
 -- ---- patterns
 
-pub no_pattern_con : (b : Begun) (k : Place) (held : Pats) (at : ℕ) (token : Token) → ((n : NameId) → token ≡ word.Con n → ⊥) → step at_most_200 (Outside (Opened b k held)) at token ≡ stop (refused at token)
+pub no_pattern_con : (b : EquationStart) (k : Place) (held : Pats) (at : ℕ) (token : Token) → ((n : NameId) → token ≡ word.Con n → ⊥) → step at_most_200 (Outside (Opened b k held)) at token ≡ stop (refused at token)
 no_pattern_con b k held at (word.Con n) h = absurd (h n refl)
 no_pattern_con b k held at token h = refl
 
-pub no_close : (b : Begun) (k : Place) (before : Pats) (c : _) (held : Pats) (at : ℕ) (token : Token) → starts_atom token ≡ false → (token ≡ word.Close → ⊥) → step at_most_200 (Outside (Matching b (InBracket k before c) held)) at token ≡ stop (refused at token)
+pub no_close : (b : EquationStart) (k : Place) (before : Pats) (c : _) (held : Pats) (at : ℕ) (token : Token) → starts_atom token ≡ false → (token ≡ word.Close → ⊥) → step at_most_200 (Outside (Matching b (InBracket k before c) held)) at token ≡ stop (refused at token)
 no_close b k before c held at (word.Name n) e h = absurd cc
 no_close b k before c held at (word.Con n) e h = absurd cc
 no_close b k before c held at (word.Number minus v) e h = absurd cc
@@ -88,7 +88,7 @@ no_close b k before c held at word.Open e h = absurd cc
 no_close b k before c held at word.Close e h = absurd (h refl)
 no_close b k before c held at token e h = refl
 
-pub no_equals : (b : Begun) (held : Pats) (at : ℕ) (token : Token) → starts_atom token ≡ false → (token ≡ word.Equals → ⊥) → step at_most_200 (Outside (Matching b InLine held)) at token ≡ stop (refused at token)
+pub no_equals : (b : EquationStart) (held : Pats) (at : ℕ) (token : Token) → starts_atom token ≡ false → (token ≡ word.Equals → ⊥) → step at_most_200 (Outside (Matching b InLine held)) at token ≡ stop (refused at token)
 no_equals b held at (word.Name n) e h = absurd cc
 no_equals b held at (word.Con n) e h = absurd cc
 no_equals b held at (word.Number minus v) e h = absurd cc
@@ -98,15 +98,15 @@ no_equals b held at word.Equals e h = absurd (h refl)
 no_equals b held at token e h = refl
 
 -- a bracket where 200 are open, and one where fewer are
-abbrev room : Begun → Place → Pats → ℕ → Bool → Step State (List Decl)
-room b k held at r = moved (cond {A = Move} r (next (Opened b k held)) (refuse (TooDeep at)))
+abbrev room : EquationStart → Place → Pats → ℕ → Bool → Step State (List Decl)
+room b k held at r = step_of_move (cond {A = Transition} r (next (Opened b k held)) (refuse (TooDeep at)))
 
-pub too_deep : (b : Begun) (k : Place) (held : Pats) (depth at : ℕ) → opens k ≡ depth → 200 ≤ depth → step at_most_200 (Outside (Matching b k held)) at word.Open ≡ stop (TooDeep at)
+pub too_deep : (b : EquationStart) (k : Place) (held : Pats) (depth at : ℕ) → opens k ≡ depth → 200 ≤ depth → step at_most_200 (Outside (Matching b k held)) at word.Open ≡ stop (TooDeep at)
 too_deep b k held depth at e h =
     let f : ltb (opens k) 200 ≡ false = le-ltb (opens k) 200 (omega arith) in
     ap (room b k held at) f
 
-pub opening : (b : Begun) (k : Place) (held : Pats) (ts after : List Lexeme) (depth at : ℕ) → opens k ≡ depth → depth < 200 → (front ts).token ≡ word.Open → (front ts).at ≡ at → after ≡ behind ts
+pub opening : (b : EquationStart) (k : Place) (held : Pats) (ts after : List Lexeme) (depth at : ℕ) → opens k ≡ depth → depth < 200 → (front ts).token ≡ word.Open → (front ts).at ≡ at → after ≡ behind ts
     → run (Outside (Matching b k held)) ts ≡ run (Outside (Opened b k held)) after
 opening b k held ts after depth at e h token_is at_is after_is =
     let f : ltb (opens k) 200 ≡ true = grind arith in
@@ -116,7 +116,7 @@ pub pats_push : (xs : List code-pat.Pat) (p : code-pat.Pat) → pats_of (map pat
 pats_push [] p = refl
 pats_push (x ∷ xs) p = ap (AndPat (pat_of x)) (pats_push xs p)
 
-pub pushed : (b : Begun) (k : Place) (items new : List code-pat.Pat) (p : code-pat.Pat) (ts : List Lexeme) → new ≡ items ++ p ∷ []
+pub pushed : (b : EquationStart) (k : Place) (items new : List code-pat.Pat) (p : code-pat.Pat) (ts : List Lexeme) → new ≡ items ++ p ∷ []
     → run (Outside (Matching b k (with_last (pats_of (map pat_of items)) (pat_of p)))) ts ≡ run (Outside (Matching b k (pats_of (map pat_of new)))) ts
 pushed b k items new p ts e = ap (λ ps. run (Outside (Matching b k ps)) ts) (sym (pats_push items p) ∙ ap (λ w. pats_of (map pat_of w)) (sym e))
 
@@ -142,11 +142,11 @@ fails_by k (Memory e) read h = tt
 pub body_fails : (k : Hole) (er : ReadRefusal) (s : expression.State) (ts : List Lexeme) → Fails er (expression.run at_most_200 s ts) → Fails er (run (Within k s) ts)
 body_fails k er s ts h = subst (Fails er) (sym (through equations finish_bad at_most_200 k s ts)) (fails_by k er (expression.run at_most_200 s ts) h)
 
-pub no_end : (b : Begun) (pats : Pats) (e : Expr) (at : ℕ) (token : Token) → (token ≡ word.Semicolon → ⊥) → step at_most_200 (Within (InEquation b pats) (Ended Outermost e)) at token ≡ stop (refused at token)
+pub no_end : (b : EquationStart) (pats : Pats) (e : Expr) (at : ℕ) (token : Token) → (token ≡ word.Semicolon → ⊥) → step at_most_200 (Within (InEquation b pats) (Ended Outermost e)) at token ≡ stop (refused at token)
 no_end b pats e at word.Semicolon h = absurd (h refl)
 no_end b pats e at token h = refl
 
-abbrev pub begun : List Decl → NameId → ℕ → Begun
+abbrev pub begun : List Decl → NameId → ℕ → EquationStart
 begun ds n p = record { decls = ds; name = n; at = p }
 
 pub naming : (ds : List Decl) (n : NameId) (p : ℕ) (ts after : List Lexeme) → (front ts).token ≡ word.Name n → (front ts).at ≡ p → after ≡ behind ts → run (top ds) ts ≡ run (Outside (Matching (begun ds n p) InLine NoPats)) after

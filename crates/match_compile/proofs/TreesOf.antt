@@ -4,7 +4,7 @@ use Rattle.std.specs.declared.boxed.Box.{Box}
 use Rattle.std.specs.declared.alloc.Global.{Global}
 use Rattle.core_reader.specs.declared.syntax.Expr as code-expr
 use Rattle.core_reader.specs.Tree.{expr}
-use Rattle.match_compile.specs.declared.row.Way.{Way}
+use Rattle.match_compile.specs.declared.row.Pending.{Pending}
 use Rattle.match_compile.specs.declared.tree.Tree.{fold-roll-Tree}
 use Rattle.match_compile.specs.declared.tree.Tree as code-tree
 use Rattle.match_compile.specs.declared.tree.Tree.TheVariants as code
@@ -14,7 +14,7 @@ use Rattle.match_compile.specs.Trees.{Tree, Body, Case, Branches, AndBranch, NoD
 use Rattle.match_compile.specs.RowOf.{rows_of}
 use Rattle.match_compile.specs.TreeOf.{tree_layer, branch_layer, tree_of, branch_of, branches_of}
 
-pub tree_of-Body : (body : code-expr.Expr) (way : Way) → tree_of (code.Body body way) ≡ Body (rows_of way (expr body))
+pub tree_of-Body : (body : code-expr.Expr) (way : Pending) → tree_of (code.Body body way) ≡ Body (rows_of way (expr body))
 tree_of-Body body way = ap tree_of (sym (code.rolls-Body body way)) ∙ fold-roll-Tree Tree (Branches → Branches) tree_layer branch_layer (layer.Body body way)
 
 pub tree_of-Tests : (p : ℕ) (bs : List Branch) → tree_of (code.Tests p bs) ≡ Case p (branches_of bs) NoDefault

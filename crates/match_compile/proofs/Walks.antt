@@ -12,8 +12,8 @@ use Rattle.match_compile.specs.declared.source.Equation as code-equation
 use Rattle.core_reader.specs.declared.syntax.Data as code-data
 use Rattle.core_reader.specs.Tree.{data_of}
 use Rattle.match_compile.specs.Rules.{fields_in}
-use Rattle.match_compile.specs.Faults.{also, name_faults, names_faults, is_last, first_arity, with_equation, order_faults, orders_faults}
-use Rattle.match_compile.specs.Refusal.{least}
+use Rattle.match_compile.specs.Faults.{with_member, name_faults, names_faults, is_last, first_arity, with_equation, order_faults, orders_faults}
+use Rattle.match_compile.specs.Refusal.{least_refusal}
 use Rattle.match_compile.proofs.Tables.{or_else}
 use Rattle.match_compile.proofs.Judged.{least_append}
 
@@ -33,17 +33,17 @@ all_gathered F none items i l o o1 h = sym (append-nil o1) ∙ ap (λ w. o1 ++ w
 -- the refusals of one more item were noted
 pub one_more : {T : Type 0} (F : List T → List MatchRefusal) (f : T → List MatchRefusal) → ((x : T) (xs : List T) → F (x ∷ xs) ≡ f x ++ F xs)
     → (items : List T) (i : ℕ) (x : T) → i < length items → x ≡ get_or items i x
-    → (o o1 o2 : Option MatchRefusal) → o2 ≡ least o1 (f x) → least o1 (F (drop i items)) ≡ o → least o2 (F (drop (i + 1) items)) ≡ o
+    → (o o1 o2 : Option MatchRefusal) → o2 ≡ least_refusal o1 (f x) → least_refusal o1 (F (drop i items)) ≡ o → least_refusal o2 (F (drop (i + 1) items)) ≡ o
 one_more F f cons items i x l is o o1 o2 e h =
     let rest = drop (i + 1) items in
     let d : drop i items ≡ x ∷ rest = drop_more items i x l ∙ ap (λ y. y ∷ rest) (sym is) in
-    ap (λ q. least q (F rest)) e ∙ sym (least_append o1 (f x) (F rest)) ∙ ap (least o1) (sym (cons x rest)) ∙ ap (λ t. least o1 (F t)) (sym d) ∙ h
+    ap (λ q. least_refusal q (F rest)) e ∙ sym (least_append o1 (f x) (F rest)) ∙ ap (least_refusal o1) (sym (cons x rest)) ∙ ap (λ t. least_refusal o1 (F t)) (sym d) ∙ h
 
-pub no_more : {T : Type 0} (F : List T → List MatchRefusal) → F [] ≡ [] → (items : List T) (i : ℕ) → length items ≤ i → (o o1 : Option MatchRefusal) → least o1 (F (drop i items)) ≡ o → o1 ≡ o
-no_more F none items i l o o1 h = ap (least o1) (sym none) ∙ ap (λ t. least o1 (F t)) (sym (drop_all i items l)) ∙ h
+pub no_more : {T : Type 0} (F : List T → List MatchRefusal) → F [] ≡ [] → (items : List T) (i : ℕ) → length items ≤ i → (o o1 : Option MatchRefusal) → least_refusal o1 (F (drop i items)) ≡ o → o1 ≡ o
+no_more F none items i l o o1 h = ap (least_refusal o1) (sym none) ∙ ap (λ t. least_refusal o1 (F t)) (sym (drop_all i items l)) ∙ h
 
-pub two : (xs ys : List MatchRefusal) (o o1 o2 : Option MatchRefusal) → o1 ≡ least o xs → o2 ≡ least o1 ys → o2 ≡ least o (xs ++ ys)
-two xs ys o o1 o2 a b = b ∙ ap (λ q. least q ys) a ∙ sym (least_append o xs ys)
+pub two : (xs ys : List MatchRefusal) (o o1 o2 : Option MatchRefusal) → o1 ≡ least_refusal o xs → o2 ≡ least_refusal o1 ys → o2 ≡ least_refusal o (xs ++ ys)
+two xs ys o o1 o2 a b = b ∙ ap (λ q. least_refusal q ys) a ∙ sym (least_append o xs ys)
 
 -- ---- the parts of patterns
 
@@ -61,28 +61,28 @@ count_all (p ∷ ps) = omega (arith, count_all ps)
 
 -- one more name of an equation
 pub more_names : (names : List (List ℕ)) (seen seen' : ℕ → Bool) (items : List Binder) (i : ℕ) (x : Binder) → i < length items → x ≡ get_or items i x
-    → (o o1 o2 : Option MatchRefusal) → seen' ≡ also x.name.0 seen → o2 ≡ least o1 (name_faults names seen x)
-    → least o1 (names_faults names seen (drop i items)) ≡ o → least o2 (names_faults names seen' (drop (i + 1) items)) ≡ o
+    → (o o1 o2 : Option MatchRefusal) → seen' ≡ with_member x.name.0 seen → o2 ≡ least_refusal o1 (name_faults names seen x)
+    → least_refusal o1 (names_faults names seen (drop i items)) ≡ o → least_refusal o2 (names_faults names seen' (drop (i + 1) items)) ≡ o
 more_names names seen seen' items i x l is o o1 o2 s e h =
     let rest = drop (i + 1) items in
     let d : drop i items ≡ x ∷ rest = drop_more items i x l ∙ ap (λ y. y ∷ rest) (sym is) in
-    ap (λ t. least o2 (names_faults names t rest)) s
-    ∙ two (name_faults names seen x) (names_faults names (also x.name.0 seen) rest) o1 o2 _ e refl
-    ∙ ap (λ t. least o1 (names_faults names seen t)) (sym d) ∙ h
+    ap (λ t. least_refusal o2 (names_faults names t rest)) s
+    ∙ two (name_faults names seen x) (names_faults names (with_member x.name.0 seen) rest) o1 o2 _ e refl
+    ∙ ap (λ t. least_refusal o1 (names_faults names seen t)) (sym d) ∙ h
 
 -- one more equation
 pub more_orders : (arities arities' : ℕ → Option ℕ) (last last' : Option ℕ) (items : List code-equation.Equation) (i : ℕ) (x : code-equation.Equation) → i < length items → x ≡ get_or items i x
     → (o o1 o2 : Option MatchRefusal) → ((y : ℕ) → arities' y ≡ with_equation x.name.0 (length x.pats) arities y) → last' ≡ Some x.name.0
-    → o2 ≡ least o1 (order_faults (arities x.name.0) (is_last last x.name.0) (length x.pats) x.at)
-    → least o1 (orders_faults arities last (map equation_of (drop i items))) ≡ o → least o2 (orders_faults arities' last' (map equation_of (drop (i + 1) items))) ≡ o
+    → o2 ≡ least_refusal o1 (order_faults (arities x.name.0) (is_last last x.name.0) (length x.pats) x.at)
+    → least_refusal o1 (orders_faults arities last (map equation_of (drop i items))) ≡ o → least_refusal o2 (orders_faults arities' last' (map equation_of (drop (i + 1) items))) ≡ o
 more_orders arities arities' last last' items i x l is o o1 o2 a b e h =
     let rest = map equation_of (drop (i + 1) items) in
     let d : drop i items ≡ x ∷ drop (i + 1) items = drop_more items i x l ∙ ap (λ y. y ∷ drop (i + 1) items) (sym is) in
     let n = count_all x.pats in
-    (λ j. least o2 (orders_faults (λ y. a y j) (b j) rest))
+    (λ j. least_refusal o2 (orders_faults (λ y. a y j) (b j) rest))
     ∙ two (order_faults (arities x.name.0) (is_last last x.name.0) (length x.pats) x.at) (orders_faults (with_equation x.name.0 (length x.pats) arities) (Some x.name.0) rest) o1 o2 _ e refl
-    ∙ ap (λ m. least o1 (order_faults (arities x.name.0) (is_last last x.name.0) m x.at ++ orders_faults (with_equation x.name.0 m arities) (Some x.name.0) rest)) (sym n)
-    ∙ ap (λ t. least o1 (orders_faults arities last (map equation_of t))) (sym d) ∙ h
+    ∙ ap (λ m. least_refusal o1 (order_faults (arities x.name.0) (is_last last x.name.0) m x.at ++ orders_faults (with_equation x.name.0 m arities) (Some x.name.0) rest)) (sym n)
+    ∙ ap (λ t. least_refusal o1 (orders_faults arities last (map equation_of t))) (sym d) ∙ h
 
 -- one more constructor's declaration
 pub more_fields : (items : List code-data.Data) (i : ℕ) (d : code-data.Data) (o : Option ℕ) (q : ℕ) (r : Option ℕ) → i < length items → or_else o (fields_in (map data_of (drop i items)) q) ≡ r

@@ -10,7 +10,7 @@ use Rattle.match_compile.specs.Source.{Pat, Name, Int, Con, Pats, NoPats, AndPat
 use Rattle.match_compile.specs.Parts.{count, tests_in, tests_of}
 use Rattle.match_compile.specs.Heads.{Head, same_head}
 use Rattle.match_compile.specs.Sizes.{pat_size, pats_size, equation_size}
-use Rattle.match_compile.specs.Trees.{Job, Row, row, settled, jobs_at, places_from, head_of, fields_of, Tree, Body, Case, Branches, NoBranch, AndBranch, Default, NoDefault, ATree, branches_fail, test_at, later, opened, tests_left, one_branch, by_head, alone, alone_from, fits, in_default, in_branch, in_later, new_branch, or_default, pred, most_chained, insert, insert_branch}
+use Rattle.match_compile.specs.Trees.{PendingPattern, Row, row, settled, pending_patterns_at, places_from, head_of, fields_of, Tree, Body, Case, Branches, NoBranch, AndBranch, Default, NoDefault, ATree, branches_fail, test_at, later, opened, tests_left, one_branch, by_head, alone, alone_from, fits, in_default, in_branch, in_later, new_branch, or_default, pred, max_chained_cases, insert, insert_branch}
 use Rattle.match_compile.specs.Decisions.{Decision, row_of, begun, grown, decided, decisions_from}
 use Rattle.match_compile.proofs.Inserted.{some_is, at_head, at_pat, at_test, branch_by, by_test}
 use Rattle.match_compile.proofs.Decided.{by_insert}
@@ -38,7 +38,7 @@ mutual
   pays_all NoPats = omega arith
   pays_all (AndPat p ps) = omega (arith, pays p, pays_all ps)
 
-abbrev pub jobs_paid : List Job → ℕ
+abbrev pub jobs_paid : List PendingPattern → ℕ
 jobs_paid [] = 0
 jobs_paid (j ∷ js) = paid j.1 + jobs_paid js
 
@@ -48,31 +48,31 @@ row_paid r = expr_size r.body + jobs_paid r.jobs
 no_more_paid : (n m : ℕ) → n + m ≡ n + (0 + m)
 no_more_paid n m = omega arith
 
-settled_paid : (e : Expr) (bound : List (Binder × ℕ)) (js : List Job) → row_paid (settled e bound js) ≡ expr_size e + jobs_paid js
+settled_paid : (e : Expr) (bound : List (Binder × ℕ)) (js : List PendingPattern) → row_paid (settled e bound js) ≡ expr_size e + jobs_paid js
 settled_paid e bound [] = refl
 settled_paid e bound ((p, Name b) ∷ js) = settled_paid e (bound ++ (b, p) ∷ []) js ∙ no_more_paid (expr_size e) (jobs_paid js)
 settled_paid e bound ((p, Int k at) ∷ js) = refl
 settled_paid e bound ((p, Con c ps) ∷ js) = refl
 
-paid_append : (xs ys : List Job) → jobs_paid (xs ++ ys) ≡ jobs_paid xs + jobs_paid ys
+paid_append : (xs ys : List PendingPattern) → jobs_paid (xs ++ ys) ≡ jobs_paid xs + jobs_paid ys
 paid_append [] ys = omega arith
 paid_append (x ∷ xs) ys = omega (arith, paid_append xs ys)
 
-at_paid : (places : List ℕ) (ps : Pats) → jobs_paid (jobs_at places ps) ≤ paid_all ps
+at_paid : (places : List ℕ) (ps : Pats) → jobs_paid (pending_patterns_at places ps) ≤ paid_all ps
 at_paid places NoPats = omega arith
 at_paid [] (AndPat p ps) = omega arith
 at_paid (x ∷ places) (AndPat p ps) = omega (arith, at_paid places ps)
 
 opened_paid : (r : Row) (pat : Pat) (places : List ℕ) → row_paid (opened r pat places) ≤ expr_size r.body + (paid_all (fields_of pat) + jobs_paid (later r.jobs))
 opened_paid r pat places =
-    omega (arith, settled_paid r.body r.bound (jobs_at places (fields_of pat) ++ later r.jobs), paid_append (jobs_at places (fields_of pat)) (later r.jobs), at_paid places (fields_of pat))
+    omega (arith, settled_paid r.body r.bound (pending_patterns_at places (fields_of pat) ++ later r.jobs), paid_append (pending_patterns_at places (fields_of pat)) (later r.jobs), at_paid places (fields_of pat))
 
 head_paid : (pat : Pat) (h : Head) → head_of pat ≡ Some h → paid pat ≡ 16 + (count (fields_of pat) + paid_all (fields_of pat))
 head_paid (Name b) h e = absurd cc
 head_paid (Int k at) h e = refl
 head_paid (Con c ps) h e = refl
 
-test_paid : (p : ℕ) (js : List Job) (pat : Pat) → test_at p js ≡ Some pat → jobs_paid js ≡ paid pat + jobs_paid (later js)
+test_paid : (p : ℕ) (js : List PendingPattern) (pat : Pat) → test_at p js ≡ Some pat → jobs_paid js ≡ paid pat + jobs_paid (later js)
 test_paid p [] pat e = absurd cc
 test_paid p (j ∷ js) pat e = go (j.0 == p) e
   where
@@ -98,7 +98,7 @@ abbrev mutual
 places_count : (n : ℕ) (ps : Pats) → length (places_from n ps) ≡ count ps
 places_count n ps = length_numbers n (count ps)
 
-alone_weight : (k n : ℕ) (e : Expr) (bound : List (Binder × ℕ)) (js : List Job) → weight (alone k n (row e bound js)).0 ≤ expr_size e + jobs_paid js
+alone_weight : (k n : ℕ) (e : Expr) (bound : List (Binder × ℕ)) (js : List PendingPattern) → weight (alone k n (row e bound js)).0 ≤ expr_size e + jobs_paid js
 alone_weight zero n e bound js = omega arith
 alone_weight (suc k) n e bound [] = omega arith
 alone_weight (suc k) n e bound (j ∷ js) =
@@ -167,12 +167,12 @@ mutual
       (omega (arith, alone_paid (n + count (fields_of pat)) (opened r pat places), less_paid p r pat h places test e, places_count n (fields_of pat)))
   branch_weight_with pat h (AndBranch g ps t bs) n r p test e v f = elim (two_ways (same_head g h)) [
     | inl y ↦
-        into_branch g ps t bs (row_paid r) (insert most_chained t n (opened r pat ps)) v
-        (ap (branch_by (in_branch g ps bs (insert most_chained t n (opened r pat ps))) (in_later g ps t (insert_branch pat h bs n r))) (sym y) ∙ f)
-        (λ x k. let a : weight x.0 ≤ weight t + row_paid (opened r pat ps) = weight_with most_chained t n (opened r pat ps) x k in omega (arith, a, less_paid p r pat h ps test e))
+        into_branch g ps t bs (row_paid r) (insert max_chained_cases t n (opened r pat ps)) v
+        (ap (branch_by (in_branch g ps bs (insert max_chained_cases t n (opened r pat ps))) (in_later g ps t (insert_branch pat h bs n r))) (sym y) ∙ f)
+        (λ x k. let a : weight x.0 ≤ weight t + row_paid (opened r pat ps) = weight_with max_chained_cases t n (opened r pat ps) x k in omega (arith, a, less_paid p r pat h ps test e))
     | inr m ↦
         into_later g ps t bs (row_paid r) (insert_branch pat h bs n r) v
-        (ap (branch_by (in_branch g ps bs (insert most_chained t n (opened r pat ps))) (in_later g ps t (insert_branch pat h bs n r))) (sym m) ∙ f)
+        (ap (branch_by (in_branch g ps bs (insert max_chained_cases t n (opened r pat ps))) (in_later g ps t (insert_branch pat h bs n r))) (sym m) ∙ f)
         (λ x k. branch_weight_with pat h bs n r p test e x k)
   ]
 
@@ -197,18 +197,18 @@ wholes (d ∷ ds) = whole d + wholes ds
 row_cost : (e : Equation) → row_paid (row_of e) + (1 + count e.pats) ≤ cost e
 row_cost e =
     let places : List ℕ = places_from 0 e.pats in
-    omega (arith, settled_paid e.body [] (jobs_at places e.pats), at_paid places e.pats, pays_all e.pats)
+    omega (arith, settled_paid e.body [] (pending_patterns_at places e.pats), at_paid places e.pats, pays_all e.pats)
 
 begun_cost : (k : ℕ) (e : Equation) → whole (begun k e) ≤ cost e
 begun_cost k e = omega (arith, alone_paid (count e.pats) (row_of e), row_cost e)
 
-more_cost : (d : Decision) (e : Equation) (t : Tree × ℕ) → insert most_chained d.tree d.free (row_of e) ≡ Some t → whole (grown d t) ≤ whole d + cost e
-more_cost d e t i = omega (arith, weight_with most_chained d.tree d.free (row_of e) t i, row_cost e)
+more_cost : (d : Decision) (e : Equation) (t : Tree × ℕ) → insert max_chained_cases d.tree d.free (row_of e) ≡ Some t → whole (grown d t) ≤ whole d + cost e
+more_cost d e t i = omega (arith, weight_with max_chained_cases d.tree d.free (row_of e) t i, row_cost e)
 
 decided_cost : (d : Decision) (k : ℕ) (es : List Equation) → wholes (decided d k es) ≤ whole d + costs es
 decided_cost d k [] = omega arith
 decided_cost d k (e ∷ es) =
-    by_insert (λ ds. wholes ds ≤ whole d + (cost e + costs es)) d k e es (insert most_chained d.tree d.free (row_of e))
+    by_insert (λ ds. wholes ds ≤ whole d + (cost e + costs es)) d k e es (insert max_chained_cases d.tree d.free (row_of e))
     (λ t i. let a : wholes (decided (grown d t) (suc k) es) ≤ whole (grown d t) + costs es = decided_cost (grown d t) (suc k) es in omega (arith, a, more_cost d e t i))
     (let a : wholes (decided (begun k e) (suc k) es) ≤ whole (begun k e) + costs es = decided_cost (begun k e) (suc k) es in omega (arith, a, begun_cost k e))
 

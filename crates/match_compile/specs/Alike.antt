@@ -10,21 +10,21 @@ use Rattle.arity_check.specs.Normal.{Pairwise}
 use Rattle.arity_check.specs.Program.{Term, App, Let, Case, Branches, NoMore, OnCon, OnInt, OnAny}
 
 -- locals of one term with those of the other, the innermost first
-abbrev pub Pairs : Type 0
-Pairs = List (ℕ × ℕ)
+abbrev pub LocalPairs : Type 0
+LocalPairs = List (ℕ × ℕ)
 
 -- x stands where y does: neither is hidden
-abbrev pub Linked : Pairs → ℕ → ℕ → Type 0
-Linked [] x y = ⊥
-Linked (p ∷ ps) x y =
-    ((x ≡ p.0) × (y ≡ p.1)) ⊎ ((x ≡ p.0 → ⊥) × ((y ≡ p.1 → ⊥) × Linked ps x y))
+abbrev pub LocalsCorrespond : LocalPairs → ℕ → ℕ → Type 0
+LocalsCorrespond [] x y = ⊥
+LocalsCorrespond (p ∷ ps) x y =
+    ((x ≡ p.0) × (y ≡ p.1)) ⊎ ((x ≡ p.0 → ⊥) × ((y ≡ p.1 → ⊥) × LocalsCorrespond ps x y))
 
-abbrev pub linked_all : List ℕ → List ℕ → Pairs → Pairs
+abbrev pub linked_all : List ℕ → List ℕ → LocalPairs → LocalPairs
 linked_all [] ys ps = ps
 linked_all (x ∷ xs) [] ps = ps
 linked_all (x ∷ xs) (y ∷ ys) ps = linked_all xs ys ((x, y) ∷ ps)
 
-abbrev pub linked_group : List Bound → List Bound → Pairs → Pairs
+abbrev pub linked_group : List Bound → List Bound → LocalPairs → LocalPairs
 linked_group [] cs ps = ps
 linked_group (b ∷ bs) [] ps = ps
 linked_group (b ∷ bs) (c ∷ cs) ps = linked_group bs cs ((b.local, c.local) ∷ ps)
@@ -32,14 +32,14 @@ linked_group (b ∷ bs) (c ∷ cs) ps = linked_group bs cs ((b.local, c.local) �
 -- Functions have so many parameters, constructors so many fields, and these are the functions of
 -- both programs.
 module _ (arity many : ℕ → ℕ) (IsFun : ℕ → Type 0) where
-  pub data VarAlike (ps : Pairs) : Var → Var → Type 0 where
-    AlikeLocal : {x y : ℕ} → Linked ps x y → VarAlike ps (var.Local x) (var.Local y)
+  pub data VarAlike (ps : LocalPairs) : Var → Var → Type 0 where
+    AlikeLocal : {x y : ℕ} → LocalsCorrespond ps x y → VarAlike ps (var.Local x) (var.Local y)
     AlikeGlobal : {f : ℕ} → IsFun f → arity f ≡ 0 → VarAlike ps (var.Global f) (var.Global f)
 
-  abbrev pub VarsAlike : Pairs → List Var → List Var → Type 0
+  abbrev pub VarsAlike : LocalPairs → List Var → List Var → Type 0
   VarsAlike ps = Pairwise (VarAlike ps)
 
-  pub data FlatAlike (ps : Pairs) : Flat → Flat → Type 0 where
+  pub data FlatAlike (ps : LocalPairs) : Flat → Flat → Type 0 where
     AlikeInt : {k : ℤ} → FlatAlike ps (flat.Int k) (flat.Int k)
     AlikeCon : {c : ℕ} {xs ys : List Var} → length xs ≡ many c → VarsAlike ps xs ys
         → FlatAlike ps (flat.Con c xs) (flat.Con c ys)
@@ -53,23 +53,23 @@ module _ (arity many : ℕ → ℕ) (IsFun : ℕ → Type 0) where
         → FlatAlike ps (flat.Prim op x y) (flat.Prim op x' y')
 
   mutual
-    pub data TermAlike : Pairs → Term → Term → Type 0 where
-      AlikeApp : {ps : Pairs} {f g : Flat} → FlatAlike ps f g → TermAlike ps (App f) (App g)
-      AlikeLet : {ps : Pairs} {bs cs : List Bound} {e e' : Term}
+    pub data TermAlike : LocalPairs → Term → Term → Type 0 where
+      AlikeApp : {ps : LocalPairs} {f g : Flat} → FlatAlike ps f g → TermAlike ps (App f) (App g)
+      AlikeLet : {ps : LocalPairs} {bs cs : List Bound} {e e' : Term}
           → Pairwise (λ b c. FlatAlike (linked_group bs cs ps) b.flat c.flat) bs cs
           → TermAlike (linked_group bs cs ps) e e' → TermAlike ps (Let bs e) (Let cs e')
-      AlikeCase : {ps : Pairs} {e e' : Term} {bs cs : Branches}
+      AlikeCase : {ps : LocalPairs} {e e' : Term} {bs cs : Branches}
           → TermAlike ps e e' → BranchesAlike ps bs cs → TermAlike ps (Case e bs) (Case e' cs)
 
-    pub data BranchesAlike : Pairs → Branches → Branches → Type 0 where
-      AlikeNoMore : {ps : Pairs} → BranchesAlike ps NoMore NoMore
-      AlikeOnCon : {ps : Pairs} {c : ℕ} {xs ys : List ℕ} {e e' : Term} {bs cs : Branches}
+    pub data BranchesAlike : LocalPairs → Branches → Branches → Type 0 where
+      AlikeNoMore : {ps : LocalPairs} → BranchesAlike ps NoMore NoMore
+      AlikeOnCon : {ps : LocalPairs} {c : ℕ} {xs ys : List ℕ} {e e' : Term} {bs cs : Branches}
           → length xs ≡ many c → length ys ≡ many c → TermAlike (linked_all xs ys ps) e e'
           → BranchesAlike ps bs cs → BranchesAlike ps (OnCon c xs e bs) (OnCon c ys e' cs)
-      AlikeOnInt : {ps : Pairs} {k : ℤ} {e e' : Term} {bs cs : Branches} → TermAlike ps e e'
+      AlikeOnInt : {ps : LocalPairs} {k : ℤ} {e e' : Term} {bs cs : Branches} → TermAlike ps e e'
           → BranchesAlike ps bs cs → BranchesAlike ps (OnInt k e bs) (OnInt k e' cs)
-      AlikeOnAny : {ps : Pairs} {e e' : Term} {bs cs : Branches} → TermAlike ps e e'
+      AlikeOnAny : {ps : LocalPairs} {e e' : Term} {bs cs : Branches} → TermAlike ps e e'
           → BranchesAlike ps bs cs → BranchesAlike ps (OnAny None e bs) (OnAny None e' cs)
-      AlikeOnName : {ps : Pairs} {x y : ℕ} {e e' : Term} {bs cs : Branches}
+      AlikeOnName : {ps : LocalPairs} {x y : ℕ} {e e' : Term} {bs cs : Branches}
           → TermAlike ((x, y) ∷ ps) e e' → BranchesAlike ps bs cs
           → BranchesAlike ps (OnAny (Some x) e bs) (OnAny (Some y) e' cs)

@@ -3,10 +3,10 @@ use Rattle.std.specs.Prelude.{ℕ, ◌==◌, Bool, true, List, [], ◌∷◌, ma
 use Rattle.core_reader.specs.Tree.{Expr, expr}
 use Rattle.match_compile.specs.declared.decide.Clause.{Clause}
 use Rattle.match_compile.specs.declared.decide.Decision as code
-use Rattle.match_compile.specs.declared.decide.Came.{Came}
+use Rattle.match_compile.specs.declared.decide.InsertionOutcome.{InsertionOutcome}
 use Rattle.match_compile.specs.Source.{Pats, Equation}
 use Rattle.match_compile.specs.SourceOf.{pat_of, pats_of}
-use Rattle.match_compile.specs.Trees.{Tree, most_chained, insert}
+use Rattle.match_compile.specs.Trees.{Tree, max_chained_cases, insert}
 use Rattle.match_compile.specs.Decisions.{Decision, row_of, grown}
 use Rattle.match_compile.specs.TreeOf.{tree_of}
 
@@ -47,16 +47,16 @@ abbrev pub with_body : (name at : ℕ) → Pats → Option Expr → Option Equat
 with_body name at pats None = None
 with_body name at pats (Some b) = Some (record { name = name; at = at; pats = pats; body = b })
 
-abbrev pub came_of : Came → Decision × Option Equation
-came_of c = (decision_of c.decision, left_clause c.left)
+abbrev pub insertion_outcome : InsertionOutcome → Decision × Option Equation
+insertion_outcome c = (decision_of c.decision, left_clause c.left)
 
 abbrev pub taken_by : Decision → Equation → Option (Tree × ℕ) → Decision × Option Equation
 taken_by d e None = (d, Some e)
 taken_by d e (Some t) = (grown d t, None)
 
 -- a tree takes an equation, or leaves it
-abbrev pub taken_or_left : Decision → Equation → Decision × Option Equation
-taken_or_left d e = taken_by d e (insert most_chained d.tree d.free (row_of e))
+abbrev pub decision_or_left : Decision → Equation → Decision × Option Equation
+decision_or_left d e = taken_by d e (insert max_chained_cases d.tree d.free (row_of e))
 
 -- whether an equation of this name goes before these
 abbrev pub goes_before : List Equation → ℕ → Bool

@@ -8,7 +8,7 @@ use Rattle.arity_check.specs.Scope.{Scope}
 use Rattle.match_compile.specs.declared.emission.Onward.{Onward}
 use Rattle.match_compile.specs.Trees.{Tree, can_fail}
 use Rattle.match_compile.specs.Translated.{Words, call, keeps, param_stays, name_or, stays}
-use Rattle.match_compile.specs.Renamed.{name_for}
+use Rattle.match_compile.specs.Renamed.{renamed_name}
 
 abbrev pub put_before : List (Alts → Alts) → Alts → Alts
 put_before [] others = others
@@ -26,8 +26,8 @@ number_of None = None
 number_of (Some f) = Some f.0
 
 -- the alternatives for values that no row accepts
-abbrev pub rest_of : Words → (at : ℕ) → Onward → Alts
-rest_of w at onward = call w at (number_of onward.function) onward.arguments.now
+abbrev pub alternatives_of_rest : Words → (at : ℕ) → Onward → Alts
+alternatives_of_rest w at onward = call w at (number_of onward.function) onward.arguments.now
 
 abbrev pub alone : (name at : ℕ) → Expr
 alone name at = App (record { head = Name name at; args = NoTerms })
@@ -45,4 +45,4 @@ places_of w at params called t (p ∷ ps) places =
 
 -- what one name has become
 abbrev pub taken_one : Words → Scope → (x p : ℕ) → Scope → Scope
-taken_one w places x p s = if keeps w x then s else (x, name_for places p) ∷ s
+taken_one w places x p s = if keeps w x then s else (x, renamed_name places p) ∷ s

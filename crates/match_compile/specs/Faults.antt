@@ -1,5 +1,5 @@
--- Which rules are broken in the parts of equations, and where, in the order in which the check meets
--- them. A device of the proofs.
+-- Which rules are broken in the parts of equations, and where, in the order in which the check
+-- meets them. A device of the proofs.
 use Rattle.std.specs.Prelude.{◌≡◌, ℕ, ◌==◌, Bool, true, false, not, ◌&&◌, ◌||◌, List, [], ◌∷◌, ◌++◌, Option, Some, None, codes}
 use Rattle.std.specs.Str.{bytes_eq}
 use Rattle.std.specs.List.{flat_map}
@@ -12,7 +12,7 @@ use Rattle.match_compile.specs.declared.refusal.MatchRefusal.TheVariants.{Duplic
 use Rattle.match_compile.specs.Source.{Source, Equation}
 use Rattle.match_compile.specs.Parts.{count, names_of, constructors_of}
 use Rattle.match_compile.specs.Rules.{text_in, fields_in, is_reserved, IsReserved}
-use Rattle.match_compile.specs.Refusal.{rule, place, least, noted}
+use Rattle.match_compile.specs.Refusal.{rule, place, least_refusal, refusal_if}
 use Rattle.seq.specs.Lists.{In}
 
 -- ---- the order of the equations: the numbers of patterns by name, and the name before
@@ -33,7 +33,7 @@ with_equation x n arities y = first_arity (arities y) n (x == y)
 abbrev pub order_faults : Option ℕ → Bool → (n at : ℕ) → List MatchRefusal
 order_faults None is_next n at = []
 order_faults (Some m) is_next n at =
-    noted (not is_next) (DuplicateFunction at) ++ noted (not (m == n)) (ArityDiffers at)
+    refusal_if (not is_next) (DuplicateFunction at) ++ refusal_if (not (m == n)) (ArityDiffers at)
 
 abbrev pub orders_faults : (ℕ → Option ℕ) → Option ℕ → List Equation → List MatchRefusal
 orders_faults arities last [] = []
@@ -43,26 +43,26 @@ orders_faults arities last (e ∷ es) =
 
 -- ---- the names of an equation's patterns
 
-abbrev pub also : ℕ → (ℕ → Bool) → ℕ → Bool
-also x seen y = (x == y) || seen y
+abbrev pub with_member : ℕ → (ℕ → Bool) → ℕ → Bool
+with_member x seen y = (x == y) || seen y
 
 abbrev pub is_nameless : List (List ℕ) → ℕ → Bool
 is_nameless names x = bytes_eq (text_in names x) (codes "_")
 
 abbrev pub name_faults : List (List ℕ) → (ℕ → Bool) → Binder → List MatchRefusal
 name_faults names seen x =
-    noted (not (is_nameless names x.name.0) && seen x.name.0) (DuplicateName x.at)
+    refusal_if (not (is_nameless names x.name.0) && seen x.name.0) (DuplicateName x.at)
 
 abbrev pub names_faults : List (List ℕ) → (ℕ → Bool) → List Binder → List MatchRefusal
 names_faults names seen [] = []
 names_faults names seen (x ∷ xs) =
-    name_faults names seen x ++ names_faults names (also x.name.0 seen) xs
+    name_faults names seen x ++ names_faults names (with_member x.name.0 seen) xs
 
 -- ---- the constructors of an equation's patterns
 
 abbrev pub constructor_faults : Option ℕ → (n at : ℕ) → List MatchRefusal
 constructor_faults None n at = UnknownName at ∷ []
-constructor_faults (Some m) n at = noted (not (m == n)) (PatternArity at)
+constructor_faults (Some m) n at = refusal_if (not (m == n)) (PatternArity at)
 
 abbrev pub constructors_faults : (ℕ → Option ℕ) → List (Binder × ℕ) → List MatchRefusal
 constructors_faults fields cs =
@@ -84,7 +84,7 @@ is_reserved_token names token = false
 
 abbrev pub reserved_faults : List (List ℕ) → List Lexeme → List MatchRefusal
 reserved_faults names lexemes =
-    flat_map (λ l. noted (is_reserved_token names l.token) (ReservedMatch l.at)) lexemes
+    flat_map (λ l. refusal_if (is_reserved_token names l.token) (ReservedMatch l.at)) lexemes
 
 -- ---- all
 
@@ -94,8 +94,8 @@ faults c =
     ++ patterns_faults c.names (fields_in c.constructors) c.equations
 
 -- the refusals for such names in a text, of which the first was kept
-pub record IsMet (text : List ℕ) (first : Option MatchRefusal) : Type 0 where
+pub record IsFirstReserved (text : List ℕ) (first : Option MatchRefusal) : Type 0 where
   pub all : List MatchRefusal
-  pub is : first ≡ least None all
+  pub is : first ≡ least_refusal None all
   pub sound : (r : MatchRefusal) → In r all → (rule r ≡ 74) × IsReserved text (place r)
   pub complete : (at : ℕ) → IsReserved text at → In (ReservedMatch at) all

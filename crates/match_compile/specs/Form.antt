@@ -38,16 +38,16 @@ pub record Equations : Type 0 where
   pub main : ℕ
 
 -- a function with as many parameters as patterns, of which the names are of no account
-abbrev pub as_many : Binder → Pats → List Binder
-as_many b NoPats = []
-as_many b (AndPat p ps) = b ∷ as_many b ps
+abbrev pub placeholder_function : Binder → Pats → List Binder
+placeholder_function b NoPats = []
+placeholder_function b (AndPat p ps) = b ∷ placeholder_function b ps
 
 abbrev pub head_of : List Equation → List Function
 head_of [] = []
 head_of (e ∷ es) = record {
   name = e.name;
   at = e.at;
-  params = as_many (record { name = record { 0 = e.name }; at = e.at }) e.pats;
+  params = placeholder_function (record { name = record { 0 = e.name }; at = e.at }) e.pats;
   body = e.body;
 } ∷ []
 
@@ -56,8 +56,8 @@ heads [] = []
 heads (f ∷ fs) = head_of f ++ heads fs
 
 -- the program that has each function once, whatever its body
-abbrev pub headed : Source → Program
-headed c = record {
+abbrev pub program_of_heads : Source → Program
+program_of_heads c = record {
   names = c.names;
   constructors = c.constructors;
   functions = heads (functions c.equations);
@@ -69,7 +69,8 @@ module _ (c : Source) where
       OfName : {b : Binder} → IsForm (Name b) Any
       OfInt : {k : ℤ} {at : ℕ} → IsForm (Int k at) (Is k)
       OfCon : {b : Binder} {ps : Pats} {fs : Forms} {n : ℕ}
-          → con_number (headed c) b.name.0 ≡ Some n → AreForms ps fs → IsForm (Con b ps) (Has n fs)
+          → con_number (program_of_heads c) b.name.0 ≡ Some n → AreForms ps fs
+          → IsForm (Con b ps) (Has n fs)
 
     pub data AreForms : Pats → Forms → Type 0 where
       NoneOf : AreForms NoPats NoForms
@@ -79,8 +80,8 @@ module _ (c : Source) where
   pub record IsRow (e : Equation) (g : Row) : Type 0 where
     pub pats : AreForms e.pats g.pats
     pub after : ℕ
-    pub body : IsNormal (headed c)
-        (binds_all (headed c) (map (λ x. x.name.0) (names_of e.pats))
+    pub body : IsNormal (program_of_heads c)
+        (binds_all (program_of_heads c) (map (λ x. x.name.0) (names_of e.pats))
         (range_with_len 0 (length (names_of e.pats))) [])
         (length (names_of e.pats)) e.body g.body after
 
@@ -95,7 +96,8 @@ module _ (c : Source) where
 
   -- the normal form of all equations
   pub record IsFormOf (q : Equations) : Type 0 where
-    pub cons : Pairwise (IsConstructor (headed c)) c.constructors q.cons
+    pub cons : Pairwise (IsConstructor (program_of_heads c)) c.constructors q.cons
     pub funs : Pairwise AreRows (functions c.equations) q.funs
-    pub main : position (λ f. is_named (headed c) (codes "main") f.name) (headed c).functions
+    pub main : position (λ f. is_named (program_of_heads c) (codes "main") f.name)
+        (program_of_heads c).functions
         ≡ Some q.main

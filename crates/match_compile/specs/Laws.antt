@@ -9,68 +9,70 @@ use Rattle.arity_check.specs.Broken as program
 use Rattle.arity_check.specs.Program as normal
 use Rattle.arity_check.specs.Accepted as check
 use Rattle.arity_check.specs.Normal.{IsNormalForm}
-use Rattle.core_meaning.specs.Told.{of_core}
+use Rattle.core_meaning.specs.Told.{core_program_meaning}
 use Rattle.match_compile.specs.Source.{Equation, Source}
-use Rattle.match_compile.specs.Grammar.{IsText, IsRead}
+use Rattle.match_compile.specs.Grammar.{IsSourceText, BreaksNoReadingRule}
 use Rattle.match_compile.specs.Rules.{IsUnbroken, IsFirstBroken}
 use Rattle.match_compile.specs.Readable.{IsReadable}
 use Rattle.match_compile.specs.Sound.{IsSound}
 use Rattle.match_compile.specs.Sizes.{source_size, tests, most_equations, functions, is_simple, is_plain}
 use Rattle.match_compile.specs.Translated.{translated}
 use Rattle.match_compile.specs.Form.{Equations, IsFormOf}
-use Rattle.match_compile.specs.ByEquations.{of_equations}
-use Rattle.match_compile.specs.Within.{Within, InStep}
+use Rattle.match_compile.specs.ByEquations.{equations_meaning}
+use Rattle.match_compile.specs.Within.{Within, SameWithinSameUnits}
 use Rattle.match_compile.specs.Decides.{AreServed}
-use Rattle.match_compile.specs.Decisions.{decisions_from, StandFor}
+use Rattle.match_compile.specs.Decisions.{decisions_from, DecideAllEquations}
 use Rattle.match_compile.specs.OneFunction.{IsOneFunction}
-use Rattle.match_compile.specs.Trees.{Job, Row, settled, Tree, IsTree, alone_from, insert}
+use Rattle.match_compile.specs.Trees.{PendingPattern, Row, settled, Tree, IsTree, alone_from, insert}
 
 -- A text stands for the equations of one source at most.
-abbrev pub OneSource : Type 0
-OneSource = (text : List ℕ) (c d : Source) → IsText text c → IsText text d → c ≡ d
+abbrev pub SourceIsUnique : Type 0
+SourceIsUnique = (text : List ℕ) (c d : Source) → IsSourceText text c → IsSourceText text d → c ≡ d
 
 -- At most one rule is the first that a text breaks, at one place.
-abbrev pub OneFirst : Type 0
-OneFirst =
+abbrev pub FirstFaultIsUnique : Type 0
+FirstFaultIsUnique =
     (text : List ℕ) (k at k' at' : ℕ) → IsFirstBroken text k at → IsFirstBroken text k' at'
     → (k ≡ k') × (at ≡ at')
 
 -- The equations of a text that breaks none of the rules 1 to 5 are readable.
 abbrev pub ReadIsReadable : Type 0
-ReadIsReadable = (text : List ℕ) (c : Source) → IsRead text → IsText text c → IsReadable c
+ReadIsReadable =
+    (text : List ℕ) (c : Source) → BreaksNoReadingRule text → IsSourceText text c → IsReadable c
 
 -- A row that goes into a tree for others makes it a tree for all of them, in their order.
-abbrev pub RowsGoIn : Type 0
-RowsGoIn =
-    (room n : ℕ) (body : Expr) (bound : List (Binder × ℕ)) (jobs : List Job) (rows : List Row) (t : Tree)
+abbrev pub InsertionKeepsTree : Type 0
+InsertionKeepsTree =
+    (room n : ℕ) (body : Expr) (bound : List (Binder × ℕ)) (jobs : List PendingPattern)
+    (rows : List Row) (t : Tree)
     (u : Tree × ℕ) → IsTree rows t → insert room t n (settled body bound jobs) ≡ Some u
     → IsTree (rows ++ settled body bound jobs ∷ []) u.0
 
 -- A row by itself is a tree.
-abbrev pub OneRow : Type 0
-OneRow =
-    (n : ℕ) (body : Expr) (bound : List (Binder × ℕ)) (jobs : List Job)
+abbrev pub SingleRowIsTree : Type 0
+SingleRowIsTree =
+    (n : ℕ) (body : Expr) (bound : List (Binder × ℕ)) (jobs : List PendingPattern)
     → IsTree (settled body bound jobs ∷ []) (alone_from n (settled body bound jobs)).0
 
 -- The trees of a function stand for its equations, each for some of them, in their order.
-abbrev pub TreesStand : Type 0
-TreesStand = (k : ℕ) (es : List Equation) → StandFor k es (decisions_from k es)
+abbrev pub TreesCoverEquations : Type 0
+TreesCoverEquations = (k : ℕ) (es : List Equation) → DecideAllEquations k es (decisions_from k es)
 
 -- The program that equations become is no larger than they are, with 16 for each test.
-abbrev pub IsSmall : Type 0
-IsSmall = (c : Source) → program_size (translated c) ≤ source_size c + 16 * tests c
+abbrev pub SizeIsBounded : Type 0
+SizeIsBounded = (c : Source) → program_size (translated c) ≤ source_size c + 16 * tests c
 
 -- Equations that break no rule, of which each as a function of its own is in a program that breaks
 -- none, become a program that breaks no rule but the one on its size.
 abbrev pub BreaksOnlySize : Type 0
 BreaksOnlySize =
-    (text : List ℕ) (c : Source) → IsText text c → IsUnbroken text → IsSound c → (k at : ℕ)
+    (text : List ℕ) (c : Source) → IsSourceText text c → IsUnbroken text → IsSound c → (k at : ℕ)
     → program.Broken (translated c) k at → k ≡ 35
 
 -- A function that is simple, or one equation of names alone, becomes one function.
-abbrev pub SimpleStaysOne : Type 0
-SimpleStaysOne =
-    (text : List ℕ) (c : Source) → IsText text c → IsUnbroken text
+abbrev pub SimpleStaysOneFunction : Type 0
+SimpleStaysOneFunction =
+    (text : List ℕ) (c : Source) → IsSourceText text c → IsUnbroken text
     → (before after : List (List Equation)) (es : List Equation)
     → functions c.equations ≡ before ++ es ∷ after → (is_simple es || is_plain es) ≡ true
     → IsOneFunction c (length before) (sum_of (map length before)) es
@@ -80,21 +82,24 @@ SimpleStaysOne =
 abbrev pub ServedWithin : Type 0
 ServedWithin =
     (q : Equations) (most : ℕ) (p : normal.Program) → AreServed q most p
-    → Within most (of_equations q) (of_core p)
+    → Within most (equations_meaning q) (core_program_meaning p)
 
 -- Where each function is served by one, they put out the same within the same units.
 abbrev pub ServedInStep : Type 0
 ServedInStep =
-    (q : Equations) (p : normal.Program) → AreServed q 1 p → InStep (of_equations q) (of_core p)
+    (q : Equations) (p : normal.Program) → AreServed q 1 p
+    → SameWithinSameUnits (equations_meaning q) (core_program_meaning p)
 
--- Where equations that break no rule become a program that breaks none, they have a normal form, and
--- the program puts out what they do: it needs no more units for one of theirs than the largest
--- function has equations, and the same where each function is simple, or one equation of names alone.
-abbrev pub MeansItsEquations : Type 0
-MeansItsEquations =
-    (text : List ℕ) (c : Source) (p : normal.Program) → IsText text c → IsUnbroken text
-    → program-text.IsReadable (translated c) → check.IsUnbroken (translated c)
+-- Where equations that break no rule become a program that breaks none, they have a normal form,
+-- and the program puts out what they do: it needs no more units for one of theirs than the largest
+-- function has equations, and the same where each function is simple, or one equation of names
+-- alone.
+abbrev pub TranslationKeepsMeaning : Type 0
+TranslationKeepsMeaning =
+    (text : List ℕ) (c : Source) (p : normal.Program) → IsSourceText text c → IsUnbroken text
+    → program-text.IsReadable (translated c) → check.BreaksNoRule (translated c)
     → IsNormalForm (translated c) p
-    → (q : Equations) × IsFormOf c q × Within (most_equations c) (of_equations q) (of_core p)
+    → (q : Equations) × IsFormOf c q
+    × Within (most_equations c) (equations_meaning q) (core_program_meaning p)
     × (((es : List Equation) → In es (functions c.equations) → (is_simple es || is_plain es) ≡ true)
-    → InStep (of_equations q) (of_core p))
+    → SameWithinSameUnits (equations_meaning q) (core_program_meaning p))

@@ -5,11 +5,11 @@ use Rattle.match_compile.specs.Decisions.{decisions}
 use Rattle.match_compile.specs.Translated.{most_params, most_fields_of}
 
 -- the name does not begin with `match'`
-abbrev pub IsFree : List ℕ → Type 0
-IsFree w = (rest : List ℕ) → w ≢ codes "match'" ++ rest
+abbrev pub IsUnreservedName : List ℕ → Type 0
+IsUnreservedName w = (rest : List ℕ) → w ≢ codes "match'" ++ rest
 
 -- the new names have numbers of 32 bits
-pub record AreFew (c : Source) : Type 0 where
+pub record NewNamesFit (c : Source) : Type 0 where
   pub equations : length c.equations < 2 ^ 32
   pub params : most_params c.equations < 2 ^ 32
   pub fields : most_fields_of (decisions c) < 2 ^ 32

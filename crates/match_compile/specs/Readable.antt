@@ -3,7 +3,7 @@
 use Rattle.std.specs.Prelude.{ℕ, ◌+◌, ◌*◌, ◌<◌, ◌^◌, List, All}
 use Rattle.seq.specs.Lists.{AllOf}
 use Rattle.core_reader.specs.Words.{IsInRange}
-use Rattle.core_reader.specs.Readable.{IsConstructor, IsTextAt, IsNamed, IsBound, ReadableExpr, ReadableData, AreDifferent}
+use Rattle.core_reader.specs.Readable.{IsConstructor, IsTextAt, IsNamed, IsBound, ReadableExpr, ReadableData, AreDistinct}
 use Rattle.match_compile.specs.Source.{Pat, Name, Int, Con, Pats, NoPats, AndPat, Equation, Source}
 use Rattle.match_compile.specs.Sizes.{source_size, tests}
 
@@ -22,7 +22,7 @@ ReadableEquation names e =
     IsNamed names e.name × ReadablePats names e.pats × ReadableExpr names e.body
 
 pub record IsReadable (c : Source) : Type 0 where
-  pub different : AreDifferent c.names
+  pub different : AreDistinct c.names
   pub constructors : All (ReadableData c.names) c.constructors
   pub equations : AllOf (ReadableEquation c.names) c.equations
   pub size : source_size c + 16 * tests c < 2 ^ 64

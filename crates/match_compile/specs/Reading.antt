@@ -11,10 +11,10 @@ use Rattle.core_reader.specs.declared.token.Lexeme.{Lexeme}
 use Rattle.core_reader.specs.declared.refusal.ReadRefusal.{ReadRefusal}
 use Rattle.core_reader.specs.declared.refusal.ReadRefusal.TheVariants.{NumberRange, TooDeep}
 use Rattle.core_reader.specs.Tree.{Expr, data_of}
-use Rattle.core_reader.specs.Grammar.{Room, at_most_200}
+use Rattle.core_reader.specs.Grammar.{NestingLimit, at_most_200}
 use Rattle.core_reader.specs.ReadingOf.{Steps, Reading, run_of}
 use Rattle.core_reader.specs.AroundOf as any
-use Rattle.core_reader.specs.AroundOf.{next, enter, all, refuse, Around, AroundState, Outside, Within, around, steps}
+use Rattle.core_reader.specs.AroundOf.{next, enter, all, refuse, ExpressionContext, ContextState, Outside, Within, context_reading, steps}
 use Rattle.core_reader.specs.Machine.{refused, Goes, Fails}
 use Rattle.match_compile.specs.declared.source.Pat as code-pat
 use Rattle.match_compile.specs.declared.source.Equation as code-equation
@@ -46,7 +46,7 @@ opens InLine = 0
 opens (InBracket k before c) = suc (opens k)
 
 -- the declarations before an equation, and its name
-pub record Begun : Type 0 where
+pub record EquationStart : Type 0 where
   pub decls : List Decl
   pub name : NameId
   pub at : ℕ
@@ -54,7 +54,7 @@ pub record Begun : Type 0 where
 abbrev pub declared : NameId → ℕ → ℕ → Decl
 declared n at fields = Declares (record { name = n.0; fields = fields; at = at })
 
-abbrev pub equated : Begun → Pats → Expr → Decl
+abbrev pub equated : EquationStart → Pats → Expr → Decl
 equated b pats body =
     Equates (record { name = b.name.0; at = b.at; pats = pats; body = body })
 
@@ -63,17 +63,17 @@ pub data Own : Type 0 where
   DataName : List Decl → Own
   Count : List Decl → NameId → ℕ → Own
   DataEnd : List Decl → NameId → ℕ → ℕ → Own
-  Matching : Begun → Place → Pats → Own
-  Opened : Begun → Place → Pats → Own
+  Matching : EquationStart → Place → Pats → Own
+  Opened : EquationStart → Place → Pats → Own
 
 -- where the body of an equation stands
 pub data Hole : Type 0 where
-  InEquation : Begun → Pats → Hole
+  InEquation : EquationStart → Pats → Hole
 
-abbrev pub Move : Type 0
-Move = any.Move Own Hole (List Decl)
+abbrev pub Transition : Type 0
+Transition = any.Move Own Hole (List Decl)
 
-abbrev pub move : Room → Own → ℕ → Token → Move
+abbrev pub move : NestingLimit → Own → ℕ → Token → Transition
 move l (Top ds) at word.Data = next (DataName ds)
 move l (Top ds) at (word.Name n) =
     next (Matching (record { decls = ds; name = n; at = at }) InLine NoPats)
@@ -82,10 +82,12 @@ move l (DataName ds) at (word.Con n) = next (Count ds n at)
 move l (Count ds n p) at (word.Number false (pos size)) = next (DataEnd ds n p size)
 move l (Count ds n p) at (word.Large false) = refuse (NumberRange at)
 move l (DataEnd ds n p fields) at word.Semicolon = next (Top (ds ++ declared n p fields ∷ []))
-move l (Matching b k held) at (word.Name n) = next (Matching b k (with_last held (Name (binder n at))))
+move l (Matching b k held) at (word.Name n) =
+    next (Matching b k (with_last held (Name (binder n at))))
 move l (Matching b k held) at (word.Con n) =
     next (Matching b k (with_last held (Con (binder n at) NoPats)))
-move l (Matching b k held) at (word.Number minus v) = next (Matching b k (with_last held (Int v at)))
+move l (Matching b k held) at (word.Number minus v) =
+    next (Matching b k (with_last held (Int v at)))
 move l (Matching b k held) at (word.Large minus) = refuse (NumberRange at)
 move l (Matching b k held) at word.Open =
     cond (l (opens k)) (next (Opened b k held)) (refuse (TooDeep at))
@@ -95,11 +97,11 @@ move l (Matching b InLine held) at word.Equals = enter (InEquation b held)
 move l (Opened b k held) at (word.Con n) = next (Matching b (InBracket k held (binder n at)) NoPats)
 move l o at token = refuse (refused at token)
 
-abbrev pub finish : Hole → Expr → ℕ → Token → Move
+abbrev pub finish : Hole → Expr → ℕ → Token → Transition
 finish (InEquation b pats) e at word.Semicolon = next (Top (b.decls ++ equated b pats e ∷ []))
 finish h e at token = refuse (refused at token)
 
-abbrev pub equations : Around
+abbrev pub equations : ExpressionContext
 equations = record {
   Own = Own;
   Hole = Hole;
@@ -111,11 +113,11 @@ equations = record {
 }
 
 -- the reading of a text of equations
-abbrev pub matching : Reading
-matching = around equations
+abbrev pub equation_reading : Reading
+equation_reading = context_reading equations
 
 abbrev pub State : Type 0
-State = AroundState Own Hole
+State = ContextState Own Hole
 
 abbrev pub top : List Decl → State
 top ds = Outside (Top ds)
@@ -131,7 +133,8 @@ run = run_of (steps equations) at_most_200
 abbrev pub ReadsCount : List Lexeme → List Lexeme → Result ℕ ReadRefusal → Type 0
 ReadsCount old new result =
     (ds : List Decl) (n : NameId) (p : ℕ)
-    → Goes result (run (Outside (Count ds n p)) old) (λ size. run (Outside (DataEnd ds n p size)) new)
+    → Goes result (run (Outside (Count ds n p)) old) (λ size.
+    run (Outside (DataEnd ds n p size)) new)
 
 abbrev pub ReadsDecl : {X : Type 0} → (X → Decl) → List Lexeme → List Lexeme
     → Result X ReadRefusal → Type 0
@@ -148,14 +151,14 @@ equation_decl e = Equates (equation_of e)
 -- A pattern was read behind others, in whatever it stands.
 abbrev pub ReadsPat : ℕ → List Lexeme → List Lexeme → Result code-pat.Pat ReadRefusal → Type 0
 ReadsPat depth old new result =
-    (b : Begun) (k : Place) (held : Pats) → opens k ≡ depth
+    (b : EquationStart) (k : Place) (held : Pats) → opens k ≡ depth
     → Goes result (run (Outside (Matching b k held)) old) (λ p.
     run (Outside (Matching b k (with_last held (pat_of p)))) new)
 
 abbrev pub ReadsPats : ℕ → List Lexeme → List Lexeme → Result (Vec code-pat.Pat) ReadRefusal
     → Type 0
 ReadsPats depth old new result =
-    (b : Begun) (k : Place) → opens k ≡ depth
+    (b : EquationStart) (k : Place) → opens k ≡ depth
     → Goes result (run (Outside (Matching b k NoPats)) old) (λ ps.
     run (Outside (Matching b k (pats_of (map pat_of ps.items)))) new)
 

@@ -4,6 +4,7 @@ use Rattle.core_reader.specs.declared.refusal.ReadRefusal.{ReadRefusal}
 use Rattle.core_reader.specs.declared.refusal.ReadRefusal.TheVariants as from
 use Rattle.match_compile.specs.declared.refusal.MatchRefusal.{MatchRefusal}
 use Rattle.match_compile.specs.declared.refusal.MatchRefusal.TheVariants.{BadByte, Syntax, NumberRange, TooDeep, TextTooLong, DuplicateFunction, DuplicateName, UnknownName, ArityDiffers, PatternArity, ReservedMatch, Memory}
+use Rattle.limits.specs.Limits.{most_bytes}
 
 -- the number of the broken rule
 abbrev pub rule : MatchRefusal → ℕ
@@ -25,7 +26,7 @@ place (BadByte at) = at
 place (Syntax at) = at
 place (NumberRange at) = at
 place (TooDeep at) = at
-place TextTooLong = 1048576
+place TextTooLong = most_bytes
 place (DuplicateFunction at) = at
 place (DuplicateName at) = at
 place (UnknownName at) = at
@@ -34,28 +35,28 @@ place (PatternArity at) = at
 place (ReservedMatch at) = at
 place (Memory e) = 0
 
-abbrev pub unread : ReadRefusal → MatchRefusal
-unread (from.BadByte at) = BadByte at
-unread (from.Syntax at) = Syntax at
-unread (from.NumberRange at) = NumberRange at
-unread (from.TooDeep at) = TooDeep at
-unread from.TextTooLong = TextTooLong
-unread (from.Memory e) = Memory e
+abbrev pub refusal_of_reading : ReadRefusal → MatchRefusal
+refusal_of_reading (from.BadByte at) = BadByte at
+refusal_of_reading (from.Syntax at) = Syntax at
+refusal_of_reading (from.NumberRange at) = NumberRange at
+refusal_of_reading (from.TooDeep at) = TooDeep at
+refusal_of_reading from.TextTooLong = TextTooLong
+refusal_of_reading (from.Memory e) = Memory e
 
 -- by place, and at one place by number
 abbrev pub precedes : MatchRefusal → MatchRefusal → Bool
 precedes r q = nat_lt (place r) (place q) || ((place r == place q) && nat_lt (rule r) (rule q))
 
 -- the first that was met, and one more
-unfoldable pub earlier : Option MatchRefusal → MatchRefusal → Option MatchRefusal
-earlier None r = Some r
-earlier (Some f) r = if precedes r f then Some r else Some f
+unfoldable pub earlier_refusal : Option MatchRefusal → MatchRefusal → Option MatchRefusal
+earlier_refusal None r = Some r
+earlier_refusal (Some f) r = if precedes r f then Some r else Some f
 
 -- the first that was met, and then these
-abbrev pub least : Option MatchRefusal → List MatchRefusal → Option MatchRefusal
-least first [] = first
-least first (r ∷ rs) = least (earlier first r) rs
+abbrev pub least_refusal : Option MatchRefusal → List MatchRefusal → Option MatchRefusal
+least_refusal first [] = first
+least_refusal first (r ∷ rs) = least_refusal (earlier_refusal first r) rs
 
 -- a refusal where the test holds
-abbrev pub noted : Bool → MatchRefusal → List MatchRefusal
-noted b r = cond b (r ∷ []) []
+abbrev pub refusal_if : Bool → MatchRefusal → List MatchRefusal
+refusal_if b r = cond b (r ∷ []) []

@@ -4,21 +4,21 @@ use Rattle.core_reader.specs.declared.syntax.Binder.{Binder}
 use Rattle.core_reader.specs.Tree.{Term, Terms, NoTerms, AndTerm, Application, Bind, Expr, App, Let, Case, Alts, NoAlts, AndAlt}
 use Rattle.core_reader.specs.Tree as tree
 use Rattle.arity_check.specs.Scope.{Scope}
-use Rattle.arity_check.specs.Locals.{local_in}
+use Rattle.arity_check.specs.Locals.{innermost_local}
 use Rattle.arity_check.specs.Pieces.{binders_of, bound_by}
 
 -- the innermost name that stands for a name
-abbrev pub name_for : Scope → ℕ → ℕ
-name_for s x = elim (local_in s x) [ Some y ↦ y | None ↦ x ]
+abbrev pub renamed_name : Scope → ℕ → ℕ
+renamed_name s x = elim (innermost_local s x) [ Some y ↦ y | None ↦ x ]
 
 -- names that are bound in the body stand for themselves
-abbrev pub hidden : List Binder → Scope → Scope
-hidden [] s = s
-hidden (b ∷ bs) s = hidden bs ((b.name.0, b.name.0) ∷ s)
+abbrev pub shadowing : List Binder → Scope → Scope
+shadowing [] s = s
+shadowing (b ∷ bs) s = shadowing bs ((b.name.0, b.name.0) ∷ s)
 
 abbrev mutual
   pub renamed_term : Scope → Term → Term
-  renamed_term s (tree.Name x at) = tree.Name (name_for s x) at
+  renamed_term s (tree.Name x at) = tree.Name (renamed_name s x) at
   renamed_term s (tree.Con c at) = tree.Con c at
   renamed_term s (tree.Int k at) = tree.Int k at
   renamed_term s (tree.Bracket f xs at) = tree.Bracket (renamed_term s f) (renamed_terms s xs) at
@@ -37,11 +37,11 @@ abbrev mutual
   pub renamed_expr : Scope → Expr → Expr
   renamed_expr s (App a) = App (renamed_app s a)
   renamed_expr s (Let group e) =
-      Let (map (renamed_bind (hidden (binders_of group) s)) group)
-      (renamed_expr (hidden (binders_of group) s) e)
+      Let (map (renamed_bind (shadowing (binders_of group) s)) group)
+      (renamed_expr (shadowing (binders_of group) s) e)
   renamed_expr s (Case e alts) = Case (renamed_expr s e) (renamed_alts s alts)
 
   pub renamed_alts : Scope → Alts → Alts
   renamed_alts s NoAlts = NoAlts
   renamed_alts s (AndAlt p e alts) =
-      AndAlt p (renamed_expr (hidden (bound_by p) s) e) (renamed_alts s alts)
+      AndAlt p (renamed_expr (shadowing (bound_by p) s) e) (renamed_alts s alts)

@@ -12,7 +12,7 @@ use Rattle.match_compile.specs.declared.refusal.MatchRefusal.{MatchRefusal}
 use Rattle.match_compile.specs.declared.refusal.MatchRefusal.TheVariants as refusal
 use Rattle.match_compile.specs.Source.{Source, Equation}
 use Rattle.match_compile.specs.Parts.{count, names_of, constructors_of}
-use Rattle.match_compile.specs.Grammar.{IsText, IsRead, IsReadCause}
+use Rattle.match_compile.specs.Grammar.{IsSourceText, BreaksNoReadingRule, IsReadCause}
 
 -- x stands in the list, behind these
 pub record Behind {X : Type 0} (before : List X) (x : X) (xs : List X) : Type 0 where
@@ -70,18 +70,18 @@ pub record IsReserved (text : List ℕ) (at : ℕ) : Type 0 where
 
 -- rule k is broken at a place of a text that can be read
 pub data BrokenIn (text : List ℕ) : (k at : ℕ) → Type 0 where
-  OfSource : (c : Source) {k at : ℕ} → IsText text c → Broken c k at → BrokenIn text k at
+  OfSource : (c : Source) {k at : ℕ} → IsSourceText text c → Broken c k at → BrokenIn text k at
   ReservedMatch : {at : ℕ} → IsReserved text at → BrokenIn text 74 at
 
 -- no rule is broken
 pub record IsUnbroken (text : List ℕ) : Type 0 where
-  pub read : IsRead text
+  pub read : BreaksNoReadingRule text
   pub sound : (k at : ℕ) → BrokenIn text k at → ⊥
 
 -- Rule k is broken at a place of a text that can be read, and no broken rule comes before it, by
 -- place, and at one place by number.
 pub record IsFirstBroken (text : List ℕ) (k at : ℕ) : Type 0 where
-  pub read : IsRead text
+  pub read : BreaksNoReadingRule text
   pub broken : BrokenIn text k at
   pub first : (k' at' : ℕ) → BrokenIn text k' at' → (at < at') ⊎ ((at ≡ at') × (k ≤ k'))
 

@@ -39,13 +39,13 @@ abbrev pub functions : List Equation → List (List Equation)
 functions [] = []
 functions (e ∷ es) = joined e (functions es)
 
-abbrev pub longest : List (List Equation) → ℕ
-longest [] = 0
-longest (es ∷ rest) = max (length es) (longest rest)
+abbrev pub longest_length : List (List Equation) → ℕ
+longest_length [] = 0
+longest_length (es ∷ rest) = max (length es) (longest_length rest)
 
 -- the largest number of equations of one function
 abbrev pub most_equations : Source → ℕ
-most_equations c = longest (functions c.equations)
+most_equations c = longest_length (functions c.equations)
 
 -- the equations up to the first one of names alone, behind which none is tried
 abbrev pub rows : List Equation → List Equation
@@ -77,9 +77,9 @@ abbrev pub beside : Test → Test → Bool
 beside (OneTest n h) (OneTest m g) = (n == m) && (same_kind h g && not (same_head h g))
 beside _ _ = false
 
-abbrev pub is_one : Test → Bool
-is_one (OneTest n h) = true
-is_one _ = false
+abbrev pub is_single_test : Test → Bool
+is_single_test (OneTest n h) = true
+is_single_test _ = false
 
 abbrev pub test_of : Equation → Test
 test_of e = test_from NoTest 0 e.pats
@@ -91,7 +91,7 @@ all_beside t (e ∷ es) = beside t (test_of e) && all_beside t es
 -- each equation has one test, all in one column, of one kind, and none stands twice
 abbrev pub is_simple : List Equation → Bool
 is_simple [] = true
-is_simple (e ∷ es) = is_one (test_of e) && (all_beside (test_of e) es && is_simple es)
+is_simple (e ∷ es) = is_single_test (test_of e) && (all_beside (test_of e) es && is_simple es)
 
 -- one equation of names alone
 abbrev pub is_plain : List Equation → Bool

@@ -36,20 +36,22 @@ spread_functions before new (e ∷ es) =
 
 -- the program in which each equation is a function of its own, with the names in its patterns as
 -- parameters
-abbrev pub spread : Source → Program
-spread c = record {
+abbrev pub equations_as_functions : Source → Program
+equations_as_functions c = record {
   names = c.names ++ map name_of_equation (range_with_len 0 (length c.equations));
   constructors = c.constructors;
   functions = spread_functions [] (length c.names) c.equations;
 }
 
 -- of the rules 11 to 34 all but 20 and 33
-abbrev pub is_rule : ℕ → Bool
-is_rule k = nat_le 11 k && nat_le k 34 && not (k == 20) && not (k == 33)
+abbrev pub is_kept_rule : ℕ → Bool
+is_kept_rule k = nat_le 11 k && nat_le k 34 && not (k == 20) && not (k == 33)
 
 pub record IsSound (c : Source) : Type 0 where
-  pub unbroken : (k at : ℕ) → is_rule k ≡ true → program.Broken (spread c) k at → ⊥
-  pub arguments : (t : Scope) (app inner : Application) → InFunction (spread c) t (AnApp app)
+  pub unbroken : (k at : ℕ) → is_kept_rule k ≡ true
+      → program.Broken (equations_as_functions c) k at → ⊥
+  pub arguments : (t : Scope) (app inner : Application)
+      → InFunction (equations_as_functions c) t (AnApp app)
       → Contains app inner → terms.count inner.args ≤ 12
   pub patterns : (e : Equation) → In e c.equations → count e.pats ≤ 12
   pub main : (e : Equation) → In e c.equations → text_in c.names e.name ≡ codes "main"

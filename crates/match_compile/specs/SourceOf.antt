@@ -23,8 +23,8 @@ abbrev pub equation_of : code-equation.Equation → Equation
 equation_of e =
     record { name = e.name.0; at = e.at; pats = pats_of (map pat_of e.pats); body = expr e.body }
 
-abbrev pub source_of : code-source.Source → Source
-source_of c = record {
+abbrev pub equation_source_of : code-source.Source → Source
+equation_source_of c = record {
   names = c.names;
   constructors = map data_of c.constructors;
   equations = map equation_of c.equations;

@@ -5,19 +5,20 @@ use Rattle.core_meaning.specs.Evaluation.{State, Answer, Gives, NoAlternative, O
 use Rattle.match_compile.specs.Form.{Equations}
 use Rattle.match_compile.specs.ByEquations.{within}
 
-abbrev pub state_of : Answer → State
-state_of (Gives v s) = s
-state_of (NoAlternative s) = s
-state_of (OutOfBound s) = s
+abbrev pub answer_state : Answer → State
+answer_state (Gives v s) = s
+answer_state (NoAlternative s) = s
+answer_state (OutOfBound s) = s
 
 -- each name of the first state is one of the second, and a value that it has there it has here
-abbrev pub Keeps : State → State → Type 0
-Keeps s t =
+abbrev pub KeepsKnownValues : State → State → Type 0
+KeepsKnownValues s t =
     (length s.heap ≤ length t.heap)
     × ((a : ℕ) (v : Value) → slice_get s.heap a ≡ Some (Known v)
     → slice_get t.heap a ≡ Some (Known v))
 
 -- The evaluation of equations takes no name from the heap and leaves each value as it was.
-abbrev pub KnownStays : Type 0
-KnownStays =
-    (q : Equations) (n : ℕ) (t : Delayed) (d : ℕ) (s : State) → Keeps s (state_of (within q n t d s))
+abbrev pub EvaluationKeepsValues : Type 0
+EvaluationKeepsValues =
+    (q : Equations) (n : ℕ) (t : Delayed) (d : ℕ) (s : State)
+    → KeepsKnownValues s (answer_state (within q n t d s))

@@ -19,7 +19,7 @@ use Rattle.match_compile.specs.Heads.{Head, Integer, Constructor}
 use Rattle.match_compile.specs.Trees.{Tree, Branches, NoBranch, AndBranch, Default, NoDefault, ATree, can_fail}
 use Rattle.match_compile.specs.Trees as tree
 use Rattle.match_compile.specs.Decisions.{Decision, decisions}
-use Rattle.match_compile.specs.Renamed.{name_for, renamed_expr}
+use Rattle.match_compile.specs.Renamed.{renamed_name, renamed_expr}
 
 -- ---- names that stay
 
@@ -121,8 +121,8 @@ pub record Words : Type 0 where
   pub equations : ℕ
   pub columns : ℕ
 
-abbrev pub words_of : Source → Words
-words_of c = record {
+abbrev pub name_supply_of : Source → Words
+name_supply_of c = record {
   names = c.names;
   equations = length c.equations;
   columns = most_params c.equations;
@@ -151,7 +151,7 @@ module _ (c : Words) where
   taken places [] = []
   taken places ((b, p) ∷ bs) =
       if keeps b.name.0 then taken places bs
-      else (b.name.0, name_for places p) ∷ taken places bs
+      else (b.name.0, renamed_name places p) ∷ taken places bs
 
   module _ (at params : ℕ) where
     abbrev pub binder : ℕ → Binder
@@ -167,7 +167,7 @@ module _ (c : Words) where
     with_fields t (p ∷ ps) places = with_fields t ps ((p, name_or (stays p t) p) ∷ places)
 
     abbrev pub binders : Scope → List ℕ → List Binder
-    binders places ps = map (λ p. binder (name_for places p)) ps
+    binders places ps = map (λ p. binder (renamed_name places p)) ps
 
     abbrev pub pattern_of : Head → List Binder → Pattern
     pattern_of (Integer k) fields = pattern.Int k at
@@ -182,7 +182,7 @@ module _ (c : Words) where
         pub expr_of : Scope → Tree → Expr
         expr_of places (tree.Body r) = renamed_expr (taken places r.bound) r.body
         expr_of places (tree.Case p bs o) =
-            Case (App (record { head = core.Name (name_for places p) at; args = NoTerms }))
+            Case (App (record { head = core.Name (renamed_name places p) at; args = NoTerms }))
             (alts_of places bs (default_of places o))
 
         pub alts_of : Scope → Branches → Alts → Alts
@@ -264,5 +264,5 @@ abbrev pub translated : Source → Program
 translated c = record {
   names = names c;
   constructors = c.constructors;
-  functions = firsts (words_of c) (decisions c) ++ others (words_of c) (decisions c);
+  functions = firsts (name_supply_of c) (decisions c) ++ others (name_supply_of c) (decisions c);
 }

@@ -5,15 +5,15 @@ use Rattle.core_reader.specs.Tree.{Program}
 use Rattle.core_reader.specs.Size.{program_size}
 use Rattle.arity_check.specs.Broken.{Broken}
 use Rattle.arity_check.specs.Program as normal
-use Rattle.arity_check.specs.Accepted.{IsUnbroken}
+use Rattle.arity_check.specs.Accepted.{BreaksNoRule}
 use Rattle.arity_check.specs.Normal.{IsNormalForm}
-use Rattle.core_meaning.specs.Told.{of_core}
+use Rattle.core_meaning.specs.Told.{core_program_meaning}
 use Rattle.match_compile.specs.Source.{Equation, Source}
 use Rattle.match_compile.specs.Sound.{IsSound}
 use Rattle.match_compile.specs.Sizes.{source_size, tests, most_equations, functions, is_simple, is_plain}
 use Rattle.match_compile.specs.Form.{Equations, IsFormOf}
-use Rattle.match_compile.specs.ByEquations.{of_equations}
-use Rattle.match_compile.specs.Within.{Within, InStep}
+use Rattle.match_compile.specs.ByEquations.{equations_meaning}
+use Rattle.match_compile.specs.Within.{Within, SameWithinSameUnits}
 use Rattle.match_compile.specs.OneFunction.{IsOneFunction}
 
 -- each function is simple, or one equation of names alone
@@ -28,9 +28,10 @@ AreSimple c =
 pub record Translates (c : Source) (program : Program) : Type 0 where
   pub rules : IsSound c → (k at : ℕ) → Broken program k at → k ≡ 35
   pub size : program_size program ≤ source_size c + 16 * tests c
-  pub means : (p : normal.Program) → IsUnbroken program → IsNormalForm program p
-      → (q : Equations) × IsFormOf c q × Within (most_equations c) (of_equations q) (of_core p)
-      × (AreSimple c → InStep (of_equations q) (of_core p))
+  pub means : (p : normal.Program) → BreaksNoRule program → IsNormalForm program p
+      → (q : Equations) × IsFormOf c q
+      × Within (most_equations c) (equations_meaning q) (core_program_meaning p)
+      × (AreSimple c → SameWithinSameUnits (equations_meaning q) (core_program_meaning p))
   pub one : (before after : List (List Equation)) (es : List Equation)
       → functions c.equations ≡ before ++ es ∷ after → (is_simple es || is_plain es) ≡ true
       → IsOneFunction c (length before) (sum_of (map length before)) es

@@ -8,11 +8,11 @@ use Rattle.match_compile.specs.declared.row.Test.{Test}
 use Rattle.match_compile.specs.declared.tree.Tree as code-tree
 use Rattle.match_compile.specs.declared.tree.Tree.TheOpen as layer
 use Rattle.match_compile.specs.declared.tree.Branch.{Branch, Branch-F, fold-Branch}
-use Rattle.match_compile.specs.declared.tree.Grown.{Grown}
+use Rattle.match_compile.specs.declared.tree.TreeAfterInsertion.{TreeAfterInsertion}
 use Rattle.match_compile.specs.declared.tree.Put.{Put}
 use Rattle.match_compile.specs.Heads.{Head, same_head}
 use Rattle.match_compile.specs.Trees.{Row, Tree, Body, Case, Branches, NoBranch, AndBranch, NoDefault, ATree, test_at, head_of, fits, insert_branch, alone_from, branches_fail}
-use Rattle.match_compile.specs.RowOf.{rows_of, opened_at}
+use Rattle.match_compile.specs.RowOf.{rows_of, row_with_field_places}
 
 -- a branch is put before others
 abbrev pub branches_from : List (Branches → Branches) → Branches
@@ -47,15 +47,15 @@ left_of None = None
 left_of (Some e) = Some (expr e)
 
 -- the body is left where a tree, or the branches of a test, stay as they were
-abbrev pub outcome : {X : Type 0} → X × ℕ → Expr → Option (X × ℕ) → (X × ℕ) × Option Expr
-outcome old body None = (old, Some body)
-outcome old body (Some new) = (new, None)
+abbrev pub insertion_result : {X : Type 0} → X × ℕ → Expr → Option (X × ℕ) → (X × ℕ) × Option Expr
+insertion_result old body None = (old, Some body)
+insertion_result old body (Some new) = (new, None)
 
-abbrev pub grown_of : Grown → (Tree × ℕ) × Option Expr
-grown_of g = ((tree_of g.tree, g.free), left_of g.left)
+abbrev pub tree_after_insertion : TreeAfterInsertion → (Tree × ℕ) × Option Expr
+tree_after_insertion g = ((tree_of g.tree, g.free), left_of g.left)
 
-abbrev pub put_of : Put → (Branches × ℕ) × Option Expr
-put_of p = ((branches_of p.branches, p.free), left_of p.left)
+abbrev pub branches_after_insertion : Put → (Branches × ℕ) × Option Expr
+branches_after_insertion p = ((branches_of p.branches, p.free), left_of p.left)
 
 abbrev pub if_fits : Bool → Option (Branches × ℕ) → Option (Branches × ℕ)
 if_fits b o = elim b [ true ↦ o | false ↦ None ]
@@ -77,11 +77,16 @@ joined (AndBranch h ps t bs) more = AndBranch h ps t (joined bs more)
 
 -- the tree of a row that goes behind its test
 abbrev pub behind : Test → ℕ → Row → Tree × ℕ
-behind t n r = alone_from (n + t.fields) (opened_at r (numbers_from n t.fields))
+behind t n r = alone_from (n + t.fields) (row_with_field_places r (numbers_from n t.fields))
 
 abbrev pub with_new : Test → Branches → ℕ → Row → (Branches × ℕ) × Option Expr
-with_new t bs n r =
-    ((joined bs (AndBranch t.head (numbers_from n t.fields) (behind t n r).0 NoBranch), (behind t n r).1), None)
+with_new t bs n r = (
+  (
+    joined bs (AndBranch t.head (numbers_from n t.fields) (behind t n r).0 NoBranch),
+    (behind t n r).1,
+  ),
+  None,
+)
 
 -- a test where the row went to a branch, or was left
 abbrev pub or_alone : ℕ → ℕ → Branches → ℕ → Row → Bool → (Tree × ℕ) × Option Expr
@@ -90,7 +95,8 @@ or_alone (suc room) p bs n r true = ((Case p bs NoDefault, n), Some r.body)
 or_alone (suc room) p bs n r false =
     ((Case p bs (ATree (alone_from n r).0), (alone_from n r).1), None)
 
-abbrev pub after_branches : ℕ → ℕ → (Branches × ℕ) × Option Expr → (Expr → Row) → (Tree × ℕ) × Option Expr
+abbrev pub after_branches : ℕ → ℕ → (Branches × ℕ) × Option Expr
+    → (Expr → Row) → (Tree × ℕ) × Option Expr
 after_branches room p ((bs, n), None) r = ((Case p bs NoDefault, n), None)
 after_branches room p ((bs, n), Some body) r = or_alone room p bs n (r body) (branches_fail bs)
 

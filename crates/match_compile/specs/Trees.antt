@@ -9,21 +9,21 @@ use Rattle.match_compile.specs.Heads.{Head, Integer, Constructor, same_head, sam
 
 -- a place is the number of a parameter or of a field; a job is a pattern that is still to be
 -- matched at one
-abbrev pub Job : Type 0
-Job = ℕ × Pat
+abbrev pub PendingPattern : Type 0
+PendingPattern = ℕ × Pat
 
 -- an equation by its body, the names that it has bound to places, and its jobs, of which the first
 -- is no name
 pub record Row : Type 0 where
   pub body : Expr
   pub bound : List (Binder × ℕ)
-  pub jobs : List Job
+  pub jobs : List PendingPattern
 
-abbrev pub row : Expr → List (Binder × ℕ) → List Job → Row
+abbrev pub row : Expr → List (Binder × ℕ) → List PendingPattern → Row
 row body bound jobs = record { body = body; bound = bound; jobs = jobs }
 
 -- names before the first test are bound
-abbrev pub settled : Expr → List (Binder × ℕ) → List Job → Row
+abbrev pub settled : Expr → List (Binder × ℕ) → List PendingPattern → Row
 settled body bound [] = row body bound []
 settled body bound ((p, Name b) ∷ js) = settled body (bound ++ (b, p) ∷ []) js
 settled body bound ((p, Int k at) ∷ js) = row body bound ((p, Int k at) ∷ js)
@@ -36,15 +36,15 @@ head_of (Int k at) = Some (Integer k)
 head_of (Con c ps) = Some (Constructor c.name.0)
 
 -- the first job is a test
-abbrev pub IsSettled : List Job → Type 0
-IsSettled [] = Unit {0}
-IsSettled (j ∷ js) = (h : Head) × (head_of j.1 ≡ Some h)
+abbrev pub BeginsWithTest : List PendingPattern → Type 0
+BeginsWithTest [] = Unit {0}
+BeginsWithTest (j ∷ js) = (h : Head) × (head_of j.1 ≡ Some h)
 
 -- patterns at places
-abbrev pub jobs_at : List ℕ → Pats → List Job
-jobs_at places NoPats = []
-jobs_at [] (AndPat pat ps) = []
-jobs_at (p ∷ places) (AndPat pat ps) = (p, pat) ∷ jobs_at places ps
+abbrev pub pending_patterns_at : List ℕ → Pats → List PendingPattern
+pending_patterns_at places NoPats = []
+pending_patterns_at [] (AndPat pat ps) = []
+pending_patterns_at (p ∷ places) (AndPat pat ps) = (p, pat) ∷ pending_patterns_at places ps
 
 -- a place for each of these patterns, from n on
 abbrev pub places_from : ℕ → Pats → List ℕ
@@ -99,17 +99,18 @@ has_head h NoBranch = false
 has_head h (AndBranch g ps t bs) = same_head g h || has_head h bs
 
 -- the first test of a row, where it is at a place
-abbrev pub test_at : ℕ → List Job → Option Pat
+abbrev pub test_at : ℕ → List PendingPattern → Option Pat
 test_at p [] = None
 test_at p (j ∷ js) = cond (j.0 == p) (Some j.1) None
 
-abbrev pub later : List Job → List Job
+abbrev pub later : List PendingPattern → List PendingPattern
 later [] = []
 later (j ∷ js) = js
 
 -- the row behind its first test, whose fields have these places
 abbrev pub opened : Row → Pat → List ℕ → Row
-opened r pat places = settled r.body r.bound (jobs_at places (fields_of pat) ++ later r.jobs)
+opened r pat places =
+    settled r.body r.bound (pending_patterns_at places (fields_of pat) ++ later r.jobs)
 
 -- ---- which trees stand for rows
 
@@ -122,14 +123,14 @@ accepts None h = false
 accepts (Some g) h = same_head g h
 
 -- the row where a value of this head stands at a place with these places for its fields
-abbrev pub special : Option Pat → Head → List ℕ → Row → List Row
-special None h places r = r ∷ []
-special (Some pat) h places r = special_by (accepts (head_of pat) h) (opened r pat places)
+abbrev pub specialised_row : Option Pat → Head → List ℕ → Row → List Row
+specialised_row None h places r = r ∷ []
+specialised_row (Some pat) h places r = special_by (accepts (head_of pat) h) (opened r pat places)
 
 abbrev pub specialised : ℕ → Head → List ℕ → List Row → List Row
 specialised p h places [] = []
 specialised p h places (r ∷ rs) =
-    special (test_at p r.jobs) h places r ++ specialised p h places rs
+    specialised_row (test_at p r.jobs) h places r ++ specialised p h places rs
 
 -- the row's first test is at the place, and a branch has its head
 pub record Goes (p : ℕ) (bs : Branches) (r : Row) : Type 0 where
@@ -140,12 +141,12 @@ pub record Goes (p : ℕ) (bs : Branches) (r : Row) : Type 0 where
   pub known : has_head head bs ≡ true
 
 -- these are left over for the default
-pub data Leaves (p : ℕ) (bs : Branches) : List Row → List Row → Type 0 where
-  NoneLeft : Leaves p bs [] []
-  Stays : {r : Row} {rs left : List Row} → Leaves p bs rs left
-      → Leaves p bs (r ∷ rs) (r ∷ left)
-  Leads : {r : Row} {rs left : List Row} → Goes p bs r → Leaves p bs rs left
-      → Leaves p bs (r ∷ rs) left
+pub data LeftForDefault (p : ℕ) (bs : Branches) : List Row → List Row → Type 0 where
+  NoneLeft : LeftForDefault p bs [] []
+  Stays : {r : Row} {rs left : List Row} → LeftForDefault p bs rs left
+      → LeftForDefault p bs (r ∷ rs) (r ∷ left)
+  Leads : {r : Row} {rs left : List Row} → Goes p bs r → LeftForDefault p bs rs left
+      → LeftForDefault p bs (r ∷ rs) left
 
 -- the first row begins at the place
 pub record Begins (p : ℕ) (r : Row) : Type 0 where
@@ -167,14 +168,15 @@ mutual
 
   -- without a default each row goes to a branch; with one no branch can fail
   pub data IsDefault : ℕ → Branches → List Row → Default → Type 0 where
-    AllGo : {p : ℕ} {bs : Branches} {rs : List Row} → Leaves p bs rs []
+    AllGo : {p : ℕ} {bs : Branches} {rs : List Row} → LeftForDefault p bs rs []
         → IsDefault p bs rs NoDefault
-    OthersStay : {p : ℕ} {bs : Branches} {rs left : List Row} {t : Tree} → Leaves p bs rs left
+    OthersStay : {p : ℕ} {bs : Branches} {rs left : List Row} {t : Tree}
+        → LeftForDefault p bs rs left
         → branches_fail bs ≡ false → IsTree left t → IsDefault p bs rs (ATree t)
 
 -- ---- a row goes into a tree
 
-abbrev pub tests_left : List Job → ℕ
+abbrev pub tests_left : List PendingPattern → ℕ
 tests_left [] = 0
 tests_left (j ∷ js) = tests_in j.1 + tests_left js
 
@@ -232,8 +234,8 @@ pred zero = zero
 pred (suc n) = n
 
 -- the most cases that stand one in the default of the other
-abbrev pub most_chained : ℕ
-most_chained = 8
+abbrev pub max_chained_cases : ℕ
+max_chained_cases = 8
 
 abbrev mutual
   -- the tree with a row behind those that it has, and the first place that is free then
@@ -254,6 +256,6 @@ abbrev mutual
       Some (new_branch h (places_from n (fields_of pat))
       (alone_from (n + count (fields_of pat)) (opened r pat (places_from n (fields_of pat)))))
   insert_branch pat h (AndBranch g ps t bs) n r = elim (same_head g h) [
-    | true ↦ in_branch g ps bs (insert most_chained t n (opened r pat ps))
+    | true ↦ in_branch g ps bs (insert max_chained_cases t n (opened r pat ps))
     | false ↦ in_later g ps t (insert_branch pat h bs n r)
   ]

@@ -5,11 +5,11 @@ ghost use Rattle.std.specs.Prelude.{◌≡◌, ◌++◌, All, IfOk, IfErr, OnOk,
 ghost use Rattle.core_reader.specs.Tree.{expr, function, program};
 ghost use Rattle.core_reader.specs.Readable.{IsReadable};
 ghost use Rattle.match_compile.specs.Source.{Source as ASource};
-ghost use Rattle.match_compile.specs.SourceOf.{equation_of, source_of};
-ghost use Rattle.match_compile.specs.Grammar.{IsText};
+ghost use Rattle.match_compile.specs.SourceOf.{equation_of, equation_source_of};
+ghost use Rattle.match_compile.specs.Grammar.{IsSourceText};
 ghost use Rattle.match_compile.specs.Rules.{IsUnbroken, IsCause};
-ghost use Rattle.match_compile.specs.NamesOf.{IsFree, AreFew};
-ghost use Rattle.match_compile.specs.ApartOf.{equation_at, equations_with};
+ghost use Rattle.match_compile.specs.NamesOf.{IsUnreservedName, NewNamesFit};
+ghost use Rattle.match_compile.specs.ApartOf.{equation_at, equations_with_bodies};
 ghost use Rattle.match_compile.specs.Translated as translated;
 ghost use Rattle.match_compile.specs.Translates.{Translates};
 ghost use Rattle.match_compile.specs.DecisionOf.{clause_of, left_clause, decision_of, decisions_of};
@@ -141,7 +141,7 @@ fn taken_apart(
     alloc: Global,
     equations: Seq<Equation>,
 ) -> Result<(Seq<Heading>, Seq<Expr>), AllocError>
-    ensures { IfOk result (λ made. equations_with made.0 (map expr made.1)
+    ensures { IfOk result (λ made. equations_with_bodies made.0 (map expr made.1)
         ≡ map equation_of equations) }
 {
     let mut headings = Seq::new(alloc);
@@ -181,7 +181,7 @@ fn clauses<'a>(
     bodies: Seq<Expr>,
 ) -> Result<Seq<Clause<'a>>, AllocError>
     ensures { IfOk result (λ made. map clause_of made
-        ≡ equations_with headings.now (map expr bodies)) }
+        ≡ equations_with_bodies headings.now (map expr bodies)) }
 {
     let mut made = Seq::new(alloc);
     let mut k = 0;
@@ -197,9 +197,9 @@ fn clauses<'a>(
 
 /// The program that equations are, of which no name begins with `match'`.
 fn translated(alloc: Global, source: Source) -> Result<Core, AllocError>
-    requires { All IsFree source.names }
-    ensures is { IfOk result (λ core. program core ≡ translated.translated (source_of source)) }
-    ensures few { IfOk result (λ _. AreFew (source_of source)) }
+    requires { All IsUnreservedName source.names }
+    ensures is { IfOk result (λ core. program core ≡ translated.translated (equation_source_of source)) }
+    ensures few { IfOk result (λ _. NewNamesFit (equation_source_of source)) }
 {
     let Source {
         names,
@@ -226,9 +226,9 @@ fn translated(alloc: Global, source: Source) -> Result<Core, AllocError>
 /// the rules 1 to 5, and where it breaks none of these, of the others by place, and at one place by
 /// number. Want of memory may come in place of each answer.
 pub fn compile_matches(alloc: Global, text: &[u8]) -> Result<Core, MatchRefusal>
-    ensures compiled { IfOk result (λ core. (c : ASource) × IsText text.now c
+    ensures compiled { IfOk result (λ core. (c : ASource) × IsSourceText text.now c
         × (program core ≡ translated.translated c)) }
-    ensures translates { IfOk result (λ core. (c : ASource) × IsText text.now c
+    ensures translates { IfOk result (λ core. (c : ASource) × IsSourceText text.now c
         × Translates c (program core)) }
     ensures readable { IfOk result (λ core. IsReadable (program core)) }
     ensures unbroken { OnOk result (IsUnbroken text.now) }

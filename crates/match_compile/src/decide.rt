@@ -6,16 +6,16 @@ ghost use Rattle.match_compile.specs.SourceOf.{pat_of, pats_of};
 ghost use Rattle.match_compile.specs.Parts.{tests_of, count};
 ghost use Rattle.match_compile.specs.Sizes.{joined, functions, rows};
 ghost use Rattle.match_compile.specs.Source.{Equation};
-ghost use Rattle.match_compile.specs.Trees.{jobs_at, places_from};
+ghost use Rattle.match_compile.specs.Trees.{pending_patterns_at, places_from};
 ghost use Rattle.match_compile.specs.Decisions as decisions;
-ghost use Rattle.match_compile.specs.RowOf.{rows_of, settling};
-ghost use Rattle.match_compile.specs.DecisionOf.{goes_before, clause_of, clauses_of, functions_of, decision_of, decisions_of, left_clause, with_body, came_of, taken_or_left};
+ghost use Rattle.match_compile.specs.RowOf.{rows_of, names_bound_row};
+ghost use Rattle.match_compile.specs.DecisionOf.{goes_before, clause_of, clauses_of, functions_of, decision_of, decisions_of, left_clause, with_body, insertion_outcome, decision_or_left};
 ghost use Rattle.match_compile.specs.TreeOf.{left_of};
 
-use crate::row::{Way, begun, numbers_from};
+use crate::row::{Pending, begun, numbers_from};
 use crate::source::Pat;
 use crate::tree::{MOST_CHAINED, Tree, alone, insert};
-use crate::words::sum;
+use crate::words::checked_sum;
 use core_reader::{Expr, NameId};
 use seq::Seq;
 use std::alloc::{AllocError, Global};
@@ -46,7 +46,7 @@ pub struct Decision<'a> {
 
 /// A tree after an equation came to it, which is left where the tree does not take it.
 #[derive(Drop)]
-struct Came<'a> {
+struct InsertionOutcome<'a> {
     decision: Decision<'a>,
     left: Option<Clause<'a>>,
 }
@@ -65,9 +65,9 @@ fn are_names(pats: &[Pat]) -> bool
 }
 
 /// The way of an equation with these patterns, and their number.
-fn way<'a>(alloc: Global, pats: &'a [Pat]) -> Result<(Way<'a>, u32), AllocError>
-    ensures way { IfOk result (λ made. rows_of made.0 ≡ settling []
-        (jobs_at (places_from 0 (pats_of (map pat_of pats.now))) (pats_of (map pat_of pats.now)))) }
+fn way<'a>(alloc: Global, pats: &'a [Pat]) -> Result<(Pending<'a>, u32), AllocError>
+    ensures way { IfOk result (λ made. rows_of made.0 ≡ names_bound_row []
+        (pending_patterns_at (places_from 0 (pats_of (map pat_of pats.now))) (pats_of (map pat_of pats.now)))) }
     ensures count { IfOk result (λ made. made.1 ≡ count (pats_of (map pat_of pats.now))) }
 {
     let (places, params) = numbers_from(alloc, 0, pats.len())?;
@@ -118,9 +118,9 @@ fn grow<'a>(
     alloc: Global,
     decision: Decision<'a>,
     clause: Clause<'a>,
-) -> Result<Came<'a>, AllocError>
-    ensures { IfOk result (λ came. came_of came
-        ≡ taken_or_left (decision_of decision.entry) (clause_of clause.entry)) }
+) -> Result<InsertionOutcome<'a>, AllocError>
+    ensures { IfOk result (λ came. insertion_outcome came
+        ≡ decision_or_left (decision_of decision.entry) (clause_of clause.entry)) }
 {
     let Decision {
         name,
@@ -149,7 +149,7 @@ fn grow<'a>(
         free: grown.free,
     };
     let left = left_over(clause.name, clause.at, clause.pats, grown.left);
-    Ok(Came { decision, left })
+    Ok(InsertionOutcome { decision, left })
 }
 
 /// The trees of a function, whose first equation has this number and stands last.
@@ -173,7 +173,7 @@ fn function_trees<'a>(
         let Some(clause) = function.pop() else {
             break;
         };
-        number = sum(number, 1)?;
+        number = checked_sum(number, 1)?;
         is_last = are_names(clause.pats);
         let came = grow(alloc, decision, clause)?;
         decision = came.decision;
@@ -186,7 +186,8 @@ fn function_trees<'a>(
     Ok(made)
 }
 
-/// Whether an equation of this name goes before those of a function, of which the first stands last.
+/// Whether an equation of this name goes before those of a function, of which the first stands
+/// last.
 fn goes_before(function: &[Clause], name: NameId) -> bool
     ensures { result ≡ goes_before (clauses_of function.now) name.0 }
 {
@@ -249,7 +250,7 @@ pub fn decide<'a>(
     'functions: while let Some(function) = functions.pop() {
         let count = u32::try_from(function.len()).map_err(|_| AllocError)?;
         made.push(function_trees(alloc, number, function)?)?;
-        number = sum(number, count)?;
+        number = checked_sum(number, count)?;
     }
     Ok(made)
 }

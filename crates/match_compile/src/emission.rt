@@ -7,11 +7,11 @@ ghost use Rattle.match_compile.specs.Trees.{NoBranch};
 ghost use Rattle.match_compile.specs.Translated as translated;
 ghost use Rattle.match_compile.specs.TreeOf.{tree_of, branch_of, branches_of};
 ghost use Rattle.match_compile.specs.DecisionOf.{decision_of};
-ghost use Rattle.match_compile.specs.EmissionOf.{put_before, alternatives, rest_of, number_of, places_of, named, alone, called_by, taken_one};
+ghost use Rattle.match_compile.specs.EmissionOf.{put_before, alternatives, alternatives_of_rest, number_of, places_of, named, alone, called_by, taken_one};
 
 use crate::decide::Decision;
 use crate::head::Head;
-use crate::rename::{name_for, renamed};
+use crate::rename::{renamed, renamed_name};
 use crate::row::numbers_from;
 use crate::stays::stays;
 use crate::tree::{Branch, Tree, can_fail};
@@ -52,7 +52,7 @@ fn take(
     if words.keeps(name.0) {
         return Ok(());
     }
-    scope.bind(name.0, name_for(places, NameId(place)).0)
+    scope.bind(name.0, renamed_name(places, NameId(place)).0)
 }
 
 /// What the names in the patterns of an equation have become, where the places have these names.
@@ -112,7 +112,7 @@ impl<'a> Writer<'a> {
     {
         let mut made = Seq::new(self.alloc);
         for field in fields {
-            made.push(self.binder(name_for(places, NameId(*field))))?;
+            made.push(self.binder(renamed_name(places, NameId(*field))))?;
         }
         Ok(made)
     }
@@ -163,7 +163,7 @@ impl<'a> Writer<'a> {
     /// The alternatives for values that no equation of the tree accepts.
     fn call(&self, onward: &Onward) -> Result<Seq<Alt>, AllocError>
         ensures { IfOk result (λ made. alternatives made
-            ≡ rest_of self.now.words.now self.now.at onward.now) }
+            ≡ alternatives_of_rest self.now.words.now self.now.at onward.now) }
     {
         match onward.function {
             None => Ok(Seq::new(self.alloc)),
@@ -182,7 +182,7 @@ impl<'a> Writer<'a> {
     fn expr(&self, onward: &Onward, places: &mut Scope, tree: Tree) -> Result<Expr, AllocError>
         ensures places { IfOk result (λ _. places.new ≡ places.old) }
         ensures made { IfOk result (λ made. expr made ≡ translated.expr_of self.now.words.now
-            self.now.at self.now.params (rest_of self.now.words.now self.now.at onward.now)
+            self.now.at self.now.params (alternatives_of_rest self.now.words.now self.now.at onward.now)
             places.old (tree_of tree.entry)) }
     {
         match tree {
@@ -192,13 +192,13 @@ impl<'a> Writer<'a> {
                 Ok(body)
             }
             Tree::Tests(place, branches) => {
-                let tested = self.alone(name_for(places, NameId(place)));
+                let tested = self.alone(renamed_name(places, NameId(place)));
                 let mut alts = self.alts(onward, places, branches)?;
                 alts.append(self.call(onward)?)?;
                 Ok(Expr::Case(Box::new(self.alloc, tested)?, alts))
             }
             Tree::Otherwise(place, branches, other) => {
-                let tested = self.alone(name_for(places, NameId(place)));
+                let tested = self.alone(renamed_name(places, NameId(place)));
                 let mut alts = self.alts(onward, places, branches)?;
                 let other = self.expr(onward, places, Box::into_inner(other))?;
                 alts.push(self.otherwise(other))?;
@@ -218,7 +218,7 @@ impl<'a> Writer<'a> {
         ensures places { IfOk result (λ _. places.new ≡ places.old) }
         ensures made { IfOk result (λ made. (others : Alts) → put_before (map alternative made) others
             ≡ translated.alts_of self.now.words.now self.now.at self.now.params
-            (rest_of self.now.words.now self.now.at onward.now) places.old (branches_of branches.entry)
+            (alternatives_of_rest self.now.words.now self.now.at onward.now) places.old (branches_of branches.entry)
             others) }
     {
         let mut made = Seq::new(self.alloc);
@@ -234,7 +234,7 @@ impl<'a> Writer<'a> {
         ensures places { IfOk result (λ _. places.new ≡ places.old) }
         ensures made { IfOk result (λ made. (others : Alts) → alternative made others
             ≡ translated.alts_of self.now.words.now self.now.at self.now.params
-            (rest_of self.now.words.now self.now.at onward.now) places.old
+            (alternatives_of_rest self.now.words.now self.now.at onward.now) places.old
             (branch_of branch.entry NoBranch) others) }
     {
         let Branch {

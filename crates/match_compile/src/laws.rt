@@ -1,18 +1,18 @@
 //! What the definitions of equations, their rules and their trees say by themselves.
 
-ghost use Rattle.match_compile.specs.Laws.{OneSource, OneFirst, ReadIsReadable, RowsGoIn, OneRow, TreesStand, IsSmall, BreaksOnlySize, SimpleStaysOne, ServedWithin, ServedInStep, MeansItsEquations};
-ghost use Rattle.match_compile.specs.Stays.{KnownStays};
-ghost use Rattle.match_compile.specs.Jobs.{Specialises};
+ghost use Rattle.match_compile.specs.Laws.{SourceIsUnique, FirstFaultIsUnique, ReadIsReadable, InsertionKeepsTree, SingleRowIsTree, TreesCoverEquations, SizeIsBounded, BreaksOnlySize, SimpleStaysOneFunction, ServedWithin, ServedInStep, TranslationKeepsMeaning};
+ghost use Rattle.match_compile.specs.Stays.{EvaluationKeepsValues};
+ghost use Rattle.match_compile.specs.Jobs.{KnownValueSpecialises};
 ghost use Rattle.match_compile.specs.Examples.{Examples};
 
 /// A text stands for the equations of one source at most.
-pub fn one_source()
-    ensures { OneSource }
+pub fn source_is_unique()
+    ensures { SourceIsUnique }
 {}
 
 /// At most one rule is the first that a text breaks, at one place.
-pub fn one_first()
-    ensures { OneFirst }
+pub fn first_fault_is_unique()
+    ensures { FirstFaultIsUnique }
 {}
 
 /// The equations of a text that breaks none of the rules 1 to 5 are readable.
@@ -21,28 +21,28 @@ pub fn read_is_readable()
 {}
 
 /// A row that goes into a tree for others makes it a tree for all of them, in their order.
-pub fn rows_go_in()
-    ensures { RowsGoIn }
+pub fn insertion_keeps_tree()
+    ensures { InsertionKeepsTree }
 {}
 
 /// A row by itself is a tree.
-pub fn one_row()
-    ensures { OneRow }
+pub fn single_row_is_tree()
+    ensures { SingleRowIsTree }
 {}
 
 /// The trees of a function stand for its equations, each for some of them, in their order.
-pub fn trees_stand()
-    ensures { TreesStand }
+pub fn trees_cover_equations()
+    ensures { TreesCoverEquations }
 {}
 
 /// The evaluation of equations takes no name from the heap and leaves each value as it was.
-pub fn known_stays()
-    ensures { KnownStays }
+pub fn evaluation_keeps_values()
+    ensures { EvaluationKeepsValues }
 {}
 
 /// The program that equations become is no larger than they are, with 16 for each test.
-pub fn is_small()
-    ensures { IsSmall }
+pub fn size_is_bounded()
+    ensures { SizeIsBounded }
 {}
 
 /// Equations that break no rule, of which each as a function of its own is in a program that breaks
@@ -52,13 +52,13 @@ pub fn breaks_only_size()
 {}
 
 /// A function that is simple, or one equation of names alone, becomes one function.
-pub fn simple_stays_one()
-    ensures { SimpleStaysOne }
+pub fn simple_stays_one_function()
+    ensures { SimpleStaysOneFunction }
 {}
 
 /// A value that is known decides the tests of its name that come first, whatever was tried before.
-pub fn specialises()
-    ensures { Specialises }
+pub fn known_value_specialises()
+    ensures { KnownValueSpecialises }
 {}
 
 /// A program whose functions serve equations puts out what they do, and needs no more units for one
@@ -72,10 +72,10 @@ pub fn served_in_step()
     ensures { ServedInStep }
 {}
 
-/// Where equations that have a meaning become a program that breaks no rule, they have a normal form,
-/// and the program puts out what they do.
-pub fn means_its_equations()
-    ensures { MeansItsEquations }
+/// Where equations that have a meaning become a program that breaks no rule, they have a normal
+/// form, and the program puts out what they do.
+pub fn translation_keeps_meaning()
+    ensures { TranslationKeepsMeaning }
 {}
 
 /// What small texts of equations become and put out, computed from the definitions.

@@ -7,10 +7,8 @@ ghost use Rattle.match_compile.specs.Reading.{ReadsPat, ReadsPats};
 
 use crate::source::Pat;
 use core_reader::{Binder, Parser, ReadRefusal, Token};
+use limits::MOST_OPEN;
 use seq::Seq;
-
-/// The most brackets that are open at one place.
-const MOST_OPEN: u32 = 200;
 
 /// Whether a pattern begins with the token.
 fn starts_pattern(token: Token) -> bool

@@ -3,22 +3,20 @@
 ghost use Rattle.std.specs.Prelude.{◌≡◌, ◌<◌, length, OnOk, IfOk, IfErr};
 ghost use Rattle.core_reader.specs.Machine.{front};
 ghost use Rattle.core_reader.specs.declared.token.Token.TheVariants as word;
-ghost use Rattle.match_compile.specs.Grammar.{IsText, IsRead, IsReadCause};
+ghost use Rattle.match_compile.specs.Grammar.{IsSourceText, BreaksNoReadingRule, IsReadCause};
 ghost use Rattle.match_compile.specs.Rules.{IsUnbroken, IsCause};
-ghost use Rattle.match_compile.specs.Faults.{IsMet};
-ghost use Rattle.match_compile.specs.SourceOf.{source_of};
+ghost use Rattle.match_compile.specs.Faults.{IsFirstReserved};
+ghost use Rattle.match_compile.specs.SourceOf.{equation_source_of};
 ghost use Rattle.match_compile.specs.Reading.{ReadsCount, ReadsDecl, ReadsSource, data_decl, equation_decl};
 
 use crate::patterns::patterns;
-use crate::refusal::{MatchRefusal, unread};
+use crate::refusal::{MatchRefusal, refusal_of_reading};
 use crate::rules::{first_fault, reserved};
 use crate::source::{Equation, Source};
 use core_reader::{Data, Dialect, NameId, Parser, ReadRefusal, Token, copied_names, lex};
+use limits::MOST_BYTES;
 use seq::Seq;
 use std::alloc::Global;
-
-/// The most bytes of a text.
-const MOST_BYTES: usize = 1048576;
 
 /// The declarations of a text, each kind in text order.
 #[derive(Drop)]
@@ -35,15 +33,15 @@ struct Found {
 }
 
 /// The equations that a text stands for, or the first rule that it breaks: of the rules 1 to 5, and
-/// where it breaks none of these, of the others by place, and at one place by number. Want of memory
-/// may come in place of each answer.
+/// where it breaks none of these, of the others by place, and at one place by number. Want of
+/// memory may come in place of each answer.
 pub fn read_equations(alloc: Global, text: &[u8]) -> Result<Source, MatchRefusal>
-    ensures found { IfOk result (λ c. IsText text.now (source_of c)) }
+    ensures found { IfOk result (λ c. IsSourceText text.now (equation_source_of c)) }
     ensures unbroken { OnOk result (IsUnbroken text.now) }
     ensures refused { IfErr result (IsCause text.now) }
 {
     match read(alloc, text) {
-        Err(refusal) => Err(unread(refusal)),
+        Err(refusal) => Err(refusal_of_reading(refusal)),
         Ok(found) => {
             let first = first_fault(alloc, &found.source, found.reserved)?;
             match first {
@@ -56,12 +54,12 @@ pub fn read_equations(alloc: Global, text: &[u8]) -> Result<Source, MatchRefusal
 
 /// The equations that a text stands for, or the first of the rules 1 to 5 that it breaks.
 fn read(alloc: Global, text: &[u8]) -> Result<Found, ReadRefusal>
-    ensures found { IfOk result (λ f. IsText text.now (source_of f.source)) }
-    ensures reserved { IfOk result (λ f. IsMet text.now f.reserved) }
-    ensures unbroken { OnOk result (IsRead text.now) }
+    ensures found { IfOk result (λ f. IsSourceText text.now (equation_source_of f.source)) }
+    ensures reserved { IfOk result (λ f. IsFirstReserved text.now f.reserved) }
+    ensures unbroken { OnOk result (BreaksNoReadingRule text.now) }
     ensures refused { IfErr result (IsReadCause text.now) }
 {
-    if text.len() > MOST_BYTES {
+    if text.len() > MOST_BYTES as usize {
         return Err(ReadRefusal::TextTooLong);
     }
     let lexed = lex(alloc, Dialect::Core, text)?;

@@ -2,9 +2,10 @@
 
 ghost use Rattle.std.specs.Prelude.{◌≡◌, alloc_error};
 ghost use Rattle.match_compile.specs.declared.refusal.MatchRefusal.TheVariants.{Memory};
-ghost use Rattle.match_compile.specs.Refusal.{rule, place, unread};
+ghost use Rattle.match_compile.specs.Refusal.{rule, place, refusal_of_reading};
 
 use core_reader::ReadRefusal;
+use limits::MOST_BYTES;
 use std::alloc::AllocError;
 use thiserror::Error;
 
@@ -93,15 +94,15 @@ impl MatchRefusal {
             | MatchRefusal::ArityDiffers(at)
             | MatchRefusal::PatternArity(at)
             | MatchRefusal::ReservedMatch(at) => *at,
-            MatchRefusal::TextTooLong => 1048576,
+            MatchRefusal::TextTooLong => MOST_BYTES,
             MatchRefusal::Memory(_) => 0,
         }
     }
 }
 
 /// The refusal of a text that cannot be read.
-pub(crate) fn unread(refusal: ReadRefusal) -> MatchRefusal
-    ensures { result ≡ unread refusal }
+pub(crate) fn refusal_of_reading(refusal: ReadRefusal) -> MatchRefusal
+    ensures { result ≡ refusal_of_reading refusal }
 {
     match refusal {
         ReadRefusal::BadByte(at) => MatchRefusal::BadByte(at),

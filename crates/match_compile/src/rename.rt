@@ -5,7 +5,7 @@ ghost use Rattle.std.specs.Prelude.{◌≡◌, [], ◌∷◌, IfOk, map};
 ghost use Rattle.core_reader.specs.Grammar.{name_id};
 ghost use Rattle.core_reader.specs.Tree.{Alts, term, application, bind, expr as expr_of, alternative};
 ghost use Rattle.arity_check.specs.Pieces.{binders_of, bound_by};
-ghost use Rattle.match_compile.specs.Renamed.{name_for, hidden, renamed_term, renamed_app, renamed_bind, renamed_expr, renamed_alts};
+ghost use Rattle.match_compile.specs.Renamed.{renamed_name, shadowing, renamed_term, renamed_app, renamed_bind, renamed_expr, renamed_alts};
 
 use arity_check::scope::Scope;
 use core_reader::{Alt, App, Atom, Bind, Binder, Expr, NameId, Pattern};
@@ -13,8 +13,8 @@ use seq::Seq;
 use std::alloc::{AllocError, Global};
 
 /// The name that stands for a name.
-pub fn name_for(scope: &Scope, name: NameId) -> NameId
-    ensures { result ≡ name_id (name_for scope.now name.0) }
+pub fn renamed_name(scope: &Scope, name: NameId) -> NameId
+    ensures { result ≡ name_id (renamed_name scope.now name.0) }
 {
     match scope.find(name.0) {
         Some(other) => NameId(other),
@@ -32,7 +32,7 @@ fn hide(scope: &mut Scope, binder: &Binder) -> Result<(), AllocError>
 
 /// Names that are bound stand for themselves.
 fn hide_all(scope: &mut Scope, binders: &[Binder]) -> Result<(), AllocError>
-    ensures { IfOk result (λ _. scope.new ≡ hidden binders.now scope.old) }
+    ensures { IfOk result (λ _. scope.new ≡ shadowing binders.now scope.old) }
 {
     for binder in binders {
         hide(scope, binder)?;
@@ -43,7 +43,7 @@ fn hide_all(scope: &mut Scope, binders: &[Binder]) -> Result<(), AllocError>
 /// The names of a let group stand for themselves.
 fn hide_group(scope: &mut Scope, group: &[Bind]) -> Result<(), AllocError>
     ensures { IfOk result (λ _. scope.new
-        ≡ hidden (binders_of (map bind group.now)) scope.old) }
+        ≡ shadowing (binders_of (map bind group.now)) scope.old) }
 {
     for member in group {
         hide(scope, &member.binder)?;
@@ -53,7 +53,7 @@ fn hide_group(scope: &mut Scope, group: &[Bind]) -> Result<(), AllocError>
 
 /// What a pattern binds stands for itself.
 fn hide_bound(scope: &mut Scope, pattern: &Pattern) -> Result<(), AllocError>
-    ensures { IfOk result (λ _. scope.new ≡ hidden (bound_by pattern.now) scope.old) }
+    ensures { IfOk result (λ _. scope.new ≡ shadowing (bound_by pattern.now) scope.old) }
 {
     match pattern {
         Pattern::Con(_, fields) => hide_all(scope, fields.as_slice()),
@@ -68,7 +68,7 @@ fn renamed_atom(alloc: Global, scope: &Scope, atom: Atom) -> Result<Atom, AllocE
     ensures { IfOk result (λ made. term made ≡ renamed_term scope.now (term atom)) }
 {
     match atom {
-        Atom::Name(name, at) => Ok(Atom::Name(name_for(scope, name), at)),
+        Atom::Name(name, at) => Ok(Atom::Name(renamed_name(scope, name), at)),
         Atom::Con(name, at) => Ok(Atom::Con(name, at)),
         Atom::Int(k, at) => Ok(Atom::Int(k, at)),
         Atom::Bracket(app, at) => {

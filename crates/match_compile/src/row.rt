@@ -4,8 +4,8 @@
 ghost use Rattle.std.specs.Prelude.{◌≡◌, ◌+◌, ◌++◌, [], IfOk, map, length};
 ghost use Rattle.seq.specs.Lists.{numbers_from};
 ghost use Rattle.match_compile.specs.SourceOf.{pat_of, pats_of};
-ghost use Rattle.match_compile.specs.Trees.{jobs_at, fields_of};
-ghost use Rattle.match_compile.specs.RowOf.{pending, rows_of, settling, opening, first_of, test_of, name_of};
+ghost use Rattle.match_compile.specs.Trees.{pending_patterns_at, fields_of};
+ghost use Rattle.match_compile.specs.RowOf.{pending, rows_of, names_bound_row, opening, first_of, test_of, name_of};
 
 use crate::head::Head;
 use crate::source::Pat;
@@ -16,7 +16,7 @@ use std::alloc::{AllocError, Global};
 /// What is known of an equation on its way, its body aside: the names that it has bound to places,
 /// and the patterns that are still to be matched, each at its place, the first one last.
 #[derive(Drop)]
-pub struct Way<'a> {
+pub struct Pending<'a> {
     pub bound: Seq<(Binder, u32)>,
     pub jobs: Seq<(u32, &'a Pat)>,
 }
@@ -36,7 +36,7 @@ fn put<'a>(
     pats: &'a [Pat],
 ) -> Result<(), AllocError>
     ensures { IfOk result (λ _. pending jobs.new
-        ≡ jobs_at places.now (pats_of (map pat_of pats.now)) ++ pending jobs.old) }
+        ≡ pending_patterns_at places.now (pats_of (map pat_of pats.now)) ++ pending jobs.old) }
 {
     let mut at = pats.len();
     'pats: while at > 0 {
@@ -55,7 +55,7 @@ fn put_fields<'a>(
     pat: &'a Pat,
 ) -> Result<(), AllocError>
     ensures { IfOk result (λ _. pending jobs.new
-        ≡ jobs_at places.now (fields_of (pat_of pat.now)) ++ pending jobs.old) }
+        ≡ pending_patterns_at places.now (fields_of (pat_of pat.now)) ++ pending jobs.old) }
 {
     match pat {
         Pat::Name(_) | Pat::Int(_, _) => Ok(()),
@@ -64,19 +64,22 @@ fn put_fields<'a>(
 }
 
 /// Names before the first test are bound.
-fn settle<'a>(bound: Seq<(Binder, u32)>, jobs: Seq<(u32, &'a Pat)>) -> Result<Way<'a>, AllocError>
-    ensures { IfOk result (λ made. rows_of made ≡ settling bound (pending jobs.entry)) }
+fn settle<'a>(
+    bound: Seq<(Binder, u32)>,
+    jobs: Seq<(u32, &'a Pat)>,
+) -> Result<Pending<'a>, AllocError>
+    ensures { IfOk result (λ made. rows_of made ≡ names_bound_row bound (pending jobs.entry)) }
 {
     let mut bound = bound;
     let mut jobs = jobs;
     'names: loop {
         match jobs.pop() {
-            None => return Ok(Way { bound, jobs }),
+            None => return Ok(Pending { bound, jobs }),
             Some((place, pat)) => match name_of(pat) {
                 Some(binder) => bound.push((binder, place))?,
                 None => {
                     jobs.push((place, pat))?;
-                    return Ok(Way { bound, jobs });
+                    return Ok(Pending { bound, jobs });
                 }
             },
         }
@@ -112,16 +115,16 @@ pub fn numbers_from(alloc: Global, first: u32, count: usize) -> Result<(Seq<u32>
 }
 
 /// An equation with these patterns, whose parameters have these places.
-pub fn begun<'a>(alloc: Global, places: &[u32], pats: &'a [Pat]) -> Result<Way<'a>, AllocError>
+pub fn begun<'a>(alloc: Global, places: &[u32], pats: &'a [Pat]) -> Result<Pending<'a>, AllocError>
     ensures { IfOk result (λ made. rows_of made
-        ≡ settling [] (jobs_at places.now (pats_of (map pat_of pats.now)))) }
+        ≡ names_bound_row [] (pending_patterns_at places.now (pats_of (map pat_of pats.now)))) }
 {
     let mut jobs = Seq::new(alloc);
     put(&mut jobs, places, pats)?;
     settle(Seq::new(alloc), jobs)
 }
 
-impl<'a> Way<'a> {
+impl<'a> Pending<'a> {
     /// The test that comes next, if there is one.
     pub fn first(&self) -> Option<Test>
         ensures { result ≡ first_of (pending self.now.jobs) }
@@ -133,13 +136,13 @@ impl<'a> Way<'a> {
     }
 
     /// The way behind its first pattern, where the fields have these places.
-    pub fn opened(&self, alloc: Global, places: &[u32]) -> Result<Way<'a>, AllocError>
+    pub fn opened(&self, alloc: Global, places: &[u32]) -> Result<Pending<'a>, AllocError>
         ensures { IfOk result (λ made. rows_of made ≡ opening self.now places.now) }
     {
         let bound = self.bound.copied(alloc)?;
         let mut jobs = self.jobs.copied(alloc)?;
         match jobs.pop() {
-            None => Ok(Way { bound, jobs }),
+            None => Ok(Pending { bound, jobs }),
             Some((_, pat)) => {
                 put_fields(&mut jobs, places, pat)?;
                 settle(bound, jobs)
@@ -148,10 +151,10 @@ impl<'a> Way<'a> {
     }
 
     /// The same way.
-    pub fn copied(&self, alloc: Global) -> Result<Way<'a>, AllocError>
+    pub fn copied(&self, alloc: Global) -> Result<Pending<'a>, AllocError>
         ensures { IfOk result (λ made. made ≡ self.now) }
     {
-        Ok(Way {
+        Ok(Pending {
             bound: self.bound.copied(alloc)?,
             jobs: self.jobs.copied(alloc)?,
         })

@@ -6,10 +6,10 @@ ghost use Rattle.std.specs.BTreeMap.{get};
 ghost use Rattle.std.specs.BTreeSet.{contains};
 ghost use Rattle.core_reader.specs.LexedOf.{texts_of};
 ghost use Rattle.core_reader.specs.Tree.{data_of};
-ghost use Rattle.match_compile.specs.SourceOf.{equation_of, source_of};
+ghost use Rattle.match_compile.specs.SourceOf.{equation_of, equation_source_of};
 ghost use Rattle.match_compile.specs.Rules.{fields_in};
-ghost use Rattle.match_compile.specs.Refusal.{precedes, earlier, least, noted};
-ghost use Rattle.match_compile.specs.Faults.{is_last, with_equation, order_faults, orders_faults, also, is_nameless, name_faults, names_faults, constructor_faults, constructors_faults, patterns_faults, is_reserved_token, reserved_faults, faults};
+ghost use Rattle.match_compile.specs.Refusal.{precedes, earlier_refusal, least_refusal, refusal_if};
+ghost use Rattle.match_compile.specs.Faults.{is_last, with_equation, order_faults, orders_faults, with_member, is_nameless, name_faults, names_faults, constructor_faults, constructors_faults, patterns_faults, is_reserved_token, reserved_faults, faults};
 
 use crate::parts::{constructors_of, names_of};
 use crate::refusal::MatchRefusal;
@@ -28,9 +28,9 @@ fn precedes(refusal: MatchRefusal, other: MatchRefusal) -> bool
 }
 
 /// The first refusal that was met, with one more.
-#[tactic(auto, unfolding(crate::specs::Refusal::earlier))]
-fn earlier(first: Option<MatchRefusal>, refusal: MatchRefusal) -> Option<MatchRefusal>
-    ensures { result ≡ earlier first refusal }
+#[tactic(auto, unfolding(crate::specs::Refusal::earlier_refusal))]
+fn earlier_refusal(first: Option<MatchRefusal>, refusal: MatchRefusal) -> Option<MatchRefusal>
+    ensures { result ≡ earlier_refusal first refusal }
 {
     match first {
         None => Some(refusal),
@@ -45,15 +45,15 @@ fn earlier(first: Option<MatchRefusal>, refusal: MatchRefusal) -> Option<MatchRe
 }
 
 /// The first refusal that was met, with one more where a rule is broken.
-fn noted(
+fn refusal_if(
     first: Option<MatchRefusal>,
     is_broken: bool,
     refusal: MatchRefusal,
 ) -> Option<MatchRefusal>
-    ensures { result ≡ least first (noted is_broken refusal) }
+    ensures { result ≡ least_refusal first (refusal_if is_broken refusal) }
 {
     if is_broken {
-        earlier(first, refusal)
+        earlier_refusal(first, refusal)
     } else {
         first
     }
@@ -77,13 +77,13 @@ fn order(
     at: u32,
     first: Option<MatchRefusal>,
 ) -> Option<MatchRefusal>
-    ensures { result ≡ least first (order_faults arity is_next count at) }
+    ensures { result ≡ least_refusal first (order_faults arity is_next count at) }
 {
     match arity {
         None => first,
         Some(arity) => {
-            let first = noted(first, !is_next, MatchRefusal::DuplicateFunction(at));
-            noted(first, arity != count, MatchRefusal::ArityDiffers(at))
+            let first = refusal_if(first, !is_next, MatchRefusal::DuplicateFunction(at));
+            refusal_if(first, arity != count, MatchRefusal::ArityDiffers(at))
         }
     }
 }
@@ -122,7 +122,7 @@ fn orders(
     first: Option<MatchRefusal>,
 ) -> Result<Option<MatchRefusal>, AllocError>
     ensures { IfOk result (λ next. next
-        ≡ least first (orders_faults (λ x. None) None (map equation_of equations.now))) }
+        ≡ least_refusal first (orders_faults (λ x. None) None (map equation_of equations.now))) }
 {
     let mut arities = BTreeMap::new(alloc);
     let mut last = None;
@@ -151,7 +151,7 @@ fn is_nameless(names: &[Seq<u8>], name: NameId) -> bool
 fn see(seen: &mut BTreeSet<u32>, name: u32) -> Result<bool, AllocError>
     ensures before { IfOk result (λ again. again ≡ contains nat_cmp seen.old name) }
     ensures seen { IfOk result (λ _. contains nat_cmp seen.new
-        ≡ also name (contains nat_cmp seen.old)) }
+        ≡ with_member name (contains nat_cmp seen.old)) }
 {
     let is_new = seen.insert(name)?;
     Ok(!is_new)
@@ -172,13 +172,13 @@ fn name(
     first: Option<MatchRefusal>,
 ) -> Result<Option<MatchRefusal>, AllocError>
     ensures seen { IfOk result (λ _. contains nat_cmp seen.new
-        ≡ also binder.now.name.0 (contains nat_cmp seen.old)) }
+        ≡ with_member binder.now.name.0 (contains nat_cmp seen.old)) }
     ensures first { IfOk result (λ next. next
-        ≡ least first (name_faults texts.now (contains nat_cmp seen.old) binder.now)) }
+        ≡ least_refusal first (name_faults texts.now (contains nat_cmp seen.old) binder.now)) }
 {
     let again = see(seen, binder.name.0)?;
     let is_broken = repeats(is_nameless(texts, binder.name), again);
-    Ok(noted(first, is_broken, MatchRefusal::DuplicateName(binder.at)))
+    Ok(refusal_if(first, is_broken, MatchRefusal::DuplicateName(binder.at)))
 }
 
 /// The names in the patterns of an equation.
@@ -189,7 +189,7 @@ fn names(
     first: Option<MatchRefusal>,
 ) -> Result<Option<MatchRefusal>, AllocError>
     ensures { IfOk result (λ next. next
-        ≡ least first (names_faults texts.now (λ x. false) binders.now)) }
+        ≡ least_refusal first (names_faults texts.now (λ x. false) binders.now)) }
 {
     let mut seen = BTreeSet::new(alloc);
     let mut first = first;
@@ -220,11 +220,11 @@ fn constructor(
     at: u32,
     first: Option<MatchRefusal>,
 ) -> Option<MatchRefusal>
-    ensures { result ≡ least first (constructor_faults fields count at) }
+    ensures { result ≡ least_refusal first (constructor_faults fields count at) }
 {
     match fields {
-        None => noted(first, true, MatchRefusal::UnknownName(at)),
-        Some(fields) => noted(
+        None => refusal_if(first, true, MatchRefusal::UnknownName(at)),
+        Some(fields) => refusal_if(
             first,
             fields as usize != count,
             MatchRefusal::PatternArity(at),
@@ -239,7 +239,7 @@ fn constructors(
     first: Option<MatchRefusal>,
 ) -> Option<MatchRefusal>
     ensures { result
-        ≡ least first (constructors_faults (λ x. get nat_cmp fields.now x) constructors.now) }
+        ≡ least_refusal first (constructors_faults (λ x. get nat_cmp fields.now x) constructors.now) }
 {
     let mut first = first;
     for (con, count) in constructors {
@@ -257,7 +257,7 @@ fn patterns(
     first: Option<MatchRefusal>,
 ) -> Result<Option<MatchRefusal>, AllocError>
     ensures { IfOk result (λ next. next
-        ≡ least first (patterns_faults texts.now (λ x. get nat_cmp fields.now x)
+        ≡ least_refusal first (patterns_faults texts.now (λ x. get nat_cmp fields.now x)
         (map equation_of equations.now))) }
 {
     let mut first = first;
@@ -276,7 +276,7 @@ pub fn first_fault(
     source: &Source,
     first: Option<MatchRefusal>,
 ) -> Result<Option<MatchRefusal>, AllocError>
-    ensures { IfOk result (λ next. next ≡ least first (faults (source_of source.now))) }
+    ensures { IfOk result (λ next. next ≡ least_refusal first (faults (equation_source_of source.now))) }
 {
     let equations = source.equations.as_slice();
     let first = orders(alloc, equations, first)?;
@@ -300,12 +300,12 @@ fn is_reserved(names: &[&[u8]], token: Token) -> bool
 
 /// The first name that is reserved.
 pub fn reserved(names: &[&[u8]], lexemes: &[Lexeme]) -> Option<MatchRefusal>
-    ensures { result ≡ least None (reserved_faults (texts_of names.now) lexemes.now) }
+    ensures { result ≡ least_refusal None (reserved_faults (texts_of names.now) lexemes.now) }
 {
     let mut first = None;
     for lexeme in lexemes {
         let is_reserved = is_reserved(names, lexeme.token);
-        first = noted(first, is_reserved, MatchRefusal::ReservedMatch(lexeme.at));
+        first = refusal_if(first, is_reserved, MatchRefusal::ReservedMatch(lexeme.at));
     }
     first
 }

@@ -5,10 +5,10 @@ ghost use Rattle.std.specs.Prelude.{◌≡◌, ◌<◌, None, IfOk, MatchOption,
 ghost use Rattle.core_reader.specs.Tree.{expr};
 ghost use Rattle.match_compile.specs.Trees as trees;
 ghost use Rattle.match_compile.specs.RowOf.{rows_of};
-ghost use Rattle.match_compile.specs.TreeOf.{tree_of, branches_of, planted_of, grown_of, put_of, outcome, in_branches, with_new, after_branches, branch_for};
+ghost use Rattle.match_compile.specs.TreeOf.{tree_of, branches_of, planted_of, tree_after_insertion, branches_after_insertion, insertion_result, in_branches, with_new, after_branches, branch_for};
 
 use crate::head::Head;
-use crate::row::{Test, Way, numbers_from};
+use crate::row::{Pending, Test, numbers_from};
 use core_reader::Expr;
 use seq::Seq;
 use std::alloc::{AllocError, Global};
@@ -21,7 +21,7 @@ pub const MOST_CHAINED: u32 = 8;
 #[cycle(tree)]
 pub enum Tree<'a> {
     /// The body of an equation.
-    Body(Expr, Way<'a>),
+    Body(Expr, Pending<'a>),
     /// A test at a place, which only the values of its branches pass.
     Tests(u32, Seq<Branch<'a>>),
     /// A test at a place, and the tree for all other values.
@@ -43,7 +43,7 @@ pub struct Branch<'a> {
 /// A tree and the first place that is free, after an equation came to it. A body is left where the
 /// tree does not take the equation.
 #[derive(Drop)]
-pub struct Grown<'a> {
+pub struct TreeAfterInsertion<'a> {
     pub tree: Tree<'a>,
     pub free: u32,
     pub left: Option<Expr>,
@@ -132,7 +132,7 @@ pub fn alone<'a>(
     depth: u32,
     free: u32,
     body: Expr,
-    way: Way<'a>,
+    way: Pending<'a>,
 ) -> Result<(Tree<'a>, u32), AllocError>
     ensures { IfOk result (λ made. planted_of made
         ≡ trees.alone_from free (rows_of way.entry (expr body))) }
@@ -157,14 +157,14 @@ pub fn insert<'a>(
     tree: Tree<'a>,
     free: u32,
     body: Expr,
-    way: &Way<'a>,
-) -> Result<Grown<'a>, AllocError>
-    ensures { IfOk result (λ grown. grown_of grown ≡ outcome (tree_of tree.entry, free) (expr body)
+    way: &Pending<'a>,
+) -> Result<TreeAfterInsertion<'a>, AllocError>
+    ensures { IfOk result (λ grown. tree_after_insertion grown ≡ insertion_result (tree_of tree.entry, free) (expr body)
         (trees.insert room (tree_of tree.entry) free (rows_of way.now (expr body)))) }
 {
     let depth = depth.checked_sub(1).ok_or(AllocError)?;
     match tree {
-        Tree::Body(old, taken) => Ok(Grown {
+        Tree::Body(old, taken) => Ok(TreeAfterInsertion {
             tree: Tree::Body(old, taken),
             free,
             left: Some(body),
@@ -176,7 +176,7 @@ pub fn insert<'a>(
         Tree::Otherwise(place, branches, other) => {
             let room = room.saturating_sub(1);
             let grown = insert(alloc, depth, room, Box::into_inner(other), free, body, way)?;
-            Ok(Grown {
+            Ok(TreeAfterInsertion {
                 tree: Tree::Otherwise(place, branches, Box::new(alloc, grown.tree)?),
                 free: grown.free,
                 left: grown.left,
@@ -194,10 +194,10 @@ fn insert_branch<'a>(
     branches: Seq<Branch<'a>>,
     free: u32,
     body: Expr,
-    way: &Way<'a>,
+    way: &Pending<'a>,
 ) -> Result<Put<'a>, AllocError>
-    ensures { IfOk result (λ put. put_of put
-        ≡ outcome (branches_of branches.entry, free) (expr body)
+    ensures { IfOk result (λ put. branches_after_insertion put
+        ≡ insertion_result (branches_of branches.entry, free) (expr body)
         (in_branches place (branches_of branches.entry) free
         (rows_of way.now (expr body)))) }
 {
@@ -236,8 +236,8 @@ fn insert_branch<'a>(
 
 /// The branches as they were, with a body that is left.
 fn not_put<'a>(branches: Seq<Branch<'a>>, free: u32, body: Expr) -> Put<'a>
-    ensures { put_of result
-        ≡ outcome (branches_of branches.entry, free) (expr body) None }
+    ensures { branches_after_insertion result
+        ≡ insertion_result (branches_of branches.entry, free) (expr body) None }
 {
     Put {
         branches,
@@ -254,9 +254,9 @@ fn new_branch<'a>(
     branches: Seq<Branch<'a>>,
     free: u32,
     body: Expr,
-    way: &Way<'a>,
+    way: &Pending<'a>,
 ) -> Result<Put<'a>, AllocError>
-    ensures { IfOk result (λ put. put_of put
+    ensures { IfOk result (λ put. branches_after_insertion put
         ≡ with_new test (branches_of branches.entry) free (rows_of way.now (expr body))) }
 {
     let mut branches = branches;
@@ -283,10 +283,10 @@ fn or_default<'a>(
     room: u32,
     place: u32,
     put: Put<'a>,
-    way: &Way<'a>,
-) -> Result<Grown<'a>, AllocError>
-    ensures { IfOk result (λ grown. grown_of grown
-        ≡ after_branches room place (put_of put.entry) (rows_of way.now)) }
+    way: &Pending<'a>,
+) -> Result<TreeAfterInsertion<'a>, AllocError>
+    ensures { IfOk result (λ grown. tree_after_insertion grown
+        ≡ after_branches room place (branches_after_insertion put.entry) (rows_of way.now)) }
 {
     let Put {
         branches,
@@ -294,21 +294,21 @@ fn or_default<'a>(
         left,
     } = put;
     match left {
-        None => Ok(Grown {
+        None => Ok(TreeAfterInsertion {
             tree: Tree::Tests(place, branches),
             free,
             left: None,
         }),
         Some(body) => {
             if room == 0 || branches_fail(branches.as_slice()) {
-                return Ok(Grown {
+                return Ok(TreeAfterInsertion {
                     tree: Tree::Tests(place, branches),
                     free,
                     left: Some(body),
                 });
             }
             let (tree, free) = alone(alloc, depth, free, body, way.copied(alloc)?)?;
-            Ok(Grown {
+            Ok(TreeAfterInsertion {
                 tree: Tree::Otherwise(place, branches, Box::new(alloc, tree)?),
                 free,
                 left: None,

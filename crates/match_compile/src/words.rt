@@ -23,13 +23,13 @@ pub struct Words {
 
 impl Model for Words {
     ghost use Rattle.match_compile.specs.Translated as translated;
-    ghost use Rattle.match_compile.specs.WordsOf.{words_in, AreNumbered};
+    ghost use Rattle.match_compile.specs.WordsOf.{name_supply_in, NewNamesAreNumbered};
 
     ghost Value = { translated.Words };
 
-    ghost view = { words_in };
+    ghost view = { name_supply_in };
 
-    ghost invariant = { AreNumbered };
+    ghost invariant = { NewNamesAreNumbered };
 }
 
 /// Whether a text is `_` or that of a primitive.
@@ -62,7 +62,7 @@ pub fn nameless(names: &[Seq<u8>]) -> usize
 }
 
 /// The sum of two numbers, where it is a number.
-pub fn sum(a: u32, b: u32) -> Result<u32, AllocError>
+pub fn checked_sum(a: u32, b: u32) -> Result<u32, AllocError>
     ensures { IfOk result (λ n. n ≡ a + b) }
 {
     match a.checked_add(b) {
@@ -83,7 +83,7 @@ impl Words {
         let first = if nameless < count {
             count
         } else {
-            sum(count, 1)?
+            checked_sum(count, 1)?
         };
         Ok(Words {
             names,
@@ -139,7 +139,7 @@ impl Words {
     pub fn equation_name(&self, number: u32) -> Result<NameId, AllocError>
         ensures { IfOk result (λ name. name.0 ≡ translated.equation_name self.now number) }
     {
-        let name = sum(self.first, number)?;
+        let name = checked_sum(self.first, number)?;
         Ok(NameId(name))
     }
 
@@ -147,13 +147,13 @@ impl Words {
     pub fn place_name(&self, params: u32, place: u32) -> Result<NameId, AllocError>
         ensures { IfOk result (λ name. name.0 ≡ translated.place_name self.now params place) }
     {
-        let first = sum(self.first, self.equations)?;
+        let first = checked_sum(self.first, self.equations)?;
         let number = if place < params {
             place
         } else {
-            sum(self.columns, place - params)?
+            checked_sum(self.columns, place - params)?
         };
-        let name = sum(first, number)?;
+        let name = checked_sum(first, number)?;
         Ok(NameId(name))
     }
 }

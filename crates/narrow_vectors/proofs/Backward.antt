@@ -21,20 +21,20 @@ use Rattle.flow_system.specs.Solution.{Solution}
 use Rattle.copy_prop.specs.Lean.{used_in_val, used_in_cells, used_in_act, used_in_code, used_in_arms}
 use Rattle.copy_prop.proofs.Used.{drop_front}
 use Rattle.copy_prop.proofs.Backward.{stacked, stacked_push, whole, stacked_reversed}
-use Rattle.narrow_vectors.specs.Narrow.{Picking, picked_target, picking, narrow_act, narrow_code, narrow_arms}
+use Rattle.narrow_vectors.specs.Narrow.{WordSelection, picked_target, word_selection, narrow_act, narrow_code, narrow_arms}
 
 -- ---- statements
 
-module _ (count : ℕ) (A : Solution) (p : Picking) where
+module _ (count : ℕ) (A : Solution) (p : WordSelection) where
   abbrev after : Code → Code
   after = narrow_code count A p
 
   -- what stays of the value of a bound operation is told by what was used after the first `from` uses
-  pub bind_narrows : (s : Stmt) (t t' : Target) (o o' : Op) (from : ℕ) (old m : List ℕ) (c : Code) (q : Picking) → s ≡ Bind t o → q ≡ picking count A t (act_of o) (drop from old) → t' ≡ picked_target q t → act_of o' ≡ narrow_act count A q (act_of o)
+  pub bind_narrows : (s : Stmt) (t t' : Target) (o o' : Op) (from : ℕ) (old m : List ℕ) (c : Code) (q : WordSelection) → s ≡ Bind t o → q ≡ word_selection count A t (act_of o) (drop from old) → t' ≡ picked_target q t → act_of o' ≡ narrow_act count A q (act_of o)
       → length m ≡ from → old ≡ m ++ used_in_code (after c) → before_of (Bind t' o') (after c) ≡ after (before_of s c)
   unfolding narrow_act
   bind_narrows s t t' o o' from old m c q es eq et eo many u =
-      let known : q ≡ picking count A t (act_of o) (used_in_code (after c)) = eq ∙ ap (picking count A t (act_of o)) (ap (drop from) u ∙ drop_front m (used_in_code (after c)) from many) in
+      let known : q ≡ word_selection count A t (act_of o) (used_in_code (after c)) = eq ∙ ap (word_selection count A t (act_of o)) (ap (drop from) u ∙ drop_front m (used_in_code (after c)) from many) in
       ap (λ f. f (after c)) (before_of-Bind t' o') ∙ (λ i. bind (et i) (eo i) (after c)) ∙ ap (λ r. bind (picked_target r t) (narrow_act count A r (act_of o)) (after c)) known
       ∙ ap (λ f. after (f c)) (sym (before_of-Bind t o)) ∙ ap (λ r. after (before_of r c)) (sym es)
 
@@ -53,7 +53,7 @@ stored_used cs cells old new m c n o e = n ∙ (λ i. o i ++ used_in_cells (e i)
 
 -- ---- blocks
 
-module _ (count : ℕ) (A : Solution) (p : Picking) where
+module _ (count : ℕ) (A : Solution) (p : WordSelection) where
   -- `walked` are the statements from the block's end that were walked, and `made` what they became, before `last`
   pub record Narrows (m seen : List ℕ) (old : Code) (walked made : List Stmt) (last : Act) : Type 0 where
     pub tree : stacked made (end last) ≡ narrow_code count A p (stacked walked old)

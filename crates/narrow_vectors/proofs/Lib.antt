@@ -1,10 +1,10 @@
 pub mod Picks
 pub mod Tagged
-pub mod Same
-pub mod Well
-pub mod Shape
+pub mod Simulated
+pub mod Formed
+pub mod Gives
 pub mod Sizes
 pub mod Solved
-pub mod PassContract
+pub mod Contract
 pub mod Backward
 pub mod Loops

@@ -10,18 +10,18 @@ use Rattle.grin_meaning.specs.Slim.{val_weight, target_weight, act_weight, code_
 use Rattle.flow_system.specs.Solution.{Solution}
 use Rattle.copy_prop.specs.Lean.{used_in_code}
 use Rattle.narrow_vectors.specs.Picked.{picked}
-use Rattle.narrow_vectors.specs.Narrow.{Picking, picked_val, picked_target, picking, narrow_act, narrow_code, narrow_arms}
+use Rattle.narrow_vectors.specs.Narrow.{WordSelection, picked_val, picked_target, word_selection, narrow_act, narrow_code, narrow_arms}
 use Rattle.narrow_vectors.proofs.Picks.{picked_shorter}
-use Rattle.narrow_vectors.proofs.Shape.{change}
+use Rattle.narrow_vectors.proofs.Gives.{change}
 
-lighter : (p : Picking) (v : V.Val) → val_weight (picked_val p v) ≤ val_weight v
+lighter : (p : WordSelection) (v : V.Val) → val_weight (picked_val p v) ≤ val_weight v
 lighter None v = omega arith
 lighter (Some bs) (NodeVar x) = omega arith
 lighter (Some bs) (Node t ws) = omega arith
 lighter (Some bs) (Vector ws) = picked_shorter bs ws
 lighter (Some bs) (One a) = omega arith
 
-no_wider : (p : Picking) (t : Target) → target_weight (picked_target p t) ≤ target_weight t
+no_wider : (p : WordSelection) (t : Target) → target_weight (picked_target p t) ≤ target_weight t
 no_wider None t = omega arith
 no_wider (Some bs) to.Nothing = omega arith
 no_wider (Some bs) (to.Node x) = omega arith
@@ -34,7 +34,7 @@ module _ (count : ℕ) (A : Solution) where
   mutual
     unfolding narrow_act act_weight
 
-    act_lighter : (o : Act) (p : Picking) → act_weight (narrow_act count A p o) ≤ act_weight o
+    act_lighter : (o : Act) (p : WordSelection) → act_weight (narrow_act count A p o) ≤ act_weight o
     act_lighter (case v as') p = let l : arms_weight (narrow_arms count A p as') ≤ arms_weight as' = arms_lighter as' p in omega (arith, l)
     act_lighter (nested b) p = let l : code_weight (narrow_code count A p b) ≤ code_weight b = code_lighter b p in omega (arith, l)
     act_lighter (unit v) p = let h : val_weight (picked_val p v) ≤ val_weight v = lighter p v in omega (arith, h)
@@ -49,17 +49,17 @@ module _ (count : ℕ) (A : Solution) where
     act_lighter (write a) p = omega arith
     act_lighter fail p = omega arith
 
-    code_lighter : (b : Code) (p : Picking) → code_weight (narrow_code count A p b) ≤ code_weight b
+    code_lighter : (b : Code) (p : WordSelection) → code_weight (narrow_code count A p b) ≤ code_weight b
     code_lighter (end o) p = act_lighter o p
     code_lighter (store cs b) p = let l : code_weight (narrow_code count A p b) ≤ code_weight b = code_lighter b p in omega (arith, l)
     code_lighter (bind t o b) p =
-        let q : Picking = picking count A t o (used_in_code (narrow_code count A p b)) in
+        let q : WordSelection = word_selection count A t o (used_in_code (narrow_code count A p b)) in
         let k : target_weight (picked_target q t) ≤ target_weight t = no_wider q t in
         let h : act_weight (narrow_act count A q o) ≤ act_weight o = act_lighter o q in
         let l : code_weight (narrow_code count A p b) ≤ code_weight b = code_lighter b p in
         omega (arith, k, h, l)
 
-    arms_lighter : (as' : Arms) (p : Picking) → arms_weight (narrow_arms count A p as') ≤ arms_weight as'
+    arms_lighter : (as' : Arms) (p : WordSelection) → arms_weight (narrow_arms count A p as') ≤ arms_weight as'
     arms_lighter no_arm p = omega arith
     arms_lighter (arm s b as') p =
         let h : code_weight (narrow_code count A p b) ≤ code_weight b = code_lighter b p in
@@ -78,7 +78,7 @@ module _ (count : ℕ) (A : Solution) where
   mutual
     unfolding narrow_act act_calls
 
-    act_calls_stay : (o : Act) (p : Picking) → act_calls (narrow_act count A p o) ≡ act_calls o
+    act_calls_stay : (o : Act) (p : WordSelection) → act_calls (narrow_act count A p o) ≡ act_calls o
     act_calls_stay (case v as') p = arms_calls_stay as' p
     act_calls_stay (nested b) p = code_calls_stay b p
     act_calls_stay (unit v) p = refl
@@ -93,12 +93,12 @@ module _ (count : ℕ) (A : Solution) where
     act_calls_stay (write a) p = refl
     act_calls_stay fail p = refl
 
-    code_calls_stay : (b : Code) (p : Picking) → code_calls (narrow_code count A p b) ≡ code_calls b
+    code_calls_stay : (b : Code) (p : WordSelection) → code_calls (narrow_code count A p b) ≡ code_calls b
     code_calls_stay (end o) p = act_calls_stay o p
     code_calls_stay (store cs b) p = code_calls_stay b p
-    code_calls_stay (bind t o b) p = λ i. act_calls_stay o (picking count A t o (used_in_code (narrow_code count A p b))) i + code_calls_stay b p i
+    code_calls_stay (bind t o b) p = λ i. act_calls_stay o (word_selection count A t o (used_in_code (narrow_code count A p b))) i + code_calls_stay b p i
 
-    arms_calls_stay : (as' : Arms) (p : Picking) → arms_calls (narrow_arms count A p as') ≡ arms_calls as'
+    arms_calls_stay : (as' : Arms) (p : WordSelection) → arms_calls (narrow_arms count A p as') ≡ arms_calls as'
     arms_calls_stay no_arm p = refl
     arms_calls_stay (arm s b as') p = λ i. code_calls_stay b p i + arms_calls_stay as' p i
 
@@ -108,7 +108,7 @@ module _ (count : ℕ) (A : Solution) where
 
   -- ---- the words
 
-  node_words_stay : (o : Act) (p : Picking) → node_words (narrow_act count A p o) ≡ node_words o
+  node_words_stay : (o : Act) (p : WordSelection) → node_words (narrow_act count A p o) ≡ node_words o
   unfolding narrow_act
   node_words_stay (case v as') p = refl
   node_words_stay (nested b) p = refl
@@ -124,7 +124,7 @@ module _ (count : ℕ) (A : Solution) where
   node_words_stay (write a) p = refl
   node_words_stay fail p = refl
 
-  end_words_stay : (o : Act) (p : Picking) → end_words (narrow_act count A p o) ≡ end_words o
+  end_words_stay : (o : Act) (p : WordSelection) → end_words (narrow_act count A p o) ≡ end_words o
   unfolding narrow_act
   end_words_stay (case v as') p = refl
   end_words_stay (nested b) p = refl
@@ -143,7 +143,7 @@ module _ (count : ℕ) (A : Solution) where
   mutual
     unfolding narrow_act inner_words
 
-    inner_fewer : (o : Act) (p : Picking) → inner_words (narrow_act count A p o) ≤ inner_words o
+    inner_fewer : (o : Act) (p : WordSelection) → inner_words (narrow_act count A p o) ≤ inner_words o
     inner_fewer (case v as') p = arms_words_fewer as' p
     inner_fewer (nested b) p = code_words_fewer b p
     inner_fewer (unit v) p = omega arith
@@ -158,21 +158,21 @@ module _ (count : ℕ) (A : Solution) where
     inner_fewer (write a) p = omega arith
     inner_fewer fail p = omega arith
 
-    code_words_fewer : (b : Code) (p : Picking) → code_words (narrow_code count A p b) ≤ code_words b
+    code_words_fewer : (b : Code) (p : WordSelection) → code_words (narrow_code count A p b) ≤ code_words b
     code_words_fewer (end o) p =
         let h : end_words (narrow_act count A p o) ≡ end_words o = end_words_stay o p in
         let l : inner_words (narrow_act count A p o) ≤ inner_words o = inner_fewer o p in
         omega (arith, h, l)
     code_words_fewer (store cs b) p = let l : code_words (narrow_code count A p b) ≤ code_words b = code_words_fewer b p in omega (arith, l)
     code_words_fewer (bind t o b) p =
-        let q : Picking = picking count A t o (used_in_code (narrow_code count A p b)) in
+        let q : WordSelection = word_selection count A t o (used_in_code (narrow_code count A p b)) in
         let j : target_weight (picked_target q t) ≤ target_weight t = no_wider q t in
         let h : node_words (narrow_act count A q o) ≡ node_words o = node_words_stay o q in
         let k : inner_words (narrow_act count A q o) ≤ inner_words o = inner_fewer o q in
         let l : code_words (narrow_code count A p b) ≤ code_words b = code_words_fewer b p in
         omega (arith, j, h, k, l)
 
-    arms_words_fewer : (as' : Arms) (p : Picking) → arms_words (narrow_arms count A p as') ≤ arms_words as'
+    arms_words_fewer : (as' : Arms) (p : WordSelection) → arms_words (narrow_arms count A p as') ≤ arms_words as'
     arms_words_fewer no_arm p = omega arith
     arms_words_fewer (arm s b as') p =
         let h : code_words (narrow_code count A p b) ≤ code_words b = code_words_fewer b p in

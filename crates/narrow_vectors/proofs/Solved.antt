@@ -15,14 +15,14 @@ use Rattle.grin_meaning.specs.Rewritten.{rewritten_procedure}
 use Rattle.flow_system.specs.declared.fact.Element.{Element as AbstractWord}
 use Rattle.flow_system.specs.declared.fact.Place.TheVariants.{Var as var, Result as result}
 use Rattle.flow_system.specs.declared.fact.Part.TheVariants.{Word as word}
-use Rattle.flow_system.specs.Inclusions.{a_cell, a_number, held, nodes_at, word_at, evaluated, extended, value, Sink, to, into_result, into_site, Inclusion, flows, forces, applies}
+use Rattle.flow_system.specs.Inclusions.{a_cell, a_number, held, nodes_at, word_at, evaluated, extended, value, FlowSink, to, into_result, into_site, Inclusion, flows, forces, applies}
 use Rattle.flow_system.specs.Tables.{Tables, tables, params_of}
 use Rattle.flow_system.specs.System.{act_evals, code_evals, arms_eval, procs_eval, has_eval, shape_flows, site_flows, cells_flow, act_flows, code_flows, arms_flow, globals_flow, procs_flow, start_flows, system}
 use Rattle.flow_system.specs.Solution.{Solution, Sets, At, AsWords, word_word, tag_word, field_word, zero_word, StandsFor, WordAmong, first, later, ValueGives, of_words, WordsTo, Meets, AllMet, Solves}
 use Rattle.flow_system.proofs.Heap.{met_front, met_back}
 use Rattle.copy_prop.specs.Lean.{used_in_code}
 use Rattle.narrow_vectors.specs.Picked.{picked, stay}
-use Rattle.narrow_vectors.specs.Narrow.{Picking, picked_val, picked_target, val_fits, act_fits, code_fits, arms_fit, picking, narrow_act, narrow_code, narrow_arms, narrow}
+use Rattle.narrow_vectors.specs.Narrow.{WordSelection, picked_val, picked_target, val_fits, act_fits, code_fits, arms_fit, word_selection, narrow_act, narrow_code, narrow_arms, narrow}
 
 -- ---- words to variables
 
@@ -105,7 +105,7 @@ module _ (count : ℕ) (A : Solution) where
   mutual
     unfolding narrow_act act_evals
 
-    act_evals_same : (p : Picking) (o : Act) → act_evals (narrow_act count A p o) ≡ act_evals o
+    act_evals_same : (p : WordSelection) (o : Act) → act_evals (narrow_act count A p o) ≡ act_evals o
     act_evals_same p (case v as') = arms_eval_same p as'
     act_evals_same p (nested b) = code_evals_same p b
     act_evals_same p (unit v) = refl
@@ -120,12 +120,12 @@ module _ (count : ℕ) (A : Solution) where
     act_evals_same p (write a) = refl
     act_evals_same p fail = refl
 
-    code_evals_same : (p : Picking) (b : Code) → code_evals (narrow_code count A p b) ≡ code_evals b
+    code_evals_same : (p : WordSelection) (b : Code) → code_evals (narrow_code count A p b) ≡ code_evals b
     code_evals_same p (end o) = act_evals_same p o
     code_evals_same p (store cs b) = code_evals_same p b
-    code_evals_same p (bind t o b) = λ i. act_evals_same (picking count A t o (used_in_code (narrow_code count A p b))) o i || code_evals_same p b i
+    code_evals_same p (bind t o b) = λ i. act_evals_same (word_selection count A t o (used_in_code (narrow_code count A p b))) o i || code_evals_same p b i
 
-    arms_eval_same : (p : Picking) (as' : Arms) → arms_eval (narrow_arms count A p as') ≡ arms_eval as'
+    arms_eval_same : (p : WordSelection) (as' : Arms) → arms_eval (narrow_arms count A p as') ≡ arms_eval as'
     arms_eval_same p no_arm = refl
     arms_eval_same p (arm s b as') = λ i. code_evals_same p b i || arms_eval_same p as' i
 
@@ -140,25 +140,25 @@ module _ (count : ℕ) (A : Solution) where
 -- ---- inclusions
 
 -- what goes to the first sink goes to the second without the words that don't stay
-data Turned : Picking → Sink → Sink → Type 0 where
-  whole : {k : Sink} → Turned None k k
+data Turned : WordSelection → FlowSink → FlowSink → Type 0 where
+  whole : {k : FlowSink} → Turned None k k
   without : {bs : List Bool} {xs : List VarId} → Turned (Some bs) (to (to'.Vector xs)) (to (to'.Vector (picked bs xs)))
 
 -- where words go, the test says that they may
-abbrev Allowed : Picking → (List Bool → Bool) → Type 0
+abbrev Allowed : WordSelection → (List Bool → Bool) → Type 0
 Allowed None f = Unit {0}
 Allowed (Some bs) f = f bs ≡ true
 
 -- a piece that gives no vector gives all
-all_given : {p : Picking} {k k' : Sink} → Turned p k k' → Allowed p (λ bs. false) → (P : Sink → Type 0) → P k → P k'
+all_given : {p : WordSelection} {k k' : FlowSink} → Turned p k k' → Allowed p (λ bs. false) → (P : FlowSink → Type 0) → P k → P k'
 all_given whole a P m = m
 all_given without a P m = false_not_true a
 
-left_allowed : (p : Picking) (f g : List Bool → Bool) → Allowed p (λ bs. f bs && g bs) → Allowed p f
+left_allowed : (p : WordSelection) (f g : List Bool → Bool) → Allowed p (λ bs. f bs && g bs) → Allowed p f
 left_allowed None f g a = tt
 left_allowed (Some bs) f g a = and_left (f bs) (g bs) a
 
-right_allowed : (p : Picking) (f g : List Bool → Bool) → Allowed p (λ bs. f bs && g bs) → Allowed p g
+right_allowed : (p : WordSelection) (f g : List Bool → Bool) → Allowed p (λ bs. f bs && g bs) → Allowed p g
 right_allowed None f g a = tt
 right_allowed (Some bs) f g a = and_right (f bs) (g bs) a
 
@@ -185,7 +185,7 @@ module _ (g h : Program) (A : Solution) (same_tables : tables h ≡ tables g) (s
   globals_same [] = refl
   globals_same (c ∷ cs) = λ i. site_same c.site.0 (Node c.tag []) i ++ globals_same cs i
 
-  unit_met : {p : Picking} {k k' : Sink} → Turned p k k' → (v : V.Val) → Allowed p (λ bs. val_fits count A bs v) → Meets (tables g) A (flows (value v) k) → Meets (tables g) A (flows (value (picked_val p v)) k')
+  unit_met : {p : WordSelection} {k k' : FlowSink} → Turned p k k' → (v : V.Val) → Allowed p (λ bs. val_fits count A bs v) → Meets (tables g) A (flows (value v) k) → Meets (tables g) A (flows (value (picked_val p v)) k')
   unit_met whole v a m = m
   unit_met without (NodeVar x) a m = false_not_true a
   unit_met without (Node t ws) a m = false_not_true a
@@ -195,20 +195,20 @@ module _ (g h : Program) (A : Solution) (same_tables : tables h ≡ tables g) (s
   to_params : (f : ℕ) (P : Target → Type 0) → P (params_of (tables g) f) → P (params_of (tables h) f)
   to_params f P m = subst (λ T. P (params_of T f)) (sym same_tables) m
 
-  turned : (t : Target) (o : Act) (used : List ℕ) → let q : Picking = picking count A t o used in Turned q (to t) (to (picked_target q t)) × Allowed q (λ bs. act_fits count A bs o)
+  turned : (t : Target) (o : Act) (used : List ℕ) → let q : WordSelection = word_selection count A t o used in Turned q (to t) (to (picked_target q t)) × Allowed q (λ bs. act_fits count A bs o)
   turned to'.Nothing o used = (whole, tt)
   turned (to'.Node x) o used = (whole, tt)
   turned (to'.One x) o used = (whole, tt)
   turned (to'.Vector xs) o used = go (act_fits count A (stay used xs) o) refl
     where
-      go : (b : Bool) → act_fits count A (stay used xs) o ≡ b → let q : Picking = cond b (Some (stay used xs)) None in Turned q (to (to'.Vector xs)) (to (picked_target q (to'.Vector xs))) × Allowed q (λ bs. act_fits count A bs o)
+      go : (b : Bool) → act_fits count A (stay used xs) o ≡ b → let q : WordSelection = cond b (Some (stay used xs)) None in Turned q (to (to'.Vector xs)) (to (picked_target q (to'.Vector xs))) × Allowed q (λ bs. act_fits count A bs o)
       go true e = (without, e)
       go false e = (whole, tt)
 
   mutual
     unfolding narrow_act act_fits act_flows
 
-    act_met : {p : Picking} {k k' : Sink} → Turned p k k' → (o : Act) → Allowed p (λ bs. act_fits count A bs o) → Met (act_flows g k o) → Met (act_flows h k' (narrow_act count A p o))
+    act_met : {p : WordSelection} {k k' : FlowSink} → Turned p k k' → (o : Act) → Allowed p (λ bs. act_fits count A bs o) → Met (act_flows g k o) → Met (act_flows h k' (narrow_act count A p o))
     act_met t (case v as') a m = arms_met t v as' a m
     act_met t (nested b) a m = code_met t b a m
     act_met t (unit v) a m = (unit_met t v a m.0, tt)
@@ -223,20 +223,20 @@ module _ (g h : Program) (A : Solution) (same_tables : tables h ≡ tables g) (s
     act_met t (write b) a m = m
     act_met t fail a m = m
 
-    code_met : {p : Picking} {k k' : Sink} → Turned p k k' → (b : Code) → Allowed p (λ bs. code_fits count A bs b) → Met (code_flows g k b) → Met (code_flows h k' (narrow_code count A p b))
+    code_met : {p : WordSelection} {k k' : FlowSink} → Turned p k k' → (b : Code) → Allowed p (λ bs. code_fits count A bs b) → Met (code_flows g k b) → Met (code_flows h k' (narrow_code count A p b))
     code_met t (end o) a m = act_met t o a m
     code_met {p = p} {k = k} {k' = k'} t (store cs b) a m =
         both_met (cells_flow h cs) (code_flows h k' (narrow_code count A p b))
         (subst Met (cells_same cs) (met_front g A (cells_flow g cs) (code_flows g k b) m))
         (code_met t b a (met_back g A (cells_flow g cs) (code_flows g k b) m))
     code_met {p = p} {k = k} {k' = k'} t (bind s o b) a m =
-        let q : Picking = picking count A s o (used_in_code (narrow_code count A p b)) in
+        let q : WordSelection = word_selection count A s o (used_in_code (narrow_code count A p b)) in
         let r : Turned q (to s) (to (picked_target q s)) × Allowed q (λ bs. act_fits count A bs o) = turned s o (used_in_code (narrow_code count A p b)) in
         both_met (act_flows h (to (picked_target q s)) (narrow_act count A q o)) (code_flows h k' (narrow_code count A p b))
         (act_met r.0 o r.1 (met_front g A (act_flows g (to s) o) (code_flows g k b) m))
         (code_met t b a (met_back g A (act_flows g (to s) o) (code_flows g k b) m))
 
-    arms_met : {p : Picking} {k k' : Sink} → Turned p k k' → (v : V.Val) (as' : Arms) → Allowed p (λ bs. arms_fit count A bs as') → Met (arms_flow g k v as') → Met (arms_flow h k' v (narrow_arms count A p as'))
+    arms_met : {p : WordSelection} {k k' : FlowSink} → Turned p k k' → (v : V.Val) (as' : Arms) → Allowed p (λ bs. arms_fit count A bs as') → Met (arms_flow g k v as') → Met (arms_flow h k' v (narrow_arms count A p as'))
     arms_met t v no_arm a m = tt
     arms_met {p = p} {k = k} {k' = k'} t v (arm s b as') a m =
         let rest : Met (code_flows g k b ++ arms_flow g k v as') = met_back g A (shape_flows v s) (code_flows g k b ++ arms_flow g k v as') m in

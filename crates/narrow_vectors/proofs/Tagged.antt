@@ -14,33 +14,33 @@ use Rattle.grin_syntax.specs.Tree.{Program}
 use Rattle.grin_meaning.specs.Values.{Datum, number, tag, cell, Value, node, words, State, and_then, only_word, word_of, words_of}
 use Rattle.flow_system.specs.declared.fact.Place.TheVariants.{Var as var}
 use Rattle.flow_system.specs.Solution.{Solution, At}
-use Rattle.flow_system.specs.Covers.{Lies, ValueIn}
+use Rattle.flow_system.specs.Covers.{StateIsCovered, ValueIn}
 use Rattle.flow_system.proofs.Lying.{from_some}
-use Rattle.update_special.specs.Updates.{stands_for, tags_of}
+use Rattle.update_special.specs.Updates.{may_have_tag, tags_of}
 use Rattle.update_special.proofs.Step.{tag_listed}
-use Rattle.narrow_vectors.specs.Picked.{picked, first_is, none_left, is_no_tag, is_no_number_tag, may_go}
+use Rattle.narrow_vectors.specs.Picked.{picked, first_satisfies, no_tag_left, is_no_tag, is_no_number_tag, may_go}
 use Rattle.narrow_vectors.proofs.Picks.{words_picked, NoTag, NoNumberTag, FirstIs, MayGo}
 
-module _ (g : Program) (A : Solution) (s : State) (lies : Lies g A s) where
+module _ (g : Program) (A : Solution) (s : State) (lies : StateIsCovered g A s) where
   abbrev count : ℕ
   count = length g.tags
 
-  none_is : (ts : List ℕ) → none_left ts ≡ true → ts ≡ []
+  none_is : (ts : List ℕ) → no_tag_left ts ≡ true → ts ≡ []
   none_is [] e = refl
   none_is (t ∷ ts) e = true_not_false (sym e)
 
   -- a variable that holds a tag has it in its set
-  stands : (x t : ℕ) → and_then (s.env x) only_word ≡ Some (tag t) → stands_for A x t ≡ true
+  stands : (x t : ℕ) → and_then (s.env x) only_word ≡ Some (tag t) → may_have_tag A x t ≡ true
   stands x t e = go (s.env x) refl e
     where
-      one : (ds : List Datum) → s.env x ≡ Some (words ds) → only_word (words ds) ≡ Some (tag t) → stands_for A x t ≡ true
+      one : (ds : List Datum) → s.env x ≡ Some (words ds) → only_word (words ds) ≡ Some (tag t) → may_have_tag A x t ≡ true
       one [] q e = none_is_some e
       one (d ∷ d' ∷ ds) q e = none_is_some e
       one (d ∷ []) q e =
           let at : ValueIn g s.heap (At A (var x)) (words (tag t ∷ [])) = from_some (ValueIn g s.heap (At A (var x))) (s.env x) (words (tag t ∷ [])) (lies.variables x) (q ∙ ap (λ d. Some (words (d ∷ []))) (some_is e)) in
           at.0.there
 
-      go : (o : Option Value) → s.env x ≡ o → and_then o only_word ≡ Some (tag t) → stands_for A x t ≡ true
+      go : (o : Option Value) → s.env x ≡ o → and_then o only_word ≡ Some (tag t) → may_have_tag A x t ≡ true
       go None q e = none_is_some e
       go (Some (node m)) q e = none_is_some e
       go (Some (words ds)) q e = one ds q e
@@ -64,9 +64,9 @@ module _ (g : Program) (A : Solution) (s : State) (lies : Lies g A s) where
       go : (o : Option GlobalCell) → d ≡ tag 0 → and_then o (λ c. Some (cell k)) ≡ Some d → ⊥
       go None q e = none_is_some e
       go (Some c) q e = let r : cell k ≡ tag 0 = some_is e ∙ q in cc
-  no_number_tag (Var x) d e h = λ q. not_both (stands_for A x.0 0) (stands x.0 0 (e ∙ ap Some q)) (not_true (stands_for A x.0 0) h)
+  no_number_tag (Var x) d e h = λ q. not_both (may_have_tag A x.0 0) (stands x.0 0 (e ∙ ap Some q)) (not_true (may_have_tag A x.0 0) h)
 
-  first_holds : (f : W.Word → Bool) (P : Datum → Type 0) → ((a : W.Word) (d : Datum) → word_of g s.env a ≡ Some d → f a ≡ true → P d) → (ws : List W.Word) (ds : List Datum) → words_of g s.env ws ≡ Some ds → first_is f ws ≡ true → FirstIs g P ds
+  first_holds : (f : W.Word → Bool) (P : Datum → Type 0) → ((a : W.Word) (d : Datum) → word_of g s.env a ≡ Some d → f a ≡ true → P d) → (ws : List W.Word) (ds : List Datum) → words_of g s.env ws ≡ Some ds → first_satisfies f ws ≡ true → FirstIs g P ds
   first_holds f P each [] ds e h = subst (FirstIs g P) (some_is e) tt
   first_holds f P each (a ∷ ws) ds e h = go (word_of g s.env a) refl (words_of g s.env ws) e
     where

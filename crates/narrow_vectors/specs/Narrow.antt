@@ -11,17 +11,17 @@ use Rattle.copy_prop.specs.Lean.{used_in_code}
 use Rattle.narrow_vectors.specs.Picked.{picked, stay, may_go}
 
 -- which words of a value stay, or all of them
-abbrev pub Picking : Type 0
-Picking = Option (List Bool)
+abbrev pub WordSelection : Type 0
+WordSelection = Option (List Bool)
 
-abbrev pub picked_val : Picking → V.Val → V.Val
+abbrev pub picked_val : WordSelection → V.Val → V.Val
 picked_val None v = v
 picked_val (Some bs) (NodeVar x) = NodeVar x
 picked_val (Some bs) (Node t ws) = Node t ws
 picked_val (Some bs) (Vector ws) = Vector (picked bs ws)
 picked_val (Some bs) (One a) = One a
 
-abbrev pub picked_target : Picking → Target → Target
+abbrev pub picked_target : WordSelection → Target → Target
 picked_target None t = t
 picked_target (Some bs) to.Nothing = to.Nothing
 picked_target (Some bs) (to.Node x) = to.Node x
@@ -55,15 +55,15 @@ module _ (count : ℕ) (A : Solution) where
     arms_fit bs (arm s b as') = code_fits bs b && arms_fit bs as'
 
   -- of what an operation gives to a target before a block that uses these variables
-  abbrev pub picking : Target → Act → List ℕ → Picking
-  picking to.Nothing o used = None
-  picking (to.Node x) o used = None
-  picking (to.One x) o used = None
-  picking (to.Vector xs) o used = cond (act_fits (stay used xs) o) (Some (stay used xs)) None
+  abbrev pub word_selection : Target → Act → List ℕ → WordSelection
+  word_selection to.Nothing o used = None
+  word_selection (to.Node x) o used = None
+  word_selection (to.One x) o used = None
+  word_selection (to.Vector xs) o used = cond (act_fits (stay used xs) o) (Some (stay used xs)) None
 
   unfoldable mutual
     -- `p` is what stays of what the piece gives
-    pub narrow_act : Picking → Act → Act
+    pub narrow_act : WordSelection → Act → Act
     narrow_act p (unit v) = unit (picked_val p v)
     narrow_act p (fetch a) = fetch a
     narrow_act p (fetch_word a i) = fetch_word a i
@@ -78,14 +78,14 @@ module _ (count : ℕ) (A : Solution) where
     narrow_act p (nested b) = nested (narrow_code p b)
     narrow_act p fail = fail
 
-    pub narrow_code : Picking → Code → Code
+    pub narrow_code : WordSelection → Code → Code
     narrow_code p (end o) = end (narrow_act p o)
     narrow_code p (store cs b) = store cs (narrow_code p b)
     narrow_code p (bind t o b) =
-        let q : Picking = picking t o (used_in_code (narrow_code p b)) in
+        let q : WordSelection = word_selection t o (used_in_code (narrow_code p b)) in
         bind (picked_target q t) (narrow_act q o) (narrow_code p b)
 
-    pub narrow_arms : Picking → Arms → Arms
+    pub narrow_arms : WordSelection → Arms → Arms
     narrow_arms p no_arm = no_arm
     narrow_arms p (arm s b as') = arm s (narrow_code p b) (narrow_arms p as')
 

@@ -9,8 +9,8 @@ use Rattle.grin_meaning.specs.Slim.{Slim}
 use Rattle.flow_system.specs.Tables.{tables}
 use Rattle.flow_system.specs.System.{system}
 use Rattle.flow_system.specs.Solution.{Solution, Solves}
-use Rattle.pass_ground.specs.OpenUpdates.{open_updates}
-use Rattle.pass_ground.specs.Vectors.{StaysOfVectors}
+use Rattle.pass_ground.specs.OpenUpdates.{updates_with_variable_tag}
+use Rattle.pass_ground.specs.Vectors.{StaysVectorForm}
 use Rattle.copy_prop.specs.Lean.{used_in_code}
 use Rattle.copy_prop.specs.Copied.{BoundCode}
 use Rattle.seq.specs.Lists.{is_among}
@@ -30,9 +30,9 @@ module _ (count : ℕ) (A : Solution) where
 -- A allows it to go. A solves the flow system of h too. h is as good an input for a pass as g, with
 -- as many updates without a literal tag, and no larger.
 pub record NarrowBy (A : Solution) (g h : Program) : Type 0 where
-  pub stays : StaysOfVectors g h
+  pub stays : StaysVectorForm g h
   pub made : h ≡ narrow A g
   pub read : AllOf (λ q. BoundCode (IsRead (length g.tags) A) q.body) h.procs
   pub still_solves : Solves (tables h) (system h) A
-  pub same_open : open_updates h ≡ open_updates g
+  pub same_open : updates_with_variable_tag h ≡ updates_with_variable_tag g
   pub slim : (size most : ℕ) → Slim size most g → Slim size most h

@@ -7,7 +7,7 @@ ghost use Rattle.points_to.specs.Found.{found};
 ghost use Rattle.copy_prop.specs.Lean.{used_in_act, used_in_code};
 ghost use Rattle.narrow_vectors.specs.Narrow.{narrow_act, narrow_code};
 
-use crate::fit::picking;
+use crate::fit::word_selection;
 use crate::picked::{picked_target, picked_val};
 use copy_prop::Uses;
 use grin_syntax::{Alt, Block, Op, Stmt};
@@ -109,8 +109,8 @@ fn narrow_alt(
     })
 }
 
-// A statement before a block of which `stays` says what stays of its value, and which was used after
-// the first `from` uses.
+// A statement before a block of which `stays` says what stays of its value, and which was used
+// after the first `from` uses.
 #[cycle(narrow)]
 #[tactic(auto, using(grin_syntax::proofs::TreeOf::tree_of, crate::proofs::Backward::store_narrows), unfolding(crate::specs::Narrow::narrow_act, copy_prop::specs::Lean::used_in_act))]
 fn narrow_stmt(
@@ -134,7 +134,7 @@ fn narrow_stmt(
             Ok(Stmt::Store(cells))
         }
         Stmt::Bind(target, op) => {
-            let read = picking(alloc, tags, uses, from, &target, &op)?;
+            let read = word_selection(alloc, tags, uses, from, &target, &op)?;
             let target = picked_target(alloc, &read, target)?;
             let op = narrow_op(uses, alloc, tags, &read, op)?;
             Ok(Stmt::Bind(target, op))

@@ -4,8 +4,8 @@
 ghost use Rattle.std.specs.Prelude.{◌≡◌, map, drop, IfOk, true, Some, slice_get};
 ghost use Rattle.grin_syntax.specs.Tree.{act_of, arm_of, arms_of, code_of};
 ghost use Rattle.points_to.specs.Found.{found};
-ghost use Rattle.narrow_vectors.specs.Picked.{first_is, is_no_tag, is_no_number_tag, may_go};
-ghost use Rattle.narrow_vectors.specs.Narrow.{val_fits, act_fits, arms_fit, code_fits, picking};
+ghost use Rattle.narrow_vectors.specs.Picked.{first_satisfies, is_no_tag, is_no_number_tag, may_go};
+ghost use Rattle.narrow_vectors.specs.Narrow.{val_fits, act_fits, arms_fit, code_fits, word_selection};
 
 use crate::picked::{picked_words, stay};
 use copy_prop::Uses;
@@ -43,7 +43,7 @@ fn is_no_number_tag(tags: &Tags, word: Word) -> bool
 }
 
 fn first_is_no_tag(alloc: Global, tags: &Tags, words: &[Word]) -> Result<bool, AllocError>
-    ensures { IfOk result (λ b. b ≡ first_is (is_no_tag tags.now.count (found tags.now.flow.now))
+    ensures { IfOk result (λ b. b ≡ first_satisfies (is_no_tag tags.now.count (found tags.now.flow.now))
         words.now) }
 {
     match words.first() {
@@ -53,7 +53,7 @@ fn first_is_no_tag(alloc: Global, tags: &Tags, words: &[Word]) -> Result<bool, A
 }
 
 fn first_is_no_number_tag(tags: &Tags, words: &[Word]) -> bool
-    ensures { result ≡ first_is (is_no_number_tag tags.now.count (found tags.now.flow.now))
+    ensures { result ≡ first_satisfies (is_no_number_tag tags.now.count (found tags.now.flow.now))
         words.now }
 {
     match words.first() {
@@ -153,9 +153,9 @@ fn block_fits(alloc: Global, tags: &Tags, stays: &[bool], block: &Block) -> Resu
     Ok(fits)
 }
 
-/// Which words stay of what an operation gives to a target, where its variables that were used after
-/// the first so many uses are read; or `None` where all do.
-pub(crate) fn picking(
+/// Which words stay of what an operation gives to a target, where its variables that were used
+/// after the first so many uses are read; or `None` where all do.
+pub(crate) fn word_selection(
     alloc: Global,
     tags: &Tags,
     uses: &Uses,
@@ -163,7 +163,7 @@ pub(crate) fn picking(
     target: &Target,
     op: &Op,
 ) -> Result<Option<Seq<bool>>, AllocError>
-    ensures { IfOk result (λ p. p ≡ picking tags.now.count (found tags.now.flow.now) target.now
+    ensures { IfOk result (λ p. p ≡ word_selection tags.now.count (found tags.now.flow.now) target.now
         (act_of op.now) (drop from uses.now)) }
 {
     match target {

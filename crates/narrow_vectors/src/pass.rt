@@ -8,7 +8,7 @@ ghost use Rattle.flow_system.specs.Tables.{tables};
 ghost use Rattle.flow_system.specs.System.{system};
 ghost use Rattle.flow_system.specs.Solution.{Solves};
 ghost use Rattle.points_to.specs.Found.{found};
-ghost use Rattle.pass_ground.specs.Vectors.{OfVectors};
+ghost use Rattle.pass_ground.specs.Vectors.{IsVectorForm};
 ghost use Rattle.narrow_vectors.specs.Narrow.{narrow};
 ghost use Rattle.narrow_vectors.specs.NarrowBy.{NarrowBy};
 
@@ -22,10 +22,10 @@ use update_special::Tags;
 
 /// A word goes from a vector that is bound, and from each unit that gives it, where the block after
 /// it doesn't use the word, each end of the bound operation is a unit of a vector or fails, and by
-/// this solution what is left isn't taken for a node. It solves the flow system of what is made too,
-/// so a pass after this one may ask it as well.
+/// this solution what is left isn't taken for a node. It solves the flow system of what is made
+/// too, so a pass after this one may ask it as well.
 pub fn without_unread_words(alloc: Global, g: Grin, flow: &Flow) -> Result<Grin, AllocError>
-    requires of_vectors { OfVectors (program_of g) }
+    requires of_vectors { IsVectorForm (program_of g) }
     requires solves { Solves (tables (program_of g)) (system (program_of g)) (found flow.now) }
     ensures shape { IfOk result (λ h. NarrowBy (found flow.now) (program_of g) (program_of h)) }
     ensures meaning { IfOk result (λ h. Keeps (program_of g) (program_of h)) }

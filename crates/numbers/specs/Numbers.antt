@@ -15,8 +15,8 @@ same_number (negsuc a) (pos b) = false
 same_number (negsuc a) (negsuc b) = a == b
 
 -- the number of a truth: 1 or 0
-abbrev pub truth : Bool → ℤ
-truth b = if b then pos 1 else pos 0
+abbrev pub bool_as_number : Bool → ℤ
+bool_as_number b = if b then pos 1 else pos 0
 
 abbrev pub sum : ℤ → ℤ → ℤ
 sum a b = wrap (a +ℤ b)
@@ -37,11 +37,11 @@ remainder a b = if same_number b (pos 0) then a else int_rem a b
 
 -- whether two numbers are one, as a number
 abbrev pub equal : ℤ → ℤ → ℤ
-equal a b = truth (same_number a b)
+equal a b = bool_as_number (same_number a b)
 
 -- whether the first is the smaller one, as a number
 abbrev pub less : ℤ → ℤ → ℤ
-less a b = truth (int_lt a b)
+less a b = bool_as_number (int_lt a b)
 
 -- the low eight bits
 abbrev pub low_byte : ℤ → ℕ

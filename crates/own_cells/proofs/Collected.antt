@@ -1,4 +1,4 @@
--- What the walks over programs collect: words that go anywhere, and words whose cells are updated.
+-- What the walk over a program collects: words that go anywhere.
 use Rattle.std.proofs.Common.{◌≡◌, List, ◌++◌, refl, sym, ap, ◌∙◌, append_assoc}
 use Rattle.grin_syntax.specs.declared.program.Cell.{Cell}
 use Rattle.grin_syntax.specs.declared.program.Stmt.{Stmt}
@@ -7,7 +7,7 @@ use Rattle.grin_syntax.specs.declared.program.Word.{Word}
 use Rattle.grin_syntax.specs.Tree.{Code, before_of}
 use Rattle.grin_syntax.proofs.TreeOf.{before_of-Store}
 use Rattle.pass_ground.proofs.Walked.{Folds}
-use Rattle.own_cells.specs.Shown.{cells_words, act_shown, code_shown, arms_shown, act_updated, code_updated, arms_updated}
+use Rattle.own_cells.specs.Shown.{cells_words, act_shown, code_shown, arms_shown}
 
 pub two_puts : (old mid new xs ys : List Word) → mid ≡ old ++ xs → new ≡ mid ++ ys → new ≡ old ++ (xs ++ ys)
 two_puts old mid new xs ys e f = f ∙ ap (λ l. l ++ ys) e ∙ append_assoc old xs ys
@@ -15,10 +15,6 @@ two_puts old mid new xs ys e f = f ∙ ap (λ l. l ++ ys) e ∙ append_assoc old
 pub shown : Folds act_shown code_shown arms_shown
 unfolding act_shown
 shown = record { of_end = λ o. refl; of_bind = λ t o b. refl; of_none = refl; of_arm = λ s b as'. refl }
-
-pub updated : Folds act_updated code_updated arms_updated
-unfolding act_updated
-updated = record { of_end = λ o. refl; of_bind = λ t o b. refl; of_none = refl; of_arm = λ s b as'. refl }
 
 pub store_done : (old new : List Word) (s : Stmt) (cs : List Cell) (c : Code) → s ≡ Store cs → new ≡ old ++ cells_words cs → old ++ code_shown (before_of s c) ≡ new ++ code_shown c
 unfolding act_shown

@@ -13,7 +13,7 @@ use Rattle.grin_meaning.specs.Values.{Datum, number, tag, cell, words, node, Nod
 use Rattle.grin_meaning.specs.Run.{node_word, nth_or_zero}
 use Rattle.grin_meaning.specs.Checks.{fills, is_filled, all_zero, is_none_or}
 use Rattle.grin_meaning.proofs.Checked.{zeros_are}
-use Rattle.own_cells.specs.Memory.{Memory, other, lost, holds, held, word_at}
+use Rattle.own_cells.specs.Memory.{Memory, other, lost, holds, stored_contents, word_at}
 use Rattle.own_cells.proofs.Invariant.{all_words, many_append, Invariant, Anyway}
 
 -- ---- lists
@@ -192,7 +192,7 @@ module _ (g : Program) where
       go (Some m) q z = at m (nat_le m (length ds)) q z i
 
   -- a cell holds what is put into it
-  pub held_holds : (env : Env) (v : V.Val) (n : Node) (s : ℕ) → node_of g env v ≡ Some n → fills g env v ≡ true → Holds env (held v) (record { site = s; node = n })
+  pub held_holds : (env : Env) (v : V.Val) (n : Node) (s : ℕ) → node_of g env v ≡ Some n → fills g env v ≡ true → Holds env (stored_contents v) (record { site = s; node = n })
   held_holds env (NodeVar x) n s e f = tt
   held_holds env (Node' t ws) n s e f = λ i. go (words_of g env ws) refl e i
     where

@@ -3,7 +3,7 @@ use Rattle.std.proofs.Common.{◌≡◌, ℕ, ◌+◌, ◌<◌, ◌≤◌, ◌||
 use Rattle.std.proofs.lemmas.List.{take_more, take_all}
 use Rattle.grin_syntax.specs.declared.program.Word.{Word}
 use Rattle.pass_ground.specs.Uses.{words_use}
-use Rattle.own_cells.specs.Entries.{has, HasVariables}
+use Rattle.own_cells.specs.Entries.{has, AddsVariables}
 use Rattle.own_cells.proofs.Invariant.{use_append}
 
 -- what a set has of which one more is put
@@ -13,7 +13,7 @@ pub record HasThose (keys : List ℕ) (ws : List Word) : Type 0 where
 pub has_none : (keys : List ℕ) → keys ≡ [] → HasThose keys []
 has_none keys e = record { by = λ x. ap (λ ks. has ks x) e }
 
-pub has_more : (old new : List ℕ) (ws : List Word) (i : ℕ) (d : Word) → i < length ws → HasVariables old (get_or ws i d ∷ []) new → HasThose old (take i ws) → HasThose new (take (i + 1) ws)
+pub has_more : (old new : List ℕ) (ws : List Word) (i : ℕ) (d : Word) → i < length ws → AddsVariables old (get_or ws i d ∷ []) new → HasThose old (take i ws) → HasThose new (take (i + 1) ws)
 has_more old new ws i d lt p h = record {
   by = λ x. p.by x ∙ ap (λ b. b || words_use x (get_or ws i d ∷ [])) (h.by x) ∙ sym (use_append x (take i ws) (get_or ws i d ∷ [])) ∙ ap (words_use x) (sym (take_more ws i d lt));
 }

@@ -18,17 +18,18 @@ use Rattle.grin_syntax.specs.declared.program.Target.{Target}
 use Rattle.grin_syntax.specs.declared.program.Target.TheVariants as to
 use Rattle.grin_syntax.specs.Tree.{Code, end, store, bind, Act, unit, fetch, fetch_word, update, eval, apply, call, prim, read, write, case, nested, fail, Arms, no_arm, arm, Program}
 use Rattle.grin_syntax.specs.Formed.{AllOf}
-use Rattle.grin_meaning.specs.Values.{Datum, number, tag, cell, words, node, Node, Value, Env, HeapCell, State, World, Stop, Answer, gives, stops, missing, then_do, need, and_then, Binding, with_vars, one_each, padded, Fit, fits, fits_not, unclear, fit_of, fits_if, fields_fit, node_fit, number_fit, int_fit, word_of, words_of, value_of, node_of, as_node, only_word, made_node, fields_of, bindings_of}
-use Rattle.grin_meaning.specs.Run.{Calls, act_by, code_by, arms_by, calls_by, looking, looking_at, choose, byte_or_end, after_read, spend, spent, passing, places, cells_of, with_cells, with_node, node_word, nth_or_zero, place_of, number_of, on_numbers}
+use Rattle.grin_meaning.specs.Values.{Datum, number, tag, cell, words, node, Node, Value, Env, HeapCell, State, World, Stop, Answer, gives, stops, missing, then_do, need, and_then, Binding, with_vars, one_each, padded, MatchOutcome, fits, fits_not, unclear, fit_of, fits_if, fields_fit, node_fit, number_fit, int_fit, word_of, words_of, value_of, node_of, as_node, only_word, made_node, fields_of, bindings_of}
+use Rattle.grin_meaning.specs.Run.{Calls, act_by, code_by, arms_by, calls_by, require_if_checked, require_value_if_checked, choose, byte_or_end, after_read, spend, spent, with_state_seen, places, cells_of, with_cells, with_node, node_word, nth_or_zero, place_of, number_of, apply_arithmetic}
 use Rattle.numbers.specs.Numbers.{same_number}
 use Rattle.grin_meaning.specs.Checks.{is_given}
 use Rattle.grin_meaning.specs.Keeps.{world_of}
-use Rattle.grin_meaning.specs.Follows.{Every}
+use Rattle.grin_meaning.specs.Follows.{HoldsInEveryState}
 use Rattle.grin_meaning.specs.Ready.{EachAct, EachCode, EachArms, IsInlined, inlined_kind}
 use Rattle.grin_meaning.proofs.Fullness.{every_and}
 use Rattle.grin_meaning.proofs.Paired.{nothing}
 use Rattle.pass_ground.specs.Uses.{word_is, words_use}
-use Rattle.own_cells.specs.Shown.{val_words, cells_words, act_shown, code_shown, arms_shown, act_updated, code_updated, arms_updated}
+use Rattle.pass_ground.specs.Updated.{act_updated, code_updated, arms_updated}
+use Rattle.own_cells.specs.Shown.{val_words, cells_words, act_shown, code_shown, arms_shown}
 
 abbrev pub all_words : Value → List Datum
 all_words (node n) = n.fields
@@ -331,7 +332,7 @@ module _ (g : Program) where
 
     pub record Good (w : World) : Type 0 where
       pub heap : I w.cells
-      pub seen : Every S w.seen
+      pub seen : HoldsInEveryState S w.seen
 
     -- after a world with so many cells
     pub data Kept (m : ℕ) : Answer → Type 0 where
@@ -346,12 +347,12 @@ module _ (g : Program) where
     need_kept m None w f h r = stops_good h
     need_kept m (Some b) w f h r = r b refl
 
-    looking_kept : (m : ℕ) (looks b : Bool) (w : World) (a : Answer) → Good w → Kept m a → Kept m (looking looks b w a)
+    looking_kept : (m : ℕ) (looks b : Bool) (w : World) (a : Answer) → Good w → Kept m a → Kept m (require_if_checked looks b w a)
     looking_kept m false b w a h r = r
     looking_kept m true true w a h r = r
     looking_kept m true false w a h r = stops_good h
 
-    given_kept : (m : ℕ) (looks : Bool) (f : Value → Bool) (a : Answer) → Kept m a → Kept m (looking_at looks f a)
+    given_kept : (m : ℕ) (looks : Bool) (f : Value → Bool) (a : Answer) → Kept m a → Kept m (require_value_if_checked looks f a)
     given_kept m false f a r = r
     given_kept m true f (gives v w) (gives_good le x h) = go (f v)
       where
@@ -368,7 +369,7 @@ module _ (g : Program) where
     then_kept m (gives v w) f (gives_good le x h) r = kept_from m (length w.cells) (f v w) le (r v w le x h)
     then_kept m (stops s w) f (stops_good h) r = stops_good h
 
-    choose_kept : (m : ℕ) (f : Fit) (w : World) (r : List Binding → Answer) (x : Answer) → Good w → ((bs : List Binding) → f ≡ fits bs → Kept m (r bs)) → Kept m x → Kept m (choose f w r x)
+    choose_kept : (m : ℕ) (f : MatchOutcome) (w : World) (r : List Binding → Answer) (x : Answer) → Good w → ((bs : List Binding) → f ≡ fits bs → Kept m (r bs)) → Kept m x → Kept m (choose f w r x)
     choose_kept m (fits bs) w r x h y z = y bs refl
     choose_kept m fits_not w r x h y z = z
     choose_kept m unclear w r x h y z = stops_good h
@@ -379,7 +380,7 @@ module _ (g : Program) where
     pub record CallsGood (c : Calls) : Type 0 where
       pub by : (f : ℕ) (xs : List Datum) (d : ℕ) (w : World) → AllOf (V (length w.cells)) xs → Good w → Still w (c f xs d w)
 
-    numbers_kept : (q : PrimOp) (x y : Datum) (w : World) → Good w → Still w (need (on_numbers q x y) w (λ v. gives v w))
+    numbers_kept : (q : PrimOp) (x y : Datum) (w : World) → Good w → Still w (need (apply_arithmetic q x y) w (λ v. gives v w))
     numbers_kept q (number a) (number b) w h = gives_good (omega arith) (k.numbers _ _, tt) h
     numbers_kept q (number a) (tag t) w h = stops_good h
     numbers_kept q (number a) (cell i) w h = stops_good h
@@ -407,7 +408,7 @@ module _ (g : Program) where
 
     -- an operation whose words are good, where the bad variables may stand for anything
     module _ (looks : Bool) (c : Calls) (cg : CallsGood c) (Bad : ℕ → Type 0) (enters : (env : Env) (c : List HeapCell) → I c → EnvIs Bad (length c) env → S (record { env = env; heap = c })) where
-      entered : (env : Env) (w : World) → EnvIs Bad (length w.cells) env → Good w → Good (passing env w)
+      entered : (env : Env) (w : World) → EnvIs Bad (length w.cells) env → Good w → Good (with_state_seen env w)
       entered env w e h = record { heap = h.heap; seen = every_and S w.seen (record { env = env; heap = w.cells }) h.seen (enters env w.cells h.heap e) }
 
       put_kept : (env : Env) (w : World) → EnvIs Bad (length w.cells) env → Good w → (a : W.Word) → UpdateFits Bad (a ∷ []) → (i : ℕ) (y : HeapCell) (n : Node) → and_then (word_of g env a) place_of ≡ Some i → slice_get w.cells i ≡ Some y → AllOf (V (length w.cells)) n.fields
@@ -472,18 +473,18 @@ module _ (g : Program) where
             need_kept _ (cells_of g env' cs) w _ h (λ hs q.
             let y : StoreGood env cs hs w = store_good env cs hs w e h (clear_front Bad (cells_words cs) (code_shown b) s) q in
             looking_kept _ looks _ w _ h (kept_from (length w.cells) (length (w.cells ++ hs)) _ (let all : length (w.cells ++ hs) ≡ length w.cells + length hs = many_append w.cells hs in omega (arith, all))
-            (code_kept env' d b (passing env' (with_cells hs w)) y.env_is (entered env' (with_cells hs w) y.env_is y.good) l.1 (clear_back Bad (cells_words cs) (code_shown b) s) u)))
+            (code_kept env' d b (with_state_seen env' (with_cells hs w)) y.env_is (entered env' (with_cells hs w) y.env_is y.good) l.1 (clear_back Bad (cells_words cs) (code_shown b) s) u)))
         code_kept env d (bind t o b) w e h l s u = then_kept _ (act_by g c looks env (suc d) o w) _
             (act_kept env (suc d) o w e h l.1 (clear_front Bad (act_shown o) (code_shown b) s) (update_front Bad (act_updated o) (code_updated b) u))
             (λ v w' le x h'. looking_kept _ looks _ w' _ h' (need_kept _ (bindings_of g t v) w' _ h' (λ bs q.
             let e' : EnvIs Bad (length w'.cells) (with_vars bs env) = env_with (at w' h') Bad bs env (bindings_good (at w' h') t v bs x q) (env_more Bad (length w.cells) (length w'.cells) env le e) in
-            code_kept (with_vars bs env) d b (passing (with_vars bs env) w') e' (entered (with_vars bs env) w' e' h') l.2 (clear_back Bad (act_shown o) (code_shown b) s) (update_back Bad (act_updated o) (code_updated b) u))))
+            code_kept (with_vars bs env) d b (with_state_seen (with_vars bs env) w') e' (entered (with_vars bs env) w' e' h') l.2 (clear_back Bad (act_shown o) (code_shown b) s) (update_back Bad (act_updated o) (code_updated b) u))))
 
         arms_kept : (env : Env) (d : ℕ) (v : Value) (as' : Arms) (w : World) → EnvIs Bad (length w.cells) env → Good w → ValueIs (length w.cells) v → EachArms inlined_kind as' → Clear Bad (arms_shown as') → UpdateFits Bad (arms_updated as') → Still w (arms_by g c looks env d v as' w)
         arms_kept env d v no_arm w e h x l s u = stops_good h
         arms_kept env d v (arm q b as') w e h x l s u = choose_kept _ (fit_of g q v) w _ _ h
             (λ bs r. (let e' : EnvIs Bad (length w.cells) (with_vars bs env) = env_with (at w h) Bad bs env (fit_good (at w h) q v bs x r) e in
-            code_kept (with_vars bs env) d b (passing (with_vars bs env) w) e' (entered (with_vars bs env) w e' h) l.1 (clear_front Bad (code_shown b) (arms_shown as') s) (update_front Bad (code_updated b) (arms_updated as') u)))
+            code_kept (with_vars bs env) d b (with_state_seen (with_vars bs env) w) e' (entered (with_vars bs env) w e' h) l.1 (clear_front Bad (code_shown b) (arms_shown as') s) (update_front Bad (code_updated b) (arms_updated as') u)))
             (arms_kept env d v as' w e h x l.2 (clear_back Bad (code_shown b) (arms_shown as') s) (update_back Bad (code_updated b) (arms_updated as') u))
 
     -- ---- calls
@@ -499,7 +500,7 @@ module _ (g : Program) where
           let env : Env = with_vars bs nothing in
           let e' : EnvIs NoneBad (length w.cells) env = env_with (at w h) NoneBad bs nothing (one_each_good (at w h) q.params xs bs x r) (λ y v out i. cc) in
           let enters : (env : Env) (c : List HeapCell) → I c → EnvIs NoneBad (length c) env → S (record { env = env; heap = c }) = λ env c i all. k.state env c i (λ y v. all y v (λ bad. bad)) in
-          given_kept _ looks (is_given g) _ (code_kept looks (calls_by g looks n) (calls_good inlined looks n) NoneBad enters env d q.body (passing env (spent f d m w))
+          given_kept _ looks (is_given g) _ (code_kept looks (calls_by g looks n) (calls_good inlined looks n) NoneBad enters env d q.body (with_state_seen env (spent f d m w))
           e' (entered looks (calls_by g looks n) (calls_good inlined looks n) NoneBad enters env (spent f d m w) e' (record { heap = h.heap; seen = h.seen }))
           (all_get (λ q. EachCode inlined_kind q.body) g.procs f q inlined e) (record { by = λ y bad. absurd bad }) (inl (record { by = λ y bad. absurd bad }))))));
     }
@@ -507,6 +508,6 @@ module _ (g : Program) where
     pub kept_gives : (m : ℕ) (v : Value) (w : World) → Kept m (gives v w) → m ≤ length w.cells × ValueIs (length w.cells) v × Good w
     kept_gives m v w (gives_good le x h) = (le, x, h)
 
-    pub kept_seen : (m : ℕ) (a : Answer) → Kept m a → Every S (world_of a).seen
+    pub kept_seen : (m : ℕ) (a : Answer) → Kept m a → HoldsInEveryState S (world_of a).seen
     kept_seen m (gives v w) (gives_good le x h) = h.seen
     kept_seen m (stops s w) (stops_good h) = h.seen

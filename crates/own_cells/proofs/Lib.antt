@@ -2,10 +2,10 @@ pub mod Invariant
 pub mod Frames
 pub mod Own
 pub mod Stores
-pub mod Same
+pub mod Simulated
 pub mod Text
-pub mod Well
-pub mod PassContract
+pub mod Formed
+pub mod Contract
 pub mod Collected
 pub mod Rewriting
 pub mod Listed

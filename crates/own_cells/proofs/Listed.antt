@@ -11,14 +11,14 @@ use Rattle.grin_syntax.specs.declared.program.Word.TheVariants.{Lit, Var}
 use Rattle.grin_syntax.specs.declared.program.Val.{Val}
 use Rattle.pass_ground.specs.Uses.{words_use}
 use Rattle.own_cells.specs.Shown.{val_words, cells_words}
-use Rattle.own_cells.specs.Memory.{Memory, other, lost, holds, Memories, with_memory, held, forgotten, forget, replaced, after_update, after_store, word_at, told}
-use Rattle.own_cells.specs.Entries.{memory_of, memories_from, memories, is_cell, Extends}
+use Rattle.own_cells.specs.Memory.{Memory, other, lost, holds, KnownCellContents, with_memory, stored_contents, contents_forgotten, forget, contents_replaced, after_update, after_store, word_at, told}
+use Rattle.own_cells.specs.Entries.{memory_of, memories_from, memories, is_cell, ExtendsEntries}
 use Rattle.own_cells.specs.declared.memory.Entry.{Entry}
 use Rattle.own_cells.proofs.Invariant.{use_append}
 
 -- ---- entries
 
-pub memories_push : (T : Memories) (es : List Entry) (e : Entry) → memories_from T (es ++ e ∷ []) ≡ with_memory e.var.0 (memory_of e.words) (memories_from T es)
+pub memories_push : (T : KnownCellContents) (es : List Entry) (e : Entry) → memories_from T (es ++ e ∷ []) ≡ with_memory e.var.0 (memory_of e.words) (memories_from T es)
 memories_push T [] e = refl
 memories_push T (x ∷ es) e = memories_push (with_memory x.var.0 (memory_of x.words) T) es e
 
@@ -61,7 +61,7 @@ word_none (a ∷ ws) (suc i) e = word_none ws i e
 
 -- ---- one entry more, or none
 
-same_with : (T : Memories) (x : ℕ) (m n : Memory) → T x ≡ m → m ≡ n → with_memory x n T ≡ T
+same_with : (T : KnownCellContents) (x : ℕ) (m n : Memory) → T x ≡ m → m ≡ n → with_memory x n T ≡ T
 same_with T x m n e f = λ i y. go y (nat_eq y x) refl i
   where
     go : (y : ℕ) (b : Bool) → nat_eq y x ≡ b → cond b n (T y) ≡ T y
@@ -73,58 +73,58 @@ not_cell other e = refl
 not_cell lost e = cc
 not_cell (holds ws) e = cc
 
-replaced_cell : (m n : Memory) → is_cell m ≡ true → replaced m n ≡ n
+replaced_cell : (m n : Memory) → is_cell m ≡ true → contents_replaced m n ≡ n
 replaced_cell other n e = cc
 replaced_cell lost n e = refl
 replaced_cell (holds ws) n e = refl
 
-forgotten_cell : (m : Memory) → is_cell m ≡ true → forgotten m ≡ lost
+forgotten_cell : (m : Memory) → is_cell m ≡ true → contents_forgotten m ≡ lost
 forgotten_cell other e = cc
 forgotten_cell lost e = refl
 forgotten_cell (holds ws) e = refl
 
-pub updated_new : (x : VarId) (v : Val) (es new : List Entry) (words : Option (List W.Word)) → is_cell (memories es x.0) ≡ true → memory_of words ≡ held v → new ≡ es ++ record { var = x; words = words } ∷ [] → memories new ≡ after_update (Var x) v (memories es)
-updated_new x v es new words c h p = ap memories p ∙ memories_push (λ y. other) es (record { var = x; words = words }) ∙ ap (λ m. with_memory x.0 m (memories es)) (h ∙ sym (replaced_cell (memories es x.0) (held v) c))
+pub updated_new : (x : VarId) (v : Val) (es new : List Entry) (words : Option (List W.Word)) → is_cell (memories es x.0) ≡ true → memory_of words ≡ stored_contents v → new ≡ es ++ record { var = x; words = words } ∷ [] → memories new ≡ after_update (Var x) v (memories es)
+updated_new x v es new words c h p = ap memories p ∙ memories_push (λ y. other) es (record { var = x; words = words }) ∙ ap (λ m. with_memory x.0 m (memories es)) (h ∙ sym (replaced_cell (memories es x.0) (stored_contents v) c))
 
 pub updated_not : (x : VarId) (v : Val) (es : List Entry) → is_cell (memories es x.0) ≡ false → memories es ≡ after_update (Var x) v (memories es)
-updated_not x v es c = sym (same_with (memories es) x.0 other (replaced (memories es x.0) (held v)) (not_cell (memories es x.0) c) (ap (λ m. replaced m (held v)) (sym (not_cell (memories es x.0) c))))
+updated_not x v es c = sym (same_with (memories es) x.0 other (contents_replaced (memories es x.0) (stored_contents v)) (not_cell (memories es x.0) c) (ap (λ m. contents_replaced m (stored_contents v)) (sym (not_cell (memories es x.0) c))))
 
 use_one : (x y : ℕ) → (nat_eq x y || false) ≡ nat_eq y x
 use_one x y = or_false (nat_eq x y) ∙ eq_turned x y
 
-forget_is : (x : VarId) (T : Memories) → forget (Var x ∷ []) T ≡ with_memory x.0 (forgotten (T x.0)) T
+forget_is : (x : VarId) (T : KnownCellContents) → forget (Var x ∷ []) T ≡ with_memory x.0 (contents_forgotten (T x.0)) T
 forget_is x T = λ i y. go y (nat_eq y x.0) refl i
   where
-    go : (y : ℕ) (b : Bool) → nat_eq y x.0 ≡ b → cond (nat_eq x.0 y || false) (forgotten (T y)) (T y) ≡ cond (nat_eq y x.0) (forgotten (T x.0)) (T y)
-    go y true q = (λ i. cond (use_one x.0 y i) (forgotten (T y)) (T y)) ∙ (λ i. cond (q i) (forgotten (T y)) (T y)) ∙ ap (λ z. forgotten (T z)) (eq_from y x.0 q) ∙ (λ i. cond (sym q i) (forgotten (T x.0)) (T y))
-    go y false q = (λ i. cond (use_one x.0 y i) (forgotten (T y)) (T y)) ∙ (λ i. cond (q i) (forgotten (T y)) (T y)) ∙ (λ i. cond (sym q i) (forgotten (T x.0)) (T y))
+    go : (y : ℕ) (b : Bool) → nat_eq y x.0 ≡ b → cond (nat_eq x.0 y || false) (contents_forgotten (T y)) (T y) ≡ cond (nat_eq y x.0) (contents_forgotten (T x.0)) (T y)
+    go y true q = (λ i. cond (use_one x.0 y i) (contents_forgotten (T y)) (T y)) ∙ (λ i. cond (q i) (contents_forgotten (T y)) (T y)) ∙ ap (λ z. contents_forgotten (T z)) (eq_from y x.0 q) ∙ (λ i. cond (sym q i) (contents_forgotten (T x.0)) (T y))
+    go y false q = (λ i. cond (use_one x.0 y i) (contents_forgotten (T y)) (T y)) ∙ (λ i. cond (q i) (contents_forgotten (T y)) (T y)) ∙ (λ i. cond (sym q i) (contents_forgotten (T x.0)) (T y))
 
 pub forgot_new : (x : VarId) (es new : List Entry) → is_cell (memories es x.0) ≡ true → new ≡ es ++ record { var = x; words = None } ∷ [] → memories new ≡ forget (Var x ∷ []) (memories es)
 forgot_new x es new c p = ap memories p ∙ memories_push (λ y. other) es (record { var = x; words = None }) ∙ ap (λ m. with_memory x.0 m (memories es)) (sym (forgotten_cell (memories es x.0) c)) ∙ sym (forget_is x (memories es))
 
 pub forgot_not : (x : VarId) (es : List Entry) → is_cell (memories es x.0) ≡ false → memories es ≡ forget (Var x ∷ []) (memories es)
-forgot_not x es c = sym (forget_is x (memories es) ∙ same_with (memories es) x.0 other (forgotten (memories es x.0)) (not_cell (memories es x.0) c) (ap forgotten (sym (not_cell (memories es x.0) c))))
+forgot_not x es c = sym (forget_is x (memories es) ∙ same_with (memories es) x.0 other (contents_forgotten (memories es x.0)) (not_cell (memories es x.0) c) (ap contents_forgotten (sym (not_cell (memories es x.0) c))))
 
-pub extends_push : (es new : List Entry) (e : Entry) → new ≡ es ++ e ∷ [] → Extends es new
+pub extends_push : (es new : List Entry) (e : Entry) → new ≡ es ++ e ∷ [] → ExtendsEntries es new
 extends_push es new e p = (e ∷ [], p)
 
-pub extends_same : (es : List Entry) → Extends es es
+pub extends_same : (es : List Entry) → ExtendsEntries es es
 extends_same es = ([], sym (append-nil es))
 
-pub extends_more : (a b c : List Entry) → Extends a b → Extends b c → Extends a c
+pub extends_more : (a b c : List Entry) → ExtendsEntries a b → ExtendsEntries b c → ExtendsEntries a c
 extends_more a b c h k = (h.0 ++ k.0, k.1 ∙ ap (λ l. l ++ k.0) h.1 ∙ append_assoc a h.0 k.0)
 
 -- ---- words that are forgotten, one by one
 
-twice : (m : Memory) → forgotten (forgotten m) ≡ forgotten m
+twice : (m : Memory) → contents_forgotten (contents_forgotten m) ≡ contents_forgotten m
 twice other = refl
 twice lost = refl
 twice (holds ws) = refl
 
-forget_again : (ws us : List W.Word) (T : Memories) → forget (ws ++ us) T ≡ forget us (forget ws T)
-forget_again ws us T = λ i y. (ap (λ b. cond b (forgotten (T y)) (T y)) (use_append y ws us) ∙ go (words_use y ws) (words_use y us) (T y)) i
+forget_again : (ws us : List W.Word) (T : KnownCellContents) → forget (ws ++ us) T ≡ forget us (forget ws T)
+forget_again ws us T = λ i y. (ap (λ b. cond b (contents_forgotten (T y)) (T y)) (use_append y ws us) ∙ go (words_use y ws) (words_use y us) (T y)) i
   where
-    go : (a b : Bool) (m : Memory) → cond (a || b) (forgotten m) m ≡ cond b (forgotten (cond a (forgotten m) m)) (cond a (forgotten m) m)
+    go : (a b : Bool) (m : Memory) → cond (a || b) (contents_forgotten m) m ≡ cond b (contents_forgotten (cond a (contents_forgotten m) m)) (cond a (contents_forgotten m) m)
     go true true m = sym (twice m)
     go true false m = refl
     go false true m = refl
@@ -132,12 +132,12 @@ forget_again ws us T = λ i y. (ap (λ b. cond b (forgotten (T y)) (T y)) (use_a
 
 pub record ForgetSoFar (old new : List Entry) (ws : List W.Word) : Type 0 where
   pub is : memories new ≡ forget ws (memories old)
-  pub more : Extends old new
+  pub more : ExtendsEntries old new
 
 pub forget_none : (es : List Entry) → ForgetSoFar es es []
 forget_none es = record { is = refl; more = extends_same es }
 
-pub forget_next : (old mid new : List Entry) (ws : List W.Word) (i : ℕ) (d : W.Word) → i < length ws → memories new ≡ forget (get_or ws i d ∷ []) (memories mid) → Extends mid new → ForgetSoFar old mid (take i ws) → ForgetSoFar old new (take (i + 1) ws)
+pub forget_next : (old mid new : List Entry) (ws : List W.Word) (i : ℕ) (d : W.Word) → i < length ws → memories new ≡ forget (get_or ws i d ∷ []) (memories mid) → ExtendsEntries mid new → ForgetSoFar old mid (take i ws) → ForgetSoFar old new (take (i + 1) ws)
 forget_next old mid new ws i d lt e m h = subst (ForgetSoFar old new) (sym (take_more ws i d lt)) (record { is = e ∙ ap (forget (get_or ws i d ∷ [])) h.is ∙ sym (forget_again (take i ws) (get_or ws i d ∷ []) (memories old)); more = extends_more old mid new h.more m })
 
 pub forget_all : (old new : List Entry) (ws : List W.Word) (i : ℕ) → length ws ≤ i → ForgetSoFar old new (take i ws) → ForgetSoFar old new ws
@@ -146,28 +146,28 @@ forget_all old new ws i le h = subst (ForgetSoFar old new) (take_all i ws le) h
 -- ---- cells that are stored, one by one
 
 module _ (own : ℕ → Bool) where
-  store_again : (cs : List Cell) (c : Cell) (T : Memories) → after_store own (cs ++ c ∷ []) T ≡ after_store own (c ∷ []) (after_store own cs T)
+  store_again : (cs : List Cell) (c : Cell) (T : KnownCellContents) → after_store own (cs ++ c ∷ []) T ≡ after_store own (c ∷ []) (after_store own cs T)
   store_again [] c T = refl
-  store_again (d ∷ cs) c T = store_again cs c (cond (own d.var.0) (with_memory d.var.0 (held d.val) T) T)
+  store_again (d ∷ cs) c T = store_again cs c (cond (own d.var.0) (with_memory d.var.0 (stored_contents d.val) T) T)
 
   pub record StoreSoFar (old new : List Entry) (cs : List Cell) : Type 0 where
     pub is : memories new ≡ after_store own cs (memories old)
-    pub more : Extends old new
+    pub more : ExtendsEntries old new
 
   pub store_none : (es : List Entry) → StoreSoFar es es []
   store_none es = record { is = refl; more = extends_same es }
 
-  pub store_next : (old mid new : List Entry) (cs : List Cell) (i : ℕ) (c : Cell) → i < length cs → c ≡ get_or cs i c → memories new ≡ after_store own (c ∷ []) (memories mid) → Extends mid new → StoreSoFar old mid (take i cs) → StoreSoFar old new (take (i + 1) cs)
+  pub store_next : (old mid new : List Entry) (cs : List Cell) (i : ℕ) (c : Cell) → i < length cs → c ≡ get_or cs i c → memories new ≡ after_store own (c ∷ []) (memories mid) → ExtendsEntries mid new → StoreSoFar old mid (take i cs) → StoreSoFar old new (take (i + 1) cs)
   store_next old mid new cs i c lt at e m h = subst (StoreSoFar old new) (sym (take_next cs i c lt at)) (record { is = e ∙ ap (after_store own (c ∷ [])) h.is ∙ sym (store_again (take i cs) c (memories old)); more = extends_more old mid new h.more m })
 
   pub store_all : (old new : List Entry) (cs : List Cell) (i : ℕ) → length cs ≤ i → StoreSoFar old new (take i cs) → StoreSoFar old new cs
   store_all old new cs i le h = subst (StoreSoFar old new) (take_all i cs le) h
 
-  pub store_new : (c : Cell) (es new : List Entry) (words : Option (List W.Word)) → own c.var.0 ≡ true → memory_of words ≡ held c.val → new ≡ es ++ record { var = c.var; words = words } ∷ [] → memories new ≡ after_store own (c ∷ []) (memories es)
-  store_new c es new words o h p = ap memories p ∙ memories_push (λ y. other) es (record { var = c.var; words = words }) ∙ ap (λ m. with_memory c.var.0 m (memories es)) h ∙ ap (λ b. cond b (with_memory c.var.0 (held c.val) (memories es)) (memories es)) (sym o)
+  pub store_new : (c : Cell) (es new : List Entry) (words : Option (List W.Word)) → own c.var.0 ≡ true → memory_of words ≡ stored_contents c.val → new ≡ es ++ record { var = c.var; words = words } ∷ [] → memories new ≡ after_store own (c ∷ []) (memories es)
+  store_new c es new words o h p = ap memories p ∙ memories_push (λ y. other) es (record { var = c.var; words = words }) ∙ ap (λ m. with_memory c.var.0 m (memories es)) h ∙ ap (λ b. cond b (with_memory c.var.0 (stored_contents c.val) (memories es)) (memories es)) (sym o)
 
   pub store_not : (c : Cell) (es : List Entry) → own c.var.0 ≡ false → memories es ≡ after_store own (c ∷ []) (memories es)
-  store_not c es o = ap (λ b. cond b (with_memory c.var.0 (held c.val) (memories es)) (memories es)) (sym o)
+  store_not c es o = ap (λ b. cond b (with_memory c.var.0 (stored_contents c.val) (memories es)) (memories es)) (sym o)
 
 -- ---- the words of cells
 
@@ -188,14 +188,14 @@ cut_one zero es e le = refl
 cut_one (suc k) [] e le = absurd (omega (arith, le))
 cut_one (suc k) (x ∷ es) e le = ap (λ l. x ∷ l) (cut_one k es e (omega (arith, le)))
 
-pub cut_back : (old new : List Entry) → Extends old new → take (length old) new ≡ old
+pub cut_back : (old new : List Entry) → ExtendsEntries old new → take (length old) new ≡ old
 cut_back old new h = ap (take (length old)) h.1 ∙ go old h.0
   where
     go : (xs ys : List Entry) → take (length xs) (xs ++ ys) ≡ xs
     go [] ys = refl
     go (x ∷ xs) ys = ap (λ l. x ∷ l) (go xs ys)
 
-pub extends_long : (old new : List Entry) → Extends old new → length old ≤ length new
+pub extends_long : (old new : List Entry) → ExtendsEntries old new → length old ≤ length new
 extends_long old new h = subst (λ l. length old ≤ length l) (sym h.1) (go old h.0)
   where
     go : (xs ys : List Entry) → length xs ≤ length (xs ++ ys)

@@ -12,18 +12,19 @@ use Rattle.grin_syntax.specs.declared.program.Target.{Target}
 use Rattle.grin_syntax.specs.Tree.{Act, unit, fetch, fetch_word, update, eval, apply, call, prim, read, write, case, nested, fail, Program}
 use Rattle.grin_syntax.specs.Formed.{AllOf}
 use Rattle.grin_meaning.specs.Values.{Datum, cell, words, Node, Value, Env, HeapCell, State, World, gives, need, and_then, Binding, with_vars, only_word, word_of, node_of, bindings_of}
-use Rattle.grin_meaning.specs.Run.{Calls, act_by, looking, with_node, place_of, node_word}
+use Rattle.grin_meaning.specs.Run.{Calls, act_by, require_if_checked, with_node, place_of, node_word}
 use Rattle.grin_meaning.specs.Checks.{fills}
 use Rattle.grin_meaning.specs.Ready.{EachAct, inlined_kind}
-use Rattle.grin_meaning.specs.Follows.{Every}
+use Rattle.grin_meaning.specs.Follows.{HoldsInEveryState}
 use Rattle.pass_ground.specs.Uses.{words_use}
 use Rattle.pass_ground.proofs.Bound.{names_of, vars_out}
-use Rattle.own_cells.specs.Shown.{val_words, act_shown, act_updated}
-use Rattle.own_cells.specs.Memory.{Memory, other, lost, holds, Memories, held, word_at, forgotten, replaced, after_update, after_act}
+use Rattle.pass_ground.specs.Updated.{act_updated}
+use Rattle.own_cells.specs.Shown.{val_words, act_shown}
+use Rattle.own_cells.specs.Memory.{Memory, other, lost, holds, KnownCellContents, stored_contents, word_at, contents_forgotten, contents_replaced, after_update, after_act}
 use Rattle.own_cells.proofs.Invariant.{all_words, Clear, Invariant, CallsGood, Good, Kept, act_kept, kept_gives, words_of_heap, bindings_good, env_with}
 use Rattle.own_cells.proofs.Frames.{Free, Frame, frame, anyway, Holds, held_holds}
 
-every_unit : (ss : List State) → Every (λ s. Unit {0}) ss
+every_unit : (ss : List State) → HoldsInEveryState (λ s. Unit {0}) ss
 every_unit [] = tt
 every_unit (s ∷ ss) = (tt, every_unit ss)
 
@@ -62,7 +63,7 @@ module _ (g : Program) (own : ℕ → Bool) where
   Known env c x lost ds = Beside env c x (λ y. Unit {0}) ds
   Known env c x (holds ws) ds = Beside env c x (Holds g env (holds ws)) ds
 
-  abbrev pub AllKnown : Env → List HeapCell → Memories → List Datum → Type 0
+  abbrev pub AllKnown : Env → List HeapCell → KnownCellContents → List Datum → Type 0
   AllKnown env c T ds = (x : ℕ) → Known env c x (T x) ds
 
   own_weaker : (env : Env) (c : List HeapCell) (x : ℕ) (Q R : HeapCell → Type 0) (ds : List Datum) → ((y : HeapCell) → Q y → R y) → Beside env c x Q ds → Beside env c x R ds
@@ -71,12 +72,12 @@ module _ (g : Program) (own : ℕ → Bool) where
     free = k.free;
   }
 
-  pub known_forgotten : (env : Env) (c : List HeapCell) (x : ℕ) (m : Memory) (ds : List Datum) → Known env c x m ds → Known env c x (forgotten m) ds
+  pub known_forgotten : (env : Env) (c : List HeapCell) (x : ℕ) (m : Memory) (ds : List Datum) → Known env c x m ds → Known env c x (contents_forgotten m) ds
   known_forgotten env c x other ds k = k
   known_forgotten env c x lost ds k = k
   known_forgotten env c x (holds ws) ds k = own_weaker env c x (Holds g env (holds ws)) (λ y. Unit {0}) ds (λ y h. tt) k
 
-  pub known_held : (env : Env) (c : List HeapCell) (x : ℕ) (v : V.Val) (ds : List Datum) → Beside env c x (Holds g env (held v)) ds → Known env c x (held v) ds
+  pub known_held : (env : Env) (c : List HeapCell) (x : ℕ) (v : V.Val) (ds : List Datum) → Beside env c x (Holds g env (stored_contents v)) ds → Known env c x (stored_contents v) ds
   known_held env c x (NodeVar z) ds k = own_weaker env c x (λ y. Unit {0}) (λ y. Unit {0}) ds (λ y h. tt) k
   known_held env c x (Node' t ws) ds k = k
   known_held env c x (Vector ws) ds k = k
@@ -121,16 +122,16 @@ module _ (g : Program) (own : ℕ → Bool) where
     known_act env d o w w' v x (holds ws) ds l s n e k = own_act env d o w w' v x (Holds g env (holds ws)) ds l s (inl n) e k
 
     known_lost : (env : Env) (d : ℕ) (o : Act) (w w' : World) (v : Value) (x : ℕ) (m : Memory) (ds : List Datum) → EachAct inlined_kind o → Clear IsOwn (act_shown o) → act_by g c true env d o w ≡ gives v w'
-        → Known env w.cells x m ds → Known env w'.cells x (forgotten m) (all_words v)
+        → Known env w.cells x m ds → Known env w'.cells x (contents_forgotten m) (all_words v)
     known_lost env d o w w' v x other ds l s e k = tt
     known_lost env d o w w' v x lost ds l s e k = own_act env d o w w' v x (λ y. Unit {0}) ds l s (inr (λ y. tt)) e k
     known_lost env d o w w' v x (holds ws) ds l s e k = own_act env d o w w' v x (λ y. Unit {0}) ds l s (inr (λ y. tt)) e (own_weaker env w.cells x (Holds g env (holds ws)) (λ y. Unit {0}) ds (λ y h. tt) k)
 
     known_forget : (env : Env) (d : ℕ) (o : Act) (w w' : World) (v : Value) (x : ℕ) (m : Memory) (ds : List Datum) → EachAct inlined_kind o → Clear IsOwn (act_shown o) → act_by g c true env d o w ≡ gives v w'
-        → Known env w.cells x m ds → Known env w'.cells x (cond (words_use x (act_updated o)) (forgotten m) m) (all_words v)
+        → Known env w.cells x m ds → Known env w'.cells x (cond (words_use x (act_updated o)) (contents_forgotten m) m) (all_words v)
     known_forget env d o w w' v x m ds l s e k = go (words_use x (act_updated o)) refl
       where
-        go : (b : Bool) → words_use x (act_updated o) ≡ b → Known env w'.cells x (cond b (forgotten m) m) (all_words v)
+        go : (b : Bool) → words_use x (act_updated o) ≡ b → Known env w'.cells x (cond b (contents_forgotten m) m) (all_words v)
         go true q = known_lost env d o w w' v x m ds l s e k
         go false q = known_act env d o w w' v x m ds l s q e k
 
@@ -151,27 +152,27 @@ module _ (g : Program) (own : ℕ → Bool) where
     update_gave env d a v w w' u e = at_place (and_then (word_of g env a) place_of) refl e
       where
         last : (i : ℕ) (y : HeapCell) (n : Node) (b : Bool) → and_then (word_of g env a) place_of ≡ Some i → slice_get w.cells i ≡ Some y → node_of g env v ≡ Some n → fills g env v ≡ b
-            → looking true b w (gives (words []) (with_node i n y w)) ≡ gives u w' → Updated env a v w w'
+            → require_if_checked true b w (gives (words []) (with_node i n y w)) ≡ gives u w' → Updated env a v w w'
         last i y n true p q r f x = record { i = i; y = y; n = n; place = p; there = q; made = r; filled = f; cells = (let same : with_node i n y w ≡ w' = cc in ap (λ k. k.cells) (sym same)) }
         last i y n false p q r f x = cc
 
-        at_node : (i : ℕ) (y : HeapCell) (o : Option Node) → and_then (word_of g env a) place_of ≡ Some i → slice_get w.cells i ≡ Some y → node_of g env v ≡ o → need o w (λ n. looking true (fills g env v) w (gives (words []) (with_node i n y w))) ≡ gives u w' → Updated env a v w w'
+        at_node : (i : ℕ) (y : HeapCell) (o : Option Node) → and_then (word_of g env a) place_of ≡ Some i → slice_get w.cells i ≡ Some y → node_of g env v ≡ o → need o w (λ n. require_if_checked true (fills g env v) w (gives (words []) (with_node i n y w))) ≡ gives u w' → Updated env a v w w'
         at_node i y None p q r x = cc
         at_node i y (Some n) p q r x = last i y n (fills g env v) p q r refl x
 
         at_cell : (i : ℕ) (o : Option HeapCell) → and_then (word_of g env a) place_of ≡ Some i → slice_get w.cells i ≡ o
-            → need o w (λ y. need (node_of g env v) w (λ n. looking true (fills g env v) w (gives (words []) (with_node i n y w)))) ≡ gives u w' → Updated env a v w w'
+            → need o w (λ y. need (node_of g env v) w (λ n. require_if_checked true (fills g env v) w (gives (words []) (with_node i n y w)))) ≡ gives u w' → Updated env a v w w'
         at_cell i None p q x = cc
         at_cell i (Some y) p q x = at_node i y (node_of g env v) p q refl x
 
         at_place : (o : Option ℕ) → and_then (word_of g env a) place_of ≡ o
-            → need o w (λ i. need (slice_get w.cells i) w (λ y. need (node_of g env v) w (λ n. looking true (fills g env v) w (gives (words []) (with_node i n y w))))) ≡ gives u w' → Updated env a v w w'
+            → need o w (λ i. need (slice_get w.cells i) w (λ y. need (node_of g env v) w (λ n. require_if_checked true (fills g env v) w (gives (words []) (with_node i n y w))))) ≡ gives u w' → Updated env a v w w'
         at_place None p x = cc
         at_place (Some i) p x = at_cell i (slice_get w.cells i) p refl x
 
     -- the cell of x is updated
     own_update : (env : Env) (d : ℕ) (z : VarId) (v : V.Val) (w w' : World) (u : Value) (Q : HeapCell → Type 0) (ds : List Datum) → Clear IsOwn (val_words v) → act_by g c true env d (update (Var z) v) w ≡ gives u w'
-        → Beside env w.cells z.0 Q ds → Beside env w'.cells z.0 (Holds g env (held v)) (all_words u)
+        → Beside env w.cells z.0 Q ds → Beside env w'.cells z.0 (Holds g env (stored_contents v)) (all_words u)
     unfolding EachAct act_shown act_updated
     own_update env d z v w w' u Q ds s e k =
         let y : Updated env (Var z) v w w' = update_gave env d (Var z) v w w' u e in
@@ -197,12 +198,12 @@ module _ (g : Program) (own : ℕ → Bool) where
         }
 
     known_update : (env : Env) (d : ℕ) (z : VarId) (v : V.Val) (w w' : World) (u : Value) (m : Memory) (ds : List Datum) → Clear IsOwn (val_words v) → act_by g c true env d (update (Var z) v) w ≡ gives u w'
-        → Known env w.cells z.0 m ds → Known env w'.cells z.0 (replaced m (held v)) (all_words u)
+        → Known env w.cells z.0 m ds → Known env w'.cells z.0 (contents_replaced m (stored_contents v)) (all_words u)
     known_update env d z v w w' u other ds s e k = tt
     known_update env d z v w w' u lost ds s e k = known_held env w'.cells z.0 v (all_words u) (own_update env d z v w w' u (λ y. Unit {0}) ds s e k)
     known_update env d z v w w' u (holds ws) ds s e k = known_held env w'.cells z.0 v (all_words u) (own_update env d z v w w' u (Holds g env (holds ws)) ds s e k)
 
-    updates_known : (env : Env) (d : ℕ) (a : W.Word) (v : V.Val) (w w' : World) (u : Value) (T : Memories) (ds : List Datum) → Clear IsOwn (val_words v) → act_by g c true env d (update a v) w ≡ gives u w'
+    updates_known : (env : Env) (d : ℕ) (a : W.Word) (v : V.Val) (w w' : World) (u : Value) (T : KnownCellContents) (ds : List Datum) → Clear IsOwn (val_words v) → act_by g c true env d (update a v) w ≡ gives u w'
         → AllKnown env w.cells T ds → AllKnown env w'.cells (after_update a v T) (all_words u)
     unfolding EachAct act_shown act_updated
     updates_known env d (Lit i) v w w' u T ds s e k x = known_act env d (update (Lit i) v) w w' u x (T x) ds (tt, tt) s refl e (k x)
@@ -213,12 +214,12 @@ module _ (g : Program) (own : ℕ → Bool) where
         turned : nat_eq x z.0 ≡ false → words_use x (Var z ∷ []) ≡ false
         turned q = ap (λ b. b || false) (eq_turned z.0 x ∙ q)
 
-        go : (b : Bool) → nat_eq x z.0 ≡ b → Known env w'.cells x (cond b (replaced (T z.0) (held v)) (T x)) (all_words u)
-        go true q = subst (λ y. Known env w'.cells y (replaced (T z.0) (held v)) (all_words u)) (sym (eq_from x z.0 q)) (known_update env d z v w w' u (T z.0) ds s e (k z.0))
+        go : (b : Bool) → nat_eq x z.0 ≡ b → Known env w'.cells x (cond b (contents_replaced (T z.0) (stored_contents v)) (T x)) (all_words u)
+        go true q = subst (λ y. Known env w'.cells y (contents_replaced (T z.0) (stored_contents v)) (all_words u)) (sym (eq_from x z.0 q)) (known_update env d z v w w' u (T z.0) ds s e (k z.0))
         go false q = known_act env d (update (Var z) v) w w' u x (T x) ds (tt, tt) s (turned q) e (k x)
 
     -- behind an operation
-    pub acts_known : (env : Env) (d : ℕ) (o : Act) (w w' : World) (u : Value) (T : Memories) (ds : List Datum) → EachAct inlined_kind o → Clear IsOwn (act_shown o) → act_by g c true env d o w ≡ gives u w' → AllKnown env w.cells T ds → AllKnown env w'.cells (after_act o T) (all_words u)
+    pub acts_known : (env : Env) (d : ℕ) (o : Act) (w w' : World) (u : Value) (T : KnownCellContents) (ds : List Datum) → EachAct inlined_kind o → Clear IsOwn (act_shown o) → act_by g c true env d o w ≡ gives u w' → AllKnown env w.cells T ds → AllKnown env w'.cells (after_act o T) (all_words u)
     unfolding act_shown act_updated
     acts_known env d (unit v) w w' u T ds l s e k x = known_act env d (unit v) w w' u x (T x) ds l s refl e (k x)
     acts_known env d (fetch a) w w' u T ds l s e k x = known_act env d (fetch a) w w' u x (T x) ds l s refl e (k x)

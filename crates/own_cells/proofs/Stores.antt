@@ -14,7 +14,7 @@ use Rattle.grin_meaning.specs.Run.{places, cells_of, node_word}
 use Rattle.grin_meaning.specs.Checks.{fills, all_fill}
 use Rattle.pass_ground.proofs.Bound.{vars_out, places_names}
 use Rattle.own_cells.specs.Shown.{cells_words}
-use Rattle.own_cells.specs.Memory.{Memory, other, lost, holds, Memories, held, word_at, with_memory, after_store}
+use Rattle.own_cells.specs.Memory.{Memory, other, lost, holds, KnownCellContents, stored_contents, word_at, with_memory, after_store}
 use Rattle.own_cells.proofs.Invariant.{all_words, Clear, Words, env_with, cells_good}
 use Rattle.own_cells.proofs.Frames.{Below, Free, below_free, heap_free, all_below, InHeap, frame, Holds, held_holds}
 use Rattle.own_cells.proofs.Own.{Unbound, IsOwn, OwnCell, Beside, Known, AllKnown, clear_one, known_held, own_bound, word_stays}
@@ -57,7 +57,7 @@ module _ (g : Program) (own : ℕ → Bool) where
 
   module _ (c hs0 : List HeapCell) (env' : Env) (cs0 : List Cell) (e0 : cells_of g env' cs0 ≡ Some hs0) (shown : Clear (IsOwn g own) (cells_words cs0)) (there : InHeap g c) where
     abbrev New : Cell → Type 0
-    New d = own d.var.0 ≡ true → Beside g own env' (c ++ hs0) d.var.0 (Holds g env' (held d.val)) []
+    New d = own d.var.0 ≡ true → Beside g own env' (c ++ hs0) d.var.0 (Holds g env' (stored_contents d.val)) []
 
     new_cell : (a : ℕ) (d : Cell) (cs : List Cell) (env : Env) (n : Node) → with_vars (places (suc a) cs) (λ y. cond (nat_eq y d.var.0) (Some (words (cell a ∷ []))) (env y)) ≡ env' → length c ≤ a
         → ((y : ℕ) (v : Value) → env y ≡ Some v → AllOf (Below a) (all_words v)) → times d.var.0 (cell_vars cs) ≡ 0 → slice_get (c ++ hs0) a ≡ Some (record { site = d.site.0; node = n }) → node_of g env' d.val ≡ Some n → fills g env' d.val ≡ true → New d
@@ -122,19 +122,19 @@ module _ (g : Program) (own : ℕ → Bool) where
 
     -- ---- both
 
-    memories_known : (cs : List Cell) (T : Memories) → AllOf New cs → AllKnown g own env' (c ++ hs0) T [] → AllKnown g own env' (c ++ hs0) (after_store own cs T) []
+    memories_known : (cs : List Cell) (T : KnownCellContents) → AllOf New cs → AllKnown g own env' (c ++ hs0) T [] → AllKnown g own env' (c ++ hs0) (after_store own cs T) []
     memories_known [] T new k = k
-    memories_known (d ∷ cs) T new k = memories_known cs (cond (own d.var.0) (with_memory d.var.0 (held d.val) T) T) new.1 (λ x. go x (own d.var.0) refl)
+    memories_known (d ∷ cs) T new k = memories_known cs (cond (own d.var.0) (with_memory d.var.0 (stored_contents d.val) T) T) new.1 (λ x. go x (own d.var.0) refl)
       where
-        at : (x : ℕ) (b : Bool) → nat_eq x d.var.0 ≡ b → own d.var.0 ≡ true → Known g own env' (c ++ hs0) x (cond b (held d.val) (T x)) []
-        at x true q is_own = subst (λ y. Known g own env' (c ++ hs0) y (held d.val) []) (sym (eq_from x d.var.0 q)) (known_held g own env' (c ++ hs0) d.var.0 d.val [] (new.0 is_own))
+        at : (x : ℕ) (b : Bool) → nat_eq x d.var.0 ≡ b → own d.var.0 ≡ true → Known g own env' (c ++ hs0) x (cond b (stored_contents d.val) (T x)) []
+        at x true q is_own = subst (λ y. Known g own env' (c ++ hs0) y (stored_contents d.val) []) (sym (eq_from x d.var.0 q)) (known_held g own env' (c ++ hs0) d.var.0 d.val [] (new.0 is_own))
         at x false q is_own = k x
 
-        go : (x : ℕ) (b : Bool) → own d.var.0 ≡ b → Known g own env' (c ++ hs0) x (cond b (with_memory d.var.0 (held d.val) T) T x) []
+        go : (x : ℕ) (b : Bool) → own d.var.0 ≡ b → Known g own env' (c ++ hs0) x (cond b (with_memory d.var.0 (stored_contents d.val) T) T x) []
         go x true q = at x (nat_eq x d.var.0) refl q
         go x false q = k x
 
-  pub stores_known : (env : Env) (c hs : List HeapCell) (cs : List Cell) (T : Memories) → Unbound (cell_vars cs) env → ((y : ℕ) → times y (cell_vars cs) ≤ 1) → Clear (IsOwn g own) (cells_words cs) → InHeap g c
+  pub stores_known : (env : Env) (c hs : List HeapCell) (cs : List Cell) (T : KnownCellContents) → Unbound (cell_vars cs) env → ((y : ℕ) → times y (cell_vars cs) ≤ 1) → Clear (IsOwn g own) (cells_words cs) → InHeap g c
       → ((y : ℕ) (v : Value) → env y ≡ Some v → AllOf (Below (length c)) (all_words v)) → cells_of g (with_vars (places (length c) cs) env) cs ≡ Some hs → all_fill g (with_vars (places (length c) cs) env) cs ≡ true
       → AllKnown g own env c T [] → AllKnown g own (with_vars (places (length c) cs) env) (c ++ hs) (after_store own cs T) []
   stores_known env c hs cs T new once shown there below e filled k =

@@ -5,18 +5,18 @@ use Rattle.std.specs.List.{list_any}
 use Rattle.std.specs.Ordering.{nat_cmp}
 use Rattle.grin_syntax.specs.declared.program.Word.{Word}
 use Rattle.pass_ground.specs.Uses.{words_use}
-use Rattle.own_cells.specs.Memory.{Memory, other, lost, holds, Memories, none, with_memory}
+use Rattle.own_cells.specs.Memory.{Memory, other, lost, holds, KnownCellContents, none, with_memory}
 use Rattle.own_cells.specs.declared.memory.Entry.{Entry}
 
 abbrev pub memory_of : Option (List Word) → Memory
 memory_of None = lost
 memory_of (Some ws) = holds ws
 
-abbrev pub memories_from : Memories → List Entry → Memories
+abbrev pub memories_from : KnownCellContents → List Entry → KnownCellContents
 memories_from T [] = T
 memories_from T (e ∷ es) = memories_from (with_memory e.var.0 (memory_of e.words) T) es
 
-abbrev pub memories : List Entry → Memories
+abbrev pub memories : List Entry → KnownCellContents
 memories = memories_from none
 
 abbrev pub is_cell : Memory → Bool
@@ -24,8 +24,8 @@ is_cell other = false
 is_cell _ = true
 
 -- the second list has the first at its front
-abbrev pub Extends : List Entry → List Entry → Type 0
-Extends old new = (more : List Entry) × (new ≡ old ++ more)
+abbrev pub ExtendsEntries : List Entry → List Entry → Type 0
+ExtendsEntries old new = (more : List Entry) × (new ≡ old ++ more)
 
 -- ---- sets
 
@@ -33,9 +33,9 @@ abbrev pub has : List ℕ → ℕ → Bool
 has keys x = list_any (is_at (nat_cmp x)) keys
 
 -- the variables of these words were put into a set
-pub record HasVariables (old : List ℕ) (ws : List Word) (new : List ℕ) : Type 0 where
+pub record AddsVariables (old : List ℕ) (ws : List Word) (new : List ℕ) : Type 0 where
   pub by : (x : ℕ) → has new x ≡ (has old x || words_use x ws)
 
 -- the variables that aren't in a set of those shown
-abbrev pub own_by : List ℕ → ℕ → Bool
-own_by keys x = not (has keys x)
+abbrev pub unshown_by_set : List ℕ → ℕ → Bool
+unshown_by_set keys x = not (has keys x)

@@ -7,7 +7,7 @@ use Rattle.grin_syntax.specs.declared.program.Val as V
 use Rattle.grin_syntax.specs.declared.program.Val.TheVariants.{NodeVar, Node, Vector, One}
 use Rattle.grin_syntax.specs.Tree.{Act, update, case, nested}
 use Rattle.pass_ground.specs.Uses.{words_use}
-use Rattle.own_cells.specs.Shown.{arms_updated, code_updated}
+use Rattle.pass_ground.specs.Updated.{arms_updated, code_updated}
 
 -- of a variable: it stands for no such cell; for one of which it isn't known what it holds; or for
 -- one that holds these words, and zeros after them
@@ -16,53 +16,53 @@ pub data Memory : Type 0 where
   lost : Memory
   holds : List W.Word → Memory
 
-abbrev pub Memories : Type 0
-Memories = ℕ → Memory
+abbrev pub KnownCellContents : Type 0
+KnownCellContents = ℕ → Memory
 
-abbrev pub none : Memories
+abbrev pub none : KnownCellContents
 none x = other
 
-abbrev pub with_memory : ℕ → Memory → Memories → Memories
+abbrev pub with_memory : ℕ → Memory → KnownCellContents → KnownCellContents
 with_memory x m T = λ y. cond (nat_eq y x) m (T y)
 
 -- what a cell holds after this is put into it
-abbrev pub held : V.Val → Memory
-held (Node t ws) = holds (TagWord t ∷ ws)
-held (Vector ws) = holds ws
-held (One a) = holds (a ∷ [])
-held (NodeVar x) = lost
+abbrev pub stored_contents : V.Val → Memory
+stored_contents (Node t ws) = holds (TagWord t ∷ ws)
+stored_contents (Vector ws) = holds ws
+stored_contents (One a) = holds (a ∷ [])
+stored_contents (NodeVar x) = lost
 
 -- ---- how it changes
 
-abbrev pub forgotten : Memory → Memory
-forgotten other = other
-forgotten _ = lost
+abbrev pub contents_forgotten : Memory → Memory
+contents_forgotten other = other
+contents_forgotten _ = lost
 
 -- the cells of these words are updated
-abbrev pub forget : List W.Word → Memories → Memories
-forget ws T = λ y. cond (words_use y ws) (forgotten (T y)) (T y)
+abbrev pub forget : List W.Word → KnownCellContents → KnownCellContents
+forget ws T = λ y. cond (words_use y ws) (contents_forgotten (T y)) (T y)
 
-abbrev pub replaced : Memory → Memory → Memory
-replaced other m = other
-replaced _ m = m
+abbrev pub contents_replaced : Memory → Memory → Memory
+contents_replaced other m = other
+contents_replaced _ m = m
 
 -- the cell of a word gets another node
-abbrev pub after_update : W.Word → V.Val → Memories → Memories
-after_update (Var x) v T = with_memory x.0 (replaced (T x.0) (held v)) T
+abbrev pub after_update : W.Word → V.Val → KnownCellContents → KnownCellContents
+after_update (Var x) v T = with_memory x.0 (contents_replaced (T x.0) (stored_contents v)) T
 after_update _ v T = T
 
 -- behind a bound operation
-abbrev pub after_act : Act → Memories → Memories
+abbrev pub after_act : Act → KnownCellContents → KnownCellContents
 after_act (update a v) T = after_update a v T
 after_act (case v as') T = forget (arms_updated as') T
 after_act (nested b) T = forget (code_updated b) T
 after_act _ T = T
 
 -- behind a group of cells; of those in own, what they hold is remembered
-abbrev pub after_store : (ℕ → Bool) → List Cell → Memories → Memories
+abbrev pub after_store : (ℕ → Bool) → List Cell → KnownCellContents → KnownCellContents
 after_store own [] T = T
 after_store own (c ∷ cs) T =
-    after_store own cs (cond (own c.var.0) (with_memory c.var.0 (held c.val) T) T)
+    after_store own cs (cond (own c.var.0) (with_memory c.var.0 (stored_contents c.val) T) T)
 
 -- ---- what it tells
 
@@ -76,6 +76,6 @@ told (holds ws) i = Some (word_at ws i)
 told _ i = None
 
 -- word i of the cell of a word
-abbrev pub told_of : Memories → W.Word → ℕ → Option W.Word
-told_of T (Var x) i = told (T x.0) i
-told_of T _ i = None
+abbrev pub remembered_word_of : KnownCellContents → W.Word → ℕ → Option W.Word
+remembered_word_of T (Var x) i = told (T x.0) i
+remembered_word_of T _ i = None

@@ -7,7 +7,7 @@ use Rattle.grin_syntax.specs.Tree.{Code, end, store, bind, Act, unit, fetch_word
 use Rattle.grin_meaning.specs.Rewritten.{rewritten}
 use Rattle.pass_ground.specs.Uses.{words_use}
 use Rattle.own_cells.specs.Shown.{code_shown}
-use Rattle.own_cells.specs.Memory.{Memories, none, after_act, after_store, told_of}
+use Rattle.own_cells.specs.Memory.{KnownCellContents, none, after_act, after_store, remembered_word_of}
 
 abbrev pub word_or_fetch : W.Word → ℕ → Option W.Word → Act
 word_or_fetch a i None = fetch_word a i
@@ -15,30 +15,30 @@ word_or_fetch a i (Some w) = unit (One w)
 
 module _ (own : ℕ → Bool) where
   unfoldable mutual
-    pub told_act : Memories → Act → Act
-    told_act T (fetch_word a i) = word_or_fetch a i (told_of T a i)
+    pub told_act : KnownCellContents → Act → Act
+    told_act T (fetch_word a i) = word_or_fetch a i (remembered_word_of T a i)
     told_act T (case v as') = case v (told_arms T as')
     told_act T (nested b) = nested (told_code T b)
     told_act T o = o
 
-    pub told_code : Memories → Code → Code
+    pub told_code : KnownCellContents → Code → Code
     told_code T (end o) = end (told_act T o)
     told_code T (store cs b) = store cs (told_code (after_store own cs T) b)
     told_code T (bind t o b) = bind t (told_act T o) (told_code (after_act o T) b)
 
-    pub told_arms : Memories → Arms → Arms
+    pub told_arms : KnownCellContents → Arms → Arms
     told_arms T no_arm = no_arm
     told_arms T (arm s b as') = arm s (told_code T b) (told_arms T as')
 
-  abbrev pub told_arm : Memories → Shape × Code → Shape × Code
+  abbrev pub told_arm : KnownCellContents → Shape × Code → Shape × Code
   told_arm T a = (a.0, told_code T a.1)
 
 -- a variable is nowhere but the cell of fetches and updates
-abbrev pub own_of : Code → ℕ → Bool
-own_of b x = not (words_use x (code_shown b))
+abbrev pub is_own_cell_variable : Code → ℕ → Bool
+is_own_cell_variable b x = not (words_use x (code_shown b))
 
 abbrev pub remembered_body : Code → Code
-remembered_body b = told_code (own_of b) none b
+remembered_body b = told_code (is_own_cell_variable b) none b
 
 abbrev pub remembered : Program → Program
 remembered g = rewritten remembered_body g

@@ -1,5 +1,5 @@
 -- The words of a piece of a program whose values go anywhere, all but the cells of fetches and
--- updates; and the words that stand for the cells that it updates.
+-- updates.
 use Rattle.std.specs.Prelude.{List, [], ◌∷◌, ◌++◌}
 use Rattle.grin_syntax.specs.declared.program.Cell.{Cell}
 use Rattle.grin_syntax.specs.declared.program.Word as W
@@ -42,19 +42,3 @@ unfoldable mutual
   pub arms_shown : Arms → List W.Word
   arms_shown no_arm = []
   arms_shown (arm s b as') = code_shown b ++ arms_shown as'
-
-unfoldable mutual
-  pub act_updated : Act → List W.Word
-  act_updated (update a v) = a ∷ []
-  act_updated (case v as') = arms_updated as'
-  act_updated (nested b) = code_updated b
-  act_updated _ = []
-
-  pub code_updated : Code → List W.Word
-  code_updated (end o) = act_updated o
-  code_updated (store cs b) = code_updated b
-  code_updated (bind t o b) = act_updated o ++ code_updated b
-
-  pub arms_updated : Arms → List W.Word
-  arms_updated no_arm = []
-  arms_updated (arm s b as') = code_updated b ++ arms_updated as'

@@ -3,19 +3,19 @@
 
 ghost use Rattle.std.specs.Prelude.{◌≡◌, [], ◌∷◌, map, IfOk, OnOk};
 ghost use Rattle.grin_syntax.specs.Tree.{Code, act_of, before_of, arm_of, code_of, all_before};
-ghost use Rattle.own_cells.specs.Memory.{told_of, after_act};
+ghost use Rattle.own_cells.specs.Memory.{remembered_word_of, after_act};
 ghost use Rattle.own_cells.specs.Remembered.{word_or_fetch, told_act, told_code, told_arm};
-ghost use Rattle.own_cells.specs.Entries.{memories, Extends, own_by};
+ghost use Rattle.own_cells.specs.Entries.{memories, ExtendsEntries, unshown_by_set};
 
-use crate::memory::{Entry, cut, forget, store, told, update};
-use crate::updated::{alts_updated, block_updated};
+use crate::memory::{Entry, forget, store, told, truncate_entries, update};
 use grin_syntax::{Alt, Block, Op, Stmt, Val, Word};
+use pass_ground::updated::{alts_updated, block_updated};
 use seq::Seq;
 use std::alloc::{AllocError, Global};
 use std::collections::BTreeSet;
 
 fn fetch_word(entries: &Seq<Entry>, a: Word, i: u32) -> Op
-    ensures { act_of result ≡ word_or_fetch a i (told_of (memories entries.now) a i) }
+    ensures { act_of result ≡ word_or_fetch a i (remembered_word_of (memories entries.now) a i) }
 {
     match told(entries.as_slice(), a, i) {
         Some(word) => Op::Unit(Val::One(word)),
@@ -26,7 +26,7 @@ fn fetch_word(entries: &Seq<Entry>, a: Word, i: u32) -> Op
 // An operation that changes nothing of what is remembered.
 fn nothing(entries: &mut Seq<Entry>) -> Result<(), AllocError>
     ensures is { OnOk result (entries.new ≡ entries.old) }
-    ensures more { OnOk result (Extends entries.old entries.new) }
+    ensures more { OnOk result (ExtendsEntries entries.old entries.new) }
 {
     Ok(())
 }
@@ -35,7 +35,7 @@ fn nothing(entries: &mut Seq<Entry>) -> Result<(), AllocError>
 fn put_after(alloc: Global, op: &Op, entries: &mut Seq<Entry>) -> Result<(), AllocError>
     ensures is { OnOk result (memories entries.new
         ≡ after_act (act_of op.now) (memories entries.old)) }
-    ensures more { OnOk result (Extends entries.old entries.new) }
+    ensures more { OnOk result (ExtendsEntries entries.old entries.new) }
 {
     match op {
         Op::Update(a, v) => {
@@ -77,7 +77,7 @@ impl Within<'_> {
     #[cycle(tell)]
     #[tactic(auto, using(grin_syntax::proofs::TreeOf::tree_of, crate::proofs::Rewriting::case_told), unfolding(crate::specs::Remembered::told_act))]
     fn op(&self, alloc: Global, op: Op, entries: &mut Seq<Entry>) -> Result<Op, AllocError>
-        ensures is { IfOk result (λ o. act_of o ≡ told_act (own_by self.now.shown.now.keys)
+        ensures is { IfOk result (λ o. act_of o ≡ told_act (unshown_by_set self.now.shown.now.keys)
             (memories entries.old) (act_of op)) }
         ensures same { OnOk result (entries.new ≡ entries.old) }
     {
@@ -109,7 +109,7 @@ impl Within<'_> {
 
     #[cycle(tell)]
     fn alt(&self, alloc: Global, alt: Alt, entries: &mut Seq<Entry>) -> Result<Alt, AllocError>
-        ensures is { IfOk result (λ a. arm_of a ≡ told_arm (own_by self.now.shown.now.keys)
+        ensures is { IfOk result (λ a. arm_of a ≡ told_arm (unshown_by_set self.now.shown.now.keys)
             (memories entries.old) (arm_of alt)) }
         ensures same { OnOk result (entries.new ≡ entries.old) }
     {
@@ -127,13 +127,13 @@ impl Within<'_> {
         block: Block,
         entries: &mut Seq<Entry>,
     ) -> Result<Block, AllocError>
-        ensures is { IfOk result (λ b. code_of b ≡ told_code (own_by self.now.shown.now.keys)
+        ensures is { IfOk result (λ b. code_of b ≡ told_code (unshown_by_set self.now.shown.now.keys)
             (memories entries.old) (code_of block)) }
         ensures same { OnOk result (entries.new ≡ entries.old) }
     {
         let count = entries.len();
         let inner = self.block(alloc, block, entries)?;
-        cut(entries, count);
+        truncate_entries(entries, count);
         Ok(inner)
     }
 
@@ -146,10 +146,10 @@ impl Within<'_> {
         made: &mut Seq<Stmt>,
     ) -> Result<(), AllocError>
         ensures is { OnOk result ((c : Code) → all_before (map before_of made.new)
-            (told_code (own_by self.now.shown.now.keys) (memories entries.new) c)
-            ≡ all_before (map before_of made.old) (told_code (own_by self.now.shown.now.keys)
+            (told_code (unshown_by_set self.now.shown.now.keys) (memories entries.new) c)
+            ≡ all_before (map before_of made.old) (told_code (unshown_by_set self.now.shown.now.keys)
             (memories entries.old) (before_of stmt c))) }
-        ensures more { OnOk result (Extends entries.old entries.new) }
+        ensures more { OnOk result (ExtendsEntries entries.old entries.new) }
     {
         match stmt {
             Stmt::Store(cells) => {
@@ -174,9 +174,9 @@ impl Within<'_> {
         block: Block,
         entries: &mut Seq<Entry>,
     ) -> Result<Block, AllocError>
-        ensures is { IfOk result (λ b. code_of b ≡ told_code (own_by self.now.shown.now.keys)
+        ensures is { IfOk result (λ b. code_of b ≡ told_code (unshown_by_set self.now.shown.now.keys)
             (memories entries.old) (code_of block)) }
-        ensures more { OnOk result (Extends entries.old entries.new) }
+        ensures more { OnOk result (ExtendsEntries entries.old entries.new) }
     {
         let mut stmts = Seq::new(alloc);
         for stmt in block.stmts.into_vec() {

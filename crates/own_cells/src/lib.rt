@@ -7,6 +7,5 @@ mod memory;
 mod pass;
 mod sets;
 mod shown;
-mod updated;
 
 pub use pass::{Remember, with_remembered_words};

@@ -2,8 +2,8 @@
 #![tactic(auto)]
 
 ghost use Rattle.std.specs.Prelude.{◌≡◌, ◌≤◌, cond, [], ◌∷◌, ◌++◌, map, take, length, IfOk, OnOk};
-ghost use Rattle.own_cells.specs.Memory.{held, told, told_of, forget, after_update, after_store};
-ghost use Rattle.own_cells.specs.Entries.{memory_of, memories, is_cell, Extends, own_by};
+ghost use Rattle.own_cells.specs.Memory.{stored_contents, told, remembered_word_of, forget, after_update, after_store};
+ghost use Rattle.own_cells.specs.Entries.{memory_of, memories, is_cell, ExtendsEntries, unshown_by_set};
 
 use grin_syntax::{Cell, Val, VarId, Word};
 use pass_ground::truth::either;
@@ -55,7 +55,7 @@ fn word_of(entries: &[Entry], x: VarId, i: u32) -> Option<Word>
 
 /// Word i of the cell of a word, where it is remembered.
 pub(crate) fn told(entries: &[Entry], a: Word, i: u32) -> Option<Word>
-    ensures { result ≡ told_of (memories entries.now) a i }
+    ensures { result ≡ remembered_word_of (memories entries.now) a i }
 {
     match a {
         Word::Var(x) => word_of(entries, x, i),
@@ -76,8 +76,8 @@ fn is_cell(entries: &[Entry], x: VarId) -> bool
     found
 }
 
-fn held(alloc: Global, v: &Val) -> Result<Option<Seq<Word>>, AllocError>
-    ensures { IfOk result (λ words. memory_of words ≡ held v.now) }
+fn stored_contents(alloc: Global, v: &Val) -> Result<Option<Seq<Word>>, AllocError>
+    ensures { IfOk result (λ words. memory_of words ≡ stored_contents v.now) }
 {
     match v {
         Val::NodeVar(_) => Ok(None),
@@ -104,12 +104,12 @@ pub(crate) fn update(
     entries: &mut Seq<Entry>,
 ) -> Result<(), AllocError>
     ensures is { OnOk result (memories entries.new ≡ after_update a v.now (memories entries.old)) }
-    ensures more { OnOk result (Extends entries.old entries.new) }
+    ensures more { OnOk result (ExtendsEntries entries.old entries.new) }
 {
     match a {
         Word::Var(var) => {
             if is_cell(entries.as_slice(), var) {
-                let words = held(alloc, v)?;
+                let words = stored_contents(alloc, v)?;
                 entries.push(Entry { var, words })?;
             }
             Ok(())
@@ -122,7 +122,7 @@ pub(crate) fn update(
 
 fn forget_word(a: Word, entries: &mut Seq<Entry>) -> Result<(), AllocError>
     ensures is { OnOk result (memories entries.new ≡ forget (a ∷ []) (memories entries.old)) }
-    ensures more { OnOk result (Extends entries.old entries.new) }
+    ensures more { OnOk result (ExtendsEntries entries.old entries.new) }
 {
     match a {
         Word::Var(var) => {
@@ -140,7 +140,7 @@ fn forget_word(a: Word, entries: &mut Seq<Entry>) -> Result<(), AllocError>
 /// The cells of these words are updated.
 pub(crate) fn forget(words: &[Word], entries: &mut Seq<Entry>) -> Result<(), AllocError>
     ensures is { OnOk result (memories entries.new ≡ forget words.now (memories entries.old)) }
-    ensures more { OnOk result (Extends entries.old entries.new) }
+    ensures more { OnOk result (ExtendsEntries entries.old entries.new) }
 {
     for word in words {
         forget_word(*word, entries)?;
@@ -155,11 +155,11 @@ fn store_cell(
     entries: &mut Seq<Entry>,
 ) -> Result<(), AllocError>
     ensures is { OnOk result (memories entries.new
-        ≡ after_store (own_by shown.now.keys) (cell.now ∷ []) (memories entries.old)) }
-    ensures more { OnOk result (Extends entries.old entries.new) }
+        ≡ after_store (unshown_by_set shown.now.keys) (cell.now ∷ []) (memories entries.old)) }
+    ensures more { OnOk result (ExtendsEntries entries.old entries.new) }
 {
     if !shown.contains(&cell.var.0) {
-        let words = held(alloc, &cell.val)?;
+        let words = stored_contents(alloc, &cell.val)?;
         entries.push(Entry {
             var: cell.var,
             words,
@@ -176,8 +176,8 @@ pub(crate) fn store(
     entries: &mut Seq<Entry>,
 ) -> Result<(), AllocError>
     ensures is { OnOk result (memories entries.new
-        ≡ after_store (own_by shown.now.keys) cells.now (memories entries.old)) }
-    ensures more { OnOk result (Extends entries.old entries.new) }
+        ≡ after_store (unshown_by_set shown.now.keys) cells.now (memories entries.old)) }
+    ensures more { OnOk result (ExtendsEntries entries.old entries.new) }
 {
     for cell in cells {
         store_cell(alloc, shown, cell, entries)?;
@@ -186,7 +186,7 @@ pub(crate) fn store(
 }
 
 /// The entries after the first so many are taken off.
-pub(crate) fn cut(entries: &mut Seq<Entry>, count: usize)
+pub(crate) fn truncate_entries(entries: &mut Seq<Entry>, count: usize)
     requires { count ≤ length entries.old }
     ensures { entries.new ≡ take count entries.old }
 {

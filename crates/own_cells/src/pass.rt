@@ -3,9 +3,9 @@
 
 ghost use Rattle.std.specs.Prelude.{◌≡◌, IfOk};
 ghost use Rattle.grin_syntax.specs.Tree.{code_of, program_of};
-ghost use Rattle.pass_ground.specs.Vectors.{OfVectors};
+ghost use Rattle.pass_ground.specs.Vectors.{IsVectorForm};
 ghost use Rattle.own_cells.specs.Remembered.{remembered_body, remembered};
-ghost use Rattle.own_cells.specs.Unknown.{FetchesAnew};
+ghost use Rattle.own_cells.specs.Unknown.{RefetchesNothing};
 
 use crate::blocks::Within;
 use crate::sets::variables;
@@ -15,15 +15,15 @@ use grin_syntax::{Block, Grin, Proc};
 use seq::Seq;
 use std::alloc::{AllocError, Global};
 
-/// A fetch of a word of a cell gives way to the word, where the procedure stored the cell on the way,
-/// its variable is nowhere but the cell of fetches and updates, and the word is known by the store
-/// and the updates since. It takes programs of vectors.
+/// A fetch of a word of a cell gives way to the word, where the procedure stored the cell on the
+/// way, its variable is nowhere but the cell of fetches and updates, and the word is known by the
+/// store and the updates since. It takes programs of vectors.
 pub struct Remember;
 
 impl Pass for Remember {
-    ghost takes = { λ g. OfVectors (program_of g) };
+    ghost takes = { λ g. IsVectorForm (program_of g) };
 
-    ghost gives = { λ g h. FetchesAnew (program_of g) (program_of h) };
+    ghost gives = { λ g h. RefetchesNothing (program_of g) (program_of h) };
 
     fn apply(&self, alloc: Global, g: Grin) -> Result<Grin, AllocError> {
         let h = with_remembered_words(alloc, g)?;

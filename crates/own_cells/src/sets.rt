@@ -3,14 +3,14 @@
 
 ghost use Rattle.std.specs.Prelude.{◌≡◌, ℕ, ◌++◌, ◌∷◌, [], IfOk, OnOk};
 ghost use Rattle.pass_ground.specs.Uses.{words_use};
-ghost use Rattle.own_cells.specs.Entries.{has, HasVariables};
+ghost use Rattle.own_cells.specs.Entries.{has, AddsVariables};
 
 use grin_syntax::Word;
 use std::alloc::{AllocError, Global};
 use std::collections::BTreeSet;
 
 fn put(word: Word, set: &mut BTreeSet<u32>) -> Result<(), AllocError>
-    ensures { OnOk result (HasVariables set.old.keys (word ∷ []) set.new.keys) }
+    ensures { OnOk result (AddsVariables set.old.keys (word ∷ []) set.new.keys) }
 {
     match word {
         Word::Var(x) => {

@@ -18,7 +18,7 @@ use Rattle.parallel_move.specs.contracts.MoveOrd.TheImpl as moves_by
 use Rattle.parallel_move.specs.declared.Spot.{Spot}
 use Rattle.parallel_move.specs.declared.Spot.TheVariants.{Reg, Slot, Scratch}
 use Rattle.parallel_move.specs.declared.Move.{Move}
-use Rattle.parallel_move.specs.Moves.{same, origin, is_target, is_source, DistinctTargets, NoScratch, AllEnds, IsReordered, IsTaken}
+use Rattle.parallel_move.specs.Moves.{same, source_spot, is_target, is_source, DistinctTargets, NoScratch, AllMoveEnds, IsReordered, IsMoveRemoved}
 use Rattle.parallel_move.proofs.Origins.{same_true, same_itself, decide}
 use Rattle.parallel_move.proofs.Snoc.{distinct_front, ends_middle, ends_again}
 use Rattle.parallel_move.proofs.Paths.{no_target_append, both_targets, distinct_end, origin_end, clean_middle, append_nil}
@@ -95,7 +95,7 @@ none_from x (m ∷ ms) e =
       | inr f ↦ ap (λ b. b || is_source x ms) (sym (comes x m) ∙ f) ∙ none_from x ms (ap (λ b. cond b (m ∷ chosen) chosen) (sym f) ∙ e)
     ]
 
-one_from : (x : Spot) (ms : List Move) (r : Move) (rest : List Move) → filter (comes_from x) ms ≡ r ∷ rest → IsTaken x r ms (remove_key (is_at (move_order r)) ms)
+one_from : (x : Spot) (ms : List Move) (r : Move) (rest : List Move) → filter (comes_from x) ms ≡ r ∷ rest → IsMoveRemoved x r ms (remove_key (is_at (move_order r)) ms)
 one_from x [] r rest e = cc
 one_from x (m ∷ ms) r rest e =
     let chosen = filter (comes_from x) ms in
@@ -106,7 +106,7 @@ one_from x (m ∷ ms) r rest e =
           let found : is_eq (move_order r m) ≡ true = ap (λ n. is_eq (move_order r n)) is ∙ equal_itself r in
           ([], ms, ap (λ n. n ∷ ms) is, ap (λ b. cond b ms (m ∷ others)) found, ap (λ n. same x n.from) (sym is) ∙ sym (comes x m) ∙ t)
       | inr f ↦
-          let later : IsTaken x r ms others = one_from x ms r rest (ap (λ b. cond b (m ∷ chosen) chosen) (sym f) ∙ e) in
+          let later : IsMoveRemoved x r ms others = one_from x ms r rest (ap (λ b. cond b (m ∷ chosen) chosen) (sym f) ∙ e) in
           elim (decide (is_eq (move_order r m))) [
             | inl q ↦ ([], ms, ap (λ n. n ∷ ms) (sym (equal_moves r m q)), ap (λ b. cond b ms (m ∷ others)) q, later.4)
             | inr n ↦ (m ∷ later.0, later.1, ap (λ l. m ∷ l) later.2, ap (λ b. cond b ms (m ∷ others)) n ∙ ap (λ l. m ∷ l) later.3, later.4)
@@ -116,10 +116,10 @@ one_from x (m ∷ ms) r rest e =
 pub none_found : (x : Spot) (ms r : List Move) → r ≡ filter (comes_from x) ms → r ≡ [] → is_source x ms ≡ false
 none_found x ms r e n = none_from x ms (sym e ∙ n)
 
-one_found : (x : Spot) (ms r : List Move) (m : Move) (rest after : List Move) → r ≡ filter (comes_from x) ms → r ≡ m ∷ rest → after ≡ remove_key (is_at (move_order m)) ms → IsTaken x m ms after
-one_found x ms r m rest after e n a = subst (IsTaken x m ms) (sym a) (one_from x ms m rest (sym e ∙ n))
+one_found : (x : Spot) (ms r : List Move) (m : Move) (rest after : List Move) → r ≡ filter (comes_from x) ms → r ≡ m ∷ rest → after ≡ remove_key (is_at (move_order m)) ms → IsMoveRemoved x m ms after
+one_found x ms r m rest after e n a = subst (IsMoveRemoved x m ms) (sym a) (one_from x ms m rest (sym e ∙ n))
 
-pub next_found : (lo hi : Move) (x : Spot) (ms r rest after : List Move) (n : Option (Bor Move)) (m : Move) → lo ≡ record { from = x; to = Reg 0 } → hi ≡ record { from = x; to = Scratch } → r ≡ filter (range_contains move_order (Included lo) (Included hi)) ms → MatchOption n ((r ≡ []) × (rest ≡ [])) (λ y. r ≡ y.now ∷ rest) → Some m ≡ option_copied n → after ≡ remove_key (is_at (move_order m)) ms → IsTaken x m ms after
+pub next_found : (lo hi : Move) (x : Spot) (ms r rest after : List Move) (n : Option (Bor Move)) (m : Move) → lo ≡ record { from = x; to = Reg 0 } → hi ≡ record { from = x; to = Scratch } → r ≡ filter (range_contains move_order (Included lo) (Included hi)) ms → MatchOption n ((r ≡ []) × (rest ≡ [])) (λ y. r ≡ y.now ∷ rest) → Some m ≡ option_copied n → after ≡ remove_key (is_at (move_order m)) ms → IsMoveRemoved x m ms after
 next_found lo hi x ms r rest after None m l h e s c a = cc
 next_found lo hi x ms r rest after (Some y) m l h e s c a =
     let is : m ≡ y.now = cc in
@@ -172,12 +172,12 @@ fresh moves a b rest m o =
     subst (IsReordered moves) (sym new) (
       distinct_middle a (b ++ rest) m (subst (λ l. DistinctTargets (l ++ m ∷ [])) joined d.0),
       clean_again a (b ++ rest) m (subst NoScratch joined c.0) c.1.0 c.1.1,
-      (λ s. origin_end a (b ++ rest) m s apart ∙ ap (λ l. origin (l ++ m ∷ []) s) (sym joined) ∙ sym (origin_end (a ++ b) rest m s d.1) ∙ o.2 s),
+      (λ s. origin_end a (b ++ rest) m s apart ∙ ap (λ l. source_spot (l ++ m ∷ []) s) (sym joined) ∙ sym (origin_end (a ++ b) rest m s d.1) ∙ o.2 s),
       omega (arith, o.3, length-append a (m ∷ (b ++ rest)), length-append b rest, length-append (a ++ b) (m ∷ rest), length-append a b),
       (record {
         stays = λ ok k h.
             let parts = ends_middle ok (a ++ b) rest m (o.4.stays ok k h) in
-            ends_again ok a (b ++ rest) m (subst (AllEnds ok) joined parts.0) parts.1;
+            ends_again ok a (b ++ rest) m (subst (AllMoveEnds ok) joined parts.0) parts.1;
       }),
     )
 

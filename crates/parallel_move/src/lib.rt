@@ -3,7 +3,7 @@
 #![tactic(auto)]
 
 ghost use Rattle.std.specs.Prelude.{◌≡◌, ◌≤◌, ◌*◌, IfOk, MatchOption, length, List, false};
-ghost use Rattle.parallel_move.specs.Moves.{same, is_source, DistinctTargets, NoScratch, DoesAtOnce, ends, StaysAmong, IsReordered, IsTaken, Closes};
+ghost use Rattle.parallel_move.specs.Moves.{same, is_source, DistinctTargets, NoScratch, MovesInParallel, ends, UsesOnlyMoveSpots, IsReordered, IsMoveRemoved, BreaksCycle};
 
 use std::alloc::{AllocError, Global};
 use std::collections::BTreeSet;
@@ -56,7 +56,7 @@ fn in_order(alloc: Global, moves: &[Move]) -> Result<BTreeSet<Move>, AllocError>
 fn take_from(pending: &mut BTreeSet<Move>, spot: Spot) -> Option<Move>
     ensures { MatchOption result ((is_source spot pending.old.keys ≡ false)
         × (pending.new.keys ≡ pending.old.keys)) (λ m.
-        IsTaken spot m pending.old.keys pending.new.keys) }
+        IsMoveRemoved spot m pending.old.keys pending.new.keys) }
 {
     let first = Move {
         from: spot,
@@ -76,7 +76,7 @@ fn take_from(pending: &mut BTreeSet<Move>, spot: Spot) -> Option<Move>
 /// Lets the first move of the path come from the scratch spot, where it comes from this one.
 #[tactic(auto, using(crate::proofs::Paths::closes_true, crate::proofs::Paths::closes_false, crate::proofs::Paths::closes_empty))]
 fn close(path: &mut Vec<Move>, spot: Spot) -> bool
-    ensures { Closes spot result path.old.items path.new.items }
+    ensures { BreaksCycle spot result path.old.items path.new.items }
 {
     if path.is_empty() {
         return false;
@@ -104,9 +104,9 @@ fn close(path: &mut Vec<Move>, spot: Spot) -> bool
 pub fn order(alloc: Global, moves: &[Move]) -> Result<Vec<Move>, AllocError>
     requires distinct { DistinctTargets moves.now }
     requires no_scratch { NoScratch moves.now }
-    ensures same { IfOk result (λ steps. DoesAtOnce steps.items moves.now) }
+    ensures same { IfOk result (λ steps. MovesInParallel steps.items moves.now) }
     ensures few { IfOk result (λ steps. ends steps.items ≤ 2 * length moves.now) }
-    ensures among { IfOk result (λ steps. StaysAmong steps.items moves.now) }
+    ensures among { IfOk result (λ steps. UsesOnlyMoveSpots steps.items moves.now) }
 {
     let mut pending = in_order(alloc, moves)?;
     let mut path: Vec<Move> = Vec::new(alloc);

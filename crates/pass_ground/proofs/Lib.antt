@@ -3,3 +3,4 @@ pub mod Bound
 pub mod Mentions
 pub mod Vectors
 pub mod Walked
+pub mod Collected

@@ -1,3 +1,4 @@
 pub mod Vectors
 pub mod Uses
 pub mod OpenUpdates
+pub mod Updated

@@ -25,29 +25,29 @@ tag_variable (One a) = variable_of a
 
 unfoldable mutual
   -- what the updates of a piece count together, each as the value that it takes does
-  pub act_sum : (V.Val → ℕ) → Act → ℕ
-  act_sum count (update a v) = count v
-  act_sum count (case v as') = arms_sum count as'
-  act_sum count (nested b) = code_sum count b
-  act_sum count _ = 0
+  pub act_update_sum : (V.Val → ℕ) → Act → ℕ
+  act_update_sum count (update a v) = count v
+  act_update_sum count (case v as') = arms_update_sum count as'
+  act_update_sum count (nested b) = code_update_sum count b
+  act_update_sum count _ = 0
 
-  pub code_sum : (V.Val → ℕ) → Code → ℕ
-  code_sum count (end o) = act_sum count o
-  code_sum count (store cs b) = code_sum count b
-  code_sum count (bind t o b) = act_sum count o + code_sum count b
+  pub code_update_sum : (V.Val → ℕ) → Code → ℕ
+  code_update_sum count (end o) = act_update_sum count o
+  code_update_sum count (store cs b) = code_update_sum count b
+  code_update_sum count (bind t o b) = act_update_sum count o + code_update_sum count b
 
-  pub arms_sum : (V.Val → ℕ) → Arms → ℕ
-  arms_sum count no_arm = 0
-  arms_sum count (arm s b as') = code_sum count b + arms_sum count as'
+  pub arms_update_sum : (V.Val → ℕ) → Arms → ℕ
+  arms_update_sum count no_arm = 0
+  arms_update_sum count (arm s b as') = code_update_sum count b + arms_update_sum count as'
 
-abbrev pub procs_sum : (V.Val → ℕ) → List Procedure → ℕ
-procs_sum count [] = 0
-procs_sum count (q ∷ qs) = code_sum count q.body + procs_sum count qs
+abbrev pub procs_update_sum : (V.Val → ℕ) → List Procedure → ℕ
+procs_update_sum count [] = 0
+procs_update_sum count (q ∷ qs) = code_update_sum count q.body + procs_update_sum count qs
 
 abbrev pub one_if_some : Option VarId → ℕ
 one_if_some None = 0
 one_if_some (Some x) = 1
 
 -- the updates of a program whose tag is a variable
-abbrev pub open_updates : Program → ℕ
-open_updates p = procs_sum (λ v. one_if_some (tag_variable v)) p.procs
+abbrev pub updates_with_variable_tag : Program → ℕ
+updates_with_variable_tag p = procs_update_sum (λ v. one_if_some (tag_variable v)) p.procs

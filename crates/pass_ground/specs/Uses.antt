@@ -65,11 +65,11 @@ abbrev pub arms_use : ℕ → Arms → Bool
 arms_use x as' = arms_mention true x as'
 
 -- a piece uses x otherwise than as the cell of a fetch
-abbrev pub act_takes : ℕ → Act → Bool
-act_takes x o = act_mentions false x o
+abbrev pub act_uses_as_value : ℕ → Act → Bool
+act_uses_as_value x o = act_mentions false x o
 
-abbrev pub code_takes : ℕ → Code → Bool
-code_takes x b = code_mentions false x b
+abbrev pub code_uses_as_value : ℕ → Code → Bool
+code_uses_as_value x b = code_mentions false x b
 
-abbrev pub arms_take : ℕ → Arms → Bool
-arms_take x as' = arms_mention false x as'
+abbrev pub arms_use_as_value : ℕ → Arms → Bool
+arms_use_as_value x as' = arms_mention false x as'

@@ -3,7 +3,7 @@
 
 ghost use Rattle.std.specs.Prelude.{◌≡◌, ◌||◌, map};
 ghost use Rattle.grin_syntax.specs.Tree.{Code, act_of, before_of, arms_of, arm_of, code_of};
-ghost use Rattle.pass_ground.specs.Uses.{word_is, words_use, val_uses, cells_use, act_mentions, code_mentions, arms_mention, act_uses, code_uses, code_takes};
+ghost use Rattle.pass_ground.specs.Uses.{word_is, words_use, val_uses, cells_use, act_mentions, code_mentions, arms_mention, act_uses, code_uses, code_uses_as_value};
 
 use crate::truth::{both, either};
 use grin_syntax::{Alt, Block, Cell, Op, Stmt, Val, VarId, Word};
@@ -123,8 +123,8 @@ pub fn block_uses(x: VarId, block: &Block) -> bool
 }
 
 /// The block uses the variable otherwise than as the cell of a fetch.
-pub fn block_takes(x: VarId, block: &Block) -> bool
-    ensures { result ≡ code_takes x.0 (code_of block.now) }
+pub fn block_uses_as_value(x: VarId, block: &Block) -> bool
+    ensures { result ≡ code_uses_as_value x.0 (code_of block.now) }
 {
     block_mentions(false, x, block)
 }

@@ -1,7 +1,7 @@
 // Listings of programs, what becomes of them once their evaluations and applications are inlined,
 // and their sizes then.
 
-use crate::evaluations::TAKES;
+use crate::evaluations::take_twice;
 use crate::listings::listing_in;
 use apply_inline::{expanded_size, inline};
 use flow_system::system::system;
@@ -10,6 +10,7 @@ use grin_text::{ReadError, program};
 use points_to::solve;
 use std::alloc::Global;
 use std::test::Fail;
+use worked_texts::EMPTY_TRANSLATED;
 
 //     data Nil 0; data Cons 2;
 //     k a b = a;
@@ -69,31 +70,6 @@ start =
   call app v2 v0
 ";
 
-//     data Nil 0; data Cons 2; main = Nil;
-const EMPTY: &str = "\
-tags CInt/1 CNil/0 CCons/2 Fmain/0
-global main = (Fmain)
-
-main =
-  unit (CNil)
-
-@print v0 =
-  v1 <- eval v0
-  case v1 of
-    (CNil) ->
-      unit (CNil)
-    (CCons v2 v3) ->
-      v4 <- eval v2
-      case v4 of
-        (CInt v5) ->
-          write v5
-          call @print v3
-        else ->
-          fail
-    else ->
-      fail
-";
-
 // The listing of a text's program once its evaluations are inlined, and once its applications are
 // inlined too.
 fn inlined(alloc: Global, text: &str) -> Result<(Vec<u8>, Vec<u8>), ReadError> {
@@ -121,7 +97,8 @@ fn functions_given_one_argument_at_a_time(rt: HostRuntime) -> Result<(), Fail> {
 
 #[test]
 fn nothing_is_applied(rt: HostRuntime) -> Result<(), Fail> {
-    let (before, after) = inlined(rt.alloc(), TAKES)?;
+    let takes = take_twice(rt.alloc())?;
+    let (before, after) = inlined(rt.alloc(), takes.as_str())?;
     assert_eq!(rt; after.as_slice(), before.as_slice());
     Ok(())
 }
@@ -129,7 +106,9 @@ fn nothing_is_applied(rt: HostRuntime) -> Result<(), Fail> {
 // The texts are read as they are listed. The sizes were added up by hand.
 #[test]
 fn sizes_before_inlining(rt: HostRuntime) -> Result<(), Fail> {
-    for (text, wanted) in [(EMPTY, 37), (GIVES, 55), (TAKES, 100)] {
+    let empty = format!(in rt.alloc(); "tags CInt/1 CNil/0 CCons/2 Fmain/0\n{EMPTY_TRANSLATED}")?;
+    let takes = take_twice(rt.alloc())?;
+    for (text, wanted) in [(empty.as_str(), 37), (GIVES, 55), (takes.as_str(), 100)] {
         let listing = list(rt.alloc(), &program(rt.alloc(), text)?)?;
         assert_eq!(rt; listing.as_slice(), listing_in(text));
         assert_eq!(rt; size(rt.alloc(), text)?, wanted);

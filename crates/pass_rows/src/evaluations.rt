@@ -6,117 +6,9 @@ use flow_system::system::system;
 use grin_syntax::list;
 use grin_text::{ReadError, program};
 use points_to::solve;
-use std::alloc::Global;
+use std::alloc::{AllocError, Global};
 use std::test::Fail;
-
-//     data Nil 0; data Cons 2;
-//     take xs = case xs of { Nil -> Nil; Cons h t -> Cons h (take t) };
-//     main = take (take (Cons 65 Nil));
-pub(crate) const TAKES: &str = "\
-tags CInt/1 CNil/0 CCons/2 Ftake/1 Fmain/0
-global main = (Fmain)
-
-take v0 =
-  v1 <- eval v0
-  case v1 of
-    (CNil) ->
-      unit (CNil)
-    (CCons v2 v3) ->
-      store
-        v4 = (Ftake v3)
-      unit (CCons v2 v4)
-    else ->
-      fail
-
-main =
-  store
-    v0 = (CInt 65)
-    v1 = (CNil)
-    v2 = (CCons v0 v1)
-    v3 = (Ftake v2)
-  call take v3
-
-@print v0 =
-  v1 <- eval v0
-  case v1 of
-    (CNil) ->
-      unit (CNil)
-    (CCons v2 v3) ->
-      v4 <- eval v2
-      case v4 of
-        (CInt v5) ->
-          write v5
-          call @print v3
-        else ->
-          fail
-    else ->
-      fail
-";
-
-const TAKEN: &str = "\
-global main = (Fmain)
-
-take v0 =
-  v1 <- fetch v0
-  v2 <- case v1 of
-    (CNil) ->
-      unit v1
-    (CCons v3 v4) ->
-      unit v1
-    (Ftake v5) ->
-      v6 <- call take v5
-      update v0 v6
-      unit v6
-  case v2 of
-    (CNil) ->
-      unit (CNil)
-    (CCons v7 v8) ->
-      store
-        v9 = (Ftake v8)
-      unit (CCons v7 v9)
-    else ->
-      fail
-
-main =
-  store
-    v0 = (CInt 65)
-    v1 = (CNil)
-    v2 = (CCons v0 v1)
-    v3 = (Ftake v2)
-  call take v3
-
-@print v0 =
-  v1 <- fetch v0
-  v2 <- case v1 of
-    (CNil) ->
-      unit v1
-    (CCons v3 v4) ->
-      unit v1
-    (Ftake v5) ->
-      v6 <- call take v5
-      update v0 v6
-      unit v6
-    (Fmain) ->
-      v7 <- call main
-      update v0 v7
-      unit v7
-  case v2 of
-    (CNil) ->
-      unit (CNil)
-    (CCons v8 v9) ->
-      v10 <- fetch v8
-      v11 <- case v10 of
-        (CInt v12) ->
-          unit v10
-      case v11 of
-        (CInt v13) ->
-          write v13
-          call @print v9
-        else ->
-          fail
-    else ->
-      fail
-";
+use worked_texts::{TAKE_TWICE_INLINED, TAKE_TWICE_TRANSLATED};
 
 // Evaluations of a global cell, at the end of a nested block and at the end of the procedure.
 const SEVENS: &str = "\
@@ -169,6 +61,11 @@ start =
   call seven
 ";
 
+// The translation of the program that takes a list twice, with its tags.
+pub(crate) fn take_twice(alloc: Global) -> Result<String, AllocError> {
+    format!(in alloc; "tags CInt/1 CNil/0 CCons/2 Ftake/1 Fmain/0\n{TAKE_TWICE_TRANSLATED}")
+}
+
 // The listing of a text's program.
 fn listed(alloc: Global, text: &str) -> Result<Vec<u8>, ReadError> {
     Ok(list(alloc, &program(alloc, text)?)?)
@@ -183,7 +80,8 @@ fn inlined(alloc: Global, text: &str) -> Result<Vec<u8>, ReadError> {
 
 #[test]
 fn texts_are_read_as_they_are_listed(rt: HostRuntime) -> Result<(), Fail> {
-    for text in [TAKES, SEVENS, WITHOUT_EVALUATIONS] {
+    let takes = take_twice(rt.alloc())?;
+    for text in [takes.as_str(), SEVENS, WITHOUT_EVALUATIONS] {
         let listing = listed(rt.alloc(), text)?;
         assert_eq!(rt; listing.as_slice(), listing_in(text), "{text}");
     }
@@ -192,7 +90,8 @@ fn texts_are_read_as_they_are_listed(rt: HostRuntime) -> Result<(), Fail> {
 
 #[test]
 fn evaluations_are_inlined(rt: HostRuntime) -> Result<(), Fail> {
-    for (text, after) in [(TAKES, TAKEN), (SEVENS, GLOBAL)] {
+    let takes = take_twice(rt.alloc())?;
+    for (text, after) in [(takes.as_str(), TAKE_TWICE_INLINED), (SEVENS, GLOBAL)] {
         assert_eq!(rt; inlined(rt.alloc(), text)?.as_slice(), after.as_bytes());
     }
     Ok(())

@@ -1,7 +1,7 @@
 // A program whose fetches are of whole nodes.
 
 use crate::listings::listing_in;
-use fetch_passes::with_words;
+use fetch_passes::with_word_fetches;
 use grin_syntax::list;
 use grin_text::program;
 use std::test::Fail;
@@ -64,7 +64,7 @@ fn words_are_fetched_where_they_are_used(rt: HostRuntime) -> Result<(), Fail> {
     let g = program(rt.alloc(), NODES)?;
     let listing = list(rt.alloc(), &g)?;
     assert_eq!(rt; listing.as_slice(), listing_in(NODES));
-    let split = with_words(rt.alloc(), g)?;
+    let split = with_word_fetches(rt.alloc(), g)?;
     assert_eq!(rt; list(rt.alloc(), &split)?.as_slice(), WORDS.as_bytes());
     Ok(())
 }

@@ -14,11 +14,11 @@ mod listings;
 #[cfg(test)]
 mod measures;
 #[cfg(test)]
-mod raising;
+mod numbers_unboxed;
+#[cfg(test)]
+mod parameters;
 #[cfg(test)]
 mod simple;
-#[cfg(test)]
-mod unboxing;
 #[cfg(test)]
 mod updates;
 #[cfg(test)]

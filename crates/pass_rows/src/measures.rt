@@ -5,8 +5,9 @@ use grin_syntax::Grin;
 use grin_text::program;
 use std::test::Fail;
 
-// In `f`: size 2 + 6 + 4 + 3 + 4 + 4 + 4 + 2 + 2 + 10, weight 2 + 62 + 19 + 18 + 19 + 31 + 19 + 25 +
-// 25 + 79, two calls, and 2 + 2 + 16 + 1 + 1 + 15 + 1 + 17 words. In `g`: size 6, weight 51, 3 words.
+// In `f`: size 2 + 6 + 4 + 3 + 4 + 4 + 4 + 2 + 2 + 10, weight 2 + 62 + 19 + 18 + 19 + 31 + 19 + 25
+// + 25 + 79, two calls, and 2 + 2 + 16 + 1 + 1 + 15 + 1 + 17 words. In `g`: size 6, weight 51, 3
+// words.
 const ALL: &str = "\
 tags CInt/1 CNil/0 CCons/2
 words

@@ -11,12 +11,12 @@ use Rattle.flow_system.specs.declared.fact.Place.{Place}
 use Rattle.flow_system.specs.declared.fact.Place.TheVariants.{Site as site, Var as var, Result as result}
 use Rattle.flow_system.specs.declared.fact.Part.{Part}
 use Rattle.flow_system.specs.declared.fact.Part.TheVariants.{Tags as tags, Field as field, Word as word}
-use Rattle.flow_system.specs.Inclusions.{Source, value, a_cell, a_number, held, nodes_at, word_at, evaluated, extended, arguments, Sink, to, into_site, into_result, cells_at, Inclusion, flows, forces, applies}
+use Rattle.flow_system.specs.Inclusions.{Source, value, a_cell, a_number, held, nodes_at, word_at, evaluated, extended, arguments, FlowSink, to, into_site, into_result, cells_at, Inclusion, flows, forces, applies}
 use Rattle.flow_system.specs.Tables.{Tables, fields_of, params_of}
 use Rattle.flow_system.specs.Solution.{width}
 use Rattle.points_to.specs.declared.facts.Item.{Item}
-use Rattle.points_to.specs.Held.{In, here, there, item, picked, in_part, as_nodes, done_items, elements, numbered, value_items, cell_items, fetched, fetched_at, last_field, longer_node, longer_tag, longer, after_fields, moved_part, argument_part, arguments_of, items, delayed, called}
-use Rattle.points_to.specs.Asked.{cell_facts, asked, flow_facts, delayed_facts, forced, called_facts, applied, demands}
+use Rattle.points_to.specs.Held.{In, here, there, item, words_in_part, in_part, as_nodes, done_items, elements, numbered, value_items, cell_items, fetched, fetched_at, last_field, longer_node, longer_tag, longer, after_fields, moved_part, argument_part, arguments_of, items, delayed, called}
+use Rattle.points_to.specs.Asked.{cell_facts, asked, flow_facts, delayed_facts, forced, called_facts, applied, facts_demanded}
 use Rattle.points_to.specs.Reads.{word_reads, value_reads, sink_reads, cell_reads, result_reads, forced_reads, applied_reads, cells_reads, source_reads, reads, Agree}
 use Rattle.seq.proofs.Member.{in_left, in_right, in_split}
 
@@ -40,7 +40,7 @@ module _ (p : Tables) (H H' : Place → List Item) where
 
   same_elements : (w : Word) → Agree H H' (word_reads w) → elements p H' w ≡ elements p H w
   same_elements (Lit k) g = refl
-  same_elements (Var x) g = ap (picked (word 0)) (g.at (var x.0) here)
+  same_elements (Var x) g = ap (words_in_part (word 0)) (g.at (var x.0) here)
   same_elements (Global i) g = refl
   same_elements (TagWord t) g = refl
 
@@ -106,21 +106,21 @@ module _ (p : Tables) (H H' : Place → List Item) where
   same_items (extended v a) g =
       let e = same_value v (left (value_reads v) (word_reads a) g) in
       let k = width (value v) in
-      ap (λ X. flat_map (longer_tag p H' a (as_nodes p k X)) (picked tags (as_nodes p k X))) e
-      ∙ flat_same (longer_tag p H' a (as_nodes p k (value_items p H v))) (longer_tag p H a (as_nodes p k (value_items p H v))) (picked tags (as_nodes p k (value_items p H v))) (λ u h. same_longer a (as_nodes p k (value_items p H v)) u (same_elements a (right (value_reads v) (word_reads a) g)))
+      ap (λ X. flat_map (longer_tag p H' a (as_nodes p k X)) (words_in_part tags (as_nodes p k X))) e
+      ∙ flat_same (longer_tag p H' a (as_nodes p k (value_items p H v))) (longer_tag p H a (as_nodes p k (value_items p H v))) (words_in_part tags (as_nodes p k (value_items p H v))) (λ u h. same_longer a (as_nodes p k (value_items p H v)) u (same_elements a (right (value_reads v) (word_reads a) g)))
   same_items (arguments s t ws) g =
       let e = same_items s (left (source_reads p H s) (flat_map word_reads ws) g) in
       let k = width s in
-      ap (λ X. flat_map (arguments_of p H' t ws (as_nodes p k X)) (picked tags (as_nodes p k X))) e
-      ∙ flat_same (arguments_of p H' t ws (as_nodes p k (items p H s))) (arguments_of p H t ws (as_nodes p k (items p H s))) (picked tags (as_nodes p k (items p H s))) (λ u h. same_arguments t ws (as_nodes p k (items p H s)) u (right (source_reads p H s) (flat_map word_reads ws) g))
+      ap (λ X. flat_map (arguments_of p H' t ws (as_nodes p k X)) (words_in_part tags (as_nodes p k X))) e
+      ∙ flat_same (arguments_of p H' t ws (as_nodes p k (items p H s))) (arguments_of p H t ws (as_nodes p k (items p H s))) (words_in_part tags (as_nodes p k (items p H s))) (λ u h. same_arguments t ws (as_nodes p k (items p H s)) u (right (source_reads p H s) (flat_map word_reads ws) g))
 
-  same_asked : (k : Option ℕ) (X : List Item) (s : Sink) → Agree H H' (sink_reads s) → asked p H' k X s ≡ asked p H k X s
+  same_asked : (k : Option ℕ) (X : List Item) (s : FlowSink) → Agree H H' (sink_reads s) → asked p H' k X s ≡ asked p H k X s
   same_asked k X (to t) g = refl
   same_asked k X (into_site s) g = refl
   same_asked k X (into_result f) g = refl
   same_asked k X (cells_at w) g = ap (flat_map (cell_facts (as_nodes p k X))) (same_elements w g)
 
-  same_flow : (s : Source) (k : Sink) → Agree H H' (source_reads p H s) → Agree H H' (sink_reads k) → flow_facts p H' s k ≡ flow_facts p H s k
+  same_flow : (s : Source) (k : FlowSink) → Agree H H' (source_reads p H s) → Agree H H' (sink_reads k) → flow_facts p H' s k ≡ flow_facts p H s k
   same_flow s k g h = ap (λ X. asked p H' (width s) X k) (same_items s g) ∙ same_asked (width s) (items p H s) k h
 
   none : Agree H H' []
@@ -146,7 +146,7 @@ module _ (p : Tables) (H H' : Place → List Item) where
           ap (λ l. l ++ flow_facts p H' (evaluated (held (result f))) (into_site s)) (same_flow (arguments (held (site s)) t []) (to (params_of p f)) (and_none (site s ∷ []) g) none)
           ∙ ap (λ l. flow_facts p H (arguments (held (site s)) t []) (to (params_of p f)) ++ l) (same_flow (evaluated (held (result f))) (into_site s) h none)
 
-  same_applied : (v : Val) (a : Word) (k : Sink) (u : AbstractWord) → Agree H H' (value_reads v ++ (word_reads a ++ sink_reads k)) → Agree H H' (applied_reads p u) → applied p H' v a k u ≡ applied p H v a k u
+  same_applied : (v : Val) (a : Word) (k : FlowSink) (u : AbstractWord) → Agree H H' (value_reads v ++ (word_reads a ++ sink_reads k)) → Agree H H' (applied_reads p u) → applied p H' v a k u ≡ applied p H v a k u
   same_applied v a k (cell_of s) g h = refl
   same_applied v a k num g h = refl
   same_applied v a k (tag t) g h = go (called p t) h
@@ -163,18 +163,18 @@ module _ (p : Tables) (H H' : Place → List Item) where
           ap (λ l. l ++ flow_facts p H' (held (result f)) k) (same_flow (arguments (value v) t (a ∷ [])) (to (params_of p f)) both none)
           ∙ ap (λ l. flow_facts p H (arguments (value v) t (a ∷ [])) (to (params_of p f)) ++ l) (same_flow (held (result f)) k h (right (word_reads a) (sink_reads k) rest))
 
-  pub same_demands : (c : Inclusion) → Agree H H' (reads p H c) → demands p H' c ≡ demands p H c
+  pub same_demands : (c : Inclusion) → Agree H H' (reads p H c) → facts_demanded p H' c ≡ facts_demanded p H c
   same_demands (flows s k) g = same_flow s k (left (source_reads p H s) (sink_reads k) g) (right (source_reads p H s) (sink_reads k) g)
   same_demands (forces s) g =
       let there' = g.at (site s) here in
-      let found = picked tags (H (site s)) in
-      ap (λ X. flat_map (forced p H' s) (picked tags X)) there'
+      let found = words_in_part tags (H (site s)) in
+      ap (λ X. flat_map (forced p H' s) (words_in_part tags X)) there'
       ∙ flat_same (forced p H' s) (forced p H s) found (λ u h. same_forced s u (left (site s ∷ []) (flat_map (forced_reads p) found) g) (of_member (forced_reads p) found u h (right (site s ∷ []) (flat_map (forced_reads p) found) g)))
   same_demands (applies v a k) g =
       let named = value_reads v ++ (word_reads a ++ sink_reads k) in
-      let found = picked tags (as_nodes p (width (value v)) (value_items p H v)) in
+      let found = words_in_part tags (as_nodes p (width (value v)) (value_items p H v)) in
       let g' = left named (flat_map (applied_reads p) found) g in
-      ap (λ X. flat_map (applied p H' v a k) (picked tags (as_nodes p (width (value v)) X))) (same_value v (left (value_reads v) (word_reads a ++ sink_reads k) g'))
+      ap (λ X. flat_map (applied p H' v a k) (words_in_part tags (as_nodes p (width (value v)) X))) (same_value v (left (value_reads v) (word_reads a ++ sink_reads k) g'))
       ∙ flat_same (applied p H' v a k) (applied p H v a k) found (λ u h. same_applied v a k u g' (of_member (applied_reads p) found u h (right named (flat_map (applied_reads p) found) g)))
 
   same_source_reads : (s : Source) → Agree H H' (source_reads p H s) → source_reads p H' s ≡ source_reads p H s
@@ -190,8 +190,8 @@ module _ (p : Tables) (H H' : Place → List Item) where
 
   pub same_reads : (c : Inclusion) → Agree H H' (reads p H c) → reads p H' c ≡ reads p H c
   same_reads (flows s k) g = ap (λ l. l ++ sink_reads k) (same_source_reads s (left (source_reads p H s) (sink_reads k) g))
-  same_reads (forces s) g = ap (λ X. site s ∷ flat_map (forced_reads p) (picked tags X)) (g.at (site s) here)
+  same_reads (forces s) g = ap (λ X. site s ∷ flat_map (forced_reads p) (words_in_part tags X)) (g.at (site s) here)
   same_reads (applies v a k) g =
       let named = value_reads v ++ (word_reads a ++ sink_reads k) in
-      let found = picked tags (as_nodes p (width (value v)) (value_items p H v)) in
-      ap (λ X. named ++ flat_map (applied_reads p) (picked tags (as_nodes p (width (value v)) X))) (same_value v (left (value_reads v) (word_reads a ++ sink_reads k) (left named (flat_map (applied_reads p) found) g)))
+      let found = words_in_part tags (as_nodes p (width (value v)) (value_items p H v)) in
+      ap (λ X. named ++ flat_map (applied_reads p) (words_in_part tags (as_nodes p (width (value v)) X))) (same_value v (left (value_reads v) (word_reads a ++ sink_reads k) (left named (flat_map (applied_reads p) found) g)))

@@ -30,10 +30,10 @@ use Rattle.points_to.specs.Asked.{fact, facts_at}
 use Rattle.points_to.specs.Bits.{block_numbers, word_of, block_words}
 use Rattle.points_to.specs.declared.bits.Bits.{Bits}
 use Rattle.points_to.specs.Copies.{fetch_of, fetch_at, words_of, words_at, targets_of, targets_at, links_at, facts_to, AreFetched, HoldsFetched, GoesTo, AreAt, IsField, IsFetched, IsCopied}
-use Rattle.points_to.specs.Held.{In, here, there, item, in_part, picked, elements}
-use Rattle.points_to.specs.Kept.{is_no_site, met_by, IsSound}
-use Rattle.points_to.specs.Known.{held, Grows}
-use Rattle.points_to.specs.Rows.{numbers_in, words_in, GetsAll}
+use Rattle.points_to.specs.Held.{In, here, there, item, in_part, words_in_part, elements}
+use Rattle.points_to.specs.Kept.{is_not_site, met_by, IsSound}
+use Rattle.points_to.specs.Known.{held, GrowsByFacts}
+use Rattle.points_to.specs.Rows.{numbers_in, words_in, GainsMembers}
 use Rattle.points_to.specs.Stored.{cell_stored, value_in, values_in, value_at}
 use Rattle.points_to.specs.ValueWords.{elements_of, stored_words}
 use Rattle.seq.specs.Lists.{or_empty}
@@ -100,8 +100,8 @@ row_put xs n g row new lt is e m h i = ⊎_elim
     (same_or_not m n)
 
 -- the words of a set that gets numbers
-pub set_gets : (s s' : Bits) (bs : List (ℕ × ℕ)) → GetsAll (numbers_in s) (numbers_in s') (flat_map block_numbers bs) → GetsAll (words_in s) (words_in s') (flat_map block_words bs)
-set_gets s s' bs g = subst (GetsAll (words_in s) (words_in s')) (sym (words_are bs)) (gets_words s.blocks.items s'.blocks.items (flat_map block_numbers bs) g)
+pub set_gets : (s s' : Bits) (bs : List (ℕ × ℕ)) → GainsMembers (numbers_in s) (numbers_in s') (flat_map block_numbers bs) → GainsMembers (words_in s) (words_in s') (flat_map block_words bs)
+set_gets s s' bs g = subst (GainsMembers (words_in s) (words_in s')) (sym (words_are bs)) (gets_words s.blocks.items s'.blocks.items (flat_map block_numbers bs) g)
 
 pub no_words : (s : Bits) → numbers_in s ≡ [] → words_in s ≡ []
 no_words s e = words_are s.blocks.items ∙ ap (map word_of) e
@@ -128,16 +128,16 @@ in_part_append : (part : Part) (us vs : List AbstractWord) (q : Place) → facts
 in_part_append part us vs q = ap (facts_at q) (map_append (item part) us vs) ∙ map_append (fact q) (in_part part us) (in_part part vs)
 
 module _ (H H' H'' : Place → List Item) where
-  pub words_next : (q : Place) (part : Part) (bs : List (ℕ × ℕ)) (i : ℕ) (b : ℕ × ℕ) → i < length bs → Grows H H' (facts_at q (in_part part (flat_map block_words (take i bs))))
-      → Grows H' H'' (facts_at q (in_part part (block_words (get_or bs i b)))) → Grows H H'' (facts_at q (in_part part (flat_map block_words (take (i + 1) bs))))
+  pub words_next : (q : Place) (part : Part) (bs : List (ℕ × ℕ)) (i : ℕ) (b : ℕ × ℕ) → i < length bs → GrowsByFacts H H' (facts_at q (in_part part (flat_map block_words (take i bs))))
+      → GrowsByFacts H' H'' (facts_at q (in_part part (block_words (get_or bs i b)))) → GrowsByFacts H H'' (facts_at q (in_part part (flat_map block_words (take (i + 1) bs))))
   words_next q part bs i b lt g k =
-      subst (Grows H H'') (sym (in_part_append part (flat_map block_words (take i bs)) (block_words (get_or bs i b)) q) ∙ ap (λ us. facts_at q (in_part part us)) (flat_taken block_words bs i b lt))
+      subst (GrowsByFacts H H'') (sym (in_part_append part (flat_map block_words (take i bs)) (block_words (get_or bs i b)) q) ∙ ap (λ us. facts_at q (in_part part us)) (flat_taken block_words bs i b lt))
       (grows_more H H' H'' (facts_at q (in_part part (flat_map block_words (take i bs)))) (facts_at q (in_part part (block_words (get_or bs i b)))) g k)
 
-  pub targets_next : (us : List AbstractWord) (xs : List ℕ) (i x : ℕ) → i < length xs → Grows H H' (facts_to (take i xs) us)
-      → Grows H' H'' (facts_at (var (get_or xs i x)) (in_part (word 0) us)) → Grows H H'' (facts_to (take (i + 1) xs) us)
+  pub targets_next : (us : List AbstractWord) (xs : List ℕ) (i x : ℕ) → i < length xs → GrowsByFacts H H' (facts_to (take i xs) us)
+      → GrowsByFacts H' H'' (facts_at (var (get_or xs i x)) (in_part (word 0) us)) → GrowsByFacts H H'' (facts_to (take (i + 1) xs) us)
   targets_next us xs i x lt g k =
-      subst (Grows H H'') (flat_taken (λ x. facts_at (var x) (in_part (word 0) us)) xs i x lt)
+      subst (GrowsByFacts H H'') (flat_taken (λ x. facts_at (var x) (in_part (word 0) us)) xs i x lt)
       (grows_more H H' H'' (facts_to (take i xs) us) (facts_at (var (get_or xs i x)) (in_part (word 0) us)) g k)
 
 in_facts_to : (xs : List ℕ) (us : List AbstractWord) (f : Fact) → In f (facts_to xs us) → (x : ℕ) × (u : AbstractWord) × In x xs × In u us × (f ≡ fact (var x) (item (word 0) u))
@@ -222,7 +222,7 @@ module _ (p : Tables) (cs : List Inclusion) where
       within (Some d) is q = get_within c.fetches.items g d is
 
   -- words and targets of a fetch
-  pub words_more : (d d' : Fetched) (us : List AbstractWord) → d'.fetch ≡ d.fetch → d'.targets ≡ d.targets → GetsAll (words_in d.words) (words_in d'.words) us → AreFetched p cs d.fetch us → IsFetched p cs d → IsFetched p cs d'
+  pub words_more : (d d' : Fetched) (us : List AbstractWord) → d'.fetch ≡ d.fetch → d'.targets ≡ d.targets → GainsMembers (words_in d.words) (words_in d'.words) us → AreFetched p cs d.fetch us → IsFetched p cs d → IsFetched p cs d'
   words_more d d' us e q g are x = record {
     words = λ B m u h. subst (λ f. FetchGives p B f.cells f.word u) (sym e) (⊎_elim (λ a. x.words B m u a) (λ b. are B m u b) (g.only u h));
     targets = λ y h. subst (λ f. GoesTo p cs f y) (sym e) (x.targets y (subst (In y) q h));
@@ -250,16 +250,16 @@ module _ (p : Tables) (cs : List Inclusion) where
   held_words f x us holds are B m u h = holds B m u (are B m u h)
 
   -- what is known of a variable
-  pub known_words : (k : Kept) (x : ℕ) (us : List AbstractWord) → IsSound p cs k → us ≡ picked (word 0) (held k.facts (var x)) → AreAt p cs x us
+  pub known_words : (k : Kept) (x : ℕ) (us : List AbstractWord) → IsSound p cs k → us ≡ words_in_part (word 0) (held k.facts (var x)) → AreAt p cs x us
   known_words k x us sound e B m u h = sound.facts.by B m (var x) (word 0) u (picked_in (word 0) (held k.facts (var x)) (subst (In u) e h))
 
   -- what is fetched goes to its targets
-  pub delivered_sound : (k k' : Kept) (c : Copies) (g : ℕ) (us : List AbstractWord) → k'.stored ≡ k.stored → Grows (held k.facts) (held k'.facts) (facts_to (targets_at c g) us)
+  pub delivered_sound : (k k' : Kept) (c : Copies) (g : ℕ) (us : List AbstractWord) → k'.stored ≡ k.stored → GrowsByFacts (held k.facts) (held k'.facts) (facts_to (targets_at c g) us)
       → ((u : AbstractWord) → In u us → In u (words_at c g)) → IsCopied p cs c → IsSound p cs k → IsSound p cs k'
   delivered_sound k k' c g us e grows within copied = facts_sound p cs k k' (facts_to (targets_at c g) us) e grows
       (λ B m f h. let r = in_facts_to (targets_at c g) us f h in
       subst (λ f. At B f.place f.item.part f.item.word) (sym r.4) (go B m (slice_get c.fetches.items g) refl r.0 r.1 r.2 (within r.1 r.3)))
-      (λ f h. let r = in_facts_to (targets_at c g) us f h in ap (λ f. is_no_site f.place) r.4)
+      (λ f h. let r = in_facts_to (targets_at c g) us f h in ap (λ f. is_not_site f.place) r.4)
     where
       go : (B : Solution) → Solves p cs B → (o : Option Fetched) → slice_get c.fetches.items g ≡ o → (x : ℕ) (u : AbstractWord) → In x (targets_at c g) → In u (words_at c g) → At B (var x) (word 0) u
       go B m None is x u h i = none_in (subst (λ o. In x (targets_of o)) is h)
@@ -269,7 +269,7 @@ module _ (p : Tables) (cs : List Inclusion) where
 
   -- a linked variable, whose words are fetched with what is known of it
   pub link_fetched : (k : Kept) (c c' : Copies) (x g : ℕ) (f f' : Fetch) (us : List AbstractWord) → c'.fetches ≡ c.fetches → fetch_at c g ≡ Some f → fetch_at c' g ≡ Some f' → HoldsFetched p cs f x
-      → us ≡ picked (word 0) (held k.facts (var x)) → IsSound p cs k → AreFetched p cs f' us
+      → us ≡ words_in_part (word 0) (held k.facts (var x)) → IsSound p cs k → AreFetched p cs f' us
   link_fetched k c c' x g f f' us e at at' holds q sound =
       subst (λ f. AreFetched p cs f us) (some_is (sym at ∙ sym (ap (λ v. fetch_of (slice_get v.items g)) e) ∙ at'))
       (held_words f x us holds (known_words k x us sound q))

@@ -13,7 +13,7 @@ use Rattle.flow_system.specs.Inclusions.{nodes_at, evaluated}
 use Rattle.flow_system.specs.Tables.{Tables, fields_of}
 use Rattle.grin_syntax.specs.declared.program.Word as W
 use Rattle.points_to.specs.declared.facts.Item.{Item}
-use Rattle.points_to.specs.Held.{item, picked_one, picked, node_part, field_part, made_node, node_of_words, node_of_word, done_tag, done_part, done_items, elements, cell_items, items}
+use Rattle.points_to.specs.Held.{item, word_if_in_part, words_in_part, node_part, field_part, made_node, node_of_words, node_of_word, done_tag, done_part, done_items, elements, cell_items, items}
 
 pub flat_flat : {X Y Z : Type 0} (g : Y → List Z) (f : X → List Y) (xs : List X) → flat_map g (flat_map f xs) ≡ flat_map (λ x. flat_map g (f x)) xs
 flat_flat g f [] = refl
@@ -58,19 +58,19 @@ module _ (p : Tables) where
       go (Some (suc m)) = ap (λ b. cond b (made_node p t (suc m) X) []) (lt_false (suc m) 1 (omega arith)) ∙ sym (ap (λ b. cond b (made_node p t (suc m) []) []) (lt_false (suc m) 1 (omega arith)))
 
   pub evaluated_is : (H : Place → List Item) (w : W.Word) → items p H (evaluated (nodes_at w))
-      ≡ flat_map (λ u. done_items p (cell_items H u)) (elements p H w) ++ done_items p (flat_map (node_of_word p (Some 1) []) (flat_map (λ u. picked (word 0) (cell_items H u)) (elements p H w)))
+      ≡ flat_map (λ u. done_items p (cell_items H u)) (elements p H w) ++ done_items p (flat_map (node_of_word p (Some 1) []) (flat_map (λ u. words_in_part (word 0) (cell_items H u)) (elements p H w)))
   evaluated_is H w =
       let X = flat_map (cell_items H) (elements p H w) in
-      flat_map-append (λ i. done_part p i.part i.word) (flat_map (λ i. node_part i.part i) X) (flat_map (node_of_word p (Some 1) X) (picked (word 0) X))
-      ∙ ap (λ l. l ++ done_items p (flat_map (node_of_word p (Some 1) X) (picked (word 0) X))) (done_nodes X ∙ flat_flat (λ i. done_part p i.part i.word) (cell_items H) (elements p H w))
-      ∙ ap (λ f. flat_map (λ u. done_items p (cell_items H u)) (elements p H w) ++ done_items p (flat_map f (picked (word 0) X))) (λ i u. alone X u i)
-      ∙ ap (λ l. flat_map (λ u. done_items p (cell_items H u)) (elements p H w) ++ done_items p (flat_map (node_of_word p (Some 1) []) l)) (flat_flat (picked_one (word 0)) (cell_items H) (elements p H w))
+      flat_map-append (λ i. done_part p i.part i.word) (flat_map (λ i. node_part i.part i) X) (flat_map (node_of_word p (Some 1) X) (words_in_part (word 0) X))
+      ∙ ap (λ l. l ++ done_items p (flat_map (node_of_word p (Some 1) X) (words_in_part (word 0) X))) (done_nodes X ∙ flat_flat (λ i. done_part p i.part i.word) (cell_items H) (elements p H w))
+      ∙ ap (λ f. flat_map (λ u. done_items p (cell_items H u)) (elements p H w) ++ done_items p (flat_map f (words_in_part (word 0) X))) (λ i u. alone X u i)
+      ∙ ap (λ l. flat_map (λ u. done_items p (cell_items H u)) (elements p H w) ++ done_items p (flat_map (node_of_word p (Some 1) []) l)) (flat_flat (word_if_in_part (word 0)) (cell_items H) (elements p H w))
 
-  pub evaluated_from : (H : Place → List Item) (w : W.Word) (cs ds fs : List Element) (out mid new : List Item) → cs ≡ elements p H w → ds ≡ elements p H w → fs ≡ flat_map (λ u. picked (word 0) (cell_items H u)) ds
+  pub evaluated_from : (H : Place → List Item) (w : W.Word) (cs ds fs : List Element) (out mid new : List Item) → cs ≡ elements p H w → ds ≡ elements p H w → fs ≡ flat_map (λ u. words_in_part (word 0) (cell_items H u)) ds
       → mid ≡ out ++ flat_map (λ u. done_items p (cell_items H u)) cs → new ≡ mid ++ done_items p (flat_map (node_of_word p (Some 1) []) fs) → new ≡ out ++ items p H (evaluated (nodes_at w))
   evaluated_from H w cs ds fs out mid new a b f d e =
       let rest = done_items p (flat_map (node_of_word p (Some 1) []) fs) in
       e ∙ ap (λ l. l ++ rest) d ∙ append_assoc out (flat_map (λ u. done_items p (cell_items H u)) cs) rest
       ∙ ap (λ l. out ++ (flat_map (λ u. done_items p (cell_items H u)) l ++ rest)) a
-      ∙ ap (λ l. out ++ (flat_map (λ u. done_items p (cell_items H u)) (elements p H w) ++ done_items p (flat_map (node_of_word p (Some 1) []) l))) (f ∙ ap (flat_map (λ u. picked (word 0) (cell_items H u))) b)
+      ∙ ap (λ l. out ++ (flat_map (λ u. done_items p (cell_items H u)) (elements p H w) ++ done_items p (flat_map (node_of_word p (Some 1) []) l))) (f ∙ ap (flat_map (λ u. words_in_part (word 0) (cell_items H u))) b)
       ∙ ap (λ l. out ++ l) (sym (evaluated_is H w))

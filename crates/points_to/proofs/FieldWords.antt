@@ -15,9 +15,9 @@ use Rattle.flow_system.specs.Tables.{Tables}
 use Rattle.flow_system.specs.Solution.{Solution, AsNodes, node_tag, node_field, words_tag, words_field, AsWords, word_word, tag_word, field_word, zero_word, WordAmong, ValueGives, ArgumentsGive, field_argument, word_argument, width}
 use Rattle.points_to.specs.declared.facts.Item.{Item}
 use Rattle.points_to.specs.Asked.{fact, facts_at, vector_facts}
-use Rattle.points_to.specs.Held.{In, item, picked, in_part, as_word, fetched, numbered, items}
+use Rattle.points_to.specs.Held.{In, item, words_in_part, in_part, as_word, fetched, numbered, items}
 use Rattle.points_to.specs.Known.{solution_of}
-use Rattle.points_to.specs.Rounds.{AllHeld}
+use Rattle.points_to.specs.Rounds.{AllFactsKnown}
 use Rattle.points_to.proofs.Direct.{elements_if, picked_numbered}
 use Rattle.points_to.proofs.GivenItems.{in_picked, as_word_means, numbered_mean, in_value, items_mean}
 use Rattle.points_to.proofs.HeldFacts.{words_held, both_held}
@@ -28,7 +28,7 @@ pub not_true : IsTrue false → ⊥
 not_true t = cc
 
 -- fewer words
-pub fewer_held : (H : Place → List Item) (q : Place) (part : Part) (us vs : List AbstractWord) → ((u : AbstractWord) → In u us → In u vs) → AllHeld H (facts_at q (in_part part vs)) → AllHeld H (facts_at q (in_part part us))
+pub fewer_held : (H : Place → List Item) (q : Place) (part : Part) (us vs : List AbstractWord) → ((u : AbstractWord) → In u us → In u vs) → AllFactsKnown H (facts_at q (in_part part vs)) → AllFactsKnown H (facts_at q (in_part part us))
 fewer_held H q part us vs sub known = words_held H q part us (λ u h. in_picked part (H q) (known (fact q (item part u)) (in_map (fact q) (in_part part vs) (in_map (item part) vs (sub u h)))))
 
 module _ (p : Tables) (H : Place → List Item) (ws : List W.Word) (t : ℕ) where
@@ -93,15 +93,15 @@ module _ (p : Tables) (H : Place → List Item) (ws : List W.Word) (t : ℕ) whe
   field_words j u h = a_word j u (as_word_means p given Given (items_mean p H A (known_at H) (arguments (value (VectorVal ws)) t [])) j u h)
 
   -- where the first word is never the tag, nothing is asked
-  pub never_asked : (In (tag t) (elements_if p H (slice_get ws 0)) → ⊥) → (j : ℕ) (xs : List VarId) → AllHeld H (vector_facts p given j xs)
+  pub never_asked : (In (tag t) (elements_if p H (slice_get ws 0)) → ⊥) → (j : ℕ) (xs : List VarId) → AllFactsKnown H (vector_facts p given j xs)
   never_asked never j [] = λ f h. none_in h
   never_asked never j (x ∷ xs) = both_held H (facts_at (var x.0) (in_part (word 0) (as_word p j given))) (vector_facts p given (suc j) xs)
       (words_held H (var x.0) (word 0) (as_word p j given) (λ u h. absurd (never (subst (In (tag t)) (picked_numbered p H ws 0 0 0 refl) (in_picked (word 0) words (field_words j u h).0)))))
       (never_asked never (suc j) xs)
 
   -- where word j + 1 is known at a variable, field j is
-  pub field_held : (j : ℕ) (q : Place) → AllHeld H (facts_at q (in_part (word 0) (as_word p (j + 1) words))) → AllHeld H (facts_at q (in_part (word 0) (as_word p j given)))
+  pub field_held : (j : ℕ) (q : Place) → AllFactsKnown H (facts_at q (in_part (word 0) (as_word p (j + 1) words))) → AllFactsKnown H (facts_at q (in_part (word 0) (as_word p j given)))
   field_held j q known =
       let next : j + 1 ≡ suc j = omega arith in
-      fewer_held H q (word 0) (as_word p j given) (as_word p (suc j) words) (λ u h. in_left (picked (word (suc j)) words) (fetched p (suc j) words) (in_picked (word (suc j)) words (field_words j u h).1))
-      (subst (λ n. AllHeld H (facts_at q (in_part (word 0) (as_word p n words)))) next known)
+      fewer_held H q (word 0) (as_word p j given) (as_word p (suc j) words) (λ u h. in_left (words_in_part (word (suc j)) words) (fetched p (suc j) words) (in_picked (word (suc j)) words (field_words j u h).1))
+      (subst (λ n. AllFactsKnown H (facts_at q (in_part (word 0) (as_word p n words)))) next known)

@@ -3,7 +3,7 @@ use Rattle.std.proofs.Common.{◌≡◌, ℕ, Bool, true, false, cond, nat_eq, L
 use Rattle.std.specs.List.{flat_map}
 use Rattle.grin_syntax.specs.declared.program.Word.{Word}
 use Rattle.grin_syntax.specs.declared.program.Val.{Val}
-use Rattle.flow_system.specs.Inclusions.{value, held, evaluated, into_site, Sink, applies}
+use Rattle.flow_system.specs.Inclusions.{value, held, evaluated, into_site, FlowSink, applies}
 use Rattle.flow_system.specs.Solution.{width}
 use Rattle.flow_system.specs.Tables.{Tables, fields_of, params_of}
 use Rattle.flow_system.specs.declared.fact.Place.{Place}
@@ -13,9 +13,9 @@ use Rattle.flow_system.specs.declared.fact.Element.TheVariants.{Cell, Tag, Numbe
 use Rattle.flow_system.specs.declared.fact.Part.{Part}
 use Rattle.flow_system.specs.declared.fact.Part.TheVariants.{Tags as tags, Field as field, Word as word}
 use Rattle.points_to.specs.declared.facts.Item.{Item}
-use Rattle.points_to.specs.Held.{item, picked, moved_part, argument_part, as_nodes, value_items, arguments_of, after_fields, last_field, longer_node, called}
+use Rattle.points_to.specs.Held.{item, words_in_part, moved_part, argument_part, as_nodes, value_items, arguments_of, after_fields, last_field, longer_node, called}
 use Rattle.points_to.specs.declared.facts.Fact.{Fact}
-use Rattle.points_to.specs.Asked.{target_facts, flow_facts, delayed_facts, called_facts, applied, demands}
+use Rattle.points_to.specs.Asked.{target_facts, flow_facts, delayed_facts, called_facts, applied, facts_demanded}
 use Rattle.points_to.specs.Applied.{call_arguments, call_facts, tag_applied}
 use Rattle.points_to.specs.ByTag.{field_item, field_items}
 use Rattle.points_to.proofs.Done.{flat_flat}
@@ -50,11 +50,11 @@ arguments_same p H t ws X (Cell s) = refl
 arguments_same p H t ws X (Tag u) = ap (λ l. cond (nat_eq u t) (l ++ after_fields p H ws (fields_of p t)) []) (argument_among t X)
 arguments_same p H t ws X Number = refl
 
-pub all_arguments : (p : Tables) (H : Place → List Item) (t : ℕ) (ws : List Word) (X fields : List Item) (found : List Element) → fields ≡ field_items t X → found ≡ picked tags X → flat_map (arguments_of p H t ws fields) found ≡ flat_map (arguments_of p H t ws X) (picked tags X)
+pub all_arguments : (p : Tables) (H : Place → List Item) (t : ℕ) (ws : List Word) (X fields : List Item) (found : List Element) → fields ≡ field_items t X → found ≡ words_in_part tags X → flat_map (arguments_of p H t ws fields) found ≡ flat_map (arguments_of p H t ws X) (words_in_part tags X)
 all_arguments p H t ws X fields found e q = ap (λ Y. flat_map (arguments_of p H t ws Y) found) e ∙ ap (λ f. flat_map f found) (λ k u. arguments_same p H t ws X u k) ∙ ap (flat_map (arguments_of p H t ws X)) q
 
 -- functions that are given one argument more
-applied_same : (p : Tables) (H : Place → List Item) (v : Val) (a : Word) (k : Sink) (u : Element) → tag_applied p H (as_nodes p (width (value v)) (value_items p H v)) a k u ≡ applied p H v a k u
+applied_same : (p : Tables) (H : Place → List Item) (v : Val) (a : Word) (k : FlowSink) (u : Element) → tag_applied p H (as_nodes p (width (value v)) (value_items p H v)) a k u ≡ applied p H v a k u
 applied_same p H v a k (Cell s) = refl
 applied_same p H v a k (Tag t) = go (called p t)
   where
@@ -63,9 +63,9 @@ applied_same p H v a k (Tag t) = go (called p t)
     go (Some f) = refl
 applied_same p H v a k Number = refl
 
-pub all_applied : (p : Tables) (H : Place → List Item) (v : Val) (a : Word) (k : Sink) (X : List Item) (found : List Element) → X ≡ as_nodes p (width (value v)) (value_items p H v) → found ≡ picked tags X → flat_map (tag_applied p H X a k) found ≡ demands p H (applies v a k)
+pub all_applied : (p : Tables) (H : Place → List Item) (v : Val) (a : Word) (k : FlowSink) (X : List Item) (found : List Element) → X ≡ as_nodes p (width (value v)) (value_items p H v) → found ≡ words_in_part tags X → flat_map (tag_applied p H X a k) found ≡ facts_demanded p H (applies v a k)
 all_applied p H v a k X found e q =
-    ap (λ Y. flat_map (tag_applied p H Y a k) found) e ∙ ap (λ f. flat_map f found) (λ i u. applied_same p H v a k u i) ∙ ap (flat_map (applied p H v a k)) (q ∙ ap (picked tags) e)
+    ap (λ Y. flat_map (tag_applied p H Y a k) found) e ∙ ap (λ f. flat_map f found) (λ i u. applied_same p H v a k u i) ∙ ap (flat_map (applied p H v a k)) (q ∙ ap (words_in_part tags) e)
 
 -- a function with one argument more: its tag, then the fields, then the argument
 pub longer_from : (p : Tables) (H : Place → List Item) (a : Word) (X fields : List Item) (t t' : ℕ) (m : Option ℕ) (out one two new : List Item) → fields ≡ field_items t X → m ≡ fields_of p t

@@ -8,7 +8,7 @@ use Rattle.flow_system.specs.Solution.{Solution}
 use Rattle.grin_syntax.specs.declared.program.Val.{Val}
 use Rattle.points_to.specs.declared.facts.Facts.{Facts}
 use Rattle.points_to.specs.declared.flow.Flow.{Flow}
-use Rattle.points_to.specs.declared.origin.Origin.{Origin}
+use Rattle.points_to.specs.declared.origin.ProgramTables.{ProgramTables}
 use Rattle.points_to.specs.declared.stored.Stored.{Stored}
 use Rattle.points_to.specs.Found.{found}
 use Rattle.points_to.specs.Known.{held, solution_of}
@@ -25,7 +25,7 @@ nothing_stored p vs f s none = λ i q. at q i
     at (Result n) = refl
 
 -- of a solution that is made of facts, stored values and what they refer to
-pub found_of : {E : Type 0} (r : Answer Flow E) (f : Facts) (s : Stored) (o : Origin) (S : Solution) → IfOk r (λ w. w.facts ≡ f) → IfOk r (λ w. w.stored ≡ s) → IfOk r (λ w. w.origin ≡ o)
+pub found_of : {E : Type 0} (r : Answer Flow E) (f : Facts) (s : Stored) (o : ProgramTables) (S : Solution) → IfOk r (λ w. w.facts ≡ f) → IfOk r (λ w. w.stored ≡ s) → IfOk r (λ w. w.origin ≡ o)
     → solution_of (whole (tables_in o) o.values f s) ≡ S → IfOk r (λ w. found w ≡ S)
 found_of (Ok w) f s o S a b c e =
     ap (λ f. solution_of (whole (tables_in w.origin) w.origin.values f w.stored)) a ∙ ap (λ s. solution_of (whole (tables_in w.origin) w.origin.values f s)) b

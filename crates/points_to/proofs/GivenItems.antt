@@ -17,9 +17,9 @@ use Rattle.flow_system.specs.declared.fact.Part.{Part}
 use Rattle.flow_system.specs.declared.fact.Part.TheVariants.{Tags as tags, Field as field, Word as word}
 use Rattle.flow_system.specs.Inclusions.{Source, value, a_cell, a_number, held, nodes_at, word_at, evaluated, extended, arguments}
 use Rattle.flow_system.specs.Tables.{Tables, fields_of}
-use Rattle.flow_system.specs.Solution.{Solution, Sets, At, OneWord, one_word, Enough, AsNodes, node_tag, node_field, words_tag, words_field, AsWords, word_word, tag_word, field_word, zero_word, IsEvaluated, Evaluated, evaluated_tag, evaluated_field, Delays, Waits, StandsFor, literal, variable, global, tag_itself, WordAmong, first, later, ValueGives, of_variable, of_node, of_field, of_words, of_word, FetchGives, its_tag, its_field, its_zero, ExtendGives, extended_tag, extended_field, extended_last, ArgumentsGive, field_argument, word_argument, width, Gives}
+use Rattle.flow_system.specs.Solution.{Solution, Sets, At, OneWord, one_word, EnoughWordsForTag, AsNodes, node_tag, node_field, words_tag, words_field, AsWords, word_word, tag_word, field_word, zero_word, IsEvaluated, Evaluated, evaluated_tag, evaluated_field, Delays, Waits, StandsFor, literal, variable, global, tag_itself, WordAmong, first, later, ValueGives, of_variable, of_node, of_field, of_words, of_word, FetchGives, its_tag, its_field, its_zero, ExtendGives, extended_tag, extended_field, extended_last, ArgumentsGive, field_argument, word_argument, width, Gives}
 use Rattle.points_to.specs.declared.facts.Item.{Item}
-use Rattle.points_to.specs.Held.{In, here, there, item, same_part, picked_one, picked, in_part, cell_at, enough, node_part, field_part, moved_part, argument_part, is_done, if_tag, if_procedure, delayed, when_one, when_more, called, longer, field_or_zero, field_of_tag, fetched, as_word, node_of_words, node_of_word, as_nodes, done_part, done_items, elements, numbered, value_items, cell_items, fetched_at, last_field, longer_node, longer_tag, after_fields, arguments_of, items}
+use Rattle.points_to.specs.Held.{In, here, there, item, same_part, word_if_in_part, words_in_part, in_part, cell_at, words_hold_tag, node_part, field_part, moved_part, argument_part, is_done, if_tag, if_procedure, delayed, if_one_missing, when_more, called, longer, field_or_zero, field_of_tag, fetched, as_word, node_of_words, node_of_word, as_nodes, done_part, done_items, elements, numbered, value_items, cell_items, fetched_at, last_field, longer_node, longer_tag, after_fields, arguments_of, items}
 use Rattle.seq.proofs.Member.{none_in, cons_in, one_in, in_left, in_right, in_split, when_in, in_when, in_flat, flat_in, in_map, map_in}
 use Rattle.seq.proofs.Order.{lt_from, lt_true, le_from, lt_false, eq_from, eq_self}
 use Rattle.seq.proofs.Truth.{and_parts}
@@ -46,22 +46,22 @@ same_part-self (word j) = eq_self j
 pub by_item : {q : Part} {u : AbstractWord} {i : Item} (S : Sets) → item q u ≡ i → S i.part i.word → S q u
 by_item S e s = subst (λ i. S i.part i.word) (sym e) s
 
-pub picked_in : (q : Part) (X : List Item) {u : AbstractWord} → In u (picked q X) → In (item q u) X
+pub picked_in : (q : Part) (X : List Item) {u : AbstractWord} → In u (words_in_part q X) → In (item q u) X
 picked_in q X {u = u} h =
-    let r = flat_in (picked_one q) X h in
+    let r = flat_in (word_if_in_part q) X h in
     let i = r.0 in
     let w = when_in (same_part q i.part) (i.word ∷ []) r.2 in
     let e : item i.part i.word ≡ item q u = ap (λ a. item a i.word) (sym (same_part-true q i.part w.0)) ∙ ap (λ b. item q b) (sym (one_in i.word w.1)) in
     subst (λ j. In j X) e r.1
 
-pub in_picked : (q : Part) (X : List Item) {u : AbstractWord} → In (item q u) X → In u (picked q X)
-in_picked q X {u = u} h = in_flat (picked_one q) X h (in_when (same_part q q) (u ∷ []) (same_part-self q) here)
+pub in_picked : (q : Part) (X : List Item) {u : AbstractWord} → In (item q u) X → In u (words_in_part q X)
+in_picked q X {u = u} h = in_flat (word_if_in_part q) X h (in_when (same_part q q) (u ∷ []) (same_part-self q) here)
 
-pub enough_is : (k : Option ℕ) (m : ℕ) → enough k m ≡ true → Enough k m
+pub enough_is : (k : Option ℕ) (m : ℕ) → words_hold_tag k m ≡ true → EnoughWordsForTag k m
 enough_is None m e = tt
 enough_is (Some k) m e = lt_from m k e
 
-pub is_enough : (k : Option ℕ) (m : ℕ) → Enough k m → enough k m ≡ true
+pub is_enough : (k : Option ℕ) (m : ℕ) → EnoughWordsForTag k m → words_hold_tag k m ≡ true
 is_enough None m e = refl
 is_enough (Some k) m e = lt_true m k e
 
@@ -134,15 +134,15 @@ module _ (p : Tables) where
         ∙ ap (λ m. by d.proc.0 m) d.is_missing ∙ ap (λ g. by g r) d.is_f
 
   pub called_is : (t f : ℕ) → called p t ≡ Some f → Waits p t f 1
-  called_is t f e = let w = waiting_is when_one t f e in one w.0 w.1 w.2 w.3
+  called_is t f e = let w = waiting_is if_one_missing t f e in one w.0 w.1 w.2 w.3
     where
-      one : (g r : ℕ) → Waits p t g r → when_one g r ≡ Some f → Waits p t f 1
+      one : (g r : ℕ) → Waits p t g r → if_one_missing g r ≡ Some f → Waits p t f 1
       one g zero w q = cc
       one g (suc zero) w q = let same : g ≡ f = cc in subst (λ g. Waits p t g 1) same w
       one g (suc (suc r)) w q = cc
 
   pub is_called : (t f : ℕ) → Waits p t f 1 → called p t ≡ Some f
-  is_called t f w = is_waiting when_one t f 1 w
+  is_called t f w = is_waiting if_one_missing t f 1 w
 
   longer_is : (t t' : ℕ) → longer p t ≡ Some t' → (f : ℕ) × (r : ℕ) × Waits p t f (suc (suc r)) × (part_from 0 p.tags f (suc r) ≡ Some t')
   longer_is t t' e = let w = waiting_is (when_more p) t t' e in more w.0 w.1 w.2 w.3
@@ -166,7 +166,7 @@ module _ (p : Tables) where
     module _ (only : Only) where
       pub fetched_means : (j : ℕ) (u : AbstractWord) → In u (fetched p j X) → Fetched p S j u
       fetched_means zero u h = the_tag (only tags u (picked_in tags X h))
-      fetched_means (suc i) u h = let r = flat_in (field_of_tag p i X) (picked tags X) h in by r.0 (picked_in tags X r.1) r.2
+      fetched_means (suc i) u h = let r = flat_in (field_of_tag p i X) (words_in_part tags X) h in by r.0 (picked_in tags X r.1) r.2
         where
           by : (w : AbstractWord) → In (item tags w) X → In u (field_of_tag p i X w) → Fetched p S (suc i) u
           by (cell_of s) x k = none_in k
@@ -177,12 +177,12 @@ module _ (p : Tables) where
               of None e k = none_in k
               of (Some m) e k = on (nat_lt i m) refl k
                 where
-                  on : (b : Bool) → nat_lt i m ≡ b → In u (cond b (picked (field t i) X) (num ∷ [])) → Fetched p S (suc i) u
+                  on : (b : Bool) → nat_lt i m ≡ b → In u (cond b (words_in_part (field t i) X) (num ∷ [])) → Fetched p S (suc i) u
                   on true l k = a_field (only tags (tag t) x) e (lt_from i m l) (only (field t i) u (picked_in (field t i) X k))
                   on false l k = subst (Fetched p S (suc i)) (sym (one_in num k)) (a_zero (only tags (tag t) x) e (le_from i m l))
 
       pub as_word_means : (j : ℕ) (u : AbstractWord) → In u (as_word p j X) → AsWords p S j u
-      as_word_means j u h = ⊎_elim (λ a. word_word (only (word j) u (picked_in (word j) X a))) (λ b. of j u (fetched_means j u b)) (in_split (picked (word j) X) (fetched p j X) h)
+      as_word_means j u h = ⊎_elim (λ a. word_word (only (word j) u (picked_in (word j) X a))) (λ b. of j u (fetched_means j u b)) (in_split (words_in_part (word j) X) (fetched p j X) h)
         where
           of : (j : ℕ) (u : AbstractWord) → Fetched p S j u → AsWords p S j u
           of j u (the_tag x) = tag_word x
@@ -192,8 +192,8 @@ module _ (p : Tables) where
       pub nodes_mean : (k : Option ℕ) (q : Part) (u : AbstractWord) → In (item q u) (as_nodes p k X) → AsNodes p k S q u
       nodes_mean k q u h = ⊎_elim
           (λ a. let r = flat_in (λ i. node_part i.part i) X a in node r.0.part r.0.word r.1 r.2)
-          (λ b. let r = flat_in (node_of_word p k X) (picked (word 0) X) b in made r.0 (picked_in (word 0) X r.1) r.2)
-          (in_split (flat_map (λ i. node_part i.part i) X) (flat_map (node_of_word p k X) (picked (word 0) X)) h)
+          (λ b. let r = flat_in (node_of_word p k X) (words_in_part (word 0) X) b in made r.0 (picked_in (word 0) X r.1) r.2)
+          (in_split (flat_map (λ i. node_part i.part i) X) (flat_map (node_of_word p k X) (words_in_part (word 0) X)) h)
         where
           node : (a : Part) (v : AbstractWord) → In (item a v) X → In (item q u) (node_part a (item a v)) → AsNodes p k S q u
           node tags v x y = by_item (AsNodes p k S) (one_in (item tags v) y) (node_tag (only tags v x))
@@ -208,14 +208,14 @@ module _ (p : Tables) where
               of : (o : Option ℕ) → fields_of p t ≡ o → In (item q u) (node_of_words p k X t o) → AsNodes p k S q u
               of None e y = none_in y
               of (Some m) e y =
-                  let w = when_in (enough k m) _ y in
+                  let w = when_in (words_hold_tag k m) _ y in
                   let en = enough_is k m w.0 in
                   ⊎_elim
                   (λ a. by_item (AsNodes p k S) a (words_tag (only (word 0) (tag t) x) e en))
                   (λ b. let r = flat_in (λ i. field_part t m i.part i.word) X b in one en r.0.part r.0.word r.1 r.2)
                   (cons_in (item tags (tag t)) _ w.1)
                 where
-                  one : Enough k m → (a : Part) (v : AbstractWord) → In (item a v) X → In (item q u) (field_part t m a v) → AsNodes p k S q u
+                  one : EnoughWordsForTag k m → (a : Part) (v : AbstractWord) → In (item a v) X → In (item q u) (field_part t m a v) → AsNodes p k S q u
                   one en tags v z y = none_in y
                   one en (field t' j) v z y = none_in y
                   one en (word zero) v z y = none_in y
@@ -236,24 +236,24 @@ module _ (p : Tables) where
     module _ (all : All) where
       pub in_fetched : (j : ℕ) (u : AbstractWord) → Fetched p S j u → In u (fetched p j X)
       in_fetched j u (the_tag x) = in_picked tags X (all tags u x)
-      in_fetched j u (a_field {t = t} {m = m} {i = i} x e lt y) = in_flat (field_of_tag p i X) (picked tags X) (in_picked tags X (all tags (tag t) x))
-          (subst (λ o. In u (field_or_zero p i t X o)) (sym e) (subst (λ b. In u (cond b (picked (field t i) X) (num ∷ []))) (sym (lt_true i m lt)) (in_picked (field t i) X (all (field t i) u y))))
-      in_fetched j u (a_zero {t = t} {m = m} {i = i} x e le) = in_flat (field_of_tag p i X) (picked tags X) (in_picked tags X (all tags (tag t) x))
-          (subst (λ o. In num (field_or_zero p i t X o)) (sym e) (subst (λ b. In num (cond b (picked (field t i) X) (num ∷ []))) (sym (lt_false i m le)) here))
+      in_fetched j u (a_field {t = t} {m = m} {i = i} x e lt y) = in_flat (field_of_tag p i X) (words_in_part tags X) (in_picked tags X (all tags (tag t) x))
+          (subst (λ o. In u (field_or_zero p i t X o)) (sym e) (subst (λ b. In u (cond b (words_in_part (field t i) X) (num ∷ []))) (sym (lt_true i m lt)) (in_picked (field t i) X (all (field t i) u y))))
+      in_fetched j u (a_zero {t = t} {m = m} {i = i} x e le) = in_flat (field_of_tag p i X) (words_in_part tags X) (in_picked tags X (all tags (tag t) x))
+          (subst (λ o. In num (field_or_zero p i t X o)) (sym e) (subst (λ b. In num (cond b (words_in_part (field t i) X) (num ∷ []))) (sym (lt_false i m le)) here))
 
       pub in_as_word : (j : ℕ) (u : AbstractWord) → AsWords p S j u → In u (as_word p j X)
-      in_as_word j u (word_word x) = in_left (picked (word j) X) (fetched p j X) (in_picked (word j) X (all (word j) u x))
-      in_as_word j u (tag_word x) = in_right (picked (word j) X) (fetched p j X) (in_fetched j u (the_tag x))
-      in_as_word j u (field_word x e lt y) = in_right (picked (word j) X) (fetched p j X) (in_fetched j u (a_field x e lt y))
-      in_as_word j u (zero_word x e le) = in_right (picked (word j) X) (fetched p j X) (in_fetched j u (a_zero x e le))
+      in_as_word j u (word_word x) = in_left (words_in_part (word j) X) (fetched p j X) (in_picked (word j) X (all (word j) u x))
+      in_as_word j u (tag_word x) = in_right (words_in_part (word j) X) (fetched p j X) (in_fetched j u (the_tag x))
+      in_as_word j u (field_word x e lt y) = in_right (words_in_part (word j) X) (fetched p j X) (in_fetched j u (a_field x e lt y))
+      in_as_word j u (zero_word x e le) = in_right (words_in_part (word j) X) (fetched p j X) (in_fetched j u (a_zero x e le))
 
       pub in_nodes : (k : Option ℕ) (q : Part) (u : AbstractWord) → AsNodes p k S q u → In (item q u) (as_nodes p k X)
       in_nodes k q u (node_tag x) = in_left _ _ (in_flat (λ i. node_part i.part i) X (all tags u x) here)
       in_nodes k q u (node_field {t = t} {i = j} x) = in_left _ _ (in_flat (λ i. node_part i.part i) X (all (field t j) u x) here)
-      in_nodes k q u (words_tag {t = t} {m = m} x e en) = in_right (flat_map (λ i. node_part i.part i) X) _ (in_flat (node_of_word p k X) (picked (word 0) X) (in_picked (word 0) X (all (word 0) (tag t) x))
-          (subst (λ o. In (item tags (tag t)) (node_of_words p k X t o)) (sym e) (in_when (enough k m) _ (is_enough k m en) here)))
-      in_nodes k q u (words_field {t = t} {m = m} {i = j} x e en lt y) = in_right (flat_map (λ i. node_part i.part i) X) _ (in_flat (node_of_word p k X) (picked (word 0) X) (in_picked (word 0) X (all (word 0) (tag t) x))
-          (subst (λ o. In (item (field t j) u) (node_of_words p k X t o)) (sym e) (in_when (enough k m) _ (is_enough k m en)
+      in_nodes k q u (words_tag {t = t} {m = m} x e en) = in_right (flat_map (λ i. node_part i.part i) X) _ (in_flat (node_of_word p k X) (words_in_part (word 0) X) (in_picked (word 0) X (all (word 0) (tag t) x))
+          (subst (λ o. In (item tags (tag t)) (node_of_words p k X t o)) (sym e) (in_when (words_hold_tag k m) _ (is_enough k m en) here)))
+      in_nodes k q u (words_field {t = t} {m = m} {i = j} x e en lt y) = in_right (flat_map (λ i. node_part i.part i) X) _ (in_flat (node_of_word p k X) (words_in_part (word 0) X) (in_picked (word 0) X (all (word 0) (tag t) x))
+          (subst (λ o. In (item (field t j) u) (node_of_words p k X t o)) (sym e) (in_when (words_hold_tag k m) _ (is_enough k m en)
           (there (in_flat (λ i. field_part t m i.part i.word) X (all (word (suc j)) u y) (in_when (nat_lt j m) _ (lt_true j m lt) here))))))
 
       in_done : (q : Part) (u : AbstractWord) → Evaluated p S q u → In (item q u) (done_items p X)
@@ -313,8 +313,8 @@ module _ (p : Tables) where
           by (tag t) st y = none_in y
           by num st y = none_in y
 
-      longer_means : (a : W.Word) (X : List Item) (S : Sets) → Only X S → (q : Part) (u : AbstractWord) → In (item q u) (flat_map (longer_tag p H a X) (picked tags X)) → ExtendGives p A S a q u
-      longer_means a X S o q u h = let r = flat_in (longer_tag p H a X) (picked tags X) h in by r.0 (o tags r.0 (picked_in tags X r.1)) r.2
+      longer_means : (a : W.Word) (X : List Item) (S : Sets) → Only X S → (q : Part) (u : AbstractWord) → In (item q u) (flat_map (longer_tag p H a X) (words_in_part tags X)) → ExtendGives p A S a q u
+      longer_means a X S o q u h = let r = flat_in (longer_tag p H a X) (words_in_part tags X) h in by r.0 (o tags r.0 (picked_in tags X r.1)) r.2
         where
           by : (x : AbstractWord) → S tags x → In (item q u) (longer_tag p H a X x) → ExtendGives p A S a q u
           by (cell_of s) st y = none_in y
@@ -345,8 +345,8 @@ module _ (p : Tables) where
                   last None z y = none_in y
                   last (Some m) z y = let r = map_in (item (field t' m)) (elements p H a) y in by_item (ExtendGives p A S a) r.2 (extended_last st w.2 w.3 z (elements_mean a r.0 r.1))
 
-      arguments_mean : (t : ℕ) (ws : List W.Word) (X : List Item) (S : Sets) → Only X S → (q : Part) (u : AbstractWord) → In (item q u) (flat_map (arguments_of p H t ws X) (picked tags X)) → ArgumentsGive p A S t ws q u
-      arguments_mean t ws X S o q u h = let r = flat_in (arguments_of p H t ws X) (picked tags X) h in by r.0 (o tags r.0 (picked_in tags X r.1)) r.2
+      arguments_mean : (t : ℕ) (ws : List W.Word) (X : List Item) (S : Sets) → Only X S → (q : Part) (u : AbstractWord) → In (item q u) (flat_map (arguments_of p H t ws X) (words_in_part tags X)) → ArgumentsGive p A S t ws q u
+      arguments_mean t ws X S o q u h = let r = flat_in (arguments_of p H t ws X) (words_in_part tags X) h in by r.0 (o tags r.0 (picked_in tags X r.1)) r.2
         where
           by : (x : AbstractWord) → S tags x → In (item q u) (arguments_of p H t ws X x) → ArgumentsGive p A S t ws q u
           by (cell_of s) st y = none_in y
@@ -409,20 +409,20 @@ module _ (p : Tables) where
       in_fetch w i u (its_field {s = s} {i = j} st x e lt y) = in_flat (fetched_at p H (suc j)) (elements p H w) (in_elements w (cell_of s) st) (in_fetched (H (site s)) (At A (site s)) (all (site s)) (suc j) u (a_field x e lt y))
       in_fetch w i u (its_zero {s = s} {i = j} st x e le) = in_flat (fetched_at p H (suc j)) (elements p H w) (in_elements w (cell_of s) st) (in_fetched (H (site s)) (At A (site s)) (all (site s)) (suc j) num (a_zero x e le))
 
-      in_longer : (a : W.Word) (X : List Item) (S : Sets) → All X S → (q : Part) (u : AbstractWord) → ExtendGives p A S a q u → In (item q u) (flat_map (longer_tag p H a X) (picked tags X))
-      in_longer a X S o q u (extended_tag {t = t} {f = f} {r = r} {t' = t'} x w e) = in_flat (longer_tag p H a X) (picked tags X) (in_picked tags X (o tags (tag t) x))
+      in_longer : (a : W.Word) (X : List Item) (S : Sets) → All X S → (q : Part) (u : AbstractWord) → ExtendGives p A S a q u → In (item q u) (flat_map (longer_tag p H a X) (words_in_part tags X))
+      in_longer a X S o q u (extended_tag {t = t} {f = f} {r = r} {t' = t'} x w e) = in_flat (longer_tag p H a X) (words_in_part tags X) (in_picked tags X (o tags (tag t) x))
           (subst (λ l. In (item tags (tag t')) (longer_node p H a X t l)) (sym (is_longer t f r t' w e)) here)
-      in_longer a X S o q u (extended_field {t = t} {f = f} {r = r} {t' = t'} {i = j} x w e y) = in_flat (longer_tag p H a X) (picked tags X) (in_picked tags X (o tags (tag t) x))
+      in_longer a X S o q u (extended_field {t = t} {f = f} {r = r} {t' = t'} {i = j} x w e y) = in_flat (longer_tag p H a X) (words_in_part tags X) (in_picked tags X (o tags (tag t) x))
           (subst (λ l. In (item (field t' j) u) (longer_node p H a X t l)) (sym (is_longer t f r t' w e))
           (there (in_left _ _ (in_flat (λ i. moved_part t t' i.part i.word) X (o (field t j) u y) (in_when (nat_eq t t) _ (eq_self t) here)))))
-      in_longer a X S o q u (extended_last {t = t} {f = f} {r = r} {t' = t'} {m = m} x w e z y) = in_flat (longer_tag p H a X) (picked tags X) (in_picked tags X (o tags (tag t) x))
+      in_longer a X S o q u (extended_last {t = t} {f = f} {r = r} {t' = t'} {m = m} x w e z y) = in_flat (longer_tag p H a X) (words_in_part tags X) (in_picked tags X (o tags (tag t) x))
           (subst (λ l. In (item (field t' m) u) (longer_node p H a X t l)) (sym (is_longer t f r t' w e))
           (there (in_right (flat_map (λ i. moved_part t t' i.part i.word) X) _ (subst (λ n. In (item (field t' m) u) (last_field p H a t' n)) (sym z) (in_map (item (field t' m)) (elements p H a) (in_elements a u y))))))
 
-      in_arguments : (t : ℕ) (ws : List W.Word) (X : List Item) (S : Sets) → All X S → (q : Part) (u : AbstractWord) → ArgumentsGive p A S t ws q u → In (item q u) (flat_map (arguments_of p H t ws X) (picked tags X))
-      in_arguments t ws X S o q u (field_argument {i = j} x y) = in_flat (arguments_of p H t ws X) (picked tags X) (in_picked tags X (o tags (tag t) x))
+      in_arguments : (t : ℕ) (ws : List W.Word) (X : List Item) (S : Sets) → All X S → (q : Part) (u : AbstractWord) → ArgumentsGive p A S t ws q u → In (item q u) (flat_map (arguments_of p H t ws X) (words_in_part tags X))
+      in_arguments t ws X S o q u (field_argument {i = j} x y) = in_flat (arguments_of p H t ws X) (words_in_part tags X) (in_picked tags X (o tags (tag t) x))
           (in_when (nat_eq t t) _ (eq_self t) (in_left _ _ (in_flat (λ i. argument_part t i.part i.word) X (o (field t j) u y) (in_when (nat_eq t t) _ (eq_self t) here))))
-      in_arguments t ws X S o q u (word_argument {m = m} {j = j} {n = n} x z y e) = in_flat (arguments_of p H t ws X) (picked tags X) (in_picked tags X (o tags (tag t) x))
+      in_arguments t ws X S o q u (word_argument {m = m} {j = j} {n = n} x z y e) = in_flat (arguments_of p H t ws X) (words_in_part tags X) (in_picked tags X (o tags (tag t) x))
           (in_when (nat_eq t t) _ (eq_self t) (in_right (flat_map (λ i. argument_part t i.part i.word) X) _ (subst (λ k. In (item (word n) u) (after_fields p H ws k)) (sym z) (in_numbered word m ws j n u e y))))
 
       pub in_items : (s : Source) → All (items p H s) (Gives p A s)

@@ -5,7 +5,7 @@ use Rattle.std.specs.Int.{bit_at}
 use Rattle.std.proofs.lemmas.Nat.Bits.{bit_at_ones}
 use Rattle.points_to.specs.Held.{In, here}
 use Rattle.points_to.specs.Bits.{numbers, block_numbers}
-use Rattle.points_to.specs.Waiting.{numbers_from, NoneFrom, NoneTo, Waits, Takes}
+use Rattle.points_to.specs.Waiting.{numbers_from, GroupsEmptyFrom, GroupsEmptyTo, Waits, Takes}
 use Rattle.seq.proofs.Member.{cons_in, in_left, in_right, in_split}
 use Rattle.seq.proofs.Lists.{append_nil}
 use Rattle.seq.proofs.Order.{same_or_not}
@@ -125,7 +125,7 @@ none_from g (x ∷ gs) h =
     ap (λ w. block_numbers (g, w) ++ numbers_from (suc g) gs) (h 0 (omega arith)) ∙ ap (λ l. l ++ numbers_from (suc g) gs) (no_numbers 64 (g * 64))
     ∙ none_from (suc g) gs (λ i lt. h (suc i) (omega (arith, lt)))
 
-pub none_at_all : (gs : List ℕ) (at : ℕ) → NoneFrom gs at → NoneTo gs at → numbers_from 0 gs ≡ []
+pub none_at_all : (gs : List ℕ) (at : ℕ) → GroupsEmptyFrom gs at → GroupsEmptyTo gs at → numbers_from 0 gs ≡ []
 none_at_all gs at from to = none_from 0 gs (λ i lt. ⊎_elim (λ a. to i a lt) (λ a. from i a lt) (either i at))
   where
     either : (i k : ℕ) → (i ≤ k) ⊎ (k ≤ i)

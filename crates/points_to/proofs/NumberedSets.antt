@@ -4,8 +4,8 @@ use Rattle.std.specs.Prelude.{◌⊎◌}
 use Rattle.std.proofs.lemmas.Option.{slice_get_read}
 use Rattle.points_to.specs.declared.bits.Bits.{Bits}
 use Rattle.points_to.specs.Held.{In, here}
-use Rattle.points_to.specs.Rows.{numbers_in, GetsAll}
-use Rattle.points_to.specs.Stored.{numbers_of, sets_at, Stores}
+use Rattle.points_to.specs.Rows.{numbers_in, GainsMembers}
+use Rattle.points_to.specs.Stored.{numbers_of, sets_at, PutsAtSite}
 use Rattle.seq.proofs.Member.{one_in}
 use Rattle.seq.proofs.Order.{same_or_not}
 
@@ -31,7 +31,7 @@ set_other (x ∷ xs) (suc n) zero s ne = refl
 set_other (x ∷ xs) (suc n) (suc m) s ne = set_other xs n m s (λ e. ne (ap suc e))
 
 -- a number is put into the set of a site
-pub stores_at : (xs : List Bits) (s n : ℕ) (old new : Bits) → s < length xs → old ≡ get_or xs s old → GetsAll (numbers_in old) (numbers_in new) (n ∷ []) → Stores (sets_at xs) (sets_at (slice_set xs s new)) s n
+pub stores_at : (xs : List Bits) (s n : ℕ) (old new : Bits) → s < length xs → old ≡ get_or xs s old → GainsMembers (numbers_in old) (numbers_in new) (n ∷ []) → PutsAtSite (sets_at xs) (sets_at (slice_set xs s new)) s n
 stores_at xs s n old new lt e g = record {
   kept = λ r m h. ⊎_elim
       (λ z. subst (λ r. In m (sets_at (slice_set xs s new) r)) (sym z) (subst (In m) (sym new_is) (g.kept m (subst (In m) (ap (sets_at xs) z ∙ old_is) h))))

@@ -8,7 +8,7 @@ use Rattle.std.proofs.lemmas.Bool.Decides.{nat_tests}
 use Rattle.std.proofs.lemmas.List.{take-append-drop}
 use Rattle.std.proofs.lemmas.Nat.Bits.{bit_at_lowest, bit_at-suc, bit_at-zero, bit_at-lt}
 use Rattle.points_to.specs.Held.{In, here}
-use Rattle.points_to.specs.Rows.{GetsAll}
+use Rattle.points_to.specs.Rows.{GainsMembers}
 use Rattle.points_to.specs.Bits.{numbers, block_numbers, BitsAt, StandsAt}
 use Rattle.seq.proofs.Member.{none_in, one_in, in_left, in_right, in_split, when_in, in_when, in_flat, flat_in}
 use Rattle.points_to.proofs.Blocks.{its_number}
@@ -111,7 +111,7 @@ or_only : (x y z : ℕ) → z ≡ max x y → z ≡ 1 → (x ≡ 1) ⊎ (y ≡ 1
 or_only x y z e one = ⊎_elim (λ a. inl a) (λ d. let n : x ≢ 1 = d in inr (omega (arith, e, one, n))) (cases_eq x 1)
 
 -- a block gets the numbers of another with its number
-pub block_gets : (q v b w : ℕ) → ((i : ℕ) → bit_at w i ≡ max (bit_at v i) (bit_at b i)) → GetsAll (block_numbers (q, v)) (block_numbers (q, w)) (block_numbers (q, b))
+pub block_gets : (q v b w : ℕ) → ((i : ℕ) → bit_at w i ≡ max (bit_at v i) (bit_at b i)) → GainsMembers (block_numbers (q, v)) (block_numbers (q, w)) (block_numbers (q, b))
 block_gets q v b w both = record {
   kept = λ y h. let s = in_bit 64 (q * 64) v y h in subst (λ m. In m (numbers 64 (q * 64) w)) (sym s.2) (bit_in 64 (q * 64) w s.0 s.1 (or_left (bit_at v s.0) (bit_at b s.0) (bit_at w s.0) (both s.0) (bit_at-lt b s.0) s.3));
   put = λ y h. let s = in_bit 64 (q * 64) b y h in subst (λ m. In m (numbers 64 (q * 64) w)) (sym s.2) (bit_in 64 (q * 64) w s.0 s.1 (or_right (bit_at v s.0) (bit_at b s.0) (bit_at w s.0) (both s.0) (bit_at-lt v s.0) s.3));
@@ -125,17 +125,17 @@ block_gets q v b w both = record {
 
 -- in the block that stands there
 pub gets_bits : (bs : List (ℕ × ℕ)) (k w : ℕ) (b new : ℕ × ℕ) → StandsAt bs new.0 k → b ≡ get_or bs k b → ((i : ℕ) → bit_at w i ≡ max (bit_at b.1 i) (bit_at new.1 i))
-    → GetsAll (flat_map block_numbers bs) (flat_map block_numbers (slice_set bs k (new.0, w))) (block_numbers new)
+    → GainsMembers (flat_map block_numbers bs) (flat_map block_numbers (slice_set bs k (new.0, w))) (block_numbers new)
 gets_bits bs k w b new s e both =
     gets_at block_numbers (block_numbers new) bs k b (new.0, w) s.within e
-    (subst (λ q. GetsAll (block_numbers (q, b.1)) (block_numbers (new.0, w)) (block_numbers new)) (sym (its_number bs new.0 k b s e)) (block_gets new.0 b.1 new.1 w both))
+    (subst (λ q. GainsMembers (block_numbers (q, b.1)) (block_numbers (new.0, w)) (block_numbers new)) (sym (its_number bs new.0 k b s e)) (block_gets new.0 b.1 new.1 w both))
 
 -- a list of its own members
-gets_itself : {X : Type 0} (xs : List X) → GetsAll [] xs xs
+gets_itself : {X : Type 0} (xs : List X) → GainsMembers [] xs xs
 gets_itself xs = record { kept = λ y h. none_in h; put = λ y h. h; only = λ y h. inr h }
 
 -- a new block
-pub gets_block : (bs : List (ℕ × ℕ)) (k : ℕ) (new : ℕ × ℕ) → GetsAll (flat_map block_numbers bs) (flat_map block_numbers (insert bs k new)) (block_numbers new)
+pub gets_block : (bs : List (ℕ × ℕ)) (k : ℕ) (new : ℕ × ℕ) → GainsMembers (flat_map block_numbers bs) (flat_map block_numbers (insert bs k new)) (block_numbers new)
 gets_block bs k new =
-    subst (λ l. GetsAll (flat_map block_numbers l) (flat_map block_numbers (insert bs k new)) (block_numbers new)) (take-append-drop k bs)
+    subst (λ l. GainsMembers (flat_map block_numbers l) (flat_map block_numbers (insert bs k new)) (block_numbers new)) (take-append-drop k bs)
     (gets_between block_numbers (block_numbers new) (take k bs) (drop k bs) new (gets_itself (block_numbers new)))

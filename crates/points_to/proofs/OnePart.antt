@@ -8,7 +8,7 @@ use Rattle.flow_system.specs.Tables.{Tables}
 use Rattle.points_to.specs.declared.facts.Item.{Item}
 use Rattle.points_to.specs.declared.nodes.Shift.{Shift}
 use Rattle.points_to.specs.declared.nodes.Shift.TheVariants.{Fields}
-use Rattle.points_to.specs.Shift.{shifted}
+use Rattle.points_to.specs.Shift.{shifted_items}
 use Rattle.points_to.specs.Held.{item, in_part, shifted_word, done_tag, done_items}
 
 module _ (f : Item → List Item) (q : Part) where
@@ -39,18 +39,18 @@ done_tags p (w ∷ ws) = ap (λ l. done_tag p w ++ l) (done_tags p ws)
 
 -- a shift, by its kind and by the part
 module _ (p : Tables) (by by' : Shift) (part part' : Part) (ws : List Element) (e : by ≡ by') (q : part ≡ part') where
-  same : flat_map (shifted p by) (in_part part ws) ≡ flat_map (shifted p by') (in_part part' ws)
-  same = ap (λ b. flat_map (shifted p b) (in_part part ws)) e ∙ ap (λ r. flat_map (shifted p by') (in_part r ws)) q
+  same : flat_map (shifted_items p by) (in_part part ws) ≡ flat_map (shifted_items p by') (in_part part' ws)
+  same = ap (λ b. flat_map (shifted_items p b) (in_part part ws)) e ∙ ap (λ r. flat_map (shifted_items p by') (in_part r ws)) q
 
-  pub shift_gone : ((u : Element) → shifted p by' (item part' u) ≡ []) → flat_map (shifted p by) (in_part part ws) ≡ []
-  shift_gone h = same ∙ gone (shifted p by') part' h ws
+  pub shift_gone : ((u : Element) → shifted_items p by' (item part' u) ≡ []) → flat_map (shifted_items p by) (in_part part ws) ≡ []
+  shift_gone h = same ∙ gone (shifted_items p by') part' h ws
 
-  pub shift_moved : (to : Part) (b : Bool) → ((u : Element) → shifted p by' (item part' u) ≡ cond b (item to u ∷ []) []) → flat_map (shifted p by) (in_part part ws) ≡ cond b (in_part to ws) []
-  shift_moved to b h = same ∙ moved (shifted p by') part' to b h ws
+  pub shift_moved : (to : Part) (b : Bool) → ((u : Element) → shifted_items p by' (item part' u) ≡ cond b (item to u ∷ []) []) → flat_map (shifted_items p by) (in_part part ws) ≡ cond b (in_part to ws) []
+  shift_moved to b h = same ∙ moved (shifted_items p by') part' to b h ws
 
-  pub shift_field : (t m j : ℕ) → by' ≡ Fields t m → part' ≡ word j → flat_map (shifted p by) (in_part part ws) ≡ flat_map (shifted_word t m j) ws
-  shift_field t m j b r = same ∙ ap (λ b. flat_map (shifted p b) (in_part part' ws)) b ∙ ap (λ r. flat_map (shifted p (Fields t m)) (in_part r ws)) r ∙ go ws
+  pub shift_field : (t m j : ℕ) → by' ≡ Fields t m → part' ≡ word j → flat_map (shifted_items p by) (in_part part ws) ≡ flat_map (shifted_word t m j) ws
+  shift_field t m j b r = same ∙ ap (λ b. flat_map (shifted_items p b) (in_part part' ws)) b ∙ ap (λ r. flat_map (shifted_items p (Fields t m)) (in_part r ws)) r ∙ go ws
     where
-      go : (vs : List Element) → flat_map (shifted p (Fields t m)) (in_part (word j) vs) ≡ flat_map (shifted_word t m j) vs
+      go : (vs : List Element) → flat_map (shifted_items p (Fields t m)) (in_part (word j) vs) ≡ flat_map (shifted_word t m j) vs
       go [] = refl
       go (v ∷ vs) = ap (λ l. shifted_word t m j v ++ l) (go vs)

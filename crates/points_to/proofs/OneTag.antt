@@ -10,7 +10,7 @@ use Rattle.flow_system.specs.declared.fact.Part.TheVariants.{Tags as tags, Field
 use Rattle.flow_system.specs.declared.fact.Place.{Place}
 use Rattle.flow_system.specs.Tables.{Tables, fields_of}
 use Rattle.points_to.specs.declared.facts.Item.{Item}
-use Rattle.points_to.specs.Held.{item, picked_one, picked, node_part, shifted_word, field_part, argument_part, enough, made_node, node_of_words, node_of_word, as_nodes, after_fields, arguments_of}
+use Rattle.points_to.specs.Held.{item, word_if_in_part, words_in_part, node_part, shifted_word, field_part, argument_part, words_hold_tag, made_node, node_of_words, node_of_word, as_nodes, after_fields, arguments_of}
 use Rattle.points_to.specs.OneTag.{node_if_tag, as_nodes_of}
 use Rattle.points_to.proofs.Done.{flat_flat}
 
@@ -42,7 +42,7 @@ module _ {Y : Type 0} (f : Item → List Y) (v : ℕ) (no_tag : f (item tags (Ta
 
   none_node : (p : Tables) (k : Option ℕ) (X : List Item) (o : Option ℕ) → flat_map f (node_of_words p k X v o) ≡ []
   none_node p k X None = refl
-  none_node p k X (Some m) = none_when p (enough k m) m X
+  none_node p k X (Some m) = none_when p (words_hold_tag k m) m X
 
 -- what is made of items, where nothing is made of the nodes of other tags
 module _ {Y : Type 0} (f : Item → List Y) (t : ℕ) (no_tag : (v : ℕ) → nat_eq v t ≡ false → f (item tags (Tag v)) ≡ []) (no_field : (v j : ℕ) (u : Element) → nat_eq v t ≡ false → f (item (field v j) u) ≡ []) (p : Tables) (k : Option ℕ) (X : List Item) where
@@ -58,7 +58,7 @@ module _ {Y : Type 0} (f : Item → List Y) (t : ℕ) (no_tag : (v : ℕ) → na
   pub one_tag : flat_map f (as_nodes p k X) ≡ flat_map f (as_nodes_of p t k X)
   one_tag =
       let A = flat_map (λ i. node_part i.part i) X in
-      let L = picked (word 0) X in
+      let L = words_in_part (word 0) X in
       flat_map-append f A (flat_map (node_of_word p k X) L)
       ∙ ap (λ l. flat_map f A ++ l) (flat_flat f (node_of_word p k X) L ∙ ap (λ g. flat_map g L) (λ i u. one_word u i) ∙ sym (flat_flat f (node_if_tag p t k X) L))
       ∙ sym (flat_map-append f A (flat_map (node_if_tag p t k X) L))
@@ -75,15 +75,15 @@ module _ (p : Tables) (H : Place → List Item) (t : ℕ) (ws : List Word) where
   word_same k X (Tag v) = ap (λ l. cond (nat_eq v t) (l ++ after_fields p H ws (fields_of p t)) []) (fields_same k X)
   word_same k X Number = refl
 
-  of_other : (Z : List Item) (v : ℕ) → nat_eq v t ≡ false → flat_map (arguments_of p H t ws Z) (picked_one tags (item tags (Tag v))) ≡ []
+  of_other : (Z : List Item) (v : ℕ) → nat_eq v t ≡ false → flat_map (arguments_of p H t ws Z) (word_if_in_part tags (item tags (Tag v))) ≡ []
   of_other Z v e = ap (λ b. cond b (flat_map (λ i. argument_part t i.part i.word) Z ++ after_fields p H ws (fields_of p t)) [] ++ []) e
 
-  found_same : (Z : List Item) (k : Option ℕ) (X : List Item) → flat_map (arguments_of p H t ws Z) (picked tags (as_nodes p k X)) ≡ flat_map (arguments_of p H t ws Z) (picked tags (as_nodes_of p t k X))
+  found_same : (Z : List Item) (k : Option ℕ) (X : List Item) → flat_map (arguments_of p H t ws Z) (words_in_part tags (as_nodes p k X)) ≡ flat_map (arguments_of p H t ws Z) (words_in_part tags (as_nodes_of p t k X))
   found_same Z k X =
       let f = arguments_of p H t ws Z in
-      flat_flat f (picked_one tags) (as_nodes p k X)
-      ∙ one_tag (λ i. flat_map f (picked_one tags i)) t (of_other Z) (λ v j u e. refl) p k X
-      ∙ sym (flat_flat f (picked_one tags) (as_nodes_of p t k X))
+      flat_flat f (word_if_in_part tags) (as_nodes p k X)
+      ∙ one_tag (λ i. flat_map f (word_if_in_part tags i)) t (of_other Z) (λ v j u e. refl) p k X
+      ∙ sym (flat_flat f (word_if_in_part tags) (as_nodes_of p t k X))
 
-  pub arguments_of_tag : (k : Option ℕ) (X : List Item) → flat_map (arguments_of p H t ws (as_nodes_of p t k X)) (picked tags (as_nodes_of p t k X)) ≡ flat_map (arguments_of p H t ws (as_nodes p k X)) (picked tags (as_nodes p k X))
-  arguments_of_tag k X = sym (found_same (as_nodes p k X) k X ∙ ap (λ f. flat_map f (picked tags (as_nodes_of p t k X))) (λ i u. word_same k X u i))
+  pub arguments_of_tag : (k : Option ℕ) (X : List Item) → flat_map (arguments_of p H t ws (as_nodes_of p t k X)) (words_in_part tags (as_nodes_of p t k X)) ≡ flat_map (arguments_of p H t ws (as_nodes p k X)) (words_in_part tags (as_nodes p k X))
+  arguments_of_tag k X = sym (found_same (as_nodes p k X) k X ∙ ap (λ f. flat_map f (words_in_part tags (as_nodes_of p t k X))) (λ i u. word_same k X u i))

@@ -9,9 +9,9 @@ use Rattle.flow_system.specs.declared.fact.Part.{Part}
 use Rattle.flow_system.specs.declared.fact.Part.TheVariants.{Tags as tags, Field as field, Word as word}
 use Rattle.points_to.specs.declared.facts.Item.{Item}
 use Rattle.points_to.specs.declared.items.Row.{Row}
-use Rattle.points_to.specs.Held.{same_part, picked_one, picked}
+use Rattle.points_to.specs.Held.{same_part, word_if_in_part, words_in_part}
 use Rattle.points_to.specs.PartOrder.{before, part_at, Ascending, IsPlace, StandsAt, GoesTo}
-use Rattle.points_to.specs.Rows.{row_words, row_items, GetsAll}
+use Rattle.points_to.specs.Rows.{row_words, row_items, GainsMembers}
 use Rattle.seq.proofs.Order.{compared, lt_or_le, eq_from, eq_true, eq_self, eq_false, lt_from, lt_true, le_from, lt_false}
 use Rattle.seq.proofs.Lists.{append_nil}
 use Rattle.points_to.proofs.GivenItems.{same_part-true, same_part-self}
@@ -150,27 +150,27 @@ module _ (rows : List Row) (q : Part) (k : ℕ) (p : IsPlace rows q k k) (r : Ro
           (compared i k)
 
 -- the words in one part
-no_row_picked : (q : Part) (rows : List Row) → ((i : ℕ) → i < length rows → same_part q (part_at rows i) ≡ false) → picked q (flat_map row_items rows) ≡ []
+no_row_picked : (q : Part) (rows : List Row) → ((i : ℕ) → i < length rows → same_part q (part_at rows i) ≡ false) → words_in_part q (flat_map row_items rows) ≡ []
 no_row_picked q [] h = refl
 no_row_picked q (r ∷ rows) h =
-    flat_map-append (picked_one q) (row_items r) (flat_map row_items rows)
-    ∙ ap (λ l. l ++ picked q (flat_map row_items rows)) (none_picked q r.part (row_words r) (h 0 (omega arith)))
+    flat_map-append (word_if_in_part q) (row_items r) (flat_map row_items rows)
+    ∙ ap (λ l. l ++ words_in_part q (flat_map row_items rows)) (none_picked q r.part (row_words r) (h 0 (omega arith)))
     ∙ no_row_picked q rows (λ i lt. h (suc i) (omega (arith, lt)))
 
-row_picked : (q : Part) (rows : List Row) (k : ℕ) (r : Row) → k < length rows → r ≡ get_or rows k r → r.part ≡ q → ((i : ℕ) → i < length rows → i ≢ k → same_part q (part_at rows i) ≡ false) → picked q (flat_map row_items rows) ≡ row_words r
+row_picked : (q : Part) (rows : List Row) (k : ℕ) (r : Row) → k < length rows → r ≡ get_or rows k r → r.part ≡ q → ((i : ℕ) → i < length rows → i ≢ k → same_part q (part_at rows i) ≡ false) → words_in_part q (flat_map row_items rows) ≡ row_words r
 row_picked q [] k r lt e s h = absurd (omega (arith, lt))
 row_picked q (x ∷ rows) zero r lt e s h =
-    flat_map-append (picked_one q) (row_items x) (flat_map row_items rows)
-    ∙ ap (λ l. picked q (row_items x) ++ l) (no_row_picked q rows (λ i w. h (suc i) (omega (arith, w)) (λ z. absurd (omega (arith, z)))))
-    ∙ append_nil (picked q (row_items x))
+    flat_map-append (word_if_in_part q) (row_items x) (flat_map row_items rows)
+    ∙ ap (λ l. words_in_part q (row_items x) ++ l) (no_row_picked q rows (λ i w. h (suc i) (omega (arith, w)) (λ z. absurd (omega (arith, z)))))
+    ∙ append_nil (words_in_part q (row_items x))
     ∙ picked_row q x.part (row_words x) (subst (λ a. same_part q a ≡ true) (sym s ∙ ap (λ y. y.part) e) (same_part-self q))
     ∙ ap row_words (sym e)
 row_picked q (x ∷ rows) (suc k) r lt e s h =
-    flat_map-append (picked_one q) (row_items x) (flat_map row_items rows)
-    ∙ ap (λ l. l ++ picked q (flat_map row_items rows)) (none_picked q x.part (row_words x) (h 0 (omega arith) (λ z. absurd (omega (arith, z)))))
+    flat_map-append (word_if_in_part q) (row_items x) (flat_map row_items rows)
+    ∙ ap (λ l. l ++ words_in_part q (flat_map row_items rows)) (none_picked q x.part (row_words x) (h 0 (omega arith) (λ z. absurd (omega (arith, z)))))
     ∙ row_picked q rows k r (omega (arith, lt)) e s (λ i w n. h (suc i) (omega (arith, w)) (λ z. n (omega (arith, z))))
 
-pub picked_there : (rows : List Row) → Ascending rows → (q : Part) (k : ℕ) (r : Row) → StandsAt rows q k → r ≡ get_or rows k r → picked q (flat_map row_items rows) ≡ row_words r
+pub picked_there : (rows : List Row) → Ascending rows → (q : Part) (k : ℕ) (r : Row) → StandsAt rows q k → r ≡ get_or rows k r → words_in_part q (flat_map row_items rows) ≡ row_words r
 picked_there rows up q k r s e = row_picked q rows k r s.within e (sym (part_read rows k r s.within e) ∙ s.part) others
   where
     others : (i : ℕ) → i < length rows → i ≢ k → same_part q (part_at rows i) ≡ false
@@ -179,7 +179,7 @@ picked_there rows up q k r s e = row_picked q rows k r s.within e (sym (part_rea
         (λ t. ⊎_elim (λ z. absurd (n z)) (λ g. before_differs q (part_at rows i) (subst (λ b. before b (part_at rows i) ≡ true) s.part (up k i g w))) t)
         (compared i k)
 
-pub picked_nowhere : (rows : List Row) (q : Part) (k : ℕ) → GoesTo rows q k → picked q (flat_map row_items rows) ≡ []
+pub picked_nowhere : (rows : List Row) (q : Part) (k : ℕ) → GoesTo rows q k → words_in_part q (flat_map row_items rows) ≡ []
 picked_nowhere rows q k g = no_row_picked q rows (λ i w. ⊎_elim
     (λ a. same_turned (part_at rows i) q (before_differs (part_at rows i) q (g.lower i a)))
     (λ le. before_differs q (part_at rows i) (g.higher i le w))
@@ -230,9 +230,9 @@ still_ascending rows k r up p i j lt within = ⊎_elim
         ∙ ap (λ n. (get_or new n r).part) (let s : m ≡ m - 1 + 1 = omega (arith, g) in s)
         ∙ ap (λ r. r.part) (get_or-insert_above rows k r r (m - 1) (omega (arith, g)) bound) ∙ sym (get_or-map (λ r. r.part) rows (m - 1) r tags (short m g l))
 
-pub gets_row : (rows : List Row) (k : ℕ) (r : Row) (is : List Item) → GetsAll [] (row_items r) is → GetsAll (flat_map row_items rows) (flat_map row_items (insert rows k r)) is
+pub gets_row : (rows : List Row) (k : ℕ) (r : Row) (is : List Item) → GainsMembers [] (row_items r) is → GainsMembers (flat_map row_items rows) (flat_map row_items (insert rows k r)) is
 gets_row rows k r is g =
-    subst (λ l. GetsAll (flat_map row_items l) (flat_map row_items (insert rows k r)) is) (take-append-drop k rows)
+    subst (λ l. GainsMembers (flat_map row_items l) (flat_map row_items (insert rows k r)) is) (take-append-drop k rows)
     (gets_between row_items is (take k rows) (drop k rows) r g)
 
 -- another row of the same part

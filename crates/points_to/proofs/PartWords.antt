@@ -11,17 +11,17 @@ use Rattle.flow_system.specs.declared.fact.Place.TheVariants.{Site as site, Var 
 use Rattle.flow_system.specs.declared.fact.Part.{Part}
 use Rattle.flow_system.specs.declared.fact.Part.TheVariants.{Tags as tags, Field as field, Word as word}
 use Rattle.flow_system.specs.Inclusions.{value}
-use Rattle.flow_system.specs.Solution.{Sets, At, AsNodes, node_tag, node_field, words_tag, words_field, Enough, width}
+use Rattle.flow_system.specs.Solution.{Sets, At, AsNodes, node_tag, node_field, words_tag, words_field, EnoughWordsForTag, width}
 use Rattle.flow_system.specs.Tables.{Tables, fields_of}
 use Rattle.points_to.specs.declared.bits.Bits.{Bits}
 use Rattle.points_to.specs.declared.facts.Facts.{Facts}
 use Rattle.points_to.specs.declared.facts.Item.{Item}
 use Rattle.points_to.specs.declared.stored.Stored.{Stored}
 use Rattle.points_to.specs.Bits.{number_of, word_of}
-use Rattle.points_to.specs.Held.{In, here, there, item, elements, enough, picked, in_part, value_items}
+use Rattle.points_to.specs.Held.{In, here, there, item, elements, words_hold_tag, words_in_part, in_part, value_items}
 use Rattle.points_to.specs.Known.{held, solution_of}
 use Rattle.points_to.specs.OneTag.{is_tag}
-use Rattle.points_to.specs.PartWords.{are_enough, has_one, tag_of_words, nodes_in, one_given, given, value_part, stored_part, part_of_values, place_part}
+use Rattle.points_to.specs.PartWords.{tag_fits_in_words, tag_has_field, tag_of_words, nodes_in, one_given, given, value_part, stored_part, part_of_values, place_part}
 use Rattle.points_to.specs.Rows.{numbers_in, words_in, SameMembers}
 use Rattle.points_to.specs.Stored.{value_at, value_nodes, nodes_of, stored_nodes, stored_at, whole}
 use Rattle.points_to.specs.ValueWords.{elements_of}
@@ -36,13 +36,13 @@ use Rattle.points_to.proofs.Solved.{known_at, at_known}
 use Rattle.points_to.proofs.Spotted.{in_any, any_in}
 use Rattle.points_to.proofs.ValueWords.{both, numbered_at, no_tags, no_fields, word_is, its_tag_is, no_words, its_field_is}
 
-are_enough_is : (k o : Option ℕ) → are_enough k o ≡ true → (m : ℕ) × (o ≡ Some m) × Enough k m
+are_enough_is : (k o : Option ℕ) → tag_fits_in_words k o ≡ true → (m : ℕ) × (o ≡ Some m) × EnoughWordsForTag k m
 are_enough_is k None e = cc
 are_enough_is k (Some m) e = (m, refl, enough_is k m e)
 
-has_one_is : (k : Option ℕ) (i : ℕ) (o : Option ℕ) → has_one k i o ≡ true → (m : ℕ) × (o ≡ Some m) × Enough k m × (i < m)
+has_one_is : (k : Option ℕ) (i : ℕ) (o : Option ℕ) → tag_has_field k i o ≡ true → (m : ℕ) × (o ≡ Some m) × EnoughWordsForTag k m × (i < m)
 has_one_is k i None e = cc
-has_one_is k i (Some m) e = let r = and_parts (enough k m) (nat_lt i m) e in (m, refl, enough_is k m r.0, lt_from i m r.1)
+has_one_is k i (Some m) e = let r = and_parts (words_hold_tag k m) (nat_lt i m) e in (m, refl, enough_is k m r.0, lt_from i m r.1)
 
 its_tag : (t : ℕ) (u : AbstractWord) → is_tag t u ≡ true → u ≡ tag t
 its_tag t (cell_of s) e = cc
@@ -105,14 +105,14 @@ module _ (p : Tables) (H : Place → List Item) where
         made (cell_of s) x y = none_in y
         made num x y = none_in y
         made (tag t) x y =
-            let w = when_in (are_enough k (fields_of p t)) (tag t ∷ []) y in
+            let w = when_in (tag_fits_in_words k (fields_of p t)) (tag t ∷ []) y in
             let m = are_enough_is k (fields_of p t) w.0 in
             subst (AsNodes p k S tags) (sym (one_in (tag t) w.1)) (words_tag x m.1 m.2)
     part_means (field t i) u h = ⊎_elim
         (λ a. node_field a)
         (λ b.
-        let w = when_in (list_any (is_tag t) (G (word 0)) && has_one k i (fields_of p t)) (G (word (suc i))) b in
-        let e = and_parts (list_any (is_tag t) (G (word 0))) (has_one k i (fields_of p t)) w.0 in
+        let w = when_in (list_any (is_tag t) (G (word 0)) && tag_has_field k i (fields_of p t)) (G (word (suc i))) b in
+        let e = and_parts (list_any (is_tag t) (G (word 0))) (tag_has_field k i (fields_of p t)) w.0 in
         let r = any_in (is_tag t) (G (word 0)) e.0 in
         let m = has_one_is k i (fields_of p t) e.1 in
         words_field (subst (λ x. In x (G (word 0))) (its_tag t r.0 r.2) r.1) m.1 m.2 m.3 w.1)
@@ -123,19 +123,19 @@ module _ (p : Tables) (H : Place → List Item) where
     in_part_of q u (node_tag x) = in_left _ _ x
     in_part_of q u (node_field x) = in_left _ _ x
     in_part_of q u (words_tag {t = t} {m = m} x e en) = in_right (G tags) (flat_map (tag_of_words p k) (G (word 0)))
-        (in_flat (tag_of_words p k) (G (word 0)) x (in_when (are_enough k (fields_of p t)) (tag t ∷ []) (ap (are_enough k) e ∙ is_enough k m en) here))
+        (in_flat (tag_of_words p k) (G (word 0)) x (in_when (tag_fits_in_words k (fields_of p t)) (tag t ∷ []) (ap (tag_fits_in_words k) e ∙ is_enough k m en) here))
     in_part_of q u (words_field {t = t} {m = m} {i = i} x e en lt y) = in_right (G (field t i)) _
-        (in_when (list_any (is_tag t) (G (word 0)) && has_one k i (fields_of p t)) (G (word (suc i)))
-        (both (list_any (is_tag t) (G (word 0))) (has_one k i (fields_of p t)) (in_any (is_tag t) (G (word 0)) (tag t) x (eq_self t))
-        (ap (has_one k i) e ∙ both (enough k m) (nat_lt i m) (is_enough k m en) (lt_true i m lt))) y)
+        (in_when (list_any (is_tag t) (G (word 0)) && tag_has_field k i (fields_of p t)) (G (word (suc i)))
+        (both (list_any (is_tag t) (G (word 0))) (tag_has_field k i (fields_of p t)) (in_any (is_tag t) (G (word 0)) (tag t) x (eq_self t))
+        (ap (tag_has_field k i) e ∙ both (words_hold_tag k m) (nat_lt i m) (is_enough k m en) (lt_true i m lt))) y)
 
-    value_same : (q : Part) → SameMembers (value_part p H q v) (picked q (value_nodes p H v))
+    value_same : (q : Part) → SameMembers (value_part p H q v) (words_in_part q (value_nodes p H v))
     value_same q = record {
       into = λ u h. in_picked q (value_nodes p H v) (in_nodes p (value_items p H v) S (given_in v) k q u (part_means q u h));
       back = λ u h. in_part_of q u (nodes_mean p (value_items p H v) S (in_given v) k q u (picked_in q (value_nodes p H v) h));
     }
 
-  stored_same : (q : Part) (o : Option Val) → SameMembers (stored_part p H q o) (picked q (nodes_of p H o))
+  stored_same : (q : Part) (o : Option Val) → SameMembers (stored_part p H q o) (words_in_part q (nodes_of p H o))
   stored_same q None = record { into = λ u h. h; back = λ u h. h }
   stored_same q (Some v) = value_same v q
 
@@ -154,25 +154,25 @@ module _ (p : Tables) (vs : List (Option Val)) (f : Facts) (s : Stored) (q : Par
     abbrev ns : List ℕ
     ns = stored_at s n
 
-    site_into : (u : AbstractWord) → In u (place_part p vs f s (site n) q) → In u (picked q (whole p vs f s (site n)))
+    site_into : (u : AbstractWord) → In u (place_part p vs f s (site n) q) → In u (words_in_part q (whole p vs f s (site n)))
     site_into u h = in_picked q (whole p vs f s (site n)) (⊎_elim
         (λ a. in_left X (stored_nodes p vs (held f) ns) (picked_in q X a))
         (λ b. let r = flat_in words ns b in in_right X (stored_nodes p vs (held f) ns) (in_flat nodes ns r.1 (picked_in q (nodes r.0) ((stored_same p (held f) q (value_at vs r.0)).into u r.2))))
-        (in_split (picked q X) (part_of_values p vs (held f) q ns) h))
+        (in_split (words_in_part q X) (part_of_values p vs (held f) q ns) h))
 
-    site_back : (u : AbstractWord) → In u (picked q (whole p vs f s (site n))) → In u (place_part p vs f s (site n) q)
+    site_back : (u : AbstractWord) → In u (words_in_part q (whole p vs f s (site n))) → In u (place_part p vs f s (site n) q)
     site_back u h = ⊎_elim
-        (λ a. in_left (picked q X) (part_of_values p vs (held f) q ns) (in_picked q X a))
-        (λ b. let r = flat_in nodes ns b in in_right (picked q X) (part_of_values p vs (held f) q ns) (in_flat words ns r.1 ((stored_same p (held f) q (value_at vs r.0)).back u (in_picked q (nodes r.0) r.2))))
+        (λ a. in_left (words_in_part q X) (part_of_values p vs (held f) q ns) (in_picked q X a))
+        (λ b. let r = flat_in nodes ns b in in_right (words_in_part q X) (part_of_values p vs (held f) q ns) (in_flat words ns r.1 ((stored_same p (held f) q (value_at vs r.0)).back u (in_picked q (nodes r.0) r.2))))
         (in_split X (stored_nodes p vs (held f) ns) (picked_in q (whole p vs f s (site n)) h))
 
-  pub place_same : (r : Place) (us : List AbstractWord) → SameMembers us (place_part p vs f s r q) → SameMembers us (picked q (whole p vs f s r))
+  pub place_same : (r : Place) (us : List AbstractWord) → SameMembers us (place_part p vs f s r q) → SameMembers us (words_in_part q (whole p vs f s r))
   place_same (site n) us m = record { into = λ u h. site_into n u (m.into u h); back = λ u h. m.back u (site_back n u h) }
   place_same (var n) us m = m
   place_same (result n) us m = m
 
 -- what is read from the words of a part
-module _ (H : Place → List Item) (r : Place) (q : Part) (us : List AbstractWord) (same : SameMembers us (picked q (H r))) where
+module _ (H : Place → List Item) (r : Place) (q : Part) (us : List AbstractWord) (same : SameMembers us (words_in_part q (H r))) where
   word_exact : (u : AbstractWord) → (In u us → At (solution_of H) r q u) × (At (solution_of H) r q u → In u us)
   word_exact u = (λ h. known_at H r q u (picked_in q (H r) (same.into u h)), λ a. same.back u (in_picked q (H r) (at_known H r q u a)))
 

@@ -25,7 +25,7 @@ use Rattle.points_to.specs.declared.bits.Bits.{Bits}
 use Rattle.points_to.specs.Bits.{word_of}
 use Rattle.points_to.specs.Rows.{numbers_in, words_in, SameMembers}
 use Rattle.points_to.proofs.Rows.{words_are}
-use Rattle.points_to.specs.Wanted.{tag_in, site_in, wanted_of, wanted, place_of, SameSet, is_in, Lists, numbers_by, IsTable}
+use Rattle.points_to.specs.Wanted.{tag_in, site_in, wanted_of, wanted, place_of, SameSet, is_in, Lists, numbers_by, IsTableOfWanted}
 use Rattle.points_to.specs.Joined.{Joined}
 use Rattle.seq.proofs.Member.{none_in, cons_in, one_in, when_in, in_flat, flat_in}
 use Rattle.seq.proofs.Truth.{or_cases, or_true, both_ways}
@@ -167,7 +167,7 @@ module _ {X : Type 0} (number : X → ℕ) (H : Place → List Item) (k : Kind) 
     lists = λ m lt. entry number table m xs (λ m. Lists w (H (place_of k m))) (λ m lt. t.lists m (omega (arith, t.many))) (subst (λ n. Lists w (H (place_of k n)) (map number xs)) (sym t.many) l) (omega (arith, t.many, lt));
   }
 
-  pub table_done : (table : List (List X)) (n : ℕ) → TableSoFar table n → ((m : ℕ) → n ≤ m → H (place_of k m) ≡ []) → IsTable number H k w table
+  pub table_done : (table : List (List X)) (n : ℕ) → TableSoFar table n → ((m : ℕ) → n ≤ m → H (place_of k m) ≡ []) → IsTableOfWanted number H k w table
   table_done table n t past m = ⊎_elim
       (λ lt. t.lists m lt)
       (λ le. subst (λ X. Lists w X (numbers_by number (slice_get table m))) (sym (past m le)) (subst (λ o. Lists w [] (numbers_by number o)) (sym (slice_get_past table m (omega (arith, t.many, le)))) (no_numbers w)))

@@ -9,10 +9,10 @@ use Rattle.flow_system.specs.declared.fact.Element.TheVariants.{Cell, Tag, Numbe
 use Rattle.flow_system.specs.declared.fact.Part.{Part}
 use Rattle.points_to.specs.declared.items.Row.{Row}
 use Rattle.points_to.specs.declared.runs.ItemRun.{ItemRun}
-use Rattle.points_to.specs.Runs.{run_items}
-use Rattle.points_to.specs.Held.{In, item, same_part, picked, in_part}
+use Rattle.points_to.specs.Runs.{items_of_run}
+use Rattle.points_to.specs.Held.{In, item, same_part, words_in_part, in_part}
 use Rattle.points_to.specs.Bits.{block_numbers, block_words, number_or_tag, number_of, word_of}
-use Rattle.points_to.specs.Rows.{numbers_in, row_words, row_items, GetsAll}
+use Rattle.points_to.specs.Rows.{numbers_in, row_words, row_items, GainsMembers}
 use Rattle.seq.proofs.Member.{in_map, map_in}
 use Rattle.seq.proofs.Lists.{map_append}
 
@@ -66,7 +66,7 @@ word_number (Tag t) = tag_number t
 word_number Number = refl
 
 -- a function of the members
-map_gets : {X Y : Type 0} (f : X → Y) (old new xs : List X) → GetsAll old new xs → GetsAll (map f old) (map f new) (map f xs)
+map_gets : {X Y : Type 0} (f : X → Y) (old new xs : List X) → GainsMembers old new xs → GainsMembers (map f old) (map f new) (map f xs)
 map_gets f old new xs g = record {
   kept = λ y h. let w = map_in f old h in subst (λ z. In z (map f new)) (sym w.2) (in_map f new (g.kept w.0 w.1));
   put = λ y h. let w = map_in f xs h in subst (λ z. In z (map f new)) (sym w.2) (in_map f new (g.put w.0 w.1));
@@ -74,10 +74,10 @@ map_gets f old new xs g = record {
 }
 
 -- the words of blocks that get numbers
-pub gets_words : (es es' : List (ℕ × ℕ)) (ns : List ℕ) → GetsAll (flat_map block_numbers es) (flat_map block_numbers es') ns → GetsAll (flat_map block_words es) (flat_map block_words es') (map word_of ns)
+pub gets_words : (es es' : List (ℕ × ℕ)) (ns : List ℕ) → GainsMembers (flat_map block_numbers es) (flat_map block_numbers es') ns → GainsMembers (flat_map block_words es) (flat_map block_words es') (map word_of ns)
 gets_words es es' ns g =
-    subst (λ l. GetsAll l (flat_map block_words es') (map word_of ns)) (sym (words_are es))
-    (subst (λ l. GetsAll (map word_of (flat_map block_numbers es)) l (map word_of ns)) (sym (words_are es'))
+    subst (λ l. GainsMembers l (flat_map block_words es') (map word_of ns)) (sym (words_are es))
+    (subst (λ l. GainsMembers (map word_of (flat_map block_numbers es)) l (map word_of ns)) (sym (words_are es'))
     (map_gets word_of (flat_map block_numbers es) (flat_map block_numbers es') ns g))
 
 -- a word of a row
@@ -93,10 +93,10 @@ has_word r u n b q t =
     )
 
 -- a row that gets words
-pub row_gets : (r r' : Row) (run : ItemRun) → r.part ≡ run.part → r'.part ≡ r.part → GetsAll (numbers_in r.words) (numbers_in r'.words) (block_numbers run.block) → GetsAll (row_items r) (row_items r') (run_items run)
+pub row_gets : (r r' : Row) (run : ItemRun) → r.part ≡ run.part → r'.part ≡ r.part → GainsMembers (numbers_in r.words) (numbers_in r'.words) (block_numbers run.block) → GainsMembers (row_items r) (row_items r') (items_of_run run)
 row_gets r r' run e e' g =
-    subst (λ q. GetsAll (row_items r) (row_items r') (in_part q (block_words run.block))) e
-    (subst (λ q. GetsAll (row_items r) (in_part q (row_words r')) (in_part r.part (block_words run.block))) (sym e')
+    subst (λ q. GainsMembers (row_items r) (row_items r') (in_part q (block_words run.block))) e
+    (subst (λ q. GainsMembers (row_items r) (in_part q (row_words r')) (in_part r.part (block_words run.block))) (sym e')
     (map_gets (item r.part) (row_words r) (row_words r') (block_words run.block)
     (gets_words r.words.blocks.items r'.words.blocks.items (block_numbers run.block) g)))
 
@@ -105,10 +105,10 @@ pub row_none : (r : Row) → numbers_in r.words ≡ [] → row_items r ≡ []
 row_none r e = ap (in_part r.part) (words_are r.words.blocks.items ∙ ap (map word_of) e)
 
 -- one part of a row
-pub picked_row : (q : Part) (r : Part) (ks : List Element) → same_part q r ≡ true → picked q (in_part r ks) ≡ ks
+pub picked_row : (q : Part) (r : Part) (ks : List Element) → same_part q r ≡ true → words_in_part q (in_part r ks) ≡ ks
 picked_row q r [] e = refl
-picked_row q r (k ∷ ks) e = ap (λ b. cond b (k ∷ []) [] ++ picked q (in_part r ks)) e ∙ ap (λ l. k ∷ l) (picked_row q r ks e)
+picked_row q r (k ∷ ks) e = ap (λ b. cond b (k ∷ []) [] ++ words_in_part q (in_part r ks)) e ∙ ap (λ l. k ∷ l) (picked_row q r ks e)
 
-pub none_picked : (q : Part) (r : Part) (ks : List Element) → same_part q r ≡ false → picked q (in_part r ks) ≡ []
+pub none_picked : (q : Part) (r : Part) (ks : List Element) → same_part q r ≡ false → words_in_part q (in_part r ks) ≡ []
 none_picked q r [] e = refl
-none_picked q r (k ∷ ks) e = ap (λ b. cond b (k ∷ []) [] ++ picked q (in_part r ks)) e ∙ none_picked q r ks e
+none_picked q r (k ∷ ks) e = ap (λ b. cond b (k ∷ []) [] ++ words_in_part q (in_part r ks)) e ∙ none_picked q r ks e

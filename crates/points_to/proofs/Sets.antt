@@ -7,9 +7,9 @@ use Rattle.flow_system.specs.declared.fact.Place.TheVariants.{Site, Var, Result}
 use Rattle.points_to.specs.declared.facts.Item.{Item}
 use Rattle.points_to.specs.declared.facts.Facts.{Facts}
 use Rattle.points_to.specs.Held.{In}
-use Rattle.points_to.specs.Rows.{GetsAll}
+use Rattle.points_to.specs.Rows.{GainsMembers}
 use Rattle.points_to.specs.Asked.{fact, facts_at}
-use Rattle.points_to.specs.Known.{items_in, items_at, held, Puts, Grows}
+use Rattle.points_to.specs.Known.{items_in, items_at, held, PutsItems, GrowsByFacts}
 use Rattle.seq.proofs.Member.{none_in, in_map, map_in}
 use Rattle.seq.proofs.Order.{same_or_not}
 
@@ -48,8 +48,8 @@ set_other (x ∷ xs) zero (suc m) s ne = refl
 set_other (x ∷ xs) (suc n) zero s ne = refl
 set_other (x ∷ xs) (suc n) (suc m) s ne = set_other xs n m s (λ e. ne (ap suc e))
 
-pub puts : (old : ℕ → List Item) (xs : List (List Item)) (n : ℕ) (s s' is : List Item) → items_at xs ≡ old → n < length xs → s ≡ get_or xs n s → GetsAll s s' is → Puts old (items_at (slice_set xs n s')) n is
-puts old xs n s s' is o lt e g = subst (λ f. Puts f (items_at (slice_set xs n s')) n is) o (record { kept = kept; put = λ j h. subst (In j) (sym new) (g.put j h); only = only })
+pub puts : (old : ℕ → List Item) (xs : List (List Item)) (n : ℕ) (s s' is : List Item) → items_at xs ≡ old → n < length xs → s ≡ get_or xs n s → GainsMembers s s' is → PutsItems old (items_at (slice_set xs n s')) n is
+puts old xs n s s' is o lt e g = subst (λ f. PutsItems f (items_at (slice_set xs n s')) n is) o (record { kept = kept; put = λ j h. subst (In j) (sym new) (g.put j h); only = only })
   where
     old_is : items_at xs n ≡ s
     old_is = at_some xs n s lt e
@@ -71,7 +71,7 @@ puts old xs n s s' is o lt e g = subst (λ f. Puts f (items_at (slice_set xs n s
 
 -- of one kind of place
 module _ (kind : ℕ → Place) (old new : Place → List Item) (n : ℕ) (is : List Item) where
-  pub grows_by : ((q : Place) → ((m : ℕ) × (q ≡ kind m)) ⊎ (new q ≡ old q)) → ((m m' : ℕ) → kind m ≡ kind m' → m ≡ m') → Puts (λ m. old (kind m)) (λ m. new (kind m)) n is → Grows old new (facts_at (kind n) is)
+  pub grows_by : ((q : Place) → ((m : ℕ) × (q ≡ kind m)) ⊎ (new q ≡ old q)) → ((m m' : ℕ) → kind m ≡ kind m' → m ≡ m') → PutsItems (λ m. old (kind m)) (λ m. new (kind m)) n is → GrowsByFacts old new (facts_at (kind n) is)
   grows_by cases same p = record {
     kept = λ q j h. ⊎_elim (λ r. subst (λ q. In j (new q)) (sym r.1) (p.kept r.0 j (subst (λ q. In j (old q)) r.1 h))) (λ e. subst (In j) (sym e) h) (cases q);
     put = λ f h. let w = map_in (fact (kind n)) is h in subst (λ f. In f.item (new f.place)) (sym w.2) (p.put w.0 w.1);
@@ -81,7 +81,7 @@ module _ (kind : ℕ → Place) (old new : Place → List Item) (n : ℕ) (is : 
         (cases q);
   }
 
-pub site_put : (f f' : Facts) (n : ℕ) (is : List Item) → f'.vars ≡ f.vars → f'.results ≡ f.results → Puts (items_at f.sites.items) (items_at f'.sites.items) n is → Grows (held f) (held f') (facts_at (Site n) is)
+pub site_put : (f f' : Facts) (n : ℕ) (is : List Item) → f'.vars ≡ f.vars → f'.results ≡ f.results → PutsItems (items_at f.sites.items) (items_at f'.sites.items) n is → GrowsByFacts (held f) (held f') (facts_at (Site n) is)
 site_put f f' n is e e' p = grows_by Site (held f) (held f') n is by (λ m m' q. cc) p
   where
     by : (q : Place) → ((m : ℕ) × (q ≡ Site m)) ⊎ (held f' q ≡ held f q)
@@ -89,7 +89,7 @@ site_put f f' n is e e' p = grows_by Site (held f) (held f') n is by (λ m m' q.
     by (Var m) = inr (ap (λ v. items_at v.items m) e)
     by (Result m) = inr (ap (λ v. items_at v.items m) e')
 
-pub var_put : (f f' : Facts) (n : ℕ) (is : List Item) → f'.sites ≡ f.sites → f'.results ≡ f.results → Puts (items_at f.vars.items) (items_at f'.vars.items) n is → Grows (held f) (held f') (facts_at (Var n) is)
+pub var_put : (f f' : Facts) (n : ℕ) (is : List Item) → f'.sites ≡ f.sites → f'.results ≡ f.results → PutsItems (items_at f.vars.items) (items_at f'.vars.items) n is → GrowsByFacts (held f) (held f') (facts_at (Var n) is)
 var_put f f' n is e e' p = grows_by Var (held f) (held f') n is by (λ m m' q. cc) p
   where
     by : (q : Place) → ((m : ℕ) × (q ≡ Var m)) ⊎ (held f' q ≡ held f q)
@@ -97,7 +97,7 @@ var_put f f' n is e e' p = grows_by Var (held f) (held f') n is by (λ m m' q. c
     by (Var m) = inl (m, refl)
     by (Result m) = inr (ap (λ v. items_at v.items m) e')
 
-pub result_put : (f f' : Facts) (n : ℕ) (is : List Item) → f'.sites ≡ f.sites → f'.vars ≡ f.vars → Puts (items_at f.results.items) (items_at f'.results.items) n is → Grows (held f) (held f') (facts_at (Result n) is)
+pub result_put : (f f' : Facts) (n : ℕ) (is : List Item) → f'.sites ≡ f.sites → f'.vars ≡ f.vars → PutsItems (items_at f.results.items) (items_at f'.results.items) n is → GrowsByFacts (held f) (held f') (facts_at (Result n) is)
 result_put f f' n is e e' p = grows_by Result (held f) (held f') n is by (λ m m' q. cc) p
   where
     by : (q : Place) → ((m : ℕ) × (q ≡ Result m)) ⊎ (held f' q ≡ held f q)

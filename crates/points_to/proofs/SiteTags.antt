@@ -11,7 +11,7 @@ use Rattle.flow_system.specs.Shown.{inclusion_of, shown}
 use Rattle.flow_system.specs.Tables.{Tables}
 use Rattle.points_to.specs.declared.facts.Item.{Item}
 use Rattle.points_to.specs.declared.wanted.Wanted.TheVariants.{NodeTags}
-use Rattle.points_to.specs.Held.{In, picked}
+use Rattle.points_to.specs.Held.{In, words_in_part}
 use Rattle.points_to.specs.Rows.{SameMembers}
 use Rattle.points_to.specs.Stored.{value_in, values_in, value_at, nodes_of, stored_nodes}
 use Rattle.points_to.specs.ValueWords.{stored_words, words_of_values}
@@ -34,7 +34,7 @@ value_none (x ∷ xs) zero e = cc
 value_none (x ∷ xs) (suc n) e = value_none xs n e
 
 module _ (p : Tables) (vs : List (Option Val)) (H : Place → List Item) where
-  value_tags : (o : Option Val) → SameMembers (stored_words p H 0 o) (picked tags (nodes_of p H o))
+  value_tags : (o : Option Val) → SameMembers (stored_words p H 0 o) (words_in_part tags (nodes_of p H o))
   value_tags None = record { into = λ u h. h; back = λ u h. h }
   value_tags (Some v) = words_same p H v 0
 
@@ -49,20 +49,20 @@ module _ (p : Tables) (vs : List (Option Val)) (H : Place → List Item) where
     abbrev all : List Item
     all = X ++ stored_nodes p vs H ns
 
-    tags_into : (u : Element) → In u (picked tags X ++ words_of_values p vs H 0 ns) → In u (picked tags all)
+    tags_into : (u : Element) → In u (words_in_part tags X ++ words_of_values p vs H 0 ns) → In u (words_in_part tags all)
     tags_into u h = in_picked tags all (⊎_elim
         (λ a. in_left X (stored_nodes p vs H ns) (picked_in tags X a))
         (λ b. let r = flat_in words ns b in in_right X (stored_nodes p vs H ns) (in_flat nodes ns r.1 (picked_in tags (nodes r.0) ((value_tags (value_at vs r.0)).into u r.2))))
-        (in_split (picked tags X) (words_of_values p vs H 0 ns) h))
+        (in_split (words_in_part tags X) (words_of_values p vs H 0 ns) h))
 
-    tags_back : (u : Element) → In u (picked tags all) → In u (picked tags X ++ words_of_values p vs H 0 ns)
+    tags_back : (u : Element) → In u (words_in_part tags all) → In u (words_in_part tags X ++ words_of_values p vs H 0 ns)
     tags_back u h = ⊎_elim
-        (λ a. in_left (picked tags X) (words_of_values p vs H 0 ns) (in_picked tags X a))
-        (λ b. let r = flat_in nodes ns b in in_right (picked tags X) (words_of_values p vs H 0 ns) (in_flat words ns r.1 ((value_tags (value_at vs r.0)).back u (in_picked tags (nodes r.0) r.2))))
+        (λ a. in_left (words_in_part tags X) (words_of_values p vs H 0 ns) (in_picked tags X a))
+        (λ b. let r = flat_in nodes ns b in in_right (words_in_part tags X) (words_of_values p vs H 0 ns) (in_flat words ns r.1 ((value_tags (value_at vs r.0)).back u (in_picked tags (nodes r.0) r.2))))
         (in_split X (stored_nodes p vs H ns) (picked_in tags all h))
 
-    pub site_lists : (us : List Element) (ts : List ℕ) → us ≡ picked tags X ++ words_of_values p vs H 0 ns → IsStrictlyIncreasing ts → SameSet ts (flat_map tag_in us) → Lists NodeTags all ts
-    site_lists us ts e o s = lists_of NodeTags all ts (like_parts NodeTags all ts (tags_like us (picked tags all) ts (record {
+    pub site_lists : (us : List Element) (ts : List ℕ) → us ≡ words_in_part tags X ++ words_of_values p vs H 0 ns → IsStrictlyIncreasing ts → SameSet ts (flat_map tag_in us) → Lists NodeTags all ts
+    site_lists us ts e o s = lists_of NodeTags all ts (like_parts NodeTags all ts (tags_like us (words_in_part tags all) ts (record {
       into = λ u h. tags_into u (subst (In u) e h);
       back = λ u h. subst (In u) (sym e) (tags_back u h);
     }) s)) o

@@ -17,12 +17,12 @@ use Rattle.points_to.specs.declared.facts.Item.{Item}
 use Rattle.points_to.specs.declared.facts.Fact.{Fact}
 use Rattle.points_to.specs.declared.facts.Facts.{Facts}
 use Rattle.points_to.specs.declared.runs.FactRun.{FactRun}
-use Rattle.points_to.specs.Held.{In, here, there, item, picked}
-use Rattle.points_to.specs.Asked.{fact, demands}
-use Rattle.points_to.specs.Known.{held, Grows, solution_of}
-use Rattle.points_to.specs.Rounds.{InEvery, Satisfied, AllSatisfied, Counted}
+use Rattle.points_to.specs.Held.{In, here, there, item, words_in_part}
+use Rattle.points_to.specs.Asked.{fact, facts_demanded}
+use Rattle.points_to.specs.Known.{held, GrowsByFacts, solution_of}
+use Rattle.points_to.specs.Rounds.{InEvery, Satisfied, AllSatisfied, CountsAddedFacts}
 use Rattle.points_to.specs.Rows.{SameMembers}
-use Rattle.points_to.specs.Runs.{run_facts}
+use Rattle.points_to.specs.Runs.{facts_of_run}
 use Rattle.seq.proofs.Member.{none_in, cons_in, in_left, in_right, in_split}
 use Rattle.seq.proofs.Truth.{true_left, true_right, neither_left, neither_right}
 use Rattle.seq.proofs.Order.{lt_or_le, eq_from, eq_self}
@@ -60,17 +60,17 @@ in_among u [] h = none_in h
 in_among u (v ∷ us) h = ⊎_elim (λ e. true_left (same_word u v) (among u us) (subst (λ w. IsTrue (same_word u w)) e (same_word-self u))) (λ t. true_right (same_word u v) (among u us) (in_among u us t)) (cons_in v us h)
 
 pub known_at : (H : Place → List Item) (q : Place) (part : Part) (u : Element) → In (item part u) (H q) → At (solution_of H) q part u
-known_at H q part u h = record { there = in_among u (picked part (H q)) (in_picked part (H q) h) }
+known_at H q part u h = record { there = in_among u (words_in_part part (H q)) (in_picked part (H q) h) }
 
 pub at_known : (H : Place → List Item) (q : Place) (part : Part) (u : Element) → At (solution_of H) q part u → In (item part u) (H q)
-at_known H q part u a = picked_in part (H q) (among_in u (picked part (H q)) a.there)
+at_known H q part u a = picked_in part (H q) (among_in u (words_in_part part (H q)) a.there)
 
 module _ (p : Tables) (cs : List Inclusion) where
   pub nothing_in_every : (H : Place → List Item) → ((q : Place) → H q ≡ []) → InEvery p cs H
   nothing_in_every H e = record { by = λ B m q part u h. none_in (subst (In (item part u)) (e q) h) }
 
   -- what an inclusion asks for is in every solution, once all that is known is
-  pub grown_in_every : (H H' : Place → List Item) (i : ℕ) (c : Inclusion) → slice_get cs i ≡ Some c → Grows H H' (demands p H c) → InEvery p cs H → InEvery p cs H'
+  pub grown_in_every : (H H' : Place → List Item) (i : ℕ) (c : Inclusion) → slice_get cs i ≡ Some c → GrowsByFacts H H' (facts_demanded p H c) → InEvery p cs H → InEvery p cs H'
   grown_in_every H H' i c e g every = record {
     by = λ B m q part u h. ⊎_elim
         (λ a. every.by B m q part u a)
@@ -84,10 +84,10 @@ module _ (p : Tables) (cs : List Inclusion) where
       (λ B m q part u a. every.by B m q part u (at_known H q part u a))
 
 -- several facts
-pub grows_none : (H : Place → List Item) → Grows H H []
+pub grows_none : (H : Place → List Item) → GrowsByFacts H H []
 grows_none H = record { kept = λ q j h. h; put = λ f h. none_in h; only = λ q j h. inl h }
 
-pub grows_more : (H H' H'' : Place → List Item) (fs gs : List Fact) → Grows H H' fs → Grows H' H'' gs → Grows H H'' (fs ++ gs)
+pub grows_more : (H H' H'' : Place → List Item) (fs gs : List Fact) → GrowsByFacts H H' fs → GrowsByFacts H' H'' gs → GrowsByFacts H H'' (fs ++ gs)
 grows_more H H' H'' fs gs g k = record {
   kept = λ q j h. k.kept q j (g.kept q j h);
   put = λ e h. ⊎_elim (λ a. k.kept e.place e.item (g.put e a)) (λ b. k.put e b) (in_split fs gs h);
@@ -95,49 +95,49 @@ grows_more H H' H'' fs gs g k = record {
 }
 
 -- the same facts in another list
-pub grows_alike : (H H' : Place → List Item) (fs gs : List Fact) → SameMembers fs gs → Grows H H' fs → Grows H H' gs
+pub grows_alike : (H H' : Place → List Item) (fs gs : List Fact) → SameMembers fs gs → GrowsByFacts H H' fs → GrowsByFacts H H' gs
 grows_alike H H' fs gs s g = record {
   kept = g.kept;
   put = λ f h. g.put f (s.back f h);
   only = λ q j h. ⊎_elim (λ a. inl a) (λ b. inr (s.into (fact q j) b)) (g.only q j h);
 }
 
-counted_on : (f f' f'' : Facts) (a b : Bool) → Counted f f' a → Counted f' f'' b → Counted f f'' (a || b)
+counted_on : (f f' f'' : Facts) (a b : Bool) → CountsAddedFacts f f' a → CountsAddedFacts f' f'' b → CountsAddedFacts f f'' (a || b)
 counted_on f f' f'' a b x y = record {
   no_less = omega (arith, x.no_less, y.no_less);
   more = λ e. ⊎_elim (λ l. let n : f.count < f'.count = x.more l in omega (arith, y.no_less)) (λ r. let n : f'.count < f''.count = y.more r in omega (arith, x.no_less)) (or_cases a b e);
 }
 
 pub record Added (old new : Facts) (added : Bool) (fs : List Fact) : Type 0 where
-  pub grown : Grows (held old) (held new) fs
+  pub grown : GrowsByFacts (held old) (held new) fs
   pub still : added ≡ false → new ≡ old
-  pub counted : Counted old new added
+  pub counted : CountsAddedFacts old new added
 
 pub none_added : (f : Facts) → Added f f false []
 none_added f = record { grown = grows_none (held f); still = λ e. refl; counted = record { no_less = omega arith; more = λ e. cc } }
 
 -- the facts of one run more
-runs_next : (rs : List FactRun) (i : ℕ) (d : FactRun) → i < length rs → flat_map run_facts (take (i + 1) rs) ≡ flat_map run_facts (take i rs) ++ run_facts (get_or rs i d)
-runs_next rs i d lt = sym (flat_next run_facts rs i d [] (flat_map run_facts (take i rs)) (flat_map run_facts (take i rs) ++ run_facts (get_or rs i d)) lt refl refl)
+runs_next : (rs : List FactRun) (i : ℕ) (d : FactRun) → i < length rs → flat_map facts_of_run (take (i + 1) rs) ≡ flat_map facts_of_run (take i rs) ++ facts_of_run (get_or rs i d)
+runs_next rs i d lt = sym (flat_next facts_of_run rs i d [] (flat_map facts_of_run (take i rs)) (flat_map facts_of_run (take i rs) ++ facts_of_run (get_or rs i d)) lt refl refl)
 
-pub added_more : (old now new : Facts) (a b both : Bool) (rs : List FactRun) (i : ℕ) (d : FactRun) → i < length rs → both ≡ (a || b) → Added old now a (flat_map run_facts (take i rs))
-    → Grows (held now) (held new) (run_facts (get_or rs i d)) → (b ≡ false → new ≡ now) → Counted now new b → Added old new both (flat_map run_facts (take (i + 1) rs))
-added_more old now new a b both rs i d lt e x g s c = subst (λ l. Added old new both l) (sym (runs_next rs i d lt)) (subst (λ t. Added old new t (flat_map run_facts (take i rs) ++ run_facts (get_or rs i d))) (sym e) (record {
-  grown = grows_more (held old) (held now) (held new) (flat_map run_facts (take i rs)) (run_facts (get_or rs i d)) x.grown g;
+pub added_more : (old now new : Facts) (a b both : Bool) (rs : List FactRun) (i : ℕ) (d : FactRun) → i < length rs → both ≡ (a || b) → Added old now a (flat_map facts_of_run (take i rs))
+    → GrowsByFacts (held now) (held new) (facts_of_run (get_or rs i d)) → (b ≡ false → new ≡ now) → CountsAddedFacts now new b → Added old new both (flat_map facts_of_run (take (i + 1) rs))
+added_more old now new a b both rs i d lt e x g s c = subst (λ l. Added old new both l) (sym (runs_next rs i d lt)) (subst (λ t. Added old new t (flat_map facts_of_run (take i rs) ++ facts_of_run (get_or rs i d))) (sym e) (record {
+  grown = grows_more (held old) (held now) (held new) (flat_map facts_of_run (take i rs)) (facts_of_run (get_or rs i d)) x.grown g;
   still = λ q. s (neither_right a b q) ∙ x.still (neither_left a b q);
   counted = counted_on old now new a b x.counted c;
 }))
 
-pub added_all : (old new : Facts) (a : Bool) (fs : List Fact) (rs : List FactRun) (i : ℕ) → length rs ≤ i → flat_map run_facts rs ≡ fs → Added old new a (flat_map run_facts (take i rs)) → Added old new a fs
-added_all old new a fs rs i le e x = subst (Added old new a) (ap (flat_map run_facts) (take_all i rs le) ∙ e) x
+pub added_all : (old new : Facts) (a : Bool) (fs : List Fact) (rs : List FactRun) (i : ℕ) → length rs ≤ i → flat_map facts_of_run rs ≡ fs → Added old new a (flat_map facts_of_run (take i rs)) → Added old new a fs
+added_all old new a fs rs i le e x = subst (Added old new a) (ap (flat_map facts_of_run) (take_all i rs le) ∙ e) x
 
 -- the count of a run
-pub counted_one : (f f' : Facts) (b : Bool) → (b ≡ false → f' ≡ f) → (b ≡ true → f.count < f'.count) → Counted f f' b
+pub counted_one : (f f' : Facts) (b : Bool) → (b ≡ false → f' ≡ f) → (b ≡ true → f.count < f'.count) → CountsAddedFacts f f' b
 counted_one f f' true s c = let n : f.count < f'.count = c refl in record { no_less = omega arith; more = λ e. n }
 counted_one f f' false s c = let n : f'.count ≡ f.count = ap (λ g. g.count) (s refl) in record { no_less = omega arith; more = λ e. cc }
 
 -- each round but the last raises the count
-pub count_rises : (f f' : Facts) (more : Bool) → f.count < 2 ^ 64 → Counted f f' more → (2 ^ 64 - f'.count) + cond more 1 0 < (2 ^ 64 - f.count) + 1
+pub count_rises : (f f' : Facts) (more : Bool) → f.count < 2 ^ 64 → CountsAddedFacts f f' more → (2 ^ 64 - f'.count) + cond more 1 0 < (2 ^ 64 - f.count) + 1
 count_rises f f' true lt k = let n : f.count < f'.count = k.more refl in omega arith
 count_rises f f' false lt k = let n : f.count ≤ f'.count = k.no_less in omega arith
 
@@ -146,7 +146,7 @@ module _ (p : Tables) (all : List code.Inclusion) where
   pub record RoundSoFar (old now : Facts) (added : Bool) (n : ℕ) : Type 0 where
     pub sound : InEvery p (shown all) (held old) → InEvery p (shown all) (held now)
     pub satisfied : added ≡ false → (i : ℕ) (c : Inclusion) → i < n → slice_get (shown all) i ≡ Some c → Satisfied p (shown all) (held now) c
-    pub counted : Counted old now added
+    pub counted : CountsAddedFacts old now added
 
   pub round_begins : (f : Facts) → RoundSoFar f f false 0
   round_begins f = record { sound = λ e. e; satisfied = λ e i c lt q. absurd (omega arith); counted = record { no_less = omega arith; more = λ e. cc } }
@@ -160,7 +160,7 @@ module _ (p : Tables) (all : List code.Inclusion) where
   some_same c d e = cc
 
   pub round_on : (old now new : Facts) (a b both : Bool) (i : ℕ) (c : code.Inclusion) → i < length all → c ≡ get_or all i c → both ≡ (a || b) → RoundSoFar old now a i
-      → Grows (held now) (held new) (demands p (held now) (inclusion_of c)) → (b ≡ false → new ≡ now) → Counted now new b → RoundSoFar old new both (i + 1)
+      → GrowsByFacts (held now) (held new) (facts_demanded p (held now) (inclusion_of c)) → (b ≡ false → new ≡ now) → CountsAddedFacts now new b → RoundSoFar old new both (i + 1)
   round_on old now new a b both i c lt is e x g s k = subst (λ t. RoundSoFar old new t (i + 1)) (sym e) (record {
     sound = λ every. grown_in_every p (shown all) (held now) (held new) i (inclusion_of c) (shown_at all i c lt is) g (x.sound every);
     satisfied = λ q j d l r. next q j d l r (lt_or_le j i);
@@ -173,7 +173,7 @@ module _ (p : Tables) (all : List code.Inclusion) where
           (λ le. λ f h.
           let same : j ≡ i = omega arith in
           let same' : d ≡ inclusion_of c = some_same d (inclusion_of c) (sym r ∙ ap (slice_get (shown all)) same ∙ shown_at all i c lt is) in
-          let put = g.put f (subst (λ d. In f (demands p (held now) d)) same' h) in
+          let put = g.put f (subst (λ d. In f (facts_demanded p (held now) d)) same' h) in
           subst (λ k. In f.item (held k f.place)) (s (neither_right a b q)) put)
           o)
 

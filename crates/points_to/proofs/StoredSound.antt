@@ -10,18 +10,18 @@ use Rattle.flow_system.specs.declared.fact.Element.TheVariants.{Cell as cell_of,
 use Rattle.flow_system.specs.declared.fact.Place.{Place}
 use Rattle.flow_system.specs.declared.fact.Place.TheVariants.{Site as site, Var as var}
 use Rattle.flow_system.specs.declared.fact.Part.TheVariants.{Word as word}
-use Rattle.flow_system.specs.Inclusions.{value, Sink, to, into_site, into_result, cells_at, Inclusion, flows}
+use Rattle.flow_system.specs.Inclusions.{value, FlowSink, to, into_site, into_result, cells_at, Inclusion, flows}
 use Rattle.flow_system.specs.Tables.{Tables}
 use Rattle.flow_system.specs.Solution.{Solution, At, ValueGives, width, NodesTo, Solves}
 use Rattle.flow_system.specs.Demands.{Asks, of_site, of_cells, by_flow}
 use Rattle.flow_system.proofs.Least.{in_every}
 use Rattle.points_to.specs.declared.facts.Item.{Item}
 use Rattle.points_to.specs.declared.kept.Kept.{Kept}
-use Rattle.points_to.specs.Asked.{demands}
+use Rattle.points_to.specs.Asked.{facts_demanded}
 use Rattle.points_to.specs.Held.{In, here, item, elements, cell_at}
-use Rattle.points_to.specs.Known.{held, Grows}
-use Rattle.points_to.specs.Kept.{is_plain, met_by, HasSite, PutsAt, IsSound}
-use Rattle.points_to.specs.Stored.{stored_at, cell_stored, Stores}
+use Rattle.points_to.specs.Known.{held, GrowsByFacts}
+use Rattle.points_to.specs.Kept.{touches_no_cell, met_by, HasSite, PutsAt, IsSound}
+use Rattle.points_to.specs.Stored.{stored_at, cell_stored, PutsAtSite}
 use Rattle.seq.proofs.Member.{none_in, one_in, in_flat}
 use Rattle.points_to.proofs.GivenItems.{in_picked, elements_mean}
 use Rattle.points_to.proofs.Solved.{nothing_in_every}
@@ -57,7 +57,7 @@ module _ (p : Tables) (cs : List Inclusion) where
   }
 
   pub put_sound : (k k' : Kept) (n s : ℕ) (c : Inclusion) → slice_get cs n ≡ Some c → PutsAt p (held k.facts) c s → k'.facts ≡ k.facts
-      → Stores (stored_at k.stored) (stored_at k'.stored) s n → IsSound p cs k → IsSound p cs k'
+      → PutsAtSite (stored_at k.stored) (stored_at k'.stored) s n → IsSound p cs k → IsSound p cs k'
   put_sound k k' n s c at puts e st =
       (stores_steps p cs k k' n puts.v puts.sink (cell_of s ∷ []) true its puts.of_words e (stores_one (stored_at k.stored) (stored_at k'.stored) s n st) goes (λ q. cc)).sound
     where
@@ -72,13 +72,13 @@ module _ (p : Tables) (cs : List Inclusion) where
           subst (λ x. At B (site x) part u) (sym (one_cell r s (one_in (cell_of s) h)))
           (in_every p cs B B m (λ q part u x. x) n (flows (value puts.v) puts.sink) its (site s) part u (by_flow (asks puts.sink puts.there)))
         where
-          asks : (t : Sink) → HasSite p (held k.facts) s t → Asks p B (width (value puts.v)) (ValueGives p B puts.v) t (site s) part u
+          asks : (t : FlowSink) → HasSite p (held k.facts) s t → Asks p B (width (value puts.v)) (ValueGives p B puts.v) t (site s) part u
           asks (to t) h = absurd h
           asks (into_site r) h = subst (λ r. Asks p B (width (value puts.v)) (ValueGives p B puts.v) (into_site r) (site s) part u) (sym h) (of_site a)
           asks (into_result f) h = absurd h
           asks (cells_at w) h = of_cells (elements_mean p (held k.facts) B (λ q part u i. sound.facts.by B m q part u i) w (cell_of s) h) a
 
   -- what an inclusion asks for that has nothing to do with cells
-  pub asked_sound : (k k' : Kept) (n : ℕ) (c : Inclusion) → slice_get cs n ≡ Some c → is_plain c ≡ true → k'.stored ≡ k.stored → Grows (held k.facts) (held k'.facts) (demands p (held k.facts) c)
+  pub asked_sound : (k k' : Kept) (n : ℕ) (c : Inclusion) → slice_get cs n ≡ Some c → touches_no_cell c ≡ true → k'.stored ≡ k.stored → GrowsByFacts (held k.facts) (held k'.facts) (facts_demanded p (held k.facts) c)
       → IsSound p cs k → IsSound p cs k'
   asked_sound k k' n c at plain e g = (plain_steps p cs k k' n c true at plain e g (λ q. cc)).sound

@@ -17,7 +17,7 @@ use Rattle.points_to.specs.declared.wanted.Wanted.TheVariants.{NodeTags, Sites a
 use Rattle.points_to.specs.Held.{In}
 use Rattle.points_to.specs.Known.{solution_of}
 use Rattle.points_to.specs.Wanted.{is_in, SameSet, numbers_by, TagTable, SiteTable}
-use Rattle.points_to.specs.Met.{tags_of_sites, Ascends, MetSoFar, Meets as Meets'}
+use Rattle.points_to.specs.Met.{tags_of_sites, IsSortedSetOf, IsPartialTagTable, HasTagsOfSites as Meets'}
 use Rattle.points_to.specs.Rows.{SameMembers}
 use Rattle.seq.proofs.Member.{in_flat, flat_in}
 use Rattle.seq.proofs.Lists.{map_push}
@@ -26,7 +26,7 @@ use Rattle.seq.proofs.Order.{lt_or_le}
 use Rattle.points_to.proofs.Read.{is_in-in, in-is_in, longer, entry, cells, node_tags}
 use Rattle.points_to.proofs.Solved.{known_at, at_known}
 
-pub ascends_of : (ms ns : List ℕ) → SameSet ns ms → IsStrictlyIncreasing ns → Ascends ms ns
+pub ascends_of : (ms ns : List ℕ) → SameSet ns ms → IsStrictlyIncreasing ns → IsSortedSetOf ms ns
 ascends_of ms ns s o = record {
   ascending = o;
   same = λ n. both_ways (is_in n ns) (is_in n ms)
@@ -35,7 +35,7 @@ ascends_of ms ns s o = record {
 }
 
 -- the same of a list with the same members
-pub ascends_like : (ms ms' ns : List ℕ) → SameMembers ms ms' → Ascends ms ns → Ascends ms' ns
+pub ascends_like : (ms ms' ns : List ℕ) → SameMembers ms ms' → IsSortedSetOf ms ns → IsSortedSetOf ms' ns
 ascends_like ms ms' ns s a = record {
   ascending = a.ascending;
   same = λ n. a.same n ∙ both_ways (is_in n ms) (is_in n ms')
@@ -77,35 +77,35 @@ module _ (tags : ℕ → List ℕ) (sites : List (List Site)) where
   abbrev sites_at : ℕ → List ℕ
   sites_at m = numbers_by (λ s. s.0) (slice_get sites m)
 
-  pub none_met : (table : List (List TagId)) → table ≡ [] → MetSoFar tags sites table
+  pub none_met : (table : List (List TagId)) → table ≡ [] → IsPartialTagTable tags sites table
   none_met table e m lt = absurd (omega (arith, subst (λ t. m < length t) e lt))
 
-  pub met_more : (table : List (List TagId)) (n : ℕ) (ss : List ℕ) (ts : List TagId) → MetSoFar tags sites table → length table ≡ n
-      → ss ≡ sites_at n → Ascends (flat_map tags ss) (map (λ t. t.0) ts)
-      → MetSoFar tags sites (table ++ ts ∷ [])
-  met_more table n ss ts t many e l m lt = entry (λ t. t.0) table m ts (λ m. Ascends (flat_map tags (sites_at m)))
+  pub met_more : (table : List (List TagId)) (n : ℕ) (ss : List ℕ) (ts : List TagId) → IsPartialTagTable tags sites table → length table ≡ n
+      → ss ≡ sites_at n → IsSortedSetOf (flat_map tags ss) (map (λ t. t.0) ts)
+      → IsPartialTagTable tags sites (table ++ ts ∷ [])
+  met_more table n ss ts t many e l m lt = entry (λ t. t.0) table m ts (λ m. IsSortedSetOf (flat_map tags (sites_at m)))
       (λ m lt. t m lt)
-      (subst (λ ss. Ascends (flat_map tags ss) (map (λ t. t.0) ts)) (e ∙ ap sites_at (sym many)) l)
+      (subst (λ ss. IsSortedSetOf (flat_map tags ss) (map (λ t. t.0) ts)) (e ∙ ap sites_at (sym many)) l)
       (let long : length (table ++ ts ∷ []) ≡ length table + 1 = longer (λ t. t.0) table ts in omega (arith, lt, long))
 
-  nothing_ascends : Ascends [] []
+  nothing_ascends : IsSortedSetOf [] []
   nothing_ascends = record { ascending = λ k lt. absurd (omega (arith, lt)); same = λ n. refl }
 
-  pub met_done : (table : List (List TagId)) (n : ℕ) → MetSoFar tags sites table → length table ≡ n → length sites ≤ n → (m : ℕ) → Meets' tags sites table m
+  pub met_done : (table : List (List TagId)) (n : ℕ) → IsPartialTagTable tags sites table → length table ≡ n → length sites ≤ n → (m : ℕ) → Meets' tags sites table m
   met_done table n t many past m = ⊎_elim
       (λ lt. t m (omega (arith, many, lt)))
-      (λ le. subst (λ o. Ascends (flat_map tags (numbers_by (λ s. s.0) o)) (numbers_by (λ t. t.0) (slice_get table m)))
+      (λ le. subst (λ o. IsSortedSetOf (flat_map tags (numbers_by (λ s. s.0) o)) (numbers_by (λ t. t.0) (slice_get table m)))
       (sym (slice_get_past sites m (omega (arith, past, le))))
-      (subst (λ o. Ascends [] (numbers_by (λ t. t.0) o))
+      (subst (λ o. IsSortedSetOf [] (numbers_by (λ t. t.0) o))
       (sym (slice_get_past table m (omega (arith, many, le))))
       nothing_ascends))
       (lt_or_le m n)
 
   -- an earlier entry, where the sites are the same
-  pub met_earlier : (table : List (List TagId)) (n : ℕ) (ss there : List ℕ) (ts : List ℕ) → MetSoFar tags sites table → n < length table
+  pub met_earlier : (table : List (List TagId)) (n : ℕ) (ss there : List ℕ) (ts : List ℕ) → IsPartialTagTable tags sites table → n < length table
       → ss ≡ there → there ≡ sites_at n → ts ≡ numbers_by (λ t. t.0) (slice_get table n)
-      → Ascends (flat_map tags ss) ts
-  met_earlier table n ss there ts t lt e q k = subst (λ l. Ascends (flat_map tags l) ts) (sym (e ∙ q)) (subst (Ascends (flat_map tags (sites_at n))) (sym k) (t n lt))
+      → IsSortedSetOf (flat_map tags ss) ts
+  met_earlier table n ss there ts t lt e q k = subst (λ l. IsSortedSetOf (flat_map tags l) ts) (sym (e ∙ q)) (subst (IsSortedSetOf (flat_map tags (sites_at n))) (sym k) (t n lt))
 
 -- what the reader says
 module _ (H : Place → List Item) (table : List (List TagId)) (sites : List (List Site)) (at_sites : TagTable H of_sites NodeTags table) (at_vars : SiteTable H Vars cell_sites sites) (x : ℕ) where
@@ -119,7 +119,7 @@ module _ (H : Place → List Item) (table : List (List TagId)) (sites : List (Li
   Meets t = (s : ℕ) × At (solution_of H) (var x) (word 0) (Cell s)
       × At (solution_of H) (site s) tags (Tag t)
 
-  pub tags_met : (ns : List ℕ) → Ascends (tags_of_sites table ss) ns → (t : ℕ) → (In t ns → Meets t) × (Meets t → In t ns)
+  pub tags_met : (ns : List ℕ) → IsSortedSetOf (tags_of_sites table ss) ns → (t : ℕ) → (In t ns → Meets t) × (Meets t → In t ns)
   tags_met ns l t = (
     λ h. let r = flat_in ts ss (is_in-in t (tags_of_sites table ss) (sym (l.same t) ∙ in-is_in t ns h)) in (
       r.0,

@@ -14,13 +14,13 @@ use Rattle.points_to.specs.declared.facts.Facts.{Facts}
 use Rattle.points_to.specs.declared.runs.FactRun.{FactRun}
 use Rattle.points_to.specs.declared.worklist.Worklist.{Worklist}
 use Rattle.points_to.specs.Held.{In, here, there}
-use Rattle.points_to.specs.Asked.{demands}
-use Rattle.points_to.specs.Known.{held, Grows, solution_of}
+use Rattle.points_to.specs.Asked.{facts_demanded}
+use Rattle.points_to.specs.Known.{held, GrowsByFacts, solution_of}
 use Rattle.points_to.specs.Reads.{reads, Agree}
-use Rattle.points_to.specs.Rounds.{InEvery, Satisfied, Counted}
-use Rattle.points_to.specs.Runs.{run_facts}
+use Rattle.points_to.specs.Rounds.{InEvery, Satisfied, CountsAddedFacts}
+use Rattle.points_to.specs.Runs.{facts_of_run}
 use Rattle.points_to.specs.Waiting.{waiting, readers_of, Takes}
-use Rattle.points_to.specs.Worklist.{IsWaiting, IsReader, RegistersAt, Wakes, Spreads, Advances, Satisfies, IsSettled, Stands}
+use Rattle.points_to.specs.Worklist.{IsWaiting, IsReader, RegistersAt, WakesReaders, WakesWhereChanged, MakesProgress, SatisfiesInclusion, IsSettled, WorklistInvariant}
 use Rattle.seq.proofs.Member.{none_in, cons_in}
 use Rattle.seq.proofs.Order.{same_or_not}
 use Rattle.seq.proofs.Truth.{neither_left, neither_right}
@@ -28,7 +28,7 @@ use Rattle.points_to.proofs.Agree.{same_demands, same_reads}
 use Rattle.points_to.proofs.Solved.{Added, none_added, added_more, nothing_in_every, grown_in_every, least_at_end}
 
 -- one fact, and the readers of its place
-pub spreads_one : (old : Worklist) (f : Facts) (new : Worklist) (q : Place) → ((r : Place) → (r ≡ q) ⊎ (held f r ≡ held old.facts r)) → new.facts ≡ f → Wakes (record old { facts = f }) new q → Spreads old new
+pub spreads_one : (old : Worklist) (f : Facts) (new : Worklist) (q : Place) → ((r : Place) → (r ≡ q) ⊎ (held f r ≡ held old.facts r)) → new.facts ≡ f → WakesReaders (record old { facts = f }) new q → WakesWhereChanged old new
 spreads_one old f new q elsewhere same w = record {
   kept = w.kept;
   moved = w.moved;
@@ -38,10 +38,10 @@ spreads_one old f new q elsewhere same w = record {
       (elsewhere r);
 }
 
-pub spreads_none : (w : Worklist) → Spreads w w
+pub spreads_none : (w : Worklist) → WakesWhereChanged w w
 spreads_none w = record { kept = λ n h. h; moved = λ q n h. inl h; woken = λ q. inl refl }
 
-spreads_more : (a b c : Worklist) → Spreads a b → Spreads b c → Spreads a c
+spreads_more : (a b c : Worklist) → WakesWhereChanged a b → WakesWhereChanged b c → WakesWhereChanged a c
 spreads_more a b c x y = record {
   kept = λ n h. y.kept n (x.kept n h);
   moved = λ q n h. ⊎_elim (λ r. y.moved q n r) (λ w. inr (y.kept n w)) (x.moved q n h);
@@ -54,28 +54,28 @@ spreads_more a b c x y = record {
 -- several facts
 pub record AddedTo (old new : Worklist) (added : Bool) (fs : List Fact) : Type 0 where
   pub facts : Added old.facts new.facts added fs
-  pub spread : Spreads old new
+  pub spread : WakesWhereChanged old new
   pub still : added ≡ false → new ≡ old
 
 pub none_added_to : (w : Worklist) → AddedTo w w false []
 none_added_to w = record { facts = none_added w.facts; spread = spreads_none w; still = λ e. refl }
 
-pub more_added_to : (old now new : Worklist) (a b both : Bool) (rs : List FactRun) (i : ℕ) (d : FactRun) → i < length rs → both ≡ (a || b) → AddedTo old now a (flat_map run_facts (take i rs))
-    → Grows (held now.facts) (held new.facts) (run_facts (get_or rs i d)) → Spreads now new → (b ≡ false → new ≡ now) → Counted now.facts new.facts b → AddedTo old new both (flat_map run_facts (take (i + 1) rs))
+pub more_added_to : (old now new : Worklist) (a b both : Bool) (rs : List FactRun) (i : ℕ) (d : FactRun) → i < length rs → both ≡ (a || b) → AddedTo old now a (flat_map facts_of_run (take i rs))
+    → GrowsByFacts (held now.facts) (held new.facts) (facts_of_run (get_or rs i d)) → WakesWhereChanged now new → (b ≡ false → new ≡ now) → CountsAddedFacts now.facts new.facts b → AddedTo old new both (flat_map facts_of_run (take (i + 1) rs))
 more_added_to old now new a b both rs i d lt e x g s t c = record {
   facts = added_more old.facts now.facts new.facts a b both rs i d lt e x.facts g (λ q. ap (λ w. w.facts) (t q)) c;
   spread = spreads_more old now new x.spread s;
   still = λ q. t (neither_right a b (sym e ∙ q)) ∙ x.still (neither_left a b (sym e ∙ q));
 }
 
-pub all_added_to : (old new : Worklist) (a : Bool) (fs : List Fact) (rs : List FactRun) (i : ℕ) → length rs ≤ i → flat_map run_facts rs ≡ fs → AddedTo old new a (flat_map run_facts (take i rs)) → AddedTo old new a fs
-all_added_to old new a fs rs i le e x = subst (AddedTo old new a) (ap (flat_map run_facts) (take_all i rs le) ∙ e) x
+pub all_added_to : (old new : Worklist) (a : Bool) (fs : List Fact) (rs : List FactRun) (i : ℕ) → length rs ≤ i → flat_map facts_of_run rs ≡ fs → AddedTo old new a (flat_map facts_of_run (take i rs)) → AddedTo old new a fs
+all_added_to old new a fs rs i le e x = subst (AddedTo old new a) (ap (flat_map facts_of_run) (take_all i rs le) ∙ e) x
 
 -- an inclusion: it is registered, then it gets what it asks for
 pub satisfies : (p : Tables) (c : Inclusion) (n : ℕ) (old between new : Worklist) (added : Bool) → RegistersAt old between n (reads p (held old.facts) c)
-    → Grows (held between.facts) (held new.facts) (demands p (held between.facts) c) → Spreads between new → (added ≡ false → new ≡ between) → Counted between.facts new.facts added → Satisfies p c n old new
+    → GrowsByFacts (held between.facts) (held new.facts) (facts_demanded p (held between.facts) c) → WakesWhereChanged between new → (added ≡ false → new ≡ between) → CountsAddedFacts between.facts new.facts added → SatisfiesInclusion p c n old new
 satisfies p c n old between new added r g s t counted = record {
-  grown = subst (λ f. Grows (held f) (held new.facts) (demands p (held f) c)) r.same_facts g;
+  grown = subst (λ f. GrowsByFacts (held f) (held new.facts) (facts_demanded p (held f) c)) r.same_facts g;
   kept = λ m h. s.kept m (subst (λ w. In m (waiting w)) (sym r.same_pending) h);
   moved = λ q m h. s.moved q m (r.kept q m h);
   registered = λ q h. s.moved q n (r.put q h);
@@ -121,7 +121,7 @@ module _ (p : Tables) (cs : List Inclusion) where
   settle : (old new : Worklist) (i : ℕ) (d : Inclusion)
       → ((q : Place) → In q (reads p (held old.facts) d) → IsReader new q i ⊎ IsWaiting new i)
       → ((q : Place) → In q (reads p (held old.facts) d) → (held new.facts q ≡ held old.facts q) ⊎ IsWaiting new i)
-      → ((f : Fact) → In f (demands p (held old.facts) d) → In f.item (held new.facts f.place))
+      → ((f : Fact) → In f (facts_demanded p (held old.facts) d) → In f.item (held new.facts f.place))
       → IsWaiting new i ⊎ IsSettled p cs new i d
   settle old new i d registered woken met =
       ⊎_elim
@@ -142,7 +142,7 @@ module _ (p : Tables) (cs : List Inclusion) where
   }
 
   -- the inclusion that was taken is satisfied
-  pub stands_on : (old now new : Worklist) (n : ℕ) (c : Inclusion) → now.facts ≡ old.facts → now.readers ≡ old.readers → Takes (waiting old.pending) (waiting now.pending) n → slice_get cs n ≡ Some c → Satisfies p c n now new → Stands p cs old → Stands p cs new
+  pub stands_on : (old now new : Worklist) (n : ℕ) (c : Inclusion) → now.facts ≡ old.facts → now.readers ≡ old.readers → Takes (waiting old.pending) (waiting now.pending) n → slice_get cs n ≡ Some c → SatisfiesInclusion p c n now new → WorklistInvariant p cs old → WorklistInvariant p cs new
   stands_on old now new n c same same' t is s st = record {
     sound = grown_in_every p cs (held now.facts) (held new.facts) n c is s.grown (subst (λ f. InEvery p cs (held f)) (sym same) st.sound);
     settled = λ i d e. ⊎_elim (λ z. itself i d e z) (λ ne. other i d ne (st.settled i d e)) (same_or_not i n);
@@ -165,7 +165,7 @@ module _ (p : Tables) (cs : List Inclusion) where
           o
 
   -- no inclusion has the number that was taken
-  pub stands_past : (old now : Worklist) (n : ℕ) → now.facts ≡ old.facts → now.readers ≡ old.readers → Takes (waiting old.pending) (waiting now.pending) n → slice_get cs n ≡ None → Stands p cs old → Stands p cs now
+  pub stands_past : (old now : Worklist) (n : ℕ) → now.facts ≡ old.facts → now.readers ≡ old.readers → Takes (waiting old.pending) (waiting now.pending) n → slice_get cs n ≡ None → WorklistInvariant p cs old → WorklistInvariant p cs now
   stands_past old now n same same' t is st = record {
     sound = subst (λ f. InEvery p cs (held f)) (sym same) st.sound;
     settled = λ i d e. ⊎_elim
@@ -178,21 +178,21 @@ module _ (p : Tables) (cs : List Inclusion) where
       none_some d e = cc
 
   -- none waited
-  pub stands_still : (old now : Worklist) → now.facts ≡ old.facts → now.readers ≡ old.readers → waiting old.pending ≡ [] → Stands p cs old → Stands p cs now
+  pub stands_still : (old now : Worklist) → now.facts ≡ old.facts → now.readers ≡ old.readers → waiting old.pending ≡ [] → WorklistInvariant p cs old → WorklistInvariant p cs now
   stands_still old now same same' none st = record {
     sound = subst (λ f. InEvery p cs (held f)) (sym same) st.sound;
     settled = λ i d e. ⊎_elim (λ w. none_in (subst (In i) none w)) (λ x. inr (settled_still old now i d same same' x)) (st.settled i d e);
   }
 
   -- at first all wait
-  pub stands_at_first : (w : Worklist) → ((q : Place) → held w.facts q ≡ []) → ((n : ℕ) (c : Inclusion) → slice_get cs n ≡ Some c → IsWaiting w n) → Stands p cs w
+  pub stands_at_first : (w : Worklist) → ((q : Place) → held w.facts q ≡ []) → ((n : ℕ) (c : Inclusion) → slice_get cs n ≡ Some c → IsWaiting w n) → WorklistInvariant p cs w
   stands_at_first w none all = record { sound = nothing_in_every p cs (held w.facts) none; settled = λ n c e. inl (all n c e) }
 
-  pub least_when_none_waits : (w : Worklist) → Stands p cs w → waiting w.pending ≡ [] → IsLeast p cs (solution_of (held w.facts))
+  pub least_when_none_waits : (w : Worklist) → WorklistInvariant p cs w → waiting w.pending ≡ [] → IsLeast p cs (solution_of (held w.facts))
   least_when_none_waits w st e = least_at_end p cs (held w.facts) st.sound (record { by = λ i c q. ⊎_elim (λ h. none_in (subst (In i) e h)) (λ x. x.satisfied) (st.settled i c q) })
 
 -- a turn leaves fewer waiting, or more known
-pub advances : (p : Tables) (c : Inclusion) (old now new : Worklist) (n : ℕ) → now.facts ≡ old.facts → Takes (waiting old.pending) (waiting now.pending) n → Satisfies p c n now new → Advances old new true
+pub advances : (p : Tables) (c : Inclusion) (old now new : Worklist) (n : ℕ) → now.facts ≡ old.facts → Takes (waiting old.pending) (waiting now.pending) n → SatisfiesInclusion p c n now new → MakesProgress old new true
 advances p c old now new n same t s = record {
   no_less = subst (λ f. f.count ≤ new.facts.count) same s.no_less;
   on = λ e. ⊎_elim
@@ -201,7 +201,7 @@ advances p c old now new n same t s = record {
       s.more;
 }
 
-pub advances_past : (old now : Worklist) (n : ℕ) → now.facts ≡ old.facts → Takes (waiting old.pending) (waiting now.pending) n → Advances old now true
+pub advances_past : (old now : Worklist) (n : ℕ) → now.facts ≡ old.facts → Takes (waiting old.pending) (waiting now.pending) n → MakesProgress old now true
 advances_past old now n same t = record { no_less = subst (λ f. old.facts.count ≤ f.count) (sym same) (omega arith); on = λ e. inr t.shorter }
 
 pub turn_counts : (f f' w w' : ℕ) (more : Bool) → f < 2 ^ 64 → f' < 2 ^ 64 → w' < 2 ^ 70 → f ≤ f' → (more ≡ true → (f < f') ⊎ (w' < w)) → (more ≡ false → w' ≡ 0)

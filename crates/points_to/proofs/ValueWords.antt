@@ -13,10 +13,10 @@ use Rattle.flow_system.specs.declared.fact.Part.TheVariants.{Tags as tags, Field
 use Rattle.flow_system.specs.Tables.{Tables, fields_of}
 use Rattle.flow_system.specs.Solution.{Sets, AsNodes, node_tag, node_field, words_tag, words_field}
 use Rattle.points_to.specs.declared.facts.Item.{Item}
-use Rattle.points_to.specs.Held.{In, here, there, item, picked, in_part, fetched, elements, numbered, value_items}
+use Rattle.points_to.specs.Held.{In, here, there, item, words_in_part, in_part, fetched, elements, numbered, value_items}
 use Rattle.points_to.specs.Rows.{SameMembers}
 use Rattle.points_to.specs.Stored.{value_nodes}
-use Rattle.points_to.specs.Kept.{is_of_words}
+use Rattle.points_to.specs.Kept.{has_no_node_variable}
 use Rattle.points_to.specs.ValueWords.{fits, reaches, lacks, fitting, has_field, has_fewer, elements_of, node_field as node_field_words, node_words, vector_words, value_words}
 use Rattle.seq.proofs.Member.{none_in, cons_in, one_in, in_left, in_right, in_split, when_in, in_when, in_flat, flat_in, in_map, map_in}
 use Rattle.seq.proofs.Order.{lt_from, lt_true, le_from, lt_false}
@@ -125,7 +125,7 @@ module _ (p : Tables) (H : Place → List Item) where
     all : (q : Part) (u : AbstractWord) → N q u → In (item q u) X
     all q u h = h
 
-    tags_same : SameMembers (flat_map (fitting p k) first) (picked tags X)
+    tags_same : SameMembers (flat_map (fitting p k) first) (words_in_part tags X)
     tags_same = record {
       into = λ u h. let r = flat_in (fitting p k) first h in in_picked tags X (put u r.0 r.1 r.2);
       back = λ u h. let r = tag_is tags u (nodes_of tags u (picked_in tags X h)) refl in
@@ -310,7 +310,7 @@ module _ (p : Tables) (H : Place → List Item) where
 
     node_same : (i : ℕ) → SameMembers (node_words p H t.0 ws i) (fetched p i made)
     node_same zero = record {
-      into = λ u h. subst (λ x. In x (picked tags made)) (sym (one_in (tag t.0) h)) (in_picked tags made has_the_tag);
+      into = λ u h. subst (λ x. In x (words_in_part tags made)) (sym (one_in (tag t.0) h)) (in_picked tags made has_the_tag);
       back = λ u h. subst (λ x. In x (tag t.0 ∷ [])) (sym (the_tag_is tags u (given_of tags u (picked_in tags made h)) refl)) here;
     }
     node_same (suc j) = record {
@@ -342,7 +342,7 @@ module _ (p : Tables) (H : Place → List Item) where
       go (node_field x) = let r = map_in (item (word 0)) (elements p H w) x in clash r.0 r.2
       go (words_field x e en lt y) = in_nodes p X (λ q y. In (item q y) X) (λ q y z. z) (Some 1) tags (tag t) (words_tag x e en)
 
-  pub has_tag : (v : Val) → is_of_words v ≡ true → (t j : ℕ) (u : AbstractWord) → In (item (field t j) u) (value_nodes p H v) → In (item tags (tag t)) (value_nodes p H v)
+  pub has_tag : (v : Val) → has_no_node_variable v ≡ true → (t j : ℕ) (u : AbstractWord) → In (item (field t j) u) (value_nodes p H v) → In (item tags (tag t)) (value_nodes p H v)
   has_tag (NodeVar x) e t j u h = cc
   has_tag (NodeVal t' ws) e t j u h = node_has_tag t' ws t j u h
   has_tag (VectorVal ws) e t j u h = vector_has_tag ws t j u h

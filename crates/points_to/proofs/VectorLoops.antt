@@ -19,12 +19,12 @@ use Rattle.points_to.specs.declared.facts.Item.{Item}
 use Rattle.points_to.specs.declared.kept.Kept.{Kept}
 use Rattle.points_to.specs.declared.stored.Stored.{Stored}
 use Rattle.points_to.specs.declared.vectors.Met.{Met}
-use Rattle.points_to.specs.declared.vectors.WordsOf.{WordsOf}
-use Rattle.points_to.specs.declared.vectors.NotedWords.{NotedWords}
-use Rattle.points_to.specs.Held.{In, here, picked}
+use Rattle.points_to.specs.declared.vectors.CachedWords.{CachedWords}
+use Rattle.points_to.specs.declared.vectors.WordCache.{WordCache}
+use Rattle.points_to.specs.Held.{In, here, words_in_part}
 use Rattle.points_to.specs.Known.{held}
 use Rattle.points_to.specs.Rows.{SameMembers, numbers_in}
-use Rattle.points_to.specs.Stored.{stored_at, cell_stored, Stores, StoresAll}
+use Rattle.points_to.specs.Stored.{stored_at, cell_stored, PutsAtSite, PutsAtAllSites}
 use Rattle.points_to.specs.Kept.{is_by_words, AllByWords, noted, met_by, MetExact, AreWords, WordsExact}
 use Rattle.seq.proofs.Member.{none_in, one_in, in_left, in_right, in_split}
 use Rattle.seq.proofs.Order.{lt_or_le}
@@ -63,17 +63,17 @@ all_before xs n le x i c q = x.by i c (within xs i c n le q) q
     within (x ∷ xs) (suc i) c (suc n) le q = let h : i < n = within xs i c n (omega arith) q in omega arith
 
 -- a number that is put at cells
-pub stores_none : (f : ℕ → List ℕ) (n : ℕ) → StoresAll f f [] n
+pub stores_none : (f : ℕ → List ℕ) (n : ℕ) → PutsAtAllSites f f [] n
 stores_none f n = record { kept = λ s m h. h; put = λ s h. none_in h; only = λ s m h. inl h }
 
-pub stores_more : (f g h : ℕ → List ℕ) (xs ys : List AbstractWord) (n : ℕ) → StoresAll f g xs n → StoresAll g h ys n → StoresAll f h (xs ++ ys) n
+pub stores_more : (f g h : ℕ → List ℕ) (xs ys : List AbstractWord) (n : ℕ) → PutsAtAllSites f g xs n → PutsAtAllSites g h ys n → PutsAtAllSites f h (xs ++ ys) n
 stores_more f g h xs ys n a b = record {
   kept = λ s m i. b.kept s m (a.kept s m i);
   put = λ s i. ⊎_elim (λ x. b.kept s n (a.put s x)) (λ y. b.put s y) (in_split xs ys i);
   only = λ s m i. ⊎_elim (λ x. ⊎_elim (λ y. inl y) (λ y. inr (in_left xs ys y.0, y.1)) (a.only s m x)) (λ y. inr (in_right xs ys y.0, y.1)) (b.only s m i);
 }
 
-pub stores_one : (f g : ℕ → List ℕ) (s n : ℕ) → Stores f g s n → StoresAll f g (cell_of s ∷ []) n
+pub stores_one : (f g : ℕ → List ℕ) (s n : ℕ) → PutsAtSite f g s n → PutsAtAllSites f g (cell_of s ∷ []) n
 stores_one f g s n a = record {
   kept = a.kept;
   put = λ r h. subst (λ x. In n (g x)) (sym (same r (one_in (cell_of s) h))) a.put;
@@ -83,27 +83,27 @@ stores_one f g s n a = record {
     same : (r : ℕ) → cell_of r ≡ cell_of s → r ≡ s
     same r e = cc
 
-pub stores_no_tag : (f : ℕ → List ℕ) (t n : ℕ) → StoresAll f f (tag t ∷ []) n
+pub stores_no_tag : (f : ℕ → List ℕ) (t n : ℕ) → PutsAtAllSites f f (tag t ∷ []) n
 stores_no_tag f t n = record { kept = λ s m h. h; put = λ s h. clash s (one_in (tag t) h); only = λ s m h. inl h }
   where
     clash : (s : ℕ) → cell_of s ≡ tag t → In n (f s)
     clash s e = cc
 
-pub stores_no_number : (f : ℕ → List ℕ) (n : ℕ) → StoresAll f f (num ∷ []) n
+pub stores_no_number : (f : ℕ → List ℕ) (n : ℕ) → PutsAtAllSites f f (num ∷ []) n
 stores_no_number f n = record { kept = λ s m h. h; put = λ s h. clash s (one_in num h); only = λ s m h. inl h }
   where
     clash : (s : ℕ) → cell_of s ≡ num → In n (f s)
     clash s e = cc
 
 pub record Storing (old now : Stored) (added : Bool) (cells : List AbstractWord) (n : ℕ) : Type 0 where
-  pub stores : StoresAll (stored_at old) (stored_at now) cells n
+  pub stores : PutsAtAllSites (stored_at old) (stored_at now) cells n
   pub same : added ≡ false → now ≡ old
 
 pub storing_begins : (s : Stored) (n : ℕ) → Storing s s false [] n
 storing_begins s n = record { stores = stores_none (stored_at s) n; same = λ e. refl }
 
 pub storing_on : (old now new : Stored) (a b both : Bool) (xs : List AbstractWord) (i : ℕ) (d : AbstractWord) (n : ℕ) → i < length xs → both ≡ (a || b) → Storing old now a (take i xs) n
-    → StoresAll (stored_at now) (stored_at new) (get_or xs i d ∷ []) n → (b ≡ false → new ≡ now) → Storing old new both (take (i + 1) xs) n
+    → PutsAtAllSites (stored_at now) (stored_at new) (get_or xs i d ∷ []) n → (b ≡ false → new ≡ now) → Storing old new both (take (i + 1) xs) n
 storing_on old now new a b both xs i d n lt e x st same = subst (λ l. Storing old new both l n) (sym (take_more xs i d lt)) (record {
   stores = stores_more (stored_at old) (stored_at now) (stored_at new) (take i xs) (get_or xs i d ∷ []) n x.stores st;
   same = λ q. let f = sym e ∙ q in same (right a b f) ∙ x.same (left a b f);
@@ -136,7 +136,7 @@ module _ (p : Tables) (k : Kept) where
   noted_more m m' x b exact same put (Lit i) b' e = cc
   noted_more m m' x b exact same put (Var y) b' e = ⊎_elim
       (λ q. exact (Var y) b' (sym q ∙ e))
-      (λ q. subst (λ c. SameMembers (numbers_in c) (met_by p k (Var y))) (some_is b b' (sym q.1 ∙ e)) (subst (λ n. SameMembers (numbers_in b) (flat_map (cell_stored k.stored) (picked (word 0) (held k.facts (var n))))) (sym q.0) same))
+      (λ q. subst (λ c. SameMembers (numbers_in c) (met_by p k (Var y))) (some_is b b' (sym q.1 ∙ e)) (subst (λ n. SameMembers (numbers_in b) (flat_map (cell_stored k.stored) (words_in_part (word 0) (held k.facts (var n))))) (sym q.0) same))
       (put y.0)
     where
       some_is : (c d : Bits) → Some c ≡ Some d → c ≡ d
@@ -146,17 +146,17 @@ module _ (p : Tables) (k : Kept) where
 
 -- noted words
 module _ (p : Tables) (cs : List Inclusion) (H : Place → List Item) where
-  pub no_words : (m : NotedWords) → m.entries.items ≡ [] → WordsExact p cs H m
+  pub no_words : (m : WordCache) → m.entries.items ≡ [] → WordsExact p cs H m
   no_words m is e h = none_in (subst (In e) is h)
 
-  pub words_more : (m : NotedWords) (ds : List WordsOf) (e : WordsOf) → ds ≡ m.entries.items ++ e ∷ [] → AreWords p cs H e.i (numbers_in e.numbers) e.words → WordsExact p cs H m
-      → (d : WordsOf) → In d ds → AreWords p cs H d.i (numbers_in d.numbers) d.words
+  pub words_more : (m : WordCache) (ds : List CachedWords) (e : CachedWords) → ds ≡ m.entries.items ++ e ∷ [] → AreWords p cs H e.i (numbers_in e.numbers) e.words → WordsExact p cs H m
+      → (d : CachedWords) → In d ds → AreWords p cs H d.i (numbers_in d.numbers) d.words
   words_more m ds e is its exact d h = ⊎_elim
       (λ a. exact d a)
       (λ b. subst (λ x. AreWords p cs H x.i (numbers_in x.numbers) x.words) (sym (one_in e b)) its)
       (in_split m.entries.items (e ∷ []) (subst (In d) is h))
 
-  pub words_at : (m : NotedWords) (e : WordsOf) (i : ℕ) (ns : List ℕ) → In e m.entries.items → e.i ≡ i → numbers_in e.numbers ≡ ns → WordsExact p cs H m → AreWords p cs H i ns e.words
+  pub words_at : (m : WordCache) (e : CachedWords) (i : ℕ) (ns : List ℕ) → In e m.entries.items → e.i ≡ i → numbers_in e.numbers ≡ ns → WordsExact p cs H m → AreWords p cs H i ns e.words
   words_at m e i ns h is same exact =
       subst (λ l. AreWords p cs H i l e.words) same (subst (λ j. AreWords p cs H j (numbers_in e.numbers) e.words) is (exact e h))
 

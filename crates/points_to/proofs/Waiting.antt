@@ -8,8 +8,8 @@ use Rattle.std.specs.declared.cmp.Ordering.TheVariants.{Equal}
 use Rattle.std.specs.FinMap.{nat_cmp-IsAntisymmetric}
 use Rattle.flow_system.specs.declared.fact.Place.{Place}
 use Rattle.points_to.specs.Held.{In, here, there}
-use Rattle.points_to.specs.Rows.{Gets}
-use Rattle.points_to.specs.Waiting.{slot, numbers_at, Registers}
+use Rattle.points_to.specs.Rows.{GainsMember}
+use Rattle.points_to.specs.Waiting.{place_slot, numbers_at, RegistersReader}
 use Rattle.seq.proofs.Member.{cons_in, one_in, in_left, in_right, in_split}
 use Rattle.seq.proofs.Order.{same_or_not}
 use Rattle.seq.specs.Lists.{or_empty}
@@ -39,32 +39,32 @@ set_other (x ∷ xs) (suc n) zero s ne = refl
 set_other (x ∷ xs) (suc n) (suc m) s ne = set_other xs n m s (λ e. ne (ap suc e))
 
 -- a number is put into the set of a place
-registers : (old : ℕ → List ℕ) (xs : List (List ℕ)) (q : Place) (s s' : List ℕ) (n : ℕ) → numbers_at xs ≡ old → slot q < length xs → s ≡ get_or xs (slot q) s → Gets s s' n
-    → Registers (λ r. old (slot r)) (λ r. numbers_at (slice_set xs (slot q) s') (slot r)) q n
-registers old xs q s s' n o lt e g = subst (λ f. Registers (λ r. f (slot r)) (λ r. numbers_at (slice_set xs (slot q) s') (slot r)) q n) o (record {
+registers : (old : ℕ → List ℕ) (xs : List (List ℕ)) (q : Place) (s s' : List ℕ) (n : ℕ) → numbers_at xs ≡ old → place_slot q < length xs → s ≡ get_or xs (place_slot q) s → GainsMember s s' n
+    → RegistersReader (λ r. old (place_slot r)) (λ r. numbers_at (slice_set xs (place_slot q) s') (place_slot r)) q n
+registers old xs q s s' n o lt e g = subst (λ f. RegistersReader (λ r. f (place_slot r)) (λ r. numbers_at (slice_set xs (place_slot q) s') (place_slot r)) q n) o (record {
   kept = λ r m h. ⊎_elim
-      (λ z. subst (λ k. In m (numbers_at (slice_set xs (slot q) s') k)) (sym z) (subst (In m) (sym new) (g.kept m (subst (In m) (ap (numbers_at xs) z ∙ numbers_some xs (slot q) s lt e) h))))
-      (λ z. subst (In m) (sym (set_other xs (slot q) (slot r) s' z)) h)
-      (same_or_not (slot r) (slot q));
+      (λ z. subst (λ k. In m (numbers_at (slice_set xs (place_slot q) s') k)) (sym z) (subst (In m) (sym new) (g.kept m (subst (In m) (ap (numbers_at xs) z ∙ numbers_some xs (place_slot q) s lt e) h))))
+      (λ z. subst (In m) (sym (set_other xs (place_slot q) (place_slot r) s' z)) h)
+      (same_or_not (place_slot r) (place_slot q));
   put = subst (In n) (sym new) g.put;
 })
   where
-    new : numbers_at (slice_set xs (slot q) s') (slot q) ≡ s'
-    new = set_same xs (slot q) s' lt
+    new : numbers_at (slice_set xs (place_slot q) s') (place_slot q) ≡ s'
+    new = set_same xs (place_slot q) s' lt
 
-pub registers_at : (old : ℕ → List ℕ) (xs : List (List ℕ)) (q : Place) (k : ℕ) (s s' : List ℕ) (n : ℕ) → k ≡ slot q → numbers_at xs ≡ old → k < length xs → s ≡ get_or xs k s → Gets s s' n
-    → Registers (λ r. old (slot r)) (λ r. numbers_at (slice_set xs k s') (slot r)) q n
-registers_at old xs q k s s' n is = subst (λ j. numbers_at xs ≡ old → j < length xs → s ≡ get_or xs j s → Gets s s' n → Registers (λ r. old (slot r)) (λ r. numbers_at (slice_set xs j s') (slot r)) q n) (sym is) (registers old xs q s s' n)
+pub registers_at : (old : ℕ → List ℕ) (xs : List (List ℕ)) (q : Place) (k : ℕ) (s s' : List ℕ) (n : ℕ) → k ≡ place_slot q → numbers_at xs ≡ old → k < length xs → s ≡ get_or xs k s → GainsMember s s' n
+    → RegistersReader (λ r. old (place_slot r)) (λ r. numbers_at (slice_set xs k s') (place_slot r)) q n
+registers_at old xs q k s s' n is = subst (λ j. numbers_at xs ≡ old → j < length xs → s ≡ get_or xs j s → GainsMember s s' n → RegistersReader (λ r. old (place_slot r)) (λ r. numbers_at (slice_set xs j s') (place_slot r)) q n) (sym is) (registers old xs q s s' n)
 
 -- a number is put into a row
-pub gets_at_end : (xs : List ℕ) (n : ℕ) → Gets xs (xs ++ n ∷ []) n
+pub gets_at_end : (xs : List ℕ) (n : ℕ) → GainsMember xs (xs ++ n ∷ []) n
 gets_at_end xs n = record {
   kept = λ m h. in_left xs (n ∷ []) h;
   put = in_right xs (n ∷ []) here;
   only = λ m h. ⊎_elim (λ a. inl a) (λ b. inr (one_in n b)) (in_split xs (n ∷ []) h);
 }
 
-pub gets_at : (xs : List ℕ) (k n : ℕ) → Gets xs (insert xs k n) n
+pub gets_at : (xs : List ℕ) (k n : ℕ) → GainsMember xs (insert xs k n) n
 gets_at xs k n = record {
   kept = λ m h. kept m (subst (In m) (sym (take-append-drop k xs)) h);
   put = in_right (take k xs) (n ∷ drop k xs) here;
@@ -77,7 +77,7 @@ gets_at xs k n = record {
     kept : (m : ℕ) → In m (take k xs ++ drop k xs) → In m (insert xs k n)
     kept m h = ⊎_elim (λ a. in_left (take k xs) (n ∷ drop k xs) a) (λ b. in_right (take k xs) (n ∷ drop k xs) (there b)) (in_split (take k xs) (drop k xs) h)
 
-pub gets_found : (xs : List ℕ) (k n : ℕ) → k < length xs → ((d : ℕ) → nat_cmp (get_or xs k d) n ≡ Equal) → Gets xs xs n
+pub gets_found : (xs : List ℕ) (k n : ℕ) → k < length xs → ((d : ℕ) → nat_cmp (get_or xs k d) n ≡ Equal) → GainsMember xs xs n
 gets_found xs k n lt e = record { kept = λ m h. h; put = subst (λ m. In m xs) (nat_cmp-IsAntisymmetric (get_or xs k n) n (e n)) (read_in xs k lt); only = λ m h. inl h }
   where
     read_in : (ys : List ℕ) (i : ℕ) → i < length ys → In (get_or ys i n) ys

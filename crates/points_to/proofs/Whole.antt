@@ -10,21 +10,21 @@ use Rattle.flow_system.specs.declared.fact.Element.TheVariants.{Cell as cell_of}
 use Rattle.flow_system.specs.declared.fact.Place.{Place}
 use Rattle.flow_system.specs.declared.fact.Place.TheVariants.{Site as site, Var as var, Result as result}
 use Rattle.flow_system.specs.declared.fact.Part.{Part}
-use Rattle.flow_system.specs.Inclusions.{Source, value, a_cell, a_number, held as held', nodes_at, word_at, evaluated, extended, arguments, Sink, to, into_site, into_result, cells_at, Inclusion, flows, forces, applies}
+use Rattle.flow_system.specs.Inclusions.{Source, value, a_cell, a_number, held as held', nodes_at, word_at, evaluated, extended, arguments, FlowSink, to, into_site, into_result, cells_at, Inclusion, flows, forces, applies}
 use Rattle.flow_system.specs.Tables.{Tables}
-use Rattle.flow_system.specs.Solution.{Solution, Sets, At, AtMost, AsNodes, ValueGives, width, NodesTo, Solves, IsLeast}
+use Rattle.flow_system.specs.Solution.{Solution, Sets, At, WordBound, AsNodes, ValueGives, width, NodesTo, Solves, IsLeast}
 use Rattle.flow_system.specs.Demands.{Asks, of_node_variable, of_variable, of_vector, of_site, of_result, of_cells, Demands, by_flow}
 use Rattle.flow_system.proofs.Least.{least_by_rounds, in_every}
 use Rattle.points_to.specs.declared.facts.Item.{Item}
 use Rattle.points_to.specs.declared.facts.Fact.{Fact}
 use Rattle.points_to.specs.declared.kept.Kept.{Kept}
 use Rattle.points_to.specs.Held.{In, here, item, elements, as_nodes, value_items}
-use Rattle.points_to.specs.Asked.{fact, demands}
-use Rattle.points_to.specs.Known.{held, solution_of, Grows, Within}
+use Rattle.points_to.specs.Asked.{fact, facts_demanded}
+use Rattle.points_to.specs.Known.{held, solution_of, GrowsByFacts, ContainsAllFacts}
 use Rattle.points_to.specs.Reads.{word_reads, value_reads, sink_reads, source_reads, reads, Agree}
 use Rattle.points_to.specs.Rounds.{InEvery}
-use Rattle.points_to.specs.Stored.{stored_at, value_in, values_in, value_at, nodes_of, whole, StoresAll}
-use Rattle.points_to.specs.Kept.{is_of_words, is_elsewhere, is_no_site, reads_no_cell, is_plain, Grew, IsSound, solution, Steps, MetAtEnd, AllMet}
+use Rattle.points_to.specs.Stored.{stored_at, value_in, values_in, value_at, nodes_of, whole, PutsAtAllSites}
+use Rattle.points_to.specs.Kept.{has_no_node_variable, is_not_cell_sink, is_not_site, reads_no_cell, touches_no_cell, KeepsAllFacts, IsSound, solution, Steps, MetAtEnd, AllMet}
 use Rattle.points_to.proofs.GivenItems.{nodes_mean, in_nodes, elements_mean, in_elements, value_means, in_value}
 use Rattle.points_to.proofs.Exact.{demands_mean, in_demands}
 use Rattle.points_to.proofs.Agree.{same_items, same_demands}
@@ -41,7 +41,7 @@ nothing_in (x ∷ xs) n = false_not_true (n x here)
 
 -- places that are no sites
 abbrev NoSites : List Place → Type 0
-NoSites qs = (q : Place) → In q qs → is_no_site q ≡ true
+NoSites qs = (q : Place) → In q qs → is_not_site q ≡ true
 
 none_no : NoSites []
 none_no q h = none_in h
@@ -49,8 +49,8 @@ none_no q h = none_in h
 both_no : (qs rs : List Place) → NoSites qs → NoSites rs → NoSites (qs ++ rs)
 both_no qs rs a b q h = ⊎_elim (a q) (b q) (in_split qs rs h)
 
-one_no : (r : Place) → is_no_site r ≡ true → NoSites (r ∷ [])
-one_no r e q h = subst (λ s. is_no_site s ≡ true) (sym (one_in r h)) e
+one_no : (r : Place) → is_not_site r ≡ true → NoSites (r ∷ [])
+one_no r e q h = subst (λ s. is_not_site s ≡ true) (sym (one_in r h)) e
 
 word_no : (w : Word) → NoSites (word_reads w)
 word_no (Lit k) = none_no
@@ -68,13 +68,13 @@ value_no (NodeVal t ws) = words_no ws
 value_no (VectorVal ws) = words_no ws
 value_no (OneVal w) = word_no w
 
-sink_no : (k : Sink) → is_elsewhere k ≡ true → NoSites (sink_reads k)
+sink_no : (k : FlowSink) → is_not_cell_sink k ≡ true → NoSites (sink_reads k)
 sink_no (to t) e = none_no
 sink_no (into_site s) e = none_no
 sink_no (into_result f) e = none_no
 sink_no (cells_at w) e = false_not_true e
 
-pub asks_elsewhere : {p : Tables} {A : Solution} {m : AtMost} {X : Sets} {q : Place} {part : Part} {u : AbstractWord} (k : Sink) → is_elsewhere k ≡ true → Asks p A m X k q part u → is_no_site q ≡ true
+pub asks_elsewhere : {p : Tables} {A : Solution} {m : WordBound} {X : Sets} {q : Place} {part : Part} {u : AbstractWord} (k : FlowSink) → is_not_cell_sink k ≡ true → Asks p A m X k q part u → is_not_site q ≡ true
 asks_elsewhere k e (of_node_variable y) = refl
 asks_elsewhere k e (of_variable y) = refl
 asks_elsewhere k e (of_vector y z) = refl
@@ -99,12 +99,12 @@ module _ (p : Tables) where
   source_no H (extended v a) e = false_not_true e
   source_no H (arguments s t ws) e = both_no (source_reads p H s) (flat_map word_reads ws) (source_no H s e) (words_no ws)
 
-  reads_no : (H : Place → List Item) (c : Inclusion) → is_plain c ≡ true → NoSites (reads p H c)
+  reads_no : (H : Place → List Item) (c : Inclusion) → touches_no_cell c ≡ true → NoSites (reads p H c)
   reads_no H (flows s k) e = both_no (source_reads p H s) (sink_reads k) (source_no H s (and_left _ _ e)) (sink_no k (and_right (reads_no_cell s) _ e))
   reads_no H (forces s) e = false_not_true e
   reads_no H (applies v a k) e = false_not_true e
 
-  demands_elsewhere : {A : Solution} {q : Place} {part : Part} {u : AbstractWord} (c : Inclusion) → is_plain c ≡ true → Demands p A c q part u → is_no_site q ≡ true
+  demands_elsewhere : {A : Solution} {q : Place} {part : Part} {u : AbstractWord} (c : Inclusion) → touches_no_cell c ≡ true → Demands p A c q part u → is_not_site q ≡ true
   demands_elsewhere (flows s k) e (by_flow x) = asks_elsewhere k (and_right (reads_no_cell s) _ e) x
   demands_elsewhere (forces s) e d = false_not_true e
   demands_elsewhere (applies v a k) e d = false_not_true e
@@ -121,7 +121,7 @@ module _ (p : Tables) where
     known_whole k (var n) j h = h
     known_whole k (result n) j h = h
 
-    no_site_same : (k : Kept) (q : Place) → is_no_site q ≡ true → W k q ≡ held k.facts q
+    no_site_same : (k : Kept) (q : Place) → is_not_site q ≡ true → W k q ≡ held k.facts q
     no_site_same k (site n) e = false_not_true e
     no_site_same k (var n) e = refl
     no_site_same k (result n) e = refl
@@ -138,7 +138,7 @@ module _ (p : Tables) where
     value_whole : (k : Kept) (v : Val) → value_items p (W k) v ≡ value_items p (held k.facts) v
     value_whole k v = same_items p (held k.facts) (W k) (value v) (agrees k (value_reads v) (value_no v))
 
-    demands_whole : (k : Kept) (c : Inclusion) → is_plain c ≡ true → demands p (W k) c ≡ demands p (held k.facts) c
+    demands_whole : (k : Kept) (c : Inclusion) → touches_no_cell c ≡ true → facts_demanded p (W k) c ≡ facts_demanded p (held k.facts) c
     demands_whole k c e = same_demands p (held k.facts) (W k) c (agrees k (reads p (held k.facts) c) (reads_no (held k.facts) c e))
 
     -- a solution has the nodes of the values that reach cells
@@ -150,7 +150,7 @@ module _ (p : Tables) where
         go None e h = none_in h
         go (Some v) e h = sound.stored B m s n v st e part u (nodes_mean p (value_items p (held k.facts) v) (ValueGives p B v) (value_means p (held k.facts) B (λ q part u i. sound.facts.by B m q part u i) v) (width (value v)) part u h)
 
-    whole_within : (k : Kept) → IsSound p cs k → (B : Solution) → Solves p cs B → Within (W k) B
+    whole_within : (k : Kept) → IsSound p cs k → (B : Solution) → Solves p cs B → ContainsAllFacts (W k) B
     whole_within k sound B m (site s) part u h = ⊎_elim
         (λ a. sound.facts.by B m (site s) part u a)
         (λ b. let r = flat_in (λ n. nodes_of p (held k.facts) (value_at vs n)) (stored_at k.stored s) b in nodes_within k sound B m s r.0 r.1 part u r.2)
@@ -162,9 +162,9 @@ module _ (p : Tables) where
     least_of_kept k sound all = least_by_rounds p cs (solution p cs k) all.by (λ B m q part u a. whole_within k sound B m q part u (at_known (W k) q part u a))
 
     -- where facts are added that every solution has, none of them at a site
-    pub facts_sound : (k k' : Kept) (fs : List Fact) → k'.stored ≡ k.stored → Grows (held k.facts) (held k'.facts) fs
+    pub facts_sound : (k k' : Kept) (fs : List Fact) → k'.stored ≡ k.stored → GrowsByFacts (held k.facts) (held k'.facts) fs
         → ((B : Solution) → Solves p cs B → (f : Fact) → In f fs → At B f.place f.item.part f.item.word)
-        → ((f : Fact) → In f fs → is_no_site f.place ≡ true) → IsSound p cs k → IsSound p cs k'
+        → ((f : Fact) → In f fs → is_not_site f.place ≡ true) → IsSound p cs k → IsSound p cs k'
     facts_sound k k' fs e g every away sound = record {
       facts = record { by = λ B m q part u h. ⊎_elim (λ a. sound.facts.by B m q part u a) (λ b. every B m (fact q (item part u)) b) (g.only q (item part u) h) };
       stored = λ B m s n v h. sound.stored B m s n v (subst (λ t. In n (stored_at t s)) e h);
@@ -172,32 +172,32 @@ module _ (p : Tables) where
       of_words = λ s n v h. sound.of_words s n v (subst (λ t. In n (stored_at t s)) e h);
     }
 
-    pub facts_grew : (k k' : Kept) (fs : List Fact) → k'.stored ≡ k.stored → Grows (held k.facts) (held k'.facts) fs → Grew k k'
+    pub facts_grew : (k k' : Kept) (fs : List Fact) → k'.stored ≡ k.stored → GrowsByFacts (held k.facts) (held k'.facts) fs → KeepsAllFacts k k'
     facts_grew k k' fs e g = record { facts = g.kept; stored = λ s n h. subst (λ t. In n (stored_at t s)) (sym e) h }
 
     -- an inclusion that has nothing to do with cells
-    pub plain_steps : (k k' : Kept) (n : ℕ) (c : Inclusion) (added : Bool) → slice_get cs n ≡ Some c → is_plain c ≡ true → k'.stored ≡ k.stored
-        → Grows (held k.facts) (held k'.facts) (demands p (held k.facts) c) → (added ≡ false → k' ≡ k) → Steps p cs k k' added
+    pub plain_steps : (k k' : Kept) (n : ℕ) (c : Inclusion) (added : Bool) → slice_get cs n ≡ Some c → touches_no_cell c ≡ true → k'.stored ≡ k.stored
+        → GrowsByFacts (held k.facts) (held k'.facts) (facts_demanded p (held k.facts) c) → (added ≡ false → k' ≡ k) → Steps p cs k k' added
     plain_steps k k' n c added at plain e g same = record {
-      sound = λ sound. facts_sound k k' (demands p (held k.facts) c) e g
+      sound = λ sound. facts_sound k k' (facts_demanded p (held k.facts) c) e g
           (λ B m f h. in_every p cs (solution_of (held k.facts)) B m (λ q part u a. sound.facts.by B m q part u (at_known (held k.facts) q part u a)) n c at f.place f.item.part f.item.word (means f h))
           (λ f h. demands_elsewhere {A = solution_of (held k.facts)} c plain (means f h))
           sound;
-      grew = facts_grew k k' (demands p (held k.facts) c) e g;
+      grew = facts_grew k k' (facts_demanded p (held k.facts) c) e g;
       same = same;
     }
       where
-        means : (f : Fact) → In f (demands p (held k.facts) c) → Demands p (solution_of (held k.facts)) c f.place f.item.part f.item.word
+        means : (f : Fact) → In f (facts_demanded p (held k.facts) c) → Demands p (solution_of (held k.facts)) c f.place f.item.part f.item.word
         means f h = demands_mean p (held k.facts) (solution_of (held k.facts)) (λ q part u a. known_at (held k.facts) q part u a) c f h
 
-    pub plain_met : (k k' : Kept) (c : Inclusion) (added : Bool) → is_plain c ≡ true → Grows (held k.facts) (held k'.facts) (demands p (held k.facts) c) → (added ≡ false → k' ≡ k) → MetAtEnd p cs k c added
+    pub plain_met : (k k' : Kept) (c : Inclusion) (added : Bool) → touches_no_cell c ≡ true → GrowsByFacts (held k.facts) (held k'.facts) (facts_demanded p (held k.facts) c) → (added ≡ false → k' ≡ k) → MetAtEnd p cs k c added
     plain_met k k' c added plain g same sound e q part u d = known_at (W k) q part u (known_whole k q (item part u)
         (subst (λ x. In (item part u) (held x.facts q)) (same e)
         (g.put (fact q (item part u)) (subst (In (fact q (item part u))) (demands_whole k c plain) (in_demands p (W k) (solution p cs k) (λ q part u a. at_known (W k) q part u a) c q part u d)))))
 
     -- a value that is put into cells
-    pub stores_steps : (k k' : Kept) (n : ℕ) (v : Val) (t : Sink) (cells : List AbstractWord) (added : Bool) → slice_get cs n ≡ Some (flows (value v) t) → is_of_words v ≡ true → k'.facts ≡ k.facts
-        → StoresAll (stored_at k.stored) (stored_at k'.stored) cells n
+    pub stores_steps : (k k' : Kept) (n : ℕ) (v : Val) (t : FlowSink) (cells : List AbstractWord) (added : Bool) → slice_get cs n ≡ Some (flows (value v) t) → has_no_node_variable v ≡ true → k'.facts ≡ k.facts
+        → PutsAtAllSites (stored_at k.stored) (stored_at k'.stored) cells n
         → (IsSound p cs k → (B : Solution) → Solves p cs B → (s : ℕ) → In (cell_of s) cells → NodesTo p B (width (value v)) (ValueGives p B v) (site s))
         → (added ≡ false → k' ≡ k) → Steps p cs k k' added
     stores_steps k k' n v t cells added at words e st goes same = record {
@@ -210,7 +210,7 @@ module _ (p : Tables) where
         no_facts = λ s. ap (λ f. held f (site s)) e ∙ sound.no_facts s;
         of_words = λ s n' v' h is. ⊎_elim
             (λ a. sound.of_words s n' v' a is)
-            (λ b. subst (λ x. is_of_words x ≡ true) (sym (its n' v' b.1 is)) words)
+            (λ b. subst (λ x. has_no_node_variable x ≡ true) (sym (its n' v' b.1 is)) words)
             (st.only s n' h);
       };
       grew = record { facts = λ q j h. subst (λ f. In j (held f q)) (sym e) h; stored = st.kept };
@@ -221,28 +221,28 @@ module _ (p : Tables) where
         its n' v' e is = some_is v' v (sym is ∙ ap (value_at vs) e ∙ value_at_of cs n (flows (value v) t) at)
 
     -- what a value asks for at a site where it is stored
-    value_there : (k : Kept) (n : ℕ) (v : Val) (t : Sink) (s : ℕ) → slice_get cs n ≡ Some (flows (value v) t) → In n (stored_at k.stored s) → (part : Part) (u : AbstractWord)
+    value_there : (k : Kept) (n : ℕ) (v : Val) (t : FlowSink) (s : ℕ) → slice_get cs n ≡ Some (flows (value v) t) → In n (stored_at k.stored s) → (part : Part) (u : AbstractWord)
         → AsNodes p (width (value v)) (ValueGives p (solution p cs k) v) part u → At (solution p cs k) (site s) part u
     value_there k n v t s at h part u a = known_at (W k) (site s) part u (in_right (held k.facts (site s)) _ (in_flat (λ i. nodes_of p (held k.facts) (value_at vs i)) (stored_at k.stored s) h
         (subst (λ o. In (item part u) (nodes_of p (held k.facts) o)) (sym (value_at_of cs n (flows (value v) t) at))
         (subst (λ X. In (item part u) (as_nodes p (width (value v)) X)) (value_whole k v)
         (in_nodes p (value_items p (W k) v) (ValueGives p (solution p cs k) v) (in_value p (W k) (solution p cs k) (λ q part u x. at_known (W k) q part u x) v) (width (value v)) part u a)))))
 
-    pub update_steps : (k k' : Kept) (n : ℕ) (v : Val) (w : Word) (added : Bool) → slice_get cs n ≡ Some (flows (value v) (cells_at w)) → is_of_words v ≡ true → k'.facts ≡ k.facts
-        → StoresAll (stored_at k.stored) (stored_at k'.stored) (elements p (held k.facts) w) n → (added ≡ false → k' ≡ k) → Steps p cs k k' added
+    pub update_steps : (k k' : Kept) (n : ℕ) (v : Val) (w : Word) (added : Bool) → slice_get cs n ≡ Some (flows (value v) (cells_at w)) → has_no_node_variable v ≡ true → k'.facts ≡ k.facts
+        → PutsAtAllSites (stored_at k.stored) (stored_at k'.stored) (elements p (held k.facts) w) n → (added ≡ false → k' ≡ k) → Steps p cs k k' added
     update_steps k k' n v w added at words e st same = stores_steps k k' n v (cells_at w) (elements p (held k.facts) w) added at words e st
         (λ sound B m s h part u a. in_every p cs B B m (λ q part u x. x) n (flows (value v) (cells_at w)) at (site s) part u
         (by_flow (of_cells (elements_mean p (held k.facts) B (λ q part u i. sound.facts.by B m q part u i) w (cell_of s) h) a)))
         same
 
     pub update_met : (k k' : Kept) (n : ℕ) (v : Val) (w : Word) (added : Bool) → slice_get cs n ≡ Some (flows (value v) (cells_at w))
-        → StoresAll (stored_at k.stored) (stored_at k'.stored) (elements p (held k.facts) w) n → (added ≡ false → k' ≡ k) → MetAtEnd p cs k (flows (value v) (cells_at w)) added
+        → PutsAtAllSites (stored_at k.stored) (stored_at k'.stored) (elements p (held k.facts) w) n → (added ≡ false → k' ≡ k) → MetAtEnd p cs k (flows (value v) (cells_at w)) added
     update_met k k' n v w added at st same sound e q part u (by_flow (of_cells {s = s} x a)) = value_there k n v (cells_at w) s at
         (subst (λ y. In n (stored_at y.stored s)) (same e) (st.put s (subst (In (cell_of s)) (elements_whole k w) (in_elements p (W k) (solution p cs k) (λ q part u x. at_known (W k) q part u x) w (cell_of s) x))))
         part u a
 
-    pub store_steps : (k k' : Kept) (n : ℕ) (v : Val) (s : ℕ) (added : Bool) → slice_get cs n ≡ Some (flows (value v) (into_site s)) → is_of_words v ≡ true → k'.facts ≡ k.facts
-        → StoresAll (stored_at k.stored) (stored_at k'.stored) (cell_of s ∷ []) n → (added ≡ false → k' ≡ k) → Steps p cs k k' added
+    pub store_steps : (k k' : Kept) (n : ℕ) (v : Val) (s : ℕ) (added : Bool) → slice_get cs n ≡ Some (flows (value v) (into_site s)) → has_no_node_variable v ≡ true → k'.facts ≡ k.facts
+        → PutsAtAllSites (stored_at k.stored) (stored_at k'.stored) (cell_of s ∷ []) n → (added ≡ false → k' ≡ k) → Steps p cs k k' added
     store_steps k k' n v s added at words e st same = stores_steps k k' n v (into_site s) (cell_of s ∷ []) added at words e st
         (λ sound B m r h part u a. subst (λ x. At B (site x) part u) (sym (one_cell r s (one_in (cell_of s) h))) (in_every p cs B B m (λ q part u x. x) n (flows (value v) (into_site s)) at (site s) part u (by_flow (of_site a))))
         same
@@ -251,5 +251,5 @@ module _ (p : Tables) where
         one_cell r s e = cc
 
     pub store_met : (k k' : Kept) (n : ℕ) (v : Val) (s : ℕ) (added : Bool) → slice_get cs n ≡ Some (flows (value v) (into_site s))
-        → StoresAll (stored_at k.stored) (stored_at k'.stored) (cell_of s ∷ []) n → (added ≡ false → k' ≡ k) → MetAtEnd p cs k (flows (value v) (into_site s)) added
+        → PutsAtAllSites (stored_at k.stored) (stored_at k'.stored) (cell_of s ∷ []) n → (added ≡ false → k' ≡ k) → MetAtEnd p cs k (flows (value v) (into_site s)) added
     store_met k k' n v s added at st same sound e q part u (by_flow (of_site a)) = value_there k n v (into_site s) s at (subst (λ y. In n (stored_at y.stored s)) (same e) (st.put s here)) part u a

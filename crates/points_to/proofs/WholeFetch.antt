@@ -12,7 +12,7 @@ use Rattle.flow_system.specs.declared.fact.Place.{Place}
 use Rattle.flow_system.specs.declared.fact.Place.TheVariants.{Site as site, Var as var}
 use Rattle.flow_system.specs.declared.fact.Part.{Part}
 use Rattle.flow_system.specs.declared.fact.Part.TheVariants.{Tags as tags, Field as field, Word as word}
-use Rattle.flow_system.specs.Inclusions.{word_at, Sink, to, into_site, into_result, cells_at, Inclusion, flows}
+use Rattle.flow_system.specs.Inclusions.{word_at, FlowSink, to, into_site, into_result, cells_at, Inclusion, flows}
 use Rattle.flow_system.specs.Tables.{Tables}
 use Rattle.flow_system.specs.Solution.{Solution, At, one_word, StandsFor, FetchGives, its_tag, its_field, its_zero, Gives, Solves}
 use Rattle.flow_system.specs.Demands.{by_flow, Content}
@@ -21,14 +21,14 @@ use Rattle.points_to.specs.declared.facts.Item.{Item}
 use Rattle.points_to.specs.declared.facts.Fact.{Fact}
 use Rattle.points_to.specs.declared.kept.Kept.{Kept}
 use Rattle.points_to.specs.declared.vectors.Met.{Met}
-use Rattle.points_to.specs.declared.vectors.Noted.{Noted}
-use Rattle.points_to.specs.Held.{In, item, in_part, picked, elements, fetched}
+use Rattle.points_to.specs.declared.vectors.RoundCaches.{RoundCaches}
+use Rattle.points_to.specs.Held.{In, item, in_part, words_in_part, elements, fetched}
 use Rattle.points_to.specs.Asked.{fact, asked}
-use Rattle.points_to.specs.Known.{held, solution_of, Grows}
+use Rattle.points_to.specs.Known.{held, solution_of, GrowsByFacts}
 use Rattle.points_to.specs.Rows.{SameMembers}
 use Rattle.points_to.specs.Stored.{stored_at, cell_stored, values_in, value_at, value_nodes, nodes_of, whole}
 use Rattle.points_to.specs.ValueWords.{stored_words, words_of_values}
-use Rattle.points_to.specs.Kept.{is_elsewhere, met_by, MetSound, MetExact, NotedExact, Grew, IsSound, solution, Steps, MetAtEnd, AllMet}
+use Rattle.points_to.specs.Kept.{is_not_cell_sink, met_by, MetSound, MetExact, NotedExact, KeepsAllFacts, IsSound, solution, Steps, MetAtEnd, AllMet}
 use Rattle.points_to.proofs.GivenItems.{by_item, picked_in, in_picked, Fetched, the_tag, a_field, a_zero, fetched_means, in_fetched, elements_mean, in_elements}
 use Rattle.points_to.proofs.Exact.{asked_means, in_asked}
 use Rattle.points_to.proofs.Solved.{known_at, at_known}
@@ -117,15 +117,15 @@ module _ (p : Tables) (cs : List Inclusion) where
   words_alike : (H : Place → List Item) (i : ℕ) (ns ms : List ℕ) → ((n : ℕ) → In n ms → In n ns) → (u : AbstractWord) → In u (words_of_values p vs H i ms) → In u (words_of_values p vs H i ns)
   words_alike H i ns ms back u h = let r = flat_in (λ n. stored_words p H i (value_at vs n)) ms h in in_flat (λ n. stored_words p H i (value_at vs n)) ns (back r.0 r.1) r.2
 
-  asked_same : (H H' : Place → List Item) (m : Option ℕ) (X : List Item) (t : Sink) → is_elsewhere t ≡ true → asked p H m X t ≡ asked p H' m X t
+  asked_same : (H H' : Place → List Item) (m : Option ℕ) (X : List Item) (t : FlowSink) → is_not_cell_sink t ≡ true → asked p H m X t ≡ asked p H' m X t
   asked_same H H' m X (to t) e = refl
   asked_same H H' m X (into_site s) e = refl
   asked_same H H' m X (into_result f) e = refl
   asked_same H H' m X (cells_at w) e = false_not_true e
 
-  pub fetch_steps : (k k' : Kept) (n : ℕ) (w : Word) (i : ℕ) (t : Sink) (ns : List ℕ) (X : List Item) (added : Bool) → slice_get cs n ≡ Some (flows (word_at w i) t) → is_elsewhere t ≡ true
+  pub fetch_steps : (k k' : Kept) (n : ℕ) (w : Word) (i : ℕ) (t : FlowSink) (ns : List ℕ) (X : List Item) (added : Bool) → slice_get cs n ≡ Some (flows (word_at w i) t) → is_not_cell_sink t ≡ true
       → ((n : ℕ) → In n ns → In n (met_by p k w)) → SameMembers X (in_part (word 0) (words_of_values p vs (held k.facts) i ns)) → k'.stored ≡ k.stored
-      → Grows (held k.facts) (held k'.facts) (asked p (held k.facts) (Some 1) X t) → (added ≡ false → k' ≡ k) → Steps p cs k k' added
+      → GrowsByFacts (held k.facts) (held k'.facts) (asked p (held k.facts) (Some 1) X t) → (added ≡ false → k' ≡ k) → Steps p cs k k' added
   fetch_steps k k' n w i t ns X added at away met x e g same = record {
     sound = λ sound. facts_sound p cs k k' (asked p (held k.facts) (Some 1) X t) e g
         (λ B m f h. in_every p cs B B m (λ q part u a. a) n (flows (word_at w i) t) at f.place f.item.part f.item.word
@@ -141,9 +141,9 @@ module _ (p : Tables) (cs : List Inclusion) where
           let r = map_in (item (word 0)) (words_of_values p vs (held k.facts) i ns) (x.into (item q u) h) in
           by_item (Gives p B (word_at w i)) r.2 (one_word (words_give k sound B m w i ns met r.0 r.1))
 
-  pub fetch_met : (k k' : Kept) (w : Word) (i : ℕ) (t : Sink) (ns : List ℕ) (X : List Item) (added : Bool) → is_elsewhere t ≡ true
+  pub fetch_met : (k k' : Kept) (w : Word) (i : ℕ) (t : FlowSink) (ns : List ℕ) (X : List Item) (added : Bool) → is_not_cell_sink t ≡ true
       → SameMembers ns (met_by p k w) → SameMembers X (in_part (word 0) (words_of_values p vs (held k.facts) i ns))
-      → Grows (held k.facts) (held k'.facts) (asked p (held k.facts) (Some 1) X t) → (added ≡ false → k' ≡ k) → MetAtEnd p cs k (flows (word_at w i) t) added
+      → GrowsByFacts (held k.facts) (held k'.facts) (asked p (held k.facts) (Some 1) X t) → (added ≡ false → k' ≡ k) → MetAtEnd p cs k (flows (word_at w i) t) added
   fetch_met k k' w i t ns X added away exact x g same sound e q part u (by_flow d) = known_at (W k) q part u (known_whole p cs k q (item part u)
       (subst (λ y. In (item part u) (held y.facts q)) (same e)
       (g.put (fact q (item part u)) (subst (In (fact q (item part u))) (asked_same (W k) (held k.facts) (Some 1) X t away)
@@ -154,16 +154,16 @@ module _ (p : Tables) (cs : List Inclusion) where
           (words_alike (held k.facts) i ns (met_by p k w) exact.back u (gives_words k sound w i u y)))
 
   -- words that are known at the variable are all that is asked
-  pub known_at_variable : (H : Place → List Item) (x : VarId) (us : List AbstractWord) → ((u : AbstractWord) → In u us → In u (picked (word 0) (H (var x.0)))) → (f : Fact)
+  pub known_at_variable : (H : Place → List Item) (x : VarId) (us : List AbstractWord) → ((u : AbstractWord) → In u us → In u (words_in_part (word 0) (H (var x.0)))) → (f : Fact)
       → In f (asked p H (Some 1) (in_part (word 0) us) (to (OneTarget x))) → In f.item (H f.place)
   known_at_variable H x us known f h =
-      let a = map_in (fact (var x.0)) (in_part (word 0) (picked (word 0) (in_part (word 0) us))) h in
-      let b = map_in (item (word 0)) (picked (word 0) (in_part (word 0) us)) a.1 in
+      let a = map_in (fact (var x.0)) (in_part (word 0) (words_in_part (word 0) (in_part (word 0) us))) h in
+      let b = map_in (item (word 0)) (words_in_part (word 0) (in_part (word 0) us)) a.1 in
       let c = map_in (item (word 0)) us (picked_in (word 0) (in_part (word 0) us) b.1) in
       subst (λ g. In g.item (H g.place)) (sym a.2) (subst (λ j. In j (H (var x.0))) (sym (b.2 ∙ c.2)) (picked_in (word 0) (H (var x.0)) (known c.0 c.1)))
 
   -- where all that is asked is known, the fetch is met
-  pub known_met : (k : Kept) (w : Word) (i : ℕ) (t : Sink) (ns : List ℕ) → is_elsewhere t ≡ true
+  pub known_met : (k : Kept) (w : Word) (i : ℕ) (t : FlowSink) (ns : List ℕ) → is_not_cell_sink t ≡ true
       → ((f : Fact) → In f (asked p (held k.facts) (Some 1) (in_part (word 0) (words_of_values p vs (held k.facts) i ns)) t) → In f.item (held k.facts f.place))
       → SameMembers ns (met_by p k w) → MetAtEnd p cs k (flows (word_at w i) t) false
   known_met k w i t ns away known exact =
@@ -183,23 +183,23 @@ module _ (p : Tables) (cs : List Inclusion) where
     same = λ e. y.same (neither_right a b e) ∙ x.same (neither_left a b e);
   }
 
-  elements_grew : (k k' : Kept) → Grew k k' → (w : Word) (u : AbstractWord) → In u (elements p (held k.facts) w) → In u (elements p (held k'.facts) w)
+  elements_grew : (k k' : Kept) → KeepsAllFacts k k' → (w : Word) (u : AbstractWord) → In u (elements p (held k.facts) w) → In u (elements p (held k'.facts) w)
   elements_grew k k' g (Lit i) u h = h
   elements_grew k k' g (Var x) u h = in_picked (word 0) (held k'.facts (var x.0)) (g.facts (var x.0) (item (word 0) u) (picked_in (word 0) (held k.facts (var x.0)) h))
   elements_grew k k' g (Global i) u h = h
   elements_grew k k' g (TagWord t) u h = h
 
-  stored_grew : (k k' : Kept) → Grew k k' → (x : AbstractWord) (n : ℕ) → In n (cell_stored k.stored x) → In n (cell_stored k'.stored x)
+  stored_grew : (k k' : Kept) → KeepsAllFacts k k' → (x : AbstractWord) (n : ℕ) → In n (cell_stored k.stored x) → In n (cell_stored k'.stored x)
   stored_grew k k' g (cell_of s) n h = g.stored s n h
   stored_grew k k' g (tag t) n h = h
   stored_grew k k' g num n h = h
 
-  pub met_grew : (k k' : Kept) → Grew k k' → (w : Word) (n : ℕ) → In n (met_by p k w) → In n (met_by p k' w)
+  pub met_grew : (k k' : Kept) → KeepsAllFacts k k' → (w : Word) (n : ℕ) → In n (met_by p k w) → In n (met_by p k' w)
   met_grew k k' g w n h =
       let r = flat_in (cell_stored k.stored) (elements p (held k.facts) w) h in
       in_flat (cell_stored k'.stored) (elements p (held k'.facts) w) (elements_grew k k' g w r.0 r.1) (stored_grew k k' g r.0 n r.2)
 
-  pub met_sound : (k k' : Kept) (m : Met) → MetExact p k m → Grew k k' → MetSound p k' m
+  pub met_sound : (k k' : Kept) (m : Met) → MetExact p k m → KeepsAllFacts k k' → MetSound p k' m
   met_sound k k' m exact g w b n e h = met_grew k k' g w n ((exact w b e).into n h)
 
   -- a round, so far
@@ -210,7 +210,7 @@ module _ (p : Tables) (cs : List Inclusion) where
   pub round_begins : (k : Kept) → RoundSoFar k k false 0
   round_begins k = record { steps = steps_none k; met = λ s e i c lt q. absurd (omega arith) }
 
-  pub round_on : (k k' k'' : Kept) (m : Noted) (a b both : Bool) (i : ℕ) (c : Inclusion) → slice_get cs i ≡ Some c → both ≡ (a || b) → NotedExact p cs k m → RoundSoFar k k' a i
+  pub round_on : (k k' k'' : Kept) (m : RoundCaches) (a b both : Bool) (i : ℕ) (c : Inclusion) → slice_get cs i ≡ Some c → both ≡ (a || b) → NotedExact p cs k m → RoundSoFar k k' a i
       → Steps p cs k' k'' b → (NotedExact p cs k' m → MetAtEnd p cs k' c b) → RoundSoFar k k'' both (i + 1)
   round_on k k' k'' m a b both i c at e exact x steps met = subst (λ t. RoundSoFar k k'' t (i + 1)) (sym e) (record {
     steps = steps_more k k' k'' a b x.steps steps;

@@ -7,25 +7,25 @@ use Rattle.flow_system.specs.declared.fact.Element.TheVariants.{Cell as cell_of,
 use Rattle.flow_system.specs.declared.fact.Place.{Place}
 use Rattle.flow_system.specs.declared.fact.Place.TheVariants.{Result as result}
 use Rattle.flow_system.specs.declared.fact.Part.TheVariants.{Tags as tags}
-use Rattle.flow_system.specs.Inclusions.{held, Sink}
+use Rattle.flow_system.specs.Inclusions.{held, FlowSink}
 use Rattle.flow_system.specs.Tables.{Tables, params_of}
 use Rattle.points_to.specs.declared.facts.Item.{Item}
 use Rattle.points_to.specs.declared.facts.Fact.{Fact}
-use Rattle.points_to.specs.Held.{picked, arguments_of, called}
+use Rattle.points_to.specs.Held.{words_in_part, arguments_of, called}
 use Rattle.points_to.specs.Asked.{target_facts, flow_facts}
 
 module _ (p : Tables) (H : Place → List Item) (X : List Item) where
   -- the fields of a tag among the nodes, followed by words
   abbrev pub call_arguments : ℕ → List Word → List Item
-  call_arguments t ws = flat_map (arguments_of p H t ws X) (picked tags X)
+  call_arguments t ws = flat_map (arguments_of p H t ws X) (words_in_part tags X)
 
-  abbrev pub call_facts : Word → Sink → ℕ → Option ℕ → List Fact
+  abbrev pub call_facts : Word → FlowSink → ℕ → Option ℕ → List Fact
   call_facts a k t None = []
   call_facts a k t (Some f) =
       target_facts p (Some 1) (call_arguments t (a ∷ [])) (params_of p f)
       ++ flow_facts p H (held (result f)) k
 
-  abbrev pub tag_applied : Word → Sink → AbstractWord → List Fact
+  abbrev pub tag_applied : Word → FlowSink → AbstractWord → List Fact
   tag_applied a k (cell_of s) = []
   tag_applied a k (tag t) = call_facts a k t (called p t)
   tag_applied a k num = []

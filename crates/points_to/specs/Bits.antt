@@ -14,12 +14,12 @@ abbrev pub block_numbers : ℕ × ℕ → List ℕ
 block_numbers b = numbers 64 (b.0 * 64) b.1
 
 -- the number of the block at a place
-abbrev pub number_at : List (ℕ × ℕ) → ℕ → ℕ
-number_at bs i = (get_or bs i (0, 0)).0
+abbrev pub block_number_at : List (ℕ × ℕ) → ℕ → ℕ
+block_number_at bs i = (get_or bs i (0, 0)).0
 
 -- blocks stand in the order of their numbers, and no two have the same number
 abbrev pub Ascending : List (ℕ × ℕ) → Type 0
-Ascending bs = (i j : ℕ) → i < j → j < length bs → number_at bs i < number_at bs j
+Ascending bs = (i j : ℕ) → i < j → j < length bs → block_number_at bs i < block_number_at bs j
 
 -- the bits of the block with this number, and 0 where there is none
 pub record BitsAt (bs : List (ℕ × ℕ)) (q w : ℕ) : Type 0 where
@@ -30,19 +30,19 @@ pub record BitsAt (bs : List (ℕ × ℕ)) (q w : ℕ) : Type 0 where
 pub record IsPlace (bs : List (ℕ × ℕ)) (q low high : ℕ) : Type 0 where
   pub inside : low ≤ high
   pub bound : high ≤ length bs
-  pub before : (i : ℕ) → i < low → number_at bs i < q
-  pub after : (i : ℕ) → high ≤ i → i < length bs → q ≤ number_at bs i
+  pub before : (i : ℕ) → i < low → block_number_at bs i < q
+  pub after : (i : ℕ) → high ≤ i → i < length bs → q ≤ block_number_at bs i
 
 -- the block with the number stands at this place
 pub record StandsAt (bs : List (ℕ × ℕ)) (q k : ℕ) : Type 0 where
   pub within : k < length bs
-  pub number : number_at bs k ≡ q
+  pub number : block_number_at bs k ≡ q
 
 -- no block has the number, and one that has it would go to this place
 pub record GoesTo (bs : List (ℕ × ℕ)) (q k : ℕ) : Type 0 where
   pub bound : k ≤ length bs
-  pub before : (i : ℕ) → i < k → number_at bs i < q
-  pub after : (i : ℕ) → k ≤ i → i < length bs → q < number_at bs i
+  pub before : (i : ℕ) → i < k → block_number_at bs i < q
+  pub after : (i : ℕ) → k ≤ i → i < length bs → q < block_number_at bs i
 
 abbrev pub Finds : List (ℕ × ℕ) → ℕ → Result ℕ ℕ → Type 0
 Finds bs q r = MatchResult r (StandsAt bs q) (GoesTo bs q)

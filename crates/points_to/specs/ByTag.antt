@@ -7,7 +7,7 @@ use Rattle.flow_system.specs.declared.fact.Part.{Part}
 use Rattle.flow_system.specs.declared.fact.Part.TheVariants.{Tags as tags, Field as field, Word as word}
 use Rattle.points_to.specs.declared.facts.Item.{Item}
 use Rattle.points_to.specs.declared.by_tag.ByTag.{ByTag}
-use Rattle.points_to.specs.Held.{picked}
+use Rattle.points_to.specs.Held.{words_in_part}
 
 -- an item, where it is in a field of the tag t
 abbrev pub field_item : ℕ → Part → Item → List Item
@@ -27,5 +27,5 @@ items_of m t = list_of (get nat_cmp m t)
 
 -- the tags and the fields are those of the nodes
 pub record IsByTag (g : ByTag) : Type 0 where
-  pub tags_are : g.tags ≡ picked tags g.nodes
+  pub tags_are : g.tags ≡ words_in_part tags g.nodes
   pub fields_are : (t : ℕ) → items_of g.fields t ≡ field_items t g.nodes

@@ -31,11 +31,11 @@ same_part (word j) (word j') = nat_eq j j'
 same_part _ _ = false
 
 -- the words in one part
-abbrev pub picked_one : Part → Item → List AbstractWord
-picked_one q i = cond (same_part q i.part) (i.word ∷ []) []
+abbrev pub word_if_in_part : Part → Item → List AbstractWord
+word_if_in_part q i = cond (same_part q i.part) (i.word ∷ []) []
 
-abbrev pub picked : Part → List Item → List AbstractWord
-picked q = flat_map (picked_one q)
+abbrev pub words_in_part : Part → List Item → List AbstractWord
+words_in_part q = flat_map (word_if_in_part q)
 
 abbrev pub in_part : Part → List AbstractWord → List Item
 in_part q = map (item q)
@@ -46,9 +46,9 @@ cell_at None = []
 cell_at (Some c) = cell_of c.site.0 ∷ []
 
 -- whether k words, or any number, are enough for a tag and m fields
-abbrev pub enough : Option ℕ → ℕ → Bool
-enough None m = true
-enough (Some k) m = nat_lt m k
+abbrev pub words_hold_tag : Option ℕ → ℕ → Bool
+words_hold_tag None m = true
+words_hold_tag (Some k) m = nat_lt m k
 
 -- an item of a node
 abbrev pub node_part : Part → Item → List Item
@@ -88,14 +88,14 @@ abbrev pub if_tag : Option Tag → (Tag → Option ℕ) → Option ℕ
 if_tag None k = None
 if_tag (Some i) k = k i
 
-abbrev pub when_one : ℕ → ℕ → Option ℕ
-when_one f zero = None
-when_one f (suc zero) = Some f
-when_one f (suc (suc r)) = None
+abbrev pub if_one_missing : ℕ → ℕ → Option ℕ
+if_one_missing f zero = None
+if_one_missing f (suc zero) = Some f
+if_one_missing f (suc (suc r)) = None
 
 -- field i of the nodes of a tag with m fields, or a number past them
 abbrev pub field_or_zero_of : ℕ → ℕ → List Item → ℕ → List AbstractWord
-field_or_zero_of i t X m = cond (nat_lt i m) (picked (field t i) X) (num ∷ [])
+field_or_zero_of i t X m = cond (nat_lt i m) (words_in_part (field t i) X) (num ∷ [])
 
 -- what is at a cell
 abbrev pub cell_items : (Place → List Item) → AbstractWord → List Item
@@ -121,7 +121,7 @@ module _ (p : Tables) where
   -- the procedure that a tag calls with one argument more, and the tag that it becomes with one
   abbrev pub called : ℕ → Option ℕ
   called t = if_tag (slice_get p.tags t) (λ i.
-      cond (is_part_kind i.kind) (if_procedure i.proc (λ f. when_one f i.missing)) None)
+      cond (is_part_kind i.kind) (if_procedure i.proc (λ f. if_one_missing f i.missing)) None)
 
   abbrev pub longer : ℕ → Option ℕ
   longer t = if_tag (slice_get p.tags t) (λ i.
@@ -138,12 +138,12 @@ module _ (p : Tables) where
   field_of_tag i X num = []
 
   abbrev pub fetched : ℕ → List Item → List AbstractWord
-  fetched zero X = picked tags X
-  fetched (suc i) X = flat_map (field_of_tag i X) (picked tags X)
+  fetched zero X = words_in_part tags X
+  fetched (suc i) X = flat_map (field_of_tag i X) (words_in_part tags X)
 
   -- word j of the items
   abbrev pub as_word : ℕ → List Item → List AbstractWord
-  as_word j X = picked (word j) X ++ fetched j X
+  as_word j X = words_in_part (word j) X ++ fetched j X
 
   -- the items as nodes
   abbrev pub made_node : ℕ → ℕ → List Item → List Item
@@ -151,7 +151,7 @@ module _ (p : Tables) where
 
   abbrev pub node_of_words : Option ℕ → List Item → ℕ → Option ℕ → List Item
   node_of_words k X t None = []
-  node_of_words k X t (Some m) = cond (enough k m) (made_node t m X) []
+  node_of_words k X t (Some m) = cond (words_hold_tag k m) (made_node t m X) []
 
   abbrev pub node_of_word : Option ℕ → List Item → AbstractWord → List Item
   node_of_word k X (cell_of s) = []
@@ -160,7 +160,7 @@ module _ (p : Tables) where
 
   abbrev pub as_nodes : Option ℕ → List Item → List Item
   as_nodes k X =
-      flat_map (λ i. node_part i.part i) X ++ flat_map (node_of_word k X) (picked (word 0) X)
+      flat_map (λ i. node_part i.part i) X ++ flat_map (node_of_word k X) (words_in_part (word 0) X)
 
   -- the evaluated ones
   abbrev pub done_tag : AbstractWord → List Item
@@ -180,7 +180,7 @@ module _ (p : Tables) where
     -- what a word stands for
     abbrev pub elements : W.Word → List AbstractWord
     elements (Lit k) = num ∷ []
-    elements (Var x) = picked (word 0) (H (var x.0))
+    elements (Var x) = words_in_part (word 0) (H (var x.0))
     elements (Global i) = cell_at (slice_get p.globals i)
     elements (TagWord t) = tag t.0 ∷ []
 
@@ -238,7 +238,7 @@ module _ (p : Tables) where
     items (evaluated s) = done_items (as_nodes (width s) (items s))
     items (extended v a) =
         flat_map (longer_tag a (as_nodes (width (value v)) (value_items v)))
-        (picked tags (as_nodes (width (value v)) (value_items v)))
+        (words_in_part tags (as_nodes (width (value v)) (value_items v)))
     items (arguments s t ws) =
         flat_map (arguments_of t ws (as_nodes (width s) (items s)))
-        (picked tags (as_nodes (width s) (items s)))
+        (words_in_part tags (as_nodes (width s) (items s)))

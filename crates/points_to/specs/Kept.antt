@@ -8,7 +8,7 @@ use Rattle.grin_syntax.specs.declared.program.Val.TheVariants.{NodeVar, Node as 
 use Rattle.flow_system.specs.declared.fact.Element.TheVariants.{Cell as cell_of}
 use Rattle.flow_system.specs.declared.fact.Place.{Place}
 use Rattle.flow_system.specs.declared.fact.Place.TheVariants.{Site as site, Var as var, Result as result}
-use Rattle.flow_system.specs.Inclusions.{Source, value, a_cell, a_number, held as held', nodes_at, word_at, evaluated, extended, arguments, Sink, to, into_site, into_result, cells_at, Inclusion, flows, forces, applies}
+use Rattle.flow_system.specs.Inclusions.{Source, value, a_cell, a_number, held as held', nodes_at, word_at, evaluated, extended, arguments, FlowSink, to, into_site, into_result, cells_at, Inclusion, flows, forces, applies}
 use Rattle.flow_system.specs.Tables.{Tables}
 use Rattle.flow_system.specs.Solution.{Solution, Solves, width, ValueGives, NodesTo}
 use Rattle.flow_system.specs.Demands.{Content}
@@ -16,9 +16,9 @@ use Rattle.points_to.specs.declared.bits.Bits.{Bits}
 use Rattle.points_to.specs.declared.facts.Item.{Item}
 use Rattle.points_to.specs.declared.kept.Kept.{Kept}
 use Rattle.points_to.specs.declared.vectors.Met.{Met}
-use Rattle.points_to.specs.declared.vectors.WordsOf.{WordsOf}
-use Rattle.points_to.specs.declared.vectors.NotedWords.{NotedWords}
-use Rattle.points_to.specs.declared.vectors.Noted.{Noted}
+use Rattle.points_to.specs.declared.vectors.CachedWords.{CachedWords}
+use Rattle.points_to.specs.declared.vectors.WordCache.{WordCache}
+use Rattle.points_to.specs.declared.vectors.RoundCaches.{RoundCaches}
 use Rattle.points_to.specs.Held.{In, elements}
 use Rattle.points_to.specs.Known.{held, solution_of}
 use Rattle.points_to.specs.Rounds.{InEvery}
@@ -27,46 +27,46 @@ use Rattle.points_to.specs.Stored.{stored_at, cell_stored, values_in, value_at, 
 use Rattle.points_to.specs.ValueWords.{words_of_values}
 
 -- whether a sink is no cell
-abbrev pub is_elsewhere : Sink → Bool
-is_elsewhere (to t) = true
-is_elsewhere (into_result f) = true
-is_elsewhere (into_site s) = false
-is_elsewhere (cells_at w) = false
+abbrev pub is_not_cell_sink : FlowSink → Bool
+is_not_cell_sink (to t) = true
+is_not_cell_sink (into_result f) = true
+is_not_cell_sink (into_site s) = false
+is_not_cell_sink (cells_at w) = false
 
 -- whether a value has no node variable
-abbrev pub is_of_words : Val → Bool
-is_of_words (NodeVar x) = false
-is_of_words (NodeVal t ws) = true
-is_of_words (VectorVal ws) = true
-is_of_words (OneVal w) = true
+abbrev pub has_no_node_variable : Val → Bool
+has_no_node_variable (NodeVar x) = false
+has_no_node_variable (NodeVal t ws) = true
+has_no_node_variable (VectorVal ws) = true
+has_no_node_variable (OneVal w) = true
 
 -- whether a source reads no cells
-abbrev pub is_no_site : Place → Bool
-is_no_site (site s) = false
-is_no_site (var x) = true
-is_no_site (result f) = true
+abbrev pub is_not_site : Place → Bool
+is_not_site (site s) = false
+is_not_site (var x) = true
+is_not_site (result f) = true
 
 abbrev pub reads_no_cell : Source → Bool
 reads_no_cell (value v) = true
 reads_no_cell (a_cell s) = true
 reads_no_cell a_number = true
-reads_no_cell (held' q) = is_no_site q
+reads_no_cell (held' q) = is_not_site q
 reads_no_cell (nodes_at w) = false
 reads_no_cell (word_at w i) = false
 reads_no_cell (evaluated s) = false
 reads_no_cell (extended v a) = false
 reads_no_cell (arguments s t ws) = reads_no_cell s
 
-abbrev pub is_plain : Inclusion → Bool
-is_plain (flows s k) = reads_no_cell s && is_elsewhere k
-is_plain (forces s) = false
-is_plain (applies v a k) = false
+abbrev pub touches_no_cell : Inclusion → Bool
+touches_no_cell (flows s k) = reads_no_cell s && is_not_cell_sink k
+touches_no_cell (forces s) = false
+touches_no_cell (applies v a k) = false
 
 -- whether an inclusion reads cells by words, if at all, and puts values of words alone into cells
-abbrev pub flow_by_words : Source → Sink → Bool
-flow_by_words (value v) k = is_elsewhere k || is_of_words v
-flow_by_words (word_at w i) k = is_elsewhere k
-flow_by_words s k = reads_no_cell s && is_elsewhere k
+abbrev pub flow_by_words : Source → FlowSink → Bool
+flow_by_words (value v) k = is_not_cell_sink k || has_no_node_variable v
+flow_by_words (word_at w i) k = is_not_cell_sink k
+flow_by_words s k = reads_no_cell s && is_not_cell_sink k
 
 abbrev pub is_by_words : Inclusion → Bool
 is_by_words (flows s k) = flow_by_words s k
@@ -81,24 +81,24 @@ abbrev pub noted : Option (Option Bits) → Option Bits
 noted None = None
 noted (Some b) = b
 
-abbrev pub noted_of : Met → Word → Option Bits
-noted_of m (Lit k) = None
-noted_of m (Var x) = noted (slice_get m.by_var.items x.0)
-noted_of m (Global i) = None
-noted_of m (TagWord t) = None
+abbrev pub cached_values_of : Met → Word → Option Bits
+cached_values_of m (Lit k) = None
+cached_values_of m (Var x) = noted (slice_get m.by_var.items x.0)
+cached_values_of m (Global i) = None
+cached_values_of m (TagWord t) = None
 
 -- the values in the cells of a word
 abbrev pub met_by : Tables → Kept → Word → List ℕ
 met_by p k w = flat_map (cell_stored k.stored) (elements p (held k.facts) w)
 
 -- what is known grew
-pub record Grew (k k' : Kept) : Type 0 where
+pub record KeepsAllFacts (k k' : Kept) : Type 0 where
   pub facts : (q : Place) (j : Item) → In j (held k.facts q) → In j (held k'.facts q)
   pub stored : (s n : ℕ) → In n (stored_at k.stored s) → In n (stored_at k'.stored s)
 
 module _ (p : Tables) (H : Place → List Item) where
   -- the sink has a site's cells
-  abbrev pub HasSite : ℕ → Sink → Type 0
+  abbrev pub HasSite : ℕ → FlowSink → Type 0
   HasSite s (to t) = ⊥
   HasSite s (into_site r) = r ≡ s
   HasSite s (into_result f) = ⊥
@@ -107,19 +107,19 @@ module _ (p : Tables) (H : Place → List Item) where
   -- an inclusion puts a value of words into a site's cells
   pub record PutsAt (c : Inclusion) (s : ℕ) : Type 0 where
     pub v : Val
-    pub sink : Sink
+    pub sink : FlowSink
     pub is : c ≡ flows (value v) sink
-    pub of_words : is_of_words v ≡ true
+    pub of_words : has_no_node_variable v ≡ true
     pub there : HasSite s sink
 
 module _ (p : Tables) where
   -- the noted values are in the cells of their variables, or are all that are
   abbrev pub MetSound : Kept → Met → Type 0
-  MetSound k m = (w : Word) (b : Bits) (n : ℕ) → noted_of m w ≡ Some b
+  MetSound k m = (w : Word) (b : Bits) (n : ℕ) → cached_values_of m w ≡ Some b
       → In n (numbers_in b) → In n (met_by p k w)
 
   abbrev pub MetExact : Kept → Met → Type 0
-  MetExact k m = (w : Word) (b : Bits) → noted_of m w ≡ Some b
+  MetExact k m = (w : Word) (b : Bits) → cached_values_of m w ≡ Some b
       → SameMembers (numbers_in b) (met_by p k w)
 
   module _ (cs : List Inclusion) where
@@ -132,18 +132,20 @@ module _ (p : Tables) where
       abbrev pub AreKnown : ℕ → List ℕ → Option Bits → Type 0
       AreKnown i ns o = IfSome o (AreWords i ns)
 
-      abbrev pub WordsExact : NotedWords → Type 0
-      WordsExact m = (e : WordsOf) → In e m.entries.items → AreWords e.i (numbers_in e.numbers) e.words
+      abbrev pub WordsExact : WordCache → Type 0
+      WordsExact m =
+          (e : CachedWords) → In e m.entries.items → AreWords e.i (numbers_in e.numbers) e.words
 
     -- what was noted before a round is just what was known then
-    pub record NotedExact (k : Kept) (m : Noted) : Type 0 where
+    pub record NotedExact (k : Kept) (m : RoundCaches) : Type 0 where
       pub met : MetExact k m.met
       pub words : WordsExact (held k.facts) m.words
 
     -- in a solution the nodes of the values are at their sites
     abbrev pub HasStored : Solution → Kept → Type 0
     HasStored B k = (s n : ℕ) (v : Val) → In n (stored_at k.stored s)
-        → value_at (values_in cs) n ≡ Some v → NodesTo p B (width (value v)) (ValueGives p B v) (site s)
+        → value_at (values_in cs) n ≡ Some v
+        → NodesTo p B (width (value v)) (ValueGives p B v) (site s)
 
     -- every solution has what is known, and no facts are known of sites
     pub record IsSound (k : Kept) : Type 0 where
@@ -151,16 +153,17 @@ module _ (p : Tables) where
       pub stored : (B : Solution) → Solves p cs B → HasStored B k
       pub no_facts : (s : ℕ) → held k.facts (site s) ≡ []
       pub of_words : (s n : ℕ) (v : Val) → In n (stored_at k.stored s)
-          → value_at (values_in cs) n ≡ Some v → is_of_words v ≡ true
+          → value_at (values_in cs) n ≡ Some v → has_no_node_variable v ≡ true
 
     -- all that is known, as a solution
     abbrev pub solution : Kept → Solution
     solution k = solution_of (whole p (values_in cs) k.facts k.stored)
 
-    -- a step keeps what is known sound, and forgets nothing; where nothing was added, all is as it was
+    -- a step keeps what is known sound, and forgets nothing; where nothing was added, all is as it
+    -- was
     pub record Steps (k k' : Kept) (added : Bool) : Type 0 where
       pub sound : IsSound k → IsSound k'
-      pub grew : Grew k k'
+      pub grew : KeepsAllFacts k k'
       pub same : added ≡ false → k' ≡ k
 
     -- where nothing was added, the inclusion is met

@@ -14,19 +14,19 @@ abbrev pub tags_of_sites : List (List TagId) → List ℕ → List ℕ
 tags_of_sites tags = flat_map (tags_at tags)
 
 -- an ascending list, without repeats, of the members of another
-pub record Ascends (ms ns : List ℕ) : Type 0 where
+pub record IsSortedSetOf (ms ns : List ℕ) : Type 0 where
   pub ascending : IsStrictlyIncreasing ns
   pub same : (n : ℕ) → is_in n ns ≡ is_in n ms
 
 -- the tags of the sites of the variable n
-abbrev pub Meets : (ℕ → List ℕ) → List (List Site) → List (List TagId) → ℕ → Type 0
-Meets tags sites table n =
-    Ascends (flat_map tags (numbers_by (λ s. s.0) (slice_get sites n)))
+abbrev pub HasTagsOfSites : (ℕ → List ℕ) → List (List Site) → List (List TagId) → ℕ → Type 0
+HasTagsOfSites tags sites table n =
+    IsSortedSetOf (flat_map tags (numbers_by (λ s. s.0) (slice_get sites n)))
     (numbers_by (λ t. t.0) (slice_get table n))
 
 -- for each variable the tags of its sites, in a table that has all entries, or the first ones
-abbrev pub MetTable : List (List TagId) → List (List Site) → List (List TagId) → Type 0
-MetTable tags sites table = (n : ℕ) → Meets (tags_at tags) sites table n
+abbrev pub IsVariableTagTable : List (List TagId) → List (List Site) → List (List TagId) → Type 0
+IsVariableTagTable tags sites table = (n : ℕ) → HasTagsOfSites (tags_at tags) sites table n
 
-abbrev pub MetSoFar : (ℕ → List ℕ) → List (List Site) → List (List TagId) → Type 0
-MetSoFar tags sites table = (n : ℕ) → n < length table → Meets tags sites table n
+abbrev pub IsPartialTagTable : (ℕ → List ℕ) → List (List Site) → List (List TagId) → Type 0
+IsPartialTagTable tags sites table = (n : ℕ) → n < length table → HasTagsOfSites tags sites table n

@@ -6,7 +6,7 @@ use Rattle.flow_system.specs.declared.fact.Element.TheVariants.{Cell, Tag, Numbe
 use Rattle.flow_system.specs.declared.fact.Part.TheVariants.{Word as word}
 use Rattle.flow_system.specs.Tables.{Tables}
 use Rattle.points_to.specs.declared.facts.Item.{Item}
-use Rattle.points_to.specs.Held.{node_part, node_of_word, picked}
+use Rattle.points_to.specs.Held.{node_part, node_of_word, words_in_part}
 
 abbrev pub is_tag : ℕ → Element → Bool
 is_tag t (Cell s) = false
@@ -20,4 +20,4 @@ module _ (p : Tables) (t : ℕ) where
   -- the items of nodes, and what the words stand for where their tag is t
   abbrev pub as_nodes_of : Option ℕ → List Item → List Item
   as_nodes_of k X =
-      flat_map (λ i. node_part i.part i) X ++ flat_map (node_if_tag k X) (picked (word 0) X)
+      flat_map (λ i. node_part i.part i) X ++ flat_map (node_if_tag k X) (words_in_part (word 0) X)

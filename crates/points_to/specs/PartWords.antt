@@ -14,7 +14,7 @@ use Rattle.flow_system.specs.Inclusions.{value}
 use Rattle.flow_system.specs.Solution.{width}
 use Rattle.flow_system.specs.Tables.{Tables, fields_of}
 use Rattle.points_to.specs.declared.facts.Item.{Item}
-use Rattle.points_to.specs.Held.{elements, enough, picked}
+use Rattle.points_to.specs.Held.{elements, words_hold_tag, words_in_part}
 use Rattle.points_to.specs.OneTag.{is_tag}
 use Rattle.points_to.specs.Known.{held}
 use Rattle.points_to.specs.declared.facts.Facts.{Facts}
@@ -23,19 +23,19 @@ use Rattle.points_to.specs.Stored.{value_at, stored_at}
 use Rattle.points_to.specs.ValueWords.{elements_of}
 
 -- whether a tag with so many fields is one of k words, or of any number, and has field i
-abbrev pub are_enough : Option ℕ → Option ℕ → Bool
-are_enough k None = false
-are_enough k (Some m) = enough k m
+abbrev pub tag_fits_in_words : Option ℕ → Option ℕ → Bool
+tag_fits_in_words k None = false
+tag_fits_in_words k (Some m) = words_hold_tag k m
 
-abbrev pub has_one : Option ℕ → ℕ → Option ℕ → Bool
-has_one k i None = false
-has_one k i (Some m) = enough k m && nat_lt i m
+abbrev pub tag_has_field : Option ℕ → ℕ → Option ℕ → Bool
+tag_has_field k i None = false
+tag_has_field k i (Some m) = words_hold_tag k m && nat_lt i m
 
 module _ (p : Tables) where
   -- a tag that is one of k words with its fields
   abbrev pub tag_of_words : Option ℕ → AbstractWord → List AbstractWord
   tag_of_words k (cell_of s) = []
-  tag_of_words k (tag t) = cond (are_enough k (fields_of p t)) (tag t ∷ []) []
+  tag_of_words k (tag t) = cond (tag_fits_in_words k (fields_of p t)) (tag t ∷ []) []
   tag_of_words k num = []
 
   -- of nodes that are given part by part: the nodes, and those that the words stand for
@@ -43,7 +43,7 @@ module _ (p : Tables) where
   nodes_in k given tags = given tags ++ flat_map (tag_of_words k) (given (word 0))
   nodes_in k given (field t i) =
       given (field t i)
-      ++ cond (list_any (is_tag t) (given (word 0)) && has_one k i (fields_of p t))
+      ++ cond (list_any (is_tag t) (given (word 0)) && tag_has_field k i (fields_of p t))
       (given (word (suc i))) []
   nodes_in k given (word j) = []
 
@@ -65,7 +65,7 @@ module _ (p : Tables) where
 
     -- of a value as it is written
     abbrev pub given : Val → Part → List AbstractWord
-    given (NodeVar x) q = picked q (H (var x.0))
+    given (NodeVar x) q = words_in_part q (H (var x.0))
     given (NodeVal t ws) q = node_given t.0 ws q
     given (VectorVal ws) q = vector_given ws q
     given (OneVal w) q = one_given w q
@@ -85,6 +85,6 @@ module _ (p : Tables) where
   -- of all that is known at a place, with the nodes of the values in cells
   abbrev pub place_part : List (Option Val) → Facts → Stored → Place → Part → List AbstractWord
   place_part vs f s (Site n) q =
-      picked q (held f (Site n)) ++ part_of_values vs (held f) q (stored_at s n)
-  place_part vs f s (var n) q = picked q (held f (var n))
-  place_part vs f s (Result n) q = picked q (held f (Result n))
+      words_in_part q (held f (Site n)) ++ part_of_values vs (held f) q (stored_at s n)
+  place_part vs f s (var n) q = words_in_part q (held f (var n))
+  place_part vs f s (Result n) q = words_in_part q (held f (Result n))

@@ -11,11 +11,11 @@ use Rattle.flow_system.specs.declared.fact.Element.TheVariants.{Cell as cell_of,
 use Rattle.flow_system.specs.declared.fact.Place.{Place}
 use Rattle.flow_system.specs.declared.fact.Place.TheVariants.{Site as site, Var as var, Result as result}
 use Rattle.flow_system.specs.declared.fact.Part.TheVariants.{Tags as tags}
-use Rattle.flow_system.specs.Inclusions.{Source, value, a_cell, a_number, held, nodes_at, word_at, evaluated, extended, arguments, Sink, to, into_site, into_result, cells_at, Inclusion, flows, forces, applies}
+use Rattle.flow_system.specs.Inclusions.{Source, value, a_cell, a_number, held, nodes_at, word_at, evaluated, extended, arguments, FlowSink, to, into_site, into_result, cells_at, Inclusion, flows, forces, applies}
 use Rattle.flow_system.specs.Tables.{Tables}
 use Rattle.flow_system.specs.Solution.{width}
 use Rattle.points_to.specs.declared.facts.Item.{Item}
-use Rattle.points_to.specs.Held.{In, picked, elements, value_items, as_nodes, delayed, called}
+use Rattle.points_to.specs.Held.{In, words_in_part, elements, value_items, as_nodes, delayed, called}
 
 abbrev pub word_reads : Word → List Place
 word_reads (Lit k) = []
@@ -29,7 +29,7 @@ value_reads (NodeVal t ws) = flat_map word_reads ws
 value_reads (VectorVal ws) = flat_map word_reads ws
 value_reads (OneVal w) = word_reads w
 
-abbrev pub sink_reads : Sink → List Place
+abbrev pub sink_reads : FlowSink → List Place
 sink_reads (to t) = []
 sink_reads (into_site s) = []
 sink_reads (into_result f) = []
@@ -73,10 +73,11 @@ module _ (p : Tables) where
 
     abbrev pub reads : Inclusion → List Place
     reads (flows s k) = source_reads s ++ sink_reads k
-    reads (forces s) = site s ∷ flat_map forced_reads (picked tags (H (site s)))
+    reads (forces s) = site s ∷ flat_map forced_reads (words_in_part tags (H (site s)))
     reads (applies v a k) =
         (value_reads v ++ (word_reads a ++ sink_reads k))
-        ++ flat_map applied_reads (picked tags (as_nodes p (width (value v)) (value_items p H v)))
+        ++ flat_map applied_reads
+        (words_in_part tags (as_nodes p (width (value v)) (value_items p H v)))
 
 -- the same is known at these places
 pub record Agree (H H' : Place → List Item) (qs : List Place) : Type 0 where

@@ -25,13 +25,13 @@ abbrev pub row_items : Row → List Item
 row_items r = in_part r.part (row_words r)
 
 -- a list gets a member, and no other
-pub record Gets {X : Type 0} (old new : List X) (x : X) : Type 0 where
+pub record GainsMember {X : Type 0} (old new : List X) (x : X) : Type 0 where
   pub kept : (y : X) → In y old → In y new
   pub put : In x new
   pub only : (y : X) → In y new → In y old ⊎ (y ≡ x)
 
 -- a list gets members, and no others
-pub record GetsAll {X : Type 0} (old new xs : List X) : Type 0 where
+pub record GainsMembers {X : Type 0} (old new xs : List X) : Type 0 where
   pub kept : (y : X) → In y old → In y new
   pub put : (y : X) → In y xs → In y new
   pub only : (y : X) → In y new → In y old ⊎ In y xs

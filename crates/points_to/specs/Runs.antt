@@ -8,8 +8,8 @@ use Rattle.points_to.specs.Held.{in_part}
 use Rattle.points_to.specs.Asked.{facts_at}
 use Rattle.points_to.specs.Bits.{block_words}
 
-abbrev pub run_items : ItemRun → List Item
-run_items r = in_part r.part (block_words r.block)
+abbrev pub items_of_run : ItemRun → List Item
+items_of_run r = in_part r.part (block_words r.block)
 
-abbrev pub run_facts : FactRun → List Fact
-run_facts r = facts_at r.place (run_items r.items)
+abbrev pub facts_of_run : FactRun → List Fact
+facts_of_run r = facts_at r.place (items_of_run r.items)

@@ -6,9 +6,9 @@ use Rattle.points_to.specs.declared.nodes.Shift.{Shift}
 use Rattle.points_to.specs.declared.nodes.Shift.TheVariants.{Nodes, Evaluated, Fields, Renamed, Arguments}
 use Rattle.points_to.specs.Held.{node_part, done_part, field_part, moved_part, argument_part}
 
-abbrev pub shifted : Tables → Shift → Item → List Item
-shifted p Nodes i = node_part i.part i
-shifted p Evaluated i = done_part p i.part i.word
-shifted p (Fields t m) i = field_part t m i.part i.word
-shifted p (Renamed t t') i = moved_part t t' i.part i.word
-shifted p (Arguments t) i = argument_part t i.part i.word
+abbrev pub shifted_items : Tables → Shift → Item → List Item
+shifted_items p Nodes i = node_part i.part i
+shifted_items p Evaluated i = done_part p i.part i.word
+shifted_items p (Fields t m) i = field_part t m i.part i.word
+shifted_items p (Renamed t t') i = moved_part t t' i.part i.word
+shifted_items p (Arguments t) i = argument_part t i.part i.word

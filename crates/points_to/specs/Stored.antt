@@ -13,14 +13,14 @@ use Rattle.flow_system.specs.Solution.{width}
 use Rattle.points_to.specs.declared.bits.Bits.{Bits}
 use Rattle.points_to.specs.declared.facts.Item.{Item}
 use Rattle.points_to.specs.declared.facts.Facts.{Facts}
-use Rattle.points_to.specs.declared.origin.Origin.{Origin}
+use Rattle.points_to.specs.declared.origin.ProgramTables.{ProgramTables}
 use Rattle.points_to.specs.declared.stored.Stored.{Stored}
 use Rattle.points_to.specs.Held.{In, as_nodes, value_items}
 use Rattle.points_to.specs.Known.{held}
 use Rattle.points_to.specs.Rows.{numbers_in}
 
 -- what values refer to
-abbrev pub tables_in : Origin → Tables
+abbrev pub tables_in : ProgramTables → Tables
 tables_in o = record { tags = o.tags; globals = o.globals; params = o.params }
 
 -- the numbers in a set, none where there is no such set
@@ -54,21 +54,21 @@ abbrev pub values_in : List Inclusion → List (Option Val)
 values_in = map value_in
 
 -- the value with a number
-abbrev pub or_none : Option (Option Val) → Option Val
-or_none None = None
-or_none (Some v) = v
+abbrev pub flatten_option : Option (Option Val) → Option Val
+flatten_option None = None
+flatten_option (Some v) = v
 
 abbrev pub value_at : List (Option Val) → ℕ → Option Val
-value_at vs n = or_none (slice_get vs n)
+value_at vs n = flatten_option (slice_get vs n)
 
 -- a number is put at the sites of cells
-pub record StoresAll (old new : ℕ → List ℕ) (cells : List AbstractWord) (n : ℕ) : Type 0 where
+pub record PutsAtAllSites (old new : ℕ → List ℕ) (cells : List AbstractWord) (n : ℕ) : Type 0 where
   pub kept : (s m : ℕ) → In m (old s) → In m (new s)
   pub put : (s : ℕ) → In (cell_of s) cells → In n (new s)
   pub only : (s m : ℕ) → In m (new s) → In m (old s) ⊎ (In (cell_of s) cells × (m ≡ n))
 
 -- a number is put at a site
-pub record Stores (old new : ℕ → List ℕ) (s n : ℕ) : Type 0 where
+pub record PutsAtSite (old new : ℕ → List ℕ) (s n : ℕ) : Type 0 where
   pub kept : (r m : ℕ) → In m (old r) → In m (new r)
   pub put : In n (new s)
   pub only : (r m : ℕ) → In m (new r) → In m (old r) ⊎ ((r ≡ s) × (m ≡ n))

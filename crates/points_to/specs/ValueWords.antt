@@ -26,8 +26,8 @@ lacks k j None = false
 lacks k j (Some m) = nat_lt m k && not (nat_lt j m)
 
 -- a word where a tag has it, and a number where one has fewer fields
-abbrev pub chosen : Bool → Bool → List AbstractWord → List AbstractWord
-chosen has fewer us = cond has us [] ++ cond fewer (num ∷ []) []
+abbrev pub word_or_number : Bool → Bool → List AbstractWord → List AbstractWord
+word_or_number has fewer us = cond has us [] ++ cond fewer (num ∷ []) []
 
 module _ (p : Tables) where
   abbrev pub fitting : ℕ → AbstractWord → List AbstractWord
@@ -54,7 +54,7 @@ module _ (p : Tables) where
     abbrev pub vector_words : List W.Word → ℕ → List AbstractWord
     vector_words ws zero = flat_map (fitting (length ws)) (elements_of (slice_get ws 0))
     vector_words ws (suc j) =
-        chosen
+        word_or_number
         (list_any (has_field (length ws) j) (elements_of (slice_get ws 0)))
         (list_any (has_fewer (length ws) j) (elements_of (slice_get ws 0)))
         (elements_of (slice_get ws (suc j)))

@@ -15,7 +15,7 @@ use Rattle.points_to.specs.declared.wanted.Kind.{Kind}
 use Rattle.points_to.specs.declared.wanted.Kind.TheVariants.{Sites as of_sites, Vars, Results}
 use Rattle.points_to.specs.declared.wanted.Wanted.{Wanted}
 use Rattle.points_to.specs.declared.wanted.Wanted.TheVariants.{NodeTags, Tags as all_tags, Sites as cell_sites}
-use Rattle.points_to.specs.Held.{In, picked}
+use Rattle.points_to.specs.Held.{In, words_in_part}
 
 abbrev pub tag_in : Element → List ℕ
 tag_in (Cell s) = []
@@ -42,10 +42,11 @@ abbrev pub wanted : Wanted → List Item → List ℕ
 wanted w = flat_map (λ i. wanted_of w i.part i.word)
 
 -- the same numbers, part by part
-abbrev pub by_parts : Wanted → List Item → List ℕ
-by_parts NodeTags X = flat_map tag_in (picked tags X)
-by_parts all_tags X = flat_map tag_in (picked tags X) ++ flat_map tag_in (picked (word 0) X)
-by_parts cell_sites X = flat_map site_in (picked (word 0) X)
+abbrev pub wanted_by_parts : Wanted → List Item → List ℕ
+wanted_by_parts NodeTags X = flat_map tag_in (words_in_part tags X)
+wanted_by_parts all_tags X =
+    flat_map tag_in (words_in_part tags X) ++ flat_map tag_in (words_in_part (word 0) X)
+wanted_by_parts cell_sites X = flat_map site_in (words_in_part (word 0) X)
 
 abbrev pub place_of : Kind → ℕ → Place
 place_of of_sites n = site n
@@ -75,13 +76,14 @@ numbers_by f None = []
 numbers_by f (Some xs) = map f xs
 
 -- an entry for each place of a kind, by the place's number
-abbrev pub IsTable : {X : Type 0} → (X → ℕ) → (Place → List Item) → Kind → Wanted → List (List X)
+abbrev pub IsTableOfWanted : {X : Type 0} → (X → ℕ) → (Place → List Item)
+    → Kind → Wanted → List (List X)
     → Type 0
-IsTable number H k w table =
+IsTableOfWanted number H k w table =
     (n : ℕ) → Lists w (H (place_of k n)) (numbers_by number (slice_get table n))
 
 abbrev pub TagTable : (Place → List Item) → Kind → Wanted → List (List TagId) → Type 0
-TagTable = IsTable (λ t. t.0)
+TagTable = IsTableOfWanted (λ t. t.0)
 
 abbrev pub SiteTable : (Place → List Item) → Kind → Wanted → List (List Site) → Type 0
-SiteTable = IsTable (λ s. s.0)
+SiteTable = IsTableOfWanted (λ s. s.0)

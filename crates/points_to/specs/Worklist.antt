@@ -5,8 +5,8 @@ use Rattle.flow_system.specs.Inclusions.{Inclusion}
 use Rattle.flow_system.specs.Tables.{Tables}
 use Rattle.points_to.specs.declared.worklist.Worklist.{Worklist}
 use Rattle.points_to.specs.Held.{In}
-use Rattle.points_to.specs.Asked.{demands}
-use Rattle.points_to.specs.Known.{held, Grows}
+use Rattle.points_to.specs.Asked.{facts_demanded}
+use Rattle.points_to.specs.Known.{held, GrowsByFacts}
 use Rattle.points_to.specs.Reads.{reads}
 use Rattle.points_to.specs.Rounds.{InEvery, Satisfied}
 use Rattle.points_to.specs.Waiting.{waiting, readers_of}
@@ -28,21 +28,21 @@ pub record RegistersAt (old new : Worklist) (n : ℕ) (qs : List Place) : Type 0
   pub put : (q : Place) → In q qs → IsReader new q n
 
 -- what waited waits, and each reader is registered still or waits, all of a place that is woken
-pub record Wakes (old new : Worklist) (q : Place) : Type 0 where
+pub record WakesReaders (old new : Worklist) (q : Place) : Type 0 where
   pub kept : (n : ℕ) → IsWaiting old n → IsWaiting new n
   pub moved : (r : Place) (n : ℕ) → IsReader old r n → IsReader new r n ⊎ IsWaiting new n
   pub woken : (n : ℕ) → IsReader old q n → IsWaiting new n
 
 -- what waited waits, each reader is registered still or waits, and where more is known all readers
 -- wait
-pub record Spreads (old new : Worklist) : Type 0 where
+pub record WakesWhereChanged (old new : Worklist) : Type 0 where
   pub kept : (n : ℕ) → IsWaiting old n → IsWaiting new n
   pub moved : (q : Place) (n : ℕ) → IsReader old q n → IsReader new q n ⊎ IsWaiting new n
   pub woken : (q : Place)
       → (held new.facts q ≡ held old.facts q) ⊎ ((n : ℕ) → IsReader old q n → IsWaiting new n)
 
 -- the count of facts does not fall; it rises, or fewer wait, where there is more to do
-pub record Advances (old new : Worklist) (more : Bool) : Type 0 where
+pub record MakesProgress (old new : Worklist) (more : Bool) : Type 0 where
   pub no_less : old.facts.count ≤ new.facts.count
   pub on : more ≡ true
       → (old.facts.count < new.facts.count)
@@ -50,8 +50,9 @@ pub record Advances (old new : Worklist) (more : Bool) : Type 0 where
 
 -- the inclusion c with number n gets what it asks for, and is registered at each place that it
 -- reads, or waits again
-pub record Satisfies (p : Tables) (c : Inclusion) (n : ℕ) (old new : Worklist) : Type 0 where
-  pub grown : Grows (held old.facts) (held new.facts) (demands p (held old.facts) c)
+pub record SatisfiesInclusion (p : Tables) (c : Inclusion) (n : ℕ) (old new : Worklist)
+    : Type 0 where
+  pub grown : GrowsByFacts (held old.facts) (held new.facts) (facts_demanded p (held old.facts) c)
   pub kept : (m : ℕ) → IsWaiting old m → IsWaiting new m
   pub moved : (q : Place) (m : ℕ) → IsReader old q m → IsReader new q m ⊎ IsWaiting new m
   pub registered : (q : Place) → In q (reads p (held old.facts) c)
@@ -70,7 +71,7 @@ module _ (p : Tables) (cs : List Inclusion) where
     pub registered : (q : Place) → In q (reads p (held w.facts) c) → IsReader w q n
 
   -- every solution has what is known, and whatever does not wait is settled
-  pub record Stands (w : Worklist) : Type 0 where
+  pub record WorklistInvariant (w : Worklist) : Type 0 where
     pub sound : InEvery p cs (held w.facts)
     pub settled : (n : ℕ) (c : Inclusion) → slice_get cs n ≡ Some c
         → IsWaiting w n ⊎ IsSettled w n c

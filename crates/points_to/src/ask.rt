@@ -6,7 +6,7 @@ ghost use Rattle.flow_system.specs.Inclusions.{held as held', evaluated, into_si
 ghost use Rattle.flow_system.specs.Shown.{tables_of, source_of, sink_of, inclusion_of};
 ghost use Rattle.flow_system.specs.Tables.{params_of};
 ghost use Rattle.points_to.specs.Held.{as_nodes, elements, items};
-ghost use Rattle.points_to.specs.Asked.{asked, target_facts, cell_facts, flow_facts, delayed_facts, forced, demands};
+ghost use Rattle.points_to.specs.Asked.{asked, target_facts, cell_facts, flow_facts, delayed_facts, forced, facts_demanded};
 ghost use Rattle.points_to.specs.Applied.{call_arguments, call_facts, tag_applied};
 ghost use Rattle.points_to.specs.ByTag.{IsByTag};
 ghost use Rattle.points_to.specs.Known.{held};
@@ -19,7 +19,7 @@ use crate::runs::{FactRuns, ItemRuns};
 use crate::tags::{called, delayed};
 use crate::targets::{facts_at, flow_to_target, items_to_target, nodes_at_place, vector_facts};
 use flow_system::fact::{Element, Part, Place};
-use flow_system::inclusion::{FlowSystem, Inclusion, Sink, Source};
+use flow_system::inclusion::{FlowSink, FlowSystem, Inclusion, Source};
 use grin_syntax::program::{ProcId, Site, Val, Word};
 use seq::Seq;
 use std::alloc::{AllocError, Global};
@@ -123,7 +123,7 @@ fn flow_facts(
     system: &FlowSystem,
     facts: &Facts,
     source: &Source,
-    sink: &Sink,
+    sink: &FlowSink,
     out: &mut FactRuns,
 ) -> Result<(), AllocError>
     ensures { OnOk result (out.new ≡ out.old
@@ -131,10 +131,10 @@ fn flow_facts(
         (sink_of sink.now)) }
 {
     match sink {
-        Sink::To(target) => flow_to_target(alloc, system, facts, source, target, out),
-        Sink::Result(f) => flow_to_result(alloc, system, facts, source, *f, out),
-        Sink::Site(s) => flow_to_site(alloc, system, facts, source, *s, out),
-        Sink::CellsAt(w) => flow_to_cells(alloc, system, facts, source, *w, out),
+        FlowSink::To(target) => flow_to_target(alloc, system, facts, source, target, out),
+        FlowSink::Result(f) => flow_to_result(alloc, system, facts, source, *f, out),
+        FlowSink::Site(s) => flow_to_site(alloc, system, facts, source, *s, out),
+        FlowSink::CellsAt(w) => flow_to_cells(alloc, system, facts, source, *w, out),
     }
 }
 
@@ -145,17 +145,17 @@ pub fn asked(
     facts: &Facts,
     k: Option<usize>,
     items: &ItemRuns,
-    sink: &Sink,
+    sink: &FlowSink,
     out: &mut FactRuns,
 ) -> Result<(), AllocError>
     ensures { OnOk result (out.new ≡ out.old
         ++ asked (tables_of system.now) (held facts.now) k items.now (sink_of sink.now)) }
 {
     match sink {
-        Sink::To(target) => items_to_target(alloc, system, k, items, target, out),
-        Sink::Result(f) => facts_at(Place::Result(f.0), items, out),
-        Sink::Site(s) => nodes_at_place(alloc, system, k, items, Place::Site(s.0), out),
-        Sink::CellsAt(w) => cells_asked(alloc, system, facts, k, items, *w, out),
+        FlowSink::To(target) => items_to_target(alloc, system, k, items, target, out),
+        FlowSink::Result(f) => facts_at(Place::Result(f.0), items, out),
+        FlowSink::Site(s) => nodes_at_place(alloc, system, k, items, Place::Site(s.0), out),
+        FlowSink::CellsAt(w) => cells_asked(alloc, system, facts, k, items, *w, out),
     }
 }
 
@@ -309,7 +309,7 @@ fn forces_facts(
     out: &mut FactRuns,
 ) -> Result<(), AllocError>
     ensures { OnOk result (out.new ≡ out.old
-        ++ demands (tables_of system.now) (held facts.now) (forces s)) }
+        ++ facts_demanded (tables_of system.now) (held facts.now) (forces s)) }
 {
     let mut there = ItemRuns::new(alloc);
     facts.append(Place::Site(s), &mut there)?;
@@ -328,7 +328,7 @@ fn call_facts(
     facts: &Facts,
     nodes: &ByTag,
     a: Word,
-    sink: &Sink,
+    sink: &FlowSink,
     t: u32,
     f: u32,
     out: &mut FactRuns,
@@ -349,7 +349,7 @@ fn tag_applied(
     facts: &Facts,
     nodes: &ByTag,
     a: Word,
-    sink: &Sink,
+    sink: &FlowSink,
     word: Element,
     out: &mut FactRuns,
 ) -> Result<(), AllocError>
@@ -374,7 +374,7 @@ fn tags_applied(
     facts: &Facts,
     nodes: &ByTag,
     a: Word,
-    sink: &Sink,
+    sink: &FlowSink,
     words: &[Element],
     out: &mut FactRuns,
 ) -> Result<(), AllocError>
@@ -395,11 +395,11 @@ fn applies_facts(
     facts: &Facts,
     v: &Val,
     a: Word,
-    sink: &Sink,
+    sink: &FlowSink,
     out: &mut FactRuns,
 ) -> Result<(), AllocError>
     ensures { OnOk result (out.new ≡ out.old
-        ++ demands (tables_of system.now) (held facts.now) (applies v.now a (sink_of sink.now))) }
+        ++ facts_demanded (tables_of system.now) (held facts.now) (applies v.now a (sink_of sink.now))) }
 {
     let mut given = ItemRuns::new(alloc);
     value_nodes(alloc, system, facts, v, &mut given)?;
@@ -409,7 +409,7 @@ fn applies_facts(
 }
 
 /// All that an inclusion asks for.
-pub fn demands(
+pub fn facts_demanded(
     alloc: Global,
     system: &FlowSystem,
     facts: &Facts,
@@ -417,7 +417,7 @@ pub fn demands(
     out: &mut FactRuns,
 ) -> Result<(), AllocError>
     ensures { OnOk result (out.new ≡ out.old
-        ++ demands (tables_of system.now) (held facts.now) (inclusion_of inclusion.now)) }
+        ++ facts_demanded (tables_of system.now) (held facts.now) (inclusion_of inclusion.now)) }
 {
     match inclusion {
         Inclusion::Flows(source, sink) => flow_facts(alloc, system, facts, source, sink, out),

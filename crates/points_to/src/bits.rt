@@ -134,7 +134,7 @@ pub struct Bits {
 }
 
 impl Bits {
-    ghost use Rattle.points_to.specs.Rows.{numbers_in, GetsAll};
+    ghost use Rattle.points_to.specs.Rows.{numbers_in, GainsMembers};
 
     /// No numbers.
     pub fn new(alloc: Global) -> Bits
@@ -159,7 +159,7 @@ impl Bits {
     /// Puts the numbers of a block there, and says whether some of them may be new. Where none is,
     /// nothing changes.
     pub fn add_new(&mut self, block: (u32, u64)) -> Result<bool, AllocError>
-        ensures gets { OnOk result (GetsAll (numbers_in self.old) (numbers_in self.new)
+        ensures gets { OnOk result (GainsMembers (numbers_in self.old) (numbers_in self.new)
             (block_numbers block)) }
         ensures still { IfOk result (λ added. added ≡ false → self.new ≡ self.old) }
     {
@@ -174,7 +174,7 @@ impl Bits {
     /// Puts the numbers of blocks there. The first block is looked for near a place; it says at
     /// which place the last one stands.
     pub fn add_all(&mut self, blocks: &[(u32, u64)], near: usize) -> Result<usize, AllocError>
-        ensures { OnOk result (GetsAll (numbers_in self.old) (numbers_in self.new)
+        ensures { OnOk result (GainsMembers (numbers_in self.old) (numbers_in self.new)
             (flat_map block_numbers blocks.now)) }
     {
         let mut place = near;
@@ -187,7 +187,7 @@ impl Bits {
     // Puts the numbers of a block there, which is looked for near a place first, and says at which
     // place it stands.
     fn add_near(&mut self, block: (u32, u64), near: usize) -> Result<usize, AllocError>
-        ensures { OnOk result (GetsAll (numbers_in self.old) (numbers_in self.new)
+        ensures { OnOk result (GainsMembers (numbers_in self.old) (numbers_in self.new)
             (block_numbers block)) }
     {
         let found = find_near(self.blocks.as_slice(), block.0, near);
@@ -204,7 +204,7 @@ impl Bits {
         requires ascending { Ascending blocks.old.items }
         requires finds { Finds blocks.old.items block.0 found }
         ensures ascending { Ascending blocks.new.items }
-        ensures gets { OnOk result (GetsAll (flat_map block_numbers blocks.old.items)
+        ensures gets { OnOk result (GainsMembers (flat_map block_numbers blocks.old.items)
             (flat_map block_numbers blocks.new.items) (block_numbers block)) }
     {
         match found {
@@ -275,8 +275,8 @@ pub fn bits_there(blocks: &[(u32, u64)], place: usize, number: u32) -> u64 {
     blocks[place].1
 }
 
-/// The first place from one on where a block doesn't stand before the one with this number; from the
-/// front, where the place is past it.
+/// The first place from one on where a block doesn't stand before the one with this number; from
+/// the front, where the place is past it.
 pub fn place_from(blocks: &[(u32, u64)], place: usize, number: u32) -> usize {
     let mut at = place;
     if at >= blocks.len() || blocks[at].0 > number {

@@ -15,7 +15,7 @@ ghost use Rattle.points_to.specs.Bits.{block_words};
 ghost use Rattle.points_to.specs.Copies.{fetch_at, words_at, targets_at, links_at, facts_to, AreFetched, HoldsFetched, GoesTo, AreAt, IsField, IsFetched, IsCopied};
 ghost use Rattle.points_to.specs.Held.{In, in_part};
 ghost use Rattle.points_to.specs.Kept.{IsSound};
-ghost use Rattle.points_to.specs.Known.{held, Grows};
+ghost use Rattle.points_to.specs.Known.{held, GrowsByFacts};
 ghost use Rattle.points_to.specs.ValueWords.{elements_of};
 ghost use Rattle.seq.specs.Lists.{or_empty};
 
@@ -27,7 +27,7 @@ use crate::runs::{FactRun, ItemRun, WordRuns};
 use crate::stored_tags::stored_word;
 use crate::tags::fields_of;
 use flow_system::fact::{Element, Part, Place};
-use flow_system::inclusion::{FlowSystem, Inclusion, Sink, Source};
+use flow_system::inclusion::{FlowSink, FlowSystem, Inclusion, Source};
 use grin_syntax::program::{TagId, Target, Val, VarId, Word};
 use seq::Seq;
 use std::alloc::{AllocError, Global};
@@ -260,7 +260,7 @@ impl Copies {
         g: u32,
         fresh: &[(u32, u64)],
     ) -> Result<(), AllocError>
-        ensures { OnOk result (Grows (held facts.old) (held facts.new)
+        ensures { OnOk result (GrowsByFacts (held facts.old) (held facts.new)
             (facts_to (targets_at self.now g) (flat_map block_words fresh.now))) }
     {
         match self.fetches.get(g as usize) {
@@ -318,7 +318,7 @@ fn add_to_all(
     targets: &[u32],
     words: &[(u32, u64)],
 ) -> Result<(), AllocError>
-    ensures { OnOk result (Grows (held facts.old) (held facts.new)
+    ensures { OnOk result (GrowsByFacts (held facts.old) (held facts.new)
         (facts_to targets.now (flat_map block_words words.now))) }
 {
     for x in targets {
@@ -333,7 +333,7 @@ fn add_words(
     x: u32,
     words: &[(u32, u64)],
 ) -> Result<(), AllocError>
-    ensures { OnOk result (Grows (held facts.old) (held facts.new) (facts_at (Place.Var x)
+    ensures { OnOk result (GrowsByFacts (held facts.old) (held facts.new) (facts_at (Place.Var x)
         (in_part (Part.Word 0) (flat_map block_words words.now)))) }
 {
     for block in words {
@@ -343,7 +343,7 @@ fn add_words(
 }
 
 fn add_block(alloc: Global, facts: &mut Facts, x: u32, block: (u32, u64)) -> Result<(), AllocError>
-    ensures { OnOk result (Grows (held facts.old) (held facts.new) (facts_at (Place.Var x)
+    ensures { OnOk result (GrowsByFacts (held facts.old) (held facts.new) (facts_at (Place.Var x)
         (in_part (Part.Word 0) (block_words block)))) }
 {
     let items = ItemRun {
@@ -480,7 +480,7 @@ pub fn one_fetch(inclusion: &Inclusion) -> Option<(Fetch, VarId)>
         ≡ flows (word_at r.0.cells r.0.word) (to (Target.One r.1))) }
 {
     match inclusion {
-        Inclusion::Flows(Source::WordAt(w, i), Sink::To(Target::One(x))) => {
+        Inclusion::Flows(Source::WordAt(w, i), FlowSink::To(Target::One(x))) => {
             let fetch = Fetch {
                 cells: *w,
                 word: *i,

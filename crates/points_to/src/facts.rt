@@ -5,9 +5,9 @@ ghost use Rattle.std.specs.List.{flat_map};
 ghost use Rattle.flow_system.specs.declared.fact.Place.{Place as Place'};
 ghost use Rattle.flow_system.specs.Shown.{tables_of};
 ghost use Rattle.points_to.specs.Bits.{block_words};
-ghost use Rattle.points_to.specs.Held.{In, picked, done_items};
-ghost use Rattle.points_to.specs.Known.{items_at, held, Puts, Grows};
-ghost use Rattle.points_to.specs.Runs.{run_items, run_facts};
+ghost use Rattle.points_to.specs.Held.{In, words_in_part, done_items};
+ghost use Rattle.points_to.specs.Known.{items_at, held, PutsItems, GrowsByFacts};
+ghost use Rattle.points_to.specs.Runs.{items_of_run, facts_of_run};
 ghost use Rattle.points_to.specs.Wanted.{place_of};
 
 use crate::items::Items;
@@ -92,7 +92,7 @@ impl Facts {
         part: Part,
         out: &mut WordRuns,
     ) -> Result<(), AllocError>
-        ensures { OnOk result (out.new ≡ out.old ++ picked part (held self.now place)) }
+        ensures { OnOk result (out.new ≡ out.old ++ words_in_part part (held self.now place)) }
     {
         match place {
             Place::Site(n) => append_words(self.sites.as_slice(), n, part, out),
@@ -108,7 +108,7 @@ impl Facts {
         part: Part,
         out: &mut Seq<Element>,
     ) -> Result<(), AllocError>
-        ensures { OnOk result (out.new ≡ out.old ++ picked part (held self.now place)) }
+        ensures { OnOk result (out.new ≡ out.old ++ words_in_part part (held self.now place)) }
     {
         match place {
             Place::Site(n) => list_words(self.sites.as_slice(), n, part, out),
@@ -120,7 +120,7 @@ impl Facts {
     /// The blocks of the words that a variable of one word may stand for.
     pub fn word_blocks(&self, var: u32) -> &[(u32, u64)]
         ensures { flat_map block_words result.now
-            ≡ picked (Part.Word 0) (held self.now (Place.Var var)) }
+            ≡ words_in_part (Part.Word 0) (held self.now (Place.Var var)) }
     {
         match self.vars.get(var as usize) {
             Some(items) => items.blocks(Part::Word(0)),
@@ -130,7 +130,7 @@ impl Facts {
 
     /// The blocks of the words in one part of a place.
     pub fn blocks(&self, place: Place, part: Part) -> &[(u32, u64)]
-        ensures { flat_map block_words result.now ≡ picked part (held self.now place) }
+        ensures { flat_map block_words result.now ≡ words_in_part part (held self.now place) }
     {
         match place {
             Place::Site(n) => blocks_at(self.sites.as_slice(), n, part),
@@ -163,7 +163,7 @@ impl Facts {
     /// Adds facts, and says whether some of them may be new. Where none is, nothing changes. More
     /// than can be counted are want of memory.
     pub fn add(&mut self, alloc: Global, run: FactRun) -> Result<bool, AllocError>
-        ensures grown { OnOk result (Grows (held self.old) (held self.new) (run_facts run)) }
+        ensures grown { OnOk result (GrowsByFacts (held self.old) (held self.new) (facts_of_run run)) }
         ensures still { IfOk result (λ added. added ≡ false → self.new ≡ self.old) }
         ensures counted { IfOk result (λ added. added ≡ true → self.old.count < self.new.count) }
         ensures elsewhere { OnOk result ((q : Place') → (q ≡ run.place)
@@ -177,7 +177,7 @@ impl Facts {
     }
 
     fn add_new(&mut self, alloc: Global, run: FactRun) -> Result<bool, AllocError>
-        ensures grown { OnOk result (Grows (held self.old) (held self.new) (run_facts run)) }
+        ensures grown { OnOk result (GrowsByFacts (held self.old) (held self.new) (facts_of_run run)) }
         ensures still { IfOk result (λ added. added ≡ false → self.new ≡ self.old) }
         ensures same_count { OnOk result (self.new.count ≡ self.old.count) }
         ensures elsewhere { OnOk result ((q : Place') → (q ≡ run.place)
@@ -212,7 +212,7 @@ fn append_items(sets: &[Items], n: u32, out: &mut ItemRuns) -> Result<(), AllocE
 }
 
 fn blocks_at(sets: &[Items], n: u32, part: Part) -> &[(u32, u64)]
-    ensures { flat_map block_words result.now ≡ picked part (items_at sets.now n) }
+    ensures { flat_map block_words result.now ≡ words_in_part part (items_at sets.now n) }
 {
     match sets.get(n as usize) {
         None => &[],
@@ -221,7 +221,7 @@ fn blocks_at(sets: &[Items], n: u32, part: Part) -> &[(u32, u64)]
 }
 
 fn append_words(sets: &[Items], n: u32, part: Part, out: &mut WordRuns) -> Result<(), AllocError>
-    ensures { OnOk result (out.new ≡ out.old ++ picked part (items_at sets.now n)) }
+    ensures { OnOk result (out.new ≡ out.old ++ words_in_part part (items_at sets.now n)) }
 {
     match sets.get(n as usize) {
         None => Ok(()),
@@ -230,7 +230,7 @@ fn append_words(sets: &[Items], n: u32, part: Part, out: &mut WordRuns) -> Resul
 }
 
 fn list_words(sets: &[Items], n: u32, part: Part, out: &mut Seq<Element>) -> Result<(), AllocError>
-    ensures { OnOk result (out.new ≡ out.old ++ picked part (items_at sets.now n)) }
+    ensures { OnOk result (out.new ≡ out.old ++ words_in_part part (items_at sets.now n)) }
 {
     match sets.get(n as usize) {
         None => Ok(()),
@@ -285,8 +285,8 @@ fn grow(alloc: Global, sets: &mut Vec<Items>, n: u32) -> Result<(), AllocError>
 // Adds items to the set with a number, which is there.
 fn add_there(alloc: Global, sets: &mut Vec<Items>, n: u32, run: ItemRun) -> Result<bool, AllocError>
     requires { n < length sets.old.items }
-    ensures puts { OnOk result (Puts (items_at sets.old.items) (items_at sets.new.items) n
-        (run_items run)) }
+    ensures puts { OnOk result (PutsItems (items_at sets.old.items) (items_at sets.new.items) n
+        (items_of_run run)) }
     ensures still { IfOk result (λ added. added ≡ false → sets.new ≡ sets.old) }
     ensures elsewhere { OnOk result ((m : ℕ) → (m ≡ n)
         ⊎ (items_at sets.new.items m ≡ items_at sets.old.items m)) }
@@ -295,8 +295,8 @@ fn add_there(alloc: Global, sets: &mut Vec<Items>, n: u32, run: ItemRun) -> Resu
 }
 
 fn add_new(alloc: Global, sets: &mut Vec<Items>, n: u32, run: ItemRun) -> Result<bool, AllocError>
-    ensures puts { OnOk result (Puts (items_at sets.old.items) (items_at sets.new.items) n
-        (run_items run)) }
+    ensures puts { OnOk result (PutsItems (items_at sets.old.items) (items_at sets.new.items) n
+        (items_of_run run)) }
     ensures still { IfOk result (λ added. added ≡ false → sets.new ≡ sets.old) }
     ensures elsewhere { OnOk result ((m : ℕ) → (m ≡ n)
         ⊎ (items_at sets.new.items m ≡ items_at sets.old.items m)) }

@@ -59,7 +59,7 @@ fn note_all(
 }
 
 /// What is found by following copies: much of the solution, mostly all of it.
-pub fn copied(alloc: Global, system: &FlowSystem) -> Result<Kept, AllocError>
+pub fn solve_by_copies(alloc: Global, system: &FlowSystem) -> Result<Kept, AllocError>
     ensures { IfOk result (IsSound (tables_of system.now) (inclusions_of system.now)) }
 {
     let mut state = State::new(alloc);

@@ -1,5 +1,5 @@
-// Words of the nodes at sites. Each part is asked for alone: a site may hold many delayed calls with
-// large fields.
+// Words of the nodes at sites. Each part is asked for alone: a site may hold many delayed calls
+// with large fields.
 
 ghost use Rattle.std.specs.Prelude.{◌≡◌, [], ◌++◌, OnOk};
 ghost use Rattle.std.specs.List.{flat_map};
@@ -8,7 +8,7 @@ ghost use Rattle.flow_system.specs.Shown.{tables_of};
 ghost use Rattle.points_to.specs.Bits.{block_words};
 ghost use Rattle.points_to.specs.Held.{field_or_zero_of, field_of_tag, fetched};
 ghost use Rattle.points_to.specs.Known.{held};
-ghost use Rattle.points_to.specs.Rows.{GetsAll};
+ghost use Rattle.points_to.specs.Rows.{GainsMembers};
 
 use crate::bits::{Bits, Block, word_of};
 use crate::facts::Facts;
@@ -170,7 +170,7 @@ impl Fetched {
         s: u32,
         i: u32,
     ) -> Result<(), AllocError>
-        ensures { OnOk result (GetsAll self.old self.new
+        ensures { OnOk result (GainsMembers self.old self.new
             (fetched (tables_of system.now) i (held facts.now (site s)))) }
     {
         self.from_site.clear();

@@ -3,12 +3,12 @@
 ghost use Rattle.std.specs.Prelude.{◌≡◌, ◌++◌, OnOk};
 ghost use Rattle.std.specs.List.{flat_map};
 ghost use Rattle.flow_system.specs.Shown.{tables_of, source_of};
-ghost use Rattle.points_to.specs.Held.{picked, in_part, elements, cell_items, fetched_at, value_items, items};
+ghost use Rattle.points_to.specs.Held.{words_in_part, in_part, elements, cell_items, fetched_at, value_items, items};
 ghost use Rattle.points_to.specs.Known.{held};
 
 use crate::facts::Facts;
 use crate::give::{elements, fetched_words, items, value_items, words_of};
-use crate::nodes::picked;
+use crate::nodes::words_in_part;
 use crate::runs::{ItemRuns, WordRuns};
 use flow_system::fact::{Element, Part, Place};
 use flow_system::inclusion::{FlowSystem, Source};
@@ -19,7 +19,7 @@ use std::alloc::{AllocError, Global};
 // The first words at a cell.
 fn first_at(facts: &Facts, word: Element, out: &mut WordRuns) -> Result<(), AllocError>
     ensures { OnOk result (out.new ≡ out.old
-        ++ picked (Part.Word 0) (cell_items (held facts.now) word)) }
+        ++ words_in_part (Part.Word 0) (cell_items (held facts.now) word)) }
 {
     match word {
         Element::Cell(s) => facts.append_words(Place::Site(s), Part::Word(0), out),
@@ -29,9 +29,13 @@ fn first_at(facts: &Facts, word: Element, out: &mut WordRuns) -> Result<(), Allo
 }
 
 /// The first words at some cells.
-pub fn first_at_all(facts: &Facts, words: &[Element], out: &mut WordRuns) -> Result<(), AllocError>
+pub fn first_words_at_cells(
+    facts: &Facts,
+    words: &[Element],
+    out: &mut WordRuns,
+) -> Result<(), AllocError>
     ensures { OnOk result (out.new ≡ out.old
-        ++ flat_map (λ w. picked (Part.Word 0) (cell_items (held facts.now) w)) words.now) }
+        ++ flat_map (λ w. words_in_part (Part.Word 0) (cell_items (held facts.now) w)) words.now) }
 {
     for word in words {
         first_at(facts, *word, out)?;
@@ -48,12 +52,12 @@ fn first_at_cells(
     out: &mut WordRuns,
 ) -> Result<(), AllocError>
     ensures { OnOk result (out.new ≡ out.old
-        ++ picked (Part.Word 0) (flat_map (cell_items (held facts.now))
+        ++ words_in_part (Part.Word 0) (flat_map (cell_items (held facts.now))
         (elements (tables_of system.now) (held facts.now) w))) }
 {
     let mut cells = Seq::new(alloc);
     elements(alloc, system, facts, w, &mut cells)?;
-    first_at_all(facts, cells.as_slice(), out)
+    first_words_at_cells(facts, cells.as_slice(), out)
 }
 
 fn first_among_items(
@@ -64,12 +68,12 @@ fn first_among_items(
     out: &mut WordRuns,
 ) -> Result<(), AllocError>
     ensures { OnOk result (out.new ≡ out.old
-        ++ picked (Part.Word 0)
+        ++ words_in_part (Part.Word 0)
         (items (tables_of system.now) (held facts.now) (source_of source.now))) }
 {
     let mut given = ItemRuns::new(alloc);
     items(alloc, system, facts, source, &mut given)?;
-    picked(Part::Word(0), &given, out)
+    words_in_part(Part::Word(0), &given, out)
 }
 
 fn first_among_value_items(
@@ -80,11 +84,11 @@ fn first_among_value_items(
     out: &mut WordRuns,
 ) -> Result<(), AllocError>
     ensures { OnOk result (out.new ≡ out.old
-        ++ picked (Part.Word 0) (value_items (tables_of system.now) (held facts.now) v.now)) }
+        ++ words_in_part (Part.Word 0) (value_items (tables_of system.now) (held facts.now) v.now)) }
 {
     let mut given = ItemRuns::new(alloc);
     value_items(alloc, system, facts, v, &mut given)?;
-    picked(Part::Word(0), &given, out)
+    words_in_part(Part::Word(0), &given, out)
 }
 
 // A word alone is itself the first one.
@@ -96,7 +100,7 @@ fn only_word(
     out: &mut WordRuns,
 ) -> Result<(), AllocError>
     ensures { OnOk result (out.new ≡ out.old
-        ++ picked (Part.Word 0)
+        ++ words_in_part (Part.Word 0)
         (in_part (Part.Word 0) (elements (tables_of system.now) (held facts.now) w))) }
 {
     words_of(alloc, system, facts, w, out)
@@ -111,7 +115,7 @@ fn only_fetched_word(
     out: &mut WordRuns,
 ) -> Result<(), AllocError>
     ensures { OnOk result (out.new ≡ out.old
-        ++ picked (Part.Word 0)
+        ++ words_in_part (Part.Word 0)
         (in_part (Part.Word 0) (flat_map (fetched_at (tables_of system.now) (held facts.now) i)
         (elements (tables_of system.now) (held facts.now) w)))) }
 {
@@ -126,7 +130,7 @@ fn first_of_value(
     out: &mut WordRuns,
 ) -> Result<(), AllocError>
     ensures { OnOk result (out.new ≡ out.old
-        ++ picked (Part.Word 0) (value_items (tables_of system.now) (held facts.now) v.now)) }
+        ++ words_in_part (Part.Word 0) (value_items (tables_of system.now) (held facts.now) v.now)) }
 {
     match v {
         Val::NodeVar(x) => facts.append_words(Place::Var(x.0), Part::Word(0), out),
@@ -145,7 +149,7 @@ pub fn first_words(
     out: &mut WordRuns,
 ) -> Result<(), AllocError>
     ensures { OnOk result (out.new ≡ out.old
-        ++ picked (Part.Word 0)
+        ++ words_in_part (Part.Word 0)
         (items (tables_of system.now) (held facts.now) (source_of source.now))) }
 {
     match source {

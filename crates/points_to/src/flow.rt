@@ -7,18 +7,18 @@ ghost use Rattle.points_to.specs.declared.wanted.Kind.TheVariants.{Sites as of_s
 ghost use Rattle.points_to.specs.declared.wanted.Wanted.TheVariants.{NodeTags, Tags as all_tags, Sites as cell_sites};
 ghost use Rattle.points_to.specs.Held.{In};
 ghost use Rattle.points_to.specs.Wanted.{TagTable, SiteTable};
-ghost use Rattle.points_to.specs.Met.{MetTable};
+ghost use Rattle.points_to.specs.Met.{IsVariableTagTable};
 ghost use Rattle.points_to.specs.Known.{held, solution_of};
 ghost use Rattle.points_to.specs.Stored.{tables_in, values_in, whole};
 ghost use Rattle.flow_system.specs.Shown.{tables_of, inclusions_of};
 
 use crate::bits::number_of;
 use crate::facts::{Fact, Facts, Item};
-use crate::met::met_table;
-use crate::origin::Origin;
+use crate::met::variable_tag_table;
+use crate::origin::ProgramTables;
 use crate::parts::words_in;
 use crate::stored::Stored;
-use crate::stored_tags::stored_table;
+use crate::stored_tags::site_tag_table;
 use crate::tables::{site_entry, site_table, sites_of_set, tag_entry, tag_table, tags_of_set};
 use crate::wanted::{Kind, Wanted};
 use flow_system::fact::{Element, Part, Place};
@@ -33,7 +33,7 @@ use std::alloc::{AllocError, Global};
 pub struct Flow {
     facts: Facts,
     stored: Stored,
-    origin: Origin,
+    origin: ProgramTables,
     site_tags: Seq<Seq<TagId>>,
     var_sites: Seq<Seq<Site>>,
     var_tags: Seq<Seq<TagId>>,
@@ -43,7 +43,7 @@ pub struct Flow {
         NodeTags site_tags },
     ghost cells_of_vars: { SiteTable (held facts) Vars cell_sites var_sites },
     ghost tags_of_vars: { TagTable (held facts) Vars all_tags var_tags },
-    ghost tags_in_cells: { MetTable site_tags var_sites met_tags },
+    ghost tags_in_cells: { IsVariableTagTable site_tags var_sites met_tags },
     ghost tags_of_results: { TagTable (held facts) Results all_tags result_tags },
 }
 
@@ -59,7 +59,7 @@ impl Flow {
             alloc,
             facts,
             Stored::new(alloc),
-            Origin::none(alloc),
+            ProgramTables::none(alloc),
             site_tags,
         )
     }
@@ -74,8 +74,8 @@ impl Flow {
         ensures { IfOk result (λ f. found f ≡ solution_of (whole (tables_of system.now)
             (values_in (inclusions_of system.now)) facts stored)) }
     {
-        let site_tags = stored_table(alloc, system, &facts, &stored)?;
-        let origin = Origin::of(alloc, system)?;
+        let site_tags = site_tag_table(alloc, system, &facts, &stored)?;
+        let origin = ProgramTables::of(alloc, system)?;
         Flow::make(alloc, facts, stored, origin, site_tags)
     }
 
@@ -83,7 +83,7 @@ impl Flow {
         alloc: Global,
         facts: Facts,
         stored: Stored,
-        origin: Origin,
+        origin: ProgramTables,
         site_tags: Seq<Seq<TagId>>,
     ) -> Result<Flow, AllocError>
         requires { TagTable (whole (tables_in origin) origin.values facts stored) of_sites NodeTags
@@ -94,7 +94,7 @@ impl Flow {
     {
         let var_sites = site_table(alloc, &facts, Kind::Vars, Wanted::Sites)?;
         let var_tags = tag_table(alloc, &facts, Kind::Vars, Wanted::Tags)?;
-        let met_tags = met_table(alloc, &var_sites, &site_tags)?;
+        let met_tags = variable_tag_table(alloc, &var_sites, &site_tags)?;
         let result_tags = tag_table(alloc, &facts, Kind::Results, Wanted::Tags)?;
         Ok(Flow {
             facts,

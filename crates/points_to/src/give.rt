@@ -6,7 +6,7 @@ ghost use Rattle.flow_system.specs.Inclusions.{value, evaluated, nodes_at, exten
 ghost use Rattle.flow_system.specs.Solution.{width};
 ghost use Rattle.flow_system.specs.Shown.{tables_of, source_of};
 ghost use Rattle.flow_system.specs.declared.fact.Part.TheVariants.{Tags as tags'};
-ghost use Rattle.points_to.specs.Held.{picked, in_part, done_items, node_of_word, as_nodes, item, elements, numbered, value_items, cell_items, fetched_at, last_field, longer_node, longer_tag, after_fields, arguments_of, items};
+ghost use Rattle.points_to.specs.Held.{words_in_part, in_part, done_items, node_of_word, as_nodes, item, elements, numbered, value_items, cell_items, fetched_at, last_field, longer_node, longer_tag, after_fields, arguments_of, items};
 ghost use Rattle.points_to.specs.Known.{held};
 ghost use Rattle.points_to.specs.Numbering.{numbered_part};
 ghost use Rattle.points_to.specs.ByTag.{IsByTag};
@@ -14,7 +14,7 @@ ghost use Rattle.points_to.specs.ByTag.{IsByTag};
 use crate::by_tag::ByTag;
 use crate::facts::Facts;
 use crate::fetch::fetched_from;
-use crate::first::first_at_all;
+use crate::first::first_words_at_cells;
 use crate::nodes::{Shift, append_shifted, as_nodes, as_nodes_of, in_part, listed, nodes_of_words};
 use crate::runs::{ItemRuns, WordRuns};
 use crate::tags::{fields_of, longer};
@@ -441,7 +441,7 @@ fn arguments(
 ) -> Result<(), AllocError>
     ensures { OnOk result (out.new ≡ out.old
         ++ flat_map (arguments_of (tables_of system.now) (held facts.now) t words.now nodes.now)
-        (picked tags' nodes.now)) }
+        (words_in_part tags' nodes.now)) }
 {
     let mut found = Seq::new(alloc);
     listed(alloc, Part::Tags, nodes, &mut found)?;
@@ -462,7 +462,7 @@ pub fn arguments_by_tag(
     requires { IsByTag nodes.now }
     ensures { OnOk result (out.new ≡ out.old
         ++ flat_map (arguments_of (tables_of system.now) (held facts.now) t words.now
-        nodes.now.nodes) (picked tags' nodes.now.nodes)) }
+        nodes.now.nodes) (words_in_part tags' nodes.now.nodes)) }
 {
     let mut fields = ItemRuns::new(alloc);
     nodes.append_fields(t, &mut fields)?;
@@ -584,7 +584,7 @@ fn evaluated_at(
     elements(alloc, system, facts, w, &mut cells)?;
     done_at_all(system, facts, cells.as_slice(), out)?;
     let mut firsts = WordRuns::new(alloc);
-    first_at_all(facts, cells.as_slice(), &mut firsts)?;
+    first_words_at_cells(facts, cells.as_slice(), &mut firsts)?;
     let mut words = Seq::new(alloc);
     firsts.list(&mut words)?;
     done_alone(alloc, system, words.as_slice(), out)?;

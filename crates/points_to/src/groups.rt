@@ -2,13 +2,13 @@
 
 ghost use Rattle.std.specs.Prelude.{◌≡◌, ℕ, ◌<◌, ◌≤◌, ◌*◌, ◌^◌, [], length, IfSome, IfNone, IfOk, OnOk};
 ghost use Rattle.points_to.specs.Held.{In};
-ghost use Rattle.points_to.specs.Waiting.{numbers_from, HasSome, NoneFrom, NoneTo, Waits, Takes};
+ghost use Rattle.points_to.specs.Waiting.{numbers_from, GroupIsNonempty, GroupsEmptyFrom, GroupsEmptyTo, Waits, Takes};
 
 use crate::bits::{with_bit, without_bit};
 use std::alloc::{AllocError, Global};
 
 /// Groups of which all numbers wait.
-pub fn whole_groups(alloc: Global, count: u32) -> Result<Vec<u64>, AllocError>
+pub fn full_groups(alloc: Global, count: u32) -> Result<Vec<u64>, AllocError>
     requires { count ≤ 2 ^ 26 }
     ensures small { IfOk result (λ groups. length groups.items ≤ 2 ^ 26) }
     ensures all { IfOk result (λ groups. (n : ℕ) → n < 64 * count
@@ -51,7 +51,7 @@ pub fn put_number(groups: &mut Vec<u64>, n: u32) -> Result<(), AllocError>
 /// Takes the least number of a group that has some.
 pub fn take_lowest(groups: &mut Vec<u64>, k: usize) -> u32
     requires small { length groups.old.items ≤ 2 ^ 26 }
-    requires some { HasSome groups.old.items k }
+    requires some { GroupIsNonempty groups.old.items k }
     ensures small { length groups.new.items ≤ 2 ^ 26 }
     ensures takes { Takes (numbers_from 0 groups.old.items)
         (numbers_from 0 groups.new.items) result }
@@ -64,8 +64,8 @@ pub fn take_lowest(groups: &mut Vec<u64>, k: usize) -> u32
 
 /// The next group that has some, and the direction in which it was found: the one that is given, or
 /// the other one where there is none.
-pub fn next_group(groups: &[u64], at: usize, upwards: bool) -> Option<(usize, bool)>
-    ensures some { IfSome result (λ r. HasSome groups.now r.0) }
+pub fn next_nonempty_group(groups: &[u64], at: usize, upwards: bool) -> Option<(usize, bool)>
+    ensures some { IfSome result (λ r. GroupIsNonempty groups.now r.0) }
     ensures none { IfNone result (numbers_from 0 groups.now ≡ []) }
 {
     if upwards {
@@ -75,7 +75,7 @@ pub fn next_group(groups: &[u64], at: usize, upwards: bool) -> Option<(usize, bo
 }
 
 fn up_or_down(groups: &[u64], at: usize) -> Option<(usize, bool)>
-    ensures some { IfSome result (λ r. HasSome groups.now r.0) }
+    ensures some { IfSome result (λ r. GroupIsNonempty groups.now r.0) }
     ensures none { IfNone result (numbers_from 0 groups.now ≡ []) }
 {
     match next_up(groups, at) {
@@ -88,7 +88,7 @@ fn up_or_down(groups: &[u64], at: usize) -> Option<(usize, bool)>
 }
 
 fn down_or_up(groups: &[u64], at: usize) -> Option<(usize, bool)>
-    ensures some { IfSome result (λ r. HasSome groups.now r.0) }
+    ensures some { IfSome result (λ r. GroupIsNonempty groups.now r.0) }
     ensures none { IfNone result (numbers_from 0 groups.now ≡ []) }
 {
     match next_down(groups, at) {
@@ -102,8 +102,8 @@ fn down_or_up(groups: &[u64], at: usize) -> Option<(usize, bool)>
 
 // The first group that has some, from a place on.
 fn next_up(groups: &[u64], from: usize) -> Option<usize>
-    ensures some { IfSome result (HasSome groups.now) }
-    ensures none { IfNone result (NoneFrom groups.now from) }
+    ensures some { IfSome result (GroupIsNonempty groups.now) }
+    ensures none { IfNone result (GroupsEmptyFrom groups.now from) }
 {
     let mut k = from;
     'up: while k < groups.len() {
@@ -117,8 +117,8 @@ fn next_up(groups: &[u64], from: usize) -> Option<usize>
 
 // The last group that has some, up to a place.
 fn next_down(groups: &[u64], to: usize) -> Option<usize>
-    ensures some { IfSome result (HasSome groups.now) }
-    ensures none { IfNone result (NoneTo groups.now to) }
+    ensures some { IfSome result (GroupIsNonempty groups.now) }
+    ensures none { IfNone result (GroupsEmptyTo groups.now to) }
 {
     let mut k = groups.len();
     if to < k {

@@ -9,12 +9,12 @@ use crate::pending::Pending;
 use crate::queue::Queue;
 use crate::reads::reads;
 use crate::row_table::{SetTable, Table};
-use crate::span::Span;
-use crate::state::{State, Step, is_plain};
+use crate::span::TagSpan;
+use crate::state::{State, Step, touches_no_cell};
 use crate::stored::number_block;
 use crate::tags::fields_of;
 use flow_system::fact::{Element, Place};
-use flow_system::inclusion::{FlowSystem, Inclusion, Sink, Source};
+use flow_system::inclusion::{FlowSink, FlowSystem, Inclusion, Source};
 use grin_syntax::program::{TagId, Target, Val, Word};
 use seq::Seq;
 use std::alloc::{AllocError, Global};
@@ -45,7 +45,7 @@ pub struct Hints {
     // sites where.
     reached: Table<(u32, u32)>,
     met_by: Table<(u32, u32)>,
-    spans: Vec<Span>,
+    spans: Vec<TagSpan>,
     // By variable the values that it met; by fetch the values that it is linked to; by site the
     // values that the variables which are fetched from there are still to meet.
     met: SetTable,
@@ -64,7 +64,7 @@ impl Hints {
         }
         let mut spans = Vec::new(alloc);
         for _ in 0..count {
-            spans.push(Span::none())?;
+            spans.push(TagSpan::none())?;
         }
         Ok(Hints {
             steps: Seq::new(alloc),
@@ -149,11 +149,11 @@ impl Hints {
         system: &FlowSystem,
         n: u32,
         v: &Val,
-        sink: &Sink,
+        sink: &FlowSink,
     ) -> Result<(), AllocError> {
         match sink {
-            Sink::Site(_) => self.note_head(alloc, system, n, v),
-            Sink::CellsAt(w) => {
+            FlowSink::Site(_) => self.note_head(alloc, system, n, v),
+            FlowSink::CellsAt(w) => {
                 if let Word::Var(x) = w {
                     self.updates.put(alloc, x.0, n)?;
                 }
@@ -172,7 +172,7 @@ impl Hints {
         n: u32,
         inclusion: &Inclusion,
     ) -> Result<(), AllocError> {
-        if is_plain(inclusion) {
+        if touches_no_cell(inclusion) {
             return self.note_reads(alloc, system, facts, n, inclusion);
         }
         if let Inclusion::Flows(Source::Value(v), sink) = inclusion {
@@ -672,13 +672,13 @@ impl Hints {
     fn asked(&mut self, state: &State, inclusion: &Inclusion) -> Result<(), AllocError> {
         if let Inclusion::Flows(_, sink) = inclusion {
             match sink {
-                Sink::To(Target::One(x)) => self.want(state, x.0)?,
-                Sink::To(Target::Vector(xs)) => {
+                FlowSink::To(Target::One(x)) => self.want(state, x.0)?,
+                FlowSink::To(Target::Vector(xs)) => {
                     for x in xs.as_slice() {
                         self.want(state, x.0)?;
                     }
                 }
-                Sink::Result(f) => self.wake_by_results(f.0)?,
+                FlowSink::Result(f) => self.wake_by_results(f.0)?,
                 _ => {}
             }
         }
@@ -720,8 +720,8 @@ impl Hints {
     // The step of an inclusion.
     fn step_of(system: &FlowSystem, n: u32) -> Step {
         match system.inclusions.get(n as usize) {
-            Some(Inclusion::Flows(Source::Value(_), Sink::Site(s))) => Step::Store(n, s.0),
-            Some(Inclusion::Flows(Source::Value(_), Sink::CellsAt(Word::Global(i)))) => {
+            Some(Inclusion::Flows(Source::Value(_), FlowSink::Site(s))) => Step::Store(n, s.0),
+            Some(Inclusion::Flows(Source::Value(_), FlowSink::CellsAt(Word::Global(i)))) => {
                 match system.globals.get(*i as usize) {
                     Some(global) => Step::Store(n, global.site.0),
                     None => Step::Ask(n),

@@ -5,14 +5,14 @@ ghost use Rattle.std.specs.List.{flat_map};
 ghost use Rattle.std.proofs.Props.{props};
 ghost use Rattle.flow_system.specs.Shown.{tables_of};
 ghost use Rattle.points_to.specs.Bits.{block_words};
-ghost use Rattle.points_to.specs.Held.{In, picked, done_items};
+ghost use Rattle.points_to.specs.Held.{In, words_in_part, done_items};
 ghost use Rattle.points_to.specs.PartOrder.{before, Ascending, Finds, IsPlace};
-ghost use Rattle.points_to.specs.Rows.{row_items, GetsAll};
-ghost use Rattle.points_to.specs.Runs.{run_items};
+ghost use Rattle.points_to.specs.Rows.{row_items, GainsMembers};
+ghost use Rattle.points_to.specs.Runs.{items_of_run};
 
 use crate::bits::{Bits, number_of};
 use crate::facts::Item;
-use crate::nodes::{same_part, shift_done};
+use crate::nodes::{same_part, shift_evaluated};
 use crate::runs::{ItemRun, ItemRuns, WordRuns, list_blocks};
 use flow_system::fact::{Element, Part};
 use flow_system::inclusion::FlowSystem;
@@ -69,7 +69,7 @@ impl Items {
     /// Puts the items of a run there, and says whether some of them may be new. Where none is,
     /// nothing changes.
     pub fn add_new(&mut self, alloc: Global, run: ItemRun) -> Result<bool, AllocError>
-        ensures gets { OnOk result (GetsAll self.old self.new (run_items run)) }
+        ensures gets { OnOk result (GainsMembers self.old self.new (items_of_run run)) }
         ensures still { IfOk result (λ added. added ≡ false → self.new ≡ self.old) }
     {
         add_new_in(alloc, &mut self.rows, run)
@@ -84,7 +84,7 @@ impl Items {
 
     /// The blocks of the words in one part.
     pub fn blocks(&self, part: Part) -> &[(u32, u64)]
-        ensures { flat_map block_words result.now ≡ picked part self.now }
+        ensures { flat_map block_words result.now ≡ words_in_part part self.now }
     {
         match find(self.rows.as_slice(), part) {
             Ok(place) => self.rows[place].words.blocks.as_slice(),
@@ -94,14 +94,14 @@ impl Items {
 
     /// Puts the words in one part at the end of a list.
     pub fn append_words(&self, part: Part, out: &mut WordRuns) -> Result<(), AllocError>
-        ensures { OnOk result (out.new ≡ out.old ++ picked part self.now) }
+        ensures { OnOk result (out.new ≡ out.old ++ words_in_part part self.now) }
     {
         out.push_blocks(self.blocks(part))
     }
 
     /// Puts the words in one part, one by one, at the end of a list.
     pub fn list_words(&self, part: Part, out: &mut Seq<Element>) -> Result<(), AllocError>
-        ensures { OnOk result (out.new ≡ out.old ++ picked part self.now) }
+        ensures { OnOk result (out.new ≡ out.old ++ words_in_part part self.now) }
     {
         list_blocks(self.blocks(part), out)
     }
@@ -177,7 +177,7 @@ fn find(rows: &[Row], part: Part) -> Result<usize, usize>
 
 fn add_block(row: &mut Row, run: ItemRun) -> Result<bool, AllocError>
     requires { row.old.part ≡ run.part }
-    ensures gets { OnOk result (GetsAll (row_items row.old) (row_items row.new) (run_items run)) }
+    ensures gets { OnOk result (GainsMembers (row_items row.old) (row_items row.new) (items_of_run run)) }
     ensures still { IfOk result (λ added. added ≡ false → row.new ≡ row.old) }
     ensures same_part { row.new.part ≡ row.old.part }
 {
@@ -187,8 +187,8 @@ fn add_block(row: &mut Row, run: ItemRun) -> Result<bool, AllocError>
 fn add_new_in(alloc: Global, rows: &mut Vec<Row>, run: ItemRun) -> Result<bool, AllocError>
     requires { Ascending rows.old.items }
     ensures ascending { Ascending rows.new.items }
-    ensures gets { OnOk result (GetsAll (flat_map row_items rows.old.items)
-        (flat_map row_items rows.new.items) (run_items run)) }
+    ensures gets { OnOk result (GainsMembers (flat_map row_items rows.old.items)
+        (flat_map row_items rows.new.items) (items_of_run run)) }
     ensures still { IfOk result (λ added. added ≡ false → rows.new.items ≡ rows.old.items) }
 {
     match find(rows.as_slice(), run.part) {
@@ -232,7 +232,7 @@ fn append_done_row(system: &FlowSystem, row: &Row, out: &mut ItemRuns) -> Result
             part: row.part,
             block: *block,
         };
-        shift_done(system, run, out)?;
+        shift_evaluated(system, run, out)?;
     }
     Ok(())
 }

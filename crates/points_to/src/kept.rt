@@ -6,7 +6,7 @@ ghost use Rattle.flow_system.specs.declared.fact.Place.{Place as Place'};
 ghost use Rattle.flow_system.specs.Shown.{tables_of, inclusions_of, inclusion_of, sink_of};
 ghost use Rattle.points_to.specs.Held.{In, elements};
 ghost use Rattle.points_to.specs.Known.{held};
-ghost use Rattle.points_to.specs.Kept.{is_of_words, met_by, HasSite, PutsAt, IsSound};
+ghost use Rattle.points_to.specs.Kept.{has_no_node_variable, met_by, HasSite, PutsAt, IsSound};
 ghost use Rattle.points_to.specs.Rows.{numbers_in, SameMembers};
 ghost use Rattle.points_to.specs.Stored.{stored_at, cell_stored};
 
@@ -15,7 +15,7 @@ use crate::facts::{Fact, Facts, Item};
 use crate::give::elements;
 use crate::stored::Stored;
 use flow_system::fact::{Element, Part, Place};
-use flow_system::inclusion::{FlowSystem, Inclusion, Sink, Source};
+use flow_system::inclusion::{FlowSink, FlowSystem, Inclusion, Source};
 use grin_syntax::program::{Val, Word};
 use seq::Seq;
 use std::alloc::{AllocError, Global};
@@ -79,15 +79,15 @@ impl Kept {
     }
 
     // Whether what flows to a sink reaches the cells of a site.
-    fn has_site(&self, system: &FlowSystem, sink: &Sink, site: u32) -> bool
+    fn has_site(&self, system: &FlowSystem, sink: &FlowSink, site: u32) -> bool
         ensures { IsTrue result
             → HasSite (tables_of system.now) (held self.now.facts) site (sink_of sink.now) }
     {
         match sink {
-            Sink::To(_) => false,
-            Sink::Result(_) => false,
-            Sink::Site(s) => s.0 == site,
-            Sink::CellsAt(w) => self.stands_for(system, *w, Element::Cell(site)),
+            FlowSink::To(_) => false,
+            FlowSink::Result(_) => false,
+            FlowSink::Site(s) => s.0 == site,
+            FlowSink::CellsAt(w) => self.stands_for(system, *w, Element::Cell(site)),
         }
     }
 
@@ -98,7 +98,7 @@ impl Kept {
     {
         match inclusion {
             Inclusion::Flows(source, sink) => match source {
-                Source::Value(v) => is_of_words(v) && self.has_site(system, sink, site),
+                Source::Value(v) => has_no_node_variable(v) && self.has_site(system, sink, site),
                 Source::ACell(_) => false,
                 Source::ANumber => false,
                 Source::Result(_) => false,
@@ -159,8 +159,8 @@ fn is_same(a: Element, b: Element) -> bool
 }
 
 /// Whether a value has no node variable.
-pub fn is_of_words(v: &Val) -> bool
-    ensures { result ≡ is_of_words v.now }
+pub fn has_no_node_variable(v: &Val) -> bool
+    ensures { result ≡ has_no_node_variable v.now }
 {
     match v {
         Val::NodeVar(_) => false,

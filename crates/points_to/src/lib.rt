@@ -40,6 +40,7 @@ mod stored_tags;
 mod tables;
 mod tags;
 mod targets;
+mod truth;
 mod value_word;
 mod vectors;
 mod wanted;

@@ -2,7 +2,7 @@
 
 ghost use Rattle.std.specs.Prelude.{◌≡◌, ℕ, true, map, IfOk};
 ghost use Rattle.std.specs.List.{flat_map};
-ghost use Rattle.points_to.specs.Met.{tags_at, Ascends, MetSoFar, MetTable};
+ghost use Rattle.points_to.specs.Met.{tags_at, IsSortedSetOf, IsPartialTagTable, IsVariableTagTable};
 ghost use Rattle.points_to.specs.Rows.{numbers_in, SameMembers};
 ghost use Rattle.points_to.specs.Stored.{sets_at};
 
@@ -50,7 +50,7 @@ fn numbers_met(alloc: Global, sites: &[Site], sets: &[Bits]) -> Result<Bits, All
 
 // The tags of some sites, ascending and without repeats.
 fn met_at(alloc: Global, sites: &[Site], sets: &[Bits]) -> Result<Seq<TagId>, AllocError>
-    ensures { IfOk result (λ ts. Ascends (flat_map (sets_at sets.now) (map (λ s. s.0) sites.now))
+    ensures { IfOk result (λ ts. IsSortedSetOf (flat_map (sets_at sets.now) (map (λ s. s.0) sites.now))
         (map (λ t. t.0) ts)) }
 {
     let met = numbers_met(alloc, sites, sets)?;
@@ -85,8 +85,8 @@ fn met_again(
     sets: &[Bits],
     sites: &[Site],
 ) -> Result<Seq<TagId>, AllocError>
-    requires { MetSoFar (sets_at sets.now) var_sites.now table.now }
-    ensures { IfOk result (λ ts. Ascends (flat_map (sets_at sets.now) (map (λ s. s.0) sites.now))
+    requires { IsPartialTagTable (sets_at sets.now) var_sites.now table.now }
+    ensures { IfOk result (λ ts. IsSortedSetOf (flat_map (sets_at sets.now) (map (λ s. s.0) sites.now))
         (map (λ t. t.0) ts)) }
 {
     if earlier < table.len() {
@@ -99,12 +99,12 @@ fn met_again(
 
 /// The tags of the sites of each variable. In a case the fields of all alternatives often have the
 /// same sites, so the entry of the last variable that has sites may serve again.
-pub fn met_table(
+pub fn variable_tag_table(
     alloc: Global,
     var_sites: &Seq<Seq<Site>>,
     site_tags: &Seq<Seq<TagId>>,
 ) -> Result<Seq<Seq<TagId>>, AllocError>
-    ensures { IfOk result (MetTable site_tags.now var_sites.now) }
+    ensures { IfOk result (IsVariableTagTable site_tags.now var_sites.now) }
 {
     let sets = tag_sets(alloc, site_tags)?;
     let mut table = Seq::new(alloc);

@@ -4,10 +4,10 @@ ghost use Rattle.std.specs.Prelude.{◌≡◌, [], ◌∷◌, ◌++◌, cond, On
 ghost use Rattle.std.specs.List.{flat_map};
 ghost use Rattle.flow_system.specs.Shown.{tables_of};
 ghost use Rattle.points_to.specs.Bits.{block_words};
-ghost use Rattle.points_to.specs.Held.{same_part, picked, in_part, field_of_tag, fetched, as_word, node_of_word, as_nodes, enough, shifted_word, field_or_zero_of, made_node, done_tag, done_items};
+ghost use Rattle.points_to.specs.Held.{same_part, words_in_part, in_part, field_of_tag, fetched, as_word, node_of_word, as_nodes, words_hold_tag, shifted_word, field_or_zero_of, made_node, done_tag, done_items};
 ghost use Rattle.points_to.specs.OneTag.{is_tag, node_if_tag, as_nodes_of};
-ghost use Rattle.points_to.specs.Runs.{run_items};
-ghost use Rattle.points_to.specs.Shift.{shifted};
+ghost use Rattle.points_to.specs.Runs.{items_of_run};
+ghost use Rattle.points_to.specs.Shift.{shifted_items};
 
 use crate::bits::{Block, word_of};
 use crate::runs::{ItemRun, ItemRuns, WordRuns};
@@ -54,7 +54,7 @@ pub fn same_part(a: Part, b: Part) -> bool
 
 // Puts a run at the end of a list, where it is wanted.
 fn push_if(wanted: bool, run: ItemRun, out: &mut ItemRuns) -> Result<(), AllocError>
-    ensures { OnOk result (out.new ≡ out.old ++ cond wanted (run_items run) []) }
+    ensures { OnOk result (out.new ≡ out.old ++ cond wanted (items_of_run run) []) }
 {
     if wanted {
         out.push(run)?;
@@ -63,7 +63,7 @@ fn push_if(wanted: bool, run: ItemRun, out: &mut ItemRuns) -> Result<(), AllocEr
 }
 
 fn pick(part: Part, run: ItemRun, out: &mut WordRuns) -> Result<(), AllocError>
-    ensures { OnOk result (out.new ≡ out.old ++ picked part (run_items run)) }
+    ensures { OnOk result (out.new ≡ out.old ++ words_in_part part (items_of_run run)) }
 {
     if same_part(part, run.part) {
         return out.push_block(run.block);
@@ -72,8 +72,8 @@ fn pick(part: Part, run: ItemRun, out: &mut WordRuns) -> Result<(), AllocError>
 }
 
 /// The words in one part.
-pub fn picked(part: Part, items: &ItemRuns, out: &mut WordRuns) -> Result<(), AllocError>
-    ensures { OnOk result (out.new ≡ out.old ++ picked part items.now) }
+pub fn words_in_part(part: Part, items: &ItemRuns, out: &mut WordRuns) -> Result<(), AllocError>
+    ensures { OnOk result (out.new ≡ out.old ++ words_in_part part items.now) }
 {
     for run in items.as_slice() {
         pick(part, *run, out)?;
@@ -88,10 +88,10 @@ pub fn listed(
     items: &ItemRuns,
     out: &mut Seq<Element>,
 ) -> Result<(), AllocError>
-    ensures { OnOk result (out.new ≡ out.old ++ picked part items.now) }
+    ensures { OnOk result (out.new ≡ out.old ++ words_in_part part items.now) }
 {
     let mut words = WordRuns::new(alloc);
-    picked(part, items, &mut words)?;
+    words_in_part(part, items, &mut words)?;
     words.list(out)
 }
 
@@ -154,9 +154,13 @@ fn push_done_tags(
 }
 
 /// What stays of a run where evaluated nodes alone are wanted.
-pub fn shift_done(system: &FlowSystem, run: ItemRun, out: &mut ItemRuns) -> Result<(), AllocError>
+pub fn shift_evaluated(
+    system: &FlowSystem,
+    run: ItemRun,
+    out: &mut ItemRuns,
+) -> Result<(), AllocError>
     ensures { OnOk result (out.new ≡ out.old
-        ++ done_items (tables_of system.now) (run_items run)) }
+        ++ done_items (tables_of system.now) (items_of_run run)) }
 {
     match run.part {
         Part::Tags => push_done_tags(system, run.block, out),
@@ -172,7 +176,7 @@ fn shift_run(
     out: &mut ItemRuns,
 ) -> Result<(), AllocError>
     ensures { OnOk result (out.new ≡ out.old
-        ++ flat_map (shifted (tables_of system.now) by) (run_items run)) }
+        ++ flat_map (shifted_items (tables_of system.now) by) (items_of_run run)) }
 {
     let block = run.block;
     match by {
@@ -181,7 +185,7 @@ fn shift_run(
             Part::Field(_, _) => push_if(true, run, out),
             Part::Word(_) => Ok(()),
         },
-        Shift::Evaluated => shift_done(system, run, out),
+        Shift::Evaluated => shift_evaluated(system, run, out),
         Shift::Fields(t, m) => match run.part {
             Part::Tags => Ok(()),
             Part::Field(_, _) => Ok(()),
@@ -222,7 +226,7 @@ pub fn append_shifted(
     out: &mut ItemRuns,
 ) -> Result<(), AllocError>
     ensures { OnOk result (out.new ≡ out.old
-        ++ flat_map (shifted (tables_of system.now) by) items.now) }
+        ++ flat_map (shifted_items (tables_of system.now) by) items.now) }
 {
     for run in items.as_slice() {
         shift_run(system, by, *run, out)?;
@@ -261,7 +265,7 @@ fn field_or_zero(
     ensures { OnOk result (out.new ≡ out.old ++ field_or_zero_of i t items.now m) }
 {
     if i < m {
-        return picked(Part::Field(t, i), items, out);
+        return words_in_part(Part::Field(t, i), items, out);
     }
     out.push(Element::Number)?;
     Ok(())
@@ -294,7 +298,7 @@ pub fn fetched(
     ensures { OnOk result (out.new ≡ out.old ++ fetched (tables_of system.now) i items.now) }
 {
     if i == 0 {
-        return picked(Part::Tags, items, out);
+        return words_in_part(Part::Tags, items, out);
     }
     let mut found = Seq::new(alloc);
     listed(alloc, Part::Tags, items, &mut found)?;
@@ -311,14 +315,14 @@ pub fn as_word(
 ) -> Result<(), AllocError>
     ensures { OnOk result (out.new ≡ out.old ++ as_word (tables_of system.now) j items.now) }
 {
-    picked(Part::Word(j), items, out)?;
+    words_in_part(Part::Word(j), items, out)?;
     fetched(alloc, system, j, items, out)?;
     Ok(())
 }
 
 /// Whether k words, or any number of them, are enough for a tag and m fields.
-pub fn enough(k: Option<usize>, m: u32) -> bool
-    ensures { result ≡ enough k m }
+pub fn words_hold_tag(k: Option<usize>, m: u32) -> bool
+    ensures { result ≡ words_hold_tag k m }
 {
     match k {
         None => true,
@@ -358,7 +362,7 @@ fn node_of_word(
         Element::Tag(t) => match fields_of(system, t) {
             None => Ok(()),
             Some(m) => {
-                if enough(k, m) {
+                if words_hold_tag(k, m) {
                     node_of_words(system, t, m, items, out)?;
                 }
                 Ok(())

@@ -1,7 +1,7 @@
 // Sets of inclusions, by their numbers.
 
 ghost use Rattle.std.specs.Prelude.{◌≡◌, ◌≤◌, [], length, OnOk};
-ghost use Rattle.points_to.specs.Rows.{Gets};
+ghost use Rattle.points_to.specs.Rows.{GainsMember};
 
 use std::alloc::{AllocError, Global};
 use std::marker::Model;
@@ -43,7 +43,7 @@ impl NumberRow {
 
     /// Puts a number among them.
     pub fn put(&mut self, n: u32) -> Result<(), AllocError>
-        ensures { OnOk result (Gets self.old self.new n) }
+        ensures { OnOk result (GainsMember self.old self.new n) }
     {
         put_in_row(&mut self.row, n)
     }
@@ -57,7 +57,7 @@ impl NumberRow {
 }
 
 fn put_in_row(row: &mut Vec<u32>, n: u32) -> Result<(), AllocError>
-    ensures { OnOk result (Gets row.old.items row.new.items n) }
+    ensures { OnOk result (GainsMember row.old.items row.new.items n) }
 {
     // Inclusions are mostly satisfied in ascending order.
     if is_past(row.as_slice(), n) {
@@ -73,7 +73,7 @@ fn put_in_row(row: &mut Vec<u32>, n: u32) -> Result<(), AllocError>
 // Puts a number at its place, or at the end where too many would have to be moved.
 fn put_at(row: &mut Vec<u32>, at: usize, n: u32) -> Result<(), AllocError>
     requires { at ≤ length row.old.items }
-    ensures { OnOk result (Gets row.old.items row.new.items n) }
+    ensures { OnOk result (GainsMember row.old.items row.new.items n) }
 {
     if row.len() - at > MOST_MOVED {
         row.push(n)?;

@@ -15,17 +15,17 @@ use std::alloc::{AllocError, Global};
 
 /// The tags, the global cells and the parameters of a program, and the value of each inclusion.
 #[derive(Drop)]
-pub struct Origin {
+pub struct ProgramTables {
     tags: Seq<Tag>,
     pub(crate) globals: Seq<GlobalCell>,
     params: Seq<Seq<VarId>>,
     values: Seq<Option<Val>>,
 }
 
-impl Origin {
+impl ProgramTables {
     /// Of no program.
-    pub fn none(alloc: Global) -> Origin {
-        Origin {
+    pub fn none(alloc: Global) -> ProgramTables {
+        ProgramTables {
             tags: Seq::new(alloc),
             globals: Seq::new(alloc),
             params: Seq::new(alloc),
@@ -34,7 +34,7 @@ impl Origin {
     }
 
     /// Of the program of a system.
-    pub fn of(alloc: Global, system: &FlowSystem) -> Result<Origin, AllocError>
+    pub fn of(alloc: Global, system: &FlowSystem) -> Result<ProgramTables, AllocError>
         ensures tables { IfOk result (λ o. tables_in o ≡ tables_of system.now) }
         ensures values { IfOk result (λ o. o.values ≡ values_in (inclusions_of system.now)) }
     {
@@ -42,7 +42,7 @@ impl Origin {
         let globals = copy_globals(alloc, system.globals.as_slice())?;
         let params = copy_params(alloc, system.params.as_slice())?;
         let values = copy_values(alloc, system.inclusions.as_slice())?;
-        Ok(Origin {
+        Ok(ProgramTables {
             tags,
             globals,
             params,

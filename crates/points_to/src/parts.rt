@@ -1,15 +1,15 @@
 // What stands in one part of a place, where cells hold values.
 
-ghost use Rattle.std.specs.Prelude.{◌≡◌, ◌++◌, ◌&&◌, ◌||◌, suc, cond, [], slice_get, OnOk, IfOk};
+ghost use Rattle.std.specs.Prelude.{◌≡◌, ◌++◌, ◌&&◌, suc, cond, [], slice_get, OnOk, IfOk};
 ghost use Rattle.std.specs.List.{flat_map, list_any};
 ghost use Rattle.flow_system.specs.Inclusions.{value};
 ghost use Rattle.flow_system.specs.Solution.{width};
 ghost use Rattle.flow_system.specs.Tables.{fields_of};
 ghost use Rattle.points_to.specs.Bits.{block_numbers};
-ghost use Rattle.points_to.specs.Held.{elements, picked};
+ghost use Rattle.points_to.specs.Held.{elements, words_in_part};
 ghost use Rattle.points_to.specs.Known.{held};
 ghost use Rattle.points_to.specs.OneTag.{is_tag};
-ghost use Rattle.points_to.specs.PartWords.{are_enough, has_one, tag_of_words, node_given, vector_given, one_given, given, value_part, stored_part, part_of_values, place_part};
+ghost use Rattle.points_to.specs.PartWords.{tag_fits_in_words, tag_has_field, tag_of_words, node_given, vector_given, one_given, given, value_part, stored_part, part_of_values, place_part};
 ghost use Rattle.points_to.specs.Rows.{SameMembers, words_in};
 ghost use Rattle.points_to.specs.Stored.{tables_in, value_at, whole};
 ghost use Rattle.points_to.specs.ValueWords.{elements_of};
@@ -17,17 +17,23 @@ ghost use Rattle.points_to.specs.ValueWords.{elements_of};
 use crate::bits::{Bits, Block};
 use crate::facts::Facts;
 use crate::give::width_of_value;
-use crate::nodes::enough;
-use crate::origin::Origin;
+use crate::nodes::words_hold_tag;
+use crate::origin::ProgramTables;
 use crate::runs::WordRuns;
 use crate::stored::Stored;
+use crate::truth::either;
 use flow_system::fact::{Element, Part, Place};
 use grin_syntax::program::{Val, Word};
 use seq::Seq;
 use std::alloc::{AllocError, Global};
 
 // What a word stands for.
-fn words_of(origin: &Origin, facts: &Facts, w: Word, out: &mut WordRuns) -> Result<(), AllocError>
+fn words_of(
+    origin: &ProgramTables,
+    facts: &Facts,
+    w: Word,
+    out: &mut WordRuns,
+) -> Result<(), AllocError>
     ensures { OnOk result (out.new ≡ out.old
         ++ elements (tables_in origin.now) (held facts.now) w) }
 {
@@ -43,7 +49,7 @@ fn words_of(origin: &Origin, facts: &Facts, w: Word, out: &mut WordRuns) -> Resu
 }
 
 fn nth_word(
-    origin: &Origin,
+    origin: &ProgramTables,
     facts: &Facts,
     words: &[Word],
     j: usize,
@@ -60,7 +66,7 @@ fn nth_word(
 
 // The tag of a node, or a field of it.
 fn put_of_node(
-    origin: &Origin,
+    origin: &ProgramTables,
     facts: &Facts,
     t: u32,
     words: &[Word],
@@ -84,7 +90,7 @@ fn put_of_node(
 
 // One of the words of a vector.
 fn put_of_vector(
-    origin: &Origin,
+    origin: &ProgramTables,
     facts: &Facts,
     words: &[Word],
     part: Part,
@@ -102,7 +108,7 @@ fn put_of_vector(
 
 // A word alone, which is the first one.
 fn put_of_one(
-    origin: &Origin,
+    origin: &ProgramTables,
     facts: &Facts,
     w: Word,
     part: Part,
@@ -125,7 +131,7 @@ fn put_of_one(
 
 // The words in one part of a value as it is written.
 fn put_given(
-    origin: &Origin,
+    origin: &ProgramTables,
     facts: &Facts,
     v: &Val,
     part: Part,
@@ -142,26 +148,26 @@ fn put_given(
     }
 }
 
-fn are_enough(width: Option<usize>, fields: Option<u32>) -> bool
-    ensures { result ≡ are_enough width fields }
+fn tag_fits_in_words(width: Option<usize>, fields: Option<u32>) -> bool
+    ensures { result ≡ tag_fits_in_words width fields }
 {
     match fields {
-        Some(m) => enough(width, m),
+        Some(m) => words_hold_tag(width, m),
         None => false,
     }
 }
 
-fn has_one(width: Option<usize>, i: u32, fields: Option<u32>) -> bool
-    ensures { result ≡ has_one width i fields }
+fn tag_has_field(width: Option<usize>, i: u32, fields: Option<u32>) -> bool
+    ensures { result ≡ tag_has_field width i fields }
 {
     match fields {
-        Some(m) => enough(width, m) && i < m,
+        Some(m) => words_hold_tag(width, m) && i < m,
         None => false,
     }
 }
 
 fn put_tag(
-    origin: &Origin,
+    origin: &ProgramTables,
     width: Option<usize>,
     word: Element,
     out: &mut WordRuns,
@@ -171,7 +177,7 @@ fn put_tag(
     match word {
         Element::Cell(_) => Ok(()),
         Element::Tag(t) => {
-            if are_enough(width, origin.fields_of(t)) {
+            if tag_fits_in_words(width, origin.fields_of(t)) {
                 return out.push(word);
             }
             Ok(())
@@ -181,7 +187,7 @@ fn put_tag(
 }
 
 fn put_tags(
-    origin: &Origin,
+    origin: &ProgramTables,
     width: Option<usize>,
     words: &[Element],
     out: &mut WordRuns,
@@ -198,7 +204,7 @@ fn put_tags(
 // The first words of a value, one by one.
 fn first_words(
     alloc: Global,
-    origin: &Origin,
+    origin: &ProgramTables,
     facts: &Facts,
     v: &Val,
 ) -> Result<Seq<Element>, AllocError>
@@ -222,13 +228,7 @@ fn is_tag(t: u32, word: Element) -> bool
     }
 }
 
-// Either of two, and both.
-fn either(a: bool, b: bool) -> bool
-    ensures { result ≡ (a || b) }
-{
-    a || b
-}
-
+// Whether both hold.
 fn both(a: bool, b: bool) -> bool
     ensures { result ≡ (a && b) }
 {
@@ -248,7 +248,7 @@ fn has_tag(t: u32, words: &[Element]) -> bool
 // A field of the nodes that the words of a value stand for.
 fn put_field(
     alloc: Global,
-    origin: &Origin,
+    origin: &ProgramTables,
     facts: &Facts,
     v: &Val,
     t: u32,
@@ -257,12 +257,12 @@ fn put_field(
 ) -> Result<(), AllocError>
     ensures { OnOk result (out.new ≡ out.old ++ cond (list_any (is_tag t)
         (given (tables_in origin.now) (held facts.now) v.now (Part.Word 0))
-        && has_one (width (value v.now)) i (fields_of (tables_in origin.now) t))
+        && tag_has_field (width (value v.now)) i (fields_of (tables_in origin.now) t))
         (given (tables_in origin.now) (held facts.now) v.now (Part.Word (suc i))) []) }
 {
     let first = first_words(alloc, origin, facts, v)?;
     let next = i.checked_add(1).ok_or(AllocError)?;
-    let reached = has_one(width_of_value(v), i, origin.fields_of(t));
+    let reached = tag_has_field(width_of_value(v), i, origin.fields_of(t));
     if both(has_tag(t, first.as_slice()), reached) {
         return put_given(origin, facts, v, Part::Word(next), out);
     }
@@ -272,7 +272,7 @@ fn put_field(
 // The words in one part of the nodes that a value stands for.
 fn put_value(
     alloc: Global,
-    origin: &Origin,
+    origin: &ProgramTables,
     facts: &Facts,
     v: &Val,
     part: Part,
@@ -297,7 +297,7 @@ fn put_value(
 
 fn put_stored(
     alloc: Global,
-    origin: &Origin,
+    origin: &ProgramTables,
     facts: &Facts,
     n: u64,
     part: Part,
@@ -314,7 +314,7 @@ fn put_stored(
 
 fn put_block(
     alloc: Global,
-    origin: &Origin,
+    origin: &ProgramTables,
     facts: &Facts,
     block: (u32, u64),
     part: Part,
@@ -332,7 +332,7 @@ fn put_block(
 
 fn put_blocks(
     alloc: Global,
-    origin: &Origin,
+    origin: &ProgramTables,
     facts: &Facts,
     blocks: &[(u32, u64)],
     part: Part,
@@ -349,7 +349,7 @@ fn put_blocks(
 
 fn put_part(
     alloc: Global,
-    origin: &Origin,
+    origin: &ProgramTables,
     facts: &Facts,
     stored: &Stored,
     place: Place,
@@ -372,13 +372,13 @@ fn put_part(
 /// The words in one part of a place.
 pub fn words_in(
     alloc: Global,
-    origin: &Origin,
+    origin: &ProgramTables,
     facts: &Facts,
     stored: &Stored,
     place: Place,
     part: Part,
 ) -> Result<Bits, AllocError>
-    ensures { IfOk result (λ set. SameMembers (words_in set) (picked part
+    ensures { IfOk result (λ set. SameMembers (words_in set) (words_in_part part
         (whole (tables_in origin.now) origin.now.values facts.now stored.now place))) }
 {
     let mut words = WordRuns::new(alloc);

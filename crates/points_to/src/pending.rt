@@ -4,7 +4,7 @@
 ghost use Rattle.std.specs.Prelude.{◌≡◌, ℕ, ◌<◌, ◌≤◌, ◌*◌, ◌^◌, [], length, IfSome, IfNone, IfOk, OnOk};
 ghost use Rattle.points_to.specs.Held.{In};
 
-use crate::groups::{next_group, put_number, take_lowest, whole_groups};
+use crate::groups::{full_groups, next_nonempty_group, put_number, take_lowest};
 use std::alloc::{AllocError, Global};
 
 /// The numbers of the inclusions that wait: a group for each 64 of them, with a bit for each that
@@ -27,7 +27,7 @@ impl Pending {
     pub fn all(alloc: Global, count: u32) -> Result<Pending, AllocError>
         ensures { IfOk result (λ w. (n : ℕ) → n < count → In n (waiting w)) }
     {
-        let groups = whole_groups(alloc, count / 64 + 1)?;
+        let groups = full_groups(alloc, count / 64 + 1)?;
         Ok(Pending {
             groups,
             at: 0,
@@ -66,7 +66,7 @@ impl Pending {
         ensures none { IfNone result (waiting self.old ≡ []) }
         ensures left { IfNone result (waiting self.new ≡ []) }
     {
-        match next_group(self.groups.as_slice(), self.at, self.upwards) {
+        match next_nonempty_group(self.groups.as_slice(), self.at, self.upwards) {
             None => None,
             Some((k, upwards)) => {
                 self.at = k;

@@ -2,7 +2,7 @@
 
 ghost use Rattle.std.specs.Prelude.{◌≡◌, ℕ, ◌<◌, [], length, OnOk};
 ghost use Rattle.flow_system.specs.declared.fact.Place.{Place as Place'};
-ghost use Rattle.points_to.specs.Waiting.{slot, numbers_at, readers_of, Registers, Clears};
+ghost use Rattle.points_to.specs.Waiting.{place_slot, numbers_at, readers_of, RegistersReader, ClearsReaders};
 
 use crate::number_set::NumberRow;
 use flow_system::fact::Place;
@@ -26,9 +26,9 @@ impl Readers {
 
     /// Registers that an inclusion reads a place.
     pub fn register(&mut self, alloc: Global, place: Place, n: u32) -> Result<(), AllocError>
-        ensures { OnOk result (Registers (readers_of self.old) (readers_of self.new) place n) }
+        ensures { OnOk result (RegistersReader (readers_of self.old) (readers_of self.new) place n) }
     {
-        let at = slot(place);
+        let at = place_slot(place);
         grow(alloc, &mut self.by_slot, at)?;
         self.by_slot[at].put(n)?;
         Ok(())
@@ -38,7 +38,7 @@ impl Readers {
     pub fn at(&self, place: Place) -> &[u32]
         ensures { result.now ≡ readers_of self.now place }
     {
-        match self.by_slot.get(slot(place)) {
+        match self.by_slot.get(place_slot(place)) {
             None => &[],
             Some(readers) => readers.as_slice(),
         }
@@ -46,9 +46,9 @@ impl Readers {
 
     /// Takes the readers of a place away from it.
     pub fn clear(&mut self, place: Place)
-        ensures { Clears (readers_of self.old) (readers_of self.new) place }
+        ensures { ClearsReaders (readers_of self.old) (readers_of self.new) place }
     {
-        let at = slot(place);
+        let at = place_slot(place);
         if at < self.by_slot.len() {
             self.by_slot[at].clear();
         }
@@ -56,8 +56,8 @@ impl Readers {
 }
 
 // The number of a place among those of all kinds.
-fn slot(place: Place) -> usize
-    ensures { result ≡ slot place }
+fn place_slot(place: Place) -> usize
+    ensures { result ≡ place_slot place }
 {
     match place {
         Place::Site(n) => 3 * n as usize,

@@ -14,7 +14,7 @@ use crate::nodes::listed;
 use crate::runs::ItemRuns;
 use crate::tags::{called, delayed};
 use flow_system::fact::{Element, Part, Place};
-use flow_system::inclusion::{FlowSystem, Inclusion, Sink, Source};
+use flow_system::inclusion::{FlowSink, FlowSystem, Inclusion, Source};
 use grin_syntax::program::{Val, Word};
 use seq::Seq;
 use std::alloc::{AllocError, Global};
@@ -50,14 +50,14 @@ fn value_reads(v: &Val, out: &mut Seq<Place>) -> Result<(), AllocError>
     }
 }
 
-fn sink_reads(sink: &Sink, out: &mut Seq<Place>) -> Result<(), AllocError>
+fn sink_reads(sink: &FlowSink, out: &mut Seq<Place>) -> Result<(), AllocError>
     ensures { OnOk result (out.new ≡ out.old ++ sink_reads (sink_of sink.now)) }
 {
     match sink {
-        Sink::To(_) => Ok(()),
-        Sink::Result(_) => Ok(()),
-        Sink::Site(_) => Ok(()),
-        Sink::CellsAt(w) => word_reads(*w, out),
+        FlowSink::To(_) => Ok(()),
+        FlowSink::Result(_) => Ok(()),
+        FlowSink::Site(_) => Ok(()),
+        FlowSink::CellsAt(w) => word_reads(*w, out),
     }
 }
 
@@ -134,7 +134,7 @@ fn flow_reads(
     system: &FlowSystem,
     facts: &Facts,
     source: &Source,
-    sink: &Sink,
+    sink: &FlowSink,
     out: &mut Seq<Place>,
 ) -> Result<(), AllocError>
     ensures { OnOk result (out.new ≡ out.old
@@ -228,7 +228,7 @@ fn applies_reads(
     facts: &Facts,
     v: &Val,
     a: Word,
-    sink: &Sink,
+    sink: &FlowSink,
     out: &mut Seq<Place>,
 ) -> Result<(), AllocError>
     ensures { OnOk result (out.new ≡ out.old

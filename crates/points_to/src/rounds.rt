@@ -1,31 +1,25 @@
 // The least solution, in rounds over all inclusions.
 
-ghost use Rattle.std.specs.Prelude.{◌≡◌, false, ◌||◌, OnOk, IfOk};
+ghost use Rattle.std.specs.Prelude.{◌≡◌, false, OnOk, IfOk};
 ghost use Rattle.flow_system.specs.Shown.{tables_of, inclusions_of, inclusion_of};
 ghost use Rattle.flow_system.specs.Solution.{IsLeast};
-ghost use Rattle.points_to.specs.Asked.{demands};
-ghost use Rattle.points_to.specs.Known.{held, Grows, solution_of};
-ghost use Rattle.points_to.specs.Rounds.{InEvery, AllSatisfied, Counted};
+ghost use Rattle.points_to.specs.Asked.{facts_demanded};
+ghost use Rattle.points_to.specs.Known.{held, GrowsByFacts, solution_of};
+ghost use Rattle.points_to.specs.Rounds.{InEvery, AllSatisfied, CountsAddedFacts};
 
-use crate::ask::demands;
+use crate::ask::facts_demanded;
 use crate::facts::Facts;
 use crate::runs::FactRuns;
 use crate::satisfied::is_satisfied;
+use crate::truth::either;
 use flow_system::inclusion::{FlowSystem, Inclusion};
 use std::alloc::{AllocError, Global};
 
-/// Whether one of two holds.
-pub fn either(a: bool, b: bool) -> bool
-    ensures { result ≡ (a || b) }
-{
-    a || b
-}
-
 /// Adds facts, and says whether some of them may be new.
 pub fn add_all(alloc: Global, facts: &mut Facts, more: &FactRuns) -> Result<bool, AllocError>
-    ensures grown { OnOk result (Grows (held facts.old) (held facts.new) more.now) }
+    ensures grown { OnOk result (GrowsByFacts (held facts.old) (held facts.new) more.now) }
     ensures still { IfOk result (λ added. added ≡ false → facts.new ≡ facts.old) }
-    ensures counted { IfOk result (λ added. Counted facts.old facts.new added) }
+    ensures counted { IfOk result (λ added. CountsAddedFacts facts.old facts.new added) }
 {
     let mut added = false;
     for run in more.as_slice() {
@@ -42,16 +36,16 @@ pub fn satisfy(
     inclusion: &Inclusion,
 ) -> Result<bool, AllocError>
     ensures grown { OnOk result
-        (Grows (held facts.old) (held facts.new)
-        (demands (tables_of system.now) (held facts.old) (inclusion_of inclusion.now))) }
+        (GrowsByFacts (held facts.old) (held facts.new)
+        (facts_demanded (tables_of system.now) (held facts.old) (inclusion_of inclusion.now))) }
     ensures still { IfOk result (λ added. added ≡ false → facts.new ≡ facts.old) }
-    ensures counted { IfOk result (λ added. Counted facts.old facts.new added) }
+    ensures counted { IfOk result (λ added. CountsAddedFacts facts.old facts.new added) }
 {
     if is_satisfied(system, facts, inclusion) {
         return Ok(false);
     }
     let mut asked = FactRuns::new(alloc);
-    demands(alloc, system, facts, inclusion, &mut asked)?;
+    facts_demanded(alloc, system, facts, inclusion, &mut asked)?;
     add_all(alloc, facts, &asked)
 }
 
@@ -62,7 +56,7 @@ fn round(alloc: Global, system: &FlowSystem, facts: &mut Facts) -> Result<bool, 
         → InEvery (tables_of system.now) (inclusions_of system.now) (held facts.new)) }
     ensures done { IfOk result (λ added. added ≡ false
         → AllSatisfied (tables_of system.now) (inclusions_of system.now) (held facts.new)) }
-    ensures counted { IfOk result (λ added. Counted facts.old facts.new added) }
+    ensures counted { IfOk result (λ added. CountsAddedFacts facts.old facts.new added) }
 {
     let mut added = false;
     for inclusion in system.inclusions.as_slice() {

@@ -5,8 +5,8 @@ ghost use Rattle.std.specs.List.{flat_map};
 ghost use Rattle.points_to.specs.Held.{item, in_part};
 ghost use Rattle.points_to.specs.Asked.{facts_at};
 ghost use Rattle.points_to.specs.Bits.{block_words};
-ghost use Rattle.points_to.specs.Rows.{GetsAll, words_in};
-ghost use Rattle.points_to.specs.Runs.{run_items, run_facts};
+ghost use Rattle.points_to.specs.Rows.{GainsMembers, words_in};
+ghost use Rattle.points_to.specs.Runs.{items_of_run, facts_of_run};
 
 use crate::bits::{Bits, Block, block_of, word_of};
 use flow_system::fact::{Element, Part, Place};
@@ -95,7 +95,7 @@ impl WordRuns {
     /// Puts the words into a set. Their first block is looked for near a place; it says at which
     /// place the last one stands.
     pub fn put_into(&self, set: &mut Bits, near: usize) -> Result<usize, AllocError>
-        ensures { OnOk result (GetsAll (words_in set.old) (words_in set.new) self.now) }
+        ensures { OnOk result (GainsMembers (words_in set.old) (words_in set.new) self.now) }
     {
         set.add_all(self.blocks.as_slice(), near)
     }
@@ -138,12 +138,12 @@ pub struct ItemRuns {
 impl Model for ItemRuns {
     ghost use Rattle.std.specs.Prelude.{List};
     ghost use Rattle.std.specs.List.{flat_map};
-    ghost use Rattle.points_to.specs.Runs.{run_items};
+    ghost use Rattle.points_to.specs.Runs.{items_of_run};
     ghost use Rattle.points_to.specs.declared.facts.Item.{Item as AnItem};
 
     ghost Value = { List AnItem };
 
-    ghost view = { λ s. flat_map run_items s.runs.items };
+    ghost view = { λ s. flat_map items_of_run s.runs.items };
 }
 
 impl ItemRuns {
@@ -158,14 +158,14 @@ impl ItemRuns {
 
     /// The runs.
     pub fn as_slice(&self) -> &[ItemRun]
-        ensures { flat_map run_items result.now ≡ self.now }
+        ensures { flat_map items_of_run result.now ≡ self.now }
     {
         self.runs.as_slice()
     }
 
     /// Puts a run at the end.
     pub fn push(&mut self, run: ItemRun) -> Result<(), AllocError>
-        ensures { OnOk result (self.new ≡ self.old ++ run_items run) }
+        ensures { OnOk result (self.new ≡ self.old ++ items_of_run run) }
     {
         self.runs.push(run)?;
         Ok(())
@@ -205,12 +205,12 @@ pub struct FactRuns {
 impl Model for FactRuns {
     ghost use Rattle.std.specs.Prelude.{List};
     ghost use Rattle.std.specs.List.{flat_map};
-    ghost use Rattle.points_to.specs.Runs.{run_facts};
+    ghost use Rattle.points_to.specs.Runs.{facts_of_run};
     ghost use Rattle.points_to.specs.declared.facts.Fact.{Fact as AFact};
 
     ghost Value = { List AFact };
 
-    ghost view = { λ s. flat_map run_facts s.runs.items };
+    ghost view = { λ s. flat_map facts_of_run s.runs.items };
 }
 
 impl FactRuns {
@@ -225,14 +225,14 @@ impl FactRuns {
 
     /// The runs.
     pub fn as_slice(&self) -> &[FactRun]
-        ensures { flat_map run_facts result.now ≡ self.now }
+        ensures { flat_map facts_of_run result.now ≡ self.now }
     {
         self.runs.as_slice()
     }
 
     /// Puts items, at a place, at the end.
     pub fn push(&mut self, place: Place, items: ItemRun) -> Result<(), AllocError>
-        ensures { OnOk result (self.new ≡ self.old ++ facts_at place (run_items items)) }
+        ensures { OnOk result (self.new ≡ self.old ++ facts_at place (items_of_run items)) }
     {
         self.runs.push(FactRun { place, items })?;
         Ok(())

@@ -5,20 +5,20 @@ ghost use Rattle.flow_system.specs.Inclusions.{value, arguments, held as held', 
 ghost use Rattle.flow_system.specs.Shown.{tables_of, source_of, sink_of, inclusion_of};
 ghost use Rattle.flow_system.specs.Tables.{Tables};
 ghost use Rattle.flow_system.specs.declared.fact.Element.{Element as Element'};
-ghost use Rattle.points_to.specs.Asked.{facts_at, vector_facts, target_facts, flow_facts, demands};
-ghost use Rattle.points_to.specs.Held.{In, picked, in_part, as_word, elements, numbered, items};
+ghost use Rattle.points_to.specs.Asked.{facts_at, vector_facts, target_facts, flow_facts, facts_demanded};
+ghost use Rattle.points_to.specs.Held.{In, words_in_part, in_part, as_word, elements, numbered, items};
 ghost use Rattle.points_to.specs.Known.{held};
-ghost use Rattle.points_to.specs.Rounds.{AllHeld};
+ghost use Rattle.points_to.specs.Rounds.{AllFactsKnown};
 
 use crate::bits::are_within;
 use crate::facts::{Fact, Facts, Item};
 use flow_system::fact::{Element, Part, Place};
-use flow_system::inclusion::{FlowSystem, Inclusion, Sink, Source};
+use flow_system::inclusion::{FlowSink, FlowSystem, Inclusion, Source};
 use grin_syntax::program::{Target, Val, VarId, Word};
 
 // Whether one word is known in a part of a place.
 fn is_held(facts: &Facts, word: Element, place: Place, part: Part) -> bool
-    ensures { IsTrue result → AllHeld (held facts.now) (facts_at place (in_part part (word ∷ []))) }
+    ensures { IsTrue result → AllFactsKnown (held facts.now) (facts_at place (in_part part (word ∷ []))) }
 {
     facts.has(Fact {
         place,
@@ -28,15 +28,15 @@ fn is_held(facts: &Facts, word: Element, place: Place, part: Part) -> bool
 
 // Whether the words in a part of one place are known in a part of another.
 fn are_held(facts: &Facts, from: Place, given: Part, place: Place, part: Part) -> bool
-    ensures { IsTrue result → AllHeld (held facts.now)
-        (facts_at place (in_part part (picked given (held facts.now from)))) }
+    ensures { IsTrue result → AllFactsKnown (held facts.now)
+        (facts_at place (in_part part (words_in_part given (held facts.now from)))) }
 {
     are_within(facts.blocks(from, given), facts.blocks(place, part))
 }
 
 // Whether what a word stands for is known in a part of a place.
 fn stands_at(system: &FlowSystem, facts: &Facts, w: Word, place: Place, part: Part) -> bool
-    ensures { IsTrue result → AllHeld (held facts.now)
+    ensures { IsTrue result → AllFactsKnown (held facts.now)
         (facts_at place (in_part part (elements (tables_of system.now) (held facts.now) w))) }
 {
     match w {
@@ -52,7 +52,7 @@ fn stands_at(system: &FlowSystem, facts: &Facts, w: Word, place: Place, part: Pa
 
 // Whether what word j of some words stands for is known at a variable.
 fn nth_stands_at(system: &FlowSystem, facts: &Facts, words: &[Word], j: u32, x: VarId) -> bool
-    ensures { IsTrue result → AllHeld (held facts.now)
+    ensures { IsTrue result → AllFactsKnown (held facts.now)
         (facts_at (Place.Var x.0) (in_part (Part.Word 0) (as_word (tables_of system.now) j
         (numbered (tables_of system.now) (held facts.now) Part.Word 0 words.now)))) }
 {
@@ -64,7 +64,7 @@ fn nth_stands_at(system: &FlowSystem, facts: &Facts, words: &[Word], j: u32, x: 
 
 // Whether what words stand for is known, each at its variable.
 fn stand_at_vector(system: &FlowSystem, facts: &Facts, words: &[Word], xs: &[VarId]) -> bool
-    ensures { IsTrue result → AllHeld (held facts.now) (vector_facts (tables_of system.now)
+    ensures { IsTrue result → AllFactsKnown (held facts.now) (vector_facts (tables_of system.now)
         (numbered (tables_of system.now) (held facts.now) Part.Word 0 words.now) 0 xs.now) }
 {
     let mut j: u32 = 0;
@@ -82,7 +82,7 @@ fn stand_at_vector(system: &FlowSystem, facts: &Facts, words: &[Word], xs: &[Var
 
 // Whether what words stand for is known, each in its part of a result.
 fn stand_at_result(system: &FlowSystem, facts: &Facts, words: &[Word], f: u32) -> bool
-    ensures { IsTrue result → AllHeld (held facts.now) (facts_at (Place.Result f)
+    ensures { IsTrue result → AllFactsKnown (held facts.now) (facts_at (Place.Result f)
         (numbered (tables_of system.now) (held facts.now) Part.Word 0 words.now)) }
 {
     let mut j: u32 = 0;
@@ -124,7 +124,7 @@ fn is_never(facts: &Facts, w: Word, t: u32) -> bool
 
 // Whether what the words after the first stand for is known, each at its variable.
 fn later_stand_at(system: &FlowSystem, facts: &Facts, words: &[Word], t: u32, xs: &[VarId]) -> bool
-    ensures { IsTrue result → AllHeld (held facts.now) (vector_facts (tables_of system.now)
+    ensures { IsTrue result → AllFactsKnown (held facts.now) (vector_facts (tables_of system.now)
         (items (tables_of system.now) (held facts.now)
         (arguments (value (Val.Vector words.now)) t [])) 0 xs.now) }
 {
@@ -143,7 +143,7 @@ fn later_stand_at(system: &FlowSystem, facts: &Facts, words: &[Word], t: u32, xs
 
 // Whether the fields of a tag among the nodes that words may be are known, each at its variable.
 fn fields_are_at(system: &FlowSystem, facts: &Facts, words: &[Word], t: u32, xs: &[VarId]) -> bool
-    ensures { IsTrue result → AllHeld (held facts.now) (vector_facts (tables_of system.now)
+    ensures { IsTrue result → AllFactsKnown (held facts.now) (vector_facts (tables_of system.now)
         (items (tables_of system.now) (held facts.now)
         (arguments (value (Val.Vector words.now)) t [])) 0 xs.now) }
 {
@@ -160,7 +160,7 @@ fn fields_are_at(system: &FlowSystem, facts: &Facts, words: &[Word], t: u32, xs:
 
 // Whether the fields of a tag among the nodes that a value may be are known at a target.
 fn fields_at_target(system: &FlowSystem, facts: &Facts, v: &Val, t: u32, target: &Target) -> bool
-    ensures { IsTrue result → AllHeld (held facts.now) (flow_facts (tables_of system.now)
+    ensures { IsTrue result → AllFactsKnown (held facts.now) (flow_facts (tables_of system.now)
         (held facts.now) (arguments (value v.now) t []) (to target.now)) }
 {
     match v {
@@ -182,8 +182,8 @@ fn fields_at_target(system: &FlowSystem, facts: &Facts, v: &Val, t: u32, target:
 
 // Whether what the first of some words stands for is known at a variable.
 fn first_stands_at(system: &FlowSystem, facts: &Facts, words: &[Word], x: VarId) -> bool
-    ensures { IsTrue result → AllHeld (held facts.now)
-        (facts_at (Place.Var x.0) (in_part (Part.Word 0) (picked (Part.Word 0)
+    ensures { IsTrue result → AllFactsKnown (held facts.now)
+        (facts_at (Place.Var x.0) (in_part (Part.Word 0) (words_in_part (Part.Word 0)
         (numbered (tables_of system.now) (held facts.now) Part.Word 0 words.now)))) }
 {
     nth_stands_at(system, facts, words, 0, x)
@@ -191,8 +191,8 @@ fn first_stands_at(system: &FlowSystem, facts: &Facts, words: &[Word], x: VarId)
 
 // Whether what a word stands for is known at a variable.
 fn word_stands_at(system: &FlowSystem, facts: &Facts, w: Word, x: VarId) -> bool
-    ensures { IsTrue result → AllHeld (held facts.now)
-        (facts_at (Place.Var x.0) (in_part (Part.Word 0) (picked (Part.Word 0)
+    ensures { IsTrue result → AllFactsKnown (held facts.now)
+        (facts_at (Place.Var x.0) (in_part (Part.Word 0) (words_in_part (Part.Word 0)
         (in_part (Part.Word 0) (elements (tables_of system.now) (held facts.now) w))))) }
 {
     stands_at(system, facts, w, Place::Var(x.0), Part::Word(0))
@@ -200,7 +200,7 @@ fn word_stands_at(system: &FlowSystem, facts: &Facts, w: Word, x: VarId) -> bool
 
 // Whether a value is known at a target.
 fn is_at_target(system: &FlowSystem, facts: &Facts, v: &Val, target: &Target) -> bool
-    ensures { IsTrue result → AllHeld (held facts.now)
+    ensures { IsTrue result → AllFactsKnown (held facts.now)
         (flow_facts (tables_of system.now) (held facts.now) (value v.now) (to target.now)) }
 {
     match v {
@@ -225,7 +225,7 @@ fn is_at_target(system: &FlowSystem, facts: &Facts, v: &Val, target: &Target) ->
 
 // Whether a value is known at the result of a procedure.
 fn is_at_result(system: &FlowSystem, facts: &Facts, v: &Val, f: u32) -> bool
-    ensures { IsTrue result → AllHeld (held facts.now)
+    ensures { IsTrue result → AllFactsKnown (held facts.now)
         (flow_facts (tables_of system.now) (held facts.now) (value v.now) (into_result f)) }
 {
     match v {
@@ -238,7 +238,7 @@ fn is_at_result(system: &FlowSystem, facts: &Facts, v: &Val, f: u32) -> bool
 
 // Whether one word is known at a target of one word.
 fn word_is_at_target(facts: &Facts, word: Element, target: &Target) -> bool
-    ensures { IsTrue result → (p : Tables) → (k : Option ℕ) → AllHeld (held facts.now)
+    ensures { IsTrue result → (p : Tables) → (k : Option ℕ) → AllFactsKnown (held facts.now)
         (target_facts p k (in_part (Part.Word 0) (word ∷ [])) target.now) }
 {
     match target {
@@ -251,7 +251,7 @@ fn word_is_at_target(facts: &Facts, word: Element, target: &Target) -> bool
 
 // Whether a result is known at a target.
 fn result_is_at_target(system: &FlowSystem, facts: &Facts, f: u32, target: &Target) -> bool
-    ensures { IsTrue result → AllHeld (held facts.now) (flow_facts (tables_of system.now)
+    ensures { IsTrue result → AllFactsKnown (held facts.now) (flow_facts (tables_of system.now)
         (held facts.now) (held' (Place.Result f)) (to target.now)) }
 {
     match target {
@@ -270,7 +270,7 @@ fn result_is_at_target(system: &FlowSystem, facts: &Facts, f: u32, target: &Targ
 
 // Whether what a source gives is known at a target.
 fn flows_to_target(system: &FlowSystem, facts: &Facts, source: &Source, target: &Target) -> bool
-    ensures { IsTrue result → AllHeld (held facts.now) (flow_facts (tables_of system.now)
+    ensures { IsTrue result → AllFactsKnown (held facts.now) (flow_facts (tables_of system.now)
         (held facts.now) (source_of source.now) (to target.now)) }
 {
     match source {
@@ -288,7 +288,7 @@ fn flows_to_target(system: &FlowSystem, facts: &Facts, source: &Source, target: 
 
 // Whether what a source gives is known at the result of a procedure.
 fn flows_to_result(system: &FlowSystem, facts: &Facts, source: &Source, f: u32) -> bool
-    ensures { IsTrue result → AllHeld (held facts.now) (flow_facts (tables_of system.now)
+    ensures { IsTrue result → AllFactsKnown (held facts.now) (flow_facts (tables_of system.now)
         (held facts.now) (source_of source.now) (into_result f)) }
 {
     match source {
@@ -307,15 +307,15 @@ fn flows_to_result(system: &FlowSystem, facts: &Facts, source: &Source, f: u32) 
 /// Whether all that an inclusion asks for is known already. Where it says no, it may be known; it
 /// looks at words and results that flow to variables and to results.
 pub fn is_satisfied(system: &FlowSystem, facts: &Facts, inclusion: &Inclusion) -> bool
-    ensures { IsTrue result → AllHeld (held facts.now)
-        (demands (tables_of system.now) (held facts.now) (inclusion_of inclusion.now)) }
+    ensures { IsTrue result → AllFactsKnown (held facts.now)
+        (facts_demanded (tables_of system.now) (held facts.now) (inclusion_of inclusion.now)) }
 {
     match inclusion {
         Inclusion::Flows(source, sink) => match sink {
-            Sink::To(target) => flows_to_target(system, facts, source, target),
-            Sink::Result(f) => flows_to_result(system, facts, source, f.0),
-            Sink::Site(_) => false,
-            Sink::CellsAt(_) => false,
+            FlowSink::To(target) => flows_to_target(system, facts, source, target),
+            FlowSink::Result(f) => flows_to_result(system, facts, source, f.0),
+            FlowSink::Site(_) => false,
+            FlowSink::CellsAt(_) => false,
         },
         Inclusion::Forces(_) => false,
         Inclusion::Applies(_, _, _) => false,

@@ -2,15 +2,15 @@
 
 /// The tags of a vector: one with the most fields, and the least number of fields.
 #[derive(Clone, Copy)]
-pub struct Span {
+pub struct TagSpan {
     pub most: Option<(u32, u32)>,
     pub least: Option<u32>,
 }
 
-impl Span {
+impl TagSpan {
     /// No tags.
-    pub fn none() -> Span {
-        Span {
+    pub fn none() -> TagSpan {
+        TagSpan {
             most: None,
             least: None,
         }
@@ -36,8 +36,8 @@ impl Span {
     }
 
     /// The same with a tag with so many fields.
-    pub fn with(self, t: u32, m: u32) -> Span {
-        Span {
+    pub fn with(self, t: u32, m: u32) -> TagSpan {
+        TagSpan {
             most: if self.is_higher(m) {
                 Some((t, m))
             } else {

@@ -9,7 +9,7 @@ ghost use Rattle.flow_system.specs.Tables.{Tables};
 ghost use Rattle.points_to.specs.Bits.{block_words};
 ghost use Rattle.points_to.specs.Copies.{IsReached};
 ghost use Rattle.points_to.specs.Held.{In};
-ghost use Rattle.points_to.specs.Kept.{is_plain, is_elsewhere};
+ghost use Rattle.points_to.specs.Kept.{touches_no_cell, is_not_cell_sink};
 
 use crate::bits::Bits;
 use crate::copies::{Copies, put_fresh};
@@ -17,7 +17,7 @@ use crate::kept::Kept;
 use crate::rounds::satisfy as satisfy_plain;
 use crate::runs::WordRuns;
 use flow_system::fact::Place;
-use flow_system::inclusion::{FlowSystem, Inclusion, Sink, Source};
+use flow_system::inclusion::{FlowSink, FlowSystem, Inclusion, Source};
 use seq::Seq;
 use std::alloc::{AllocError, Global};
 
@@ -127,7 +127,7 @@ impl State {
         match system.inclusions.get(n as usize) {
             None => Ok(false),
             Some(inclusion) => {
-                if is_plain(inclusion) {
+                if touches_no_cell(inclusion) {
                     return satisfy_plain(alloc, system, &mut self.kept.facts, inclusion);
                 }
                 Ok(false)
@@ -193,20 +193,20 @@ impl State {
 }
 
 /// Whether an inclusion reads no cells, and puts nothing into cells.
-pub fn is_plain(inclusion: &Inclusion) -> bool
-    ensures { result ≡ is_plain (inclusion_of inclusion.now) }
+pub fn touches_no_cell(inclusion: &Inclusion) -> bool
+    ensures { result ≡ touches_no_cell (inclusion_of inclusion.now) }
 {
     match inclusion {
         Inclusion::Flows(source, sink) => match source {
-            Source::Value(_) => is_elsewhere(sink),
-            Source::ACell(_) => is_elsewhere(sink),
-            Source::ANumber => is_elsewhere(sink),
-            Source::Result(_) => is_elsewhere(sink),
+            Source::Value(_) => is_not_cell_sink(sink),
+            Source::ACell(_) => is_not_cell_sink(sink),
+            Source::ANumber => is_not_cell_sink(sink),
+            Source::Result(_) => is_not_cell_sink(sink),
             Source::NodesAt(_) => false,
             Source::WordAt(_, _) => false,
             Source::EvaluatedAt(_) => false,
             Source::Extended(_, _) => false,
-            Source::FieldsOf(_, _) => is_elsewhere(sink),
+            Source::FieldsOf(_, _) => is_not_cell_sink(sink),
         },
         Inclusion::Forces(_) => false,
         Inclusion::Applies(_, _, _) => false,
@@ -214,13 +214,13 @@ pub fn is_plain(inclusion: &Inclusion) -> bool
 }
 
 /// Whether a sink is no cell.
-pub fn is_elsewhere(sink: &Sink) -> bool
-    ensures { result ≡ is_elsewhere (sink_of sink.now) }
+pub fn is_not_cell_sink(sink: &FlowSink) -> bool
+    ensures { result ≡ is_not_cell_sink (sink_of sink.now) }
 {
     match sink {
-        Sink::To(_) => true,
-        Sink::Result(_) => true,
-        Sink::Site(_) => false,
-        Sink::CellsAt(_) => false,
+        FlowSink::To(_) => true,
+        FlowSink::Result(_) => true,
+        FlowSink::Site(_) => false,
+        FlowSink::CellsAt(_) => false,
     }
 }

@@ -4,8 +4,8 @@ ghost use Rattle.std.specs.Prelude.{◌≡◌, ℕ, ◌<◌, ◌≤◌, ◌++◌
 ghost use Rattle.std.specs.List.{flat_map};
 ghost use Rattle.points_to.specs.Bits.{block_numbers};
 ghost use Rattle.points_to.specs.Held.{In};
-ghost use Rattle.points_to.specs.Rows.{numbers_in, GetsAll};
-ghost use Rattle.points_to.specs.Stored.{sets_at, stored_at, cell_stored, Stores};
+ghost use Rattle.points_to.specs.Rows.{numbers_in, GainsMembers};
+ghost use Rattle.points_to.specs.Stored.{sets_at, stored_at, cell_stored, PutsAtSite};
 
 use crate::bits::{Bits, Block, with_bit};
 use flow_system::fact::Element;
@@ -57,7 +57,7 @@ impl Stored {
 
     /// Puts a number at a site, and says whether it may be new. Where it is not, nothing changes.
     pub fn add(&mut self, alloc: Global, site: u32, n: u32) -> Result<bool, AllocError>
-        ensures stores { OnOk result (Stores (stored_at self.old) (stored_at self.new) site n) }
+        ensures stores { OnOk result (PutsAtSite (stored_at self.old) (stored_at self.new) site n) }
         ensures still { IfOk result (λ added. added ≡ false → self.new ≡ self.old) }
     {
         if (site as usize) < self.at.len() {
@@ -70,7 +70,7 @@ impl Stored {
 
     /// Puts the numbers at a cell into a set.
     pub fn put_met(&self, cell: Element, met: &mut Bits) -> Result<(), AllocError>
-        ensures { OnOk result (GetsAll (numbers_in met.old) (numbers_in met.new)
+        ensures { OnOk result (GainsMembers (numbers_in met.old) (numbers_in met.new)
             (cell_stored self.now cell)) }
     {
         match cell {
@@ -93,7 +93,7 @@ pub fn blocks_at(sets: &[Bits], site: u32) -> &[(u32, u64)]
 
 /// Puts the numbers of blocks into a set.
 pub fn put_all(blocks: &[(u32, u64)], met: &mut Bits) -> Result<(), AllocError>
-    ensures { OnOk result (GetsAll (numbers_in met.old) (numbers_in met.new)
+    ensures { OnOk result (GainsMembers (numbers_in met.old) (numbers_in met.new)
         (flat_map block_numbers blocks.now)) }
 {
     met.add_all(blocks, 0)?;
@@ -145,7 +145,7 @@ fn grow(alloc: Global, sets: &mut Vec<Bits>, n: u32) -> Result<(), AllocError>
 // Puts a number into the set of a site, which is there.
 fn add_there(sets: &mut Vec<Bits>, site: u32, n: u32) -> Result<bool, AllocError>
     requires { site < length sets.old.items }
-    ensures stores { OnOk result (Stores (sets_at sets.old.items) (sets_at sets.new.items) site n) }
+    ensures stores { OnOk result (PutsAtSite (sets_at sets.old.items) (sets_at sets.new.items) site n) }
     ensures still { IfOk result (λ added. added ≡ false → sets.new ≡ sets.old) }
 {
     sets[site as usize].add_new(number_block(n))

@@ -115,7 +115,7 @@ fn sites(facts: &Facts, stored: &Stored) -> Result<u32, AllocError>
 }
 
 /// The tags of the nodes at each site.
-pub fn stored_table(
+pub fn site_tag_table(
     alloc: Global,
     system: &FlowSystem,
     facts: &Facts,

@@ -6,7 +6,7 @@ ghost use Rattle.std.specs.List.Sorted.{IsStrictlyIncreasing};
 ghost use Rattle.points_to.specs.Bits.{block_words};
 ghost use Rattle.points_to.specs.Known.{held};
 ghost use Rattle.points_to.specs.Rows.{words_in};
-ghost use Rattle.points_to.specs.Wanted.{tag_in, site_in, by_parts, place_of, SameSet, Lists, site_id, numbers_by, TagTable, SiteTable};
+ghost use Rattle.points_to.specs.Wanted.{tag_in, site_in, wanted_by_parts, place_of, SameSet, Lists, site_id, numbers_by, TagTable, SiteTable};
 ghost use Rattle.grin_syntax.specs.Tags.{tag_id};
 
 use crate::bits::{Bits, Block, word_of};
@@ -78,7 +78,7 @@ fn put_all_sites(blocks: &[(u32, u64)], out: &mut Seq<u32>) -> Result<(), AllocE
 
 // What is wanted of the items at a place, part by part.
 fn put_parts(facts: &Facts, place: Place, w: Wanted, out: &mut Seq<u32>) -> Result<(), AllocError>
-    ensures { OnOk result (out.new ≡ out.old ++ by_parts w (held facts.now place)) }
+    ensures { OnOk result (out.new ≡ out.old ++ wanted_by_parts w (held facts.now place)) }
 {
     match w {
         Wanted::NodeTags => {

@@ -3,10 +3,10 @@
 ghost use Rattle.std.specs.Prelude.{◌≡◌, ◌+◌, IfOk};
 ghost use Rattle.flow_system.specs.Tables.{fields_of};
 ghost use Rattle.flow_system.specs.Shown.{tables_of};
-ghost use Rattle.points_to.specs.Held.{is_done, delayed, called, longer, when_one, when_more};
+ghost use Rattle.points_to.specs.Held.{is_done, delayed, called, longer, if_one_missing, when_more};
 
 use flow_system::inclusion::FlowSystem;
-use flow_system::reading::tag_lacking;
+use flow_system::reading::first_tag_lacking;
 use grin_syntax::program::{ProcId, TagKind};
 use std::alloc::AllocError;
 
@@ -51,8 +51,8 @@ pub fn delayed(system: &FlowSystem, t: u32) -> Option<u32>
     }
 }
 
-fn when_one(f: u32, missing: u32) -> Option<u32>
-    ensures { result ≡ when_one f missing }
+fn if_one_missing(f: u32, missing: u32) -> Option<u32>
+    ensures { result ≡ if_one_missing f missing }
 {
     if missing == 1 { Some(f) } else { None }
 }
@@ -66,7 +66,7 @@ pub fn called(system: &FlowSystem, t: u32) -> Option<u32>
             TagKind::Con => None,
             TagKind::Fun => None,
             TagKind::Part => match tag.proc {
-                Some(f) => when_one(f.0, tag.missing),
+                Some(f) => if_one_missing(f.0, tag.missing),
                 None => None,
             },
         },
@@ -80,7 +80,7 @@ fn when_more(system: &FlowSystem, f: u32, missing: u32) -> Result<Option<u32>, A
     if missing < 2 {
         return Ok(None);
     }
-    match tag_lacking(system, ProcId(f), missing - 1)? {
+    match first_tag_lacking(system, ProcId(f), missing - 1)? {
         Some(tag) => Ok(Some(tag.0)),
         None => Ok(None),
     }

@@ -4,7 +4,7 @@ ghost use Rattle.std.specs.Prelude.{◌≡◌, ◌++◌, OnOk};
 ghost use Rattle.std.specs.List.{flat_map};
 ghost use Rattle.flow_system.specs.Inclusions.{to};
 ghost use Rattle.flow_system.specs.Shown.{tables_of, source_of};
-ghost use Rattle.points_to.specs.Held.{picked, in_part, as_word, as_nodes, numbered, items};
+ghost use Rattle.points_to.specs.Held.{words_in_part, in_part, as_word, as_nodes, numbered, items};
 ghost use Rattle.points_to.specs.Asked.{facts_at, vector_facts, target_facts, flow_facts};
 ghost use Rattle.points_to.specs.Bits.{block_words};
 ghost use Rattle.points_to.specs.Known.{held};
@@ -12,7 +12,7 @@ ghost use Rattle.points_to.specs.Known.{held};
 use crate::facts::Facts;
 use crate::first::first_words;
 use crate::give::{items, width, words_of};
-use crate::nodes::{as_nodes, as_word, picked};
+use crate::nodes::{as_nodes, as_word, words_in_part};
 use crate::runs::{FactRuns, ItemRun, ItemRuns, WordRuns};
 use flow_system::fact::{Part, Place};
 use flow_system::inclusion::{FlowSystem, Source};
@@ -289,9 +289,9 @@ fn first_at_variable(
     out: &mut FactRuns,
 ) -> Result<(), AllocError>
     ensures { OnOk result (out.new ≡ out.old
-        ++ facts_at (Place.Var x.0) (in_part (Part.Word 0) (picked (Part.Word 0) items.now))) }
+        ++ facts_at (Place.Var x.0) (in_part (Part.Word 0) (words_in_part (Part.Word 0) items.now))) }
 {
     let mut words = WordRuns::new(alloc);
-    picked(Part::Word(0), items, &mut words)?;
+    words_in_part(Part::Word(0), items, &mut words)?;
     words_at_variable(x, &words, out)
 }

@@ -10,7 +10,7 @@ ghost use Rattle.points_to.specs.Bits.{block_words};
 ghost use Rattle.points_to.specs.Held.{elements, fetched};
 ghost use Rattle.points_to.specs.Known.{held};
 ghost use Rattle.points_to.specs.Stored.{value_nodes};
-ghost use Rattle.points_to.specs.ValueWords.{chosen, fits, reaches, lacks, fitting, has_field, has_fewer, elements_of, node_field, node_words, vector_words, value_words};
+ghost use Rattle.points_to.specs.ValueWords.{word_or_number, fits, reaches, lacks, fitting, has_field, has_fewer, elements_of, node_field, node_words, vector_words, value_words};
 
 use crate::bits::{Block, word_of};
 use crate::facts::Facts;
@@ -18,6 +18,7 @@ use crate::give::{elements, value_nodes, words_of};
 use crate::nodes::fetched;
 use crate::runs::{ItemRuns, WordRuns};
 use crate::tags::fields_of;
+use crate::truth::either;
 use flow_system::fact::Element;
 use flow_system::inclusion::FlowSystem;
 use grin_syntax::program::{Val, Word};
@@ -36,13 +37,6 @@ fn is_all(seen: Seen) -> bool
     ensures { IsTrue result → (seen.has ≡ true) × (seen.fewer ≡ true) }
 {
     seen.has && seen.fewer
-}
-
-// Either of two.
-fn either(a: bool, b: bool) -> bool
-    ensures { result ≡ (a || b) }
-{
-    a || b
 }
 
 fn reaches(width: usize, j: u32, fields: Option<u32>) -> bool
@@ -254,7 +248,7 @@ fn put_chosen(
     j: u32,
     out: &mut WordRuns,
 ) -> Result<(), AllocError>
-    ensures { OnOk result (out.new ≡ out.old ++ chosen seen.has seen.fewer
+    ensures { OnOk result (out.new ≡ out.old ++ word_or_number seen.has seen.fewer
         (elements_of (tables_of system.now) (held facts.now) (slice_get words.now (suc j)))) }
 {
     if seen.has {

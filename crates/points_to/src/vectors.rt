@@ -2,7 +2,7 @@
 // values, not as the nodes that they stand for. Copies are followed first; rounds over all
 // inclusions then add what is still missing.
 
-ghost use Rattle.std.specs.Prelude.{◌≡◌, ◌≤◌, ◌⊎◌, ℕ, List, map, ◌++◌, ◌∷◌, [], ◌||◌, ◌&&◌, Some, None, true, false, slice_get, IsTrue, OnOk, IfOk};
+ghost use Rattle.std.specs.Prelude.{◌≡◌, ◌≤◌, ◌⊎◌, ℕ, List, map, ◌++◌, ◌∷◌, [], ◌&&◌, Some, None, true, false, slice_get, IsTrue, OnOk, IfOk};
 ghost use Rattle.std.specs.Option.{option_copied};
 ghost use Rattle.std.specs.List.{flat_map};
 ghost use Rattle.flow_system.specs.Inclusions.{Inclusion as Inclusion', value, word_at, flows, to, into_site, into_result, cells_at};
@@ -15,43 +15,44 @@ ghost use Rattle.points_to.specs.declared.facts.Item.{Item as Item'};
 ghost use Rattle.points_to.specs.Asked.{asked};
 ghost use Rattle.points_to.specs.Bits.{block_numbers};
 ghost use Rattle.flow_system.specs.declared.fact.Element.{Element as Element'};
-ghost use Rattle.points_to.specs.Held.{In, in_part, picked};
-ghost use Rattle.points_to.specs.Kept.{is_elsewhere, is_of_words, reads_no_cell, is_plain, flow_by_words, is_by_words, AllByWords, noted, noted_of, met_by, MetSound, MetExact, AreWords, AreKnown, WordsExact, NotedExact, IsSound, solution, Steps, MetAtEnd, AllMet};
+ghost use Rattle.points_to.specs.Held.{In, in_part, words_in_part};
+ghost use Rattle.points_to.specs.Kept.{is_not_cell_sink, has_no_node_variable, reads_no_cell, touches_no_cell, flow_by_words, is_by_words, AllByWords, noted, cached_values_of, met_by, MetSound, MetExact, AreWords, AreKnown, WordsExact, NotedExact, IsSound, solution, Steps, MetAtEnd, AllMet};
 ghost use Rattle.points_to.specs.Known.{held};
-ghost use Rattle.points_to.specs.Rows.{numbers_in, words_in, SameMembers, GetsAll};
-ghost use Rattle.points_to.specs.Stored.{stored_at, cell_stored, values_in, StoresAll};
+ghost use Rattle.points_to.specs.Rows.{numbers_in, words_in, SameMembers, GainsMembers};
+ghost use Rattle.points_to.specs.Stored.{stored_at, cell_stored, values_in, PutsAtAllSites};
 ghost use Rattle.points_to.specs.ValueWords.{words_of_values};
 
 use crate::ask::asked;
 use crate::bits::{Bits, are_within};
 use crate::facts::Facts;
-use crate::fast::copied;
+use crate::fast::solve_by_copies;
 use crate::give::elements;
-use crate::kept::{Kept, is_of_words};
-use crate::rounds::{add_all, either, satisfy as satisfy_plain};
+use crate::kept::{Kept, has_no_node_variable};
+use crate::rounds::{add_all, satisfy as satisfy_plain};
 use crate::runs::{FactRuns, ItemRuns, WordRuns};
-use crate::state::is_elsewhere;
+use crate::state::is_not_cell_sink;
 use crate::stored::Stored;
 use crate::stored_tags::words_of_values;
+use crate::truth::either;
 use flow_system::fact::{Element, Part, Place};
-use flow_system::inclusion::{FlowSystem, Inclusion, Sink, Source};
+use flow_system::inclusion::{FlowSink, FlowSystem, Inclusion, Source};
 use grin_syntax::program::{Target, Val, Word};
 use seq::Seq;
 use std::alloc::{AllocError, Global};
 
-fn flow_by_words(source: &Source, sink: &Sink) -> bool
+fn flow_by_words(source: &Source, sink: &FlowSink) -> bool
     ensures { result ≡ flow_by_words (source_of source.now) (sink_of sink.now) }
 {
     match source {
-        Source::Value(v) => either(is_elsewhere(sink), is_of_words(v)),
-        Source::ACell(_) => is_elsewhere(sink),
-        Source::ANumber => is_elsewhere(sink),
-        Source::Result(_) => is_elsewhere(sink),
+        Source::Value(v) => either(is_not_cell_sink(sink), has_no_node_variable(v)),
+        Source::ACell(_) => is_not_cell_sink(sink),
+        Source::ANumber => is_not_cell_sink(sink),
+        Source::Result(_) => is_not_cell_sink(sink),
         Source::NodesAt(_) => false,
-        Source::WordAt(_, _) => is_elsewhere(sink),
+        Source::WordAt(_, _) => is_not_cell_sink(sink),
         Source::EvaluatedAt(_) => false,
         Source::Extended(_, _) => false,
-        Source::FieldsOf(_, _) => is_elsewhere(sink),
+        Source::FieldsOf(_, _) => is_not_cell_sink(sink),
     }
 }
 
@@ -106,7 +107,7 @@ impl Met {
 
     // The noted values of a word.
     fn of_word(&self, w: Word) -> Option<&Bits>
-        ensures { option_copied result ≡ noted_of self.now w }
+        ensures { option_copied result ≡ cached_values_of self.now w }
     {
         match w {
             Word::Lit(_) => None,
@@ -164,7 +165,7 @@ fn met_of(alloc: Global, system: &FlowSystem, kept: &Kept) -> Result<Met, AllocE
 
 /// Word i of the values with these numbers, and the place of the entry before it in its chain.
 #[derive(Drop)]
-pub struct WordsOf {
+pub struct CachedWords {
     numbers: Bits,
     i: u32,
     words: Bits,
@@ -173,8 +174,8 @@ pub struct WordsOf {
 
 /// Words of values that were put together once. Many variables meet the same values.
 #[derive(Drop)]
-pub struct NotedWords {
-    entries: Vec<WordsOf>,
+pub struct WordCache {
+    entries: Vec<CachedWords>,
     // the place of the last entry of each chain
     last: Vec<usize>,
 }
@@ -203,7 +204,7 @@ fn same_blocks(a: &[(u32, u64)], b: &[(u32, u64)]) -> bool
     true
 }
 
-impl WordsOf {
+impl CachedWords {
     // Whether these are word i of the values with these numbers.
     fn is_of(&self, numbers: &Bits, i: u32) -> bool
         ensures index { IsTrue result → self.now.i ≡ i }
@@ -218,11 +219,11 @@ impl WordsOf {
     }
 }
 
-impl NotedWords {
-    fn new(alloc: Global) -> NotedWords
+impl WordCache {
+    fn new(alloc: Global) -> WordCache
         ensures { result.entries.items ≡ [] }
     {
-        NotedWords {
+        WordCache {
             entries: Vec::new(alloc),
             last: Vec::new(alloc),
         }
@@ -338,14 +339,14 @@ fn words_of(
     numbers: &Bits,
     i: u32,
     earlier: usize,
-) -> Result<WordsOf, AllocError>
+) -> Result<CachedWords, AllocError>
     ensures { IfOk result (λ e. AreWords (tables_of system.now) (inclusions_of system.now)
         (held facts.now) e.i (numbers_in e.numbers) e.words) }
 {
     let mut own = Bits::new(alloc);
     own.add_all(numbers.blocks.as_slice(), 0)?;
     let words = word_set(alloc, system, facts, &own, i)?;
-    Ok(WordsOf {
+    Ok(CachedWords {
         numbers: own,
         i,
         words,
@@ -358,11 +359,11 @@ fn words_noted(
     system: &FlowSystem,
     facts: &Facts,
     met: &Met,
-) -> Result<NotedWords, AllocError>
+) -> Result<WordCache, AllocError>
     ensures { IfOk result (WordsExact (tables_of system.now) (inclusions_of system.now)
         (held facts.now)) }
 {
-    let mut words = NotedWords::new(alloc);
+    let mut words = WordCache::new(alloc);
     for inclusion in system.inclusions.as_slice() {
         words.note(alloc, system, facts, met, inclusion)?;
     }
@@ -371,21 +372,21 @@ fn words_noted(
 
 /// What was noted before a round: the values in the cells of variables, and their words.
 #[derive(Drop)]
-pub struct Noted {
+pub struct RoundCaches {
     met: Met,
-    words: NotedWords,
+    words: WordCache,
 }
 
-fn note_all(alloc: Global, system: &FlowSystem, kept: &Kept) -> Result<Noted, AllocError>
+fn note_all(alloc: Global, system: &FlowSystem, kept: &Kept) -> Result<RoundCaches, AllocError>
     ensures { IfOk result (NotedExact (tables_of system.now) (inclusions_of system.now) kept.now) }
 {
     let met = met_of(alloc, system, kept)?;
     let words = words_noted(alloc, system, &kept.facts, &met)?;
-    Ok(Noted { met, words })
+    Ok(RoundCaches { met, words })
 }
 
 fn store_at(alloc: Global, stored: &mut Stored, n: u32, cell: Element) -> Result<bool, AllocError>
-    ensures stores { OnOk result (StoresAll (stored_at stored.old) (stored_at stored.new)
+    ensures stores { OnOk result (PutsAtAllSites (stored_at stored.old) (stored_at stored.new)
         (cell ∷ []) n) }
     ensures still { IfOk result (λ added. added ≡ false → stored.new ≡ stored.old) }
 {
@@ -402,7 +403,7 @@ fn store_all(
     n: u32,
     cells: &[Element],
 ) -> Result<bool, AllocError>
-    ensures stores { OnOk result (StoresAll (stored_at stored.old) (stored_at stored.new)
+    ensures stores { OnOk result (PutsAtAllSites (stored_at stored.old) (stored_at stored.new)
         cells.now n) }
     ensures still { IfOk result (λ added. added ≡ false → stored.new ≡ stored.old) }
 {
@@ -425,7 +426,7 @@ fn update(
 ) -> Result<bool, AllocError>
     requires number { slice_get (inclusions_of system.now) n ≡ Some (inclusion_of inclusion.now) }
     requires is { inclusion_of inclusion.now ≡ flows (value v.now) (cells_at w) }
-    requires of_words { is_of_words v.now ≡ true }
+    requires of_words { has_no_node_variable v.now ≡ true }
     ensures steps { IfOk result (Steps (tables_of system.now) (inclusions_of system.now) kept.old
         kept.new) }
     ensures met { IfOk result (MetAtEnd (tables_of system.now) (inclusions_of system.now) kept.old
@@ -448,7 +449,7 @@ fn store(
 ) -> Result<bool, AllocError>
     requires number { slice_get (inclusions_of system.now) n ≡ Some (inclusion_of inclusion.now) }
     requires is { inclusion_of inclusion.now ≡ flows (value v.now) (into_site s) }
-    requires of_words { is_of_words v.now ≡ true }
+    requires of_words { has_no_node_variable v.now ≡ true }
     ensures steps { IfOk result (Steps (tables_of system.now) (inclusions_of system.now) kept.old
         kept.new) }
     ensures met { IfOk result (MetAtEnd (tables_of system.now) (inclusions_of system.now) kept.old
@@ -488,7 +489,7 @@ fn is_known(
 ) -> Result<bool, AllocError>
     ensures { IfOk result (λ known. IsTrue known → (u : Element') → In u (words_of_values
         (tables_of system.now) (values_in (inclusions_of system.now)) (held facts.now) i
-        (numbers_in numbers.now)) → In u (picked (Part.Word 0) (held facts.now (Place.Var x)))) }
+        (numbers_in numbers.now)) → In u (words_in_part (Part.Word 0) (held facts.now (Place.Var x)))) }
 {
     let mut words = WordRuns::new(alloc);
     let values = numbers.blocks.as_slice();
@@ -510,7 +511,7 @@ fn are_known(
         (inclusions_of system.now) (held facts.now) i (numbers_in numbers.now)
         (option_copied noted.entry) → (u : Element') → In u (words_of_values
         (tables_of system.now) (values_in (inclusions_of system.now)) (held facts.now) i
-        (numbers_in numbers.now)) → In u (picked (Part.Word 0) (held facts.now (Place.Var x)))) }
+        (numbers_in numbers.now)) → In u (words_in_part (Part.Word 0) (held facts.now (Place.Var x)))) }
 {
     match noted {
         Some(words) => Ok(are_within(words.blocks.as_slice(), facts.word_blocks(x))),
@@ -518,7 +519,8 @@ fn are_known(
     }
 }
 
-// Whether all that is asked so that word i of the values with these numbers reaches a sink is known.
+// Whether all that is asked so that word i of the values with these numbers reaches a sink is
+// known.
 fn is_there(
     alloc: Global,
     system: &FlowSystem,
@@ -526,7 +528,7 @@ fn is_there(
     numbers: &Bits,
     noted: Option<&Bits>,
     i: u32,
-    sink: &Sink,
+    sink: &FlowSink,
 ) -> Result<bool, AllocError>
     ensures { IfOk result (λ known. IsTrue known → AreKnown (tables_of system.now)
         (inclusions_of system.now) (held facts.now) i (numbers_in numbers.now)
@@ -536,15 +538,15 @@ fn is_there(
         (sink_of sink.now)) → In f.item (held facts.now f.place)) }
 {
     match sink {
-        Sink::To(target) => match target {
+        FlowSink::To(target) => match target {
             Target::Nothing => Ok(false),
             Target::Node(_) => Ok(false),
             Target::One(x) => are_known(alloc, system, facts, numbers, noted, i, x.0),
             Target::Vector(_) => Ok(false),
         },
-        Sink::Result(_) => Ok(false),
-        Sink::Site(_) => Ok(false),
-        Sink::CellsAt(_) => Ok(false),
+        FlowSink::Result(_) => Ok(false),
+        FlowSink::Site(_) => Ok(false),
+        FlowSink::CellsAt(_) => Ok(false),
     }
 }
 
@@ -557,12 +559,12 @@ fn put_met(
     inclusion: &Inclusion,
     w: Word,
     i: u32,
-    sink: &Sink,
+    sink: &FlowSink,
     numbers: &Bits,
 ) -> Result<bool, AllocError>
     requires number { slice_get (inclusions_of system.now) n ≡ Some (inclusion_of inclusion.now) }
     requires is { inclusion_of inclusion.now ≡ flows (word_at w i) (sink_of sink.now) }
-    requires elsewhere { is_elsewhere (sink_of sink.now) ≡ true }
+    requires elsewhere { is_not_cell_sink (sink_of sink.now) ≡ true }
     requires sound { (m : ℕ) → In m (numbers_in numbers.now)
         → In m (met_by (tables_of system.now) kept.old w) }
     ensures steps { IfOk result (Steps (tables_of system.now) (inclusions_of system.now) kept.old
@@ -595,13 +597,13 @@ fn fetch_met(
     inclusion: &Inclusion,
     w: Word,
     i: u32,
-    sink: &Sink,
+    sink: &FlowSink,
     numbers: &Bits,
     noted: Option<&Bits>,
 ) -> Result<bool, AllocError>
     requires number { slice_get (inclusions_of system.now) n ≡ Some (inclusion_of inclusion.now) }
     requires is { inclusion_of inclusion.now ≡ flows (word_at w i) (sink_of sink.now) }
-    requires elsewhere { is_elsewhere (sink_of sink.now) ≡ true }
+    requires elsewhere { is_not_cell_sink (sink_of sink.now) ≡ true }
     requires sound { (m : ℕ) → In m (numbers_in numbers.now)
         → In m (met_by (tables_of system.now) kept.old w) }
     ensures steps { IfOk result (Steps (tables_of system.now) (inclusions_of system.now) kept.old
@@ -624,16 +626,16 @@ fn fetch(
     alloc: Global,
     system: &FlowSystem,
     kept: &mut Kept,
-    noted: &Noted,
+    noted: &RoundCaches,
     n: u32,
     inclusion: &Inclusion,
     w: Word,
     i: u32,
-    sink: &Sink,
+    sink: &FlowSink,
 ) -> Result<bool, AllocError>
     requires number { slice_get (inclusions_of system.now) n ≡ Some (inclusion_of inclusion.now) }
     requires is { inclusion_of inclusion.now ≡ flows (word_at w i) (sink_of sink.now) }
-    requires elsewhere { is_elsewhere (sink_of sink.now) ≡ true }
+    requires elsewhere { is_not_cell_sink (sink_of sink.now) ≡ true }
     requires sound { MetSound (tables_of system.now) kept.old noted.now.met }
     ensures steps { IfOk result (Steps (tables_of system.now) (inclusions_of system.now) kept.old
         kept.new) }
@@ -665,7 +667,7 @@ fn satisfy_value(
     n: u32,
     inclusion: &Inclusion,
     v: &Val,
-    sink: &Sink,
+    sink: &FlowSink,
 ) -> Result<bool, AllocError>
     requires number { slice_get (inclusions_of system.now) n ≡ Some (inclusion_of inclusion.now) }
     requires is { inclusion_of inclusion.now ≡ flows (value v.now) (sink_of sink.now) }
@@ -676,10 +678,10 @@ fn satisfy_value(
         (inclusion_of inclusion.now)) }
 {
     match sink {
-        Sink::To(_) => plain(alloc, system, kept, n, inclusion),
-        Sink::Result(_) => plain(alloc, system, kept, n, inclusion),
-        Sink::Site(s) => store(alloc, system, kept, n, inclusion, v, s.0),
-        Sink::CellsAt(w) => update(alloc, system, kept, n, inclusion, v, *w),
+        FlowSink::To(_) => plain(alloc, system, kept, n, inclusion),
+        FlowSink::Result(_) => plain(alloc, system, kept, n, inclusion),
+        FlowSink::Site(s) => store(alloc, system, kept, n, inclusion, v, s.0),
+        FlowSink::CellsAt(w) => update(alloc, system, kept, n, inclusion, v, *w),
     }
 }
 
@@ -692,7 +694,7 @@ fn plain(
     inclusion: &Inclusion,
 ) -> Result<bool, AllocError>
     requires number { slice_get (inclusions_of system.now) n ≡ Some (inclusion_of inclusion.now) }
-    requires plain { is_plain (inclusion_of inclusion.now) ≡ true }
+    requires plain { touches_no_cell (inclusion_of inclusion.now) ≡ true }
     ensures steps { IfOk result (Steps (tables_of system.now) (inclusions_of system.now) kept.old
         kept.new) }
     ensures met { IfOk result (MetAtEnd (tables_of system.now) (inclusions_of system.now) kept.old
@@ -705,7 +707,7 @@ fn satisfy(
     alloc: Global,
     system: &FlowSystem,
     kept: &mut Kept,
-    noted: &Noted,
+    noted: &RoundCaches,
     n: u32,
     inclusion: &Inclusion,
 ) -> Result<bool, AllocError>
@@ -763,7 +765,7 @@ pub fn least_kept(alloc: Global, system: &FlowSystem) -> Result<Kept, AllocError
     ensures { IfOk result (λ k. IsLeast (tables_of system.now) (inclusions_of system.now)
         (solution (tables_of system.now) (inclusions_of system.now) k)) }
 {
-    let mut kept = copied(alloc, system)?;
+    let mut kept = solve_by_copies(alloc, system)?;
     'rounds: for _ in 0..u64::MAX {
         if !round(alloc, system, &mut kept)? {
             return Ok(kept);

@@ -1,21 +1,21 @@
 // The least solution, by a list of the inclusions that may ask for more.
 
-ghost use Rattle.std.specs.Prelude.{◌≡◌, ◌||◌, false, [], ◌∷◌, OnOk, IfOk, IfSome};
+ghost use Rattle.std.specs.Prelude.{◌≡◌, false, [], ◌∷◌, OnOk, IfOk, IfSome};
 ghost use Rattle.std.specs.List.{flat_map};
 ghost use Rattle.flow_system.specs.Inclusions.{flows, to, word_at};
 ghost use Rattle.flow_system.specs.Shown.{tables_of, inclusions_of, inclusion_of};
 ghost use Rattle.flow_system.specs.Solution.{IsLeast};
-ghost use Rattle.points_to.specs.Asked.{demands};
+ghost use Rattle.points_to.specs.Asked.{facts_demanded};
 ghost use Rattle.points_to.specs.Held.{fetched_at};
-ghost use Rattle.points_to.specs.Known.{held, Grows, solution_of};
+ghost use Rattle.points_to.specs.Known.{held, GrowsByFacts, solution_of};
 ghost use Rattle.points_to.specs.Reads.{word_reads, cell_reads, reads};
-ghost use Rattle.points_to.specs.Rounds.{Counted};
-ghost use Rattle.points_to.specs.Rows.{GetsAll};
-ghost use Rattle.points_to.specs.Runs.{run_facts};
+ghost use Rattle.points_to.specs.Rounds.{CountsAddedFacts};
+ghost use Rattle.points_to.specs.Rows.{GainsMembers};
+ghost use Rattle.points_to.specs.Runs.{facts_of_run};
 ghost use Rattle.points_to.specs.Waiting.{waiting};
-ghost use Rattle.points_to.specs.Worklist.{RegistersAt, Wakes, Spreads, Advances, Satisfies, Stands};
+ghost use Rattle.points_to.specs.Worklist.{RegistersAt, WakesReaders, WakesWhereChanged, MakesProgress, SatisfiesInclusion, WorklistInvariant};
 
-use crate::ask::demands;
+use crate::ask::facts_demanded;
 use crate::facts::Facts;
 use crate::fetch::Fetched;
 use crate::give::elements;
@@ -24,8 +24,9 @@ use crate::readers::Readers;
 use crate::reads::reads;
 use crate::runs::{FactRun, FactRuns};
 use crate::targets::blocks_at_variable;
+use crate::truth::either;
 use flow_system::fact::{Element, Place};
-use flow_system::inclusion::{FlowSystem, Inclusion, Sink, Source};
+use flow_system::inclusion::{FlowSink, FlowSystem, Inclusion, Source};
 use grin_syntax::program::{Target, VarId, Word};
 use seq::Seq;
 use std::alloc::{AllocError, Global};
@@ -43,7 +44,7 @@ struct Worklist {
 impl Worklist {
     // Nothing is known, and all inclusions wait.
     fn new(alloc: Global, system: &FlowSystem) -> Result<Worklist, AllocError>
-        ensures { IfOk result (Stands (tables_of system.now) (inclusions_of system.now)) }
+        ensures { IfOk result (WorklistInvariant (tables_of system.now) (inclusions_of system.now)) }
     {
         let count = system.inclusions.len();
         if count > u32::MAX as usize {
@@ -60,7 +61,7 @@ impl Worklist {
     // Lets the readers of a place wait. They are registered again when they are satisfied.
     fn wake(&mut self, place: Place) -> Result<(), AllocError>
         ensures same { OnOk result (self.new.facts ≡ self.old.facts) }
-        ensures wakes { OnOk result (Wakes self.old self.new place) }
+        ensures wakes { OnOk result (WakesReaders self.old self.new place) }
     {
         let readers = self.readers.at(place);
         if readers.is_empty() {
@@ -74,10 +75,10 @@ impl Worklist {
     // Adds the facts of a run, and says whether some of them may be new.
     fn add(&mut self, alloc: Global, run: FactRun) -> Result<bool, AllocError>
         ensures grown { OnOk result
-            (Grows (held self.old.facts) (held self.new.facts) (run_facts run)) }
-        ensures spread { OnOk result (Spreads self.old self.new) }
+            (GrowsByFacts (held self.old.facts) (held self.new.facts) (facts_of_run run)) }
+        ensures spread { OnOk result (WakesWhereChanged self.old self.new) }
         ensures still { IfOk result (λ added. added ≡ false → self.new ≡ self.old) }
-        ensures counted { IfOk result (λ added. Counted self.old.facts self.new.facts added) }
+        ensures counted { IfOk result (λ added. CountsAddedFacts self.old.facts self.new.facts added) }
     {
         let added = self.facts.add(alloc, run)?;
         if !added {
@@ -89,10 +90,10 @@ impl Worklist {
 
     // Adds facts, and says whether some of them may be new.
     fn add_all(&mut self, alloc: Global, more: &FactRuns) -> Result<bool, AllocError>
-        ensures grown { OnOk result (Grows (held self.old.facts) (held self.new.facts) more.now) }
-        ensures spread { OnOk result (Spreads self.old self.new) }
+        ensures grown { OnOk result (GrowsByFacts (held self.old.facts) (held self.new.facts) more.now) }
+        ensures spread { OnOk result (WakesWhereChanged self.old self.new) }
         ensures still { IfOk result (λ added. added ≡ false → self.new ≡ self.old) }
-        ensures counted { IfOk result (λ added. Counted self.old.facts self.new.facts added) }
+        ensures counted { IfOk result (λ added. CountsAddedFacts self.old.facts self.new.facts added) }
     {
         let mut added = false;
         for run in more.as_slice() {
@@ -154,14 +155,14 @@ impl Worklist {
         inclusion: &Inclusion,
     ) -> Result<bool, AllocError>
         ensures grown { OnOk result
-            (Grows (held self.old.facts) (held self.new.facts)
-            (demands (tables_of system.now) (held self.old.facts) (inclusion_of inclusion.now))) }
-        ensures spread { OnOk result (Spreads self.old self.new) }
+            (GrowsByFacts (held self.old.facts) (held self.new.facts)
+            (facts_demanded (tables_of system.now) (held self.old.facts) (inclusion_of inclusion.now))) }
+        ensures spread { OnOk result (WakesWhereChanged self.old self.new) }
         ensures still { IfOk result (λ added. added ≡ false → self.new ≡ self.old) }
-        ensures counted { IfOk result (λ added. Counted self.old.facts self.new.facts added) }
+        ensures counted { IfOk result (λ added. CountsAddedFacts self.old.facts self.new.facts added) }
     {
         let mut asked = FactRuns::new(alloc);
-        demands(alloc, system, &self.facts, inclusion, &mut asked)?;
+        facts_demanded(alloc, system, &self.facts, inclusion, &mut asked)?;
         self.add_all(alloc, &asked)
     }
 
@@ -176,7 +177,7 @@ impl Worklist {
         words: &mut Fetched,
     ) -> Result<(), AllocError>
         ensures registers { OnOk result (RegistersAt self.old self.new n (cell_reads cell)) }
-        ensures gets { OnOk result (GetsAll words.old words.new
+        ensures gets { OnOk result (GainsMembers words.old words.new
             (fetched_at (tables_of system.now) (held self.old.facts) i cell)) }
     {
         match cell {
@@ -201,7 +202,7 @@ impl Worklist {
     ) -> Result<(), AllocError>
         ensures registers { OnOk result
             (RegistersAt self.old self.new n (flat_map cell_reads cells.now)) }
-        ensures gets { OnOk result (GetsAll words.old words.new
+        ensures gets { OnOk result (GainsMembers words.old words.new
             (flat_map (fetched_at (tables_of system.now) (held self.old.facts) i) cells.now)) }
     {
         for cell in cells {
@@ -221,7 +222,7 @@ impl Worklist {
         i: u32,
         x: VarId,
     ) -> Result<(), AllocError>
-        ensures { OnOk result (Satisfies (tables_of system.now)
+        ensures { OnOk result (SatisfiesInclusion (tables_of system.now)
             (flows (word_at w i) (to (Target.One x))) n self.old self.new) }
     {
         self.register_word(alloc, n, w)?;
@@ -243,7 +244,7 @@ impl Worklist {
         n: u32,
         inclusion: &Inclusion,
     ) -> Result<(), AllocError>
-        ensures { OnOk result (Satisfies (tables_of system.now) (inclusion_of inclusion.now) n
+        ensures { OnOk result (SatisfiesInclusion (tables_of system.now) (inclusion_of inclusion.now) n
             self.old self.new) }
     {
         self.register_reads(alloc, system, n, inclusion)?;
@@ -259,7 +260,7 @@ impl Worklist {
         n: u32,
         inclusion: &Inclusion,
     ) -> Result<(), AllocError>
-        ensures { OnOk result (Satisfies (tables_of system.now) (inclusion_of inclusion.now) n
+        ensures { OnOk result (SatisfiesInclusion (tables_of system.now) (inclusion_of inclusion.now) n
             self.old self.new) }
     {
         match one_fetch(inclusion) {
@@ -271,10 +272,10 @@ impl Worklist {
     // Satisfies the next inclusion that waits. Says whether one waited.
     fn turn(&mut self, alloc: Global, system: &FlowSystem) -> Result<bool, AllocError>
         ensures stands { OnOk result
-            (Stands (tables_of system.now) (inclusions_of system.now) self.old
-            → Stands (tables_of system.now) (inclusions_of system.now) self.new) }
+            (WorklistInvariant (tables_of system.now) (inclusions_of system.now) self.old
+            → WorklistInvariant (tables_of system.now) (inclusions_of system.now) self.new) }
         ensures done { IfOk result (λ more. more ≡ false → waiting self.new.pending ≡ []) }
-        ensures advances { IfOk result (Advances self.old self.new) }
+        ensures advances { IfOk result (MakesProgress self.old self.new) }
     {
         match self.pending.take() {
             None => Ok(false),
@@ -296,16 +297,9 @@ fn one_fetch(inclusion: &Inclusion) -> Option<(Word, u32, VarId)>
         inclusion_of inclusion.now ≡ flows (word_at r.0 r.1) (to (Target.One r.2))) }
 {
     match inclusion {
-        Inclusion::Flows(Source::WordAt(w, i), Sink::To(Target::One(x))) => Some((*w, *i, *x)),
+        Inclusion::Flows(Source::WordAt(w, i), FlowSink::To(Target::One(x))) => Some((*w, *i, *x)),
         _ => None,
     }
-}
-
-// Whether one of two holds.
-fn either(a: bool, b: bool) -> bool
-    ensures { result ≡ (a || b) }
-{
-    a || b
 }
 
 /// The facts of the least solution: each inclusion is satisfied, and again whenever more is known

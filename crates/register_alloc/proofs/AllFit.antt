@@ -13,14 +13,14 @@ use Rattle.low_code.specs.Formed.{Distinct, binds, variables, all_variables, cal
 use Rattle.register_alloc.specs.Assignment.{Assignment, place_of, mask_of, may_change, saves_at, words_at}
 use Rattle.register_alloc.specs.Live.{IsLive, EachBindingOf}
 use Rattle.register_alloc.specs.Written.{Assigned, variable, result, Written, assigned, called}
-use Rattle.register_alloc.specs.Fits.{IsPlace, IsSlot, IsRegister, Apart, Full, slots_of, longest, words_of_frame, Ascending, IsSaved, ParametersInRegisters, Fits, UsesRegisters}
-use Rattle.register_alloc.specs.Reach.{Reaches, its_own, AreLeast}
+use Rattle.register_alloc.specs.Fits.{IsPlace, IsSlot, IsRegister, Apart, Full, slots_of, most_saved, words_of_frame, Ascending, IsSaved, ParametersInRegisters, Fits, UsesRegisters}
+use Rattle.register_alloc.specs.Reach.{MayChangeRegister, its_own, AreLeastMasks}
 use Rattle.register_alloc.specs.Reach as reach
 use Rattle.register_alloc.specs.Rounds.{mask_at}
 use Rattle.register_alloc.specs.Results.{callees, result_mask}
-use Rattle.register_alloc.specs.Holders.{Agrees, variables_of, Good}
-use Rattle.register_alloc.specs.Point.{After, points, Notes, NoteAll, NoneLater}
-use Rattle.register_alloc.specs.Gathered.{HaveFewResults, HaveFewParameters, Gathers, AreSpots, SavesHold, sites_at, calls_of_walks, longest_at, frames_of}
+use Rattle.register_alloc.specs.Holders.{PlacesAgree, variables_of, Good}
+use Rattle.register_alloc.specs.Point.{AfterCall, points, RecordsLiveRegisters, RecordsAllLive, NoBoundIsUsedLater}
+use Rattle.register_alloc.specs.Gathered.{HaveFewResults, HaveFewParameters, GathersProcedures, AreSpots, SavesMatchCalls, sites_at, calls_of_walks, longest_at, frames_of}
 use Rattle.register_alloc.specs.declared.registers.Given.{Given}
 use Rattle.register_alloc.specs.declared.registers.CallSite.{CallSite}
 use Rattle.register_alloc.specs.declared.registers.Registers.{Registers}
@@ -99,7 +99,7 @@ site_found (k ∷ ks) s m = elim (among_cases s k.site (sites_at ks) m) [
   | inr there ↦ let t = site_found ks s there in (suc t.0, (t.1.0, t.1.1))
 ]
 
-points_get : (ps : List After) (i : ℕ) (p : After) → slice_get ps i ≡ Some p → slice_get (sites_of (sites_of_points ps)) i ≡ Some p.site
+points_get : (ps : List AfterCall) (i : ℕ) (p : AfterCall) → slice_get ps i ≡ Some p → slice_get (sites_of (sites_of_points ps)) i ≡ Some p.site
 points_get [] i p e = cc
 points_get (r ∷ ps) zero p e = ap (λ z. Some z.site) (same_Some r p e)
 points_get (r ∷ ps) (suc i) p e = points_get ps i p e
@@ -142,9 +142,9 @@ from_to_within k (suc n) r m = elim (among_cases r k (numbers_from (suc k) n) m)
   | inr there ↦ let h = from_to_within (suc k) n r there in let lo = h.0 in let hi = h.1 in (omega (arith, lo), omega (arith, hi))
 ]
 
-module _ (p : Program) (a : Assignment) (ws : List Registers) (gs : List Given) (ms : List ℕ) (cs : List (List ℕ)) (g : Gathers p.procs ws gs ms cs) (formed : Formed p)
-    (few_parameters : HaveFewParameters p.procs) (few_results : HaveFewResults p.procs) (spots : AreSpots gs a.spots) (many : length a.masks ≡ length ms) (least : AreLeast ms cs a.masks)
-    (holds : SavesHold a.masks (calls_of_walks ws) a.saves) (frames : a.frames ≡ frames_of a.saves ws) where
+module _ (p : Program) (a : Assignment) (ws : List Registers) (gs : List Given) (ms : List ℕ) (cs : List (List ℕ)) (g : GathersProcedures p.procs ws gs ms cs) (formed : Formed p)
+    (few_parameters : HaveFewParameters p.procs) (few_results : HaveFewResults p.procs) (spots : AreSpots gs a.spots) (many : length a.masks ≡ length ms) (least : AreLeastMasks ms cs a.masks)
+    (holds : SavesMatchCalls a.masks (calls_of_walks ws) a.saves) (frames : a.frames ≡ frames_of a.saves ws) where
   place : ℕ → Spot
   place = place_of a
 
@@ -159,7 +159,7 @@ module _ (p : Program) (a : Assignment) (ws : List Registers) (gs : List Given) 
   spot_at : (j : ℕ) (h : Given) → slice_get gs j ≡ Some h → place_of a h.variable ≡ h.spot
   spot_at j h e = get_or_from_slice_get a.spots h.variable h.spot Scratch (spots distinct j h e)
 
-  agrees : (f : ℕ) (q : Procedure) (e : slice_get p.procs f ≡ Some q) → Agrees (place_of a) (at f q e).walk.given.items
+  agrees : (f : ℕ) (q : Procedure) (e : slice_get p.procs f ≡ Some q) → PlacesAgree (place_of a) (at f q e).walk.given.items
   agrees f q e k h there = let j = (at f q e).given_in k h there in spot_at j.0 h j.1
 
   -- the place that a variable of a procedure has got
@@ -179,7 +179,7 @@ module _ (p : Program) (a : Assignment) (ws : List Registers) (gs : List Given) 
   all_placed : (f : ℕ) (q : Procedure) (e : slice_get p.procs f ≡ Some q) (k : ℕ) (h : Given) → slice_get (at f q e).walk.given.items k ≡ Some h → IsPlace h.spot
   all_placed f q e k h there = let t = at f q e in numbered_place t.walk.given.items t.walk.slots t.is.walked.numbered k h there
 
-  none_is_later : (f : ℕ) (q : Procedure) → slice_get p.procs f ≡ Some q → NoneLater q.params q.body []
+  none_is_later : (f : ℕ) (q : Procedure) → slice_get p.procs f ≡ Some q → NoBoundIsUsedLater q.params q.body []
   none_is_later f q e =
       none_later (length p.globals) q.params q.body [] (scoped_at (length p.globals) p.procs f q formed.scoped e) (λ x m. refl)
       (λ x. let o = once (variables q) (distinct_variables p.procs formed.variables_once f q e) x in let s = times_append x q.params (binds q.body) in omega (arith, o, s))
@@ -187,7 +187,7 @@ module _ (p : Program) (a : Assignment) (ws : List Registers) (gs : List Given) 
   good : (f : ℕ) (q : Procedure) → slice_get p.procs f ≡ Some q → EachBindingOf (Good (place_of a)) q
   good f q e = (at f q e).is.walked.each (place_of a) (agrees f q e) (none_is_later f q e)
 
-  notes : (f : ℕ) (q : Procedure) (e : slice_get p.procs f ≡ Some q) → NoteAll (place_of a) (at f q e).walk.calls.items (points q.params q.body [])
+  notes : (f : ℕ) (q : Procedure) (e : slice_get p.procs f ≡ Some q) → RecordsAllLive (place_of a) (at f q e).walk.calls.items (points q.params q.body [])
   notes f q e = (at f q e).is.walked.notes (place_of a) (agrees f q e) (none_is_later f q e)
 
   calls_are : (f : ℕ) (q : Procedure) (e : slice_get p.procs f ≡ Some q) → calls_of (at f q e).walk.calls.items ≡ calls_in q.body
@@ -233,14 +233,14 @@ module _ (p : Program) (a : Assignment) (ws : List Registers) (gs : List Given) 
   assigned_small f r q e (result lo hi) = let few = few_results f q e in (omega (arith, lo), omega (arith, hi, few))
   assigned_small f r q e (variable x m is) = subst IsPlace is (is_place f q e x m)
 
-  reached : (f r : ℕ) → Reaches ms cs f r → (8 ≤ r) × (r < 32)
+  reached : (f r : ℕ) → MayChangeRegister ms cs f r → (8 ≤ r) × (r < 32)
   reached _ _ (its_own f r h) = let b = own_bit f r h in assigned_small f r b.0 b.1.0 b.1.1
   reached _ _ (reach.called f h k r hs c e rest) = reached h r rest
 
   called_are : (f : ℕ) (q : Procedure) (e : slice_get p.procs f ≡ Some q) → (at f q e).called ≡ callees (calls_in q.body)
   called_are f q e = (at f q e).is.called_is ∙ procs_are (at f q e).walk.calls.items ∙ ap callees (calls_are f q e)
 
-  to_written : (f r : ℕ) → Reaches ms cs f r → Written (place_of a) p f r
+  to_written : (f r : ℕ) → MayChangeRegister ms cs f r → Written (place_of a) p f r
   to_written _ _ (its_own f r h) = let b = own_bit f r h in assigned f r b.0 b.1.0 b.1.1
   to_written _ _ (reach.called f h k r hs c e rest) =
       let q = procedure_of_called p.procs ws gs ms cs g f hs c in
@@ -249,7 +249,7 @@ module _ (p : Program) (a : Assignment) (ws : List Registers) (gs : List Given) 
       let s = site_at (calls_in q.0.body) k h (subst (λ l. slice_get l k ≡ Some h) same e) in
       called f h s.0 r q.0 q.1 k s.1 (to_written h r rest)
 
-  of_written : (f r : ℕ) → Written (place_of a) p f r → Reaches ms cs f r
+  of_written : (f r : ℕ) → Written (place_of a) p f r → MayChangeRegister ms cs f r
   of_written _ _ (assigned f r q e s) = its_own f r (bit_own f r q e s)
   of_written _ _ (called f h site r q e k c rest) =
       let t = at f q e in
@@ -330,8 +330,8 @@ module _ (p : Program) (a : Assignment) (ws : List Registers) (gs : List Given) 
       get_or_from_slice_get a.frames f (1 + t.walk.slots + longest_at a.saves t.walk.calls.items) 0
       (subst (λ fs. slice_get fs f ≡ Some (1 + t.walk.slots + longest_at a.saves t.walk.calls.items)) (sym frames) (map_get (λ w. 1 + w.slots + longest_at a.saves w.calls.items) ws f t.walk t.walk_at))
 
-  longest_same : (f : ℕ) (q : Procedure) (e : slice_get p.procs f ≡ Some q) → longest_at a.saves (at f q e).walk.calls.items ≡ longest (saves_at a) (calls_in q.body)
-  longest_same f q e = longest_is a.saves (at f q e).walk.calls.items ∙ ap (longest (saves_at a)) (calls_are f q e)
+  longest_same : (f : ℕ) (q : Procedure) (e : slice_get p.procs f ≡ Some q) → longest_at a.saves (at f q e).walk.calls.items ≡ most_saved (saves_at a) (calls_in q.body)
+  longest_same f q e = longest_is a.saves (at f q e).walk.calls.items ∙ ap (most_saved (saves_at a)) (calls_are f q e)
 
   slots_same : (f : ℕ) (q : Procedure) (e : slice_get p.procs f ≡ Some q) → slots_of (place_of a) (variables q) ≡ (at f q e).walk.slots
   slots_same f q e =
@@ -348,7 +348,7 @@ module _ (p : Program) (a : Assignment) (ws : List Registers) (gs : List Given) 
       let s = saved_list f q e i k there in
       no_more (saves_at a k.site) (registers_of (at f q e).walk.given.items) s.0 (λ r m. one r ((s.1 r).0 m).0)
     where
-      n : (pt : After) × ((slice_get (points q.params q.body []) i ≡ Some pt) × Notes (place_of a) k pt)
+      n : (pt : AfterCall) × ((slice_get (points q.params q.body []) i ≡ Some pt) × RecordsLiveRegisters (place_of a) k pt)
       n = note_at (place_of a) (at f q e).walk.calls.items (points q.params q.body []) i k (notes f q e) there
 
       one : (r : ℕ) → is_among r k.live ≡ true → is_among r (registers_of (at f q e).walk.given.items) ≡ true

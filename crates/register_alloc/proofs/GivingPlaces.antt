@@ -7,8 +7,8 @@ use Rattle.parallel_move.specs.declared.Spot.{Spot}
 use Rattle.parallel_move.specs.declared.Spot.TheVariants.{Reg, Slot}
 use Rattle.register_alloc.specs.Live.{IsLive}
 use Rattle.variable_uses.specs.Uses.{AreUses}
-use Rattle.register_alloc.specs.Holders.{Held, new_holder, AreStillUsed, AreRegisters, Step, register, slot, Extends, Numbered, in_register, in_slot, variables_of, Keeps}
-use Rattle.register_alloc.specs.Point.{SameText, SamePlaces, Gives, GivesSlot, Grows, Adds, AllGiven, Binds, NotesCall}
+use Rattle.register_alloc.specs.Holders.{HoldsRegister, new_holder, AreStillUsed, AreRegisters, AssignsPlace, register, slot, KeepsGivenPlaces, SlotsAreNumbered, in_register, in_slot, variables_of, Keeps}
+use Rattle.register_alloc.specs.Point.{SameText, SamePlaces, GivesPlace, GivesSlot, Grows, AddsPlaces, AllGiven, Binds, WalksCall}
 use Rattle.register_alloc.specs.declared.holders.Holder.{Holder}
 use Rattle.register_alloc.specs.declared.registers.Given.{Given}
 use Rattle.register_alloc.specs.declared.registers.CallSite.{CallSite}
@@ -21,23 +21,23 @@ use Rattle.register_alloc.proofs.Walked.{grouped, nothing_more}
 use Rattle.seq.specs.Lists.{is_among}
 use Rattle.seq.proofs.Counted.{among_left, among_right}
 
-numbered_step : (held held' : List (Option Holder)) (slots slots' x : ℕ) (spot : Spot) (gs : List Given) → Step held slots x spot held' slots' → Numbered gs slots
-    → Numbered (gs ++ (record { variable = x; spot = spot } ∷ [])) slots'
+numbered_step : (held held' : List (Option Holder)) (slots slots' x : ℕ) (spot : Spot) (gs : List Given) → AssignsPlace held slots x spot held' slots' → SlotsAreNumbered gs slots
+    → SlotsAreNumbered (gs ++ (record { variable = x; spot = spot } ∷ [])) slots'
 numbered_step held _ slots _ x _ gs (register r lt free) n = in_register x r n lt
 numbered_step held _ slots _ x _ gs (slot all) n = in_slot x n
 
-slots_step : (held held' : List (Option Holder)) (slots slots' x : ℕ) (spot : Spot) → Step held slots x spot held' slots' → slots ≤ slots'
+slots_step : (held held' : List (Option Holder)) (slots slots' x : ℕ) (spot : Spot) → AssignsPlace held slots x spot held' slots' → slots ≤ slots'
 slots_step held _ slots _ x _ (register r lt free) = omega arith
 slots_step held _ slots _ x _ (slot all) = omega arith
 
-extends_push : (old new : List Given) (g : Given) → new ≡ old ++ (g ∷ []) → Extends old new
+extends_push : (old new : List Given) (g : Given) → new ≡ old ++ (g ∷ []) → KeepsGivenPlaces old new
 extends_push old new g is k h there = subst (λ l. slice_get l k ≡ Some h) (sym is) (get_left old (g ∷ []) k h there)
 
-pub gives_grows : (x : ℕ) (old new : Registers) (held held' : List (Option Holder)) → Gives x old held new held' → Grows old new
+pub gives_grows : (x : ℕ) (old new : Registers) (held held' : List (Option Holder)) → GivesPlace x old held new held' → Grows old new
 gives_grows x old new held held' g = record {
   extends = extends_push old.given.items new.given.items _ g.given;
   slots = slots_step held held' old.slots new.slots x g.spot g.step;
-  numbered = λ n. subst (λ l. Numbered l new.slots) (sym g.given) (numbered_step held held' old.slots new.slots x g.spot old.given.items g.step n);
+  numbered = λ n. subst (λ l. SlotsAreNumbered l new.slots) (sym g.given) (numbered_step held held' old.slots new.slots x g.spot old.given.items g.step n);
 }
 
 pub variables_more : (gs : List Given) (g : Given) → variables_of (gs ++ (g ∷ [])) ≡ variables_of gs ++ (g.variable ∷ [])
@@ -52,7 +52,7 @@ take_next (y ∷ xs) (suc i) x e = ap (λ l. y ∷ l) (take_next xs i x e)
 -- what a walk has given so far, of these variables
 pub record SoFar (xs : List ℕ) (old : Registers) (held : List (Option Holder)) (new : Registers) (held' : List (Option Holder)) : Type 0 where
   pub giving : AllGiven xs old held new held'
-  pub adds : Adds xs old new
+  pub adds : AddsPlaces xs old new
   pub stays : SameText old new
   pub calls : new.calls.items ≡ old.calls.items
 
@@ -64,7 +64,7 @@ nothing_given old held = record {
   calls = refl;
 }
 
-pub one_more_given : (xs : List ℕ) (x : ℕ) (old mid new : Registers) (held held1 held2 : List (Option Holder)) → SoFar xs old held mid held1 → Gives x mid held1 new held2
+pub one_more_given : (xs : List ℕ) (x : ℕ) (old mid new : Registers) (held held1 held2 : List (Option Holder)) → SoFar xs old held mid held1 → GivesPlace x mid held1 new held2
     → SoFar (xs ++ (x ∷ [])) old held new held2
 one_more_given xs x old mid new held held1 held2 s g = record {
   giving = λ place a scope c later fresh k.
@@ -85,7 +85,7 @@ one_more_given xs x old mid new held held1 held2 s g = record {
     there : (place : ℕ → Spot) → slice_get new.given.items (length mid.given.items) ≡ Some (record { variable = x; spot = g.spot })
     there place = subst (λ l. slice_get l (length mid.given.items) ≡ Some (record { variable = x; spot = g.spot })) (sym g.given) (got_after mid.given.items [] (record { variable = x; spot = g.spot }))
 
-pub next_given : (vs : List ℕ) (i x : ℕ) (old mid new : Registers) (held held1 held2 : List (Option Holder)) → slice_get vs i ≡ Some x → SoFar (take i vs) old held mid held1 → Gives x mid held1 new held2
+pub next_given : (vs : List ℕ) (i x : ℕ) (old mid new : Registers) (held held1 held2 : List (Option Holder)) → slice_get vs i ≡ Some x → SoFar (take i vs) old held mid held1 → GivesPlace x mid held1 new held2
     → SoFar (take (i + 1) vs) old held new held2
 next_given vs i x old mid new held held1 held2 there s g =
     let n : suc i ≡ i + 1 = omega arith in
@@ -101,20 +101,20 @@ all_given vs i old new held held' past s = subst (λ xs. SoFar xs old held new h
     whole (x ∷ xs) (suc k) h = ap (λ l. x ∷ l) (whole xs k (omega arith))
 
 pub gives_register : (x r : ℕ) (old new : Registers) (held held' : List (Option Holder)) → r < 24 → slice_get held r ≡ Some None → new.given.items ≡ old.given.items ++ (record { variable = x; spot = Reg (8 + r) } ∷ [])
-    → held' ≡ slice_set held r (Some (new_holder x)) → new.slots ≡ old.slots → SameText old new → new.calls.items ≡ old.calls.items → Gives x old held new held'
+    → held' ≡ slice_set held r (Some (new_holder x)) → new.slots ≡ old.slots → SameText old new → new.calls.items ≡ old.calls.items → GivesPlace x old held new held'
 gives_register x r old new held held' lt free given is slots text calls = record {
   spot = Reg (8 + r);
   given = given;
-  step = subst (λ h. Step held old.slots x (Reg (8 + r)) h new.slots) (sym is) (subst (λ n. Step held old.slots x (Reg (8 + r)) (slice_set held r (Some (new_holder x))) n) (sym slots) (register r lt free));
+  step = subst (λ h. AssignsPlace held old.slots x (Reg (8 + r)) h new.slots) (sym is) (subst (λ n. AssignsPlace held old.slots x (Reg (8 + r)) (slice_set held r (Some (new_holder x))) n) (sym slots) (register r lt free));
   text = text;
   calls = calls;
 }
 
-pub gives_slot : {E : Type 0} (x : ℕ) (r : Result (Unit {0}) E) (old new : Registers) (held : List (Option Holder)) → ((r : ℕ) → r < 24 → (d : Holder) × Held held r d) → OnOk r (GivesSlot x old new) → OnOk r (Gives x old held new held)
+pub gives_slot : {E : Type 0} (x : ℕ) (r : Result (Unit {0}) E) (old new : Registers) (held : List (Option Holder)) → ((r : ℕ) → r < 24 → (d : Holder) × HoldsRegister held r d) → OnOk r (GivesSlot x old new) → OnOk r (GivesPlace x old held new held)
 gives_slot x (Ok u) old new held all g = record {
   spot = Slot old.slots;
   given = g.given;
-  step = subst (λ n. Step held old.slots x (Slot old.slots) held n) (sym g.slots) (slot all);
+  step = subst (λ n. AssignsPlace held old.slots x (Slot old.slots) held n) (sym g.slots) (slot all);
   text = g.text;
   calls = g.calls;
 }
@@ -130,7 +130,7 @@ binds_by text xs end r s t held live held' still same places given same' place a
 
 pub notes_by : (text : Text) (site proc end : ℕ) (r s t : Registers) (held live : List (Option Holder)) → ((used : List ℕ) → AreUses used text.uses → AreStillUsed used r.at end held live)
     → ((k : CallSite) × ((s.calls.items ≡ r.calls.items ++ (k ∷ [])) × ((k.site ≡ site) × ((k.proc ≡ proc) × AreRegisters live k.live)))) → t.calls.items ≡ s.calls.items
-    → NotesCall text site proc end r held t
+    → WalksCall text site proc end r held t
 notes_by text site proc end r s t held live still k calls place a later scope c b =
     let keeps = pruned place text later scope c r held live end b still in
     let registers : AreRegisters live k.0.live = k.1.1.1.1 in (
@@ -156,7 +156,7 @@ notes_by text site proc end r s t held live still k calls place a later scope c 
       ),
     )
   where
-    is_live : Keeps place scope c later [] r.slots live → (q : ℕ) (d : Holder) → Held live q d → IsLive scope c later d.variable
+    is_live : Keeps place scope c later [] r.slots live → (q : ℕ) (d : Holder) → HoldsRegister live q d → IsLive scope c later d.variable
     is_live keeps q d e = elim (keeps.kept q d e) [
       | inl m ↦ cc
       | inr l ↦ l

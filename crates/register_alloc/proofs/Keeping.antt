@@ -10,8 +10,8 @@ use Rattle.low_code.specs.Tree.{Code}
 use Rattle.low_code.specs.Formed.{uses}
 use Rattle.register_alloc.specs.Live.{IsLive}
 use Rattle.register_alloc.specs.Fits.{IsSlot, ClearOf, Apart, Holds, Full}
-use Rattle.variable_uses.specs.Stands.{Stands}
-use Rattle.register_alloc.specs.Holders.{Held, new_holder, IsWanted, IsStill, IsMarked, AreStillUsed, AreEntering, AllFree, Step, register, slot, Holding, IsKept, Keeps, Giving}
+use Rattle.variable_uses.specs.Stands.{ListSegmentAt}
+use Rattle.register_alloc.specs.Holders.{HoldsRegister, new_holder, IsUsedLaterOrWithin, StaysIfWanted, IsMarkedIfWanted, AreStillUsed, AreMarkedForJoin, AllFree, AssignsPlace, register, slot, Holding, IsKept, Keeps, Giving}
 use Rattle.register_alloc.specs.declared.holders.Holder.{Holder}
 use Rattle.register_alloc.proofs.Lists.{among_first, among_either, set_cases}
 use Rattle.variable_uses.proofs.Standing.{used_among, among_used}
@@ -30,52 +30,52 @@ same_slot k j e = cc
 -- ---- those that are still used
 
 module _ (used : List ℕ) (from to : ℕ) (old new : List (Option Holder)) where
-  still_was : AreStillUsed used from to old new → (r : ℕ) (d : Holder) → Held new r d → Held old r d × IsWanted used from to d
+  still_was : AreStillUsed used from to old new → (r : ℕ) (d : Holder) → HoldsRegister new r d → HoldsRegister old r d × IsUsedLaterOrWithin used from to d
   still_was p r d h =
       let lt : r < length new = slice_get_within new r (Some d) h in
       let o = some_at old r (subst (λ n. r < n) p.many lt) in
       go o.0 o.1 (p.each r o.0 (Some d) o.1 h)
     where
-      go : (o : Option Holder) → slice_get old r ≡ Some o → IsStill used from to o (Some d) → Held old r d × IsWanted used from to d
+      go : (o : Option Holder) → slice_get old r ≡ Some o → StaysIfWanted used from to o (Some d) → HoldsRegister old r d × IsUsedLaterOrWithin used from to d
       go None e i = cc
-      go (Some b) e i = (e ∙ ap (λ x. Some (Some x)) (sym i.0), subst (IsWanted used from to) (sym i.0) i.1)
+      go (Some b) e i = (e ∙ ap (λ x. Some (Some x)) (sym i.0), subst (IsUsedLaterOrWithin used from to) (sym i.0) i.1)
 
-  still_stays : AreStillUsed used from to old new → (r : ℕ) (d : Holder) → Held old r d → IsWanted used from to d → Held new r d
+  still_stays : AreStillUsed used from to old new → (r : ℕ) (d : Holder) → HoldsRegister old r d → IsUsedLaterOrWithin used from to d → HoldsRegister new r d
   still_stays p r d h w =
       let lt : r < length old = slice_get_within old r (Some d) h in
       let n = some_at new r (subst (λ n. r < n) (sym p.many) lt) in
       go n.0 n.1 (p.each r (Some d) n.0 h n.1)
     where
-      go : (n : Option Holder) → slice_get new r ≡ Some n → IsStill used from to (Some d) n → Held new r d
+      go : (n : Option Holder) → slice_get new r ≡ Some n → StaysIfWanted used from to (Some d) n → HoldsRegister new r d
       go None e i = absurd (i w)
       go (Some b) e i = e ∙ ap (λ x. Some (Some x)) i.0
 
-  entering_was : AreEntering used from to old new → (r : ℕ) (e : Holder) → Held new r e
-      → (d : Holder) × (Held old r d × ((e.variable ≡ d.variable) × ((e.later ≡ true) ↔ IsWanted used from to d)))
+  entering_was : AreMarkedForJoin used from to old new → (r : ℕ) (e : Holder) → HoldsRegister new r e
+      → (d : Holder) × (HoldsRegister old r d × ((e.variable ≡ d.variable) × ((e.later ≡ true) ↔ IsUsedLaterOrWithin used from to d)))
   entering_was p r e h =
       let lt : r < length new = slice_get_within new r (Some e) h in
       let o = some_at old r (subst (λ n. r < n) p.many lt) in
       go o.0 o.1 (p.each r o.0 (Some e) o.1 h)
     where
-      go : (o : Option Holder) → slice_get old r ≡ Some o → IsMarked used from to o (Some e)
-          → (d : Holder) × (Held old r d × ((e.variable ≡ d.variable) × ((e.later ≡ true) ↔ IsWanted used from to d)))
+      go : (o : Option Holder) → slice_get old r ≡ Some o → IsMarkedIfWanted used from to o (Some e)
+          → (d : Holder) × (HoldsRegister old r d × ((e.variable ≡ d.variable) × ((e.later ≡ true) ↔ IsUsedLaterOrWithin used from to d)))
       go None q i = cc
       go (Some b) q i = (b, (q, (i.0, i.1)))
 
-  entering_stays : AreEntering used from to old new → (r : ℕ) (d : Holder) → Held old r d → (e : Holder) × (Held new r e × (e.variable ≡ d.variable))
+  entering_stays : AreMarkedForJoin used from to old new → (r : ℕ) (d : Holder) → HoldsRegister old r d → (e : Holder) × (HoldsRegister new r e × (e.variable ≡ d.variable))
   entering_stays p r d h =
       let lt : r < length old = slice_get_within old r (Some d) h in
       let n = some_at new r (subst (λ n. r < n) (sym p.many) lt) in
       go n.0 n.1 (p.each r (Some d) n.0 h n.1)
     where
-      go : (n : Option Holder) → slice_get new r ≡ Some n → IsMarked used from to (Some d) n → (e : Holder) × (Held new r e × (e.variable ≡ d.variable))
+      go : (n : Option Holder) → slice_get new r ≡ Some n → IsMarkedIfWanted used from to (Some d) n → (e : Holder) × (HoldsRegister new r e × (e.variable ≡ d.variable))
       go None q i = absurd i
       go (Some b) q i = (b, (q, i.0))
 
 module _ (place : ℕ → Spot) (scope : List ℕ) where
   -- ---- those that are dead go
 
-  pub still_keeps : (c : Code) (later : List ℕ) (slots : ℕ) (used : List ℕ) (at : ℕ) (old new : List (Option Holder)) → Stands used at (uses c) → Holding place scope c later slots old
+  pub still_keeps : (c : Code) (later : List ℕ) (slots : ℕ) (used : List ℕ) (at : ℕ) (old new : List (Option Holder)) → ListSegmentAt used at (uses c) → Holding place scope c later slots old
       → AreStillUsed used at (at + length (uses c)) old new → Keeps place scope c later [] slots new
   still_keeps c later slots used at old new s h p = record {
     many = p.many ∙ h.many;
@@ -98,11 +98,11 @@ module _ (place : ℕ → Spot) (scope : List ℕ) where
       to : ℕ
       to = at + length (uses c)
 
-      is_used : (r : ℕ) (d : Holder) → Held old r d → IsWanted used at to d → is_among d.variable (uses c ++ later) ≡ true
+      is_used : (r : ℕ) (d : Holder) → HoldsRegister old r d → IsUsedLaterOrWithin used at to d → is_among d.variable (uses c ++ later) ≡ true
       is_used r d e (inl l) = among_right d.variable (uses c) later (sym (h.later_is r d e) ∙ l)
       is_used r d e (inr w) = among_left d.variable (uses c) later (used_among used at (uses c) s d.variable w)
 
-      wanted : (r : ℕ) (d : Holder) → Held old r d → is_among d.variable (uses c ++ later) ≡ true → IsWanted used at to d
+      wanted : (r : ℕ) (d : Holder) → HoldsRegister old r d → is_among d.variable (uses c ++ later) ≡ true → IsUsedLaterOrWithin used at to d
       wanted r d e m = elim (among_either d.variable (uses c) later m) [
         | inl l ↦ inr (among_used used at (uses c) s d.variable l)
         | inr l ↦ inl (h.later_is r d e ∙ l)
@@ -110,8 +110,8 @@ module _ (place : ℕ → Spot) (scope : List ℕ) where
 
   -- ---- at the head of a join's block
 
-  pub entering_holds : (w b c : Code) (later : List ℕ) (slots : ℕ) (used : List ℕ) (at : ℕ) (old new : List (Option Holder)) → uses w ≡ uses b ++ uses c → Stands used at (uses c)
-      → Holding place scope w later slots old → AreEntering used at (at + length (uses c)) old new → Holding place scope b (uses c ++ later) slots new
+  pub entering_holds : (w b c : Code) (later : List ℕ) (slots : ℕ) (used : List ℕ) (at : ℕ) (old new : List (Option Holder)) → uses w ≡ uses b ++ uses c → ListSegmentAt used at (uses c)
+      → Holding place scope w later slots old → AreMarkedForJoin used at (at + length (uses c)) old new → Holding place scope b (uses c ++ later) slots new
   entering_holds w b c later slots used at old new is s h p = record {
     many = p.many ∙ h.many;
     place_is = λ r e q. let d = entering_was used at to old new p r e q in ap place d.1.1.0 ∙ h.place_is r d.0 d.1.0;
@@ -142,11 +142,11 @@ module _ (place : ℕ → Spot) (scope : List ℕ) where
             ]
       ]
 
-      marked : (r : ℕ) (d : Holder) → Held old r d → IsWanted used at to d → is_among d.variable (uses c ++ later) ≡ true
+      marked : (r : ℕ) (d : Holder) → HoldsRegister old r d → IsUsedLaterOrWithin used at to d → is_among d.variable (uses c ++ later) ≡ true
       marked r d e (inl l) = among_right d.variable (uses c) later (sym (h.later_is r d e) ∙ l)
       marked r d e (inr u) = among_left d.variable (uses c) later (used_among used at (uses c) s d.variable u)
 
-      wanted : (r : ℕ) (d : Holder) → Held old r d → is_among d.variable (uses c ++ later) ≡ true → IsWanted used at to d
+      wanted : (r : ℕ) (d : Holder) → HoldsRegister old r d → is_among d.variable (uses c ++ later) ≡ true → IsUsedLaterOrWithin used at to d
       wanted r d e m = elim (among_either d.variable (uses c) later m) [
         | inl l ↦ inr (among_used used at (uses c) s d.variable l)
         | inr l ↦ inl (h.later_is r d e ∙ l)
@@ -257,7 +257,7 @@ module _ (place : ℕ → Spot) (scope : List ℕ) where
         apart_snoc given x g.good.0 (λ y kept e.
             let f = k.holds (8 + r) y kept (e ∙ is) in
             let q_is : f.0 ≡ r = let n = f.1.0 in omega (arith, n) in
-            taken f.1.1.0 (subst (λ n. Held held n f.1.1.0) q_is f.1.1.1.0)),
+            taken f.1.1.0 (subst (λ n. HoldsRegister held n f.1.1.0) q_is f.1.1.1.0)),
         full_snoc given x g.good.1 (λ spot q low high. absurd (subst IsSlot is spot)),
       );
     }
@@ -268,25 +268,25 @@ module _ (place : ℕ → Spot) (scope : List ℕ) where
         next : List (Option Holder)
         next = slice_set held r (Some (new_holder x))
 
-        taken : (d : Holder) → Held held r d → ⊥
+        taken : (d : Holder) → HoldsRegister held r d → ⊥
         taken d e = let h : Some (Some d) ≡ Some None = sym e ∙ none in cc
 
-        was : (q : ℕ) (d : Holder) → Held next q d → ((r ≡ q) × (d ≡ new_holder x)) ⊎ Held held q d
+        was : (q : ℕ) (d : Holder) → HoldsRegister next q d → ((r ≡ q) × (d ≡ new_holder x)) ⊎ HoldsRegister held q d
         was q d e = elim (set_cases held r (Some (new_holder x)) q) [
           | inl same ↦
-              let here : Held next r (new_holder x) = get_set held r (Some (new_holder x)) (omega (arith, k.many, lt)) in
-              let h : Some (Some d) ≡ Some (Some (new_holder x)) = sym (subst (λ n. Held next n d) (sym same) e) ∙ here in
+              let here : HoldsRegister next r (new_holder x) = get_set held r (Some (new_holder x)) (omega (arith, k.many, lt)) in
+              let h : Some (Some d) ≡ Some (Some (new_holder x)) = sym (subst (λ n. HoldsRegister next n d) (sym same) e) ∙ here in
               inl (same, cc)
           | inr other ↦ inr (sym other ∙ e)
         ]
 
-        stays : (q : ℕ) (d : Holder) → Held held q d → Held next q d
+        stays : (q : ℕ) (d : Holder) → HoldsRegister held q d → HoldsRegister next q d
         stays q d e = elim (set_cases held r (Some (new_holder x)) q) [
-          | inl same ↦ absurd (taken d (subst (λ n. Held held n d) (sym same) e))
+          | inl same ↦ absurd (taken d (subst (λ n. HoldsRegister held n d) (sym same) e))
           | inr other ↦ other ∙ e
         ]
 
-    pub give_slot : (given : List ℕ) (slots : ℕ) (held : List (Option Holder)) (x : ℕ) → ((r : ℕ) → r < 24 → (d : Holder) × Held held r d)
+    pub give_slot : (given : List ℕ) (slots : ℕ) (held : List (Option Holder)) (x : ℕ) → ((r : ℕ) → r < 24 → (d : Holder) × HoldsRegister held r d)
         → place x ≡ Slot slots → Giving place scope c later given slots held → Giving place scope c later (given ++ (x ∷ [])) (suc slots) held
     give_slot given slots held x all is g = record {
       keeps = record {
@@ -317,7 +317,7 @@ module _ (place : ℕ → Spot) (scope : List ℕ) where
 
     -- by either kind of step
     pub give_step : (given : List ℕ) (slots slots' : ℕ) (held held' : List (Option Holder)) (x : ℕ) (spot : Spot) → is_among x later ≡ false → place x ≡ spot
-        → Step held slots x spot held' slots' → Giving place scope c later given slots held → Giving place scope c later (given ++ (x ∷ [])) slots' held'
+        → AssignsPlace held slots x spot held' slots' → Giving place scope c later given slots held → Giving place scope c later (given ++ (x ∷ [])) slots' held'
     give_step given slots _ held _ x _ fresh is (register r lt none) g = give_register given slots held x r lt none fresh is g
     give_step given slots _ held _ x _ fresh is (slot all) g = give_slot given slots held x all is g
 

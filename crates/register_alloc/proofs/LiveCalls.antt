@@ -4,15 +4,15 @@ use Rattle.seq.proofs.Lists.{get_right, get_left}
 use Rattle.low_code.specs.Tree.{Code, set, prim, load, save, take, put, get, call, join, give, tail, choose, fail, Arms, otherwise, arm}
 use Rattle.low_code.specs.Formed.{uses, calls_in, arms_calls, Site}
 use Rattle.register_alloc.specs.Live.{IsLive, LiveAfter, ArmsLiveAfter, EachBinding, EachBindingOfArms}
-use Rattle.register_alloc.specs.Point.{After, points, arms_points}
+use Rattle.register_alloc.specs.Point.{AfterCall, points, arms_points}
 
 -- ---- the calls of the points
 
-abbrev pub sites_of_points : List After → List Site
+abbrev pub sites_of_points : List AfterCall → List Site
 sites_of_points [] = []
 sites_of_points (p ∷ ps) = (p.site, p.proc) ∷ sites_of_points ps
 
-both : (ps qs : List After) → sites_of_points (ps ++ qs) ≡ sites_of_points ps ++ sites_of_points qs
+both : (ps qs : List AfterCall) → sites_of_points (ps ++ qs) ≡ sites_of_points ps ++ sites_of_points qs
 both [] qs = refl
 both (p ∷ ps) qs = ap (λ l. (p.site, p.proc) ∷ l) (both ps qs)
 
@@ -43,9 +43,9 @@ mutual
 -- ---- live after a site
 
 -- y is live at one of these points, which is that of the site
-pub record LiveAt (site y : ℕ) (ps : List After) : Type 0 where
+pub record LiveAt (site y : ℕ) (ps : List AfterCall) : Type 0 where
   pub place : ℕ
-  pub point : After
+  pub point : AfterCall
   pub there : slice_get ps place ≡ Some point
   pub site_is : point.site ≡ site
   pub live : IsLive point.scope point.rest point.later y
@@ -55,13 +55,13 @@ got_split [] ys i y e = inr (i, e)
 got_split (x ∷ xs) ys zero y e = inl e
 got_split (x ∷ xs) ys (suc i) y e = got_split xs ys i y e
 
-at_first : (site y : ℕ) (ps qs : List After) → LiveAt site y ps → LiveAt site y (ps ++ qs)
+at_first : (site y : ℕ) (ps qs : List AfterCall) → LiveAt site y ps → LiveAt site y (ps ++ qs)
 at_first site y ps qs l = record { place = l.place; point = l.point; there = get_left ps qs l.place l.point l.there; site_is = l.site_is; live = l.live }
 
-at_second : (site y : ℕ) (ps qs : List After) → LiveAt site y qs → LiveAt site y (ps ++ qs)
+at_second : (site y : ℕ) (ps qs : List AfterCall) → LiveAt site y qs → LiveAt site y (ps ++ qs)
 at_second site y ps qs l = record { place = length ps + l.place; point = l.point; there = get_right ps qs l.place l.point l.there; site_is = l.site_is; live = l.live }
 
-at_either : (site y : ℕ) (ps qs : List After) → LiveAt site y (ps ++ qs) → LiveAt site y ps ⊎ LiveAt site y qs
+at_either : (site y : ℕ) (ps qs : List AfterCall) → LiveAt site y (ps ++ qs) → LiveAt site y ps ⊎ LiveAt site y qs
 at_either site y ps qs l = elim (got_split ps qs l.place l.point l.there) [
   | inl e ↦ inl (record { place = l.place; point = l.point; there = e; site_is = l.site_is; live = l.live })
   | inr e ↦ inr (record { place = e.0; point = l.point; there = e.1; site_is = l.site_is; live = l.live })
@@ -98,7 +98,7 @@ mutual
 here : (site f : ℕ) (scope : List ℕ) (c : Code) (later : List ℕ) (s y : ℕ) → LiveAt s y (record { site = site; proc = f; scope = scope; rest = c; later = later } ∷ []) → (s ≡ site) × IsLive scope c later y
 here site f scope c later s y l = go l.place l.point l.there l.site_is l.live
   where
-    go : (i : ℕ) (p : After) → slice_get (record { site = site; proc = f; scope = scope; rest = c; later = later } ∷ []) i ≡ Some p → p.site ≡ s → IsLive p.scope p.rest p.later y → (s ≡ site) × IsLive scope c later y
+    go : (i : ℕ) (p : AfterCall) → slice_get (record { site = site; proc = f; scope = scope; rest = c; later = later } ∷ []) i ≡ Some p → p.site ≡ s → IsLive p.scope p.rest p.later y → (s ≡ site) × IsLive scope c later y
     go zero p e q v =
         let same : record { site = site; proc = f; scope = scope; rest = c; later = later } ≡ p = cc in
         (sym q ∙ ap (λ r. r.site) (sym same), subst (λ r. IsLive r.scope r.rest r.later y) (sym same) v)

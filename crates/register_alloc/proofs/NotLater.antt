@@ -5,10 +5,10 @@ use Rattle.low_code.specs.declared.program.Operand.{Operand}
 use Rattle.low_code.specs.declared.program.Operand.TheVariants.{Var, Num, Cell}
 use Rattle.low_code.specs.declared.program.LowTest.{LowTest}
 use Rattle.low_code.specs.Tree.{Code, set, prim, load, save, take, put, get, call, join, give, tail, choose, fail, Arms, otherwise, arm, Procedure}
-use Rattle.low_code.specs.Formed.{uses, arms_uses, used_by, used_by_all, used_by_tests, binds, arms_binds, Known, AllKnown, TestsKnown, Scoped, ArmsScoped, AllScoped}
+use Rattle.low_code.specs.Formed.{uses, arms_uses, used_by, used_by_all, used_by_tests, binds, arms_binds, OperandInScope, OperandsInScope, TestsInScope, Scoped, ArmsScoped, AllScoped}
 use Rattle.register_alloc.specs.Live.{EachBindingOfArms}
-use Rattle.register_alloc.specs.Holders.{NoneOf}
-use Rattle.register_alloc.specs.Point.{NoneLater}
+use Rattle.register_alloc.specs.Holders.{AreDisjoint}
+use Rattle.register_alloc.specs.Point.{NoBoundIsUsedLater}
 use Rattle.register_alloc.proofs.Lists.{among_either}
 use Rattle.register_alloc.proofs.Counted.{among_times}
 use Rattle.seq.specs.Lists.{times, is_among}
@@ -19,7 +19,7 @@ use Rattle.seq.proofs.Counted.{among_cases, times_append, among_left, among_righ
 abbrev Bounds : (scope bs us : List ℕ) → Type 0
 Bounds scope bs us = (y : ℕ) → is_among y us ≡ true → (is_among y scope ≡ true) ⊎ (is_among y bs ≡ true)
 
-known_bound : (g : ℕ) (scope bs : List ℕ) (a : Operand) → Known g scope a → Bounds scope bs (used_by a)
+known_bound : (g : ℕ) (scope bs : List ℕ) (a : Operand) → OperandInScope g scope a → Bounds scope bs (used_by a)
 known_bound g scope bs (Var x) k y m = elim (among_cases y x [] m) [
   | inl e ↦ inl (subst (λ z. is_among z scope ≡ true) (sym e) k)
   | inr none ↦ cc
@@ -33,11 +33,11 @@ both_bound scope bs us vs a b y m = elim (among_either y us vs m) [
   | inr r ↦ b y r
 ]
 
-all_known_bound : (g : ℕ) (scope bs : List ℕ) (ops : List Operand) → AllKnown g scope ops → Bounds scope bs (used_by_all ops)
+all_known_bound : (g : ℕ) (scope bs : List ℕ) (ops : List Operand) → OperandsInScope g scope ops → Bounds scope bs (used_by_all ops)
 all_known_bound g scope bs [] k = λ y m. cc
 all_known_bound g scope bs (a ∷ ops) k = both_bound scope bs (used_by a) (used_by_all ops) (known_bound g scope bs a k.0) (all_known_bound g scope bs ops k.1)
 
-tests_bound : (g : ℕ) (scope bs : List ℕ) (ts : List LowTest) → TestsKnown g scope ts → Bounds scope bs (used_by_tests ts)
+tests_bound : (g : ℕ) (scope bs : List ℕ) (ts : List LowTest) → TestsInScope g scope ts → Bounds scope bs (used_by_tests ts)
 tests_bound g scope bs [] k = λ y m. cc
 tests_bound g scope bs (t ∷ ts) k = both_bound scope bs (used_by t.left) (used_by_tests ts) (known_bound g scope bs t.left k.0) (tests_bound g scope bs ts k.1)
 
@@ -98,10 +98,10 @@ mutual
 abbrev Once : (scope bs : List ℕ) → Type 0
 Once scope bs = (x : ℕ) → times x scope + times x bs ≤ 1
 
-none_first : (xs bs later : List ℕ) → NoneOf (xs ++ bs) later → NoneOf xs later
+none_first : (xs bs later : List ℕ) → AreDisjoint (xs ++ bs) later → AreDisjoint xs later
 none_first xs bs later n x m = n x (among_left x xs bs m)
 
-none_rest : (xs bs later : List ℕ) → NoneOf (xs ++ bs) later → NoneOf bs later
+none_rest : (xs bs later : List ℕ) → AreDisjoint (xs ++ bs) later → AreDisjoint bs later
 none_rest xs bs later n x m = n x (among_right x xs bs m)
 
 once_next : (scope xs bs : List ℕ) → Once scope (xs ++ bs) → Once (xs ++ scope) bs
@@ -113,12 +113,12 @@ once_first scope xs bs o x = let h = o x in let e = times_append x xs bs in omeg
 once_rest : (scope xs bs : List ℕ) → Once scope (xs ++ bs) → Once scope bs
 once_rest scope xs bs o x = let h = o x in let e = times_append x xs bs in omega (arith, h, e)
 
-bound_next : (g : ℕ) (scope xs : List ℕ) (c : Code) (later : List ℕ) → NoneOf (xs ++ binds c) later → Once scope (xs ++ binds c)
-    → (NoneOf (binds c) later → Once (xs ++ scope) (binds c) → NoneLater (xs ++ scope) c later) → NoneOf xs later × NoneLater (xs ++ scope) c later
+bound_next : (g : ℕ) (scope xs : List ℕ) (c : Code) (later : List ℕ) → AreDisjoint (xs ++ binds c) later → Once scope (xs ++ binds c)
+    → (AreDisjoint (binds c) later → Once (xs ++ scope) (binds c) → NoBoundIsUsedLater (xs ++ scope) c later) → AreDisjoint xs later × NoBoundIsUsedLater (xs ++ scope) c later
 bound_next g scope xs c later n o next = (none_first xs (binds c) later n, next (none_rest xs (binds c) later n) (once_next scope xs (binds c) o))
 
 -- those bound in the block of a join aren't used after it
-in_join : (g : ℕ) (scope xs bs : List ℕ) (c : Code) (later : List ℕ) → Scoped g (xs ++ scope) c → NoneOf (bs ++ (xs ++ binds c)) later → Once scope (bs ++ (xs ++ binds c)) → NoneOf bs (uses c ++ later)
+in_join : (g : ℕ) (scope xs bs : List ℕ) (c : Code) (later : List ℕ) → Scoped g (xs ++ scope) c → AreDisjoint (bs ++ (xs ++ binds c)) later → Once scope (bs ++ (xs ++ binds c)) → AreDisjoint bs (uses c ++ later)
 in_join g scope xs bs c later s n o x m = elim (two_ways (is_among x (uses c ++ later))) [
   | inr f ↦ f
   | inl t ↦
@@ -144,7 +144,7 @@ in_join g scope xs bs c later s n o x m = elim (two_ways (is_among x (uses c ++ 
         ]
 
 mutual
-  pub none_later : (g : ℕ) (scope : List ℕ) (c : Code) (later : List ℕ) → Scoped g scope c → NoneOf (binds c) later → Once scope (binds c) → NoneLater scope c later
+  pub none_later : (g : ℕ) (scope : List ℕ) (c : Code) (later : List ℕ) → Scoped g scope c → AreDisjoint (binds c) later → Once scope (binds c) → NoBoundIsUsedLater scope c later
   none_later g scope (set x a c) later s n o = bound_next g scope (x ∷ []) c later n o (λ n' o'. none_later g (x ∷ scope) c later s.1 n' o')
   none_later g scope (prim f x a b c) later s n o = bound_next g scope (x ∷ []) c later n o (λ n' o'. none_later g (x ∷ scope) c later s.2 n' o')
   none_later g scope (load x a k c) later s n o = bound_next g scope (x ∷ []) c later n o (λ n' o'. none_later g (x ∷ scope) c later s.1 n' o')
@@ -162,8 +162,8 @@ mutual
   none_later g scope (choose as') later s n o = none_later_arms g scope as' later s n o
   none_later g scope fail later s n o = tt
 
-  none_later_arms : (g : ℕ) (scope : List ℕ) (as' : Arms) (later : List ℕ) → ArmsScoped g scope as' → NoneOf (arms_binds as') later → Once scope (arms_binds as')
-      → EachBindingOfArms (λ scope xs c later. NoneOf xs later) scope as' later
+  none_later_arms : (g : ℕ) (scope : List ℕ) (as' : Arms) (later : List ℕ) → ArmsScoped g scope as' → AreDisjoint (arms_binds as') later → Once scope (arms_binds as')
+      → EachBindingOfArms (λ scope xs c later. AreDisjoint xs later) scope as' later
   none_later_arms g scope (otherwise c) later s n o = none_later g scope c later s n o
   none_later_arms g scope (arm ts c as') later s n o = (
     none_later g scope c later s.1 (none_first (binds c) (arms_binds as') later n) (once_first scope (binds c) (arms_binds as') o),

@@ -2,7 +2,7 @@
 use Rattle.std.proofs.Common.{◌≡◌, ◌↔◌, ◌⊎◌, ◌||◌, ℕ, ◌+◌, ◌<◌, Bool, true, false, List, [], ◌∷◌, ◌++◌, length, Option, Some, None, slice_get, MatchOption, inl, inr, refl, sym, ap, ◌∙◌, subst, arith}
 use Rattle.std.proofs.lemmas.Bool.{cases_lt}
 use Rattle.register_alloc.specs.Fits.{Ascending}
-use Rattle.register_alloc.specs.Holders.{Held, Pairwise, AreRegisters}
+use Rattle.register_alloc.specs.Holders.{HoldsRegister, Pairwise, AreRegisters}
 use Rattle.register_alloc.specs.declared.holders.Holder.{Holder}
 use Rattle.register_alloc.proofs.Lists.{among_first, among_either}
 use Rattle.seq.specs.Lists.{is_among}
@@ -27,7 +27,7 @@ pairs_also pairs also = record { many = pairs.many; each = λ r d e a b. also d 
 
 pub record RegistersUpTo (held : List (Option Holder)) (k : ℕ) (registers : List ℕ) : Type 0 where
   pub ascending : Ascending registers
-  pub each : (r : ℕ) → (is_among r registers ≡ true) ↔ ((q : ℕ) × ((r ≡ 8 + q) × ((q < k) × ((d : Holder) × Held held q d))))
+  pub each : (r : ℕ) → (is_among r registers ≡ true) ↔ ((q : ℕ) × ((r ≡ 8 + q) × ((q < k) × ((d : Holder) × HoldsRegister held q d))))
 
 pub ascending_snoc : (rs : List ℕ) (v : ℕ) → Ascending rs → ((r : ℕ) → is_among r rs ≡ true → r < v) → Ascending (rs ++ (v ∷ []))
 ascending_snoc [] v a b = tt
@@ -38,7 +38,7 @@ module _ (held : List (Option Holder)) where
   pub no_registers : RegistersUpTo held 0 []
   no_registers = record { ascending = tt; each = λ r. (λ m. cc, λ q. absurd (let lt = q.1.1.0 in omega (arith, lt))) }
 
-  pub one_more_held : (k : ℕ) (registers new : List ℕ) (d : Holder) → Held held k d → new ≡ registers ++ ((8 + k) ∷ []) → RegistersUpTo held k registers → RegistersUpTo held (k + 1) new
+  pub one_more_held : (k : ℕ) (registers new : List ℕ) (d : Holder) → HoldsRegister held k d → new ≡ registers ++ ((8 + k) ∷ []) → RegistersUpTo held k registers → RegistersUpTo held (k + 1) new
   one_more_held k registers new d here is u = record {
     ascending = subst Ascending (sym is) (ascending_snoc registers (8 + k) u.ascending (λ r m. let q = (u.each r).0 m in let e = q.1.0 in let lt = q.1.1.0 in omega (arith, e, lt)));
     each = λ r. (
@@ -59,7 +59,7 @@ module _ (held : List (Option Holder)) where
     );
   }
 
-  pub one_more_free : (k : ℕ) (registers : List ℕ) → ((d : Holder) → Held held k d → ⊥) → RegistersUpTo held k registers → RegistersUpTo held (k + 1) registers
+  pub one_more_free : (k : ℕ) (registers : List ℕ) → ((d : Holder) → HoldsRegister held k d → ⊥) → RegistersUpTo held k registers → RegistersUpTo held (k + 1) registers
   one_more_free k registers free u = record {
     ascending = u.ascending;
     each = λ r. (
@@ -68,7 +68,7 @@ module _ (held : List (Option Holder)) where
         | inl lt ↦ (u.each r).1 (q.0, (q.1.0, (lt, q.1.1.1)))
         | inr ge ↦
             let same : q.0 ≡ k = let lt = q.1.1.0 in omega (arith, lt, ge) in
-            absurd (free q.1.1.1.0 (subst (λ n. Held held n q.1.1.1.0) same q.1.1.1.1))
+            absurd (free q.1.1.1.0 (subst (λ n. HoldsRegister held n q.1.1.1.0) same q.1.1.1.1))
       ],
     );
   }
@@ -81,11 +81,11 @@ module _ (held : List (Option Holder)) where
   next_register k registers new None there is u = subst (RegistersUpTo held (k + 1)) (sym is) (one_more_free k registers (λ d e. let h : Some None ≡ Some (Some d) = sym there ∙ e in cc) u)
   next_register k registers new (Some d) there is u = one_more_held k registers new d there is u
 
-pub held_below : (held : List (Option Holder)) (k : ℕ) (o : Option Holder) → slice_get held k ≡ Some o → ((d : Holder) × (o ≡ Some d)) → ((r : ℕ) → r < k → (d : Holder) × Held held r d)
-    → (r : ℕ) → r < k + 1 → (d : Holder) × Held held r d
+pub held_below : (held : List (Option Holder)) (k : ℕ) (o : Option Holder) → slice_get held k ≡ Some o → ((d : Holder) × (o ≡ Some d)) → ((r : ℕ) → r < k → (d : Holder) × HoldsRegister held r d)
+    → (r : ℕ) → r < k + 1 → (d : Holder) × HoldsRegister held r d
 held_below held k o there d below r lt = elim (cases_lt r k) [
   | inl less ↦ below r less
   | inr past ↦
       let same : k ≡ r = omega (arith, lt, past) in
-      (d.0, subst (λ n. Held held n d.0) same (there ∙ ap Some d.1))
+      (d.0, subst (λ n. HoldsRegister held n d.0) same (there ∙ ap Some d.1))
 ]

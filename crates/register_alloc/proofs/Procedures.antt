@@ -7,13 +7,13 @@ use Rattle.parallel_move.specs.declared.Spot.TheVariants.{Reg, Slot, Scratch}
 use Rattle.low_code.specs.Tree.{Code, set, prim, load, save, take, put, get, call, join, give, tail, choose, fail, Arms, otherwise, arm, Procedure}
 use Rattle.low_code.specs.Formed.{uses, binds, arms_binds, variables, all_variables, calls_in, sites_of, all_sites, Site}
 use Rattle.register_alloc.specs.Live.{LiveAfter, ArmsLiveAfter}
-use Rattle.register_alloc.specs.Fits.{IsPlace, slot_end, slots_of, longest}
+use Rattle.register_alloc.specs.Fits.{IsPlace, slot_end, slots_of, most_saved}
 use Rattle.variable_uses.specs.Uses.{AreUses}
 use Rattle.register_alloc.specs.Inner.{sizes_of}
-use Rattle.variable_uses.specs.Stands.{Stands}
-use Rattle.register_alloc.specs.Holders.{AllFree, Agrees, Numbered, none, in_register, in_slot, variables_of, Giving, Holding}
-use Rattle.register_alloc.specs.Point.{After, points, Notes, NoteAll, NoneLater, Before, Walked, SameText, IsNew, Adds, AllGiven, Ends, IsWalked}
-use Rattle.register_alloc.specs.Gathered.{IsWalkOf, Gathers, one_more, sites_at, calls_of_walks, longest_at}
+use Rattle.variable_uses.specs.Stands.{ListSegmentAt}
+use Rattle.register_alloc.specs.Holders.{AllFree, PlacesAgree, SlotsAreNumbered, none, in_register, in_slot, variables_of, Giving, Holding}
+use Rattle.register_alloc.specs.Point.{AfterCall, points, RecordsLiveRegisters, RecordsAllLive, NoBoundIsUsedLater, Before, Walked, SameText, IsFreshWalk, AddsPlaces, AllGiven, WalksBlock, WalksProcedure}
+use Rattle.register_alloc.specs.Gathered.{IsWalkOf, GathersProcedures, one_more, sites_at, calls_of_walks, longest_at}
 use Rattle.register_alloc.specs.Gathered as all
 use Rattle.register_alloc.specs.declared.holders.Holder.{Holder}
 use Rattle.register_alloc.specs.declared.registers.Given.{Given}
@@ -34,13 +34,13 @@ use Rattle.seq.proofs.Counted.{among_later, among_cases, among_left, among_right
 
 -- ---- the walk over a whole procedure
 
-module _ (q : Procedure) (text : Text) (used : List ℕ) (start mid new : Registers) (free held : List (Option Holder)) (end : ℕ) (fresh : IsNew start) (is_free : AllFree free)
-    (given : AllGiven q.params start free mid held) (adds : Adds q.params start mid) (same : SameText start mid) (calls : mid.calls.items ≡ start.calls.items)
-    (is : used ≡ uses q.body) (are : AreUses used text.uses) (sizes : text.sizes.items ≡ sizes_of q.body) (ends : end ≡ length used) (walked : Ends text q.body end mid held new) where
+module _ (q : Procedure) (text : Text) (used : List ℕ) (start mid new : Registers) (free held : List (Option Holder)) (end : ℕ) (fresh : IsFreshWalk start) (is_free : AllFree free)
+    (given : AllGiven q.params start free mid held) (adds : AddsPlaces q.params start mid) (same : SameText start mid) (calls : mid.calls.items ≡ start.calls.items)
+    (is : used ≡ uses q.body) (are : AreUses used text.uses) (sizes : text.sizes.items ≡ sizes_of q.body) (ends : end ≡ length used) (walked : WalksBlock text q.body end mid held new) where
   at_start : mid.at ≡ 0
   at_start = same.at ∙ fresh.at
 
-  module _ (place : ℕ → Spot) (agrees : Agrees place new.given.items) (none_later : NoneLater q.params q.body []) where
+  module _ (place : ℕ → Spot) (agrees : PlacesAgree place new.given.items) (none_later : NoBoundIsUsedLater q.params q.body []) where
     entry : Giving place [] q.body [] q.params mid.slots held
     entry = given place (agrees_old place mid new walked.grows agrees) [] q.body [] (λ x m. refl) (free_keeps place q.body start.slots free is_free)
 
@@ -48,29 +48,29 @@ module _ (q : Procedure) (text : Text) (used : List ℕ) (start mid new : Regist
     before = record {
       used = used;
       are = are;
-      uses_stand = subst (Stands used mid.at) is (subst (λ n. Stands used n used) (sym at_start) (stands_all used));
+      uses_stand = subst (ListSegmentAt used mid.at) is (subst (λ n. ListSegmentAt used n used) (sym at_start) (stands_all used));
       ends = ends ∙ ap length is ∙ (let e = at_start in omega (arith, e));
-      sizes_stand = subst (Stands text.sizes.items mid.block) sizes (subst (λ n. Stands text.sizes.items n text.sizes.items) (sym (same.block ∙ fresh.block)) (stands_all text.sizes.items));
+      sizes_stand = subst (ListSegmentAt text.sizes.items mid.block) sizes (subst (λ n. ListSegmentAt text.sizes.items n text.sizes.items) (sym (same.block ∙ fresh.block)) (stands_all text.sizes.items));
       holding = subst (λ scope. Holding place scope q.body [] mid.slots held) (sym (nothing_more q.params)) (given_holds place [] q.body [] q.params mid.slots held entry.keeps);
     }
 
     done : Walked place text [] q.params q.body mid new end
     done = walked.walked place agrees [] q.params none_later before
 
-    all_notes : NoteAll place new.calls.items (points q.params q.body [])
-    all_notes = subst (λ ks. NoteAll place ks (points q.params q.body [])) (sym (done.calls ∙ ap (λ l. l ++ done.more) (calls ∙ fresh.calls))) done.notes
+    all_notes : RecordsAllLive place new.calls.items (points q.params q.body [])
+    all_notes = subst (λ ks. RecordsAllLive place ks (points q.params q.body [])) (sym (done.calls ∙ ap (λ l. l ++ done.more) (calls ∙ fresh.calls))) done.notes
 
-  pub walked_is : IsWalked q new
+  pub walked_is : WalksProcedure q new
   walked_is = record {
     variables = walked.variables ∙ ap (λ l. l ++ binds q.body) (adds.variables ∙ ap (λ gs. variables_of gs ++ q.params) fresh.given);
-    numbered = walked.grows.numbered (adds.grows.numbered (subst (λ gs. Numbered gs start.slots) (sym fresh.given) (subst (Numbered []) (sym fresh.slots) none)));
+    numbered = walked.grows.numbered (adds.grows.numbered (subst (λ gs. SlotsAreNumbered gs start.slots) (sym fresh.given) (subst (SlotsAreNumbered []) (sym fresh.slots) none)));
     each = λ place agrees n. ((entry place agrees n).good, (done place agrees n).each);
     notes = λ place agrees n. all_notes place agrees n;
   }
 
 -- ---- places that are given
 
-pub numbered_place : (gs : List Given) (n : ℕ) → Numbered gs n → (k : ℕ) (g : Given) → slice_get gs k ≡ Some g → IsPlace g.spot
+pub numbered_place : (gs : List Given) (n : ℕ) → SlotsAreNumbered gs n → (k : ℕ) (g : Given) → slice_get gs k ≡ Some g → IsPlace g.spot
 numbered_place _ _ none k g e = cc
 numbered_place _ _ (in_register {gs = gs} x r rest lt) k g e = elim (got_cases gs (record { variable = x; spot = Reg (8 + r) }) k g e) [
   | inl was ↦ numbered_place gs _ rest k g was
@@ -114,7 +114,7 @@ register_among (h ∷ gs) zero g r e is = in_registers h.spot r (registers_of gs
 register_among (h ∷ gs) (suc k) g r e is = in_registers h.spot r (registers_of gs) (inr (register_among gs k g r e is))
 
 -- each place is a register or a slot
-pub numbered_many : (gs : List Given) (n : ℕ) → Numbered gs n → n + length (registers_of gs) ≡ length (variables_of gs)
+pub numbered_many : (gs : List Given) (n : ℕ) → SlotsAreNumbered gs n → n + length (registers_of gs) ≡ length (variables_of gs)
 numbered_many _ _ none = refl
 numbered_many _ _ (in_register {gs = gs} {n = n} x r rest lt) =
     let g : Given = record { variable = x; spot = Reg (8 + r) } in
@@ -134,7 +134,7 @@ slots_append place [] x = omega arith
 slots_append place (y ∷ xs) x = let h = slots_append place xs x in omega (arith, h)
 
 -- the slots are as many as were given
-pub numbered_slots : (place : ℕ → Spot) (gs : List Given) (n : ℕ) → Numbered gs n → Agrees place gs → slots_of place (variables_of gs) ≡ n
+pub numbered_slots : (place : ℕ → Spot) (gs : List Given) (n : ℕ) → SlotsAreNumbered gs n → PlacesAgree place gs → slots_of place (variables_of gs) ≡ n
 numbered_slots place _ _ none agrees = refl
 numbered_slots place _ _ (in_register {gs = gs} {n = n} x r rest lt) agrees =
     let g : Given = record { variable = x; spot = Reg (8 + r) } in
@@ -163,16 +163,16 @@ abbrev pub calls_of : List CallSite → List Site
 calls_of [] = []
 calls_of (k ∷ ks) = (k.site, k.proc) ∷ calls_of ks
 
-pub noted : (place : ℕ → Spot) (ks : List CallSite) (ps : List After) → NoteAll place ks ps → calls_of ks ≡ sites_of_points ps
+pub noted : (place : ℕ → Spot) (ks : List CallSite) (ps : List AfterCall) → RecordsAllLive place ks ps → calls_of ks ≡ sites_of_points ps
 noted place [] [] n = refl
 noted place [] (p ∷ ps) n = absurd n
 noted place (k ∷ ks) [] n = absurd n
 noted place (k ∷ ks) (p ∷ ps) n = ap (λ s. (s, k.proc) ∷ calls_of ks) n.0.site ∙ ap (λ f. (p.site, f) ∷ calls_of ks) n.0.proc ∙ ap (λ l. (p.site, p.proc) ∷ l) (noted place ks ps n.1)
 
-pub note_at : (place : ℕ → Spot) (ks : List CallSite) (ps : List After) (i : ℕ) (k : CallSite) → NoteAll place ks ps → slice_get ks i ≡ Some k → (p : After) × ((slice_get ps i ≡ Some p) × Notes place k p)
+pub note_at : (place : ℕ → Spot) (ks : List CallSite) (ps : List AfterCall) (i : ℕ) (k : CallSite) → RecordsAllLive place ks ps → slice_get ks i ≡ Some k → (p : AfterCall) × ((slice_get ps i ≡ Some p) × RecordsLiveRegisters place k p)
 note_at place [] ps i k n e = cc
 note_at place (j ∷ ks) [] i k n e = absurd n
-note_at place (j ∷ ks) (p ∷ ps) zero k n e = (p, (refl, subst (λ z. Notes place z p) (same_Some j k e) n.0))
+note_at place (j ∷ ks) (p ∷ ps) zero k n e = (p, (refl, subst (λ z. RecordsLiveRegisters place z p) (same_Some j k e) n.0))
 note_at place (j ∷ ks) (p ∷ ps) (suc i) k n e = note_at place ks ps i k n.1 e
 
 pub call_at : (ks : List CallSite) (i : ℕ) (s : Site) → slice_get (calls_of ks) i ≡ Some s → (k : CallSite) × ((slice_get ks i ≡ Some k) × ((k.site ≡ s.0) × (k.proc ≡ s.1)))
@@ -188,7 +188,7 @@ pub procs_are : (ks : List CallSite) → all.procs_of ks ≡ callees (calls_of k
 procs_are [] = refl
 procs_are (k ∷ ks) = ap (λ l. k.proc ∷ l) (procs_are ks)
 
-pub longest_is : (saves : List (List ℕ)) (ks : List CallSite) → longest_at saves ks ≡ longest (λ s. slice_index_or saves s []) (calls_of ks)
+pub longest_is : (saves : List (List ℕ)) (ks : List CallSite) → longest_at saves ks ≡ most_saved (λ s. slice_index_or saves s []) (calls_of ks)
 longest_is saves [] = refl
 longest_is saves (k ∷ ks) = ap (λ n. max (length (slice_index_or saves k.site [])) n) (longest_is saves ks)
 
@@ -253,7 +253,7 @@ pub record At (ws : List Registers) (gs : List Given) (ms : List ℕ) (cs : List
   pub given_in : (k : ℕ) (g : Given) → slice_get walk.given.items k ≡ Some g → (j : ℕ) × (slice_get gs j ≡ Some g)
   pub calls_in_all : (i : ℕ) (k : CallSite) → slice_get walk.calls.items i ≡ Some k → (j : ℕ) × (slice_get (calls_of_walks ws) j ≡ Some k)
 
-pub gathered_at : (qs : List Procedure) (ws : List Registers) (gs : List Given) (ms : List ℕ) (cs : List (List ℕ)) → Gathers qs ws gs ms cs → (f : ℕ) (q : Procedure) → slice_get qs f ≡ Some q → At ws gs ms cs f q
+pub gathered_at : (qs : List Procedure) (ws : List Registers) (gs : List Given) (ms : List ℕ) (cs : List (List ℕ)) → GathersProcedures qs ws gs ms cs → (f : ℕ) (q : Procedure) → slice_get qs f ≡ Some q → At ws gs ms cs f q
 gathered_at _ _ _ _ _ all.none f q e = cc
 gathered_at _ _ _ _ _ (one_more qs ws gs ms cs r w m c is rest) zero q e =
     let same : r ≡ q = same_Some r q e in
@@ -282,18 +282,18 @@ gathered_at _ _ _ _ _ (one_more qs ws gs ms cs r w m c is rest) (suc f) q e =
       calls_in_all = λ i k h. let j = t.calls_in_all i k h in (length w.calls.items + j.0, get_right w.calls.items (calls_of_walks ws) j.0 k j.1);
     }
 
-pub procedure_of_own : (qs : List Procedure) (ws : List Registers) (gs : List Given) (ms : List ℕ) (cs : List (List ℕ)) → Gathers qs ws gs ms cs → (f m : ℕ) → slice_get ms f ≡ Some m → (q : Procedure) × (slice_get qs f ≡ Some q)
+pub procedure_of_own : (qs : List Procedure) (ws : List Registers) (gs : List Given) (ms : List ℕ) (cs : List (List ℕ)) → GathersProcedures qs ws gs ms cs → (f m : ℕ) → slice_get ms f ≡ Some m → (q : Procedure) × (slice_get qs f ≡ Some q)
 procedure_of_own _ _ _ _ _ all.none f m e = cc
 procedure_of_own _ _ _ _ _ (one_more qs ws gs ms cs r w n c is rest) zero m e = (r, refl)
 procedure_of_own _ _ _ _ _ (one_more qs ws gs ms cs r w n c is rest) (suc f) m e = procedure_of_own qs ws gs ms cs rest f m e
 
-pub procedure_of_called : (qs : List Procedure) (ws : List Registers) (gs : List Given) (ms : List ℕ) (cs : List (List ℕ)) → Gathers qs ws gs ms cs → (f : ℕ) (c : List ℕ) → slice_get cs f ≡ Some c → (q : Procedure) × (slice_get qs f ≡ Some q)
+pub procedure_of_called : (qs : List Procedure) (ws : List Registers) (gs : List Given) (ms : List ℕ) (cs : List (List ℕ)) → GathersProcedures qs ws gs ms cs → (f : ℕ) (c : List ℕ) → slice_get cs f ≡ Some c → (q : Procedure) × (slice_get qs f ≡ Some q)
 procedure_of_called _ _ _ _ _ all.none f c e = cc
 procedure_of_called _ _ _ _ _ (one_more qs ws gs ms cs r w n d is rest) zero c e = (r, refl)
 procedure_of_called _ _ _ _ _ (one_more qs ws gs ms cs r w n d is rest) (suc f) c e = procedure_of_called qs ws gs ms cs rest f c e
 
 -- the walk that noted a call
-pub walk_of_call : (qs : List Procedure) (ws : List Registers) (gs : List Given) (ms : List ℕ) (cs : List (List ℕ)) → Gathers qs ws gs ms cs → (i : ℕ) (k : CallSite) → slice_get (calls_of_walks ws) i ≡ Some k
+pub walk_of_call : (qs : List Procedure) (ws : List Registers) (gs : List Given) (ms : List ℕ) (cs : List (List ℕ)) → GathersProcedures qs ws gs ms cs → (i : ℕ) (k : CallSite) → slice_get (calls_of_walks ws) i ≡ Some k
     → (f : ℕ) × ((q : Procedure) × ((w : Registers) × ((j : ℕ) × ((slice_get qs f ≡ Some q) × ((slice_get ws f ≡ Some w) × (slice_get w.calls.items j ≡ Some k))))))
 walk_of_call _ _ _ _ _ all.none i k e = cc
 walk_of_call _ _ _ _ _ (one_more qs ws gs ms cs r w n d is rest) i k e = elim (got_split w.calls.items (calls_of_walks ws) i k e) [
@@ -305,7 +305,7 @@ variables_both : (gs hs : List Given) → variables_of (gs ++ hs) ≡ variables_
 variables_both [] hs = refl
 variables_both (g ∷ gs) hs = ap (λ l. g.variable ∷ l) (variables_both gs hs)
 
-pub variables_gathered : (qs : List Procedure) (ws : List Registers) (gs : List Given) (ms : List ℕ) (cs : List (List ℕ)) → Gathers qs ws gs ms cs → variables_of gs ≡ all_variables qs
+pub variables_gathered : (qs : List Procedure) (ws : List Registers) (gs : List Given) (ms : List ℕ) (cs : List (List ℕ)) → GathersProcedures qs ws gs ms cs → variables_of gs ≡ all_variables qs
 variables_gathered _ _ _ _ _ all.none = refl
 variables_gathered _ _ _ _ _ (one_more qs ws gs ms cs r w n d is rest) =
     variables_both w.given.items gs ∙ ap (λ l. l ++ variables_of gs) is.walked.variables ∙ ap (λ l. variables r ++ l) (variables_gathered qs ws gs ms cs rest)
@@ -314,13 +314,13 @@ sites_both : (ks ls : List CallSite) → sites_at (ks ++ ls) ≡ sites_at ks ++ 
 sites_both [] ls = refl
 sites_both (k ∷ ks) ls = ap (λ l. k.site ∷ l) (sites_both ks ls)
 
-pub sites_gathered : (qs : List Procedure) (ws : List Registers) (gs : List Given) (ms : List ℕ) (cs : List (List ℕ)) → Gathers qs ws gs ms cs
+pub sites_gathered : (qs : List Procedure) (ws : List Registers) (gs : List Given) (ms : List ℕ) (cs : List (List ℕ)) → GathersProcedures qs ws gs ms cs
     → ((f : ℕ) (q : Procedure) (w : Registers) → slice_get qs f ≡ Some q → slice_get ws f ≡ Some w → sites_at w.calls.items ≡ sites_of (calls_in q.body)) → sites_at (calls_of_walks ws) ≡ all_sites qs
 sites_gathered _ _ _ _ _ all.none h = refl
 sites_gathered _ _ _ _ _ (one_more qs ws gs ms cs r w n d is rest) h =
     sites_both w.calls.items (calls_of_walks ws) ∙ ap (λ l. l ++ sites_at (calls_of_walks ws)) (h 0 r w refl refl)
     ∙ ap (λ l. sites_of (calls_in r.body) ++ l) (sites_gathered qs ws gs ms cs rest (λ f q v e g. h (suc f) q v e g))
 
-pub lengths_gathered : (qs : List Procedure) (ws : List Registers) (gs : List Given) (ms : List ℕ) (cs : List (List ℕ)) → Gathers qs ws gs ms cs → (length ms ≡ length qs) × (length ws ≡ length qs) × (length cs ≡ length qs)
+pub lengths_gathered : (qs : List Procedure) (ws : List Registers) (gs : List Given) (ms : List ℕ) (cs : List (List ℕ)) → GathersProcedures qs ws gs ms cs → (length ms ≡ length qs) × (length ws ≡ length qs) × (length cs ≡ length qs)
 lengths_gathered _ _ _ _ _ all.none = (refl, refl, refl)
 lengths_gathered _ _ _ _ _ (one_more qs ws gs ms cs r w n d is rest) = let h = lengths_gathered qs ws gs ms cs rest in (ap suc h.0, ap suc h.1, ap suc h.2)

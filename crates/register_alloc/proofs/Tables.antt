@@ -15,7 +15,7 @@ use Rattle.low_code.specs.Formed.{Distinct}
 use Rattle.register_alloc.specs.Fits.{IsPlace, Ascending}
 use Rattle.register_alloc.specs.Rounds.{mask_at}
 use Rattle.register_alloc.specs.Holders.{variables_of}
-use Rattle.register_alloc.specs.Gathered.{IsOwnMask, IsWalkOf, IsAdded, Gathers, none, one_more, IsGathered, procs_of, sites_at, calls_of_walks, IsPut, AreSpots, IsSavedOf, SavesGrow, SavesHold, longest_at}
+use Rattle.register_alloc.specs.Gathered.{IsOwnMask, IsWalkOf, AddsProcedure, GathersProcedures, none, one_more, IsGathered, procs_of, sites_at, calls_of_walks, PlacesVariable, AreSpots, IsSavedOf, AddsSavesOfCall, SavesMatchCalls, longest_at}
 use Rattle.register_alloc.specs.declared.registers.Given.{Given}
 use Rattle.register_alloc.specs.declared.registers.CallSite.{CallSite}
 use Rattle.register_alloc.specs.declared.registers.Registers.{Registers}
@@ -138,25 +138,25 @@ procs_next calls i k old new there is push = push ∙ ap (λ l. l ++ (k.proc ∷
 
 -- ---- procedures one after another
 
-pub gathers_more : (qs : List Procedure) (ws : List Registers) (gs : List Given) (ms : List ℕ) (cs : List (List ℕ)) (q : Procedure) (w : Registers) (m : ℕ) (c : List ℕ) → Gathers qs ws gs ms cs → IsWalkOf q w m c
-    → Gathers (qs ++ (q ∷ [])) (ws ++ (w ∷ [])) (gs ++ w.given.items) (ms ++ (m ∷ [])) (cs ++ (c ∷ []))
-gathers_more _ _ _ _ _ q w m c none is = subst (λ gs. Gathers (q ∷ []) (w ∷ []) gs (m ∷ []) (c ∷ [])) (sym (nothing_more w.given.items)) (one_more [] [] [] [] [] q w m c is none)
+pub gathers_more : (qs : List Procedure) (ws : List Registers) (gs : List Given) (ms : List ℕ) (cs : List (List ℕ)) (q : Procedure) (w : Registers) (m : ℕ) (c : List ℕ) → GathersProcedures qs ws gs ms cs → IsWalkOf q w m c
+    → GathersProcedures (qs ++ (q ∷ [])) (ws ++ (w ∷ [])) (gs ++ w.given.items) (ms ++ (m ∷ [])) (cs ++ (c ∷ []))
+gathers_more _ _ _ _ _ q w m c none is = subst (λ gs. GathersProcedures (q ∷ []) (w ∷ []) gs (m ∷ []) (c ∷ [])) (sym (nothing_more w.given.items)) (one_more [] [] [] [] [] q w m c is none)
 gathers_more _ _ _ _ _ q w m c (one_more qs ws gs ms cs r v n d first rest) is =
-    subst (λ l. Gathers (r ∷ (qs ++ (q ∷ []))) (v ∷ (ws ++ (w ∷ []))) l (n ∷ (ms ++ (m ∷ []))) (d ∷ (cs ++ (c ∷ [])))) (grouped v.given.items gs w.given.items)
+    subst (λ l. GathersProcedures (r ∷ (qs ++ (q ∷ []))) (v ∷ (ws ++ (w ∷ []))) l (n ∷ (ms ++ (m ∷ []))) (d ∷ (cs ++ (c ∷ [])))) (grouped v.given.items gs w.given.items)
     (one_more (qs ++ (q ∷ [])) (ws ++ (w ∷ [])) (gs ++ w.given.items) (ms ++ (m ∷ [])) (cs ++ (c ∷ [])) r v n d first (gathers_more qs ws gs ms cs q w m c rest is))
 
-pub gathered_more : (g h : Gathered) (qs : List Procedure) (q : Procedure) → IsGathered g qs → IsAdded q g h → IsGathered h (qs ++ (q ∷ []))
+pub gathered_more : (g h : Gathered) (qs : List Procedure) (q : Procedure) → IsGathered g qs → AddsProcedure q g h → IsGathered h (qs ++ (q ∷ []))
 gathered_more g h qs q all a =
-    subst (λ l. Gathers (qs ++ (q ∷ [])) h.walks.items h.given.items h.own.items l) (sym a.calls)
-    (subst (λ l. Gathers (qs ++ (q ∷ [])) h.walks.items h.given.items l (g.calls.items ++ (a.called ∷ []))) (sym a.owns)
-    (subst (λ l. Gathers (qs ++ (q ∷ [])) h.walks.items l (g.own.items ++ (a.own ∷ [])) (g.calls.items ++ (a.called ∷ []))) (sym a.given)
-    (subst (λ l. Gathers (qs ++ (q ∷ [])) l (g.given.items ++ a.walk.given.items) (g.own.items ++ (a.own ∷ [])) (g.calls.items ++ (a.called ∷ []))) (sym a.walks)
+    subst (λ l. GathersProcedures (qs ++ (q ∷ [])) h.walks.items h.given.items h.own.items l) (sym a.calls)
+    (subst (λ l. GathersProcedures (qs ++ (q ∷ [])) h.walks.items h.given.items l (g.calls.items ++ (a.called ∷ []))) (sym a.owns)
+    (subst (λ l. GathersProcedures (qs ++ (q ∷ [])) h.walks.items l (g.own.items ++ (a.own ∷ [])) (g.calls.items ++ (a.called ∷ []))) (sym a.given)
+    (subst (λ l. GathersProcedures (qs ++ (q ∷ [])) l (g.given.items ++ a.walk.given.items) (g.own.items ++ (a.own ∷ [])) (g.calls.items ++ (a.called ∷ []))) (sym a.walks)
     (gathers_more qs g.walks.items g.given.items g.own.items g.calls.items q a.walk a.own a.called all a.is))))
 
 pub gathered_none : (g : Gathered) → g.walks.items ≡ [] → g.given.items ≡ [] → g.own.items ≡ [] → g.calls.items ≡ [] → IsGathered g []
 gathered_none g a b c d =
-    subst (λ l. Gathers [] g.walks.items g.given.items g.own.items l) (sym d)
-    (subst (λ l. Gathers [] g.walks.items g.given.items l []) (sym c) (subst (λ l. Gathers [] g.walks.items l [] []) (sym b) (subst (λ l. Gathers [] l [] [] []) (sym a) none)))
+    subst (λ l. GathersProcedures [] g.walks.items g.given.items g.own.items l) (sym d)
+    (subst (λ l. GathersProcedures [] g.walks.items g.given.items l []) (sym c) (subst (λ l. GathersProcedures [] g.walks.items l [] []) (sym b) (subst (λ l. GathersProcedures [] l [] [] []) (sym a) none)))
 
 pub mapped_more : {A B : Type 0} (f : A → B) (xs : List A) (i : ℕ) (x : A) → slice_get xs i ≡ Some x → map f (take (i + 1) xs) ≡ map f (take i xs) ++ (f x ∷ [])
 mapped_more f xs i x e = ap (map f) (take_more xs i x e) ∙ go (take i xs)
@@ -194,7 +194,7 @@ given_among (h ∷ gs) (suc k) g e = among_later g.variable h.variable (variable
 pub no_spots : (spots : List Spot) → AreSpots [] spots
 no_spots spots d k g e = cc
 
-pub spots_next : (given : List Given) (i : ℕ) (g : Given) (old new : List Spot) → slice_get given i ≡ Some g → IsPut old g.variable g.spot new → AreSpots (take i given) old → AreSpots (take (i + 1) given) new
+pub spots_next : (given : List Given) (i : ℕ) (g : Given) (old new : List Spot) → slice_get given i ≡ Some g → PlacesVariable old g.variable g.spot new → AreSpots (take i given) old → AreSpots (take (i + 1) given) new
 spots_next given i g old new there p before = subst (λ gs. AreSpots gs new) (sym (take_more given i g there)) step
   where
     step : AreSpots (take i given ++ (g ∷ [])) new
@@ -287,10 +287,10 @@ call_among [] i k e = cc
 call_among (j ∷ ks) zero k e = let q : j ≡ k = same_Some j k e in among_first k.site j.site (sites_at ks) (ap (λ z. z.site) (sym q))
 call_among (j ∷ ks) (suc i) k e = among_later k.site j.site (sites_at ks) (call_among ks i k e)
 
-pub nothing_saved : (masks : List ℕ) → SavesHold masks [] []
+pub nothing_saved : (masks : List ℕ) → SavesMatchCalls masks [] []
 nothing_saved masks = record { each = λ d i k e. cc; only = λ d s rs e. cc }
 
-saves_more : (masks : List ℕ) (done : List CallSite) (k : CallSite) (old new : List (List ℕ)) → SavesGrow masks k old new → SavesHold masks done old → SavesHold masks (done ++ (k ∷ [])) new
+saves_more : (masks : List ℕ) (done : List CallSite) (k : CallSite) (old new : List (List ℕ)) → AddsSavesOfCall masks k old new → SavesMatchCalls masks done old → SavesMatchCalls masks (done ++ (k ∷ [])) new
 saves_more masks done k old new g h = record {
   each = λ d i j e.
       let d' = subst Distinct (sites_append done k) d in
@@ -327,7 +327,7 @@ saves_more masks done k old new g h = record {
     ]
 
 pub saves_put : (masks : List ℕ) (k : CallSite) (old mid : List (List ℕ)) (rs : List ℕ) → k.site < length mid → ((s : ℕ) (l : List ℕ) → slice_get old s ≡ Some l → slice_get mid s ≡ Some l)
-    → ((s : ℕ) (l : List ℕ) → slice_get mid s ≡ Some l → (slice_get old s ≡ Some l) ⊎ (l ≡ [])) → IsSavedOf k.live (mask_at masks k.proc) rs → SavesGrow masks k old (slice_set mid k.site rs)
+    → ((s : ℕ) (l : List ℕ) → slice_get mid s ≡ Some l → (slice_get old s ≡ Some l) ⊎ (l ≡ [])) → IsSavedOf k.live (mask_at masks k.proc) rs → AddsSavesOfCall masks k old (slice_set mid k.site rs)
 saves_put masks k old mid rs lt more empty is = record {
   saved = rs;
   is = is;
@@ -342,10 +342,10 @@ saves_put masks k old mid rs lt more empty is = record {
   ];
 }
 
-pub saves_next : (masks : List ℕ) (calls : List CallSite) (i : ℕ) (k : CallSite) (first old new : List (List ℕ)) → slice_get calls i ≡ Some k → SavesGrow masks k old new
-    → ((done : List CallSite) → SavesHold masks done first → SavesHold masks (done ++ take i calls) old) → (done : List CallSite) → SavesHold masks done first → SavesHold masks (done ++ take (i + 1) calls) new
+pub saves_next : (masks : List ℕ) (calls : List CallSite) (i : ℕ) (k : CallSite) (first old new : List (List ℕ)) → slice_get calls i ≡ Some k → AddsSavesOfCall masks k old new
+    → ((done : List CallSite) → SavesMatchCalls masks done first → SavesMatchCalls masks (done ++ take i calls) old) → (done : List CallSite) → SavesMatchCalls masks done first → SavesMatchCalls masks (done ++ take (i + 1) calls) new
 saves_next masks calls i k first old new there g before done h =
-    subst (λ l. SavesHold masks l new) (sym (grouped done (take i calls) (k ∷ [])) ∙ ap (λ l. done ++ l) (sym (take_more calls i k there)))
+    subst (λ l. SavesMatchCalls masks l new) (sym (grouped done (take i calls) (k ∷ [])) ∙ ap (λ l. done ++ l) (sym (take_more calls i k there)))
     (saves_more masks (done ++ take i calls) k old new g (before done h))
 
 walks_append : (ws : List Registers) (w : Registers) → calls_of_walks (ws ++ (w ∷ [])) ≡ calls_of_walks ws ++ w.calls.items
@@ -353,9 +353,9 @@ walks_append [] w = sym (nothing_more w.calls.items)
 walks_append (v ∷ ws) w = ap (λ l. v.calls.items ++ l) (walks_append ws w) ∙ grouped v.calls.items (calls_of_walks ws) w.calls.items
 
 pub walks_next : (masks : List ℕ) (walks : List Registers) (i : ℕ) (w : Registers) (old new : List (List ℕ)) → slice_get walks i ≡ Some w
-    → ((done : List CallSite) → SavesHold masks done old → SavesHold masks (done ++ w.calls.items) new) → SavesHold masks (calls_of_walks (take i walks)) old → SavesHold masks (calls_of_walks (take (i + 1) walks)) new
+    → ((done : List CallSite) → SavesMatchCalls masks done old → SavesMatchCalls masks (done ++ w.calls.items) new) → SavesMatchCalls masks (calls_of_walks (take i walks)) old → SavesMatchCalls masks (calls_of_walks (take (i + 1) walks)) new
 walks_next masks walks i w old new there more before =
-    subst (λ l. SavesHold masks l new) (sym (walks_append (take i walks) w) ∙ ap calls_of_walks (sym (take_more walks i w there))) (more (calls_of_walks (take i walks)) before)
+    subst (λ l. SavesMatchCalls masks l new) (sym (walks_append (take i walks) w) ∙ ap calls_of_walks (sym (take_more walks i w there))) (more (calls_of_walks (take i walks)) before)
 
 -- ---- frames
 

@@ -9,9 +9,9 @@ use Rattle.register_alloc.specs.Live.{EachBinding}
 use Rattle.register_alloc.specs.Fits.{Ascending}
 use Rattle.variable_uses.specs.Uses.{AreUses}
 use Rattle.register_alloc.specs.Inner.{sizes_of, arms_sizes}
-use Rattle.variable_uses.specs.Stands.{Stands}
-use Rattle.register_alloc.specs.Holders.{AreStillUsed, AreEntering, NoneOf, Holding, Keeps, Good, Giving, Agrees, Extends, Numbered}
-use Rattle.register_alloc.specs.Point.{After, points, arms_points, Notes, NoteAll, NoneLater, Before, Walked, Onward, Bound, SameGiven, SameText, SamePlaces, EntersInner, Grows}
+use Rattle.variable_uses.specs.Stands.{ListSegmentAt}
+use Rattle.register_alloc.specs.Holders.{AreStillUsed, AreMarkedForJoin, AreDisjoint, Holding, Keeps, Good, Giving, PlacesAgree, KeepsGivenPlaces, SlotsAreNumbered}
+use Rattle.register_alloc.specs.Point.{AfterCall, points, arms_points, RecordsLiveRegisters, RecordsAllLive, NoBoundIsUsedLater, Before, Walked, Onward, Bound, SameGiven, SameText, SamePlaces, EntersInner, Grows}
 use Rattle.register_alloc.specs.declared.holders.Holder.{Holder}
 use Rattle.register_alloc.specs.declared.registers.CallSite.{CallSite}
 use Rattle.register_alloc.specs.declared.registers.Registers.{Registers}
@@ -24,23 +24,23 @@ use Rattle.seq.proofs.Counted.{among_left, among_right}
 
 -- ---- notes of calls
 
-notes_append : (place : ℕ → Spot) (ks ls : List CallSite) (ps qs : List After) → NoteAll place ks ps → NoteAll place ls qs → NoteAll place (ks ++ ls) (ps ++ qs)
+notes_append : (place : ℕ → Spot) (ks ls : List CallSite) (ps qs : List AfterCall) → RecordsAllLive place ks ps → RecordsAllLive place ls qs → RecordsAllLive place (ks ++ ls) (ps ++ qs)
 notes_append place [] ls [] qs a b = b
 notes_append place [] ls (p ∷ ps) qs a b = absurd a
 notes_append place (k ∷ ks) ls [] qs a b = absurd a
 notes_append place (k ∷ ks) ls (p ∷ ps) qs a b = (a.0, notes_append place ks ls ps qs a.1 b)
 
-agrees_before : (place : ℕ → Spot) (old new : Registers) → Extends old.given.items new.given.items → Agrees place new.given.items → Agrees place old.given.items
+agrees_before : (place : ℕ → Spot) (old new : Registers) → KeepsGivenPlaces old.given.items new.given.items → PlacesAgree place new.given.items → PlacesAgree place old.given.items
 agrees_before place old new e a k g there = a k g (e k g there)
 
-pub agrees_old : (place : ℕ → Spot) (old new : Registers) → Grows old new → Agrees place new.given.items → Agrees place old.given.items
+pub agrees_old : (place : ℕ → Spot) (old new : Registers) → Grows old new → PlacesAgree place new.given.items → PlacesAgree place old.given.items
 agrees_old place old new g a = agrees_before place old new g.extends a
 
 pub grows_same : (old new : Registers) → SamePlaces old new → Grows old new
 grows_same old new s = record {
   extends = λ k g e. subst (λ gs. slice_get gs k ≡ Some g) (sym s.given) e;
   slots = let e = s.slots in omega (arith, e);
-  numbered = λ n. subst (λ gs. Numbered gs new.slots) (sym s.given) (subst (λ m. Numbered old.given.items m) (sym s.slots) n);
+  numbered = λ n. subst (λ gs. SlotsAreNumbered gs new.slots) (sym s.given) (subst (λ m. SlotsAreNumbered old.given.items m) (sym s.slots) n);
 }
 
 pub grows_on : (old mid new : Registers) → Grows old mid → Grows mid new → Grows old new
@@ -64,9 +64,9 @@ module _ (place : ℕ → Spot) (text : Text) (later : List ℕ) where
   passed scope w c us old new held end is sizes at same b = record {
     used = b.used;
     are = b.are;
-    uses_stand = subst (λ n. Stands b.used n (uses c)) (sym at) (stands_rest b.used old.at us (uses c) (subst (Stands b.used old.at) is b.uses_stand));
+    uses_stand = subst (λ n. ListSegmentAt b.used n (uses c)) (sym at) (stands_rest b.used old.at us (uses c) (subst (ListSegmentAt b.used old.at) is b.uses_stand));
     ends = let e = b.ends in let n : length (uses w) ≡ length us + length (uses c) = ap length is ∙ length-append us (uses c) in omega (arith, e, n, at);
-    sizes_stand = subst (λ n. Stands text.sizes.items n (sizes_of c)) (sym same.block) (subst (Stands text.sizes.items old.block) sizes b.sizes_stand);
+    sizes_stand = subst (λ n. ListSegmentAt text.sizes.items n (sizes_of c)) (sym same.block) (subst (ListSegmentAt text.sizes.items old.block) sizes b.sizes_stand);
     holding = holding_less place scope w c later old.slots new.slots held (λ y m. subst (λ l. is_among y l ≡ true) (sym is) (among_right y us (uses c) m)) (let e = same.slots in omega (arith, e)) b.holding;
   }
 
@@ -76,9 +76,9 @@ module _ (place : ℕ → Spot) (text : Text) (later : List ℕ) where
   before_same scope c old new held end same le b = record {
     used = b.used;
     are = b.are;
-    uses_stand = subst (λ n. Stands b.used n (uses c)) (sym same.at) b.uses_stand;
+    uses_stand = subst (λ n. ListSegmentAt b.used n (uses c)) (sym same.at) b.uses_stand;
     ends = let e = b.ends in let a = same.at in omega (arith, e, a);
-    sizes_stand = subst (λ n. Stands text.sizes.items n (sizes_of c)) (sym same.block) b.sizes_stand;
+    sizes_stand = subst (λ n. ListSegmentAt text.sizes.items n (sizes_of c)) (sym same.block) b.sizes_stand;
     holding = holding_less place scope c c later old.slots new.slots held (λ y m. m) le b.holding;
   }
 
@@ -93,9 +93,9 @@ module _ (place : ℕ → Spot) (text : Text) (later : List ℕ) where
     before = record {
       used = b.used;
       are = b.are;
-      uses_stand = subst (λ n. Stands b.used n (uses c)) (sym same.at) b.uses_stand;
+      uses_stand = subst (λ n. ListSegmentAt b.used n (uses c)) (sym same.at) b.uses_stand;
       ends = let e = b.ends in let a = same.at in omega (arith, e, a);
-      sizes_stand = subst (λ n. Stands text.sizes.items n (sizes_of c)) (sym same.block) b.sizes_stand;
+      sizes_stand = subst (λ n. ListSegmentAt text.sizes.items n (sizes_of c)) (sym same.block) b.sizes_stand;
       holding = given_holds place scope c later xs t.slots held' g.keeps;
     };
     good = g.good;
@@ -104,7 +104,7 @@ module _ (place : ℕ → Spot) (text : Text) (later : List ℕ) where
   -- ---- what is done one after another
 
   pub onward_on : (scope : List ℕ) (a b c : Code) (r s t : Registers) (held held' : List (Option Holder)) (end : ℕ) → Onward place text later scope a b r s held end
-      → ((now : List ℕ) → NoneLater now b later → Before place text later now b s held end → Onward place text later now b c s t held' end)
+      → ((now : List ℕ) → NoBoundIsUsedLater now b later → Before place text later now b s held end → Onward place text later now b c s t held' end)
       → Onward place text later scope a c r t held' end
   onward_on scope a b c r s t held held' end f g =
       let n = g f.now f.none_later f.before in
@@ -116,10 +116,10 @@ module _ (place : ℕ → Spot) (text : Text) (later : List ℕ) where
         block = let x = f.block in let y = n.block in omega (arith, x, y);
         more = f.more ++ n.more;
         calls = n.calls ∙ ap (λ l. l ++ n.more) f.calls ∙ sym (grouped r.calls.items f.more n.more);
-        notes = λ rest e. subst (λ l. NoteAll place l (points scope a later)) (grouped f.more n.more rest) (f.notes (n.more ++ rest) (n.notes rest e));
+        notes = λ rest e. subst (λ l. RecordsAllLive place l (points scope a later)) (grouped f.more n.more rest) (f.notes (n.more ++ rest) (n.notes rest e));
       }
 
-  pub onward_not : (scope : List ℕ) (c : Code) (s : Registers) (held : List (Option Holder)) (end : ℕ) → NoneLater scope c later → Before place text later scope c s held end
+  pub onward_not : (scope : List ℕ) (c : Code) (s : Registers) (held : List (Option Holder)) (end : ℕ) → NoBoundIsUsedLater scope c later → Before place text later scope c s held end
       → Onward place text later scope c c s s held end
   onward_not scope c s held end none b = record {
     now = scope;
@@ -133,7 +133,7 @@ module _ (place : ℕ → Spot) (text : Text) (later : List ℕ) where
   }
 
   pub walked_on : (scope : List ℕ) (a b : Code) (r s t : Registers) (held : List (Option Holder)) (end : ℕ) → Onward place text later scope a b r s held end
-      → ((now : List ℕ) → NoneLater now b later → Before place text later now b s held end → Walked place text later now b s t end)
+      → ((now : List ℕ) → NoBoundIsUsedLater now b later → Before place text later now b s held end → Walked place text later now b s t end)
       → Walked place text later scope a r t end
   walked_on scope a b r s t held end f g =
       let n = g f.now f.none_later f.before in
@@ -150,12 +150,12 @@ module _ (place : ℕ → Spot) (text : Text) (later : List ℕ) where
 
   pub plain_goes : (scope xs : List ℕ) (w c : Code) (us : List ℕ) (r s t : Registers) (held held' : List (Option Holder)) (end : ℕ)
       → uses w ≡ us ++ uses c → sizes_of w ≡ sizes_of c
-      → (NoneLater scope w later → NoneOf xs later × NoneLater (xs ++ scope) c later)
+      → (NoBoundIsUsedLater scope w later → AreDisjoint xs later × NoBoundIsUsedLater (xs ++ scope) c later)
       → (Good place scope xs c later → EachBinding (Good place) (xs ++ scope) c later → EachBinding (Good place) scope w later)
       → points scope w later ≡ points (xs ++ scope) c later
       → s.at ≡ r.at + length us → SameGiven r s
-      → (NoneOf xs later → Before place text later scope c s held end → Bound place text later scope xs c t held' end) → t.block ≡ s.block → t.calls.items ≡ s.calls.items
-      → NoneLater scope w later → Before place text later scope w r held end → Onward place text later scope w c r t held' end
+      → (AreDisjoint xs later → Before place text later scope c s held end → Bound place text later scope xs c t held' end) → t.block ≡ s.block → t.calls.items ≡ s.calls.items
+      → NoBoundIsUsedLater scope w later → Before place text later scope w r held end → Onward place text later scope w c r t held' end
   plain_goes scope xs w c us r s t held held' end is sizes none each pts at same binds block calls none_later b =
       let n = none none_later in
       let d = binds n.0 (passed scope w c us r s held end is sizes at same b) in
@@ -167,17 +167,17 @@ module _ (place : ℕ → Spot) (text : Text) (later : List ℕ) where
         block = ap (λ m. m + length (sizes_of c)) (block ∙ same.block) ∙ ap (λ l. r.block + length l) (sym sizes);
         more = [];
         calls = calls ∙ same.calls ∙ nothing_more r.calls.items;
-        notes = λ rest e. subst (NoteAll place rest) (sym pts) e;
+        notes = λ rest e. subst (RecordsAllLive place rest) (sym pts) e;
       }
 
   -- a statement that binds nothing
   pub still_goes : (scope : List ℕ) (w c : Code) (us : List ℕ) (r s : Registers) (held : List (Option Holder)) (end : ℕ)
       → uses w ≡ us ++ uses c → sizes_of w ≡ sizes_of c
-      → (NoneLater scope w later → NoneLater scope c later)
+      → (NoBoundIsUsedLater scope w later → NoBoundIsUsedLater scope c later)
       → (EachBinding (Good place) scope c later → EachBinding (Good place) scope w later)
       → points scope w later ≡ points scope c later
       → s.at ≡ r.at + length us → SameGiven r s
-      → NoneLater scope w later → Before place text later scope w r held end → Onward place text later scope w c r s held end
+      → NoBoundIsUsedLater scope w later → Before place text later scope w r held end → Onward place text later scope w c r s held end
   still_goes scope w c us r s held end is sizes none each pts at same none_later b = record {
     now = scope;
     before = passed scope w c us r s held end is sizes at same b;
@@ -186,17 +186,17 @@ module _ (place : ℕ → Spot) (text : Text) (later : List ℕ) where
     block = ap (λ m. m + length (sizes_of c)) same.block ∙ ap (λ l. r.block + length l) (sym sizes);
     more = [];
     calls = same.calls ∙ nothing_more r.calls.items;
-    notes = λ rest e. subst (NoteAll place rest) (sym pts) e;
+    notes = λ rest e. subst (RecordsAllLive place rest) (sym pts) e;
   }
 
   -- a call
   pub call_goes : (scope xs : List ℕ) (f site : ℕ) (ops : List Operand) (c : Code) (r s t : Registers) (held held' : List (Option Holder)) (end : ℕ)
       → s.at ≡ r.at + length (used_by_all ops) → SameGiven r s
-      → (NoneOf xs later → Before place text later scope c s held end → Bound place text later scope xs c t held' end)
+      → (AreDisjoint xs later → Before place text later scope c s held end → Bound place text later scope xs c t held' end)
       → (Before place text later scope c s held end
-      → (k : CallSite) × ((t.calls.items ≡ s.calls.items ++ (k ∷ [])) × Notes place k (record { site = site; proc = f; scope = scope; rest = c; later = later })))
+      → (k : CallSite) × ((t.calls.items ≡ s.calls.items ++ (k ∷ [])) × RecordsLiveRegisters place k (record { site = site; proc = f; scope = scope; rest = c; later = later })))
       → t.block ≡ s.block
-      → NoneLater scope (call f site ops xs c) later → Before place text later scope (call f site ops xs c) r held end → Onward place text later scope (call f site ops xs c) c r t held' end
+      → NoBoundIsUsedLater scope (call f site ops xs c) later → Before place text later scope (call f site ops xs c) r held end → Onward place text later scope (call f site ops xs c) c r t held' end
   call_goes scope xs f site ops c r s t held held' end at same binds notes block none_later b =
       let here = passed scope (call f site ops xs c) c (used_by_all ops) r s held end refl refl at same b in
       let d = binds none_later.0 here in
@@ -220,16 +220,16 @@ module _ (place : ℕ → Spot) (text : Text) (later : List ℕ) where
       → (inner_end ≡ r.at + length (uses b) → Holding place scope b later' s.slots inner) → Before place text later scope w r held end
       → Before place text later' scope b s inner inner_end
   enters scope after w b later' rest r s held inner end inner_end is sizes e hold p =
-      let sized : Stands text.sizes.items r.block (length (uses b) ∷ (sizes_of b ++ rest)) = subst (Stands text.sizes.items r.block) sizes p.sizes_stand in
+      let sized : ListSegmentAt text.sizes.items r.block (length (uses b) ∷ (sizes_of b ++ rest)) = subst (ListSegmentAt text.sizes.items r.block) sizes p.sizes_stand in
       let size : slice_index_or text.sizes.items r.block 0 ≡ length (uses b) = stands_head text.sizes.items r.block (length (uses b)) (sizes_of b ++ rest) sized in
       let ends : inner_end ≡ r.at + length (uses b) = e.ends ∙ ap (λ n. r.at + n) size in
       let next : r.block + 1 ≡ s.block = let k = e.block in omega (arith, k) in
       record {
         used = p.used;
         are = p.are;
-        uses_stand = subst (λ n. Stands p.used n (uses b)) (sym e.at) (stands_first p.used r.at (uses b) after (subst (Stands p.used r.at) is p.uses_stand));
+        uses_stand = subst (λ n. ListSegmentAt p.used n (uses b)) (sym e.at) (stands_first p.used r.at (uses b) after (subst (ListSegmentAt p.used r.at) is p.uses_stand));
         ends = ends ∙ ap (λ n. n + length (uses b)) (sym e.at);
-        sizes_stand = stands_first text.sizes.items s.block (sizes_of b) rest (subst (λ n. Stands text.sizes.items n (sizes_of b ++ rest)) next (stands_rest text.sizes.items r.block (length (uses b) ∷ []) (sizes_of b ++ rest) sized));
+        sizes_stand = stands_first text.sizes.items s.block (sizes_of b) rest (subst (λ n. ListSegmentAt text.sizes.items n (sizes_of b ++ rest)) next (stands_rest text.sizes.items r.block (length (uses b) ∷ []) (sizes_of b ++ rest) sized));
         holding = hold ends;
       }
 
@@ -238,7 +238,7 @@ module _ (place : ℕ → Spot) (text : Text) (later : List ℕ) where
       → uses w ≡ uses b ++ uses c → sizes_of w ≡ length (uses b) ∷ (sizes_of b ++ sizes_of c) → EntersInner text r s inner_end → Walked place text later' scope b s t inner_end → r.slots ≤ t.slots
       → Before place text later scope w r held end → Before place text later scope c t held end
   leaves scope w b c later' rest r s t held end inner_end is sizes e walked le p =
-      let sized : Stands text.sizes.items r.block (length (uses b) ∷ (sizes_of b ++ sizes_of c)) = subst (Stands text.sizes.items r.block) sizes p.sizes_stand in
+      let sized : ListSegmentAt text.sizes.items r.block (length (uses b) ∷ (sizes_of b ++ sizes_of c)) = subst (ListSegmentAt text.sizes.items r.block) sizes p.sizes_stand in
       let size : slice_index_or text.sizes.items r.block 0 ≡ length (uses b) = stands_head text.sizes.items r.block (length (uses b)) (sizes_of b ++ sizes_of c) sized in
       let at : r.at + length (uses b) ≡ t.at = sym (e.ends ∙ ap (λ n. r.at + n) size) ∙ walked.ends in
       let many : length (uses w) ≡ length (uses b) + length (uses c) = ap length is ∙ length-append (uses b) (uses c) in
@@ -246,9 +246,9 @@ module _ (place : ℕ → Spot) (text : Text) (later : List ℕ) where
       record {
         used = p.used;
         are = p.are;
-        uses_stand = subst (λ n. Stands p.used n (uses c)) at (stands_rest p.used r.at (uses b) (uses c) (subst (Stands p.used r.at) is p.uses_stand));
+        uses_stand = subst (λ n. ListSegmentAt p.used n (uses c)) at (stands_rest p.used r.at (uses b) (uses c) (subst (ListSegmentAt p.used r.at) is p.uses_stand));
         ends = let k = p.ends in omega (arith, k, many, at);
-        sizes_stand = subst (λ n. Stands text.sizes.items n (sizes_of c)) block
+        sizes_stand = subst (λ n. ListSegmentAt text.sizes.items n (sizes_of c)) block
             (stands_rest text.sizes.items (r.block + 1) (sizes_of b) (sizes_of c) (stands_rest text.sizes.items r.block (length (uses b) ∷ []) (sizes_of b ++ sizes_of c) sized));
         holding = holding_less place scope w c later r.slots t.slots held (λ y m. subst (λ l. is_among y l ≡ true) (sym is) (among_right y (uses b) (uses c) m)) le p.holding;
       }
@@ -256,11 +256,11 @@ module _ (place : ℕ → Spot) (text : Text) (later : List ℕ) where
   -- a join
   pub join_goes : (scope xs : List ℕ) (b c : Code) (r s t u : Registers) (held inner held' : List (Option Holder)) (end inner_end : ℕ)
       → EntersInner text r s inner_end
-      → ((used : List ℕ) → AreUses used text.uses → AreEntering used inner_end end held inner)
-      → (NoneLater scope b (uses c ++ later) → Before place text (uses c ++ later) scope b s inner inner_end → Walked place text (uses c ++ later) scope b s t inner_end)
+      → ((used : List ℕ) → AreUses used text.uses → AreMarkedForJoin used inner_end end held inner)
+      → (NoBoundIsUsedLater scope b (uses c ++ later) → Before place text (uses c ++ later) scope b s inner inner_end → Walked place text (uses c ++ later) scope b s t inner_end)
       → s.slots ≤ t.slots
-      → (NoneOf xs later → Before place text later scope c t held end → Bound place text later scope xs c u held' end) → u.block ≡ t.block → u.calls.items ≡ t.calls.items
-      → NoneLater scope (join xs b c) later → Before place text later scope (join xs b c) r held end → Onward place text later scope (join xs b c) c r u held' end
+      → (AreDisjoint xs later → Before place text later scope c t held end → Bound place text later scope xs c u held' end) → u.block ≡ t.block → u.calls.items ≡ t.calls.items
+      → NoBoundIsUsedLater scope (join xs b c) later → Before place text later scope (join xs b c) r held end → Onward place text later scope (join xs b c) c r u held' end
   join_goes scope xs b c r s t u held inner held' end inner_end e enter walks le binds block calls none_later p =
       let same : r.slots ≡ s.slots = sym e.stays.slots in
       let walked = walks none_later.0 (enters scope (uses c) (join xs b c) b (uses c ++ later) (sizes_of c) r s held inner end inner_end refl refl e hold p) in
@@ -283,18 +283,18 @@ module _ (place : ℕ → Spot) (text : Text) (later : List ℕ) where
     where
       hold : inner_end ≡ r.at + length (uses b) → Holding place scope b (uses c ++ later) s.slots inner
       hold ends =
-          let rest : Stands p.used (r.at + length (uses b)) (uses c) = stands_rest p.used r.at (uses b) (uses c) p.uses_stand in
+          let rest : ListSegmentAt p.used (r.at + length (uses b)) (uses c) = stands_rest p.used r.at (uses b) (uses c) p.uses_stand in
           let at_end : end ≡ inner_end + length (uses c) = let k = p.ends in let m = length-append (uses b) (uses c) in omega (arith, k, m, ends) in
           subst (λ n. Holding place scope b (uses c ++ later) n inner) (sym e.stays.slots)
-          (entering_holds place scope (join xs b c) b c later r.slots p.used inner_end held inner refl (subst (λ n. Stands p.used n (uses c)) (sym ends) rest) p.holding
-          (subst (λ n. AreEntering p.used inner_end n held inner) at_end (enter p.used p.are)))
+          (entering_holds place scope (join xs b c) b c later r.slots p.used inner_end held inner refl (subst (λ n. ListSegmentAt p.used n (uses c)) (sym ends) rest) p.holding
+          (subst (λ n. AreMarkedForJoin p.used inner_end n held inner) at_end (enter p.used p.are)))
 
   -- an arm
   pub arm_goes : (scope : List ℕ) (ts : List LowTest) (b : Code) (rest : Arms) (r s t u : Registers) (held : List (Option Holder)) (end inner_end : ℕ)
       → s.at ≡ r.at + length (used_by_tests ts) → SameGiven r s → EntersInner text s t inner_end
-      → (NoneLater scope b later → Before place text later scope b t held inner_end → Walked place text later scope b t u inner_end)
+      → (NoBoundIsUsedLater scope b later → Before place text later scope b t held inner_end → Walked place text later scope b t u inner_end)
       → t.slots ≤ u.slots
-      → NoneLater scope (choose (arm ts b rest)) later → Before place text later scope (choose (arm ts b rest)) r held end
+      → NoBoundIsUsedLater scope (choose (arm ts b rest)) later → Before place text later scope (choose (arm ts b rest)) r held end
       → Onward place text later scope (choose (arm ts b rest)) (choose rest) r u held end
   arm_goes scope ts b rest r s t u held end inner_end at same e walks le none_later p =
       let tested = passed' in

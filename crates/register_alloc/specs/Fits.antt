@@ -62,14 +62,14 @@ abbrev pub slots_of : (ℕ → Spot) → List ℕ → ℕ
 slots_of place [] = 0
 slots_of place (x ∷ xs) = max (slot_end (place x)) (slots_of place xs)
 
-abbrev pub longest : (ℕ → List ℕ) → List Site → ℕ
-longest saved [] = 0
-longest saved (s ∷ ss) = max (length (saved s.0)) (longest saved ss)
+abbrev pub most_saved : (ℕ → List ℕ) → List Site → ℕ
+most_saved saved [] = 0
+most_saved saved (s ∷ ss) = max (length (saved s.0)) (most_saved saved ss)
 
 -- one word for the return address, then the slots, then the longest list of saved registers
 abbrev pub words_of_frame : Assignment → Procedure → ℕ
 words_of_frame a q =
-    1 + slots_of (place_of a) (variables q) + longest (saves_at a) (calls_in q.body)
+    1 + slots_of (place_of a) (variables q) + most_saved (saves_at a) (calls_in q.body)
 
 abbrev pub Ascending : List ℕ → Type 0
 Ascending [] = Unit {0}
@@ -85,7 +85,7 @@ IsSaved a q site called r =
 -- ---- the whole program
 
 -- each variable, procedure and site is inside the lists
-pub record Covers (p : Program) (a : Assignment) : Type 0 where
+pub record ListsCoverProgram (p : Program) (a : Assignment) : Type 0 where
   pub variables : (x : ℕ) → is_among x (all_variables p.procs) ≡ true → x < length a.spots
   pub masks : length a.masks ≡ length p.procs
   pub frames : length a.frames ≡ length p.procs
@@ -100,7 +100,7 @@ ParametersInRegisters p a =
     → is_among x q.params ≡ true → IsRegister (place_of a x)
 
 pub record Fits (p : Program) (a : Assignment) : Type 0 where
-  pub covers : Covers p a
+  pub covers : ListsCoverProgram p a
   pub places : (x : ℕ) → is_among x (all_variables p.procs) ≡ true → IsPlace (place_of a x)
   pub apart : (f : ℕ) (q : Procedure) → slice_get p.procs f ≡ Some q
       → EachBindingOf (Apart (place_of a)) q

@@ -9,7 +9,7 @@ use Rattle.register_alloc.specs.Fits.{Ascending, IsPlace}
 use Rattle.register_alloc.specs.Rounds.{mask_at}
 use Rattle.register_alloc.specs.Results.{result_mask}
 use Rattle.register_alloc.specs.Holders.{variables_of}
-use Rattle.register_alloc.specs.Point.{IsWalked}
+use Rattle.register_alloc.specs.Point.{WalksProcedure}
 use Rattle.register_alloc.specs.declared.registers.Given.{Given}
 use Rattle.register_alloc.specs.declared.registers.CallSite.{CallSite}
 use Rattle.register_alloc.specs.declared.registers.Registers.{Registers}
@@ -47,11 +47,11 @@ IsOwnMask mask given all =
 
 -- the walk over a procedure, the mask of its own registers, and the procedures that it calls
 pub record IsWalkOf (q : Procedure) (w : Registers) (own : ℕ) (called : List ℕ) : Type 0 where
-  pub walked : IsWalked q w
+  pub walked : WalksProcedure q w
   pub own_is : IsOwnMask (result_mask q.results) w.given.items own
   pub called_is : called ≡ procs_of w.calls.items
 
-pub record IsAdded (q : Procedure) (old new : Gathered) : Type 0 where
+pub record AddsProcedure (q : Procedure) (old new : Gathered) : Type 0 where
   pub walk : Registers
   pub own : ℕ
   pub called : List ℕ
@@ -62,21 +62,21 @@ pub record IsAdded (q : Procedure) (old new : Gathered) : Type 0 where
   pub calls : new.calls.items ≡ old.calls.items ++ (called ∷ [])
 
 -- the procedures one after another
-pub data Gathers : List Procedure → List Registers → List Given → List ℕ → List (List ℕ)
+pub data GathersProcedures : List Procedure → List Registers → List Given → List ℕ → List (List ℕ)
     → Type 0 where
-  none : Gathers [] [] [] [] []
+  none : GathersProcedures [] [] [] [] []
   one_more : (qs : List Procedure) (ws : List Registers) (gs : List Given) (ms : List ℕ)
       (cs : List (List ℕ)) (q : Procedure) (w : Registers) (m : ℕ) (c : List ℕ) → IsWalkOf q w m c
-      → Gathers qs ws gs ms cs
-      → Gathers (q ∷ qs) (w ∷ ws) (w.given.items ++ gs) (m ∷ ms) (c ∷ cs)
+      → GathersProcedures qs ws gs ms cs
+      → GathersProcedures (q ∷ qs) (w ∷ ws) (w.given.items ++ gs) (m ∷ ms) (c ∷ cs)
 
 abbrev pub IsGathered : Gathered → List Procedure → Type 0
-IsGathered g qs = Gathers qs g.walks.items g.given.items g.own.items g.calls.items
+IsGathered g qs = GathersProcedures qs g.walks.items g.given.items g.own.items g.calls.items
 
 -- ---- tables
 
 -- a variable has got its place, and the others have what they had
-pub record IsPut (old : List Spot) (x : ℕ) (spot : Spot) (new : List Spot) : Type 0 where
+pub record PlacesVariable (old : List Spot) (x : ℕ) (spot : Spot) (new : List Spot) : Type 0 where
   pub put : slice_get new x ≡ Some spot
   pub others : (y : ℕ) (s : Spot) → y ≢ x → slice_get old y ≡ Some s → slice_get new y ≡ Some s
 
@@ -94,7 +94,7 @@ IsSavedOf live mask saved =
 
 -- the list of a call's site is made of its registers; the others stay, but for empty lists that are
 -- added
-pub record SavesGrow (masks : List ℕ) (k : CallSite) (old new : List (List ℕ)) : Type 0 where
+pub record AddsSavesOfCall (masks : List ℕ) (k : CallSite) (old new : List (List ℕ)) : Type 0 where
   pub saved : List ℕ
   pub is : IsSavedOf k.live (mask_at masks k.proc) saved
   pub put : slice_get new k.site ≡ Some saved
@@ -104,7 +104,8 @@ pub record SavesGrow (masks : List ℕ) (k : CallSite) (old new : List (List ℕ
       → (slice_get old s ≡ Some rs) ⊎ (rs ≡ [])
 
 -- each of these calls, whose sites are different, has its list, and all other lists are empty
-pub record SavesHold (masks : List ℕ) (calls : List CallSite) (saves : List (List ℕ)) : Type 0 where
+pub record SavesMatchCalls (masks : List ℕ) (calls : List CallSite) (saves : List (List ℕ))
+    : Type 0 where
   pub each : Distinct (sites_at calls) → (i : ℕ) (k : CallSite) → slice_get calls i ≡ Some k
       → (saved : List ℕ) × ((slice_get saves k.site ≡ Some saved)
       × IsSavedOf k.live (mask_at masks k.proc) saved)

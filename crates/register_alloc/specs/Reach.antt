@@ -4,12 +4,12 @@ use Rattle.std.specs.Prelude.{◌≡◌, ◌↔◌, ℕ, List, Some, slice_get, 
 use Rattle.std.specs.Int.{bit_at}
 
 -- register r is procedure f's own, by bit r of its mask, or that of a procedure that it calls
-pub data Reaches (own : List ℕ) (calls : List (List ℕ)) : (f r : ℕ) → Type 0 where
-  its_own : (f r : ℕ) → bit_at (slice_index_or own f 0) r ≡ 1 → Reaches own calls f r
+pub data MayChangeRegister (own : List ℕ) (calls : List (List ℕ)) : (f r : ℕ) → Type 0 where
+  its_own : (f r : ℕ) → bit_at (slice_index_or own f 0) r ≡ 1 → MayChangeRegister own calls f r
   called : (f g k r : ℕ) (gs : List ℕ) → slice_get calls f ≡ Some gs → slice_get gs k ≡ Some g
-      → Reaches own calls g r → Reaches own calls f r
+      → MayChangeRegister own calls g r → MayChangeRegister own calls f r
 
 -- masks that have just these registers
-abbrev pub AreLeast : (own : List ℕ) (calls : List (List ℕ)) → (masks : List ℕ) → Type 0
-AreLeast own calls masks =
-    (f r : ℕ) → (bit_at (slice_index_or masks f 0) r ≡ 1) ↔ Reaches own calls f r
+abbrev pub AreLeastMasks : (own : List ℕ) (calls : List (List ℕ)) → (masks : List ℕ) → Type 0
+AreLeastMasks own calls masks =
+    (f r : ℕ) → (bit_at (slice_index_or masks f 0) r ≡ 1) ↔ MayChangeRegister own calls f r

@@ -10,13 +10,13 @@ abbrev pub called_by : List (List ℕ) → (f : ℕ) → List ℕ
 called_by calls f = slice_index_or calls f []
 
 -- a mask with those of these procedures
-abbrev pub joined : (masks : List ℕ) → ℕ → (called : List ℕ) → ℕ
-joined masks m [] = m
-joined masks m (g ∷ gs) = joined masks (bit_or m (mask_at masks g)) gs
+abbrev pub joined_masks : (masks : List ℕ) → ℕ → (called : List ℕ) → ℕ
+joined_masks masks m [] = m
+joined_masks masks m (g ∷ gs) = joined_masks masks (bit_or m (mask_at masks g)) gs
 
 -- procedure f's mask with those of the procedures that it calls
 abbrev pub with_called : (calls : List (List ℕ)) → List ℕ → (f : ℕ) → ℕ
-with_called calls masks f = joined masks (mask_at masks f) (called_by calls f)
+with_called calls masks f = joined_masks masks (mask_at masks f) (called_by calls f)
 
 -- from the one masks to the other, one procedure after another
 pub data Grows (calls : List (List ℕ)) (old : List ℕ) : List ℕ → Type 0 where
@@ -25,8 +25,8 @@ pub data Grows (calls : List (List ℕ)) (old : List ℕ) : List ℕ → Type 0 
       → Grows calls old (set masks f (with_called calls masks f))
 
 -- nothing is added to the first n masks
-abbrev pub AreWhole : (calls : List (List ℕ)) → List ℕ → (n : ℕ) → Type 0
-AreWhole calls masks n = (f : ℕ) → f < n → with_called calls masks f ≡ mask_at masks f
+abbrev pub MasksAreClosed : (calls : List (List ℕ)) → List ℕ → (n : ℕ) → Type 0
+MasksAreClosed calls masks n = (f : ℕ) → f < n → with_called calls masks f ≡ mask_at masks f
 
 -- how far the masks are from having all bits
 abbrev pub room : List ℕ → ℕ

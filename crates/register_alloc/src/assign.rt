@@ -5,7 +5,7 @@ ghost use Rattle.std.specs.Int.{bit_at};
 ghost use Rattle.parallel_move.specs.declared.Spot.TheVariants.{Reg};
 ghost use Rattle.low_code.specs.Tree.{procedure_of, program_of};
 ghost use Rattle.low_code.specs.Formed.{Formed};
-ghost use Rattle.register_alloc.specs.Gathered.{HaveFewResults, HaveFewParameters, IsGathered, IsAdded, IsOwnMask, procs_of, AreSpots, IsPut, IsSavedOf, SavesHold, SavesGrow, calls_of_walks, longest_at, frames_of};
+ghost use Rattle.register_alloc.specs.Gathered.{HaveFewResults, HaveFewParameters, IsGathered, AddsProcedure, IsOwnMask, procs_of, AreSpots, PlacesVariable, IsSavedOf, SavesMatchCalls, AddsSavesOfCall, calls_of_walks, longest_at, frames_of};
 ghost use Rattle.register_alloc.specs.Fits.{Fits, UsesRegisters, IsPlace};
 ghost use Rattle.register_alloc.specs.Results.{result_mask};
 ghost use Rattle.register_alloc.specs.declared.registers.CallSite.{CallSite};
@@ -94,7 +94,7 @@ impl Gathered {
     /// Adds a procedure. `AllocError` where memory is wanting, or where numbers of 32 bits don't
     /// reach.
     fn add(&mut self, alloc: Global, proc: &LowProc) -> Result<(), AllocError>
-        ensures { OnOk result (IsAdded (procedure_of proc.now) self.old self.new) }
+        ensures { OnOk result (AddsProcedure (procedure_of proc.now) self.old self.new) }
     {
         let walk = walked(alloc, proc)?;
         let called = callees(alloc, walk.calls.as_slice())?;
@@ -119,7 +119,7 @@ fn gather(alloc: Global, procs: &[LowProc]) -> Result<Gathered, AllocError>
 
 /// Gives a variable its place.
 fn put(spots: &mut Vec<Spot>, variable: u32, spot: Spot) -> Result<(), AllocError>
-    ensures { OnOk result (IsPut spots.old.items variable spot spots.new.items) }
+    ensures { OnOk result (PlacesVariable spots.old.items variable spot spots.new.items) }
 {
     let at = variable as usize;
     if spots.len() <= at {
@@ -196,7 +196,7 @@ fn save(
     call: &CallSite,
     masks: &[u32],
 ) -> Result<(), AllocError>
-    ensures { OnOk result (SavesGrow masks.now call.now saves.old.items saves.new.items) }
+    ensures { OnOk result (AddsSavesOfCall masks.now call.now saves.old.items saves.new.items) }
 {
     reach(alloc, saves, call.site)?;
     let registers = saved(alloc, call.live.as_slice(), mask_at(masks, call.proc))?;
@@ -211,8 +211,8 @@ fn save_all(
     calls: &[CallSite],
     masks: &[u32],
 ) -> Result<(), AllocError>
-    ensures { OnOk result ((done : List CallSite) → SavesHold masks.now done saves.old.items
-        → SavesHold masks.now (done ++ calls.now) saves.new.items) }
+    ensures { OnOk result ((done : List CallSite) → SavesMatchCalls masks.now done saves.old.items
+        → SavesMatchCalls masks.now (done ++ calls.now) saves.new.items) }
 {
     for call in calls {
         save(alloc, saves, call, masks)?;
@@ -222,7 +222,7 @@ fn save_all(
 
 /// The registers that are saved at each site.
 fn saves(alloc: Global, walks: &[Registers], masks: &[u32]) -> Result<Vec<Seq<u8>>, AllocError>
-    ensures { IfOk result (λ saves. SavesHold masks.now (calls_of_walks walks.now) saves.items) }
+    ensures { IfOk result (λ saves. SavesMatchCalls masks.now (calls_of_walks walks.now) saves.items) }
 {
     let mut saves = Vec::new(alloc);
     for walk in walks {
@@ -242,7 +242,7 @@ fn many_saved(saves: &[Seq<u8>], site: u32) -> usize
 }
 
 /// The length of the longest of the lists of registers that are saved at these calls.
-fn longest(saves: &[Seq<u8>], calls: &[CallSite]) -> usize
+fn most_saved(saves: &[Seq<u8>], calls: &[CallSite]) -> usize
     ensures { result ≡ longest_at saves.now calls.now }
 {
     let mut most = 0;
@@ -267,7 +267,7 @@ fn frames(alloc: Global, walks: &[Registers], saves: &[Seq<u8>]) -> Result<Vec<u
 {
     let mut frames = Vec::new(alloc);
     for walk in walks {
-        let words = frame(walk.slots, longest(saves, walk.calls.as_slice()))?;
+        let words = frame(walk.slots, most_saved(saves, walk.calls.as_slice()))?;
         frames.push(words)?;
     }
     Ok(frames)

@@ -2,7 +2,7 @@
 
 ghost use Rattle.std.specs.Prelude.{◌≡◌, ◌<◌, ◌++◌, ◌∷◌, [], ℕ, true, false, List, length, slice_get, slice_set, Some, None, Option, vec_len, IfOk, OnOk, IfSome, MatchOption};
 ghost use Rattle.variable_uses.specs.Uses.{AreUses};
-ghost use Rattle.register_alloc.specs.Holders.{Held, AreStillUsed, AreEntering, AllFree, AreRegisters, IsStill, IsMarked, Pairwise, new_holder};
+ghost use Rattle.register_alloc.specs.Holders.{HoldsRegister, AreStillUsed, AreMarkedForJoin, AllFree, AreRegisters, StaysIfWanted, IsMarkedIfWanted, Pairwise, new_holder};
 ghost use Rattle.register_alloc.specs.declared.holders.Holder.{Holder};
 
 use crate::either::either;
@@ -62,7 +62,7 @@ impl Holders {
         to: u32,
     ) -> Result<Holders, AllocError>
         ensures { IfOk result (λ h. (used : List ℕ) → AreUses used uses.now
-            → AreEntering used from to self.now.of.items h.of.items) }
+            → AreMarkedForJoin used from to self.now.of.items h.of.items) }
     {
         self.each(alloc, |held| within_join(held, uses, from, to))
     }
@@ -91,12 +91,12 @@ impl Holders {
         Ok(Holders { of })
     }
 
-    /// A free register: the first of these wishes that is free, else the last where the variable stays
-    /// across a call, else the first from its place on that isn't one of the other words' among which
-    /// it stands, else the first. They are numbered from x8 on.
+    /// A free register: the first of these wishes that is free, else the last where the variable
+    /// stays across a call, else the first from its place on that isn't one of the other words'
+    /// among which it stands, else the first. They are numbered from x8 on.
     pub fn free(&self, wishes: &[Option<usize>], stays: bool, among: Among) -> Option<usize>
         ensures { MatchOption result ((r : ℕ) → r < length self.now.of.items → (d : Holder)
-            × Held self.now.of.items r d) (λ r. slice_get self.now.of.items r ≡ Some None) }
+            × HoldsRegister self.now.of.items r d) (λ r. slice_get self.now.of.items r ≡ Some None) }
     {
         match self.wished(wishes) {
             Some(register) => Some(register),
@@ -148,7 +148,7 @@ impl Holders {
 
     fn any_free(&self, stays: bool, among: Among) -> Option<usize>
         ensures { MatchOption result ((r : ℕ) → r < length self.now.of.items → (d : Holder)
-            × Held self.now.of.items r d) (λ r. slice_get self.now.of.items r ≡ Some None) }
+            × HoldsRegister self.now.of.items r d) (λ r. slice_get self.now.of.items r ≡ Some None) }
     {
         match self.last_free(stays) {
             Some(register) => Some(register),
@@ -211,7 +211,7 @@ impl Holders {
 
     fn first_free(&self) -> Option<usize>
         ensures { MatchOption result ((r : ℕ) → r < length self.now.of.items → (d : Holder)
-            × Held self.now.of.items r d) (λ r. slice_get self.now.of.items r ≡ Some None) }
+            × HoldsRegister self.now.of.items r d) (λ r. slice_get self.now.of.items r ≡ Some None) }
     {
         for register in 0..self.of.len() {
             if is_none(self.of[register]) {
@@ -285,7 +285,7 @@ fn is_held_by(held: Option<Holder>, variable: u32) -> bool {
 }
 
 fn still(held: Option<Holder>, uses: &Uses, from: u32, to: u32) -> Option<Holder>
-    ensures { (used : List ℕ) → AreUses used uses.now → IsStill used from to held result }
+    ensures { (used : List ℕ) → AreUses used uses.now → StaysIfWanted used from to held result }
 {
     match held {
         Some(holder) => {
@@ -300,7 +300,7 @@ fn still(held: Option<Holder>, uses: &Uses, from: u32, to: u32) -> Option<Holder
 }
 
 fn within_join(held: Option<Holder>, uses: &Uses, from: u32, to: u32) -> Option<Holder>
-    ensures { (used : List ℕ) → AreUses used uses.now → IsMarked used from to held result }
+    ensures { (used : List ℕ) → AreUses used uses.now → IsMarkedIfWanted used from to held result }
 {
     match held {
         Some(holder) => Some(Holder {

@@ -18,7 +18,7 @@ pub use assign::allocate;
 use parallel_move::Spot;
 use seq::Seq;
 use std::marker::Model;
-pub use walk::Walk;
+pub use walk::BindingWalk;
 
 /// Where the variables of a program stand, which registers each procedure may change, which of them
 /// are saved at each call site, and the words of each frame.

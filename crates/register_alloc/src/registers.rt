@@ -6,7 +6,7 @@ ghost use Rattle.std.specs.Prelude.{◌≡◌, ◌⊎◌, ◌↔◌, ◌<◌, �
 ghost use Rattle.low_code.specs.Tree.{Code, set, prim, load, save, take, put, get, call, join, give, tail, choose, before_of, end_of, code_of, arm_of, arms_before, procedure_of};
 ghost use Rattle.low_code.specs.Formed.{used_by, used_by_all, used_by_tests};
 ghost use Rattle.register_alloc.specs.Holders.{AreRegisters};
-ghost use Rattle.register_alloc.specs.Point.{IsNew, SameGiven, SameText, SamePlaces, EntersInner, Gives, GivesSlot, AllGiven, Adds, Binds, NotesCall, Does, DoesArm, Ends, IsWalked};
+ghost use Rattle.register_alloc.specs.Point.{IsFreshWalk, SameGiven, SameText, SamePlaces, EntersInner, GivesPlace, GivesSlot, AllGiven, AddsPlaces, Binds, WalksCall, WalksStatement, WalksArm, WalksBlock, WalksProcedure};
 ghost use Rattle.register_alloc.specs.declared.holders.Holder.{Holder};
 ghost use Rattle.register_alloc.specs.declared.registers.Text.{Text};
 ghost use Rattle.register_alloc.specs.declared.registers.CallSite.{CallSite};
@@ -14,7 +14,7 @@ ghost use Rattle.register_alloc.specs.declared.registers.CallSite.{CallSite};
 use crate::hints::Hints;
 use crate::holders::Holders;
 use crate::scan::Scan;
-use crate::wish::{GivenFirst, Wish, else_where_held, where_held};
+use crate::wish::{GivenFirst, Wish, else_where_held, wish_where_held};
 use low_code::{LowArm, LowBlock, LowEnd, LowProc, LowStmt, LowTest, Operand, PrimOp};
 use parallel_move::Spot;
 use seq::Seq;
@@ -99,7 +99,7 @@ fn first_of(wanted: Option<usize>, other: Option<usize>) -> Option<usize> {
 impl Registers {
     /// Before the first use.
     pub fn new(alloc: Global) -> Registers
-        ensures { IsNew result }
+        ensures { IsFreshWalk result }
     {
         Registers {
             alloc,
@@ -162,7 +162,7 @@ impl Registers {
         wish: Wish,
         index: usize,
     ) -> Result<(), AllocError>
-        ensures { OnOk result (Gives variable self.old holders.old.of.items self.new
+        ensures { OnOk result (GivesPlace variable self.old holders.old.of.items self.new
             holders.new.of.items) }
     {
         let hint = text.hints.of(variable);
@@ -204,7 +204,7 @@ impl Registers {
     ) -> Result<(), AllocError>
         ensures giving { OnOk result
             (AllGiven variables.now self.old holders.old.of.items self.new holders.new.of.items) }
-        ensures adds { OnOk result (Adds variables.now self.old self.new) }
+        ensures adds { OnOk result (AddsPlaces variables.now self.old self.new) }
         ensures stays { OnOk result (SameText self.old self.new) }
         ensures calls { OnOk result (self.new.calls.items ≡ self.old.calls.items) }
     {
@@ -225,7 +225,7 @@ impl Registers {
     ) -> Result<Holders, AllocError>
         ensures bound { IfOk result (λ h.
             Binds text.now variables.now end self.old holders.now.of.items self.new h.of.items) }
-        ensures adds { OnOk result (Adds variables.now self.old self.new) }
+        ensures adds { OnOk result (AddsPlaces variables.now self.old self.new) }
         ensures block { OnOk result (self.new.block ≡ self.old.block) }
         ensures calls { OnOk result (self.new.calls.items ≡ self.old.calls.items) }
     {
@@ -247,8 +247,8 @@ impl Registers {
         ensures bound { IfOk result (λ h.
             Binds text.now targets.now end self.old holders.now.of.items self.new h.of.items) }
         ensures notes { OnOk result
-            (NotesCall text.now site proc end self.old holders.now.of.items self.new) }
-        ensures adds { OnOk result (Adds targets.now self.old self.new) }
+            (WalksCall text.now site proc end self.old holders.now.of.items self.new) }
+        ensures adds { OnOk result (AddsPlaces targets.now self.old self.new) }
         ensures block { OnOk result (self.new.block ≡ self.old.block) }
     {
         let mut live = holders.live(self.alloc, &text.uses, self.at, end)?;
@@ -279,11 +279,17 @@ impl Registers {
         value: &Operand,
     ) -> Result<Holders, AllocError>
         ensures { IfOk result (λ h.
-            Does text.now (set variable value.now) end self.old holders.now.of.items self.new
+            WalksStatement text.now (set variable value.now) end self.old holders.now.of.items self.new
             h.of.items) }
     {
         self.pass(uses_of(value))?;
-        let next = self.bind(text, holders, end, &[variable], where_held(holders, value))?;
+        let next = self.bind(
+            text,
+            holders,
+            end,
+            &[variable],
+            wish_where_held(holders, value),
+        )?;
         Ok(next)
     }
 
@@ -298,7 +304,7 @@ impl Registers {
         right: &Operand,
     ) -> Result<Holders, AllocError>
         ensures { IfOk result (λ h.
-            Does text.now (prim op variable left.now right.now) end self.old holders.now.of.items
+            WalksStatement text.now (prim op variable left.now right.now) end self.old holders.now.of.items
             self.new h.of.items) }
     {
         self.pass(uses_of(left))?;
@@ -323,7 +329,7 @@ impl Registers {
         index: u32,
     ) -> Result<Holders, AllocError>
         ensures { IfOk result (λ h.
-            Does text.now (load variable cell.now index) end self.old holders.now.of.items self.new
+            WalksStatement text.now (load variable cell.now index) end self.old holders.now.of.items self.new
             h.of.items) }
     {
         self.pass(uses_of(cell))?;
@@ -333,7 +339,7 @@ impl Registers {
 
     fn store(&mut self, cell: &Operand, index: u32, value: &Operand) -> Result<(), AllocError>
         ensures { OnOk result ((text : Text) (end : ℕ) (held : List (Option Holder))
-            → Does text (save cell.now index value.now) end self.old held self.new held) }
+            → WalksStatement text (save cell.now index value.now) end self.old held self.new held) }
     {
         self.pass(uses_of(cell))?;
         self.pass(uses_of(value))?;
@@ -348,7 +354,7 @@ impl Registers {
         variables: &[u32],
     ) -> Result<Holders, AllocError>
         ensures { IfOk result (λ h.
-            Does text.now (take variables.now) end self.old holders.now.of.items self.new
+            WalksStatement text.now (take variables.now) end self.old holders.now.of.items self.new
             h.of.items) }
     {
         let next = self.bind(text, holders, end, variables, Wish::Any)?;
@@ -357,7 +363,7 @@ impl Registers {
 
     fn output(&mut self, value: &Operand) -> Result<(), AllocError>
         ensures { OnOk result ((text : Text) (end : ℕ) (held : List (Option Holder))
-            → Does text (put value.now) end self.old held self.new held) }
+            → WalksStatement text (put value.now) end self.old held self.new held) }
     {
         self.pass(uses_of(value))?;
         Ok(())
@@ -371,7 +377,7 @@ impl Registers {
         variable: u32,
     ) -> Result<Holders, AllocError>
         ensures { IfOk result (λ h.
-            Does text.now (get variable) end self.old holders.now.of.items self.new h.of.items) }
+            WalksStatement text.now (get variable) end self.old holders.now.of.items self.new h.of.items) }
     {
         let next = self.bind(text, holders, end, &[variable], Wish::Any)?;
         Ok(next)
@@ -388,7 +394,7 @@ impl Registers {
         targets: &[u32],
     ) -> Result<Holders, AllocError>
         ensures { IfOk result (λ h.
-            Does text.now (call proc site given.now targets.now) end self.old holders.now.of.items
+            WalksStatement text.now (call proc site given.now targets.now) end self.old holders.now.of.items
             self.new h.of.items) }
     {
         self.pass_operands(given)?;
@@ -406,7 +412,7 @@ impl Registers {
         end: u32,
         first: &mut GivenFirst,
     ) -> Result<(), AllocError>
-        ensures { OnOk result (Ends text.now (code_of block.now) end self.old holders.of.items
+        ensures { OnOk result (WalksBlock text.now (code_of block.now) end self.old holders.of.items
             self.new) }
     {
         let mut holders = holders;
@@ -426,7 +432,7 @@ impl Registers {
         end: u32,
     ) -> Result<Holders, AllocError>
         ensures { IfOk result (λ h.
-            Does text.now (before_of stmt.now) end self.old holders.of.items self.new h.of.items) }
+            WalksStatement text.now (before_of stmt.now) end self.old holders.of.items self.new h.of.items) }
     {
         match stmt {
             LowStmt::Set(x, a) => self.set(text, &holders, end, *x, a),
@@ -467,7 +473,7 @@ impl Registers {
         block: &LowBlock,
     ) -> Result<Holders, AllocError>
         ensures { IfOk result (λ h.
-            Does text.now (join targets.now (code_of block.now)) end self.old holders.now.of.items
+            WalksStatement text.now (join targets.now (code_of block.now)) end self.old holders.now.of.items
             self.new h.of.items) }
     {
         let inner_end = self.inner_end(text)?;
@@ -487,7 +493,7 @@ impl Registers {
         end: u32,
         first: &mut GivenFirst,
     ) -> Result<(), AllocError>
-        ensures { OnOk result (Ends text.now (end_of last.now) end self.old holders.of.items
+        ensures { OnOk result (WalksBlock text.now (end_of last.now) end self.old holders.of.items
             self.new) }
     {
         match last {
@@ -508,7 +514,7 @@ impl Registers {
 
     fn last_give(&mut self, given: &[Operand]) -> Result<(), AllocError>
         ensures { OnOk result ((text : Text) (end : ℕ) (held : List (Option Holder))
-            → Ends text (give given.now) end self.old held self.new) }
+            → WalksBlock text (give given.now) end self.old held self.new) }
     {
         self.pass_operands(given)?;
         Ok(())
@@ -516,7 +522,7 @@ impl Registers {
 
     fn last_call(&mut self, proc: u32, site: u32, given: &[Operand]) -> Result<(), AllocError>
         ensures { OnOk result ((text : Text) (end : ℕ) (held : List (Option Holder))
-            → Ends text (tail proc site given.now) end self.old held self.new) }
+            → WalksBlock text (tail proc site given.now) end self.old held self.new) }
     {
         self.pass_operands(given)?;
         self.tail(site, proc)?;
@@ -548,7 +554,7 @@ impl Registers {
         first: &mut GivenFirst,
     ) -> Result<(), AllocError>
         ensures { OnOk result ((end : ℕ)
-            → Does text.now (λ c. choose (arms_before (map arm_of arms.now) c)) end self.old
+            → WalksStatement text.now (λ c. choose (arms_before (map arm_of arms.now) c)) end self.old
             holders.now.of.items self.new holders.now.of.items) }
     {
         for arm in arms {
@@ -565,7 +571,7 @@ impl Registers {
         holders: &Holders,
         first: &mut GivenFirst,
     ) -> Result<(), AllocError>
-        ensures { OnOk result (DoesArm text.now arm.now.tests (code_of arm.now.block) self.old
+        ensures { OnOk result (WalksArm text.now arm.now.tests (code_of arm.now.block) self.old
             holders.now.of.items self.new) }
     {
         self.pass_tests(arm.tests.as_slice())?;
@@ -578,7 +584,7 @@ impl Registers {
 
 /// Gives each variable of a procedure its place.
 pub fn walked(alloc: Global, proc: &LowProc) -> Result<Registers, AllocError>
-    ensures { IfOk result (IsWalked (procedure_of proc.now)) }
+    ensures { IfOk result (WalksProcedure (procedure_of proc.now)) }
 {
     let mut scan = Scan::new(alloc);
     scan.block(&proc.body)?;

@@ -10,16 +10,16 @@ use std::alloc::{AllocError, Global};
 
 /// What a block binds.
 #[derive(Drop)]
-pub struct Walk {
+pub struct BindingWalk {
     pub variables: Vec<u32>,
 }
 
-impl Walk {
+impl BindingWalk {
     /// Nothing yet.
-    pub fn new(alloc: Global) -> Walk
+    pub fn new(alloc: Global) -> BindingWalk
         ensures { result.variables.items ≡ [] }
     {
-        Walk {
+        BindingWalk {
             variables: Vec::new(alloc),
         }
     }

@@ -1,5 +1,5 @@
-// Where variables would best stand. No clause depends on a wish: where the register is held, another
-// one is taken.
+// Where variables would best stand. No clause depends on a wish: where the register is held,
+// another one is taken.
 #![tactic(auto)]
 
 use crate::holders::Holders;
@@ -111,7 +111,7 @@ fn each_at(registers: &[Option<usize>], index: usize) -> Option<usize> {
 }
 
 /// The register of the variable of an operand, if it holds one, as a wish.
-pub fn where_held(holders: &Holders, operand: &Operand) -> Wish<'static> {
+pub fn wish_where_held(holders: &Holders, operand: &Operand) -> Wish<'static> {
     match held_by(holders, operand) {
         Some(register) => Wish::From(register),
         None => Wish::Any,

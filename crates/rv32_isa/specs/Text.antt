@@ -75,8 +75,8 @@ abbrev pub register : ℕ → List ℕ
 register r = codes "x" ++ decimal r
 
 -- a place in memory, as `8(x2)`
-abbrev pub offset_from : ℤ → ℕ → List ℕ
-offset_from offset base = signed_decimal offset ++ codes "(" ++ register base ++ codes ")"
+abbrev pub offset_operand : ℤ → ℕ → List ℕ
+offset_operand offset base = signed_decimal offset ++ codes "(" ++ register base ++ codes ")"
 
 abbrev pub two : (name a b : List ℕ) → List ℕ
 two name a b = name ++ codes " " ++ a ++ codes ", " ++ b
@@ -84,20 +84,22 @@ two name a b = name ++ codes " " ++ a ++ codes ", " ++ b
 abbrev pub three : (name a b c : List ℕ) → List ℕ
 three name a b c = two name a b ++ codes ", " ++ c
 
-unfoldable pub text_of : Instr → List ℕ
-text_of (Lui rd imm) = two (codes "lui") (register rd) (decimal imm)
-text_of (Auipc rd imm) = two (codes "auipc") (register rd) (decimal imm)
-text_of (Jal rd off) = two (codes "jal") (register rd) (signed_decimal off)
-text_of (Jalr rd rs1 imm) = two (codes "jalr") (register rd) (offset_from imm rs1)
-text_of (Branch kind rs1 rs2 off) =
+unfoldable pub assembly_text : Instr → List ℕ
+assembly_text (Lui rd imm) = two (codes "lui") (register rd) (decimal imm)
+assembly_text (Auipc rd imm) = two (codes "auipc") (register rd) (decimal imm)
+assembly_text (Jal rd off) = two (codes "jal") (register rd) (signed_decimal off)
+assembly_text (Jalr rd rs1 imm) = two (codes "jalr") (register rd) (offset_operand imm rs1)
+assembly_text (Branch kind rs1 rs2 off) =
     three (branch_name kind) (register rs1) (register rs2) (signed_decimal off)
-text_of (Load kind rd rs1 imm) = two (load_name kind) (register rd) (offset_from imm rs1)
-text_of (Store kind rs2 rs1 imm) = two (store_name kind) (register rs2) (offset_from imm rs1)
-text_of (OpImm kind rd rs1 imm) =
+assembly_text (Load kind rd rs1 imm) = two (load_name kind) (register rd) (offset_operand imm rs1)
+assembly_text (Store kind rs2 rs1 imm) =
+    two (store_name kind) (register rs2) (offset_operand imm rs1)
+assembly_text (OpImm kind rd rs1 imm) =
     three (imm_name kind) (register rd) (register rs1) (signed_decimal imm)
-text_of (Shift kind rd rs1 amount) =
+assembly_text (Shift kind rd rs1 amount) =
     three (shift_name kind) (register rd) (register rs1) (decimal amount)
-text_of (Op kind rd rs1 rs2) = three (op_name kind) (register rd) (register rs1) (register rs2)
-text_of (Fence top rs1 rd) = three (codes "fence") (decimal top) (register rs1) (register rd)
-text_of Ecall = codes "ecall"
-text_of Ebreak = codes "ebreak"
+assembly_text (Op kind rd rs1 rs2) =
+    three (op_name kind) (register rd) (register rs1) (register rs2)
+assembly_text (Fence top rs1 rd) = three (codes "fence") (decimal top) (register rs1) (register rd)
+assembly_text Ecall = codes "ecall"
+assembly_text Ebreak = codes "ebreak"

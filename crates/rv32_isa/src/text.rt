@@ -2,7 +2,7 @@
 
 ghost use Rattle.std.specs.Prelude.{◌≡◌, ◌++◌, codes, decimal, IfOk};
 ghost use Rattle.std.specs.Fmt.{signed_decimal};
-ghost use Rattle.rv32_isa.specs.Text.{text_of, register, offset_from, two, three, branch_name, load_name, store_name, imm_name, shift_name, op_name};
+ghost use Rattle.rv32_isa.specs.Text.{assembly_text, register, offset_operand, two, three, branch_name, load_name, store_name, imm_name, shift_name, op_name};
 
 use crate::fields::Reg;
 use crate::instr::{BranchKind, ImmKind, Instr, LoadKind, OpKind, ShiftKind, StoreKind};
@@ -13,9 +13,9 @@ use std::marker::Model;
 /// The text of an instruction, as `addi x1, x2, -5`: the name, then the operands in decimal with
 /// the target register first. A store has the stored register first; a load, a store and JALR have
 /// their base as `8(x2)`. `AllocError` where memory is wanting.
-#[tactic(auto, unfolding(crate::specs::Text::text_of))]
+#[tactic(auto, unfolding(crate::specs::Text::assembly_text))]
 pub fn show(alloc: Global, instr: Instr) -> Result<Vec<u8>, AllocError>
-    ensures { IfOk result (λ text. text.items ≡ text_of instr) }
+    ensures { IfOk result (λ text. text.items ≡ assembly_text instr) }
 {
     match instr {
         Instr::Lui(rd, imm) => upper(alloc, "lui", rd, imm.0),
@@ -91,7 +91,7 @@ impl Line {
     }
 
     fn address(self, offset: i32, base: Reg) -> Result<Line, AllocError>
-        ensures { IfOk result (λ line. line ≡ self ++ offset_from offset base) }
+        ensures { IfOk result (λ line. line ≡ self ++ offset_operand offset base) }
     {
         self.signed(offset)?.then("(")?.register(base)?.then(")")
     }
@@ -137,7 +137,7 @@ fn access(
     base: Reg,
 ) -> Result<Vec<u8>, AllocError>
     ensures { IfOk result (λ text. text.items
-        ≡ two name.now (register first) (offset_from offset base)) }
+        ≡ two name.now (register first) (offset_operand offset base)) }
 {
     let line = start(alloc, name, first)?.then(", ")?;
     Ok(line.address(offset, base)?.finish())

@@ -8,8 +8,8 @@ use Rattle.rv32_steps.specs.Trace.{is_one_of, procedure_from}
 use Rattle.rv32_items.specs.declared.Item.{Item}
 use Rattle.rv32_items.specs.declared.Item.TheVariants.{Label, Plain, Branch, Jump}
 use Rattle.rv32_items.specs.Course.{Layout, label_from, address_from}
-use Rattle.rv32_items.specs.Placed.{is_instruction, times, Rises}
-use Rattle.rv32_items.specs.Flows.{is_begin}
+use Rattle.rv32_items.specs.Placed.{is_instruction, times, AddressesRise}
+use Rattle.rv32_items.specs.Flows.{begins_procedure}
 use Rattle.rv32_items.specs.Laws.{address_of, addresses_of}
 use Rattle.rv32_items.proofs.Stands.{stands}
 
@@ -66,7 +66,7 @@ not_one f (b ∷ bs) a h = go (nat_eq a b) refl h (λ r. not_one (suc f) bs a r)
 
 -- ---- addresses
 
-module _ (items : List Item) (lay : Layout) (rises : Rises items lay) where
+module _ (items : List Item) (lay : Layout) (rises : AddressesRise items lay) where
   up : (n : ℕ) (i : Item) → slice_get items n ≡ Some i → lay.address n ≤ lay.address (suc n)
   up n (Label l) e = let h = rises.labels n l e in omega arith
   up n (Plain i) e = let h = rises.rises n (ap is_instruction e) in omega arith
@@ -94,7 +94,7 @@ module _ (items : List Item) (lay : Layout) (rises : Rises items lay) where
       let b = rises.below in
       omega arith
 
-  module _ (begins : List ℕ) (stand : (b : ℕ) → is_one_of begins b ≡ true → times b items ≡ 1) (behind : (n : ℕ) → is_begin begins (slice_get items n) ≡ true → is_instruction (slice_get items (suc n)) ≡ true) where
+  module _ (begins : List ℕ) (stand : (b : ℕ) → is_one_of begins b ≡ true → times b items ≡ 1) (behind : (n : ℕ) → begins_procedure begins (slice_get items n) ≡ true → is_instruction (slice_get items (suc n)) ≡ true) where
     -- something begins at an address
     pub record Begins (c : ℕ) : Type 0 where
       pub item : ℕ
@@ -118,7 +118,7 @@ module _ (items : List Item) (lay : Layout) (rises : Rises items lay) where
     -- where something begins, its label takes no word, and the instruction behind it does
     room : (t l : ℕ) → slice_get items t ≡ Some (Label l) → is_one_of begins l ≡ true → (lay.address t + 4 ≤ lay.address (suc (suc t))) × (suc (suc t) ≤ length items)
     room t l e is =
-        let i = behind t (ap (is_begin begins) e ∙ is) in
+        let i = behind t (ap (begins_procedure begins) e ∙ is) in
         let r = rises.rises (suc t) i in
         let z = rises.labels t l e in
         (omega arith, in_list (slice_get items (suc t)) refl i)
@@ -140,7 +140,7 @@ module _ (items : List Item) (lay : Layout) (rises : Rises items lay) where
         ])
 
     -- nor at an instruction that is not right behind a beginning
-    pub none_at : (n : ℕ) (i : Item) → slice_get items n ≡ Some i → is_instruction (Some i) ≡ true → ((q : ℕ) → suc q ≡ n → is_begin begins (slice_get items q) ≡ false) → is_one_of (addresses_of lay items begins) (lay.address n) ≡ false
+    pub none_at : (n : ℕ) (i : Item) → slice_get items n ≡ Some i → is_instruction (Some i) ≡ true → ((q : ℕ) → suc q ≡ n → begins_procedure begins (slice_get items q) ≡ false) → is_one_of (addresses_of lay items begins) (lay.address n) ≡ false
     none_at n i e is fresh = not_true _ (λ h.
         let b = begin_at (lay.address n) h in
         let top = slice_get_within items n i e in
@@ -150,7 +150,7 @@ module _ (items : List Item) (lay : Layout) (rises : Rises items lay) where
         elim (cases_order b.item n) [
           | inl same ↦ not_both i is (same_Some _ _ (sym e ∙ ap (λ k. slice_get items k) (sym same) ∙ b.here))
           | inr (inl before) ↦ elim (cases_eq (suc b.item) n) [
-            | inl next ↦ true≢false (sym (ap (is_begin begins) b.here ∙ b.is) ∙ fresh b.item next)
+            | inl next ↦ true≢false (sym (ap (begins_procedure begins) b.here ∙ b.is) ∙ fresh b.item next)
             | inr far ↦ let up = addresses_rise (suc (suc b.item)) n (omega arith) (omega arith) in omega (arith, b.at, two.0)
           ]
           | inr (inr later) ↦ let up = addresses_rise (suc n) b.item (omega arith) (omega arith) in omega (arith, b.at)
@@ -170,7 +170,7 @@ module _ (items : List Item) (lay : Layout) (rises : Rises items lay) where
         apart : (t n l k : ℕ) → slice_get items t ≡ Some (Label l) → is_one_of begins l ≡ true → slice_get items n ≡ Some (Label k) → t < n → lay.address t ≡ lay.address n → ⊥
         apart t n l k et lt en before same =
             let two = room t l et lt in
-            let i = behind t (ap (is_begin begins) et ∙ lt) in
+            let i = behind t (ap (begins_procedure begins) et ∙ lt) in
             let top = slice_get_within items n (Label k) en in
             elim (cases_eq (suc t) n) [
               | inl next ↦ true≢false (sym i ∙ ap is_instruction (ap (λ q. slice_get items q) next ∙ en))

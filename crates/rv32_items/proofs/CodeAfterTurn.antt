@@ -11,8 +11,8 @@ use Rattle.rv32_steps.specs.Trace.{is_return}
 use Rattle.rv32_items.specs.declared.Item.{Item}
 use Rattle.rv32_items.specs.declared.Item.TheVariants.{Label, Plain, Branch, Jump}
 use Rattle.rv32_items.specs.Course.{Layout, Point, Turn, Next, Written, Asked, Ended, Trapped, turn, turn_of, to_item, behind, behind_plain, state_at, label_from, address_from, kind_of}
-use Rattle.rv32_items.specs.Placed.{is_instruction, Rises}
-use Rattle.rv32_items.specs.Flows.{is_begin}
+use Rattle.rv32_items.specs.Placed.{is_instruction, AddressesRise}
+use Rattle.rv32_items.specs.Flows.{begins_procedure}
 use Rattle.rv32_items.specs.Laws.{HasCode}
 use Rattle.rv32_items.proofs.Keeps.{First, Keeps, act_keeps, given_keeps}
 use Rattle.rv32_items.proofs.Addresses.{not_true, address_first, label_there, below_top}
@@ -23,9 +23,9 @@ turn_is lay items p o e = ap (turn_of lay items p) e
 
 -- nothing begins right before an item
 abbrev pub Fresh : (begins : List ℕ) → List Item → ℕ → Type 0
-Fresh begins items n = (q : ℕ) → suc q ≡ n → is_begin begins (slice_get items q) ≡ false
+Fresh begins items n = (q : ℕ) → suc q ≡ n → begins_procedure begins (slice_get items q) ≡ false
 
-module _ (items : List Item) (lay : Layout) (rises : Rises items lay) (begins : List ℕ) (instruction_behind : (n : ℕ) → is_begin begins (slice_get items n) ≡ true → is_instruction (slice_get items (suc n)) ≡ true) where
+module _ (items : List Item) (lay : Layout) (rises : AddressesRise items lay) (begins : List ℕ) (instruction_behind : (n : ℕ) → begins_procedure begins (slice_get items n) ≡ true → is_instruction (slice_get items (suc n)) ≡ true) where
   pub record Good (p : Point) : Type 0 where
     pub code : HasCode lay p
     pub fresh : Fresh begins items p.item
@@ -40,12 +40,12 @@ module _ (items : List Item) (lay : Layout) (rises : Rises items lay) (begins : 
   GoodTurn p (Trapped kind) = Unit {0}
 
   -- behind an item at which nothing begins
-  pub fresh_behind : (n : ℕ) (o : Option Item) → slice_get items n ≡ o → is_begin begins o ≡ false → Fresh begins items (suc n)
+  pub fresh_behind : (n : ℕ) (o : Option Item) → slice_get items n ≡ o → begins_procedure begins o ≡ false → Fresh begins items (suc n)
   fresh_behind n o e none q h =
       let same : n ≡ q = omega arith in
-      subst (λ k. is_begin begins (slice_get items k) ≡ false) same (ap (is_begin begins) e ∙ none)
+      subst (λ k. begins_procedure begins (slice_get items k) ≡ false) same (ap (begins_procedure begins) e ∙ none)
 
-  begins_not : (i : Item) → is_instruction (Some i) ≡ true → is_begin begins (Some i) ≡ false
+  begins_not : (i : Item) → is_instruction (Some i) ≡ true → begins_procedure begins (Some i) ≡ false
   begins_not (Label l) h = absurd (true≢false (sym h))
   begins_not (Plain i) h = refl
   begins_not (Branch c a b l) h = refl
@@ -56,7 +56,7 @@ module _ (items : List Item) (lay : Layout) (rises : Rises items lay) (begins : 
       let i = instruction_behind q is in
       true≢false (sym i ∙ ap is_instruction (ap (λ k. slice_get items k) h ∙ e)))
 
-  begin_label : (o : Option Item) → is_begin begins o ≡ true → (l : ℕ) × (o ≡ Some (Label l))
+  begin_label : (o : Option Item) → begins_procedure begins o ≡ true → (l : ℕ) × (o ≡ Some (Label l))
   begin_label None h = absurd (true≢false (sym h))
   begin_label (Some (Label l)) h = (l, refl)
   begin_label (Some (Plain i)) h = absurd (true≢false (sym h))

@@ -11,9 +11,9 @@ use Rattle.rv32_steps.specs.Trace.{trace, trace_after, procedures_at, procedure_
 use Rattle.rv32_items.specs.declared.Item.{Item}
 use Rattle.rv32_items.specs.declared.Item.TheVariants.{Label, Plain, Branch, Jump}
 use Rattle.rv32_items.specs.Course.{Layout, Point, Course, Turn, Next, Written, Asked, Ended, Trapped, turn, state_at, behind, label_of, Going, Exited, stands, after, onward, course, NeverTrapsOn}
-use Rattle.rv32_items.specs.Placed.{is_instruction, times, Climbs, Does, Placed}
-use Rattle.rv32_items.specs.Flows.{is_begin}
-use Rattle.rv32_items.specs.Laws.{HasCode, addresses_of, ItemsEnter}
+use Rattle.rv32_items.specs.Placed.{is_instruction, times, StepsAtRisingPcs, Does, Placed}
+use Rattle.rv32_items.specs.Flows.{begins_procedure}
+use Rattle.rv32_items.specs.Laws.{HasCode, addresses_of, MachineEntersLabels}
 use Rattle.rv32_items.proofs.Addresses.{none_within, none_at, begin_is, not_one}
 use Rattle.rv32_items.proofs.CodeAfterTurn.{turn_is, Fresh, Good, GoodTurn, turn_good, fresh_behind}
 use Rattle.rv32_items.proofs.Moments.{Same, same_seen, course_none, course_more, trace_none, trace_more, climbs_run, climbs_part, climbs_trace, climbs_trace_part}
@@ -28,7 +28,7 @@ label_of_instruction (Plain i) h = refl
 label_of_instruction (Branch c a b l) h = refl
 label_of_instruction (Jump k l) h = refl
 
-module _ (items : List Item) (words : List ℕ) (placed : Placed items words) (begins : List ℕ) (stand : (b : ℕ) → is_one_of begins b ≡ true → times b items ≡ 1) (instruction_behind : (n : ℕ) → is_begin begins (slice_get items n) ≡ true → is_instruction (slice_get items (suc n)) ≡ true) where
+module _ (items : List Item) (words : List ℕ) (placed : Placed items words) (begins : List ℕ) (stand : (b : ℕ) → is_one_of begins b ≡ true → times b items ≡ 1) (instruction_behind : (n : ℕ) → begins_procedure begins (slice_get items n) ≡ true → is_instruction (slice_get items (suc n)) ≡ true) where
   abbrev lay : Layout
   lay = placed.lay
 
@@ -92,7 +92,7 @@ module _ (items : List Item) (words : List ℕ) (placed : Placed items words) (b
     within : (c : ℕ) → s.pc < c → c < lay.address (suc p.item) → is_one_of addresses c ≡ false
     within = none_within items lay placed.rises begins stand instruction_behind p.item i e
 
-    climbs : (q : Point) → turn lay items p ≡ Next q → good q → (k : ℕ) → Climbs i k (lay.address (suc p.item)) s (state_at lay items q) → (m : ℕ) → m ≤ b → Entered input (suc m) s p first
+    climbs : (q : Point) → turn lay items p ≡ Next q → good q → (k : ℕ) → StepsAtRisingPcs i k (lay.address (suc p.item)) s (state_at lay items q) → (m : ℕ) → m ≤ b → Entered input (suc m) s p first
     climbs q t g zero h m le = absurd (true≢false (sym is ∙ h.0))
     climbs q t g (suc k) h m le = elim (cases_lt m k) [
       | inl part ↦
@@ -172,7 +172,7 @@ module _ (items : List Item) (words : List ℕ) (placed : Placed items words) (b
       (moved.1 ∙ ap (λ f. f ++ procedures_at begins c.passed) is)
 
   -- the item behind the label at which something begins
-  pub behind_begin : (n : ℕ) → is_begin begins (slice_get items n) ≡ true → (i : Item) × ((slice_get items (suc n) ≡ Some i) × (is_instruction (Some i) ≡ true))
+  pub behind_begin : (n : ℕ) → begins_procedure begins (slice_get items n) ≡ true → (i : Item) × ((slice_get items (suc n) ≡ Some i) × (is_instruction (Some i) ≡ true))
   behind_begin n h = go (slice_get items (suc n)) refl (instruction_behind n h)
     where
       go : (o : Option Item) → slice_get items (suc n) ≡ o → is_instruction o ≡ true → (i : Item) × ((slice_get items (suc n) ≡ Some i) × (is_instruction (Some i) ≡ true))
@@ -207,7 +207,7 @@ module _ (items : List Item) (words : List ℕ) (placed : Placed items words) (b
         by_begin false n rest =
             label_passed input p l (suc m) [] e (rest (fresh_behind items lay placed.rises begins instruction_behind p.item (Some (Label l)) e n)) (sym (not_one 0 begins l n))
         by_begin true y rest =
-            let i = behind_begin p.item (ap (is_begin begins) e ∙ y) in
+            let i = behind_begin p.item (ap (begins_procedure begins) e ∙ y) in
             let h = instruction b shown input (next_point p) i.0 i.1.0 i.1.1 next g.code m le in
             let same = ap (λ a. procedure_from 0 addresses a) (placed.rises.labels p.item l e) ∙ begin_is items lay placed.rises begins stand instruction_behind p.item l e y in
             label_passed input p l (suc m) (procedure_from 0 addresses (lay.address (suc p.item))) e h same
@@ -231,7 +231,7 @@ module _ (items : List Item) (words : List ℕ) (placed : Placed items words) (b
 pub first_is_fresh : (begins : List ℕ) (items : List Item) (n : ℕ) → n ≡ 0 → Fresh begins items n
 first_is_fresh begins items n z q h = absurd (omega arith)
 
-pub items_enter : ItemsEnter
+pub items_enter : MachineEntersLabels
 items_enter items words placed p i begins code never first stand behind m =
     let g : Good items placed.lay placed.rises begins behind p = record { code = code; fresh = first_is_fresh begins items p.item first } in
     let h = entered items words placed begins stand behind m m (omega arith) i p g never in

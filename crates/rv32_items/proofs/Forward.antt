@@ -11,10 +11,10 @@ use Rattle.rv32_steps.specs.Trace.{procedures_at, procedure_from, is_one_of, is_
 use Rattle.rv32_items.specs.declared.Item.{Item}
 use Rattle.rv32_items.specs.declared.Item.TheVariants.{Label, Plain, Branch, Jump}
 use Rattle.rv32_items.specs.Course.{Layout, Point, Turn, Next, Written, Asked, Ended, Trapped, turn, turn_of, to_item, behind, behind_plain, state_at, kind_of, label_from, label_of, address_from, Stopped, onward, course, NeverTrapsOn}
-use Rattle.rv32_items.specs.Placed.{is_instruction, is_jump, times, target_of, Closes, Climbs, Does, Placed}
+use Rattle.rv32_items.specs.Placed.{is_instruction, is_jump, times, target_of, Closes, StepsAtRisingPcs, Does, Placed}
 use Rattle.rv32_items.specs.Told.{is_call, returns, home_by, home_to, ReturnsHome}
-use Rattle.rv32_items.specs.Flows.{is_begin, GoesOn, IsStop, Flows}
-use Rattle.rv32_items.specs.Laws.{HasCode, address_of, addresses_of, ItemsGoForward}
+use Rattle.rv32_items.specs.Flows.{begins_procedure, IsForwardTransfer, IsStopItem, HasStructuredFlow}
+use Rattle.rv32_items.specs.Laws.{HasCode, address_of, addresses_of, MachineGoesForward}
 use Rattle.rv32_items.proofs.Stands.{stands}
 use Rattle.rv32_items.proofs.Addresses.{not_true, not_one, label_there, addresses_rise, below_top, begin_at, none_within}
 use Rattle.rv32_items.proofs.CodeAfterTurn.{turn_is, Fresh, Good, GoodTurn, turn_good, fresh_behind}
@@ -49,7 +49,7 @@ pub home_step : (lay : Layout) (items : List Item) (n : ℕ) (input : List ℕ) 
 unfolding ReturnsHome
 home_step lay items n input p calls t e h = subst (λ t. home_to lay items (λ i q c. ReturnsHome lay items n i q c) input p calls t) e h
 
-module _ (items : List Item) (words : List ℕ) (placed : Placed items words) (begins : List ℕ) (stand : (b : ℕ) → is_one_of begins b ≡ true → times b items ≡ 1) (flows : Flows begins items) where
+module _ (items : List Item) (words : List ℕ) (placed : Placed items words) (begins : List ℕ) (stand : (b : ℕ) → is_one_of begins b ≡ true → times b items ≡ 1) (flows : HasStructuredFlow begins items) where
   abbrev lay : Layout
   lay = placed.lay
 
@@ -94,7 +94,7 @@ module _ (items : List Item) (words : List ℕ) (placed : Placed items words) (b
 
   -- ---- from the stops on nothing begins
 
-  after_stop : (n : ℕ) → ((input : List ℕ) (q : Point) → flows.stops ≤ q.item → procedures_at begins (course lay items n input q).passed ≡ []) → (input : List ℕ) (p : Point) (i : Item) → flows.stops ≤ p.item → IsStop i → slice_get items p.item ≡ Some i → procedures_at begins (onward lay items (course lay items n) input p (turn_of lay items p (Some i))).passed ≡ []
+  after_stop : (n : ℕ) → ((input : List ℕ) (q : Point) → flows.stops ≤ q.item → procedures_at begins (course lay items n input q).passed ≡ []) → (input : List ℕ) (p : Point) (i : Item) → flows.stops ≤ p.item → IsStopItem i → slice_get items p.item ≡ Some i → procedures_at begins (onward lay items (course lay items n) input p (turn_of lay items p (Some i))).passed ≡ []
   after_stop n rest input p (Label l) le is e = rest input (record { regs = p.regs; item = suc p.item; memory = p.memory }) (omega arith)
   after_stop n rest input p (Plain i) le is e = by_return (is_return i) is
     where
@@ -119,7 +119,7 @@ module _ (items : List Item) (words : List ℕ) (placed : Placed items words) (b
       no_label None e = refl
       no_label (Some (Label l)) e =
           ap (λ f. f ++ []) (not_one 0 begins l (not_true (is_one_of begins l) (λ is.
-          let lt = flows.procedures_before p.item (ap (is_begin begins) e ∙ is) in omega arith)))
+          let lt = flows.procedures_before p.item (ap (begins_procedure begins) e ∙ is) in omega arith)))
       no_label (Some (Plain i)) e = refl
       no_label (Some (Branch c a b l)) e = refl
       no_label (Some (Jump k l)) e = refl
@@ -153,7 +153,7 @@ module _ (items : List Item) (words : List ℕ) (placed : Placed items words) (b
       let at : address_of lay items l ≡ lay.address t = ap (λ o. lay.address (unwrap_or o 0)) s.1.0 ∙ ap (λ k. lay.address k) (sym item) in
       subst (λ c. is_one_of addresses c ≡ true) at (one_mapped (address_of lay items) begins l is)
 
-  pub begin_item : (o : Option Item) → is_begin begins o ≡ true → (l : ℕ) × ((o ≡ Some (Label l)) × (is_one_of begins l ≡ true))
+  pub begin_item : (o : Option Item) → begins_procedure begins o ≡ true → (l : ℕ) × ((o ≡ Some (Label l)) × (is_one_of begins l ≡ true))
   begin_item None h = absurd (true≢false (sym h))
   begin_item (Some (Label l)) h = (l, (refl, h))
   begin_item (Some (Plain i)) h = absurd (true≢false (sym h))
@@ -162,7 +162,7 @@ module _ (items : List Item) (words : List ℕ) (placed : Placed items words) (b
 
   -- on to the next item, or where its label is
   abbrev pub Way : Item → (n t : ℕ) → Type 0
-  Way i n t = ((t ≡ suc n) ⊎ ((t ≤ length items) × GoesOn begins items flows.stops n t)) × (is_call (Some i) ≡ true → is_begin begins (slice_get items t) ≡ true)
+  Way i n t = ((t ≡ suc n) ⊎ ((t ≤ length items) × IsForwardTransfer begins items flows.stops n t)) × (is_call (Some i) ≡ true → begins_procedure begins (slice_get items t) ≡ true)
 
   abbrev pub WayTurn : Item → Point → Turn → Type 0
   WayTurn i p (Next q) = returns (Some i) ≡ false → Way i p.item q.item
@@ -179,7 +179,7 @@ module _ (items : List Item) (words : List ℕ) (placed : Placed items words) (b
         let same : found.0 ≡ t = omega (arith, found.1.0) in
         let here : slice_get items t ≡ Some (Label l) = ap (λ k. slice_get items k) (sym same) ∙ found.1.1 in
         let lt = slice_get_within items t (Label l) here in
-        λ other. (inr (omega arith, flows.goes_on p.item l t i e target f), λ call. ap (is_begin begins) here ∙ flows.calls p.item l i e call target)
+        λ other. (inr (omega arith, flows.goes_on p.item l t i e target f), λ call. ap (begins_procedure begins) here ∙ flows.calls p.item l i e call target)
 
     plain_way : (i : Item) → is_call (Some i) ≡ false → (o : Outcome) → WayTurn i p (behind_plain lay items p o)
     plain_way i no_call (Next' s) = λ other. (inl refl, λ call. absurd (true≢false (sym call ∙ no_call)))
@@ -209,7 +209,7 @@ module _ (items : List Item) (words : List ℕ) (placed : Placed items words) (b
 
   -- ---- going on
 
-  onward_way : (n : ℕ) (i : Item) → slice_get items n ≡ Some i → (from : ℕ) → lay.address n ≤ from → from < lay.address (suc n) → (input : List ℕ) (q : Point) → good q → NeverTrapsOn lay items input q → (q.item ≡ suc n) ⊎ ((q.item ≤ length items) × GoesOn begins items flows.stops n q.item) → Onward addresses from input (state_at lay items q)
+  onward_way : (n : ℕ) (i : Item) → slice_get items n ≡ Some i → (from : ℕ) → lay.address n ≤ from → from < lay.address (suc n) → (input : List ℕ) (q : Point) → good q → NeverTrapsOn lay items input q → (q.item ≡ suc n) ⊎ ((q.item ≤ length items) × IsForwardTransfer begins items flows.stops n q.item) → Onward addresses from input (state_at lay items q)
   onward_way n i e from lo hi input q g never (inl next) =
       let there = ap (λ k. lay.address k) next in
       inr (inl (omega arith, λ c up down. none_within items lay placed.rises begins stand flows.instruction_behind n i e c (omega arith) (omega arith)))
@@ -226,7 +226,7 @@ module _ (items : List Item) (words : List ℕ) (placed : Placed items words) (b
                   omega (arith, b.at)
               | inl later ↦ elim (cases_lt q.item b.item) [
                 | inl past ↦ let r = addresses_rise items lay placed.rises q.item b.item (omega arith) (omega arith) in omega (arith, b.at)
-                | inr between ↦ true≢false (sym (ap (is_begin begins) b.here ∙ b.is) ∙ none b.item (omega arith) between)
+                | inr between ↦ true≢false (sym (ap (begins_procedure begins) b.here ∙ b.is) ∙ none b.item (omega arith) between)
               ]
             ]),
       ))
@@ -289,7 +289,7 @@ module _ (items : List Item) (words : List ℕ) (placed : Placed items words) (b
     later v rest zero le = forward_none addresses input v (map lay.address calls)
     later v rest (suc m) le = rest m (omega arith)
 
-    climb : (q : Point) → good q → turn lay items p ≡ Next q → (k : ℕ) (v : State) → lay.address p.item ≤ v.pc → Climbs i (suc k) (lay.address (suc p.item)) v (state_at lay items q) → (m : ℕ) → m ≤ b → Forward addresses (suc m) input v (map lay.address calls)
+    climb : (q : Point) → good q → turn lay items p ≡ Next q → (k : ℕ) (v : State) → lay.address p.item ≤ v.pc → StepsAtRisingPcs i (suc k) (lay.address (suc p.item)) v (state_at lay items q) → (m : ℕ) → m ≤ b → Forward addresses (suc m) input v (map lay.address calls)
     climb q g t zero v lo h m le = last_step q g t v lo h.0 h.1.0 h.1.1 m le
     climb q g t (suc k) v lo h m le =
         forward_step addresses m input v (map lay.address calls) (Next' h.0) h.1.1.0
@@ -365,7 +365,7 @@ module _ (items : List Item) (words : List ℕ) (placed : Placed items words) (b
         by_begin : (t : Bool) → is_one_of begins l ≡ t → (Fresh begins items (suc p.item) → Now (next_point p)) → Now (next_point p)
         by_begin false n rest = rest (fresh_behind items lay placed.rises begins flows.instruction_behind p.item (Some (Label l)) e n)
         by_begin true y rest =
-            let i = behind_begin items words placed begins stand flows.instruction_behind p.item (ap (is_begin begins) e ∙ y) in
+            let i = behind_begin items words placed begins stand flows.instruction_behind p.item (ap (begins_procedure begins) e ∙ y) in
             instruction b forwarded input (next_point p) i.0 i.1.0 i.1.1 calls next g.code m le
 
   goes_forward : (b : ℕ) → Forwarded b
@@ -378,7 +378,7 @@ module _ (items : List Item) (words : List ℕ) (placed : Placed items words) (b
 
 -- ---- the law
 
-pub items_go_forward : ItemsGoForward
+pub items_go_forward : MachineGoesForward
 items_go_forward items words placed p i begins code first home stand flows m =
     let g : Good items placed.lay placed.rises begins flows.instruction_behind p = record { code = code; fresh = first_is_fresh begins items p.item first } in
     goes_forward items words placed begins stand flows m m (omega arith) i p [] g home

@@ -13,16 +13,16 @@ use Rattle.rv32_machine.specs.Runs.{Exited as Exited', onward as onward', run, h
 use Rattle.rv32_machine.proofs.Composed.{run_none, run_more, end_stays}
 use Rattle.headline.specs.Carries.{exits}
 use Rattle.rv32_steps.specs.Seen.{finish_of as finish_of'}
-use Rattle.rv32_steps.specs.Trace.{trace, trace_after, AllFrom, IsLastBefore}
+use Rattle.rv32_steps.specs.Trace.{trace, trace_after, AllAtOrAfter, IsLastBefore}
 use Rattle.rv32_items.specs.declared.Item.{Item}
 use Rattle.rv32_items.specs.declared.Item.TheVariants.{Label, Plain, Branch, Jump}
-use Rattle.rv32_items.specs.Course.{Layout, Point, Turn, Next, Written, Asked, Ended, Trapped, turn, to_item, state_at, behind, label_from, End, Going, Exited, Stopped, onward, course, NeverTrapsOn}
-use Rattle.rv32_items.specs.Placed.{is_instruction, is_jump, size_of, Climbs, Does, Placed, Rises}
+use Rattle.rv32_items.specs.Course.{Layout, Point, Turn, Next, Written, Asked, Ended, Trapped, turn, to_item, state_at, behind, label_from, CourseEnd, Going, Exited, Stopped, onward, course, NeverTrapsOn}
+use Rattle.rv32_items.specs.Placed.{is_instruction, is_jump, size_of, StepsAtRisingPcs, Does, Placed, AddressesRise}
 use Rattle.rv32_items.specs.Told.{finish_of}
-use Rattle.rv32_items.specs.Flows.{is_begin, IsStop, Flows}
+use Rattle.rv32_items.specs.Flows.{begins_procedure, IsStopItem, HasStructuredFlow}
 use Rattle.rv32_items.specs.Laws.{HasCode}
-use Rattle.rv32_items.specs.Leaving.{LeavesBy}
-use Rattle.rv32_items.specs.LastStep.{ItemsLeave, StopsAreBehind, StopsAreLast}
+use Rattle.rv32_items.specs.Leaving.{LeavesByLinkJump}
+use Rattle.rv32_items.specs.LastStep.{LastStepIsAtLinkJump, ProceduresPrecedeStops, StopsAreLast}
 use Rattle.rv32_items.proofs.Addresses.{addresses_rise, begin_at}
 use Rattle.rv32_items.proofs.CodeAfterTurn.{turn_is, Good, GoodTurn}
 use Rattle.rv32_items.proofs.Moments.{course_none, trace_more, climbs_run}
@@ -31,11 +31,11 @@ use Rattle.rv32_items.proofs.Reached.{none_stands, none_behind, none_fresh, turn
 
 -- ---- ways
 
-from_lower : (a b : ℕ) → b ≤ a → (way : List ℕ) → AllFrom a way → AllFrom b way
+from_lower : (a b : ℕ) → b ≤ a → (way : List ℕ) → AllAtOrAfter a way → AllAtOrAfter b way
 from_lower a b le [] h = tt
 from_lower a b le (x ∷ way) h = (omega (arith, h.0), from_lower a b le way h.1)
 
-from_both : (a : ℕ) (way more : List ℕ) → AllFrom a way → AllFrom a more → AllFrom a (way ++ more)
+from_both : (a : ℕ) (way more : List ℕ) → AllAtOrAfter a way → AllAtOrAfter a more → AllAtOrAfter a (way ++ more)
 from_both a [] more h r = r
 from_both a (x ∷ way) more h r = (h.0, from_both a way more h.1 r)
 
@@ -75,7 +75,7 @@ record EndsBefore (end : ℕ) (way : List ℕ) : Type 0 where
 record Climbed (i : Item) (end : ℕ) (t : State) (k : ℕ) (s : State) : Type 0 where
   pub way : List ℕ
   pub traced : (m : ℕ) (input : List ℕ) → trace (k + m) input s ≡ way ++ trace m input t
-  pub from : AllFrom s.pc way
+  pub from : AllAtOrAfter s.pc way
   pub closes : is_jump i ≡ true → EndsBefore end way
 
 no_jump_stands : (i : Item) → is_instruction (Some i) ≡ false → is_jump i ≡ true → ⊥
@@ -84,7 +84,7 @@ no_jump_stands (Plain i) h j = true≢false (sym j)
 no_jump_stands (Branch c a b l) h j = true≢false (sym j)
 no_jump_stands (Jump k l) h j = true≢false h
 
-climbed : (i : Item) (end : ℕ) (t : State) (k : ℕ) (s : State) → Climbs i k end s t → Climbed i end t k s
+climbed : (i : Item) (end : ℕ) (t : State) (k : ℕ) (s : State) → StepsAtRisingPcs i k end s t → Climbed i end t k s
 climbed i end t zero s h = record {
   way = [];
   traced = λ m input. let e : 0 + m ≡ m = omega arith in ap (λ n. trace n input s) e ∙ ap (trace m input) h.1;
@@ -133,7 +133,7 @@ module _ (items : List Item) (words : List ℕ) (placed : Placed items words) wh
     pub way : List ℕ
     pub traced : (m : ℕ) → trace (steps + m) input (state_at lay items p) ≡ way ++ trace m left (state_at lay items next)
     pub ran : (m : ℕ) → (run (steps + m) input (state_at lay items p)).end ≡ (run m left (state_at lay items next)).end
-    pub from : AllFrom (lay.address p.item) way
+    pub from : AllAtOrAfter (lay.address p.item) way
     pub closes : (link l : ℕ) → slice_get items p.item ≡ Some (Jump link l) → EndsBefore (lay.address (suc p.item)) way
 
   -- or it ends the program, and is no jump
@@ -308,7 +308,7 @@ module _ (items : List Item) (words : List ℕ) (placed : Placed items words) wh
       Stays n input p = (k : ℕ) (q : Point) → k ≤ n → (course lay items k input p).end ≡ Going q → (stops ≤ q.item) × (q.regs link ≡ a)
 
       abbrev AtStops : List ℕ → Point → Type 0
-      AtStops input p = (s.regs link ≡ a) × AllFrom (lay.address stops) (trace m input (state_at lay items p))
+      AtStops input p = (s.regs link ≡ a) × AllAtOrAfter (lay.address stops) (trace m input (state_at lay items p))
 
       within : (input : List ℕ) (p : Point) → Never input p → p.item < length items
       within input p never = by_item (slice_get items p.item) refl
@@ -331,14 +331,14 @@ module _ (items : List Item) (words : List ℕ) (placed : Placed items words) wh
           by_item (inl x) rest =
               let r = rest x.left x.next x.code x.never (λ k q le g. stays (suc k) q (omega arith) (x.goes_on k ∙ g)) (sym (x.goes_on n) ∙ e) (exits_on input p h x.steps x.left x.next x.ran) in
               let way = from_both (lay.address stops) x.way (trace m x.left (state_at lay items x.next)) (from_lower (lay.address p.item) (lay.address stops) low x.way x.from) r.1 in
-              (r.0, subst (AllFrom (lay.address stops)) (sym (traced_on input p h x.steps x.left x.way x.next x.traced)) way)
+              (r.0, subst (AllAtOrAfter (lay.address stops)) (sym (traced_on input p h x.steps x.left x.way x.next x.traced)) way)
           by_item (inr x) rest =
               let last = exit_step m input (state_at lay items p) x.code x.ends code s h in
-              (ap (λ v. v.regs link) last.0 ∙ here.1, subst (AllFrom (lay.address stops)) (sym last.1) (low, tt))
+              (ap (λ v. v.regs link) last.0 ∙ here.1, subst (AllAtOrAfter (lay.address stops)) (sym last.1) (low, tt))
 
   -- ---- a run that has exited
 
-  course_exits : (e : End) (code : ℕ) → exits code ≡ finish_of e → e ≡ Exited code
+  course_exits : (e : CourseEnd) (code : ℕ) → exits code ≡ finish_of e → e ≡ Exited code
   course_exits (Going q) code h = cc
   course_exits (Exited c) code h = cc
   course_exits (Stopped kind) code h = cc
@@ -355,7 +355,7 @@ module _ (items : List Item) (words : List ℕ) (placed : Placed items words) wh
     joined before front at jump behind e =
         ap (λ way. before ++ (way ++ behind)) e ∙ ap (λ way. before ++ way) (append_assoc front (at ∷ []) behind) ∙ sym (append_assoc before front (at ∷ behind))
 
-    from_jump : (n : ℕ) → (course lay items n input p).end ≡ Exited code → (l : LeavesBy lay items stops link input p n) → (before : Led l.taken input p l.point) → (x : Passes before.left l.point) → IsLastBefore (lay.address stops) (trace m input (state_at lay items p)) (s.regs link - 4)
+    from_jump : (n : ℕ) → (course lay items n input p).end ≡ Exited code → (l : LeavesByLinkJump lay items stops link input p n) → (before : Led l.taken input p l.point) → (x : Passes before.left l.point) → IsLastBefore (lay.address stops) (trace m input (state_at lay items p)) (s.regs link - 4)
     from_jump n e l before x =
         let q = x.next in
         let rest = n - suc l.taken in
@@ -383,28 +383,28 @@ module _ (items : List Item) (words : List ℕ) (placed : Placed items words) wh
           past = stopped.1;
         })
 
-    left_by : HasCode lay p → Never input p → ((k : ℕ) → (course lay items k input p).end ≡ Exited code → LeavesBy lay items stops link input p k) → IsLastBefore (lay.address stops) (trace m input (state_at lay items p)) (s.regs link - 4)
+    left_by : HasCode lay p → Never input p → ((k : ℕ) → (course lay items k input p).end ≡ Exited code → LeavesByLinkJump lay items stops link input p k) → IsLastBefore (lay.address stops) (trace m input (state_at lay items p)) (s.regs link - 4)
     left_by has never leaves =
         let n = met m input p has never code s exited in
         let l = leaves n.0 n.1 in
         let before = led l.taken input p has never l.point l.stood in
         by_item n l before (one_item before.left l.point before.code before.never)
       where
-        by_item : (n : (n : ℕ) × ((course lay items n input p).end ≡ Exited code)) → (l : LeavesBy lay items stops link input p n.0) → (before : Led l.taken input p l.point) → Passes before.left l.point ⊎ Ends before.left l.point → IsLastBefore (lay.address stops) (trace m input (state_at lay items p)) (s.regs link - 4)
+        by_item : (n : (n : ℕ) × ((course lay items n input p).end ≡ Exited code)) → (l : LeavesByLinkJump lay items stops link input p n.0) → (before : Led l.taken input p l.point) → Passes before.left l.point ⊎ Ends before.left l.point → IsLastBefore (lay.address stops) (trace m input (state_at lay items p)) (s.regs link - 4)
         by_item n l before (inl x) = from_jump n.0 n.1 l before x
         by_item n l before (inr x) = absurd (x.no_jump link l.target l.jumps)
 
 -- ---- the laws
 
-pub items_leave : ItemsLeave
+pub items_leave : LastStepIsAtLinkJump
 items_leave items words placed p i stops link code has never leaves m s exited =
     left_by items words placed stops link code m s i p exited has never leaves
 
-pub stops_are_behind : StopsAreBehind
+pub stops_are_behind : ProceduresPrecedeStops
 stops_are_behind items words placed begins stand flows a is =
     let lay = placed.lay in
     let b = begin_at items lay placed.rises begins stand flows.instruction_behind a is in
-    let begin = ap (is_begin begins) b.here ∙ b.is in
+    let begin = ap (begins_procedure begins) b.here ∙ b.is in
     let next = flows.instruction_behind b.item begin in
     let before = flows.procedures_before b.item begin in
     let top = slice_get_within items flows.stops (Label flows.first_stop.0) flows.first_stop.1 in
@@ -413,7 +413,7 @@ stops_are_behind items words placed begins stand flows a is =
     let up = addresses_rise items lay placed.rises (suc (suc b.item)) flows.stops (apart flows b.item next before) (omega arith) in
     omega (arith, b.at)
   where
-    apart : (flows : Flows begins items) (n : ℕ) → is_instruction (slice_get items (suc n)) ≡ true → n < flows.stops → suc (suc n) ≤ flows.stops
+    apart : (flows : HasStructuredFlow begins items) (n : ℕ) → is_instruction (slice_get items (suc n)) ≡ true → n < flows.stops → suc (suc n) ≤ flows.stops
     apart flows n next before = elim (cases_eq (suc n) flows.stops) [
       | inl same ↦ absurd (true≢false (sym next ∙ ap is_instruction (ap (λ k. slice_get items k) same ∙ flows.first_stop.1)))
       | inr other ↦ omega arith
@@ -426,7 +426,7 @@ drop_there (j ∷ items) zero i e = ap (λ x. x ∷ items) (same_Some _ _ e)
 drop_there (j ∷ items) (suc n) i e = drop_there items n i e
 
 -- labels and plain instructions take just the words that they count
-stops_take : (items : List Item) (layout : Layout) → Rises items layout → (from : ℕ) → ((n : ℕ) (i : Item) → from ≤ n → slice_get items n ≡ Some i → IsStop i) → (k n : ℕ) → from ≤ n → n + k ≡ length items → layout.address n + 4 * size_of (drop n items) ≡ layout.address (length items)
+stops_take : (items : List Item) (layout : Layout) → AddressesRise items layout → (from : ℕ) → ((n : ℕ) (i : Item) → from ≤ n → slice_get items n ≡ Some i → IsStopItem i) → (k n : ℕ) → from ≤ n → n + k ≡ length items → layout.address n + 4 * size_of (drop n items) ≡ layout.address (length items)
 stops_take items layout rises from all zero n le e =
     let none : size_of (drop n items) ≡ 0 = ap size_of (drop_past items n (omega arith)) in
     let same : layout.address n ≡ layout.address (length items) = ap (λ k. layout.address k) (omega arith) in
@@ -435,7 +435,7 @@ stops_take items layout rises from all (suc k) n le e =
     let x = there items n (omega arith) in
     by_item x.0 x.1 (all n x.0 le x.1) (stops_take items layout rises from all k (suc n) (omega arith) (omega arith))
   where
-    by_item : (i : Item) → slice_get items n ≡ Some i → IsStop i → layout.address (suc n) + 4 * size_of (drop (suc n) items) ≡ layout.address (length items) → layout.address n + 4 * size_of (drop n items) ≡ layout.address (length items)
+    by_item : (i : Item) → slice_get items n ≡ Some i → IsStopItem i → layout.address (suc n) + 4 * size_of (drop (suc n) items) ≡ layout.address (length items) → layout.address n + 4 * size_of (drop n items) ≡ layout.address (length items)
     by_item (Label l) at stop rest =
         let sizes : size_of (drop n items) ≡ 0 + size_of (drop (suc n) items) = ap size_of (drop_there items n (Label l) at) in
         let none = rises.labels n l at in

@@ -3,12 +3,12 @@ use Rattle.std.proofs.Common.{◌≡◌, ℕ, zero, suc, ◌+◌, ◌-◌, ◌<�
 use Rattle.rv32_machine.specs.Steps.{State, Outcome, Next as Next', Written as Written', Asked as Asked', Ended as Ended', Trapped as Trapped', step, given}
 use Rattle.rv32_machine.specs.Runs.{Run, Going as Going', stands as stands', onward as onward', run}
 use Rattle.rv32_machine.proofs.Composed.{run_none, run_more}
-use Rattle.rv32_steps.specs.Seen.{of_machine, finish_of as finish_of'}
+use Rattle.rv32_steps.specs.Seen.{observed_machine, finish_of as finish_of'}
 use Rattle.rv32_steps.specs.Trace.{trace, trace_after, procedures_at, procedure_from, is_one_of}
 use Rattle.rv32_items.specs.declared.Item.{Item}
 use Rattle.rv32_items.specs.Course.{Layout, Point, Course, Going, stands, after, onward, course, turn, state_at, label_of}
-use Rattle.rv32_items.specs.Placed.{Climbs}
-use Rattle.rv32_items.specs.Told.{of_items, finish_of}
+use Rattle.rv32_items.specs.Placed.{StepsAtRisingPcs}
+use Rattle.rv32_items.specs.Told.{observed_items, finish_of}
 use Rattle.rv32_items.proofs.Addresses.{not_one}
 
 -- a run and a course have written the same, left the same of the input, and stand alike
@@ -17,7 +17,7 @@ pub record Same (r : Run) (c : Course) : Type 0 where
   pub left : r.left ≡ c.left
   pub finish : finish_of' r.end ≡ finish_of c.end
 
-pub same_seen : (lay : Layout) (items : List Item) (p : Point) (input : List ℕ) (m k : ℕ) → Same (run m input (state_at lay items p)) (course lay items k input p) → of_machine (state_at lay items p) input m ≡ of_items lay items p input k
+pub same_seen : (lay : Layout) (items : List Item) (p : Point) (input : List ℕ) (m k : ℕ) → Same (run m input (state_at lay items p)) (course lay items k input p) → observed_machine (state_at lay items p) input m ≡ observed_items lay items p input k
 same_seen lay items p input m k h = λ j. record { out = h.out j; used = length input - length (h.left j); finish = h.finish j }
 
 pub course_none : (lay : Layout) (items : List Item) (input : List ℕ) (p : Point) → course lay items 0 input p ≡ stands input (Going p)
@@ -39,7 +39,7 @@ trace_more m input s = refl
 -- ---- the steps of an item
 
 module _ (i : Item) (end : ℕ) (t : State) where
-  pub climbs_run : (k : ℕ) (s : State) → Climbs i k end s t → (m : ℕ) (input : List ℕ) → run (k + m) input s ≡ run m input t
+  pub climbs_run : (k : ℕ) (s : State) → StepsAtRisingPcs i k end s t → (m : ℕ) (input : List ℕ) → run (k + m) input s ≡ run m input t
   climbs_run zero s h m input =
       let e : 0 + m ≡ m = omega arith in
       ap (λ n. run n input s) e ∙ ap (run m input) h.1
@@ -51,20 +51,20 @@ module _ (i : Item) (end : ℕ) (t : State) where
       ap (λ n. run n input s) e ∙ run_more (suc k + m) input s ∙ ap (onward' (run (suc k + m)) input s) h.1.1.0 ∙ climbs_run (suc k) h.0 h.1.1.1.1 m input
 
   -- before the last of the steps the machine goes on
-  pub climbs_part : (k : ℕ) (s : State) → Climbs i (suc k) end s t → (m : ℕ) → m ≤ k → (input : List ℕ) → (u : State) × (run m input s ≡ stands' input (Going' u))
+  pub climbs_part : (k : ℕ) (s : State) → StepsAtRisingPcs i (suc k) end s t → (m : ℕ) → m ≤ k → (input : List ℕ) → (u : State) × (run m input s ≡ stands' input (Going' u))
   climbs_part k s h zero le input = (s, run_none input s)
   climbs_part zero s h (suc m) le input = absurd (omega arith)
   climbs_part (suc k) s h (suc m) le input =
       let r = climbs_part k h.0 h.1.1.1.1 m (omega arith) input in
       (r.0, run_more m input s ∙ ap (onward' (run m) input s) h.1.1.0 ∙ r.1)
 
-  pub climbs_below : (k : ℕ) (s : State) → Climbs i (suc k) end s t → s.pc < end
+  pub climbs_below : (k : ℕ) (s : State) → StepsAtRisingPcs i (suc k) end s t → s.pc < end
   climbs_below zero s h = h.0
   climbs_below (suc k) s h = let b = climbs_below k h.0 h.1.1.1.1 in let r = h.1.0 in omega arith
 
   module _ (addresses : List ℕ) where
     -- of the addresses of an item's steps the first one counts
-    pub climbs_trace : (k : ℕ) (s : State) → Climbs i (suc k) end s t → ((c : ℕ) → s.pc < c → c < end → is_one_of addresses c ≡ false) → (m : ℕ) (input : List ℕ) → procedures_at addresses (trace (suc k + m) input s) ≡ procedure_from 0 addresses s.pc ++ procedures_at addresses (trace m input t)
+    pub climbs_trace : (k : ℕ) (s : State) → StepsAtRisingPcs i (suc k) end s t → ((c : ℕ) → s.pc < c → c < end → is_one_of addresses c ≡ false) → (m : ℕ) (input : List ℕ) → procedures_at addresses (trace (suc k + m) input s) ≡ procedure_from 0 addresses s.pc ++ procedures_at addresses (trace m input t)
     climbs_trace zero s h none m input =
         let e : 1 + m ≡ suc m = omega arith in
         ap (λ n. procedures_at addresses (trace n input s)) e ∙ ap (procedures_at addresses) (trace_more m input s)
@@ -79,7 +79,7 @@ module _ (i : Item) (end : ℕ) (t : State) where
         ∙ ap (λ o. procedure_from 0 addresses s.pc ++ procedures_at addresses (trace_after (trace (suc k + m)) input s o)) h.1.1.0
         ∙ ap (λ way. procedure_from 0 addresses s.pc ++ way) (rest ∙ ap (λ f. f ++ procedures_at addresses (trace m input t)) (not_one 0 addresses u.pc (none u.pc up below)))
 
-    pub climbs_trace_part : (k : ℕ) (s : State) → Climbs i (suc k) end s t → ((c : ℕ) → s.pc < c → c < end → is_one_of addresses c ≡ false) → (m : ℕ) → m ≤ k → (input : List ℕ) → procedures_at addresses (trace (suc m) input s) ≡ procedure_from 0 addresses s.pc ++ []
+    pub climbs_trace_part : (k : ℕ) (s : State) → StepsAtRisingPcs i (suc k) end s t → ((c : ℕ) → s.pc < c → c < end → is_one_of addresses c ≡ false) → (m : ℕ) → m ≤ k → (input : List ℕ) → procedures_at addresses (trace (suc m) input s) ≡ procedure_from 0 addresses s.pc ++ []
     climbs_trace_part k s h none zero le input =
         ap (procedures_at addresses) (trace_more 0 input s) ∙ ap (λ way. procedure_from 0 addresses s.pc ++ procedures_at addresses way) (none_behind (step s))
       where

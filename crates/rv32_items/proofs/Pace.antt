@@ -18,9 +18,9 @@ use Rattle.rv32_items.specs.declared.Item.TheVariants.{Label, Plain, Branch, Jum
 use Rattle.rv32_items.specs.Course.{Layout, Point, Course, Turn, Next, Written, Asked, Ended, Trapped, turn, turn_of, state_at, behind, kind_of, label_of, Exited, stands, after, onward, course}
 use Rattle.rv32_items.specs.Placed.{size, size_of, times, steps, Does, Placed}
 use Rattle.rv32_items.specs.Told.{is_call, returns, home_by, ReturnsHome}
-use Rattle.rv32_items.specs.Flows.{is_begin, GoesOn, Flows}
+use Rattle.rv32_items.specs.Flows.{begins_procedure, IsForwardTransfer, HasStructuredFlow}
 use Rattle.rv32_items.specs.Laws.{HasCode}
-use Rattle.rv32_items.specs.Pace.{ItemsKeepPace}
+use Rattle.rv32_items.specs.Pace.{ItemsBoundSteps}
 use Rattle.rv32_items.proofs.Addresses.{not_one}
 use Rattle.rv32_items.proofs.CodeAfterTurn.{turn_is, GoodTurn}
 use Rattle.rv32_items.proofs.Moments.{Same, same_seen, course_none, climbs_run}
@@ -81,7 +81,7 @@ module _ (begins : List ℕ) where
       go true h rest = refl
       go false h rest = rest h
 
-  procedure_passed : (o : Option Item) (c : Course) → is_begin begins o ≡ true → passed_procedures (after [] (label_of o) c) ≡ suc (passed_procedures c)
+  procedure_passed : (o : Option Item) (c : Course) → begins_procedure begins o ≡ true → passed_procedures (after [] (label_of o) c) ≡ suc (passed_procedures c)
   procedure_passed None c h = absurd (true≢false (sym h))
   procedure_passed (Some (Plain i)) c h = absurd (true≢false (sym h))
   procedure_passed (Some (Branch x y z l)) c h = absurd (true≢false (sym h))
@@ -90,14 +90,14 @@ module _ (begins : List ℕ) where
       let both = length-append (procedure_from 0 begins l) (procedures_at begins c.passed) in
       omega (arith, both, one_there 0 begins l h)
 
-  none_passed : (o : Option Item) (c : Course) → is_begin begins o ≡ false → passed_procedures (after [] (label_of o) c) ≡ passed_procedures c
+  none_passed : (o : Option Item) (c : Course) → begins_procedure begins o ≡ false → passed_procedures (after [] (label_of o) c) ≡ passed_procedures c
   none_passed None c h = refl
   none_passed (Some (Plain i)) c h = refl
   none_passed (Some (Branch x y z l)) c h = refl
   none_passed (Some (Jump k l)) c h = refl
   none_passed (Some (Label l)) c h = ap (λ f. length (f ++ procedures_at begins c.passed)) (not_one 0 begins l h)
 
-  begin_size : (o : Option Item) (i : Item) → o ≡ Some i → is_begin begins o ≡ true → size i ≡ 0
+  begin_size : (o : Option Item) (i : Item) → o ≡ Some i → begins_procedure begins o ≡ true → size i ≡ 0
   begin_size None i e h = cc
   begin_size (Some (Label l)) i e h = let same : Label l ≡ i = cc in ap size (sym same)
   begin_size (Some (Plain x)) i e h = absurd (true≢false (sym h))
@@ -106,7 +106,7 @@ module _ (begins : List ℕ) where
 
 -- ---- what is left to do
 
-module _ (items : List Item) (words : List ℕ) (placed : Placed items words) (begins : List ℕ) (stand : (b : ℕ) → is_one_of begins b ≡ true → times b items ≡ 1) (flows : Flows begins items) where
+module _ (items : List Item) (words : List ℕ) (placed : Placed items words) (begins : List ℕ) (stand : (b : ℕ) → is_one_of begins b ≡ true → times b items ≡ 1) (flows : HasStructuredFlow begins items) where
   abbrev lay : Layout
   lay = placed.lay
 
@@ -118,7 +118,7 @@ module _ (items : List Item) (words : List ℕ) (placed : Placed items words) (b
   left_by b n = if b then 0 else size_from items n
 
   abbrev left_at : ℕ → ℕ
-  left_at n = left_by (is_begin begins (slice_get items n)) n
+  left_at n = left_by (begins_procedure begins (slice_get items n)) n
 
   -- behind the open calls
   abbrev left_behind : (calls : List ℕ) → ℕ
@@ -126,13 +126,13 @@ module _ (items : List Item) (words : List ℕ) (placed : Placed items words) (b
   left_behind (c ∷ calls) = size_from items c + left_behind calls
 
   left_less : (n : ℕ) → left_at n ≤ size_from items n
-  left_less n = go (is_begin begins (slice_get items n))
+  left_less n = go (begins_procedure begins (slice_get items n))
     where
       go : (b : Bool) → left_by b n ≤ size_from items n
       go true = omega arith
       go false = omega arith
 
-  none_left : (n : ℕ) → is_begin begins (slice_get items n) ≡ true → left_at n ≡ 0
+  none_left : (n : ℕ) → begins_procedure begins (slice_get items n) ≡ true → left_at n ≡ 0
   none_left n h = ap (λ b. left_by b n) h
 
   abbrev count_of : Course → ℕ
@@ -146,9 +146,9 @@ module _ (items : List Item) (words : List ℕ) (placed : Placed items words) (b
   -- one item more: its steps, and those of the rest, which has no more left than what stands behind the item
   one_more : (p : Point) (i : Item) → slice_get items p.item ≡ Some i → (calls : List ℕ) (k m left : ℕ) (c : Course) → k ≤ size i → left ≤ size_from items (suc p.item) + left_behind calls
       → m ≤ left + size_of items * count_of c → k + m ≤ (left_at p.item + left_behind calls) + size_of items * count_of (after [] (label_of (slice_get items p.item)) c)
-  one_more p i e calls k m left c few on rest = go (is_begin begins (slice_get items p.item)) refl
+  one_more p i e calls k m left c few on rest = go (begins_procedure begins (slice_get items p.item)) refl
     where
-      go : (b : Bool) → is_begin begins (slice_get items p.item) ≡ b → k + m ≤ (left_by b p.item + left_behind calls) + size_of items * count_of (after [] (label_of (slice_get items p.item)) c)
+      go : (b : Bool) → begins_procedure begins (slice_get items p.item) ≡ b → k + m ≤ (left_by b p.item + left_behind calls) + size_of items * count_of (after [] (label_of (slice_get items p.item)) c)
       go true h =
           let none = begin_size begins (slice_get items p.item) i e h in
           let more = procedure_passed begins (slice_get items p.item) c h in
@@ -174,7 +174,7 @@ module _ (items : List Item) (words : List ℕ) (placed : Placed items words) (b
       later : suc n ≤ t → left_at t ≤ size_from items (suc n)
       later le = omega (arith, left_less t, size_on items (suc n) t le)
 
-      by_way : (t ≡ suc n) ⊎ ((t ≤ length items) × GoesOn begins items flows.stops n t) → left_at t ≤ size_from items (suc n)
+      by_way : (t ≡ suc n) ⊎ ((t ≤ length items) × IsForwardTransfer begins items flows.stops n t) → left_at t ≤ size_from items (suc n)
       by_way (inl e) = later (omega arith)
       by_way (inr (top, inl on)) = later (omega (arith, on.0))
       by_way (inr (top, inr (inl begin))) = omega (arith, none_left t begin)
@@ -286,7 +286,7 @@ module _ (items : List Item) (words : List ℕ) (placed : Placed items words) (b
 
 -- ---- the law
 
-pub items_keep_pace : ItemsKeepPace
+pub items_keep_pace : ItemsBoundSteps
 items_keep_pace items words placed p i begins code first home stand flows n =
     let h = paced items words placed begins stand flows n i p [] code home in
     let left = left_less items words placed begins stand flows p.item in

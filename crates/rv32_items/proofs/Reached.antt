@@ -11,14 +11,14 @@ use Rattle.rv32_items.specs.declared.Item.{Item}
 use Rattle.rv32_items.specs.declared.Item.TheVariants.{Label, Plain, Branch, Jump}
 use Rattle.rv32_items.specs.Course.{Layout, Point, Course, Turn, Next, Written, Asked, Ended, Trapped, turn, turn_of, state_at, behind, kind_of, label_of, Going, Exited, stands, after, course, NeverTrapsOn}
 use Rattle.rv32_items.specs.Placed.{is_instruction, times, Does, steps, Placed}
-use Rattle.rv32_items.specs.Flows.{is_begin}
-use Rattle.rv32_items.specs.Laws.{HasCode, ItemsShow, ItemsAreReached}
+use Rattle.rv32_items.specs.Flows.{begins_procedure}
+use Rattle.rv32_items.specs.Laws.{HasCode, MachineMatchesItems, ItemsAreReached}
 use Rattle.rv32_items.proofs.CodeAfterTurn.{turn_is, Good, GoodTurn, turn_good, Fresh}
 use Rattle.rv32_items.proofs.Moments.{Same, same_seen, course_none, climbs_run}
 use Rattle.rv32_items.proofs.Enters.{entered, course_is, never_next, never_written, never_asked, no_trap}
 
 -- nothing begins where there are no procedures
-none_begins : (o : Option Item) → is_begin [] o ≡ false
+none_begins : (o : Option Item) → begins_procedure [] o ≡ false
 none_begins None = refl
 none_begins (Some (Label l)) = refl
 none_begins (Some (Plain i)) = refl
@@ -32,7 +32,7 @@ module _ (items : List Item) (words : List ℕ) (placed : Placed items words) wh
   pub none_stands : (b : ℕ) → is_one_of [] b ≡ true → times b items ≡ 1
   none_stands b h = absurd (true≢false (sym h))
 
-  pub none_behind : (n : ℕ) → is_begin [] (slice_get items n) ≡ true → is_instruction (slice_get items (suc n)) ≡ true
+  pub none_behind : (n : ℕ) → begins_procedure [] (slice_get items n) ≡ true → is_instruction (slice_get items (suc n)) ≡ true
   none_behind n h = absurd (true≢false (sym h ∙ none_begins (slice_get items n)))
 
   pub none_fresh : (n : ℕ) → Fresh [] items n
@@ -107,7 +107,7 @@ items_are_reached items words placed p i code never n =
     let h = reached items words placed n i p code never in
     (h.count, (h.few, same_seen placed.lay items p i h.count n h.same))
 
-pub items_show : ItemsShow
+pub items_show : MachineMatchesItems
 items_show items words placed p code never = record {
   there = λ i n. let h = items_are_reached items words placed p i code (never i) n in (h.0, h.1.1);
   back = λ i m.

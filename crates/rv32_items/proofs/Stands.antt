@@ -6,7 +6,7 @@ use Rattle.std.proofs.lemmas.Option.{same_Some}
 use Rattle.rv32_items.specs.declared.Item.{Item}
 use Rattle.rv32_items.specs.declared.Item.TheVariants.{Label, Plain, Branch, Jump}
 use Rattle.rv32_items.specs.Course.{is_label, label_from}
-use Rattle.rv32_items.specs.Placed.{times, Stands}
+use Rattle.rv32_items.specs.Placed.{times, LabelIsOnlyAt}
 
 abbrev label_is : ℕ → Item → Type 0
 label_is l i = i ≡ Label l
@@ -80,7 +80,7 @@ found l m (Branch c a b t ∷ items) h = later l m (Branch c a b t) items refl (
 found l m (Jump t j ∷ items) h = later l m (Jump t j) items refl (λ e. cc) (found l (suc m) items h)
 
 -- a label that stands once: the number of its item
-pub stands : (l : ℕ) (items : List Item) → times l items ≡ 1 → (n : ℕ) × ((label_from 0 items l ≡ Some n) × Stands items l n)
+pub stands : (l : ℕ) (items : List Item) → times l items ≡ 1 → (n : ℕ) × ((label_from 0 items l ≡ Some n) × LabelIsOnlyAt items l n)
 stands l items h =
     let f = found l 0 items h in
     let e : 0 + f.at ≡ f.at = omega arith in

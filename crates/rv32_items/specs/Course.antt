@@ -69,10 +69,10 @@ abbrev pub behind : (item : ℕ) → State → Point
 behind n s = record { regs = s.regs; item = suc n; memory = s.memory }
 
 -- where a course stands: it goes on, the program has exited with a code, or an item traps
-pub data End : Type 0 where
-  Going : Point → End
-  Exited : (code : ℕ) → End
-  Stopped : TrapKind → End
+pub data CourseEnd : Type 0 where
+  Going : Point → CourseEnd
+  Exited : (code : ℕ) → CourseEnd
+  Stopped : TrapKind → CourseEnd
 
 -- the bytes that a course wrote, the bytes of its input that are left, the labels that it passed,
 -- in order, and where it stands
@@ -80,9 +80,9 @@ pub record Course : Type 0 where
   pub out : List ℕ
   pub left : List ℕ
   pub passed : List ℕ
-  pub end : End
+  pub end : CourseEnd
 
-abbrev pub stands : (left : List ℕ) → End → Course
+abbrev pub stands : (left : List ℕ) → CourseEnd → Course
 stands left end = record { out = []; left = left; passed = []; end = end }
 
 -- a course, with bytes that were written and labels that were passed before it

@@ -7,29 +7,29 @@ use Rattle.rv32_steps.specs.Trace.{trace, is_one_of, IsLastBefore}
 use Rattle.rv32_items.specs.declared.Item.{Item}
 use Rattle.rv32_items.specs.Course.{Point, Exited, state_at, course, NeverTrapsOn}
 use Rattle.rv32_items.specs.Placed.{size_of, Placed}
-use Rattle.rv32_items.specs.Flows.{Flows}
-use Rattle.rv32_items.specs.Laws.{HasCode, addresses_of, StandOnce}
-use Rattle.rv32_items.specs.Leaving.{LeavesBy}
+use Rattle.rv32_items.specs.Flows.{HasStructuredFlow}
+use Rattle.rv32_items.specs.Laws.{HasCode, addresses_of, LabelsOccurOnce}
+use Rattle.rv32_items.specs.Leaving.{LeavesByLinkJump}
 
 -- where each course that exits with a code has left by a jump that links a register, a run of the
 -- machine that has exited so did its last step before the stops at that jump, 4 before what the
 -- register then has
-abbrev pub ItemsLeave : Type 0
-ItemsLeave =
+abbrev pub LastStepIsAtLinkJump : Type 0
+LastStepIsAtLinkJump =
     (items : List Item) (words : List ℕ) (placed : Placed items words)
     (p : Point) (i : List ℕ) (stops link code : ℕ)
     → HasCode placed.lay p → NeverTrapsOn placed.lay items i p
     → ((k : ℕ) → (course placed.lay items k i p).end ≡ Exited code
-    → LeavesBy placed.lay items stops link i p k)
+    → LeavesByLinkJump placed.lay items stops link i p k)
     → (m : ℕ) (s : State) → (run m i (state_at placed.lay items p)).end ≡ Exited' code s
     → IsLastBefore (placed.lay.address stops) (trace m i (state_at placed.lay items p))
     (s.regs link - 4)
 
 -- all procedures lie before the stops
-abbrev pub StopsAreBehind : Type 0
-StopsAreBehind =
+abbrev pub ProceduresPrecedeStops : Type 0
+ProceduresPrecedeStops =
     (items : List Item) (words : List ℕ) (placed : Placed items words) (begins : List ℕ)
-    → StandOnce begins items → (flows : Flows begins items) → (a : ℕ)
+    → LabelsOccurOnce begins items → (flows : HasStructuredFlow begins items) → (a : ℕ)
     → is_one_of (addresses_of placed.lay items begins) a ≡ true
     → a < placed.lay.address flows.stops
 
@@ -37,5 +37,5 @@ StopsAreBehind =
 abbrev pub StopsAreLast : Type 0
 StopsAreLast =
     (items : List Item) (words : List ℕ) (placed : Placed items words) (begins : List ℕ)
-    → (flows : Flows begins items)
+    → (flows : HasStructuredFlow begins items)
     → placed.lay.address flows.stops + 4 * size_of (drop flows.stops items) ≡ end_of placed.lay.code

@@ -7,7 +7,7 @@ use Rattle.rv32_items.specs.Course.{Layout, Point, Going, course}
 -- Within k items a course leaves the items before the stops by a jump that links a register: after
 -- so many items it stands at the jump, and behind it at the stops alone, with the address behind
 -- the jump in that register.
-pub record LeavesBy (lay : Layout) (items : List Item) (stops link : ℕ) (input : List ℕ)
+pub record LeavesByLinkJump (lay : Layout) (items : List Item) (stops link : ℕ) (input : List ℕ)
     (start : Point) (k : ℕ) : Type 0 where
   pub taken : ℕ
   pub within : taken < k

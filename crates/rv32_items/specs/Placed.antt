@@ -10,6 +10,7 @@ use Rattle.rv32_items.specs.declared.Item.{Item}
 use Rattle.rv32_items.specs.declared.Item.TheVariants.{Label, Plain, Branch, Jump}
 use Rattle.rv32_items.specs.Course.{Layout, Point, Turn, Next, Written, Asked, Ended, Trapped, turn, state_at, kind_of}
 use Rattle.rv32_items.specs.Told.{is_call, returns}
+use Rattle.limits.specs.Limits.{code_start}
 
 -- ---- what can be placed
 
@@ -60,7 +61,7 @@ LabelsStand items =
     (n l : ℕ) (i : Item) → slice_get items n ≡ Some i → target_of i ≡ Some l → times l items ≡ 1
 
 -- a label stands at item n alone
-pub record Stands (items : List Item) (l n : ℕ) : Type 0 where
+pub record LabelIsOnlyAt (items : List Item) (l n : ℕ) : Type 0 where
   pub here : slice_get items n ≡ Some (Label l)
   pub once : (k : ℕ) → slice_get items k ≡ Some (Label l) → k ≡ n
 
@@ -72,7 +73,7 @@ AllPlain items = (n : ℕ) (i : Item) → slice_get items n ≡ Some i → IsPla
 -- addresses from the code's first on, each a multiple of four: a label takes no word, every other
 -- item at least one and at most its size. A branch or jump that is taken changes x7 at most beside
 -- its link, and x0, which reads zero
-pub record Rises (items : List Item) (lay : Layout) : Type 0 where
+pub record AddressesRise (items : List Item) (lay : Layout) : Type 0 where
   pub first : lay.address 0 ≡ lay.code.first
   pub fixed : lay.code.write ≡ false
   pub runs : lay.code.exec ≡ true
@@ -97,16 +98,17 @@ pub record Closes (i : Item) (end : ℕ) (s : State) : Type 0 where
 
 -- in so many steps that only go on, at rising addresses of which the last is below `end`, from s to
 -- t: none for a label, and at least one for an instruction
-abbrev pub Climbs : Item → ℕ → (end : ℕ) → State → State → Type 0
-Climbs i zero end s t = (is_instruction (Some i) ≡ false) × (s ≡ t)
-Climbs i (suc zero) end s t = (s.pc < end) × ((step s ≡ Next' t) × Closes i end s)
-Climbs i (suc (suc k)) end s t =
+abbrev pub StepsAtRisingPcs : Item → ℕ → (end : ℕ) → State → State → Type 0
+StepsAtRisingPcs i zero end s t = (is_instruction (Some i) ≡ false) × (s ≡ t)
+StepsAtRisingPcs i (suc zero) end s t = (s.pc < end) × ((step s ≡ Next' t) × Closes i end s)
+StepsAtRisingPcs i (suc (suc k)) end s t =
     (u : State) × ((s.pc < u.pc) × ((step s ≡ Next' u)
-    × ((returns' (instruction_at s) ≡ false) × Climbs i (suc k) end u t)))
+    × ((returns' (instruction_at s) ≡ false) × StepsAtRisingPcs i (suc k) end u t)))
 
 -- the machine does what the turn of item n says, in k steps within the item's words
 abbrev pub Does : Layout → (items : List Item) → (n : ℕ) → Item → (k : ℕ) → State → Turn → Type 0
-Does lay items n i k s (Next p) = Climbs i k (lay.address (suc n)) s (state_at lay items p)
+Does lay items n i k s (Next p) =
+    StepsAtRisingPcs i k (lay.address (suc n)) s (state_at lay items p)
 Does lay items n i k s (Written a len bytes p) =
     (k ≡ 1) × (step s ≡ Written' a len bytes (state_at lay items p))
 Does lay items n i k s (Asked a) = (k ≡ 1) × (step s ≡ Asked' a)
@@ -122,9 +124,9 @@ steps s i = size i
 -- the words are those of the code's segment, and do item by item what the items do
 pub record Placed (items : List Item) (words : List ℕ) : Type 0 where
   pub lay : Layout
-  pub at_first : lay.code.first ≡ 65536
+  pub at_first : lay.code.first ≡ code_start
   pub code : lay.code.bytes ≡ words_bytes words
-  pub rises : Rises items lay
+  pub rises : AddressesRise items lay
   pub few : length words ≤ size_of items
   pub some : (n : ℕ) → is_instruction (slice_get items n) ≡ true → 0 < length words
   pub does : (p : Point) (i : Item) (rest : List Stretch) → p.memory ≡ lay.code ∷ rest

@@ -1,20 +1,20 @@
 -- What is seen of items that run, and how they go forward.
 use Rattle.std.specs.Prelude.{◌≡◌, ℕ, zero, suc, ◌-◌, Bool, true, false, nat_eq, List, [], ◌∷◌, drop, length, Option, Some, slice_get}
-use Rattle.headline.specs.Carries.{Finish, runs, exits, traps, Machine}
+use Rattle.headline.specs.Carries.{MachineStatus, runs, exits, traps, Machine}
 use Rattle.rv32_machine.specs.Steps.{given}
 use Rattle.rv32_steps.specs.Trace.{is_return}
 use Rattle.rv32_items.specs.declared.Item.{Item}
 use Rattle.rv32_items.specs.declared.Item.TheVariants.{Plain, Jump}
-use Rattle.rv32_items.specs.Course.{Layout, Point, Turn, Next, Written, Asked, Ended, Trapped, turn, state_at, behind, End, Going, Exited, Stopped, course}
+use Rattle.rv32_items.specs.Course.{Layout, Point, Turn, Next, Written, Asked, Ended, Trapped, turn, state_at, behind, CourseEnd, Going, Exited, Stopped, course}
 
-abbrev pub finish_of : End → Finish
+abbrev pub finish_of : CourseEnd → MachineStatus
 finish_of (Going p) = runs
 finish_of (Exited code) = exits code
 finish_of (Stopped kind) = traps
 
 -- what is seen of the items from a point on
-abbrev pub of_items : Layout → List Item → Point → Machine
-of_items lay items p i k =
+abbrev pub observed_items : Layout → List Item → Point → Machine
+observed_items lay items p i k =
     let c = course lay items k i p in
     record { out = c.out; used = length i - length c.left; finish = finish_of c.end }
 

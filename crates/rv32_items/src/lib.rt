@@ -3,7 +3,10 @@
 
 mod laws;
 
-pub use laws::{items_enter, items_go_forward, items_keep_pace, items_leave, items_show};
+pub use laws::{
+    items_bound_steps, last_step_is_at_link_jump, machine_enters_labels, machine_goes_forward,
+    machine_matches_items,
+};
 use rv32_isa::{Instr, Reg};
 use seq::Seq;
 

@@ -12,14 +12,14 @@ use Rattle.rv32_machine.specs.Memory.{Stretch, access, bytes_of}
 use Rattle.rv32_machine.specs.Arithmetic.{plus, pattern, is_taken, load_value, load_size, store_size}
 use Rattle.rv32_machine.specs.Steps.{State, Outcome, Next, Written, Asked, Ended, Trapped, step, act, set_reg, reg, load, loaded, store, stored, put, no_file, written, write_from, write_call, asked, read_call, call}
 use Rattle.rv32_steps.specs.Leads.{at}
-use Rattle.rv32_steps.specs.Straight.{value}
+use Rattle.rv32_steps.specs.Straight.{register_value}
 use Rattle.rv32_steps.specs.Trace.{is_return, instruction_at, writes_link, returns as returns'}
 use Rattle.rv32_items.specs.declared.Cond.{Cond}
 use Rattle.rv32_items.specs.declared.Cond.TheVariants.{Eq, Ne, Lt, Ge, Ltu, Geu}
 use Rattle.rv32_items.specs.declared.Item.{Item}
 use Rattle.rv32_items.specs.declared.Item.TheVariants.{Plain, Branch, Jump}
 use Rattle.rv32_items.specs.Course.{kind_of}
-use Rattle.rv32_items.specs.Placed.{IsPlain, is_jump, Climbs, Closes}
+use Rattle.rv32_items.specs.Placed.{IsPlain, is_jump, StepsAtRisingPcs, Closes}
 use Rattle.rv32_items.specs.Told.{is_call, returns}
 use Rattle.rv32_layout.specs.declared.form.Way.{Way}
 use Rattle.rv32_layout.specs.declared.form.Way.TheVariants.{ByBranch, ByJump, ByAddress}
@@ -91,7 +91,7 @@ jump_far_keeps ByAddress at to link r regs n0 n7 = go (nat_eq link 0)
 pub record Goes (i : Item) (most end : ℕ) (s t : State) : Type 0 where
   pub steps : ℕ
   pub few : steps ≤ most
-  pub climbs : Climbs i steps end s t
+  pub climbs : StepsAtRisingPcs i steps end s t
 
 -- the last instruction of an item, by what is read
 pub closes : (i : Item) (j : Instr) (end : ℕ) (s : State) → instruction_at s ≡ Some j → is_return j ≡ returns (Some i) → writes_link (Some j) ≡ is_call (Some i) → (is_jump i ≡ true → s.pc + 4 ≡ end) → Closes i end s
@@ -112,15 +112,15 @@ module _ (c : Stretch) (rest : List Stretch) where
   here regs pc = at regs pc (c ∷ rest)
 
   -- AUIPC and JALR, which close an item
-  by_address_goes : (i : Item) (through link from to pc end : ℕ) (regs : ℕ → ℕ) → returns (Some i) ≡ false → nat_eq link 1 ≡ is_call (Some i) → through ≢ 0 → (link ≡ 0 → through ≡ 1 → ⊥) → from ≤ 268435457 → to ≤ 268435456 → pc ≡ address from → pc + 4 + 4 ≡ end → HasAll c pc (by_address through link from to) → Climbs i 2 end (here regs pc) (here (set_reg (set_reg regs through (halfway from to)) link (pc + 4 + 4)) (address to))
+  by_address_goes : (i : Item) (through link from to pc end : ℕ) (regs : ℕ → ℕ) → returns (Some i) ≡ false → nat_eq link 1 ≡ is_call (Some i) → through ≢ 0 → (link ≡ 0 → through ≡ 1 → ⊥) → from ≤ 268435457 → to ≤ 268435456 → pc ≡ address from → pc + 4 + 4 ≡ end → HasAll c pc (by_address through link from to) → StepsAtRisingPcs i 2 end (here regs pc) (here (set_reg (set_reg regs through (halfway from to)) link (pc + 4 + 4)) (address to))
   by_address_goes i through link from to pc end regs still links ne apart hf ht e last has =
       let half = halfway from to in
       let low = lower (distance from to) in
       let first : step (here regs pc) ≡ Next (here (set_reg regs through half) (pc + 4)) =
       auipc c pc regs rest through _ has.0.holds ∙ ap (λ p. Next (here (set_reg regs through (plus p (upper (distance from to) * 4096))) (pc + 4))) e in
-      let read : value (set_reg regs through half) through ≡ half =
+      let read : register_value (set_reg regs through half) through ≡ half =
       ap (λ b. if b then 0 else set_reg regs through half through) (ne_eqb through 0 ne) ∙ set_here regs through half in
-      let lands : plus (value (set_reg regs through half) through) (pattern low) / 2 * 2 ≡ address to =
+      let lands : plus (register_value (set_reg regs through half) through) (pattern low) / 2 * 2 ≡ address to =
       ap (λ v. plus v (pattern low) / 2 * 2) read ∙ distance_lands from to hf ht in
       let four : address to % 4 ≡ 0 = omega arith in
       let second = jalr c (pc + 4) (set_reg regs through half) rest link through (address to) low has.1.0.holds lands four in
@@ -128,7 +128,7 @@ module _ (c : Stretch) (rest : List Stretch) where
       (here (set_reg regs through half) (pc + 4), (omega arith, (first, (ap returns' (has.0.reads regs rest), (omega arith, (second, closed))))))
 
   -- a branch that is taken
-  pub branch_taken : (w : Way) (at to next : ℕ) (cond : Cond) (left right l : ℕ) (regs : ℕ → ℕ) → at ≤ 268435456 → to ≤ 268435456 → next ≡ at + branch_width w → HasAll c (address at) (branch_code w at to cond left right) → is_taken (kind_of cond) (value regs left) (value regs right) ≡ true → Goes (Branch cond left right l) 3 (address next) (here regs (address at)) (here (branch_far w at to regs) (address to))
+  pub branch_taken : (w : Way) (at to next : ℕ) (cond : Cond) (left right l : ℕ) (regs : ℕ → ℕ) → at ≤ 268435456 → to ≤ 268435456 → next ≡ at + branch_width w → HasAll c (address at) (branch_code w at to cond left right) → is_taken (kind_of cond) (register_value regs left) (register_value regs right) ≡ true → Goes (Branch cond left right l) 3 (address next) (here regs (address at)) (here (branch_far w at to regs) (address to))
   branch_taken ByBranch at to next cond left right l regs ha ht e has test =
       let four : address to % 4 ≡ 0 = omega arith in
       let closed = closes (Branch cond left right l) (Branch' (kind_of cond) left right (offset at to)) (address next) (here regs (address at)) (has.0.reads regs rest) refl refl (λ jump. cc) in
@@ -139,7 +139,7 @@ module _ (c : Stretch) (rest : List Stretch) where
       }
   branch_taken ByJump at to next cond left right l regs ha ht e has test =
       let four : address to % 4 ≡ 0 = omega arith in
-      let stays : is_taken (kind_of (opposite cond)) (value regs left) (value regs right) ≡ false = turned cond _ _ ∙ ap not test in
+      let stays : is_taken (kind_of (opposite cond)) (register_value regs left) (register_value regs right) ≡ false = turned cond _ _ ∙ ap not test in
       let first = not_taken c (address at) regs rest (kind_of (opposite cond)) left right (pos 8) has.0.holds stays in
       let word : address at + 4 ≡ address (at + 1) = omega arith in
       let link : address at + 4 + 4 ≡ address (at + 2) = omega arith in
@@ -153,12 +153,12 @@ module _ (c : Stretch) (rest : List Stretch) where
       }
   branch_taken ByAddress at to next cond left right l regs ha ht e has test =
       let i = Branch cond left right l in
-      let stays : is_taken (kind_of (opposite cond)) (value regs left) (value regs right) ≡ false = turned cond _ _ ∙ ap not test in
+      let stays : is_taken (kind_of (opposite cond)) (register_value regs left) (register_value regs right) ≡ false = turned cond _ _ ∙ ap not test in
       let first = not_taken c (address at) regs rest (kind_of (opposite cond)) left right (pos 12) has.0.holds stays in
       let word : address at + 4 ≡ address (at + 1) = omega arith in
       let link : address at + 4 + 4 + 4 ≡ address (at + 3) = omega arith in
       let more = by_address_goes i 7 0 (at + 1) to (address at + 4) (address next) regs refl refl (λ z. cc) (λ a b. cc) (omega arith) ht word (omega arith) has.1 in
-      let end = subst (λ v. Climbs i 2 (address next) (here regs (address at + 4)) (here (set_reg (set_reg regs 7 (halfway (at + 1) to)) 0 v) (address to))) link more in
+      let end = subst (λ v. StepsAtRisingPcs i 2 (address next) (here regs (address at + 4)) (here (set_reg (set_reg regs 7 (halfway (at + 1) to)) 0 v) (address to))) link more in
       record {
         steps = 3;
         few = omega arith;
@@ -166,7 +166,7 @@ module _ (c : Stretch) (rest : List Stretch) where
       }
 
   -- a branch that is not taken
-  pub branch_stays : (w : Way) (at to next : ℕ) (cond : Cond) (left right l : ℕ) (regs : ℕ → ℕ) → at ≤ 268435456 → next ≡ at + branch_width w → HasAll c (address at) (branch_code w at to cond left right) → is_taken (kind_of cond) (value regs left) (value regs right) ≡ false → Goes (Branch cond left right l) 1 (address next) (here regs (address at)) (here regs (address next))
+  pub branch_stays : (w : Way) (at to next : ℕ) (cond : Cond) (left right l : ℕ) (regs : ℕ → ℕ) → at ≤ 268435456 → next ≡ at + branch_width w → HasAll c (address at) (branch_code w at to cond left right) → is_taken (kind_of cond) (register_value regs left) (register_value regs right) ≡ false → Goes (Branch cond left right l) 1 (address next) (here regs (address at)) (here regs (address next))
   branch_stays ByBranch at to next cond left right l regs ha e has test =
       let behind : address at + 4 ≡ address next = omega arith in
       let closed = closes (Branch cond left right l) (Branch' (kind_of cond) left right (offset at to)) (address next) (here regs (address at)) (has.0.reads regs rest) refl refl (λ jump. cc) in
@@ -176,7 +176,7 @@ module _ (c : Stretch) (rest : List Stretch) where
         climbs = (omega arith, (not_taken c (address at) regs rest (kind_of cond) left right (offset at to) has.0.holds test ∙ ap (λ p. Next (here regs p)) behind, closed));
       }
   branch_stays ByJump at to next cond left right l regs ha e has test =
-      let goes : is_taken (kind_of (opposite cond)) (value regs left) (value regs right) ≡ true = turned cond _ _ ∙ ap not test in
+      let goes : is_taken (kind_of (opposite cond)) (register_value regs left) (register_value regs right) ≡ true = turned cond _ _ ∙ ap not test in
       let four : address next % 4 ≡ 0 = omega arith in
       let lands : plus (address at) 8 ≡ address next = omega arith in
       let closed = closes (Branch cond left right l) (Branch' (kind_of (opposite cond)) left right (pos 8)) (address next) (here regs (address at)) (has.0.reads regs rest) refl refl (λ jump. cc) in
@@ -186,7 +186,7 @@ module _ (c : Stretch) (rest : List Stretch) where
         climbs = (omega arith, (taken c (address at) regs rest (kind_of (opposite cond)) left right (pos 8) (address next) has.0.holds goes lands four, closed));
       }
   branch_stays ByAddress at to next cond left right l regs ha e has test =
-      let goes : is_taken (kind_of (opposite cond)) (value regs left) (value regs right) ≡ true = turned cond _ _ ∙ ap not test in
+      let goes : is_taken (kind_of (opposite cond)) (register_value regs left) (register_value regs right) ≡ true = turned cond _ _ ∙ ap not test in
       let four : address next % 4 ≡ 0 = omega arith in
       let lands : plus (address at) 12 ≡ address next = omega arith in
       let closed = closes (Branch cond left right l) (Branch' (kind_of (opposite cond)) left right (pos 12)) (address next) (here regs (address at)) (has.0.reads regs rest) refl refl (λ jump. cc) in
@@ -214,14 +214,14 @@ module _ (c : Stretch) (rest : List Stretch) where
       let more = by_address_goes (Jump link l) 7 link at to (address at) (address next) regs refl refl (λ s. cc) (λ a b. cc) (omega arith) ht refl behind has in
       let same : set_reg (set_reg regs 7 (halfway at to)) link (address at + 4 + 4) ≡ set_reg (set_reg regs link (address next)) 7 (halfway at to) =
       ap (λ v. set_reg (set_reg regs 7 (halfway at to)) link v) behind ∙ set_both regs 7 link (halfway at to) (address next) (λ s. omega arith) in
-      record { steps = 2; few = omega arith; climbs = subst (λ r. Climbs (Jump link l) 2 (address next) (here regs (address at)) (here r (address to))) same more }
+      record { steps = 2; few = omega arith; climbs = subst (λ r. StepsAtRisingPcs (Jump link l) 2 (address next) (here regs (address at)) (here r (address to))) same more }
   jump_by_address false at to next link l regs z ha ht e has =
       let some = eqb-false link 0 z in
       let behind : address at + 4 + 4 ≡ address next = omega arith in
       let more = by_address_goes (Jump link l) link link at to (address at) (address next) regs refl refl some (λ a b. some a) (omega arith) ht refl behind has in
       let same : set_reg (set_reg regs link (halfway at to)) link (address at + 4 + 4) ≡ set_reg regs link (address next) =
       ap (λ v. set_reg (set_reg regs link (halfway at to)) link v) behind ∙ set_again regs link (halfway at to) (address next) in
-      record { steps = 2; few = omega arith; climbs = subst (λ r. Climbs (Jump link l) 2 (address next) (here regs (address at)) (here r (address to))) same more }
+      record { steps = 2; few = omega arith; climbs = subst (λ r. StepsAtRisingPcs (Jump link l) 2 (address next) (here regs (address at)) (here r (address to))) same more }
 
   pub jump_goes : (w : Way) (at to next link l : ℕ) (regs : ℕ → ℕ) → at ≤ 268435456 → to ≤ 268435456 → next ≡ at + jump_width w → HasAll c (address at) (jump_code w at to link) → Goes (Jump link l) 3 (address next) (here regs (address at)) (here (jump_far w at to link (set_reg regs link (address next))) (address to))
   jump_goes ByBranch at to next link l regs ha ht e has = jump_near at to next link l regs ha ht e has

@@ -4,7 +4,7 @@ use Rattle.std.specs.Prelude.{is_some}
 use Rattle.std.proofs.lemmas.List.{append-nil}
 use Rattle.rv32_isa.specs.declared.instr.Instr.{Instr}
 use Rattle.rv32_isa.specs.Table.{instr_of}
-use Rattle.rv32_layout.specs.Places.{Encode, AllDecode, Puts}
+use Rattle.rv32_layout.specs.Places.{Encode, AllDecode, AppendsInstructions}
 
 pub encode_push : (is : List Instr) (ws : List ℕ) (i : Instr) (w : ℕ) → Encode is ws → instr_of w ≡ Some i → w < 2 ^ 32 → Encode (is ++ i ∷ []) (ws ++ w ∷ [])
 encode_push [] [] i w h is small = (is, (small, tt))
@@ -12,10 +12,10 @@ encode_push [] (v ∷ ws) i w h is small = absurd h
 encode_push (j ∷ js) [] i w h is small = absurd h
 encode_push (j ∷ js) (v ∷ ws) i w h is small = (h.0, (h.1.0, encode_push js ws i w h.1.1 is small))
 
-pub puts_none : (ws : List ℕ) → Puts [] ws ws
+pub puts_none : (ws : List ℕ) → AppendsInstructions [] ws ws
 puts_none ws before h = subst (λ is. Encode is ws) (sym (append-nil before)) h
 
-pub puts_both : (a b : List Instr) (u v w : List ℕ) → Puts a u v → Puts b v w → Puts (a ++ b) u w
+pub puts_both : (a b : List Instr) (u v w : List ℕ) → AppendsInstructions a u v → AppendsInstructions b v w → AppendsInstructions (a ++ b) u w
 puts_both a b u v w first second before h =
     subst (λ is. Encode is w) (append_assoc before a b) (second (before ++ a) (first before h))
 

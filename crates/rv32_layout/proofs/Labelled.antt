@@ -10,21 +10,21 @@ use Rattle.rv32_layout.specs.declared.form.Way.{Way}
 use Rattle.rv32_layout.specs.declared.spots.Spots.{Spots}
 use Rattle.rv32_layout.specs.Addresses.{IsPlacement}
 use Rattle.rv32_layout.specs.Places.{code, Encode}
-use Rattle.rv32_layout.specs.Spots.{KnowsPlaces, address_by}
+use Rattle.rv32_layout.specs.Spots.{KnowsLabelSpots, label_address}
 use Rattle.rv32_layout.proofs.Laid.{layout, laid}
 use Rattle.rv32_layout.proofs.Table.{in_table}
 
-module _ (items : List Item) (ways : List Way) (table : Spots) (known : KnowsPlaces items ways (length items) table) where
+module _ (items : List Item) (ways : List Way) (table : Spots) (known : KnowsLabelSpots items ways (length items) table) where
   addresses_are : (words : List ℕ) (from count : ℕ) → ((l : ℕ) → l < from + count → times l items ≡ 1)
-      → map (address_by table) (range_with_len from count) ≡ addresses_of (layout ways items words) items (range_with_len from count)
+      → map (label_address table) (range_with_len from count) ≡ addresses_of (layout ways items words) items (range_with_len from count)
   addresses_are words from zero once = refl
   addresses_are words from (suc count) once =
-      let here : address_by table from ≡ address_of (layout ways items words) items from = ap (λ o. 65536 + 4 * unwrap_or o 0) (in_table items ways table known from (once from (omega arith))) in
+      let here : label_address table from ≡ address_of (layout ways items words) items from = ap (λ o. 65536 + 4 * unwrap_or o 0) (in_table items ways table known from (once from (omega arith))) in
       let more = addresses_are words (from + 1) count (λ l lt. once l (omega arith)) in
       λ i. here i ∷ more i
 
   pub is_placement : size_of items ≤ 268435456 → LabelsStand items → AllPlain items → (labels : ℕ) → ((l : ℕ) → l < labels → times l items ≡ 1)
-      → (m : Placement) → Encode (code ways items (length items)) m.words.items → m.addresses.items ≡ map (address_by table) (range_with_len 0 labels) → IsPlacement items labels m
+      → (m : Placement) → Encode (code ways items (length items)) m.words.items → m.addresses.items ≡ map (label_address table) (range_with_len 0 labels) → IsPlacement items labels m
   is_placement few stand plain labels once m encode addresses =
       let there = laid ways items m.words.items few encode stand plain in
       record {

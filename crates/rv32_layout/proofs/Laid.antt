@@ -8,13 +8,13 @@ use Rattle.rv32_machine.specs.Memory.{Stretch, end_of}
 use Rattle.rv32_machine.specs.Arithmetic.{plus, is_taken}
 use Rattle.rv32_machine.specs.Steps.{State, Outcome, Next as Next', Written as Written', Asked as Asked', Ended as Ended', Trapped as Trapped', step, act, set_reg}
 use Rattle.rv32_steps.specs.Leads.{at}
-use Rattle.rv32_steps.specs.Straight.{value}
+use Rattle.rv32_steps.specs.Straight.{register_value}
 use Rattle.rv32_steps.specs.Trace.{is_return}
 use Rattle.rv32_items.specs.declared.Cond.{Cond}
 use Rattle.rv32_items.specs.declared.Item.{Item}
 use Rattle.rv32_items.specs.declared.Item.TheVariants.{Label, Plain, Branch, Jump}
 use Rattle.rv32_items.specs.Course.{Layout, Point, Turn, Next, turn, turn_of, plain, to_item, behind_plain, label_from, address_from, kind_of}
-use Rattle.rv32_items.specs.Placed.{size, size_of, IsPlain, AllPlain, LabelsStand, is_instruction, times, Rises, Climbs, Closes, Does, steps, Placed}
+use Rattle.rv32_items.specs.Placed.{size, size_of, IsPlain, AllPlain, LabelsStand, is_instruction, times, AddressesRise, StepsAtRisingPcs, Closes, Does, steps, Placed}
 use Rattle.rv32_layout.specs.declared.form.Way.{Way}
 use Rattle.rv32_layout.specs.Places.{place, code, code_at, width_in, way_at, goal, Encode}
 use Rattle.rv32_layout.proofs.Counts.{place_none, place_more, place_le, places_rise, code_length, code_split, width_le, width_some}
@@ -83,7 +83,7 @@ module _ (ways : List Way) (items : List Item) (words : List ℕ) (few : size_of
   rise n None e h = cc
   rise n (Some i) e h = let w = width_here n (Some i) e in let l = width_some (way_at ways n) i h in omega arith
 
-  lays_rise : Rises items lay
+  lays_rise : AddressesRise items lay
   lays_rise = record {
     first = ap address (place_none ways items);
     fixed = refl;
@@ -170,10 +170,10 @@ module _ (ways : List Way) (items : List Item) (words : List ℕ) (few : size_of
     -- to the label of an item, whose way leaves these registers
     to_label : (most n l : ℕ) (i : Item) (far far' : ℕ → ℕ) → label_from 0 items l ≡ Some (goal items i) → far' ≡ far → Goes i most (address (place ways items (suc n))) (before n) (at far (address (place ways items (goal items i))) (seg ∷ rest)) → Done most n i (before n) (to_item lay items (label_from 0 items l) far' (point n))
     to_label most n l i far far' there same g =
-        let climbs = subst (λ f. Climbs i g.steps (address (place ways items (suc n))) (before n) (at f (address (place ways items (goal items i))) (seg ∷ rest))) (sym same) g.climbs in
+        let climbs = subst (λ f. StepsAtRisingPcs i g.steps (address (place ways items (suc n))) (before n) (at f (address (place ways items (goal items i))) (seg ∷ rest))) (sym same) g.climbs in
         (g.steps, (g.few, subst (λ o. Does lay items n i g.steps (before n) (to_item lay items o far' (point n))) (sym there) climbs))
 
-    does_branch : (n : ℕ) (cond : Cond) (left right l : ℕ) → slice_get items n ≡ Some (Branch cond left right l) → label_from 0 items l ≡ Some (goal items (Branch cond left right l)) → (b : Bool) → is_taken (kind_of cond) (value regs left) (value regs right) ≡ b → Done (if b then 3 else 1) n (Branch cond left right l) (before n) (if b then to_item lay items (label_from 0 items l) (lay.far n regs) (point n) else Next (record { regs = regs; item = suc n; memory = seg ∷ rest }))
+    does_branch : (n : ℕ) (cond : Cond) (left right l : ℕ) → slice_get items n ≡ Some (Branch cond left right l) → label_from 0 items l ≡ Some (goal items (Branch cond left right l)) → (b : Bool) → is_taken (kind_of cond) (register_value regs left) (register_value regs right) ≡ b → Done (if b then 3 else 1) n (Branch cond left right l) (before n) (if b then to_item lay items (label_from 0 items l) (lay.far n regs) (point n) else Next (record { regs = regs; item = suc n; memory = seg ∷ rest }))
     does_branch n cond left right l e there true test =
         let i = Branch cond left right l in
         let w = way_at ways n in
@@ -199,7 +199,7 @@ module _ (ways : List Way) (items : List Item) (words : List ℕ) (few : size_of
     does_item labels plain n (Label l) e = does_label n l e
     does_item labels plain n (Plain i) e = does_plain n i (plain n (Plain i) e) e (is_return i) refl
     does_item labels plain n (Branch cond left right l) e =
-        does_branch n cond left right l e (has_goal l (labels n l (Branch cond left right l) e refl)) (is_taken (kind_of cond) (value regs left) (value regs right)) refl
+        does_branch n cond left right l e (has_goal l (labels n l (Branch cond left right l) e refl)) (is_taken (kind_of cond) (register_value regs left) (register_value regs right)) refl
     does_item labels plain n (Jump link l) e = does_jump n link l e (has_goal l (labels n l (Jump link l) e refl))
 
     does_turn : LabelsStand items → AllPlain items → (n : ℕ) (i : Item) → slice_get items n ≡ Some i → Done (steps (before n) i) n i (before n) (turn lay items (point n))

@@ -8,7 +8,7 @@ use Rattle.rv32_items.specs.declared.Item.TheVariants.{Label, Plain, Branch, Jum
 use Rattle.rv32_layout.specs.declared.form.Way.{Way}
 use Rattle.rv32_layout.specs.declared.form.Way.TheVariants.{ByBranch, ByJump, ByAddress}
 use Rattle.rv32_layout.specs.Forms.{Within, reaches, branch_range, jump_range, width, branch_width, jump_width, BranchGoes, JumpGoes, CanGo}
-use Rattle.rv32_layout.specs.Places.{way_at, width_in, place, goal, shortest_at, AllGo, NoLonger, Shortens}
+use Rattle.rv32_layout.specs.Places.{way_at, width_in, place, goal, shortest_at, AllReachTargets, NoLonger, Shortens}
 use Rattle.rv32_layout.proofs.Counts.{place_here, places_rise, shrinks}
 
 -- ---- less item is longer
@@ -71,7 +71,7 @@ shortest_no_longer items ways n (Jump link l) e go =
     let i = Jump link l in
     jump_no_longer (way_at ways n) (place ways items n) (place ways items (suc n)) (place ways items (goal items i)) (place_here ways items n i e) go
 
-pub no_longer : (items : List Item) (old new : List Way) → AllGo items old → Shortens items old new → NoLonger items old new
+pub no_longer : (items : List Item) (old new : List Way) → AllReachTargets items old → Shortens items old new → NoLonger items old new
 no_longer items old new go shortens n = at (slice_get items n) refl
   where
     at : (o : Option Item) → slice_get items n ≡ o → width_in (way_at new n) o ≤ width_in (way_at old n) o
@@ -116,14 +116,14 @@ item_goes items old new less n (Plain i) e p = tt
 item_goes items old new less n (Branch cond left right l) e p = branch_goes items old new less n (goal items (Branch cond left right l)) _ _ refl refl p
 item_goes items old new less n (Jump link l) e p = jump_goes items old new less n (goal items (Jump link l)) _ refl p
 
-pub all_go : (items : List Item) (old new : List Way) → NoLonger items old new → Shortens items old new → AllGo items new
+pub all_go : (items : List Item) (old new : List Way) → NoLonger items old new → Shortens items old new → AllReachTargets items new
 all_go items old new less shortens n i e =
     let way = shortens n i e in
     let p = place_here new items n i e ∙ ap (λ w. place new items n + width w i) way in
     subst (λ w. CanGo w (place new items n) (place new items (goal items i)) i) (sym way) (item_goes items old new less n i e p)
 
 -- the longest ways go everywhere
-pub long_go : (items : List Item) → AllGo items []
+pub long_go : (items : List Item) → AllReachTargets items []
 long_go items n (Label l) e = tt
 long_go items n (Plain i) e = tt
 long_go items n (Branch cond left right l) e = tt

@@ -12,10 +12,10 @@ use Rattle.rv32_machine.specs.declared.memory.Right.TheVariants.{Execute}
 use Rattle.rv32_machine.specs.declared.machine.TrapKind.TheVariants.{MisalignedJump}
 use Rattle.rv32_machine.specs.Memory.{Stretch, end_of, access, read_at, bytes_of, little_endian}
 use Rattle.rv32_machine.specs.Arithmetic.{plus, pattern, is_taken}
-use Rattle.rv32_machine.specs.Steps.{Outcome, Next, Trapped, step, fetched, act_on, set_reg, jump}
+use Rattle.rv32_machine.specs.Steps.{Outcome, Next, Trapped, step, fetch_and_execute, act_on, set_reg, jump}
 use Rattle.rv32_steps.specs.Leads.{at}
-use Rattle.rv32_steps.specs.Code.{Holds}
-use Rattle.rv32_steps.specs.Straight.{value}
+use Rattle.rv32_steps.specs.Code.{InstructionIsAt}
+use Rattle.rv32_steps.specs.Straight.{register_value}
 use Rattle.rv32_steps.specs.Trace.{decoded, instruction_at}
 use Rattle.rv32_steps.proofs.Fetch.{in_first, four_back, cut}
 use Rattle.rv32_layout.specs.Places.{Encode}
@@ -26,30 +26,30 @@ module _ (c : Stretch) (pc : ℕ) (regs : ℕ → ℕ) (rest : List Stretch) whe
       let aligned : nat_eq (to % 4) 0 ≡ true = grind (arith, nat_tests) in
       ap (λ t. jump t (o t)) e ∙ ap (λ b. if b then o to else Trapped MisalignedJump) aligned
 
-  pub jal : (rd : ℕ) (off : ℤ) (to : ℕ) → Holds c pc (Jal rd off) → plus pc (pattern off) ≡ to → to % 4 ≡ 0 → step (at regs pc (c ∷ rest)) ≡ Next (at (set_reg regs rd (pc + 4)) to (c ∷ rest))
+  pub jal : (rd : ℕ) (off : ℤ) (to : ℕ) → InstructionIsAt c pc (Jal rd off) → plus pc (pattern off) ≡ to → to % 4 ≡ 0 → step (at regs pc (c ∷ rest)) ≡ Next (at (set_reg regs rd (pc + 4)) to (c ∷ rest))
   jal rd off to h e four =
       h.steps regs rest
       ∙ jumps (plus pc (pattern off)) to (λ t. Next (at (set_reg regs rd (plus pc 4)) t (c ∷ rest))) e four
       ∙ ap (λ p. Next (at (set_reg regs rd p) to (c ∷ rest))) h.next
 
-  pub auipc : (rd imm : ℕ) → Holds c pc (Auipc rd imm) → step (at regs pc (c ∷ rest)) ≡ Next (at (set_reg regs rd (plus pc (imm * 4096))) (pc + 4) (c ∷ rest))
+  pub auipc : (rd imm : ℕ) → InstructionIsAt c pc (Auipc rd imm) → step (at regs pc (c ∷ rest)) ≡ Next (at (set_reg regs rd (plus pc (imm * 4096))) (pc + 4) (c ∷ rest))
   auipc rd imm h =
       h.steps regs rest ∙ ap (λ p. Next (at (set_reg regs rd (plus pc (imm * 4096))) p (c ∷ rest))) h.next
 
-  pub jalr : (rd rs1 to : ℕ) (imm : ℤ) → Holds c pc (Jalr rd rs1 imm) → plus (value regs rs1) (pattern imm) / 2 * 2 ≡ to → to % 4 ≡ 0 → step (at regs pc (c ∷ rest)) ≡ Next (at (set_reg regs rd (pc + 4)) to (c ∷ rest))
+  pub jalr : (rd rs1 to : ℕ) (imm : ℤ) → InstructionIsAt c pc (Jalr rd rs1 imm) → plus (register_value regs rs1) (pattern imm) / 2 * 2 ≡ to → to % 4 ≡ 0 → step (at regs pc (c ∷ rest)) ≡ Next (at (set_reg regs rd (pc + 4)) to (c ∷ rest))
   jalr rd rs1 to imm h e four =
       h.steps regs rest
-      ∙ jumps (plus (value regs rs1) (pattern imm) / 2 * 2) to (λ t. Next (at (set_reg regs rd (plus pc 4)) t (c ∷ rest))) e four
+      ∙ jumps (plus (register_value regs rs1) (pattern imm) / 2 * 2) to (λ t. Next (at (set_reg regs rd (plus pc 4)) t (c ∷ rest))) e four
       ∙ ap (λ p. Next (at (set_reg regs rd p) to (c ∷ rest))) h.next
 
-  pub taken : (kind : BranchKind) (rs1 rs2 : ℕ) (off : ℤ) (to : ℕ) → Holds c pc (Branch kind rs1 rs2 off) → is_taken kind (value regs rs1) (value regs rs2) ≡ true → plus pc (pattern off) ≡ to → to % 4 ≡ 0 → step (at regs pc (c ∷ rest)) ≡ Next (at regs to (c ∷ rest))
+  pub taken : (kind : BranchKind) (rs1 rs2 : ℕ) (off : ℤ) (to : ℕ) → InstructionIsAt c pc (Branch kind rs1 rs2 off) → is_taken kind (register_value regs rs1) (register_value regs rs2) ≡ true → plus pc (pattern off) ≡ to → to % 4 ≡ 0 → step (at regs pc (c ∷ rest)) ≡ Next (at regs to (c ∷ rest))
   taken kind rs1 rs2 off to h t e four =
       let target = plus pc (pattern off) in
       h.steps regs rest
       ∙ ap (λ b. if b then jump target (Next (at regs target (c ∷ rest))) else Next (at regs (plus pc 4) (c ∷ rest))) t
       ∙ jumps target to (λ t. Next (at regs t (c ∷ rest))) e four
 
-  pub not_taken : (kind : BranchKind) (rs1 rs2 : ℕ) (off : ℤ) → Holds c pc (Branch kind rs1 rs2 off) → is_taken kind (value regs rs1) (value regs rs2) ≡ false → step (at regs pc (c ∷ rest)) ≡ Next (at regs (pc + 4) (c ∷ rest))
+  pub not_taken : (kind : BranchKind) (rs1 rs2 : ℕ) (off : ℤ) → InstructionIsAt c pc (Branch kind rs1 rs2 off) → is_taken kind (register_value regs rs1) (register_value regs rs2) ≡ false → step (at regs pc (c ∷ rest)) ≡ Next (at regs (pc + 4) (c ∷ rest))
   not_taken kind rs1 rs2 off h t =
       let target = plus pc (pattern off) in
       h.steps regs rest
@@ -71,7 +71,7 @@ word_bytes w ws =
 
 -- an instruction is in memory: it stands there, and it is what is read there
 pub record Has (c : Stretch) (pc : ℕ) (i : Instr) : Type 0 where
-  pub holds : Holds c pc i
+  pub holds : InstructionIsAt c pc i
   pub reads : (regs : ℕ → ℕ) (rest : List Stretch) → instruction_at (at regs pc (c ∷ rest)) ≡ Some i
 
 abbrev pub HasAll : Stretch → ℕ → List Instr → Type 0
@@ -97,8 +97,8 @@ has c pc w i x four lo hi top is small bytes =
       holds = record {
         steps = λ regs rest.
             let s = at regs pc (c ∷ rest) in
-            ap (λ b. if b then fetched s (access Execute (c ∷ rest) pc 4) else Trapped MisalignedJump) aligned
-            ∙ ap (fetched s) (in_first Execute c rest pc 4 x lo hi (omega arith))
+            ap (λ b. if b then fetch_and_execute s (access Execute (c ∷ rest) pc 4) else Trapped MisalignedJump) aligned
+            ∙ ap (fetch_and_execute s) (in_first Execute c rest pc 4 x lo hi (omega arith))
             ∙ ap (λ v. act_on s v (instr_of v)) word
             ∙ ap (act_on s w) is;
         next = omega arith;

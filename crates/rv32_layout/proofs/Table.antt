@@ -5,12 +5,12 @@ use Rattle.std.proofs.lemmas.Bool.{cases_eq, eqb-true, eq-eqb, true≢false}
 use Rattle.std.proofs.lemmas.Option.{same_Some, slice_get_within}
 use Rattle.rv32_items.specs.declared.Item.{Item}
 use Rattle.rv32_items.specs.declared.Item.TheVariants.{Label, Plain, Branch, Jump}
-use Rattle.rv32_items.specs.Placed.{size_of, target_of, LabelsStand, Stands, times}
+use Rattle.rv32_items.specs.Placed.{size_of, target_of, LabelsStand, LabelIsOnlyAt, times}
 use Rattle.rv32_items.specs.Course.{is_label, label_from}
 use Rattle.rv32_layout.specs.declared.form.Way.{Way}
 use Rattle.rv32_layout.specs.declared.spots.Spots.{Spots}
 use Rattle.rv32_layout.specs.Places.{place, goal}
-use Rattle.rv32_layout.specs.Spots.{find, KnowsPlaces, Notes, HasSpot, spot_of}
+use Rattle.rv32_layout.specs.Spots.{find, KnowsLabelSpots, RecordsLabelSpot, HasSpot, spot_of}
 use Rattle.rv32_layout.proofs.Counts.{place_none, place_le}
 use Rattle.rv32_items.proofs.Stands.{stands}
 
@@ -22,7 +22,7 @@ label_true l (Jump t j) h = absurd (true≢false (sym h))
 
 -- where the first places are known and the next item is noted, one more is known
 module _ (items : List Item) (ways : List Way) (i : ℕ) (x : Item) (at : ℕ) (old new : Spots) where
-  pub place_noted : slice_get items i ≡ Some x → Notes x at old new → at ≡ place ways items i → KnowsPlaces items ways i old → KnowsPlaces items ways (i + 1) new
+  pub place_noted : slice_get items i ≡ Some x → RecordsLabelSpot x at old new → at ≡ place ways items i → KnowsLabelSpots items ways i old → KnowsLabelSpots items ways (i + 1) new
   place_noted here notes at_is known l n s lt = elim (cases_eq i n) [
     | inl e ↦
         let same : x ≡ Label l = same_Some _ _ (sym here ∙ ap (λ k. slice_get items k) e ∙ s.here) in
@@ -31,12 +31,12 @@ module _ (items : List Item) (ways : List Way) (i : ℕ) (x : Item) (at : ℕ) (
     | inr ne ↦ notes l ∙ missed l n s ne (is_label l x) refl ∙ known l n s (omega arith)
   ]
     where
-      missed : (l n : ℕ) → Stands items l n → (i ≡ n → ⊥) → (t : Bool) → is_label l x ≡ t → (if t then Some at else find old l) ≡ find old l
+      missed : (l n : ℕ) → LabelIsOnlyAt items l n → (i ≡ n → ⊥) → (t : Bool) → is_label l x ≡ t → (if t then Some at else find old l) ≡ find old l
       missed l n s ne true hit = absurd (ne (s.once i (here ∙ ap (λ y. Some y) (label_true l x hit))))
       missed l n s ne false miss = refl
 
 -- a label that stands once is in the table
-module _ (items : List Item) (ways : List Way) (table : Spots) (known : KnowsPlaces items ways (length items) table) where
+module _ (items : List Item) (ways : List Way) (table : Spots) (known : KnowsLabelSpots items ways (length items) table) where
   pub in_table : (l : ℕ) → times l items ≡ 1 → find table l ≡ Some (place ways items (unwrap_or (label_from 0 items l) 0))
   in_table l once =
       let f = stands l items once in

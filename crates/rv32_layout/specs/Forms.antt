@@ -1,5 +1,5 @@
 -- By which instructions an item does what it says. Words are counted from the first one of the
--- code, which stands at 65536.
+-- code, which stands at `code_start`.
 use Rattle.std.specs.Prelude.{ℕ, ℤ, pos, negsuc, ◌+◌, ◌-◌, ◌*◌, ◌/◌, ◌%◌, ◌^◌, ◌<◌, ◌≤◌, Bool, ◌&&◌, nat_eq, nat_lt, nat_le, if◌then◌else◌, List, [], ◌∷◌}
 use Rattle.rv32_isa.specs.Bits.{lower}
 use Rattle.rv32_isa.specs.declared.instr.Instr.{Instr}

@@ -30,8 +30,8 @@ goal items (Branch cond left right l) = unwrap_or (label_from 0 items l) 0
 goal items (Jump link l) = unwrap_or (label_from 0 items l) 0
 
 -- each item gets to its goal by its way
-abbrev pub AllGo : List Item → List Way → Type 0
-AllGo items ways = (n : ℕ) (i : Item) → slice_get items n ≡ Some i →
+abbrev pub AllReachTargets : List Item → List Way → Type 0
+AllReachTargets items ways = (n : ℕ) (i : Item) → slice_get items n ≡ Some i →
     CanGo (way_at ways n) (place ways items n) (place ways items (goal items i)) i
 
 -- ---- shorter ways
@@ -89,5 +89,6 @@ abbrev pub AllDecode : (words : List ℕ) → Type 0
 AllDecode words = (n w : ℕ) → slice_get words n ≡ Some w → IsSome (instr_of w)
 
 -- from old words to new ones, these instructions were put at the end
-abbrev pub Puts : List Instr → (old new : List ℕ) → Type 0
-Puts is old new = (before : List Instr) → Encode before old → Encode (before ++ is) new
+abbrev pub AppendsInstructions : List Instr → (old new : List ℕ) → Type 0
+AppendsInstructions is old new =
+    (before : List Instr) → Encode before old → Encode (before ++ is) new

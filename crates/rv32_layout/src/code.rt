@@ -3,18 +3,19 @@
 ghost use Rattle.std.specs.Prelude.{◌≡◌, ◌≤◌, length, IfOk};
 ghost use Rattle.rv32_items.specs.Placed.{size_of, LabelsStand};
 ghost use Rattle.rv32_layout.specs.Places.{code, Encode};
-ghost use Rattle.rv32_layout.specs.Plans.{IsPlan};
+ghost use Rattle.rv32_layout.specs.Plans.{IsLayoutPlan};
+ghost use Rattle.limits.specs.Limits.{most_code};
 
-use crate::plan::Plan;
+use crate::plan::LayoutPlan;
 use crate::{form, instructions, labels};
 use rv32_items::Item;
 use std::alloc::{AllocError, Global};
 
 /// The words of all items.
-pub fn words(alloc: Global, items: &[Item], plan: &Plan) -> Result<Vec<u32>, AllocError>
+pub fn words(alloc: Global, items: &[Item], plan: &LayoutPlan) -> Result<Vec<u32>, AllocError>
     requires labels { LabelsStand items.now }
-    requires size { size_of items.now ≤ 268435456 }
-    requires plan { IsPlan items.now plan.now }
+    requires size { size_of items.now ≤ most_code }
+    requires plan { IsLayoutPlan items.now plan.now }
     ensures { IfOk result (λ words.
         Encode (code plan.now.ways.items items.now (length items.now)) words.items) }
 {

@@ -3,6 +3,7 @@
 ghost use Rattle.std.specs.Prelude.{◌≡◌, ◌≤◌, nat_lt, nat_le};
 ghost use Rattle.rv32_layout.specs.Forms.{reaches, shortest, width};
 ghost use Rattle.rv32_layout.specs.Places.{way_at};
+ghost use Rattle.limits.specs.Limits.{most_code};
 
 use rv32_items::Item;
 
@@ -55,7 +56,7 @@ pub fn width(way: Way, item: &Item) -> u32
 /// The shortest way of an item that begins at word `at`, ends before word `end` and goes to word
 /// `to`. It still reaches where distances shrink.
 pub fn shortest(at: u32, end: u32, to: u32, item: &Item) -> Way
-    requires { (at ≤ 268435456) × ((end ≤ 268435456) × (to ≤ 268435456)) }
+    requires { (at ≤ most_code) × ((end ≤ most_code) × (to ≤ most_code)) }
     ensures { result ≡ shortest at end to item.now }
 {
     match item {
@@ -81,7 +82,7 @@ pub fn shortest(at: u32, end: u32, to: u32, item: &Item) -> Way
 
 fn reaches(range: u32, before: u32, at: u32, end: u32, to: u32) -> bool
     requires range { (range ≤ 262144) × (before ≤ 2) }
-    requires room { (at ≤ 268435456) × ((end ≤ 268435456) × (to ≤ 268435456)) }
+    requires room { (at ≤ most_code) × ((end ≤ most_code) × (to ≤ most_code)) }
     ensures { result ≡ reaches range before at end to }
 {
     to + 1 < end + range && at + before <= to + range

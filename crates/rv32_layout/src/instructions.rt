@@ -1,10 +1,11 @@
 // The instructions of an item. Words are counted from the first one of the code.
 
-ghost use Rattle.std.specs.Prelude.{◌≡◌, ◌≤◌, ◌<◌, [], ◌∷◌, OnOk, nat_eq, if◌then◌else◌};
+ghost use Rattle.std.specs.Prelude.{◌≡◌, ◌≤◌, ◌<◌, ◌+◌, [], ◌∷◌, OnOk, nat_eq, if◌then◌else◌};
 ghost use Rattle.rv32_isa.specs.Bits.{IsOffB, IsOffJ, lower};
 ghost use Rattle.rv32_items.specs.Course.{kind_of};
 ghost use Rattle.rv32_layout.specs.Forms.{Within, branch_range, jump_range, offset, distance, upper, opposite, carrier, by_address, branch_code, jump_code, instructions, BranchGoes, JumpGoes, CanGo};
-ghost use Rattle.rv32_layout.specs.Places.{Puts};
+ghost use Rattle.rv32_layout.specs.Places.{AppendsInstructions};
+ghost use Rattle.limits.specs.Limits.{most_code};
 
 use crate::form::Way;
 use rv32_isa::{BranchKind, Imm12, Imm20, Instr, OffB, OffJ, Reg, encode};
@@ -14,9 +15,9 @@ use std::alloc::AllocError;
 /// Puts the instructions of an item at the end: its first word is word `at`, and it goes to word
 /// `to`.
 pub fn put(words: &mut Vec<u32>, way: Way, at: u32, to: u32, item: &Item) -> Result<(), AllocError>
-    requires room { (at ≤ 268435456) × (to ≤ 268435456) }
+    requires room { (at ≤ most_code) × (to ≤ most_code) }
     requires reach { CanGo way at to item.now }
-    ensures { OnOk result (Puts (instructions way at to item.now) words.old.items words.new.items) }
+    ensures { OnOk result (AppendsInstructions (instructions way at to item.now) words.old.items words.new.items) }
 {
     match item {
         Item::Label(_) => Ok(()),
@@ -40,9 +41,9 @@ fn put_branch(
     left: Reg,
     right: Reg,
 ) -> Result<(), AllocError>
-    requires room { (at ≤ 268435456) × (to ≤ 268435456) }
+    requires room { (at ≤ most_code) × (to ≤ most_code) }
     requires reach { BranchGoes way at to }
-    ensures { OnOk result (Puts (branch_code way at to cond left right) words.old.items
+    ensures { OnOk result (AppendsInstructions (branch_code way at to cond left right) words.old.items
         words.new.items) }
 {
     match way {
@@ -68,9 +69,9 @@ fn put_branch(
 }
 
 fn put_jump(words: &mut Vec<u32>, way: Way, at: u32, to: u32, link: Reg) -> Result<(), AllocError>
-    requires room { (at ≤ 268435456) × (to ≤ 268435456) }
+    requires room { (at ≤ most_code) × (to ≤ most_code) }
     requires reach { JumpGoes way at to }
-    ensures { OnOk result (Puts (jump_code way at to link) words.old.items words.new.items) }
+    ensures { OnOk result (AppendsInstructions (jump_code way at to link) words.old.items words.new.items) }
 {
     match way {
         Way::ByBranch | Way::ByJump => push(words, Instr::Jal(link, jump_offset(at, to))),
@@ -86,8 +87,8 @@ fn put_by_address(
     from: u32,
     to: u32,
 ) -> Result<(), AllocError>
-    requires { (from ≤ 268435457) × (to ≤ 268435456) }
-    ensures { OnOk result (Puts (by_address through link from to) words.old.items words.new.items) }
+    requires { (from ≤ 1 + most_code) × (to ≤ most_code) }
+    ensures { OnOk result (AppendsInstructions (by_address through link from to) words.old.items words.new.items) }
 {
     let distance = distance(from, to);
     push(words, Instr::Auipc(through, upper(distance)))?;
@@ -95,7 +96,7 @@ fn put_by_address(
 }
 
 fn push(words: &mut Vec<u32>, instr: Instr) -> Result<(), AllocError>
-    ensures { OnOk result (Puts (instr ∷ []) words.old.items words.new.items) }
+    ensures { OnOk result (AppendsInstructions (instr ∷ []) words.old.items words.new.items) }
 {
     words.push(encode(instr))?;
     Ok(())
@@ -108,7 +109,7 @@ fn carrier(link: Reg) -> Reg
 }
 
 fn branch_offset(from: u32, to: u32) -> OffB
-    requires room { (from ≤ 268435457) × (to ≤ 268435456) }
+    requires room { (from ≤ 1 + most_code) × (to ≤ most_code) }
     requires reach { Within branch_range from to }
     ensures { result ≡ offset from to }
 {
@@ -116,7 +117,7 @@ fn branch_offset(from: u32, to: u32) -> OffB
 }
 
 fn jump_offset(from: u32, to: u32) -> OffJ
-    requires room { (from ≤ 268435457) × (to ≤ 268435456) }
+    requires room { (from ≤ 1 + most_code) × (to ≤ most_code) }
     requires reach { Within jump_range from to }
     ensures { result ≡ offset from to }
 {
@@ -124,14 +125,14 @@ fn jump_offset(from: u32, to: u32) -> OffJ
 }
 
 fn offset(from: u32, to: u32) -> i32
-    requires { (from ≤ 268435457) × (to ≤ 268435456) }
+    requires { (from ≤ 1 + most_code) × (to ≤ most_code) }
     ensures { result ≡ offset from to }
 {
     4 * (to as i32 - from as i32)
 }
 
 fn distance(from: u32, to: u32) -> u32
-    requires { (from ≤ 268435457) × (to ≤ 268435456) }
+    requires { (from ≤ 1 + most_code) × (to ≤ most_code) }
     ensures { result ≡ distance from to }
 {
     (4 * to).wrapping_sub(4 * from)

@@ -16,7 +16,7 @@ pub enum Spots {
 
 impl Spots {
     ghost use Rattle.rv32_items.specs.declared.Item.{Item};
-    ghost use Rattle.rv32_layout.specs.Spots.{find, HasRoom, RoomFor, Notes};
+    ghost use Rattle.rv32_layout.specs.Spots.{find, HasRoom, RoomFor, RecordsLabelSpot};
 
     /// A table with room for the labels of these items.
     pub fn for_labels(alloc: Global, items: &[Item]) -> Result<Spots, AllocError>
@@ -33,7 +33,7 @@ impl Spots {
     /// Notes where an item stands, if it is a label.
     pub fn note(&mut self, item: &Item, at: u32) -> Result<(), AllocError>
         requires { (l : ℕ) → item.now ≡ Item.Label l → RoomFor self.old l }
-        ensures noted { OnOk result (Notes item.now at self.old self.new) }
+        ensures noted { OnOk result (RecordsLabelSpot item.now at self.old self.new) }
         ensures room { OnOk result ((l : ℕ) → RoomFor self.old l → RoomFor self.new l) }
     {
         match item {
@@ -44,7 +44,7 @@ impl Spots {
 
     fn set(&mut self, label: u32, at: u32) -> Result<(), AllocError>
         requires { RoomFor self.old label }
-        ensures noted { OnOk result (Notes (Item.Label label) at self.old self.new) }
+        ensures noted { OnOk result (RecordsLabelSpot (Item.Label label) at self.old self.new) }
         ensures room { OnOk result ((l : ℕ) → RoomFor self.old l → RoomFor self.new l) }
     {
         match self {

@@ -5,39 +5,39 @@ use mathlib.Core.Logic.{inl, inr}
 use Rattle.std.proofs.lemmas.Bool.{leb-true, ltb-true, ltb-false, cases_eq}
 use Rattle.std.proofs.lemmas.List.{length-append, length-replicate, get_or-replicate, get_or_default}
 use Rattle.std.proofs.Math.ListN.{get_or-map, get_or-eq_default}
-use Rattle.elf32.specs.Image.{Part, IsPart, HasAddress, Apart}
+use Rattle.elf32.specs.Image.{ImageSegment, IsSoundSegment, ContainsAddress, SegmentsDoNotOverlap}
 use Rattle.rv32_machine.specs.declared.store.Decoded.{Decoded}
 use Rattle.rv32_machine.specs.Memory.{Stretch, stretch_of, is_in, end_of, segment_at}
-use Rattle.rv32_machine.specs.Decoded.{AreApart, IsStore}
+use Rattle.rv32_machine.specs.Decoded.{SegmentsAreDisjoint, IsMemoryWithCache}
 use Rattle.rv32_machine.specs.Starts.{Starts}
 
-abbrev no_part : Part
+abbrev no_part : ImageSegment
 no_part = record { addr = 0; size = 0; bytes = []; write = false; exec = false }
 
 both : (a b : Bool) → a && b ≡ true → (a ≡ true) × (b ≡ true)
 both true b h = (refl, h)
 both false b h = let c : false ≡ true = h in absurd cc
 
-stretch_end : (p : Part) → IsPart p → end_of (stretch_of p) ≡ p.addr + p.size
+stretch_end : (p : ImageSegment) → IsSoundSegment p → end_of (stretch_of p) ≡ p.addr + p.size
 stretch_end p h =
     let filled : length (p.bytes ++ replicate (p.size - length p.bytes) 0) ≡ length p.bytes + (p.size - length p.bytes) =
     length-append p.bytes (replicate (p.size - length p.bytes) 0) ∙ ap (λ n. length p.bytes + n) (length-replicate (p.size - length p.bytes) 0) in
     let fit = h.bytes_fit in
     omega (arith, filled, fit)
 
-has : (address : ℕ) (p : Part) → IsPart p → is_in address (stretch_of p) ≡ true → HasAddress p address
+has : (address : ℕ) (p : ImageSegment) → IsSoundSegment p → is_in address (stretch_of p) ≡ true → ContainsAddress p address
 has address p h e =
     let t = both (nat_le p.addr address) (nat_lt address (end_of (stretch_of p))) e in
     (leb-true p.addr address t.0, omega (arith, ltb-true address (end_of (stretch_of p)) t.1, stretch_end p h))
 
-module _ (parts : List Part) (are : All IsPart parts) (apart : AllPairs Apart parts) where
-  abbrev part : ℕ → Part
+module _ (parts : List ImageSegment) (are : All IsSoundSegment parts) (apart : AllPairs SegmentsDoNotOverlap parts) where
+  abbrev part : ℕ → ImageSegment
   part n = slice_index_or parts n no_part
 
-  is_part : (n : ℕ) → IsPart (part n)
+  is_part : (n : ℕ) → IsSoundSegment (part n)
   is_part n = elim (below_or_not n (length parts)) [
     | inl lt ↦ are n no_part lt
-    | inr le ↦ subst IsPart (sym (get_or-eq_default parts no_part le)) (record { bytes_fit = omega arith; ends = omega arith })
+    | inr le ↦ subst IsSoundSegment (sym (get_or-eq_default parts no_part le)) (record { bytes_fit = omega arith; ends = omega arith })
   ]
     where
       below_or_not : (a b : ℕ) → (a < b) ⊎ (b ≤ a)
@@ -47,27 +47,27 @@ module _ (parts : List Part) (are : All IsPart parts) (apart : AllPairs Apart pa
           go true e = inl (ltb-true a b e)
           go false e = inr (ltb-false a b e)
 
-  part_has : (address n : ℕ) → is_in address (segment_at (map stretch_of parts) n) ≡ true → HasAddress (part n) address
+  part_has : (address n : ℕ) → is_in address (segment_at (map stretch_of parts) n) ≡ true → ContainsAddress (part n) address
   part_has address n e = has address (part n) (is_part n) (ap (is_in address) (sym (get_or-map stretch_of parts n no_part)) ∙ e)
 
-  there : (address n : ℕ) → HasAddress (part n) address → (length parts ≤ n) → ⊥
+  there : (address n : ℕ) → ContainsAddress (part n) address → (length parts ≤ n) → ⊥
   there address n h beyond =
-      let none : HasAddress no_part address = subst (λ p. HasAddress p address) (get_or-eq_default parts no_part beyond) h in
+      let none : ContainsAddress no_part address = subst (λ p. ContainsAddress p address) (get_or-eq_default parts no_part beyond) h in
       omega (arith, none.0, none.1)
 
-  pub begun_apart : AreApart (map stretch_of parts)
+  pub begun_apart : SegmentsAreDisjoint (map stretch_of parts)
   begun_apart address m n a b = elim (cases_eq m n) [
     | inl e ↦ e
     | inr d ↦ absurd (go (nat_lt m n) refl d)
   ]
     where
-      hm : HasAddress (part m) address
+      hm : ContainsAddress (part m) address
       hm = part_has address m a
 
-      hn : HasAddress (part n) address
+      hn : ContainsAddress (part n) address
       hn = part_has address n b
 
-      below : (k : ℕ) → HasAddress (part k) address → k < length parts
+      below : (k : ℕ) → ContainsAddress (part k) address → k < length parts
       below k h = at (nat_lt k (length parts)) refl
         where
           at : (t : Bool) → nat_lt k (length parts) ≡ t → k < length parts
@@ -82,9 +82,9 @@ module _ (parts : List Part) (are : All IsPart parts) (apart : AllPairs Apart pa
           apart n m no_part less (below m hm) address hn hm
 
   -- nothing is kept yet
-  pub begun : (memory : List Stretch) (empty : Decoded) → memory ≡ map stretch_of parts → empty.address ≡ 1 → (starts : ℕ → Option ℕ) → Starts memory (length memory) starts → (decoded : List Decoded) → decoded ≡ replicate 65536 empty → IsStore memory starts decoded
+  pub begun : (memory : List Stretch) (empty : Decoded) → memory ≡ map stretch_of parts → empty.address ≡ 1 → (starts : ℕ → Option ℕ) → Starts memory (length memory) starts → (decoded : List Decoded) → decoded ≡ replicate 65536 empty → IsMemoryWithCache memory starts decoded
   begun memory empty is odd starts begin decoded full = record {
-    apart = subst AreApart (sym is) begun_apart;
+    apart = subst SegmentsAreDisjoint (sym is) begun_apart;
     starts = begin;
     places = ap length full ∙ length-replicate 65536 empty;
     kept = λ k d lt aligned. absurd (go k d lt aligned);
@@ -99,10 +99,10 @@ module _ (parts : List Part) (are : All IsPart parts) (apart : AllPairs Apart pa
           omega (arith, sym aligned ∙ ap (λ x. x.address % 4) at ∙ ap (λ n. n % 4) odd)
 
 -- one segment more
-pub one_part_more : (parts : List Part) (n : ℕ) (p : Part) → ((k : ℕ) (d : Part) → k < n → IsPart (slice_index_or parts k d)) → slice_index_or parts n p ≡ p → n < length parts → IsPart p
-    → (k : ℕ) (d : Part) → k < n + 1 → IsPart (slice_index_or parts k d)
+pub one_part_more : (parts : List ImageSegment) (n : ℕ) (p : ImageSegment) → ((k : ℕ) (d : ImageSegment) → k < n → IsSoundSegment (slice_index_or parts k d)) → slice_index_or parts n p ≡ p → n < length parts → IsSoundSegment p
+    → (k : ℕ) (d : ImageSegment) → k < n + 1 → IsSoundSegment (slice_index_or parts k d)
 one_part_more parts n p are is there h k d lt = elim (cases_eq k n) [
-  | inl e ↦ subst (λ j. IsPart (slice_index_or parts j d)) (sym e) (subst IsPart (sym (get_or_default parts n d p there ∙ is)) h)
+  | inl e ↦ subst (λ j. IsSoundSegment (slice_index_or parts j d)) (sym e) (subst IsSoundSegment (sym (get_or_default parts n d p there ∙ is)) h)
   | inr other ↦ are k d (omega (arith, lt, other))
 ]
 

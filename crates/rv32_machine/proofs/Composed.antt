@@ -3,7 +3,7 @@ use Rattle.std.proofs.Common.{◌≡◌, ℕ, zero, suc, ◌+◌, List, [], ◌�
 use Rattle.std.proofs.lemmas.Grind.{common_steps}
 use Rattle.std.specs.Prelude.{slice_get}
 use Rattle.rv32_machine.specs.Steps.{State, Outcome, Next, Written, Asked, Ended, Trapped, step, given}
-use Rattle.rv32_machine.specs.Runs.{End, Going, Exited, Stopped, Run, stands, after, onward, run, continued, has_ended, RunsCompose, EndStays, OutputGrows, InputIsUsedInOrder}
+use Rattle.rv32_machine.specs.Runs.{MachineEnd, Going, Exited, Stopped, Run, stands, after, onward, run, continued, has_ended, RunsCompose, EndedRunIsStable, OutputGrows, InputIsUsedInOrder}
 
 pub run_none : (input : List ℕ) (s : State) → run 0 input s ≡ stands input (Going s)
 unfolding run
@@ -14,7 +14,7 @@ unfolding run
 run_more n input s = refl
 
 -- bytes before a run and before its continuation
-after_continued : (bytes : List ℕ) (n : ℕ) (out left : List ℕ) (e : End) → after bytes (continued n (record { out = out; left = left; end = e })) ≡ continued n (record { out = bytes ++ out; left = left; end = e })
+after_continued : (bytes : List ℕ) (n : ℕ) (out left : List ℕ) (e : MachineEnd) → after bytes (continued n (record { out = out; left = left; end = e })) ≡ continued n (record { out = bytes ++ out; left = left; end = e })
 after_continued bytes n out left (Going s) = λ i. record { out = sym (append_assoc bytes out (run n left s).out) i; left = (run n left s).left; end = (run n left s).end }
 after_continued bytes n out left (Exited code s) = refl
 after_continued bytes n out left (Stopped kind s) = refl
@@ -40,12 +40,12 @@ runs_compose (suc m) n input s =
     ∙ ap (continued n) (sym (run_more m input s))
 
 -- a run that has ended is not continued
-ended : (n : ℕ) (out left : List ℕ) (e : End) → has_ended e ≡ true → let r : Run = record { out = out; left = left; end = e } in continued n r ≡ r
+ended : (n : ℕ) (out left : List ℕ) (e : MachineEnd) → has_ended e ≡ true → let r : Run = record { out = out; left = left; end = e } in continued n r ≡ r
 ended n out left (Going s) h = cc
 ended n out left (Exited code s) h = refl
 ended n out left (Stopped kind s) h = refl
 
-pub end_stays : EndStays
+pub end_stays : EndedRunIsStable
 end_stays m n input s h =
     let r = run m input s in
     runs_compose m n input s ∙ ended n r.out r.left r.end h
@@ -53,7 +53,7 @@ end_stays m n input s h =
 pub end_append : (xs : List ℕ) → xs ≡ xs ++ []
 end_append xs = grind (arith, common_steps)
 
-grows : (n : ℕ) (out left : List ℕ) (e : End) → (more : List ℕ) × ((continued n (record { out = out; left = left; end = e })).out ≡ out ++ more)
+grows : (n : ℕ) (out left : List ℕ) (e : MachineEnd) → (more : List ℕ) × ((continued n (record { out = out; left = left; end = e })).out ≡ out ++ more)
 grows n out left (Going s) = ((run n left s).out, refl)
 grows n out left (Exited code s) = ([], end_append out)
 grows n out left (Stopped kind s) = ([], end_append out)
@@ -82,7 +82,7 @@ left_is_rest (suc n) input s =
     by_step n later i s (Ended code) = ([], refl)
     by_step n later i s (Trapped kind) = ([], refl)
 
-shrinks : (n : ℕ) (out left : List ℕ) (e : End) → (gone : List ℕ) × (left ≡ gone ++ (continued n (record { out = out; left = left; end = e })).left)
+shrinks : (n : ℕ) (out left : List ℕ) (e : MachineEnd) → (gone : List ℕ) × (left ≡ gone ++ (continued n (record { out = out; left = left; end = e })).left)
 shrinks n out left (Going s) = left_is_rest n left s
 shrinks n out left (Exited code s) = ([], refl)
 shrinks n out left (Stopped kind s) = ([], refl)

@@ -3,10 +3,10 @@ use Rattle.std.proofs.Common.{◌≡◌, ℕ, ◌+◌, ◌-◌, ◌<◌, ◌≤�
 use Rattle.rv32_machine.specs.declared.machine.Stop.{Stop}
 use Rattle.rv32_machine.specs.declared.machine.Stop.TheVariants.{Steps}
 use Rattle.rv32_machine.specs.Steps.{State, Stand}
-use Rattle.rv32_machine.specs.Runs.{End, Going, Exited, Stopped, run, has_ended, StandsAt, IsCount}
+use Rattle.rv32_machine.specs.Runs.{MachineEnd, Going, Exited, Stopped, run, has_ended, StandsAt, IsCount}
 use Rattle.rv32_machine.proofs.Composed.{end_stays}
 
-pub ends : (e : End) (stop : Stop) (m : Stand) → (stop ≡ Steps → ⊥) → StandsAt e stop m → has_ended e ≡ true
+pub ends : (e : MachineEnd) (stop : Stop) (m : Stand) → (stop ≡ Steps → ⊥) → StandsAt e stop m → has_ended e ≡ true
 ends (Going s) stop m ended h = absurd (ended h.0)
 ends (Exited code s) stop m ended h = refl
 ends (Stopped kind s) stop m ended h = refl
@@ -17,7 +17,7 @@ all_steps steps k i s stop m lt ended h =
     let count : steps ≡ (k + 1) + (steps - (k + 1)) = omega arith in
     ap (λ n. run n i s) count ∙ end_stays (k + 1) (steps - (k + 1)) i s (ends (run (k + 1) i s).end stop m ended h)
 
-goes_on : (e : End) (m : Stand) → StandsAt e Steps m → has_ended e ≡ false
+goes_on : (e : MachineEnd) (m : Stand) → StandsAt e Steps m → has_ended e ≡ false
 goes_on (Going s) m h = refl
 goes_on (Exited code s) m h = cc
 goes_on (Stopped kind s) m h = cc

@@ -6,8 +6,8 @@ use Rattle.std.proofs.lemmas.Bool.{ltb-true, ltb-false}
 use Rattle.std.proofs.lemmas.Bool.Decides.{nat_tests}
 use Rattle.std.specs.Prelude.{neg_ℤ, Bool, not, cond, nat_lt, int_lt, if◌then◌else◌}
 use Rattle.std.specs.Int.{int_wrap, int_wrapping_div}
-use Rattle.numbers.specs.Numbers.{wrap, truth, quotient, remainder, signed, pattern, same_number}
-use Rattle.rv32_machine.specs.Arithmetic.{bit, OperationsAgree, is_negative, magnitude, just_one, with_sign, negated, divided, left_over}
+use Rattle.numbers.specs.Numbers.{wrap, bool_as_number, quotient, remainder, signed, pattern, same_number}
+use Rattle.rv32_machine.specs.Arithmetic.{bit, MachineOpsMatchSourceOps, is_negative, magnitude, just_one, with_sign, negated, divided, left_over}
 use Rattle.seq.proofs.Order.{no_zero}
 
 -- to wrap a number of few bits is to read it as a word
@@ -126,7 +126,7 @@ quotient_code a b x y q r ha hb some ex ey eq er fits =
 
 -- ---- the other operations
 
-pub operations_agree : OperationsAgree
+pub operations_agree : MachineOpsMatchSourceOps
 operations_agree = record {
   add_is = λ a b ha hb. sym (ap pattern (sym (wrapping_add-bits w32 a b ha hb)) ∙ of_z-to_z w32 ((a + b) % 2 ^ 32) (omega arith));
   sub_is = λ a b ha hb. sym (ap pattern (sym (wrapping_sub-bits w32 a b ha hb)) ∙ of_z-to_z w32 ((a + (2 ^ 32 - b)) % 2 ^ 32) (omega arith));
@@ -139,6 +139,6 @@ operations_agree = record {
     below : (n : ℕ) → n % 2 ^ 32 < 2 ^ 32
     below n = omega arith
 
-    truth_word : (t : Bool) → bit t ≡ pattern (truth t)
+    truth_word : (t : Bool) → bit t ≡ pattern (bool_as_number t)
     truth_word true = refl
     truth_word false = refl

@@ -5,15 +5,15 @@ use mathlib.Core.Logic.{inl, inr}
 use Rattle.std.specs.List.{concat}
 use Rattle.std.proofs.lemmas.List.Folds.{concat-append}
 use Rattle.std.proofs.lemmas.List.{append_cancel_left}
-use Rattle.grin_io.specs.Changes.{of_source, of_sink, BeginsWith, GaveAll, TookAll, Broke}
+use Rattle.grin_io.specs.Changes.{source_change, sink_change, BeginsWith, ReadExactly, TookExactly, SinkAtFault}
 use Rattle.grin_io.specs.declared.outside.Fault.{Fault}
 use Rattle.grin_io.specs.declared.outside.Fault.TheVariants.{Read, Write}
 use Rattle.rv32_machine.specs.declared.machine.StepResult.TheVariants.{Read as Read'}
-use Rattle.rv32_machine.specs.OneByte.{GaveOne}
+use Rattle.rv32_machine.specs.OneByte.{ReadsOneByte}
 use Rattle.rv32_machine.specs.declared.machine.Stop.{Stop}
 use Rattle.rv32_machine.specs.declared.machine.Stop.TheVariants.{Steps}
 use Rattle.rv32_machine.specs.Steps.{State, Outcome, Next, Written, Asked, Ended, Trapped, Stand, state_of, Does, IsAt, step, given}
-use Rattle.rv32_machine.specs.Runs.{End, Going, Exited, Stopped, after, onward, run, piece_of, next_piece, pieces, used, continued, has_ended, Stays, StandsAt, AsksForMore, Answered, Counted, Interrupted, PiecesAreTheOutput}
+use Rattle.rv32_machine.specs.Runs.{MachineEnd, Going, Exited, Stopped, after, onward, run, piece_of, next_piece, pieces, used, continued, has_ended, MachineMatchesRun, StandsAt, AsksForMore, IsRunAnswer, Counted, BrokenByIoFault, PiecesAreTheOutput}
 use Rattle.rv32_machine.proofs.Composed.{runs_compose, end_stays, input_is_used_in_order, run_none, run_more}
 use Rattle.rv32_machine.proofs.Counts.{ends, all_steps, count_ends}
 use Rattle.rv32_machine.proofs.OneStep.{Turns, byte_turns, end_turns, byte_used, read_piece_is}
@@ -22,7 +22,7 @@ use Rattle.grin_io.proofs.Changes.{took_none, took_join, paused_none, broke_join
 
 -- ---- the run
 
-one_more : (out left : List ℕ) (e : End) (m : Stand) → StandsAt e Steps m → continued 1 (record { out = out; left = left; end = e }) ≡ after out (run 1 left (state_of m))
+one_more : (out left : List ℕ) (e : MachineEnd) (m : Stand) → StandsAt e Steps m → continued 1 (record { out = out; left = left; end = e }) ≡ after out (run 1 left (state_of m))
 one_more out left (Going s) m h = ap (λ t. after out (run 1 left t)) (sym h.1.0)
 one_more out left (Exited code s) m h = cc
 one_more out left (Stopped kind s) m h = cc
@@ -49,7 +49,7 @@ joined_pieces k i s m h =
     let count : k + 1 ≡ suc k = omega arith in
     ap (λ n. pieces n i s) count ∙ pieces_more k i s ∙ ap (λ p. pieces k i s ++ p) (next_is (run k i s).end h)
   where
-    next_is : (e : End) → StandsAt e Steps m → next_piece e ≡ piece_of (step (state_of m))
+    next_is : (e : MachineEnd) → StandsAt e Steps m → next_piece e ≡ piece_of (step (state_of m))
     next_is (Going s) h = ap (λ t. piece_of (step t)) (sym h.1.0)
     next_is (Exited code s) h = cc
     next_is (Stopped kind s) h = cc
@@ -78,7 +78,7 @@ all_pieces m (suc n) i s h =
     ∙ ap (λ p. pieces m i s ++ p) (ap next_piece stays ∙ nothing (run m i s).end h)
     ∙ append-nil (pieces m i s)
   where
-    nothing : (e : End) → has_ended e ≡ true → next_piece e ≡ []
+    nothing : (e : MachineEnd) → has_ended e ≡ true → next_piece e ≡ []
     nothing (Going s) h = cc
     nothing (Exited code s) h = refl
     nothing (Stopped kind s) h = refl
@@ -101,7 +101,7 @@ pieces_are_the_output (suc n) i s =
     by_step i s (Ended code) = refl
     by_step i s (Trapped kind) = refl
 
-    last : (out left : List ℕ) (e : End) → out ++ concat (next_piece e) ≡ (continued 1 (record { out = out; left = left; end = e })).out
+    last : (out left : List ℕ) (e : MachineEnd) → out ++ concat (next_piece e) ≡ (continued 1 (record { out = out; left = left; end = e })).out
     last out left (Going t) = ap (λ l. out ++ l) (by_step left t (step t) ∙ sym (ap (λ r. r.out) (run_more 0 left t)))
     last out left (Exited code t) = append-nil out
     last out left (Stopped kind t) = append-nil out
@@ -143,7 +143,7 @@ module _ {I K : Type 0} (reads : I → ℕ → Option (List ℕ) → I → Type 
     (gives : K → List ℕ → Bool → K → Type 0) (taken : K → Option (List ℕ)) (faults : K → ℕ) (s : State) (first : I) (old : K) where
   -- where a run stands that goes on, what its source gave, and what its sink took
   abbrev pub Kept : (k : ℕ) → Stand → I → K → Type 0
-  Kept k m input out = Answered (of_source reads left is_over lost first input) (of_sink gives taken faults old out) k s Steps m
+  Kept k m input out = IsRunAnswer (source_change reads left is_over lost first input) (sink_change gives taken faults old out) k s Steps m
 
   -- at the start
   pub starts : (m : Stand) → state_of m ≡ s → m.over ≡ false → m.waiting ≡ false → Kept 0 m first old
@@ -152,17 +152,17 @@ module _ {I K : Type 0} (reads : I → ℕ → Option (List ℕ) → I → Type 
     ended = false;
     gave = gave_none reads left is_over lost first;
     wanted = λ e. cc;
-    stays = λ i b. subst (λ q. Stays q i [] Steps m) (sym (run_none i s)) (record { stands = (refl, (at, over, waiting)); used_is = refl });
+    stays = λ i b. subst (λ q. MachineMatchesRun q i [] Steps m) (sym (run_none i s)) (record { stands = (refl, (at, over, waiting)); used_is = refl });
     took = λ i b. took_none gives taken faults old (pieces 0 i s) (pieces_none i s);
   }
 
   module _ (k : ℕ) (m : Stand) (input : I) (out : K) (kept : Kept k m input out) where
     -- what one more turn says of the whole run
     pub one_turn : (more : List ℕ) (ended : Bool) (all : List ℕ) → all ≡ kept.given ++ more → (kept.ended ≡ true → (more ≡ []) × (ended ≡ true))
-        → (later : I) → GaveAll (of_source reads left is_over lost first later) all ended → (ended ≡ true → AsksForMore (k + 1) s all)
+        → (later : I) → ReadExactly (source_change reads left is_over lost first later) all ended → (ended ≡ true → AsksForMore (k + 1) s all)
         → (new : Stand) (stop : Stop) → Turns (state_of m) more ended stop new
-        → (out' : K) → TookAll (of_sink gives taken faults out out') (piece_of (step (state_of m)))
-        → Answered (of_source reads left is_over lost first later) (of_sink gives taken faults old out') (k + 1) s stop new
+        → (out' : K) → TookExactly (sink_change gives taken faults out out') (piece_of (step (state_of m)))
+        → IsRunAnswer (source_change reads left is_over lost first later) (sink_change gives taken faults old out') (k + 1) s stop new
     one_turn more ended all is back later gave wanted new stop t out' o = record {
       given = all;
       ended = ended;
@@ -175,17 +175,17 @@ module _ {I K : Type 0} (reads : I → ℕ → Option (List ℕ) → I → Type 
           let r = t rest (behind kept.given more ended all i rest is h.used_is b) in
           let used : i ≡ all ++ q.left =
           h.used_is ∙ ap (λ l. kept.given ++ l) r.used_is ∙ sym (append_assoc kept.given more q.left) ∙ ap (λ l. l ++ q.left) (sym is) in
-          let a : Stays (after (run k i s).out q) i all stop new = record { stands = r.stands; used_is = used } in
-          subst (λ x. Stays x i all stop new) (sym (joined k i s m h.stands)) a;
+          let a : MachineMatchesRun (after (run k i s).out q) i all stop new = record { stands = r.stands; used_is = used } in
+          subst (λ x. MachineMatchesRun x i all stop new) (sym (joined k i s m h.stands)) a;
       took = λ i b.
           let c = narrow kept.given more kept.ended ended all i is back b in
-          subst (λ p. TookAll (of_sink gives taken faults old out') p) (sym (joined_pieces k i s m (kept.stays i c).stands))
+          subst (λ p. TookExactly (sink_change gives taken faults old out') p) (sym (joined_pieces k i s m (kept.stays i c).stands))
           (took_join gives taken faults old out out' (pieces k i s) (piece_of (step (state_of m))) (kept.took i c) o);
     }
 
     -- a turn in which nothing is asked for
-    pub plain_turn : (new : Stand) (stop : Stop) → Turns (state_of m) [] kept.ended stop new → (out' : K) → TookAll (of_sink gives taken faults out out') (piece_of (step (state_of m)))
-        → Answered (of_source reads left is_over lost first input) (of_sink gives taken faults old out') (k + 1) s stop new
+    pub plain_turn : (new : Stand) (stop : Stop) → Turns (state_of m) [] kept.ended stop new → (out' : K) → TookExactly (sink_change gives taken faults out out') (piece_of (step (state_of m)))
+        → IsRunAnswer (source_change reads left is_over lost first input) (sink_change gives taken faults old out') (k + 1) s stop new
     plain_turn new stop t out' o =
         one_turn [] kept.ended kept.given (sym (append-nil kept.given)) (λ e. (refl, e)) input kept.gave (λ e. asks_later k 1 s kept.given (kept.wanted e)) new stop t out' o
 
@@ -203,11 +203,11 @@ module _ {I K : Type 0} (reads : I → ℕ → Option (List ℕ) → I → Type 
 
     -- a turn in which a byte is asked for
     pub read_turn : (address : ℕ) (mid new : Stand) → Does (state_of m) (step (state_of m)) (Read' address) mid
-        → (answer : Option ℕ) → IsAt new (given (state_of mid) answer) false false → (later : I) → GaveOne (of_source reads left is_over lost input later) answer
+        → (answer : Option ℕ) → IsAt new (given (state_of mid) answer) false false → (later : I) → ReadsOneByte (source_change reads left is_over lost input later) answer
         → Kept (k + 1) new later out
     read_turn address mid new h (Some byte) at later one =
         let going : kept.ended ≡ false = goes kept.ended refl in
-        let gave : GaveAll (of_source reads left is_over lost first input) kept.given false = subst (λ e. GaveAll (of_source reads left is_over lost first input) kept.given e) going kept.gave in
+        let gave : ReadExactly (source_change reads left is_over lost first input) kept.given false = subst (λ e. ReadExactly (source_change reads left is_over lost first input) kept.given e) going kept.gave in
         one_turn (byte ∷ []) false (kept.given ++ (byte ∷ [])) refl (λ e. let no : true ≡ false = sym e ∙ going in cc) later
         (gave_byte reads left is_over lost first input later kept.given byte gave one) (λ e. cc) new Steps
         (byte_turns (state_of m) address mid new byte false h at) out (took_none gives taken faults out (piece_of (step (state_of m))) (read_piece_is (state_of m) address mid h))
@@ -221,8 +221,8 @@ module _ {I K : Type 0} (reads : I → ℕ → Option (List ℕ) → I → Type 
         (end_turns (state_of m) address mid new h at) out (took_none gives taken faults out (piece_of (step (state_of m))) (read_piece_is (state_of m) address mid h))
 
     -- a turn that ends the run
-    pub last_turn : (new : Stand) (steps : ℕ) (stop : Stop) → k < steps → (stop ≡ Steps → ⊥) → Turns (state_of m) [] kept.ended stop new → (out' : K) → TookAll (of_sink gives taken faults out out') (piece_of (step (state_of m)))
-        → Answered (of_source reads left is_over lost first input) (of_sink gives taken faults old out') steps s stop new
+    pub last_turn : (new : Stand) (steps : ℕ) (stop : Stop) → k < steps → (stop ≡ Steps → ⊥) → Turns (state_of m) [] kept.ended stop new → (out' : K) → TookExactly (sink_change gives taken faults out out') (piece_of (step (state_of m)))
+        → IsRunAnswer (source_change reads left is_over lost first input) (sink_change gives taken faults old out') steps s stop new
     last_turn new steps stop lt ended t out' o =
         let h = plain_turn new stop t out' o in
         let within : k + 1 ≤ steps = omega arith in record {
@@ -230,26 +230,26 @@ module _ {I K : Type 0} (reads : I → ℕ → Option (List ℕ) → I → Type 
           ended = h.ended;
           gave = h.gave;
           wanted = λ e. asks_within (k + 1) steps within s h.given (h.wanted e);
-          stays = λ i b. let y = h.stays i b in subst (λ r. Stays r i h.given stop new) (sym (all_steps steps k i s stop new lt ended y.stands)) y;
-          took = λ i b. subst (λ p. TookAll (of_sink gives taken faults old out') p) (sym (all_put steps k i s stop new lt ended (h.stays i b).stands)) (h.took i b);
+          stays = λ i b. let y = h.stays i b in subst (λ r. MachineMatchesRun r i h.given stop new) (sym (all_steps steps k i s stop new lt ended y.stands)) y;
+          took = λ i b. subst (λ p. TookExactly (sink_change gives taken faults old out') p) (sym (all_put steps k i s stop new lt ended (h.stays i b).stands)) (h.took i b);
         }
 
     -- so that the steps up to it are counted
-    pub counted_turn : (new : Stand) (steps : ℕ) (stop : Stop) → k < steps → (stop ≡ Steps → ⊥) → Turns (state_of m) [] kept.ended stop new → (out' : K) → TookAll (of_sink gives taken faults out out') (piece_of (step (state_of m)))
-        → Counted (of_source reads left is_over lost first input) (of_sink gives taken faults old out') steps s stop (k + 1) new
+    pub counted_turn : (new : Stand) (steps : ℕ) (stop : Stop) → k < steps → (stop ≡ Steps → ⊥) → Turns (state_of m) [] kept.ended stop new → (out' : K) → TookExactly (sink_change gives taken faults out out') (piece_of (step (state_of m)))
+        → Counted (source_change reads left is_over lost first input) (sink_change gives taken faults old out') steps s stop (k + 1) new
     unfolding last_turn plain_turn one_turn
     counted_turn new steps stop lt ended t out' o = record {
       answered = last_turn new steps stop lt ended t out' o;
       counts = λ i b. count_ends k steps i s stop m new lt ended (kept.stays i b).stands ((plain_turn new stop t out' o).stays i b).stands;
     }
 
-    due_in : (steps : ℕ) (fault : Fault) → k < steps → (out' : K) → faults old ≤ faults out → Broke fault (of_sink gives taken faults out out') (piece_of (step (state_of m)))
-        → (i : List ℕ) → BeginsWith kept.given kept.ended i → Broke fault (of_sink gives taken faults old out') (pieces steps i s)
+    due_in : (steps : ℕ) (fault : Fault) → k < steps → (out' : K) → faults old ≤ faults out → SinkAtFault fault (sink_change gives taken faults out out') (piece_of (step (state_of m)))
+        → (i : List ℕ) → BeginsWith kept.given kept.ended i → SinkAtFault fault (sink_change gives taken faults old out') (pieces steps i s)
     due_in steps fault lt out' later b i c =
         let h = kept.stays i c in
         let d = more_due steps k i s lt in
         let due : (pieces k i s ++ piece_of (step (state_of m))) ++ d.0 ≡ pieces steps i s = ap (λ l. l ++ d.0) (sym (joined_pieces k i s m h.stands)) ∙ sym d.1 in
-        subst (λ p. Broke fault (of_sink gives taken faults old out') p) due (broke_join gives taken faults old out out' (pieces k i s) (piece_of (step (state_of m))) d.0 fault later (kept.took i c) b)
+        subst (λ p. SinkAtFault fault (sink_change gives taken faults old out') p) due (broke_join gives taken faults old out out' (pieces k i s) (piece_of (step (state_of m))) d.0 fault later (kept.took i c) b)
 
     -- the bytes that were given so far are used within all steps
     uses_in : (steps : ℕ) → k < steps → (i : List ℕ) → BeginsWith kept.given kept.ended i → length kept.given ≤ used i (run steps i s)
@@ -262,7 +262,7 @@ module _ {I K : Type 0} (reads : I → ℕ → Option (List ℕ) → I → Type 
 
     -- a turn in which the read fails
     pub read_fails : (address : ℕ) (mid : Stand) → Does (state_of m) (step (state_of m)) (Read' address) mid → (steps : ℕ) → k < steps → faults old ≤ faults out → (last : I) → reads input 1 None last
-        → Interrupted (of_source reads left is_over lost first last) (of_sink gives taken faults old out) steps s Read
+        → BrokenByIoFault (source_change reads left is_over lost first last) (sink_change gives taken faults old out) steps s Read
     read_fails address mid h steps lt later last refused = record {
       given = kept.given;
       ended = kept.ended;
@@ -273,8 +273,8 @@ module _ {I K : Type 0} (reads : I → ℕ → Option (List ℕ) → I → Type 
     }
 
     -- a turn in which the put fails
-    pub put_fails : (steps : ℕ) → k < steps → faults old ≤ faults out → (out' : K) → Broke Write (of_sink gives taken faults out out') (piece_of (step (state_of m)))
-        → Interrupted (of_source reads left is_over lost first input) (of_sink gives taken faults old out') steps s Write
+    pub put_fails : (steps : ℕ) → k < steps → faults old ≤ faults out → (out' : K) → SinkAtFault Write (sink_change gives taken faults out out') (piece_of (step (state_of m)))
+        → BrokenByIoFault (source_change reads left is_over lost first input) (sink_change gives taken faults old out') steps s Write
     put_fails steps lt later out' b = record {
       given = kept.given;
       ended = kept.ended;

@@ -8,7 +8,7 @@ use Rattle.rv32_machine.specs.declared.machine.Stop.TheVariants.{Steps, Exit as 
 use Rattle.rv32_machine.specs.declared.machine.StepResult.TheVariants.{Next as Next', Read as Read', Write as Write', Exit, Trap}
 use Rattle.rv32_machine.specs.Memory.{range_bytes}
 use Rattle.rv32_machine.specs.Steps.{State, Stand, state_of, Outcome, Next, Written, Asked, Ended, Trapped, Does, IsAt, IsRunning, step, given}
-use Rattle.rv32_machine.specs.Runs.{Run, Going, Exited, Stopped, stands, after, onward, run, piece_of, Stays}
+use Rattle.rv32_machine.specs.Runs.{Run, Going, Exited, Stopped, stands, after, onward, run, piece_of, MachineMatchesRun}
 use Rattle.rv32_machine.proofs.Composed.{run_none, run_more, end_append}
 
 -- ---- the outcome of a step, by the machine's answer
@@ -90,11 +90,11 @@ trap_run s kind pc new h i = one i s ∙ ap (onward (run 0) i s) (trap_is s (ste
 
 -- what one step of the machine does on each input that begins with the bytes that were given in it
 abbrev pub Turns : (s : State) → (more : List ℕ) → (ended : Bool) → Stop → (new : Stand) → Type 0
-Turns s more ended stop new = (left : List ℕ) → BeginsWith more ended left → Stays (run 1 left s) left more stop new
+Turns s more ended stop new = (left : List ℕ) → BeginsWith more ended left → MachineMatchesRun (run 1 left s) left more stop new
 
 -- a run that is another one
-stays_as : (r q : Run) (input given : List ℕ) (stop : Stop) (new : Stand) → r ≡ q → Stays q input given stop new → Stays r input given stop new
-stays_as r q input given stop new e h = subst (λ x. Stays x input given stop new) (sym e) h
+stays_as : (r q : Run) (input given : List ℕ) (stop : Stop) (new : Stand) → r ≡ q → MachineMatchesRun q input given stop new → MachineMatchesRun r input given stop new
+stays_as r q input given stop new e h = subst (λ x. MachineMatchesRun x input given stop new) (sym e) h
 
 pub next_turns : (s : State) (new : Stand) (ended : Bool) → Does s (step s) Next' new → Turns s [] ended Steps new
 next_turns s new ended h i b =

@@ -8,7 +8,7 @@ use Rattle.std.proofs.Math.ListN.{get_or-eq_default}
 use Rattle.seq.proofs.Order.{lt_or_le, lt_true, lt_false}
 use Rattle.rv32_machine.specs.declared.memory.Right.{Right}
 use Rattle.rv32_machine.specs.Memory.{Stretch, no_stretch, allows, is_in, end_of, place_from, segment_at, IsPlace}
-use Rattle.rv32_machine.specs.Decoded.{AreApart}
+use Rattle.rv32_machine.specs.Decoded.{SegmentsAreDisjoint}
 use Rattle.rv32_machine.specs.Starts.{Starts}
 use Rattle.rv32_machine.proofs.Stores.{and_left, and_right}
 
@@ -34,7 +34,7 @@ beyond memory n address h = elim (lt_or_le n (length memory)) [
 ]
 
 -- the segment that begins last, at the address or before, is the only one that may have it
-pub only : (memory : List Stretch) (starts : ℕ → Option ℕ) (address s m n : ℕ) → AreApart memory → Starts memory (length memory) starts → starts s ≡ Some m → s < address + 1
+pub only : (memory : List Stretch) (starts : ℕ → Option ℕ) (address s m n : ℕ) → SegmentsAreDisjoint memory → Starts memory (length memory) starts → starts s ≡ Some m → s < address + 1
     → ((t : ℕ) → t < address + 1 → IsSome (starts t) → t ≤ s) → is_in address (segment_at memory n) ≡ true → n ≡ m
 only memory starts address s m n apart are at before last h =
     let first = (segment_at memory n).first in

@@ -2,8 +2,8 @@
 use Rattle.std.proofs.Common.{◌≡◌, ℕ, List, [], ◌∷◌, ◌++◌, drop, Bool, true, false, Option, Some, None, append_assoc, append-nil, refl, sym, ap, ◌∙◌}
 use Rattle.std.specs.Prelude.{slice_get}
 use Rattle.std.proofs.lemmas.List.{append_cancel_left}
-use Rattle.grin_io.specs.Changes.{of_source, no_read, next_byte, at_end, BeginsWith, GaveAll}
-use Rattle.rv32_machine.specs.OneByte.{GaveOne}
+use Rattle.grin_io.specs.Changes.{source_change, no_read, next_byte, at_end, BeginsWith, ReadExactly}
+use Rattle.rv32_machine.specs.OneByte.{ReadsOneByte}
 
 -- ---- inputs
 
@@ -34,7 +34,7 @@ followed given ended byte going = record { rest = byte ∷ []; is_input = refl; 
 -- ---- reads
 
 module _ {I : Type 0} (reads : I → ℕ → Option (List ℕ) → I → Type 0) (left : I → Option (List ℕ)) (is_over : I → Type 0) (lost : I → ℕ) (start : I) where
-  pub gave_none : GaveAll (of_source reads left is_over lost start start) [] false
+  pub gave_none : ReadExactly (source_change reads left is_over lost start start) [] false
   gave_none = record {
     reads = no_read;
     content = λ before is. (record { rest = before; is_input = refl; whole = λ e. cc }, is);
@@ -43,8 +43,8 @@ module _ {I : Type 0} (reads : I → ℕ → Option (List ℕ) → I → Type 0)
   }
 
   module _ (a b : I) (given : List ℕ) where
-    pub gave_byte : (byte : ℕ) → GaveAll (of_source reads left is_over lost start a) given false → GaveOne (of_source reads left is_over lost a b) (Some byte)
-        → GaveAll (of_source reads left is_over lost start b) (given ++ (byte ∷ [])) false
+    pub gave_byte : (byte : ℕ) → ReadExactly (source_change reads left is_over lost start a) given false → ReadsOneByte (source_change reads left is_over lost a b) (Some byte)
+        → ReadExactly (source_change reads left is_over lost start b) (given ++ (byte ∷ [])) false
     gave_byte byte g one = record {
       reads = next_byte g.reads one.exactly one.small refl;
       content = λ before is.
@@ -62,8 +62,8 @@ module _ {I : Type 0} (reads : I → ℕ → Option (List ℕ) → I → Type 0)
         next_is [] e = cc
         next_is (x ∷ rest) e = let same : byte ≡ x = cc in ap (λ y. y ∷ rest) (sym same)
 
-    pub gave_end : (ended : Bool) → GaveAll (of_source reads left is_over lost start a) given ended → GaveOne (of_source reads left is_over lost a b) None
-        → GaveAll (of_source reads left is_over lost start b) given true
+    pub gave_end : (ended : Bool) → ReadExactly (source_change reads left is_over lost start a) given ended → ReadsOneByte (source_change reads left is_over lost a b) None
+        → ReadExactly (source_change reads left is_over lost start b) given true
     gave_end ended g one = record {
       reads = at_end g.reads one.exactly;
       content = λ before is.

@@ -13,7 +13,7 @@ use Rattle.rv32_machine.specs.declared.memory.Right.TheVariants.{Read, Write, Ex
 use Rattle.rv32_machine.specs.declared.memory.Access.TheVariants.{At, Outside}
 use Rattle.rv32_machine.specs.declared.store.Decoded.{Decoded}
 use Rattle.rv32_machine.specs.Memory.{Stretch, no_stretch, allows, is_in, end_of, place_from, segment_at, within, at_place, access, put_over, with_bytes, stored_at, little_endian, IsPlace, IsInside, IsAllowed}
-use Rattle.rv32_machine.specs.Decoded.{IsDecoded, AreApart, IsStore}
+use Rattle.rv32_machine.specs.Decoded.{IsCachedInstr, SegmentsAreDisjoint, IsMemoryWithCache}
 use Rattle.rv32_machine.specs.Starts.{Starts}
 
 over_length : (old : List ℕ) (offset : ℕ) (new : List ℕ) → length (put_over old offset new) ≡ length old
@@ -85,7 +85,7 @@ module _ (memory : List Stretch) (m offset : ℕ) (new : List ℕ) (there : m < 
 
   -- what is kept decoded stays right
   module _ (writes : old.write ≡ true) where
-    decoded_kept : (d : Decoded) → IsDecoded memory d → IsDecoded after d
+    decoded_kept : (d : Decoded) → IsCachedInstr memory d → IsCachedInstr after d
     decoded_kept d h = record {
       segment = h.segment;
       offset = h.offset;
@@ -110,7 +110,7 @@ module _ (memory : List Stretch) (m offset : ℕ) (new : List ℕ) (there : m < 
       listed = λ n a lt h. subst (λ f. IsSome (starts f)) (sym (first_kept n)) (s.listed n a (omega (arith, lt, same_length)) (sym (in_kept a n) ∙ h));
     }
 
-    pub store_kept : (starts : ℕ → Option ℕ) (decoded : List Decoded) → IsStore memory starts decoded → IsStore after starts decoded
+    pub store_kept : (starts : ℕ → Option ℕ) (decoded : List Decoded) → IsMemoryWithCache memory starts decoded → IsMemoryWithCache after starts decoded
     store_kept starts decoded s = record {
       apart = λ address i j a b. s.apart address i j (sym (in_kept address i) ∙ a) (sym (in_kept address j) ∙ b);
       starts = starts_kept starts s.starts;
@@ -119,12 +119,12 @@ module _ (memory : List Stretch) (m offset : ℕ) (new : List ℕ) (there : m < 
     }
 
 -- one more is kept
-pub store_more : (memory : List Stretch) (starts : ℕ → Option ℕ) (decoded : List Decoded) (place : ℕ) (d : Decoded) → IsStore memory starts decoded → IsDecoded memory d → IsStore memory starts (slice_set decoded place d)
+pub store_more : (memory : List Stretch) (starts : ℕ → Option ℕ) (decoded : List Decoded) (place : ℕ) (d : Decoded) → IsMemoryWithCache memory starts decoded → IsCachedInstr memory d → IsMemoryWithCache memory starts (slice_set decoded place d)
 store_more memory starts decoded place d s h = record {
   apart = s.apart;
   starts = s.starts;
   places = length-set decoded place d ∙ s.places;
-  kept = All-set (λ d. d.address % 4 ≡ 0 → IsDecoded memory d) decoded place d (λ _. h) s.kept;
+  kept = All-set (λ d. d.address % 4 ≡ 0 → IsCachedInstr memory d) decoded place d (λ _. h) s.kept;
 }
 
 -- ---- the segment that has an address is the one that an access finds
@@ -224,7 +224,7 @@ module _ (right : Right) (address len n : ℕ) (memory : List Stretch) (place : 
         go false = tt
 
 -- a segment that serves is the place
-pub serving_place : (right : Right) (memory : List Stretch) (address n : ℕ) (s : Stretch) → AreApart memory → slice_get memory n ≡ Some s → allows right s && is_in address s ≡ true → IsPlace right address memory n
+pub serving_place : (right : Right) (memory : List Stretch) (address n : ℕ) (s : Stretch) → SegmentsAreDisjoint memory → slice_get memory n ≡ Some s → allows right s && is_in address s ≡ true → IsPlace right address memory n
 serving_place right memory address n s apart at serves =
     let is : segment_at memory n ≡ s = get_or_from_slice_get memory n s no_stretch at in
     let there : n < length memory = is_there memory n s at in

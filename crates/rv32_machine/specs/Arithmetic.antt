@@ -142,7 +142,7 @@ abbrev pub Computes : OpKind → (ℤ → ℤ → ℤ) → Type 0
 Computes kind f =
     (a b : ℕ) → a < 2 ^ 32 → b < 2 ^ 32 → op_value kind a b ≡ pattern (f (signed a) (signed b))
 
-pub record OperationsAgree : Type 0 where
+pub record MachineOpsMatchSourceOps : Type 0 where
   pub add_is : Computes Add sum
   pub sub_is : Computes Sub difference
   pub mul_is : Computes Mul product

@@ -16,16 +16,16 @@ IsWordAt memory address word segment offset =
     × (little_endian (bytes_at memory segment offset 4) ≡ word)
 
 -- what stands at an address: an instruction, a word that is none, or nothing that may be executed
-abbrev pub Fetches : List Stretch → (address : ℕ) → Fetched → Type 0
-Fetches memory address (Instr i) =
+abbrev pub IsFetchResult : List Stretch → (address : ℕ) → Fetched → Type 0
+IsFetchResult memory address (Instr i) =
     (segment offset word : ℕ) × IsWordAt memory address word segment offset
     × (instr_of word ≡ Some i)
-Fetches memory address (Illegal word) =
+IsFetchResult memory address (Illegal word) =
     (segment offset : ℕ) × IsWordAt memory address word segment offset × (instr_of word ≡ None)
-Fetches memory address (Outside a) = access Execute memory address 4 ≡ outside a
+IsFetchResult memory address (Outside a) = access Execute memory address 4 ≡ outside a
 
 -- the instruction stands at its address, in a segment that can't be written
-pub record IsDecoded (memory : List Stretch) (d : Decoded) : Type 0 where
+pub record IsCachedInstr (memory : List Stretch) (d : Decoded) : Type 0 where
   pub segment : ℕ
   pub offset : ℕ
   pub word : ℕ
@@ -34,16 +34,17 @@ pub record IsDecoded (memory : List Stretch) (d : Decoded) : Type 0 where
   pub fixed : (segment_at memory segment).write ≡ false
 
 -- no two segments share an address
-abbrev pub AreApart : List Stretch → Type 0
-AreApart memory =
+abbrev pub SegmentsAreDisjoint : List Stretch → Type 0
+SegmentsAreDisjoint memory =
     (address m n : ℕ) → is_in address (segment_at memory m) ≡ true
     → is_in address (segment_at memory n) ≡ true → m ≡ n
 
 -- the segments, where they begin, and so many instructions that are kept; a place with an address
 -- that is no multiple of four is empty
-pub record IsStore (memory : List Stretch) (begins : ℕ → Option ℕ) (decoded : List Decoded)
+pub record IsMemoryWithCache (memory : List Stretch) (begins : ℕ → Option ℕ)
+    (decoded : List Decoded)
     : Type 0 where
-  pub apart : AreApart memory
+  pub apart : SegmentsAreDisjoint memory
   pub starts : Starts memory (length memory) begins
   pub places : length decoded ≡ 65536
-  pub kept : All (λ d. d.address % 4 ≡ 0 → IsDecoded memory d) decoded
+  pub kept : All (λ d. d.address % 4 ≡ 0 → IsCachedInstr memory d) decoded

@@ -1,6 +1,6 @@
 -- Memory: segments of bytes with rights.
 use Rattle.std.specs.Prelude.{◌≡◌, ℕ, zero, suc, ◌+◌, ◌-◌, ◌*◌, ◌/◌, ◌%◌, ◌^◌, List, [], ◌∷◌, ◌++◌, Bool, true, false, ◌&&◌, nat_eq, nat_lt, nat_le, ◌<◌, ◌≤◌, if◌then◌else◌, length, take, drop, replicate, Option, Some, None, slice_index_or, slice_set}
-use Rattle.elf32.specs.Image.{Part}
+use Rattle.elf32.specs.Image.{ImageSegment}
 use Rattle.rv32_machine.specs.declared.memory.Right.{Right}
 use Rattle.rv32_machine.specs.declared.memory.Right.TheVariants.{Read, Write, Execute}
 use Rattle.rv32_machine.specs.declared.memory.Access.{Access}
@@ -14,7 +14,7 @@ pub record Stretch : Type 0 where
   pub bytes : List ℕ
 
 -- the segment that a program asks for: its bytes, and then zeros
-abbrev pub stretch_of : Part → Stretch
+abbrev pub stretch_of : ImageSegment → Stretch
 stretch_of p =
     record {
       first = p.addr;

@@ -1,7 +1,7 @@
 -- Runs of a program: what it writes, what it reads, and where it stands after so many steps.
 use Rattle.std.specs.Prelude.{◌≡◌, ◌⊎◌, ℕ, zero, suc, ◌+◌, ◌-◌, ◌<◌, ◌≤◌, List, [], ◌∷◌, ◌++◌, length, drop, Bool, true, false, slice_get}
 use Rattle.std.specs.List.{concat}
-use Rattle.grin_io.specs.Changes.{SourceChange, SinkChange, BeginsWith, GaveAll, GaveTo, TookAll, Broke}
+use Rattle.grin_io.specs.Changes.{SourceChange, SinkChange, BeginsWith, ReadExactly, SourceAtFault, TookExactly, SinkAtFault}
 use Rattle.grin_io.specs.declared.outside.Fault.{Fault}
 use Rattle.grin_io.specs.declared.outside.Fault.TheVariants.{Read}
 use Rattle.rv32_machine.specs.declared.machine.Stop.{Stop}
@@ -11,18 +11,18 @@ use Rattle.rv32_machine.specs.Steps.{State, Outcome, Next, Written, Asked, Ended
 
 -- where a run stands: it goes on, its program has exited with a code, or it stands at an
 -- instruction that traps
-pub data End : Type 0 where
-  Going : State → End
-  Exited : (code : ℕ) → State → End
-  Stopped : TrapKind → State → End
+pub data MachineEnd : Type 0 where
+  Going : State → MachineEnd
+  Exited : (code : ℕ) → State → MachineEnd
+  Stopped : TrapKind → State → MachineEnd
 
 -- the bytes that a run wrote, the bytes of its input that are left, and where it stands
 pub record Run : Type 0 where
   pub out : List ℕ
   pub left : List ℕ
-  pub end : End
+  pub end : MachineEnd
 
-abbrev pub stands : (left : List ℕ) → End → Run
+abbrev pub stands : (left : List ℕ) → MachineEnd → Run
 stands left end = record { out = []; left = left; end = end }
 
 -- a run, with bytes that were written before it
@@ -48,7 +48,7 @@ piece_of (Written address len bytes t) = bytes ∷ []
 piece_of _ = []
 
 -- the pieces that one further step of a run puts
-abbrev pub next_piece : End → List (List ℕ)
+abbrev pub next_piece : MachineEnd → List (List ℕ)
 next_piece (Going s) = piece_of (step s)
 next_piece _ = []
 
@@ -72,7 +72,7 @@ continued n r = elim r.end as (λ _. Run) [
 -- ---- what the machine's `run` answers
 
 -- the answer names the end, and the machine stands there
-abbrev pub StandsAt : End → Stop → (new : Stand) → Type 0
+abbrev pub StandsAt : MachineEnd → Stop → (new : Stand) → Type 0
 StandsAt (Going s) stop new = (stop ≡ Steps) × IsAt new s false false
 StandsAt (Exited code s) stop new = (stop ≡ Exit code) × IsAt new s true false
 StandsAt (Stopped kind s) stop new = (stop ≡ Trap kind s.pc) × IsAt new s true false
@@ -84,7 +84,8 @@ is_end (Exit code) = true
 is_end (Trap kind pc) = true
 
 -- the machine stands where a run stands, which used just these bytes of its input
-pub record Stays (r : Run) (input given : List ℕ) (stop : Stop) (new : Stand) : Type 0 where
+pub record MachineMatchesRun (r : Run) (input given : List ℕ) (stop : Stop) (new : Stand)
+    : Type 0 where
   pub stands : StandsAt r.end stop new
   pub used_is : input ≡ given ++ r.left
 
@@ -96,24 +97,25 @@ AsksForMore steps s given = (byte : ℕ) → (run steps (given ++ (byte ∷ []))
 -- end was met or not. Whatever the input is that begins with these bytes, and has no others where
 -- the end was met, the machine stands where the run on it stands, which used just these, and its
 -- pieces were put. The end was met only where the run asks for more.
-pub record Answered {I K : Type 0} (i : SourceChange I) (o : SinkChange K) (steps : ℕ) (s : State)
+pub record IsRunAnswer {I K : Type 0} (i : SourceChange I) (o : SinkChange K)
+    (steps : ℕ) (s : State)
     (stop : Stop) (new : Stand) : Type 0 where
   pub given : List ℕ
   pub ended : Bool
-  pub gave : GaveAll i given ended
+  pub gave : ReadExactly i given ended
   pub wanted : ended ≡ true → AsksForMore steps s given
   pub stays : (input : List ℕ) → BeginsWith given ended input
-      → Stays (run steps input s) input given stop new
-  pub took : (input : List ℕ) → BeginsWith given ended input → TookAll o (pieces steps input s)
+      → MachineMatchesRun (run steps input s) input given stop new
+  pub took : (input : List ℕ) → BeginsWith given ended input → TookExactly o (pieces steps input s)
 
 -- whether a run has ended
-abbrev pub has_ended : End → Bool
+abbrev pub has_ended : MachineEnd → Bool
 has_ended (Going s) = false
 has_ended (Exited code s) = true
 has_ended (Stopped kind s) = true
 
--- so many steps are done of those that were allowed: before each of them the run goes on, and behind
--- them it stands where it stands behind all; where it has not ended there, they are all
+-- so many steps are done of those that were allowed: before each of them the run goes on, and
+-- behind them it stands where it stands behind all; where it has not ended there, they are all
 pub record IsCount (done steps : ℕ) (input : List ℕ) (s : State) : Type 0 where
   pub goes : (m : ℕ) → m < done → has_ended (run m input s).end ≡ false
   pub same : run steps input s ≡ run done input s
@@ -122,22 +124,23 @@ pub record IsCount (done steps : ℕ) (input : List ℕ) (s : State) : Type 0 wh
 -- the run came to its stop, on each of those inputs in so many steps
 pub record Counted {I K : Type 0} (i : SourceChange I) (o : SinkChange K) (steps : ℕ) (s : State)
     (stop : Stop) (done : ℕ) (new : Stand) : Type 0 where
-  pub answered : Answered i o steps s stop new
+  pub answered : IsRunAnswer i o steps s stop new
   pub counts : (input : List ℕ) → BeginsWith answered.given answered.ended input
       → IsCount done steps input s
 
--- A run broke off at a fault of its source or its sink, which was the last call of them. On whatever
--- input begins with the bytes that the source gave, the run uses these, and what was put was due. The
--- end was met, or a read failed, only where the run asks for more.
-pub record Interrupted {I K : Type 0} (i : SourceChange I) (o : SinkChange K) (steps : ℕ)
+-- A run broke off at a fault of its source or its sink, which was the last call of them. On
+-- whatever input begins with the bytes that the source gave, the run uses these, and what was put
+-- was due. The end was met, or a read failed, only where the run asks for more.
+pub record BrokenByIoFault {I K : Type 0} (i : SourceChange I) (o : SinkChange K) (steps : ℕ)
     (s : State) (fault : Fault) : Type 0 where
   pub given : List ℕ
   pub ended : Bool
-  pub gave : GaveTo fault i given ended
+  pub gave : SourceAtFault fault i given ended
   pub wanted : (ended ≡ true) ⊎ (fault ≡ Read) → AsksForMore steps s given
   pub uses : (input : List ℕ) → BeginsWith given ended input
       → length given ≤ used input (run steps input s)
-  pub puts : (input : List ℕ) → BeginsWith given ended input → Broke fault o (pieces steps input s)
+  pub puts : (input : List ℕ) → BeginsWith given ended input
+      → SinkAtFault fault o (pieces steps input s)
 
 -- ---- laws
 
@@ -147,8 +150,8 @@ RunsCompose =
     (m n : ℕ) (input : List ℕ) (s : State) → run (m + n) input s ≡ continued n (run m input s)
 
 -- a run that has ended stays as it is
-abbrev pub EndStays : Type 0
-EndStays =
+abbrev pub EndedRunIsStable : Type 0
+EndedRunIsStable =
     (m n : ℕ) (input : List ℕ) (s : State) → has_ended (run m input s).end ≡ true
     → run (m + n) input s ≡ run m input s
 

@@ -159,15 +159,15 @@ abbrev pub act_on : State → (word : ℕ) → Option Instr → Outcome
 act_on s word None = Trapped (IllegalInstruction word)
 act_on s word (Some i) = act s i
 
-abbrev pub fetched : State → Access → Outcome
-fetched s (Outside a) = Trapped (AccessOutside a)
-fetched s (At n offset) =
+abbrev pub fetch_and_execute : State → Access → Outcome
+fetch_and_execute s (Outside a) = Trapped (AccessOutside a)
+fetch_and_execute s (At n offset) =
     let word = little_endian (bytes_at s.memory n offset 4) in act_on s word (instr_of word)
 
 -- the instruction at pc
 unfoldable pub step : State → Outcome
 step s =
-    if nat_eq (s.pc % 4) 0 then fetched s (access Execute s.memory s.pc 4)
+    if nat_eq (s.pc % 4) 0 then fetch_and_execute s (access Execute s.memory s.pc 4)
     else Trapped MisalignedJump
 
 -- the machine as data: its registers as a list, whether its program is over, and whether a read

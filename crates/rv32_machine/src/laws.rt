@@ -1,11 +1,11 @@
 //! Laws of the operations, and of runs, which hold of every state and input.
 
-ghost use Rattle.rv32_machine.specs.Arithmetic.{OperationsAgree};
-ghost use Rattle.rv32_machine.specs.Runs.{RunsCompose, EndStays, OutputGrows, PiecesAreTheOutput, InputIsUsedInOrder};
+ghost use Rattle.rv32_machine.specs.Arithmetic.{MachineOpsMatchSourceOps};
+ghost use Rattle.rv32_machine.specs.Runs.{RunsCompose, EndedRunIsStable, OutputGrows, PiecesAreTheOutput, InputIsUsedInOrder};
 
 /// The operations on words compute what the languages here compute of the words' numbers.
-pub fn operations_agree()
-    ensures { OperationsAgree }
+pub fn machine_ops_match_source_ops()
+    ensures { MachineOpsMatchSourceOps }
 {}
 
 /// So many steps and then so many more are all of them together.
@@ -14,8 +14,8 @@ pub fn runs_compose()
 {}
 
 /// A run that has ended stays as it is.
-pub fn end_stays()
-    ensures { EndStays }
+pub fn ended_run_is_stable()
+    ensures { EndedRunIsStable }
 {}
 
 /// With more steps a run only writes more.

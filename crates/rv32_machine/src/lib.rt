@@ -9,8 +9,8 @@ mod run;
 mod store;
 
 pub use laws::{
-    end_stays, input_is_used_in_order, operations_agree, output_grows, pieces_are_the_output,
-    runs_compose,
+    ended_run_is_stable, input_is_used_in_order, machine_ops_match_source_ops, output_grows,
+    pieces_are_the_output, runs_compose,
 };
 pub use machine::{Machine, StepResult, Stop, TrapKind};
-pub use run::Ran;
+pub use run::StopWithCount;

@@ -3,7 +3,7 @@
 ghost use Rattle.std.specs.Prelude.{◌≡◌, ◌&&◌, ◌^◌, ◌++◌, ◌-◌, replicate, IfOk, OnOk, ◌+◌, ◌<◌, ◌≤◌, length, take, drop, slice_index, ◌⊎◌};
 ghost use Rattle.std.specs.Ordering.{nat_cmp};
 ghost use Rattle.std.specs.BTreeMap.{get};
-ghost use Rattle.elf32.specs.Image.{IsPart};
+ghost use Rattle.elf32.specs.Image.{IsSoundSegment};
 ghost use Rattle.rv32_machine.specs.declared.memory.Access.{Access};
 ghost use Rattle.rv32_machine.specs.Memory.{allows, IsAllowed, IsPlace, is_in, within, access, little_endian, bytes_of, with_bytes, put_over, IsInside, stretch_of, bytes_at, stored_at};
 ghost use Rattle.rv32_machine.specs.Starts.{Starts};
@@ -99,7 +99,7 @@ impl Region {
     /// The segment at the start of a program.
     pub fn new(alloc: Global, segment: &Segment) -> Result<Region, AllocError>
         ensures region { IfOk result (λ r. r ≡ stretch_of segment.now) }
-        ensures part { OnOk result (IsPart segment.now) }
+        ensures part { OnOk result (IsSoundSegment segment.now) }
     {
         let mut bytes = Vec::with_capacity(alloc, segment.size as usize)?;
         bytes.extend_from_slice(segment.bytes.as_slice())?;

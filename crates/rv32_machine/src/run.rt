@@ -1,15 +1,15 @@
 //! Runs of a program, from a source of bytes to a sink.
 
 ghost use Rattle.std.specs.Prelude.{◌≡◌, ◌<◌, ℕ, List, [], ◌∷◌, Option, Some, None, false, true, is_ok, IsSome, IfOk, IfErr, OnOk, OnErr};
-ghost use Rattle.grin_io.specs.Causes.{HasCause};
-ghost use Rattle.grin_io.specs.Content.{Takes};
-ghost use Rattle.grin_io.specs.Changes.{of_sink, of_source, Faults};
+ghost use Rattle.grin_io.specs.Causes.{FaultsAreCounted};
+ghost use Rattle.grin_io.specs.Content.{PutTakesPrefix};
+ghost use Rattle.grin_io.specs.Changes.{sink_change, source_change, FaultCountsAreSound};
 ghost use Rattle.grin_io.specs.declared.outside.Fault.{Fault};
 ghost use Rattle.rv32_machine.specs.Memory.{range_bytes};
 ghost use Rattle.rv32_machine.specs.Steps.{IsRunning, IsAt, given, state_of};
-ghost use Rattle.rv32_machine.specs.Runs.{Answered, Counted, Interrupted, is_end};
-ghost use Rattle.rv32_machine.specs.OneByte.{GaveOne};
-ghost use Rattle.rv32_machine.specs.Plain.{Advances};
+ghost use Rattle.rv32_machine.specs.Runs.{IsRunAnswer, Counted, BrokenByIoFault, is_end};
+ghost use Rattle.rv32_machine.specs.OneByte.{ReadsOneByte};
+ghost use Rattle.rv32_machine.specs.Plain.{RunsUpToEvent};
 
 use crate::machine::{Machine, StepResult, Stop};
 use grin_io::{Failed, Fault, Sink, Source};
@@ -17,7 +17,7 @@ use grin_io::{Failed, Fault, Sink, Source};
 /// Where a run stopped, and how many instructions it did: with the one that ended it, or all that
 /// were allowed where the program goes on.
 #[derive(Clone, Copy, PartialEq, Eq, Debug, Drop)]
-pub struct Ran {
+pub struct StopWithCount {
     /// Where the run stopped.
     pub stop: Stop,
     /// How many instructions were done.
@@ -38,16 +38,16 @@ impl Machine {
     ) -> Result<Stop, Fault>
         requires { IsRunning self.old }
         ensures answered { IfOk result (λ stop.
-            Answered (of_source I.read_gives I.left I.is_over I.faults input.old input.new)
-            (of_sink K.put_gives K.taken K.faults out.old out.new)
+            IsRunAnswer (source_change I.read_gives I.left I.is_over I.faults input.old input.new)
+            (sink_change K.put_gives K.taken K.faults out.old out.new)
             steps (state_of self.old) stop self.new) }
         ensures interrupted { IfErr result (λ fault.
-            Interrupted (of_source I.read_gives I.left I.is_over I.faults input.old input.new)
-            (of_sink K.put_gives K.taken K.faults out.old out.new)
+            BrokenByIoFault (source_change I.read_gives I.left I.is_over I.faults input.old input.new)
+            (sink_change K.put_gives K.taken K.faults out.old out.new)
             steps (state_of self.old) fault) }
-        ensures cause { Faults result
-            (of_source I.read_gives I.left I.is_over I.faults input.old input.new)
-            (of_sink K.put_gives K.taken K.faults out.old out.new) }
+        ensures cause { FaultCountsAreSound result
+            (source_change I.read_gives I.left I.is_over I.faults input.old input.new)
+            (sink_change K.put_gives K.taken K.faults out.old out.new) }
         ensures ended { IfOk result (λ stop. self.new.over ≡ is_end stop) }
         ensures broken { OnErr result (self.new.over ≡ true) }
         ensures waits_no_more { self.new.waiting ≡ false }
@@ -61,24 +61,24 @@ impl Machine {
         steps: u64,
         input: &mut I,
         out: &mut K,
-    ) -> Result<Ran, Fault>
+    ) -> Result<StopWithCount, Fault>
         requires { IsRunning self.old }
         ensures counted { IfOk result (λ ran.
-            Counted (of_source I.read_gives I.left I.is_over I.faults input.old input.new)
-            (of_sink K.put_gives K.taken K.faults out.old out.new)
+            Counted (source_change I.read_gives I.left I.is_over I.faults input.old input.new)
+            (sink_change K.put_gives K.taken K.faults out.old out.new)
             steps (state_of self.old) ran.stop ran.done self.new) }
         ensures interrupted { IfErr result (λ fault.
-            Interrupted (of_source I.read_gives I.left I.is_over I.faults input.old input.new)
-            (of_sink K.put_gives K.taken K.faults out.old out.new)
+            BrokenByIoFault (source_change I.read_gives I.left I.is_over I.faults input.old input.new)
+            (sink_change K.put_gives K.taken K.faults out.old out.new)
             steps (state_of self.old) fault) }
-        ensures cause { Faults result
-            (of_source I.read_gives I.left I.is_over I.faults input.old input.new)
-            (of_sink K.put_gives K.taken K.faults out.old out.new) }
+        ensures cause { FaultCountsAreSound result
+            (source_change I.read_gives I.left I.is_over I.faults input.old input.new)
+            (sink_change K.put_gives K.taken K.faults out.old out.new) }
         ensures ended { IfOk result (λ ran. self.new.over ≡ is_end ran.stop) }
         ensures broken { OnErr result (self.new.over ≡ true) }
         ensures waits_no_more { self.new.waiting ≡ false }
     {
-        let all = Ran {
+        let all = StopWithCount {
             stop: Stop::Steps,
             done: steps,
         };
@@ -90,13 +90,13 @@ impl Machine {
                 StepResult::Read(_) => self.take_byte(input)?,
                 StepResult::Write(addr, len) => self.put_bytes(addr, len, out)?,
                 StepResult::Exit(code) => {
-                    return Ok(Ran {
+                    return Ok(StopWithCount {
                         stop: Stop::Exit(code),
                         done: steps - left + plain + 1,
                     });
                 }
                 StepResult::Trap(kind, pc) => {
-                    return Ok(Ran {
+                    return Ok(StopWithCount {
                         stop: Stop::Trap(kind, pc),
                         done: steps - left + plain + 1,
                     });
@@ -113,7 +113,7 @@ impl Machine {
     #[inline(never)]
     fn advance(&mut self, most: u64) -> (u64, StepResult)
         requires { IsRunning self.old }
-        ensures { Advances most self.old result.0 result.1 self.new }
+        ensures { RunsUpToEvent most self.old result.0 result.1 self.new }
     {
         for plain in 0..most {
             match self.step() {
@@ -131,10 +131,10 @@ impl Machine {
         requires waiting { self.old.waiting ≡ true }
         ensures given { OnOk result ((answer : Option ℕ)
             × IsAt self.new (given (state_of self.old) answer) false false
-            × GaveOne (of_source I.read_gives I.left I.is_over I.faults input.old input.new)
+            × ReadsOneByte (source_change I.read_gives I.left I.is_over I.faults input.old input.new)
             answer) }
         ensures refused { OnErr result (I.read_gives input.old 1 None input.new) }
-        ensures cause { HasCause (I.faults input.old) (I.faults input.new) result }
+        ensures cause { FaultsAreCounted (I.faults input.old) (I.faults input.new) result }
         ensures fault { IfErr result (λ fault. fault ≡ Fault.Read) }
         ensures running { OnOk result (IsRunning self.new) }
         ensures broken { OnErr result (self.new.over ≡ true) }
@@ -159,10 +159,10 @@ impl Machine {
         requires range { IsSome (range_bytes self.old.memory addr len) }
         ensures done { OnOk result (self.new ≡ self.old) }
         ensures content { (bytes : List ℕ) → range_bytes self.old.memory addr len ≡ Some bytes
-            → Takes (K.taken out.old) (K.taken out.new) bytes result }
+            → PutTakesPrefix (K.taken out.old) (K.taken out.new) bytes result }
         ensures exactly { (bytes : List ℕ) → range_bytes self.old.memory addr len ≡ Some bytes
             → K.put_gives out.old bytes (is_ok result) out.new }
-        ensures cause { HasCause (K.faults out.old) (K.faults out.new) result }
+        ensures cause { FaultsAreCounted (K.faults out.old) (K.faults out.new) result }
         ensures fault { IfErr result (λ fault. fault ≡ Fault.Write) }
         ensures broken { OnErr result (self.new.over ≡ true) }
         ensures answered { self.new.waiting ≡ false }
@@ -180,9 +180,9 @@ impl Machine {
 /// One byte of a source, or `None` at its end.
 fn next_byte<I: Source>(input: &mut I) -> Result<Option<u8>, Failed>
     ensures next { IfOk result (λ byte.
-        GaveOne (of_source I.read_gives I.left I.is_over I.faults input.old input.new) byte) }
+        ReadsOneByte (source_change I.read_gives I.left I.is_over I.faults input.old input.new) byte) }
     ensures refused { OnErr result (I.read_gives input.old 1 None input.new) }
-    ensures cause { HasCause (I.faults input.old) (I.faults input.new) result }
+    ensures cause { FaultsAreCounted (I.faults input.old) (I.faults input.new) result }
 {
     let mut buf = [0];
     let count = input.read(&mut buf)?;

@@ -3,11 +3,11 @@
 ghost use Rattle.std.specs.Prelude.{◌≡◌, ℕ, ◌+◌, ◌%◌, ◌<◌, ◌≤◌, ◌^◌, Some, IsSome, true, map, length, take, drop, IfOk, OnOk, All, ◌⊎◌};
 ghost use Rattle.std.specs.Ordering.{nat_cmp};
 ghost use Rattle.std.specs.BTreeMap.{get};
-ghost use Rattle.elf32.specs.Image.{IsPart};
+ghost use Rattle.elf32.specs.Image.{IsSoundSegment};
 ghost use Rattle.rv32_machine.specs.declared.memory.Access.{Access};
 ghost use Rattle.rv32_machine.specs.declared.memory.Right.{Right};
 ghost use Rattle.rv32_machine.specs.Memory.{access, range_bytes, stretch_of, segment_at, IsInside, IsAllowed, IsPlace, bytes_of, little_endian, bytes_at, stored_at, is_in};
-ghost use Rattle.rv32_machine.specs.Decoded.{Fetches, IsDecoded};
+ghost use Rattle.rv32_machine.specs.Decoded.{IsFetchResult, IsCachedInstr};
 
 use crate::memory::{Access, Region, Right, access_at, place, read, starts, write};
 use elf32::{Loaded, Segment};
@@ -57,19 +57,19 @@ impl Model for Memory {
     ghost use Rattle.std.specs.Ordering.{nat_cmp};
     ghost use Rattle.std.specs.BTreeMap.{get};
     ghost use Rattle.rv32_machine.specs.Memory.{Stretch};
-    ghost use Rattle.rv32_machine.specs.Decoded.{IsStore};
+    ghost use Rattle.rv32_machine.specs.Decoded.{IsMemoryWithCache};
 
     ghost Value = { List Stretch };
 
     ghost view = { λ m. m.regions.items };
 
-    ghost invariant = { λ m. IsStore m.regions.items (get nat_cmp m.starts) m.decoded.items };
+    ghost invariant = { λ m. IsMemoryWithCache m.regions.items (get nat_cmp m.starts) m.decoded.items };
 }
 
 /// The segments at the start of a program.
 fn regions(alloc: Global, segments: &[Segment]) -> Result<Vec<Region>, AllocError>
     ensures regions { IfOk result (λ r. r.items ≡ map stretch_of segments.now) }
-    ensures parts { OnOk result (All IsPart segments.now) }
+    ensures parts { OnOk result (All IsSoundSegment segments.now) }
 {
     let mut regions = Vec::new(alloc);
     for segment in segments {
@@ -104,7 +104,7 @@ impl Memory {
     pub fn fetch(&mut self, address: u32) -> Fetched
         requires { address % 4 ≡ 0 }
         ensures same { self.new ≡ self.old }
-        ensures fetched { Fetches self.old address result }
+        ensures fetched { IsFetchResult self.old address result }
     {
         let kept = &self.decoded[(address / 4) as usize % PLACES];
         if kept.address == address {
@@ -118,7 +118,7 @@ impl Memory {
     fn decode(&mut self, address: u32) -> Fetched
         requires { address % 4 ≡ 0 }
         ensures same { self.new ≡ self.old }
-        ensures fetched { Fetches self.old address result }
+        ensures fetched { IsFetchResult self.old address result }
     {
         match self.locate(Right::Execute, address, 4) {
             Access::Outside(outside) => Fetched::Outside(outside),
@@ -136,9 +136,9 @@ impl Memory {
     /// Keeps an instruction.
     #[inline(always)]
     fn keep(&mut self, decoded: Decoded) -> Fetched
-        requires { IsDecoded self.old decoded }
+        requires { IsCachedInstr self.old decoded }
         ensures same { self.new ≡ self.old }
-        ensures fetched { Fetches self.old decoded.address result }
+        ensures fetched { IsFetchResult self.old decoded.address result }
     {
         let place = (decoded.address / 4) as usize % PLACES;
         self.decoded[place] = decoded;

@@ -5,7 +5,7 @@ use Rattle.std.proofs.Math.Nat.{mod-le}
 use Rattle.std.proofs.Math.IntN.{+ℤ_comm, *ℤ_comm}
 use Rattle.std.proofs.lemmas.Bool.Decides.{nat_tests}
 use Rattle.seq.proofs.Truth.{two_ways}
-use Rattle.numbers.specs.Numbers.{wrap, truth, same_number}
+use Rattle.numbers.specs.Numbers.{wrap, bool_as_number, same_number}
 use Rattle.rv32_isa.specs.declared.instr.Instr.TheVariants.{OpImm, Op}
 use Rattle.rv32_isa.specs.declared.instr.ImmKind.TheVariants.{Addi, Slti, Sltiu}
 use Rattle.rv32_isa.specs.declared.instr.OpKind.{OpKind}
@@ -16,7 +16,7 @@ use Rattle.rv32_items.specs.Course.{kind_of}
 use Rattle.rv32_select.specs.Decides.{compares, condition_one, condition_zero, condition, other_condition}
 use Rattle.rv32_machine.proofs.Division.{operations_agree}
 use Rattle.rv32_steps.specs.Data.{Bases}
-use Rattle.rv32_steps.specs.Straight.{value}
+use Rattle.rv32_steps.specs.Straight.{register_value}
 use Rattle.low_code.specs.declared.program.PrimOp.{PrimOp}
 use Rattle.low_code.specs.declared.program.PrimOp.TheVariants.{Add, Sub, Mul, Quot, Rem, Eq, Lt}
 use Rattle.low_code.specs.Arithmetic.{arithmetic}
@@ -99,11 +99,11 @@ difference_tells m n hm hn = elim (two_ways (nat_eq m n)) [
       let is : m ≡ n = grind (arith, nat_tests) in
       let none : nat_lt (minus m n) 1 ≡ true = let z : minus m n ≡ 0 = omega arith in grind (arith, nat_tests) in
       let same : same_number (signed m) (signed n) ≡ true = ap (λ x. same_number (signed m) (signed x)) (sym is) ∙ same_itself (signed m) in
-      ap bit none ∙ sym (ap (λ t. pattern (truth t)) same)
+      ap bit none ∙ sym (ap (λ t. pattern (bool_as_number t)) same)
   | inr e ↦
       let apart : m ≢ n = grind (arith, nat_tests) in
       let some : nat_lt (minus m n) 1 ≡ false = let z : 1 ≤ minus m n = omega arith in grind (arith, nat_tests) in
-      ap bit some ∙ sym (ap (λ t. pattern (truth t)) (signed_differ m n hm hn apart))
+      ap bit some ∙ sym (ap (λ t. pattern (bool_as_number t)) (signed_differ m n hm hn apart))
 ]
 
 -- ---- comparisons
@@ -129,10 +129,10 @@ comparison_is Eq m n e hm hn = elim (two_ways (nat_eq m n)) [
   | inl t ↦
       let is : m ≡ n = grind (arith, nat_tests) in
       let same : same_number (signed m) (signed n) ≡ true = ap (λ x. same_number (signed m) (signed x)) (sym is) ∙ same_itself (signed m) in
-      ap (λ t. pattern (truth t)) same ∙ sym (ap bit t)
+      ap (λ t. pattern (bool_as_number t)) same ∙ sym (ap bit t)
   | inr t ↦
       let apart : m ≢ n = grind (arith, nat_tests) in
-      ap (λ t. pattern (truth t)) (signed_differ m n hm hn apart) ∙ sym (ap bit t)
+      ap (λ t. pattern (bool_as_number t)) (signed_differ m n hm hn apart) ∙ sym (ap bit t)
 ]
 
 taken_one : (p : PrimOp) (m n : ℕ) → compares p ≡ true → is_taken (kind_of (condition_one p)) m n ≡ compared p m n
@@ -181,7 +181,7 @@ other_tells p m n (suc (suc k)) e hm hn lt = absurd (omega arith)
 pub arithmetic_turns : (p : PrimOp) (m n : ℕ) → is_free p ≡ true → arithmetic p m n ≡ arithmetic p n m
 arithmetic_turns Add m n e = ap (λ z. pattern (wrap z)) (+ℤ_comm (signed m) (signed n))
 arithmetic_turns Mul m n e = ap (λ z. pattern (wrap z)) (*ℤ_comm (signed m) (signed n))
-arithmetic_turns Eq m n e = ap (λ t. pattern (truth t)) (same_turns (signed m) (signed n))
+arithmetic_turns Eq m n e = ap (λ t. pattern (bool_as_number t)) (same_turns (signed m) (signed n))
 arithmetic_turns Sub m n e = absurd (cc)
 arithmetic_turns Quot m n e = absurd (cc)
 arithmetic_turns Rem m n e = absurd (cc)
@@ -189,16 +189,16 @@ arithmetic_turns Lt m n e = absurd (cc)
 
 module _ (c : Stretch) (b : Bases) where
   -- one instruction on two registers
-  by_one : (kind : OpKind) (r x y m n v : ℕ) (d : Data) → Good c b d → value d.regs x ≡ m → value d.regs y ≡ n → op_value kind m n < 2 ^ 32 → op_value kind m n ≡ v → Does c b (Op kind r x y ∷ []) d (with_reg d r v)
+  by_one : (kind : OpKind) (r x y m n v : ℕ) (d : Data) → Good c b d → register_value d.regs x ≡ m → register_value d.regs y ≡ n → op_value kind m n < 2 ^ 32 → op_value kind m n ≡ v → Does c b (Op kind r x y ∷ []) d (with_reg d r v)
   by_one kind r x y m n v d g em en small is =
-      does_op c b kind r x y v d g (ap (λ z. op_value kind z (value d.regs y)) em ∙ ap (op_value kind m) en ∙ is) (subst (λ z. z < 2 ^ 32) is small)
+      does_op c b kind r x y v d g (ap (λ z. op_value kind z (register_value d.regs y)) em ∙ ap (op_value kind m) en ∙ is) (subst (λ z. z < 2 ^ 32) is small)
 
   -- a word below 1 is a truth
   tells : (r m v : ℕ) (d : Data) → Good c b d → 1 ≤ r → d.regs r ≡ m → bit (nat_lt m 1) ≡ v → Does c b (OpImm Sltiu r r (pos 1) ∷ []) d (with_reg d r v)
   tells r m v d g one e is =
       does_imm c b Sltiu r r (pos 1) v d g (ap (λ z. bit (nat_lt z 1)) (value_is d.regs r one ∙ e) ∙ is) (subst (λ z. z < 2 ^ 32) is (bit_small (nat_lt m 1)))
 
-  pub operation_done : (p : PrimOp) (r x y m n : ℕ) (d : Data) → Good c b d → 1 ≤ r → x ≢ 7 → y ≢ 7 → value d.regs x ≡ m → value d.regs y ≡ n → Does c b (operation p r x y) d (with_reg d r (arithmetic p m n))
+  pub operation_done : (p : PrimOp) (r x y m n : ℕ) (d : Data) → Good c b d → 1 ≤ r → x ≢ 7 → y ≢ 7 → register_value d.regs x ≡ m → register_value d.regs y ≡ n → Does c b (operation p r x y) d (with_reg d r (arithmetic p m n))
   operation_done p r x y m n d g one nx ny em en = go p
     where
       hm : m < 2 ^ 32
@@ -222,7 +222,7 @@ module _ (c : Stretch) (b : Bases) where
           let second = tells r (minus m n) (arithmetic Eq m n) (with_reg d r (minus m n)) first.good one (set_here d.regs r (minus m n)) (difference_tells m n hm hn) in
           does_to c b (does_on c b first second) (again d r (minus m n) (arithmetic Eq m n))
 
-  pub immediate_done : (p : PrimOp) (r x m n : ℕ) (d : Data) → Good c b d → 1 ≤ r → x ≢ 7 → n < 2 ^ 32 → is_immediate p n ≡ true → value d.regs x ≡ m → Does c b (immediate p r x n) d (with_reg d r (arithmetic p m n))
+  pub immediate_done : (p : PrimOp) (r x m n : ℕ) (d : Data) → Good c b d → 1 ≤ r → x ≢ 7 → n < 2 ^ 32 → is_immediate p n ≡ true → register_value d.regs x ≡ m → Does c b (immediate p r x n) d (with_reg d r (arithmetic p m n))
   immediate_done p r x m n d g one nx hn short em = go p short
     where
       hm : m < 2 ^ 32
@@ -231,7 +231,7 @@ module _ (c : Stretch) (b : Bases) where
       negated_small : negated n < 2 ^ 32
       negated_small = omega arith
 
-      less : (k : ℕ) → k < 2 ^ 32 → is_short k ≡ true → plus (value d.regs x) (pattern (lower k)) ≡ plus m k
+      less : (k : ℕ) → k < 2 ^ 32 → is_short k ≡ true → plus (register_value d.regs x) (pattern (lower k)) ≡ plus m k
       less k lt s = ap (λ z. plus z (pattern (lower k))) em ∙ ap (plus m) (short_part k lt s)
 
       minus_is : plus m (negated n) ≡ minus m n

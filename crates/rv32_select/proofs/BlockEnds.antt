@@ -17,7 +17,7 @@ use Rattle.rv32_items.specs.declared.Item.{Item}
 use Rattle.rv32_items.specs.declared.Item.TheVariants.{Jump}
 use Rattle.rv32_items.specs.Course.{Layout}
 use Rattle.rv32_select.specs.declared.source.Source.{Source}
-use Rattle.rv32_select.specs.declared.source.Way.{Way}
+use Rattle.rv32_select.specs.declared.source.Continuation.{Continuation}
 use Rattle.rv32_select.specs.Emit.{leave_code, result_spots}
 use Rattle.rv32_select.specs.IsSelected.{sources}
 use Rattle.low_code.specs.Literals.{AreSmall}
@@ -155,7 +155,7 @@ module _ (l : Program) (a : Assignment) (cells stack : ℕ) (lay : Layout) (item
 module _ (l : Program) (a : Assignment) (cells stack : ℕ) (lay : Layout) (items : List Item) (begins : List ℕ) (s : Setting l a cells stack lay items begins) (calls_n : Calls) (n : ℕ)
     (f : ℕ) (q : Procedure) (pf : ProcedureFine l a f q) (framed : Bool) (j m : ℕ) (outer : List ℕ) (d0 : Data) (u : ℕ) where
   -- no alternative
-  pub fail_simulated : (to : List Spot) (way : Way) (Must : ℕ → Word → Type 0) (k k' : ℕ) (block : List Item) (p : ℕ) (scope later : List ℕ) (env : Env) (top : ℕ) (under : Option ℕ) (d : Data) (w : World)
+  pub fail_simulated : (to : List Spot) (way : Continuation) (Must : ℕ → Word → Type 0) (k k' : ℕ) (block : List Item) (p : ℕ) (scope later : List ℕ) (env : Env) (top : ℕ) (under : Option ℕ) (d : Data) (w : World)
       → Block l a cells stack lay items begins f q framed pf.slots j m outer d0 u n fail to way Must k k' block p scope later env top under d w
       → Simulates l a cells stack lay items begins f q framed pf.slots j m outer d0 u n calls_n fail to way Must p env top under d w
   unfolding code

@@ -16,10 +16,11 @@ use Rattle.register_alloc.specs.Assignment.{Assignment, place_of, words_at}
 use Rattle.rv32_items.specs.declared.Item.{Item}
 use Rattle.rv32_items.specs.declared.Item.TheVariants.{Label}
 use Rattle.rv32_items.specs.Course.{Layout, label_from, address_from}
-use Rattle.rv32_select.specs.declared.source.Way.{Way}
-use Rattle.rv32_select.specs.declared.source.Way.TheVariants.{Returns, Follows, Jumps}
+use Rattle.rv32_select.specs.declared.source.Continuation.{Continuation}
+use Rattle.rv32_select.specs.declared.source.Continuation.TheVariants.{Returns, Follows, Jumps}
 use Rattle.rv32_select.specs.Emit.{argument_spots, result_spots}
-use Rattle.rv32_select.specs.IsSelected.{Emits, first_label, is_lasting, stack_end}
+use Rattle.rv32_select.specs.IsSelected.{Emits, first_label, is_lasting}
+use Rattle.limits.specs.Limits.{stack_end}
 use Rattle.rv32_select.proofs.Courses.{Stands}
 use Rattle.rv32_select.proofs.Straight.{Data, Good, at}
 use Rattle.rv32_select.proofs.FrameViews.{spots, Outside, Kept}
@@ -195,7 +196,7 @@ module _ (l : Program) (a : Assignment) (cells stack : ℕ) (lay : Layout) (item
   room = record { cells = Some cells; stack = Some stack }
 
   -- the item behind a block
-  abbrev pub Ready : Way → ℕ → Type 0
+  abbrev pub Ready : Continuation → ℕ → Type 0
   Ready Returns p = Unit {0}
   Ready (Follows n) p = slice_get items p ≡ Some (Label n)
   Ready (Jumps n) p = (t : ℕ) × (slice_get items t ≡ Some (Label n))
@@ -213,14 +214,14 @@ module _ (l : Program) (a : Assignment) (cells stack : ℕ) (lay : Layout) (item
 
   module _ (f : ℕ) (q : Procedure) (framed : Bool) (slots j m : ℕ) (outer : List ℕ) (d0 : Data) (u n : ℕ) where
     -- a procedure returns its results in their registers
-    abbrev pub InRegisters : Way → List Spot → Type 0
+    abbrev pub InRegisters : Continuation → List Spot → Type 0
     InRegisters Returns to = to ≡ result_spots 10 q.results
     InRegisters (Follows n) to = Unit {0}
     InRegisters (Jumps n) to = Unit {0}
 
     -- what is known where a block or the arms of a choice begin, which have their own items, fitting places and needs;
     --     the frame begins at the j-th word of the stack, over u words; m is the item to which the procedure returns
-    pub record Entry (here : Bool) (Emitted Fitting : Type 0) (Needs : ℕ → Word → Type 0) (to : List Spot) (way : Way) (Must : ℕ → Word → Type 0) (k : ℕ) (block : List Item) (pos : ℕ) (scope later : List ℕ) (env : Env) (top : ℕ) (under : Option ℕ) (d : Data) (w : World) : Type 0 where
+    pub record Entry (here : Bool) (Emitted Fitting : Type 0) (Needs : ℕ → Word → Type 0) (to : List Spot) (way : Continuation) (Must : ℕ → Word → Type 0) (k : ℕ) (block : List Item) (pos : ℕ) (scope later : List ℕ) (env : Env) (top : ℕ) (under : Option ℕ) (d : Data) (w : World) : Type 0 where
       pub emits : Emitted
       pub stands : Stands items pos block
       pub ready : Ready way (pos + length block)
@@ -240,15 +241,15 @@ module _ (l : Program) (a : Assignment) (cells stack : ℕ) (lay : Layout) (item
       pub under_is : (v : ℕ) → under ≡ Some v → (v ≡ u) × (way ≡ Returns)
 
     -- a block whose items are said so, where the return address is in the frame or isn't
-    abbrev pub Opened : (here : Bool) (Emitted : Type 0) (c : Code) (to : List Spot) (way : Way) (Must : ℕ → Word → Type 0) (k : ℕ) (block : List Item) (pos : ℕ) (scope later : List ℕ) (env : Env) (top : ℕ) (under : Option ℕ) (d : Data) (w : World) → Type 0
+    abbrev pub Opened : (here : Bool) (Emitted : Type 0) (c : Code) (to : List Spot) (way : Continuation) (Must : ℕ → Word → Type 0) (k : ℕ) (block : List Item) (pos : ℕ) (scope later : List ℕ) (env : Env) (top : ℕ) (under : Option ℕ) (d : Data) (w : World) → Type 0
     Opened here Emitted c to way Must k block pos scope later env top under d w =
         Entry here Emitted (Fine l a f slots (slots_of (place_of a) (variables q)) scope c later) (Needed c env Must) to way Must k block pos scope later env top under d w
 
-    abbrev pub Block : (c : Code) (to : List Spot) (way : Way) (Must : ℕ → Word → Type 0) (k k' : ℕ) (block : List Item) (pos : ℕ) (scope later : List ℕ) (env : Env) (top : ℕ) (under : Option ℕ) (d : Data) (w : World) → Type 0
+    abbrev pub Block : (c : Code) (to : List Spot) (way : Continuation) (Must : ℕ → Word → Type 0) (k k' : ℕ) (block : List Item) (pos : ℕ) (scope later : List ℕ) (env : Env) (top : ℕ) (under : Option ℕ) (d : Data) (w : World) → Type 0
     Block c to way Must k k' block pos scope later env top under d w =
         Opened framed (Emits l a cells stack (words_at a f) (slots_of (place_of a) (variables q)) framed to way c k k' block) c to way Must k block pos scope later env top under d w
 
     -- the machine does for the block what its run does
-    abbrev pub Simulates : Calls → (c : Code) (to : List Spot) (way : Way) (Must : ℕ → Word → Type 0) (pos : ℕ) (env : Env) (top : ℕ) (under : Option ℕ) (d : Data) (w : World) → Type 0
+    abbrev pub Simulates : Calls → (c : Code) (to : List Spot) (way : Continuation) (Must : ℕ → Word → Type 0) (pos : ℕ) (env : Env) (top : ℕ) (under : Option ℕ) (d : Data) (w : World) → Type 0
     Simulates calls c to way Must pos env top under d w =
         Does' lay items begins (Given l a cells stack lay items framed f j slots d0 m outer to way Must) (at (bases stack) lay items pos d) (m ∷ outer) w (code l (words_at a) room calls env top under c w)

@@ -24,9 +24,10 @@ use Rattle.register_alloc.specs.Assignment.{Assignment, place_of, words_at}
 use Rattle.rv32_items.specs.declared.Item.{Item}
 use Rattle.rv32_items.specs.declared.Item.TheVariants.{Plain}
 use Rattle.rv32_items.specs.Course.{Layout}
-use Rattle.rv32_select.specs.declared.source.Way.{Way}
+use Rattle.rv32_select.specs.declared.source.Continuation.{Continuation}
 use Rattle.rv32_select.specs.Emit.{plain, held, hold, aside, back, put_code, get_code, move_to}
-use Rattle.rv32_select.specs.IsSelected.{heap_base, heap_end, source, Then}
+use Rattle.rv32_select.specs.IsSelected.{heap_end, source, Then}
+use Rattle.limits.specs.Limits.{heap_start}
 use Rattle.rv32_select.proofs.Courses.{Stands, front, back as behind, Goes}
 use Rattle.rv32_select.proofs.Straight.{Data, with_reg, with_stack, Good, good_reg, good_stack, Does, does_on, does_imm, does_op, does_load_stack, does_store_stack, at}
 use Rattle.rv32_select.proofs.FrameViews.{spots, InFrame, Outside, Kept, kept_reg, seen_reg, copied, stores}
@@ -57,14 +58,14 @@ called_parts items p before after whole e h =
 module _ (l : Program) (a : Assignment) (cells stack : ℕ) (lay : Layout) (items : List Item) (begins : List ℕ) (s : Setting l a cells stack lay items begins) (calls_n : Calls) (n : ℕ)
     (f : ℕ) (q : Procedure) (pf : ProcedureFine l a f q) (framed : Bool) (j m : ℕ) (outer : List ℕ) (d0 : Data) (u : ℕ) where
   -- the heap's end is a word
-  end_small : (d : Data) (w : World) → HoldsWorld l a cells stack lay d w → heap_base + 4 * l.width * cells < 2 ^ 32
+  end_small : (d : Data) (w : World) → HoldsWorld l a cells stack lay d w → heap_start + 4 * l.width * cells < 2 ^ 32
   end_small d w h =
       let words = h.heap_words in
       let below = h.good.laid.heap_below in
       let same : 4 * l.width * cells ≡ 4 * (l.width * cells) = omega arith in
       omega arith
 
-  pub put_simulated : (Rest : List Item → Type 0) (o : Operand) (c : Code) (to : List Spot) (way : Way) (Must : ℕ → Word → Type 0) (k : ℕ) (block : List Item) (p : ℕ) (scope later : List ℕ) (env : Env) (top : ℕ) (under : Option ℕ) (d : Data) (w : World)
+  pub put_simulated : (Rest : List Item → Type 0) (o : Operand) (c : Code) (to : List Spot) (way : Continuation) (Must : ℕ → Word → Type 0) (k : ℕ) (block : List Item) (p : ℕ) (scope later : List ℕ) (env : Env) (top : ℕ) (under : Option ℕ) (d : Data) (w : World)
       → Opened l a cells stack lay items begins f q framed pf.slots j m outer d0 u n true (Then (plain (put_code (heap_end l cells) (source l a o))) Rest block) (put o c) to way Must k block p scope later env top under d w
       → ((w' : World) (rest : List Item) (p' : ℕ) (d' : Data) → Opened l a cells stack lay items begins f q framed pf.slots j m outer d0 u n true (Rest rest) c to way Must k rest p' scope later env top under d' w'
       → Simulates l a cells stack lay items begins f q framed pf.slots j m outer d0 u n calls_n c to way Must p' env top under d' w')
@@ -278,7 +279,7 @@ module _ (l : Program) (a : Assignment) (cells stack : ℕ) (lay : Layout) (item
       seen_five e (Slot i) p regs' stack' regs words = words (j + (1 + i))
       seen_five e Scratch p regs' stack' regs words = absurd (p.1 refl)
 
-  pub get_simulated : (Rest : List Item → Type 0) (x : ℕ) (c : Code) (to : List Spot) (way : Way) (Must : ℕ → Word → Type 0) (k : ℕ) (block : List Item) (p : ℕ) (scope later : List ℕ) (env : Env) (top : ℕ) (under : Option ℕ) (d : Data) (w : World)
+  pub get_simulated : (Rest : List Item → Type 0) (x : ℕ) (c : Code) (to : List Spot) (way : Continuation) (Must : ℕ → Word → Type 0) (k : ℕ) (block : List Item) (p : ℕ) (scope later : List ℕ) (env : Env) (top : ℕ) (under : Option ℕ) (d : Data) (w : World)
       → Opened l a cells stack lay items begins f q framed pf.slots j m outer d0 u n true (Then (plain (get_code (heap_end l cells) (place_of a x))) Rest block) (get x c) to way Must k block p scope later env top under d w
       → ((v : Word) (w' : World) (rest : List Item) (p' : ℕ) (d' : Data) → Opened l a cells stack lay items begins f q framed pf.slots j m outer d0 u n true (Rest rest) c to way Must k rest p' (x ∷ scope) later (with_var x v env) top under d' w'
       → Simulates l a cells stack lay items begins f q framed pf.slots j m outer d0 u n calls_n c to way Must p' (with_var x v env) top under d' w')
@@ -352,7 +353,7 @@ module _ (l : Program) (a : Assignment) (cells stack : ℕ) (lay : Layout) (item
           let world : HoldsWorld l a cells stack lay z.to' w' = record {
             good = z.does.good;
             cells_are = subst (λ y. HoldsCells l.width y w'.cells) (sym z.heap) (subst (λ y. HoldsCells l.width d.heap y) (sym cells_same) h.cells_are);
-            next = z.next ∙ h.next ∙ ap (λ y. heap_base + 4 * l.width * y) (sym count);
+            next = z.next ∙ h.next ∙ ap (λ y. heap_start + 4 * l.width * y) (sym count);
             end = z.end;
             room = let r = h.room in omega arith;
             globals = let r = h.globals in omega arith;

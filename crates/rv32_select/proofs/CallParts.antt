@@ -7,7 +7,7 @@ use Rattle.rv32_isa.specs.declared.instr.Instr.{Instr}
 use Rattle.parallel_move.specs.declared.Spot.{Spot}
 use Rattle.parallel_move.specs.declared.Spot.TheVariants.{Reg, Slot, Scratch}
 use Rattle.parallel_move.specs.declared.Move.{Move}
-use Rattle.parallel_move.specs.Moves.{one_by_one}
+use Rattle.parallel_move.specs.Moves.{after_moves_in_order}
 use Rattle.low_code.specs.Tree.{Program}
 use Rattle.low_code.specs.Values.{Word}
 use Rattle.register_alloc.specs.Fits.{Ascending}
@@ -135,7 +135,7 @@ module _ (l : Program) (a : Assignment) (lay : Layout) (stack f j slots saved : 
         keeps = kept_on lay.code (bases stack) j slots z.keeps m.keeps;
       }
     where
-      still : (xs : List ℕ) → AllOwn l a f saved (map (place_of a) xs) → ((r : ℕ) → is_among r rs ≡ true → NotAmong (Reg r) (map (place_of a) xs)) → (vs : List Word) (e : Data) (m : Makes lay.code (bases stack) j slots (moves_code (restore_moves saved rs)) e (one_by_one (restore_moves saved rs) (spots lay.code (bases stack) j slots e)))
+      still : (xs : List ℕ) → AllOwn l a f saved (map (place_of a) xs) → ((r : ℕ) → is_among r rs ≡ true → NotAmong (Reg r) (map (place_of a) xs)) → (vs : List Word) (e : Data) (m : Makes lay.code (bases stack) j slots (moves_code (restore_moves saved rs)) e (after_moves_in_order (restore_moves saved rs) (spots lay.code (bases stack) j slots e)))
           → AllHold l.width (map (place_of a) xs) vs (spots lay.code (bases stack) j slots e) → AllHold l.width (map (place_of a) xs) vs (spots lay.code (bases stack) j slots m.to)
       still [] o unsaved vs e m h = tt
       still (x ∷ xs) o unsaved [] e m h = tt

@@ -20,9 +20,10 @@ use Rattle.rv32_items.specs.declared.Item.{Item}
 use Rattle.rv32_items.specs.declared.Item.TheVariants.{Plain, Jump}
 use Rattle.rv32_items.specs.Course.{Layout, Point, label_from, address_from}
 use Rattle.rv32_items.specs.Placed.{is_instruction}
-use Rattle.rv32_select.specs.declared.source.Way.{Way}
+use Rattle.rv32_select.specs.declared.source.Continuation.{Continuation}
 use Rattle.rv32_select.specs.Emit.{plain, moves_code, spot_moves, number_moves, argument_spots, result_spots, save_moves, restore_moves}
-use Rattle.rv32_select.specs.IsSelected.{sources, params_of, argument_spots_of, results_of, result_spots_of, IsOrder, moves_between, call_items, Then, is_lasting, stack_end}
+use Rattle.rv32_select.specs.IsSelected.{sources, params_of, argument_spots_of, results_of, result_spots_of, IsOrder, moves_between, call_items, Then, is_lasting}
+use Rattle.limits.specs.Limits.{stack_end}
 use Rattle.rv32_select.proofs.Courses.{Stands, front, back}
 use Rattle.rv32_select.proofs.Straight.{Data, does_on, at}
 use Rattle.rv32_select.proofs.JumpStretches.{jumped, calls_to, comes_back, there_less}
@@ -143,7 +144,7 @@ module _ (l : Program) (a : Assignment) (cells stack : ℕ) (lay : Layout) (item
       × IsOrder results (moves_between (map (place_of a) xs) (result_spots_of l g))
       × Then (call_items l a (slots_of (place_of a) (variables q)) g os (saves_at a site) arguments results) Rest block
 
-  module _ (Rest : List Item → Type 0) (g site : ℕ) (os : List Operand) (xs : List ℕ) (c : Code) (to : List Spot) (way : Way) (Must : ℕ → Word → Type 0) (k : ℕ) (block : List Item) (p : ℕ) (scope later : List ℕ) (env : Env) (top : ℕ) (under : Option ℕ) (d : Data) (w : World)
+  module _ (Rest : List Item → Type 0) (g site : ℕ) (os : List Operand) (xs : List ℕ) (c : Code) (to : List Spot) (way : Continuation) (Must : ℕ → Word → Type 0) (k : ℕ) (block : List Item) (p : ℕ) (scope later : List ℕ) (env : Env) (top : ℕ) (under : Option ℕ) (d : Data) (w : World)
       (b : Opened l a cells stack lay items begins f q framed pf.slots j m outer d0 u n true (CallEmits g site os xs Rest block) (call g site os xs c) to way Must k block p scope later env top under d w) where
     pub fit : CallFits l a f g
     fit = b.fine.1.0

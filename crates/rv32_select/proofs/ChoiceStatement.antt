@@ -3,7 +3,7 @@ use Rattle.std.proofs.Common.{◌≡◌, ◌≢◌, ℕ, suc, ◌+◌, ◌^◌, 
 use Rattle.std.specs.Prelude.{Option, nat_eq, slice_get}
 use Rattle.rv32_machine.specs.Arithmetic.{is_taken}
 use Rattle.rv32_machine.specs.Steps.{set_reg}
-use Rattle.rv32_steps.specs.Straight.{value}
+use Rattle.rv32_steps.specs.Straight.{register_value}
 use Rattle.parallel_move.specs.declared.Spot.{Spot}
 use Rattle.parallel_move.specs.declared.Spot.TheVariants.{Reg, Slot, Scratch}
 use Rattle.low_code.specs.declared.program.Operand.{Operand}
@@ -20,10 +20,10 @@ use Rattle.rv32_items.specs.declared.Cond.TheVariants.{Eq, Ne}
 use Rattle.rv32_items.specs.declared.Item.{Item}
 use Rattle.rv32_items.specs.declared.Item.TheVariants.{Label, Branch}
 use Rattle.rv32_items.specs.Course.{Layout, Point, label_from, kind_of}
-use Rattle.rv32_select.specs.declared.source.Way.{Way}
-use Rattle.rv32_select.specs.declared.source.Way.TheVariants.{Returns, Follows, Jumps}
+use Rattle.rv32_select.specs.declared.source.Continuation.{Continuation}
+use Rattle.rv32_select.specs.declared.source.Continuation.TheVariants.{Returns, Follows, Jumps}
 use Rattle.rv32_select.specs.Emit.{plain, held as held_in, hold, branch_items, test_items, compare_items, match_items}
-use Rattle.rv32_select.specs.IsSelected.{source, tests_items, further, Then, Emits, EmitsArms}
+use Rattle.rv32_select.specs.IsSelected.{source, tests_items, continued_by_jump, Then, Emits, EmitsArms}
 use Rattle.low_code.specs.Literals.{IsSmall, TestsSmall}
 use Rattle.rv32_select.proofs.Courses.{Goes, Stands, front, back, stays}
 use Rattle.rv32_select.proofs.Straight.{Data, with_reg, does_on, at}
@@ -50,12 +50,12 @@ module _ (l : Program) (a : Assignment) (cells stack : ℕ) (lay : Layout) (item
   ArmsNeed as' env Must x v = ((is_among x (arms_uses as') ≡ true) × (env x ≡ Some v)) ⊎ Must x v
 
   -- the arms of a choice in the items
-  abbrev pub ArmsBlock : (as' : Arms) (to : List Spot) (way : Way) (Must : ℕ → Word → Type 0) (k k' : ℕ) (block : List Item) (pos : ℕ) (scope later : List ℕ) (env : Env) (top : ℕ) (under : Option ℕ) (d : Data) (w : World) → Type 0
+  abbrev pub ArmsBlock : (as' : Arms) (to : List Spot) (way : Continuation) (Must : ℕ → Word → Type 0) (k k' : ℕ) (block : List Item) (pos : ℕ) (scope later : List ℕ) (env : Env) (top : ℕ) (under : Option ℕ) (d : Data) (w : World) → Type 0
   ArmsBlock as' to way Must k k' block pos scope later env top under d w =
       Entry l a cells stack lay items begins f q framed pf.slots j m outer d0 u n framed (EmitsArms l a cells stack (words_at a f) (slots_of (place_of a) (variables q)) framed to way as' k k' block)
       (ArmsFine l a f pf.slots (slots_of (place_of a) (variables q)) scope as' later) (ArmsNeed as' env Must) to way Must k block pos scope later env top under d w
 
-  abbrev pub ArmsSimulates : (as' : Arms) (to : List Spot) (way : Way) (Must : ℕ → Word → Type 0) (pos : ℕ) (env : Env) (top : ℕ) (under : Option ℕ) (d : Data) (w : World) → Type 0
+  abbrev pub ArmsSimulates : (as' : Arms) (to : List Spot) (way : Continuation) (Must : ℕ → Word → Type 0) (pos : ℕ) (env : Env) (top : ℕ) (under : Option ℕ) (d : Data) (w : World) → Type 0
   ArmsSimulates as' to way Must pos env top under d w =
       Does' lay items begins (Given l a cells stack lay items framed f j pf.slots d0 m outer to way Must) (at (bases stack) lay items pos d) (m ∷ outer) w (arms l (words_at a) (room l a cells stack lay items begins) calls_n env top under as' w)
 
@@ -109,11 +109,11 @@ module _ (l : Program) (a : Assignment) (cells stack : ℕ) (lay : Layout) (item
       let two = held_by lay.code (bases stack) j pf.slots 6 right e1 one.does.good (in_frame lay.code (bases stack) j pf.slots st.frame k1) (omega arith) (omega arith) r'.0 in
       let e2 = with_reg (with_reg e1 7 two.seven) 6 two.own in
       let k2 = kept_on lay.code (bases stack) j pf.slots k1 (hold_kept lay.code (bases stack) j pf.slots 6 right e1 two (omega arith)) in
-      let left_is : value e2.regs (held_in 5 left) ≡ g =
+      let left_is : register_value e2.regs (held_in 5 left) ≡ g =
       held_stays lay.code (bases stack) j pf.slots (set_reg e1.regs 7 two.seven) 5 0 6 two.own left r.0 (omega arith) (omega arith) (omega arith)
       ∙ held_stays lay.code (bases stack) j pf.slots e1.regs 5 0 7 two.seven left r.0 (omega arith) (omega arith) (omega arith)
       ∙ one.value_is' ∙ r.1 in
-      let right_is : value e2.regs (held_in 6 right) ≡ h =
+      let right_is : register_value e2.regs (held_in 6 right) ≡ h =
       two.value_is' ∙ read_same lay.code (bases stack) j pf.slots right d e1 r'.0 (hold_seen lay.code (bases stack) j pf.slots 5 left d one (omega arith) (omega arith)) ∙ r'.1 in
       let is = hold 5 left ++ hold 6 right in
       let branch = Branch cond (held_in 5 left) (held_in 6 right) next in
@@ -124,7 +124,7 @@ module _ (l : Program) (a : Assignment) (cells stack : ℕ) (lay : Layout) (item
       let world = world_kept l a cells stack lay j pf.slots d e2 w st.world two.does.good k2 in
       let seen = λ (y : Spot) (z : IsPlace lay.code (bases stack) j pf.slots y). hold_seen lay.code (bases stack) j pf.slots 6 right e1 two (omega arith) (omega arith) y z ∙ hold_seen lay.code (bases stack) j pf.slots 5 left d one (omega arith) (omega arith) y z in
       let st2 = stood_same l a cells stack lay framed f j pf.slots (slots_of (place_of a) (variables q)) d0 (lay.address m) (Needed c0 env Must) (Needed c0 env Must) d e2 w w pf.enough st world (home_kept l a cells stack lay framed j (lay.address m) d e2 k2.link refl st.home) k2.frame k2.words (λ y. refl) seen (λ y v z. (z, owned_of y v z)) in
-      let compare : is_taken (kind_of cond) (value e2.regs (held_in 5 left)) (value e2.regs (held_in 6 right)) ≡ is_taken (kind_of cond) g h = λ i. is_taken (kind_of cond) (left_is i) (right_is i) in
+      let compare : is_taken (kind_of cond) (register_value e2.regs (held_in 5 left)) (register_value e2.regs (held_in 6 right)) ≡ is_taken (kind_of cond) g h = λ i. is_taken (kind_of cond) (left_is i) (right_is i) in
       let behind : suc pb ≡ p + length (branch_items cond next left right) = let y = length-append (plain is) (branch ∷ []) in omega arith in
       record {
         to' = e2;
@@ -199,33 +199,33 @@ module _ (l : Program) (a : Assignment) (cells stack : ℕ) (lay : Layout) (item
 
   -- ---- arms
 
-  pub further_given : (to : List Spot) (way : Way) (Must : ℕ → Word → Type 0) (vs : List Word) (v : World) (p : Point) (c : List ℕ) → Given l a cells stack lay items framed f j pf.slots d0 m outer to (further way) Must vs v p c → Given l a cells stack lay items framed f j pf.slots d0 m outer to way Must vs v p c
+  pub further_given : (to : List Spot) (way : Continuation) (Must : ℕ → Word → Type 0) (vs : List Word) (v : World) (p : Point) (c : List ℕ) → Given l a cells stack lay items framed f j pf.slots d0 m outer to (continued_by_jump way) Must vs v p c → Given l a cells stack lay items framed f j pf.slots d0 m outer to way Must vs v p c
   further_given to Returns Must vs v p c h = h
   further_given to (Follows k) Must vs v p c h = h
   further_given to (Jumps k) Must vs v p c h = h
 
-  pub further_ready : (way : Way) (e e' : ℕ) → Ready l a cells stack lay items begins way e → Ready l a cells stack lay items begins (further way) e'
+  pub further_ready : (way : Continuation) (e e' : ℕ) → Ready l a cells stack lay items begins way e → Ready l a cells stack lay items begins (continued_by_jump way) e'
   further_ready Returns e e' h = tt
   further_ready (Follows k) e e' h = (e, h)
   further_ready (Jumps k) e e' h = h
 
-  pub further_registers : (way : Way) (to : List Spot) → InRegisters l a cells stack lay items begins f q framed pf.slots j m outer d0 u n way to → InRegisters l a cells stack lay items begins f q framed pf.slots j m outer d0 u n (further way) to
+  pub further_registers : (way : Continuation) (to : List Spot) → InRegisters l a cells stack lay items begins f q framed pf.slots j m outer d0 u n way to → InRegisters l a cells stack lay items begins f q framed pf.slots j m outer d0 u n (continued_by_jump way) to
   further_registers Returns to h = h
   further_registers (Follows k) to h = tt
   further_registers (Jumps k) to h = tt
 
   -- the items of an arm and the arms behind it, and those of arms and the first behind them
-  abbrev pub InOrder : (ts : List LowTest) (c : Code) (as' : Arms) (to : List Spot) (way : Way) (k k' : ℕ) (block : List Item) → Type 0
+  abbrev pub InOrder : (ts : List LowTest) (c : Code) (as' : Arms) (to : List Spot) (way : Continuation) (k k' : ℕ) (block : List Item) → Type 0
   InOrder ts c as' to way k k' block =
-      (i : ℕ) × (inner : List Item) × Emits l a cells stack (words_at a f) (slots_of (place_of a) (variables q)) framed to (further way) c (suc k) i inner
+      (i : ℕ) × (inner : List Item) × Emits l a cells stack (words_at a f) (slots_of (place_of a) (variables q)) framed to (continued_by_jump way) c (suc k) i inner
       × Then (tests_items l a k ts ++ (inner ++ Label k ∷ [])) (EmitsArms l a cells stack (words_at a f) (slots_of (place_of a) (variables q)) framed to way as' i k') block
 
-  abbrev pub Turned : (t : LowTest) (c : Code) (as' : Arms) (to : List Spot) (way : Way) (k k' : ℕ) (block : List Item) → Type 0
+  abbrev pub Turned : (t : LowTest) (c : Code) (as' : Arms) (to : List Spot) (way : Continuation) (k k' : ℕ) (block : List Item) → Type 0
   Turned t c as' to way k k' block =
-      (i : ℕ) × (others : List Item) × EmitsArms l a cells stack (words_at a f) (slots_of (place_of a) (variables q)) framed to (further way) as' (suc k) i others
+      (i : ℕ) × (others : List Item) × EmitsArms l a cells stack (words_at a f) (slots_of (place_of a) (variables q)) framed to (continued_by_jump way) as' (suc k) i others
       × Then (match_items k (source l a t.left) t.right ++ (others ++ Label k ∷ [])) (Emits l a cells stack (words_at a f) (slots_of (place_of a) (variables q)) framed to way c i k') block
 
-  module _ (ts : List LowTest) (c : Code) (as' : Arms) (to : List Spot) (way : Way) (Must : ℕ → Word → Type 0) (k k' : ℕ) (block : List Item) (p : ℕ) (scope later : List ℕ) (env : Env) (top : ℕ) (under : Option ℕ) (d : Data) (w : World)
+  module _ (ts : List LowTest) (c : Code) (as' : Arms) (to : List Spot) (way : Continuation) (Must : ℕ → Word → Type 0) (k k' : ℕ) (block : List Item) (p : ℕ) (scope later : List ℕ) (env : Env) (top : ℕ) (under : Option ℕ) (d : Data) (w : World)
       (b : ArmsBlock (arm ts c as') to way Must k k' block p scope later env top under d w) (h : InOrder ts c as' to way k k' block) where
     tests : List Item
     tests = tests_items l a k ts
@@ -239,8 +239,8 @@ module _ (l : Program) (a : Assignment) (cells stack : ℕ) (lay : Layout) (item
     label_here : slice_get items (p + length (tests_items l a k ts) + length h.1) ≡ Some (Label k)
     label_here = (back items (p + length (tests_items l a k ts)) h.1 (Label k ∷ []) behind_tests).0
 
-    pub arm_simulated : ((d' : Data) → Block l a cells stack lay items begins f q framed pf.slots j m outer d0 u n c to (further way) Must (suc k) h.0 h.1 (p + length (tests_items l a k ts)) scope later env top under d' w
-        → Simulates l a cells stack lay items begins f q framed pf.slots j m outer d0 u n calls_n c to (further way) Must (p + length (tests_items l a k ts)) env top under d' w)
+    pub arm_simulated : ((d' : Data) → Block l a cells stack lay items begins f q framed pf.slots j m outer d0 u n c to (continued_by_jump way) Must (suc k) h.0 h.1 (p + length (tests_items l a k ts)) scope later env top under d' w
+        → Simulates l a cells stack lay items begins f q framed pf.slots j m outer d0 u n calls_n c to (continued_by_jump way) Must (p + length (tests_items l a k ts)) env top under d' w)
         → ((d' : Data) → ArmsBlock as' to way Must h.0 k' h.3.0 (p + length (tests_items l a k ts ++ (h.1 ++ Label k ∷ []))) scope later env top under d' w
         → ArmsSimulates as' to way Must (p + length (tests_items l a k ts ++ (h.1 ++ Label k ∷ []))) env top under d' w)
         → ArmsSimulates (arm ts c as') to way Must p env top under d w
@@ -275,10 +275,10 @@ module _ (l : Program) (a : Assignment) (cells stack : ℕ) (lay : Layout) (item
               base = b.base;
               left = b.left;
               top_is = b.top_is;
-              under_is = λ v z. let is = b.under_is v z in (is.0, ap further is.1);
+              under_is = λ v z. let is = b.under_is v z in (is.0, ap continued_by_jump is.1);
             }) in
             does_after lay items begins (Given l a cells stack lay items framed f j pf.slots d0 m outer to way Must) (code l (words_at a) (room l a cells stack lay items begins) calls_n env top under c w) T.1.0
-            (does_map lay items begins (Given l a cells stack lay items framed f j pf.slots d0 m outer to (further way) Must) (Given l a cells stack lay items framed f j pf.slots d0 m outer to way Must) (at (bases stack) lay items (p + length (tests_items l a k ts)) T.0) (m ∷ outer) w
+            (does_map lay items begins (Given l a cells stack lay items framed f j pf.slots d0 m outer to (continued_by_jump way) Must) (Given l a cells stack lay items framed f j pf.slots d0 m outer to way Must) (at (bases stack) lay items (p + length (tests_items l a k ts)) T.0) (m ∷ outer) w
             (code l (words_at a) (room l a cells stack lay items begins) calls_n env top under c w) (further_given to way Must) done)
           where
             weaken_code : (y : ℕ) (v : Word) → Needed c env Must y v → Needed (choose (arm ts c as')) env Must y v
@@ -298,7 +298,7 @@ module _ (l : Program) (a : Assignment) (cells stack : ℕ) (lay : Layout) (item
               emits = h.3.2;
               stands = parts.more;
               ready = ready_at l a cells stack lay items begins way (p + length block) (p + length (tests_items l a k ts ++ (h.1 ++ Label k ∷ [])) + length h.3.0) parts.end b.ready;
-              above = let le = b.above in let up = emits_up l a cells stack (words_at a f) (slots_of (place_of a) (variables q)) framed c to (further way) (suc k) h.0 h.1 h.2 in omega arith;
+              above = let le = b.above in let up = emits_up l a cells stack (words_at a f) (slots_of (place_of a) (variables q)) framed c to (continued_by_jump way) (suc k) h.0 h.1 h.2 in omega arith;
               fine = b.fine.1.1;
               scoped = b.scoped;
               owned = b.owned;
@@ -333,7 +333,7 @@ module _ (l : Program) (a : Assignment) (cells stack : ℕ) (lay : Layout) (item
       by_same true e = cc
       by_same false e = cc
 
-  module _ (t : LowTest) (c : Code) (as' : Arms) (to : List Spot) (way : Way) (Must : ℕ → Word → Type 0) (k k' : ℕ) (block : List Item) (p : ℕ) (scope later : List ℕ) (env : Env) (top : ℕ) (under : Option ℕ) (d : Data) (w : World)
+  module _ (t : LowTest) (c : Code) (as' : Arms) (to : List Spot) (way : Continuation) (Must : ℕ → Word → Type 0) (k k' : ℕ) (block : List Item) (p : ℕ) (scope later : List ℕ) (env : Env) (top : ℕ) (under : Option ℕ) (d : Data) (w : World)
       (b : Block l a cells stack lay items begins f q framed pf.slots j m outer d0 u n (choose (arm (t ∷ []) c as')) to way Must k k' block p scope later env top under d w) (h : Turned t c as' to way k k' block) where
     turned_parts : Cut items p (match_items k (source l a t.left) t.right ++ (h.1 ++ Label k ∷ [])) h.3.0 block
     turned_parts = cut items p (match_items k (source l a t.left) t.right ++ (h.1 ++ Label k ∷ [])) h.3.0 block h.3.1 b.stands
@@ -346,8 +346,8 @@ module _ (l : Program) (a : Assignment) (cells stack : ℕ) (lay : Layout) (item
 
     pub turned_simulated : ((d' : Data) → Block l a cells stack lay items begins f q framed pf.slots j m outer d0 u n c to way Must h.0 k' h.3.0 (p + length (match_items k (source l a t.left) t.right ++ (h.1 ++ Label k ∷ []))) scope later env top under d' w
         → Simulates l a cells stack lay items begins f q framed pf.slots j m outer d0 u n calls_n c to way Must (p + length (match_items k (source l a t.left) t.right ++ (h.1 ++ Label k ∷ []))) env top under d' w)
-        → ((d' : Data) → ArmsBlock as' to (further way) Must (suc k) h.0 h.1 (p + length (match_items k (source l a t.left) t.right)) scope later env top under d' w
-        → ArmsSimulates as' to (further way) Must (p + length (match_items k (source l a t.left) t.right)) env top under d' w)
+        → ((d' : Data) → ArmsBlock as' to (continued_by_jump way) Must (suc k) h.0 h.1 (p + length (match_items k (source l a t.left) t.right)) scope later env top under d' w
+        → ArmsSimulates as' to (continued_by_jump way) Must (p + length (match_items k (source l a t.left) t.right)) env top under d' w)
         → ArmsSimulates (arm (t ∷ []) c as') to way Must p env top under d w
     unfolding arms
     turned_simulated block_done more = by_holds (holds l (words_at a) env (t ∷ [])) refl
@@ -372,7 +372,7 @@ module _ (l : Program) (a : Assignment) (cells stack : ℕ) (lay : Layout) (item
               emits = h.3.2;
               stands = turned_parts.more;
               ready = ready_at l a cells stack lay items begins way (p + length block) (p + length (match_items k (source l a t.left) t.right ++ (h.1 ++ Label k ∷ [])) + length h.3.0) turned_parts.end b.ready;
-              above = let le = b.above in let up = arms_up l a cells stack (words_at a f) (slots_of (place_of a) (variables q)) framed as' to (further way) (suc k) h.0 h.1 h.2 in omega arith;
+              above = let le = b.above in let up = arms_up l a cells stack (words_at a f) (slots_of (place_of a) (variables q)) framed as' to (continued_by_jump way) (suc k) h.0 h.1 h.2 in omega arith;
               fine = b.fine.1.0;
               scoped = b.scoped;
               owned = b.owned;
@@ -413,10 +413,10 @@ module _ (l : Program) (a : Assignment) (cells stack : ℕ) (lay : Layout) (item
               base = b.base;
               left = b.left;
               top_is = b.top_is;
-              under_is = λ v z. let is = b.under_is v z in (is.0, ap further is.1);
+              under_is = λ v z. let is = b.under_is v z in (is.0, ap continued_by_jump is.1);
             }) in
             does_after lay items begins (Given l a cells stack lay items framed f j pf.slots d0 m outer to way Must) (arms l (words_at a) (room l a cells stack lay items begins) calls_n env top under as' w) (T.same is.1.1)
-            (does_map lay items begins (Given l a cells stack lay items framed f j pf.slots d0 m outer to (further way) Must) (Given l a cells stack lay items framed f j pf.slots d0 m outer to way Must) (at (bases stack) lay items (p + length (match_items k (source l a t.left) t.right)) T.to') (m ∷ outer) w
+            (does_map lay items begins (Given l a cells stack lay items framed f j pf.slots d0 m outer to (continued_by_jump way) Must) (Given l a cells stack lay items framed f j pf.slots d0 m outer to way Must) (at (bases stack) lay items (p + length (match_items k (source l a t.left) t.right)) T.to') (m ∷ outer) w
             (arms l (words_at a) (room l a cells stack lay items begins) calls_n env top under as' w) (further_given to way Must) done)
           where
             weaken_arms : (y : ℕ) (v : Word) → ArmsNeed as' env Must y v → Needed (choose (arm (t ∷ []) c as')) env Must y v
@@ -429,19 +429,19 @@ module _ (l : Program) (a : Assignment) (cells stack : ℕ) (lay : Layout) (item
         by_holds (Some true) e = held e
         by_holds (Some false) e = not_held e
 
-  pub turned_arm : (ts : List LowTest) (t : LowTest) (c : Code) (as' : Arms) (to : List Spot) (way : Way) (Must : ℕ → Word → Type 0) (k k' : ℕ) (block : List Item) (p : ℕ) (scope later : List ℕ) (env : Env) (top : ℕ) (under : Option ℕ) (d : Data) (w : World)
+  pub turned_arm : (ts : List LowTest) (t : LowTest) (c : Code) (as' : Arms) (to : List Spot) (way : Continuation) (Must : ℕ → Word → Type 0) (k k' : ℕ) (block : List Item) (p : ℕ) (scope later : List ℕ) (env : Env) (top : ℕ) (under : Option ℕ) (d : Data) (w : World)
       → ts ≡ t ∷ [] → Block l a cells stack lay items begins f q framed pf.slots j m outer d0 u n (choose (arm ts c as')) to way Must k k' block p scope later env top under d w → (h : Turned t c as' to way k k' block)
       → ((d' : Data) → Block l a cells stack lay items begins f q framed pf.slots j m outer d0 u n c to way Must h.0 k' h.3.0 (p + length (match_items k (source l a t.left) t.right ++ (h.1 ++ Label k ∷ []))) scope later env top under d' w
       → Simulates l a cells stack lay items begins f q framed pf.slots j m outer d0 u n calls_n c to way Must (p + length (match_items k (source l a t.left) t.right ++ (h.1 ++ Label k ∷ []))) env top under d' w)
-      → ((d' : Data) → ArmsBlock as' to (further way) Must (suc k) h.0 h.1 (p + length (match_items k (source l a t.left) t.right)) scope later env top under d' w
-      → ArmsSimulates as' to (further way) Must (p + length (match_items k (source l a t.left) t.right)) env top under d' w)
+      → ((d' : Data) → ArmsBlock as' to (continued_by_jump way) Must (suc k) h.0 h.1 (p + length (match_items k (source l a t.left) t.right)) scope later env top under d' w
+      → ArmsSimulates as' to (continued_by_jump way) Must (p + length (match_items k (source l a t.left) t.right)) env top under d' w)
       → ArmsSimulates (arm ts c as') to way Must p env top under d w
   turned_arm ts t c as' to way Must k k' block p scope later env top under d w e b h block_done more =
       subst (λ x. Block l a cells stack lay items begins f q framed pf.slots j m outer d0 u n (choose (arm x c as')) to way Must k k' block p scope later env top under d w → ArmsSimulates (arm x c as') to way Must p env top under d w) (sym e)
       (λ b'. turned_simulated t c as' to way Must k k' block p scope later env top under d w b' h block_done more) b
 
   -- a choice whose arms stand in order
-  pub arms_block : (as' : Arms) (to : List Spot) (way : Way) (Must : ℕ → Word → Type 0) (k k' : ℕ) (block : List Item) (p : ℕ) (scope later : List ℕ) (env : Env) (top : ℕ) (under : Option ℕ) (d : Data) (w : World)
+  pub arms_block : (as' : Arms) (to : List Spot) (way : Continuation) (Must : ℕ → Word → Type 0) (k k' : ℕ) (block : List Item) (p : ℕ) (scope later : List ℕ) (env : Env) (top : ℕ) (under : Option ℕ) (d : Data) (w : World)
       → Block l a cells stack lay items begins f q framed pf.slots j m outer d0 u n (choose as') to way Must k k' block p scope later env top under d w
       → EmitsArms l a cells stack (words_at a f) (slots_of (place_of a) (variables q)) framed to way as' k k' block → ArmsBlock as' to way Must k k' block p scope later env top under d w
   arms_block as' to way Must k k' block p scope later env top under d w b h = record {
@@ -465,13 +465,13 @@ module _ (l : Program) (a : Assignment) (cells stack : ℕ) (lay : Layout) (item
   }
 
   -- a choice is its arms
-  pub choice : (as' : Arms) (to : List Spot) (way : Way) (Must : ℕ → Word → Type 0) (k k' : ℕ) (block : List Item) (p : ℕ) (scope later : List ℕ) (env : Env) (top : ℕ) (under : Option ℕ) (d : Data) (w : World)
+  pub choice : (as' : Arms) (to : List Spot) (way : Continuation) (Must : ℕ → Word → Type 0) (k k' : ℕ) (block : List Item) (p : ℕ) (scope later : List ℕ) (env : Env) (top : ℕ) (under : Option ℕ) (d : Data) (w : World)
       → ArmsSimulates as' to way Must p env top under d w → Simulates l a cells stack lay items begins f q framed pf.slots j m outer d0 u n calls_n (choose as') to way Must p env top under d w
   unfolding code
   choice as' to way Must k k' block p scope later env top under d w h = h
 
   -- the last arm is its block
-  pub last_arm : (c : Code) (to : List Spot) (way : Way) (Must : ℕ → Word → Type 0) (k k' : ℕ) (block : List Item) (p : ℕ) (scope later : List ℕ) (env : Env) (top : ℕ) (under : Option ℕ) (d : Data) (w : World)
+  pub last_arm : (c : Code) (to : List Spot) (way : Continuation) (Must : ℕ → Word → Type 0) (k k' : ℕ) (block : List Item) (p : ℕ) (scope later : List ℕ) (env : Env) (top : ℕ) (under : Option ℕ) (d : Data) (w : World)
       → Simulates l a cells stack lay items begins f q framed pf.slots j m outer d0 u n calls_n c to way Must p env top under d w → ArmsSimulates (otherwise c) to way Must p env top under d w
   unfolding arms
   last_arm c to way Must k k' block p scope later env top under d w h = h

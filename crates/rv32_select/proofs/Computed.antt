@@ -9,7 +9,7 @@ use Rattle.rv32_machine.specs.Memory.{Stretch}
 use Rattle.rv32_machine.specs.Arithmetic.{plus}
 use Rattle.rv32_machine.specs.Steps.{set_reg}
 use Rattle.rv32_steps.specs.Data.{Bases}
-use Rattle.rv32_steps.specs.Straight.{value}
+use Rattle.rv32_steps.specs.Straight.{register_value}
 use Rattle.parallel_move.specs.declared.Spot.{Spot}
 use Rattle.parallel_move.specs.declared.Spot.TheVariants.{Reg, Slot, Scratch}
 use Rattle.low_code.specs.declared.program.PrimOp.{PrimOp}
@@ -67,7 +67,7 @@ module _ (c : Stretch) (b : Bases) (j slots : ℕ) where
   sets_word t s off i d g f o readable is inside =
       let h = holds c b j slots 5 s d g f (omega arith) (omega arith) readable in
       let e = with_reg (with_reg d 7 h.seven) 5 h.own in
-      let place : plus (value e.regs (held 5 s)) off ≡ b.heap + 4 * i = ap (λ x. plus x off) h.value_is' ∙ is in
+      let place : plus (register_value e.regs (held 5 s)) off ≡ b.heap + 4 * i = ap (λ x. plus x off) h.value_is' ∙ is in
       let does = does_on c b h.does (does_load_heap c b (target 5 t) (held 5 s) (pos off) i e h.does.good place inside) in
       let last = kept_to c b j slots t e (get_or d.heap i 0) o (small_word c b d.heap i g.laid.heap_words) f (hold_kept 5 s d h (omega arith)) (hold_seen 5 s d h (omega arith) (omega arith)) does in
       subst (λ x. Sets c b j slots x d t (get_or d.heap i 0)) (append_assoc (hold 5 s) (Load Lw (target 5 t) (held 5 s) (pos off) ∷ []) (keep 5 t)) last
@@ -95,11 +95,11 @@ module _ (c : Stretch) (b : Bases) (j slots : ℕ) where
       let e = with_reg (with_reg d 7 h.seven) 5 h.own in
       let h' = holds c b j slots 6 word e h.does.good (in_frame c b j slots f (hold_kept 5 cell d h (omega arith))) (omega arith) (omega arith) readable' in
       let e' = with_reg (with_reg e 7 h'.seven) 6 h'.own in
-      let base : value e'.regs (held 5 cell) ≡ read c b j slots d cell =
+      let base : register_value e'.regs (held 5 cell) ≡ read c b j slots d cell =
       held_stays c b j slots (set_reg e.regs 7 h'.seven) 5 0 6 h'.own cell readable (omega arith) (omega arith) (omega arith)
       ∙ held_stays c b j slots e.regs 5 0 7 h'.seven cell readable (omega arith) (omega arith) (omega arith)
       ∙ h.value_is' in
-      let place : plus (value e'.regs (held 5 cell)) off ≡ b.heap + 4 * i = ap (λ x. plus x off) base ∙ is in
+      let place : plus (register_value e'.regs (held 5 cell)) off ≡ b.heap + 4 * i = ap (λ x. plus x off) base ∙ is in
       let same_word = h'.value_is' ∙ read_same c b j slots word d e readable' (hold_seen 5 cell d h (omega arith) (omega arith)) in
       let store = does_store_heap c b (held 6 word) (held 5 cell) (pos off) i (read c b j slots d word) e' h'.does.good (held_not_seven c b j slots 6 word readable' (omega arith)) place inside same_word in
       record {
@@ -136,7 +136,7 @@ module _ (c : Stretch) (b : Bases) (j slots : ℕ) where
       let e = with_reg (with_reg d 7 h.seven) 5 h.own in
       let h' = holds c b j slots 6 right e h.does.good (in_frame c b j slots f (hold_kept 5 left d h (omega arith))) (omega arith) (omega arith) readable' in
       let e' = with_reg (with_reg e 7 h'.seven) 6 h'.own in
-      let left_is : value e'.regs (held 5 left) ≡ read c b j slots d left =
+      let left_is : register_value e'.regs (held 5 left) ≡ read c b j slots d left =
       held_stays c b j slots (set_reg e.regs 7 h'.seven) 5 0 6 h'.own left readable (omega arith) (omega arith) (omega arith)
       ∙ held_stays c b j slots e.regs 5 0 7 h'.seven left readable (omega arith) (omega arith) (omega arith)
       ∙ h.value_is' in

@@ -22,11 +22,11 @@ use Rattle.rv32_items.specs.declared.Item.{Item}
 use Rattle.rv32_items.specs.declared.Item.TheVariants.{Label}
 use Rattle.rv32_items.specs.Course.{Layout, kind_of}
 use Rattle.rv32_machine.specs.Arithmetic.{is_taken}
-use Rattle.rv32_select.specs.declared.source.Way.{Way}
-use Rattle.rv32_select.specs.declared.source.Way.TheVariants.{Returns}
+use Rattle.rv32_select.specs.declared.source.Continuation.{Continuation}
+use Rattle.rv32_select.specs.declared.source.Continuation.TheVariants.{Returns}
 use Rattle.rv32_select.specs.Emit.{branch_items}
 use Rattle.rv32_select.specs.Decides.{compares, is_var, tests_result, decides, tested, condition, other_condition}
-use Rattle.rv32_select.specs.IsSelected.{source, further, first_label, Passed, Emits, EmitsArms}
+use Rattle.rv32_select.specs.IsSelected.{source, continued_by_jump, first_label, Passed, Emits, EmitsArms}
 use Rattle.rv32_select.proofs.Arithmetic.{condition_tells, other_tells}
 use Rattle.rv32_select.proofs.Courses.{Stands, front, back}
 use Rattle.rv32_select.proofs.Straight.{Data, at}
@@ -106,7 +106,7 @@ module _ (l : Program) (a : Assignment) where
 module _ (l : Program) (a : Assignment) (cells stack : ℕ) (lay : Layout) (items : List Item) (begins : List ℕ) (s : Setting l a cells stack lay items begins) (calls_n : Calls) (n : ℕ)
     (f : ℕ) (q : Procedure) (pf : ProcedureFine l a f q) (framed : Bool) (j m : ℕ) (outer : List ℕ) (d0 : Data) (u : ℕ) where
   -- a part of a block where a variable is bound to which no place is given
-  bound_entry : {Emitted Fitting Emitted' Fitting' : Type 0} {Needs Needs' : ℕ → Word → Type 0} (to : List Spot) (way way' : Way) (Must : ℕ → Word → Type 0) (k k' : ℕ) (block piece : List Item) (p p' : ℕ) (scope later : List ℕ) (env : Env) (top : ℕ) (under : Option ℕ) (d d' : Data) (w : World) (x : ℕ) (v : Word)
+  bound_entry : {Emitted Fitting Emitted' Fitting' : Type 0} {Needs Needs' : ℕ → Word → Type 0} (to : List Spot) (way way' : Continuation) (Must : ℕ → Word → Type 0) (k k' : ℕ) (block piece : List Item) (p p' : ℕ) (scope later : List ℕ) (env : Env) (top : ℕ) (under : Option ℕ) (d d' : Data) (w : World) (x : ℕ) (v : Word)
       → Entry l a cells stack lay items begins f q framed pf.slots j m outer d0 u n framed Emitted Fitting Needs to way Must k block p scope later env top under d w
       → Emitted' → Stands items p' piece → Ready l a cells stack lay items begins way' (p' + length piece) → first_label l ≤ k' → Fitting' → IsOwn l a f (slots_of (place_of a) (variables q)) (place_of a x)
       → InRegisters l a cells stack lay items begins f q framed pf.slots j m outer d0 u n way' to → Stood l a cells stack lay framed f j pf.slots d0 (lay.address m) Needs' d' w → ((z : ℕ) → under ≡ Some z → (z ≡ u) × (way' ≡ Returns))
@@ -139,7 +139,7 @@ module _ (l : Program) (a : Assignment) (cells stack : ℕ) (lay : Layout) (item
       by_test y true t h own owned = let same : x ≡ y = grind (arith, nat_tests) in subst (λ z. IsOwn l a f (slots_of (place_of a) (variables q)) (place_of a z)) same own
       by_test y false t h own owned = owned y h
 
-  module _ (g : PrimOp) (x : ℕ) (o o' : Operand) (ts : List LowTest) (c : Code) (as' : Arms) (to : List Spot) (way : Way) (Must : ℕ → Word → Type 0) (k k' : ℕ) (block : List Item) (p : ℕ) (scope later : List ℕ) (env : Env) (top : ℕ) (under : Option ℕ) (d : Data) (w : World)
+  module _ (g : PrimOp) (x : ℕ) (o o' : Operand) (ts : List LowTest) (c : Code) (as' : Arms) (to : List Spot) (way : Continuation) (Must : ℕ → Word → Type 0) (k k' : ℕ) (block : List Item) (p : ℕ) (scope later : List ℕ) (env : Env) (top : ℕ) (under : Option ℕ) (d : Data) (w : World)
       (b : Block l a cells stack lay items begins f q framed pf.slots j m outer d0 u n (prim g x o o' (choose (arm ts c as'))) to way Must k k' block p scope later env top under d w) (is : Decided g x ts c as') where
     -- what is needed behind the branch was needed before it
     code_needs : (r : Word) (y : ℕ) (v : Word) → Needed c (with_var x r env) Must y v → Needed (prim g x o o' (choose (arm ts c as'))) env Must y v
@@ -192,11 +192,11 @@ module _ (l : Program) (a : Assignment) (cells stack : ℕ) (lay : Layout) (item
 
       -- into the block, and past it
       goes_in : (d' : Data) (r : Answer) → Ran lay items begins (at (bases stack) lay items p d) (m ∷ outer) w (at (bases stack) lay items (p + length (branch_items cond k (source l a o) (source l a o'))) d') (m ∷ outer) w
-          → Does' lay items begins (Given l a cells stack lay items framed f j pf.slots d0 m outer to (further way) Must) (at (bases stack) lay items (p + length (branch_items cond k (source l a o) (source l a o'))) d') (m ∷ outer) w r
+          → Does' lay items begins (Given l a cells stack lay items framed f j pf.slots d0 m outer to (continued_by_jump way) Must) (at (bases stack) lay items (p + length (branch_items cond k (source l a o) (source l a o'))) d') (m ∷ outer) w r
           → Does' lay items begins (Given l a cells stack lay items framed f j pf.slots d0 m outer to way Must) (at (bases stack) lay items p d) (m ∷ outer) w r
       goes_in d' r ran done =
           does_after lay items begins (Given l a cells stack lay items framed f j pf.slots d0 m outer to way Must) r ran
-          (does_map lay items begins (Given l a cells stack lay items framed f j pf.slots d0 m outer to (further way) Must) (Given l a cells stack lay items framed f j pf.slots d0 m outer to way Must) (at (bases stack) lay items (p + length (branch_items cond k (source l a o) (source l a o'))) d') (m ∷ outer) w r
+          (does_map lay items begins (Given l a cells stack lay items framed f j pf.slots d0 m outer to (continued_by_jump way) Must) (Given l a cells stack lay items framed f j pf.slots d0 m outer to way Must) (at (bases stack) lay items (p + length (branch_items cond k (source l a o) (source l a o'))) d') (m ∷ outer) w r
           (further_given l a cells stack lay items begins s calls_n n f q pf framed j m outer d0 u to way Must) done)
 
       goes_past : (d' : Data) (r : Answer) → Ran lay items begins (at (bases stack) lay items p d) (m ∷ outer) w (at (bases stack) lay items (p + length (branch_items cond k (source l a o) (source l a o')) + length inner) d') (m ∷ outer) w
@@ -230,9 +230,9 @@ module _ (l : Program) (a : Assignment) (cells stack : ℕ) (lay : Layout) (item
     own = b.fine.1.1.0.1.0
 
     -- the first arm first
-    pub decided_first : (h : Passed (branch_items (other_condition g (tested ts)) k (source l a o) (source l a o')) (Emits l a cells stack (words_at a f) (slots_of (place_of a) (variables q)) framed to (further way) c) (EmitsArms l a cells stack (words_at a f) (slots_of (place_of a) (variables q)) framed to way as') k k' block)
-        → ((v : Word) (d' : Data) → Block l a cells stack lay items begins f q framed pf.slots j m outer d0 u n c to (further way) Must (suc k) h.0 h.1 (p + length (branch_items (other_condition g (tested ts)) k (source l a o) (source l a o'))) (x ∷ scope) later (with_var x v env) top under d' w
-        → Simulates l a cells stack lay items begins f q framed pf.slots j m outer d0 u n calls_n c to (further way) Must (p + length (branch_items (other_condition g (tested ts)) k (source l a o) (source l a o'))) (with_var x v env) top under d' w)
+    pub decided_first : (h : Passed (branch_items (other_condition g (tested ts)) k (source l a o) (source l a o')) (Emits l a cells stack (words_at a f) (slots_of (place_of a) (variables q)) framed to (continued_by_jump way) c) (EmitsArms l a cells stack (words_at a f) (slots_of (place_of a) (variables q)) framed to way as') k k' block)
+        → ((v : Word) (d' : Data) → Block l a cells stack lay items begins f q framed pf.slots j m outer d0 u n c to (continued_by_jump way) Must (suc k) h.0 h.1 (p + length (branch_items (other_condition g (tested ts)) k (source l a o) (source l a o'))) (x ∷ scope) later (with_var x v env) top under d' w
+        → Simulates l a cells stack lay items begins f q framed pf.slots j m outer d0 u n calls_n c to (continued_by_jump way) Must (p + length (branch_items (other_condition g (tested ts)) k (source l a o) (source l a o'))) (with_var x v env) top under d' w)
         → ((v : Word) (d' : Data) → ArmsBlock l a cells stack lay items begins s calls_n n f q pf framed j m outer d0 u as' to way Must h.0 k' h.3.0 (p + length (branch_items (other_condition g (tested ts)) k (source l a o) (source l a o') ++ (h.1 ++ Label k ∷ []))) (x ∷ scope) later (with_var x v env) top under d' w
         → ArmsSimulates l a cells stack lay items begins s calls_n n f q pf framed j m outer d0 u as' to way Must (p + length (branch_items (other_condition g (tested ts)) k (source l a o) (source l a o') ++ (h.1 ++ Label k ∷ []))) (with_var x v env) top under d' w)
         → Simulates l a cells stack lay items begins f q framed pf.slots j m outer d0 u n calls_n (prim g x o o' (choose (arm ts c as'))) to way Must p env top under d w
@@ -255,12 +255,12 @@ module _ (l : Program) (a : Assignment) (cells stack : ℕ) (lay : Layout) (item
             let r = number (arithmetic g v v') in
             let place = p + length (branch_items (other_condition g (tested ts)) k (source l a o) (source l a o')) in
             goes_in (other_condition g (tested ts)) h.1 h.3.0 h.3.1 t.to' (code l (words_at a) (room l a cells stack lay items begins) calls_n (with_var x (number (arithmetic g v v')) env) top under c w) (t.same (taken v v' i i' ∙ ap not e))
-            (block_done r t.to' (bound_entry to way (further way) Must k (suc k) block h.1 p place scope later env top under d t.to' w x r b h.2
+            (block_done r t.to' (bound_entry to way (continued_by_jump way) Must k (suc k) block h.1 p place scope later env top under d t.to' w x r b h.2
             (front items place h.1 (Label k ∷ []) (behind_branch (other_condition g (tested ts)) h.1 h.3.0 h.3.1))
             (further_ready l a cells stack lay items begins s calls_n n f q pf framed j m outer d0 u way (p + length block) (place + length h.1) b.ready) (let le = b.above in omega arith) b.fine.1.1.1.1.0 own
             (further_registers l a cells stack lay items begins s calls_n n f q pf framed j m outer d0 u way to b.in_registers)
             (stood_weaken l a cells stack lay framed f j pf.slots d0 (lay.address m) (Needed (prim g x o o' (choose (arm ts c as'))) env Must) (Needed c (with_var x r env) Must) t.to' w (code_needs r) t.stood)
-            (λ z y. let is = b.under_is z y in (is.0, ap further is.1))))
+            (λ z y. let is = b.under_is z y in (is.0, ap continued_by_jump is.1))))
         each v v' i i' false e =
             let t = T v v' i i' in
             let r = number (arithmetic g v v') in
@@ -268,14 +268,14 @@ module _ (l : Program) (a : Assignment) (cells stack : ℕ) (lay : Layout) (item
             goes_past (other_condition g (tested ts)) h.1 h.3.0 h.3.1 t.far (arms l (words_at a) (room l a cells stack lay items begins) calls_n (with_var x (number (arithmetic g v v')) env) top under as' w) (t.other (taken v v' i i' ∙ ap not e))
             (more r t.far (bound_entry to way way Must k h.0 block h.3.0 p place scope later env top under d t.far w x r b h.3.2 P.more
             (ready_at l a cells stack lay items begins way (p + length block) (place + length h.3.0) P.end b.ready)
-            (let le = b.above in let up = emits_up l a cells stack (words_at a f) (slots_of (place_of a) (variables q)) framed c to (further way) (suc k) h.0 h.1 h.2 in omega arith) b.fine.1.1.1.1.1 own b.in_registers
+            (let le = b.above in let up = emits_up l a cells stack (words_at a f) (slots_of (place_of a) (variables q)) framed c to (continued_by_jump way) (suc k) h.0 h.1 h.2 in omega arith) b.fine.1.1.1.1.1 own b.in_registers
             (stood_weaken l a cells stack lay framed f j pf.slots d0 (lay.address m) (Needed (prim g x o o' (choose (arm ts c as'))) env Must) (ArmsNeed l a cells stack lay items begins s calls_n n f q pf framed j m outer d0 u as' (with_var x r env) Must) t.far w (arms_need r) t.stood_far')
             b.under_is))
 
     -- the first arm behind the others
-    pub decided_last : (h : Passed (branch_items (condition g (tested ts)) k (source l a o) (source l a o')) (EmitsArms l a cells stack (words_at a f) (slots_of (place_of a) (variables q)) framed to (further way) as') (Emits l a cells stack (words_at a f) (slots_of (place_of a) (variables q)) framed to way c) k k' block)
-        → ((v : Word) (d' : Data) → ArmsBlock l a cells stack lay items begins s calls_n n f q pf framed j m outer d0 u as' to (further way) Must (suc k) h.0 h.1 (p + length (branch_items (condition g (tested ts)) k (source l a o) (source l a o'))) (x ∷ scope) later (with_var x v env) top under d' w
-        → ArmsSimulates l a cells stack lay items begins s calls_n n f q pf framed j m outer d0 u as' to (further way) Must (p + length (branch_items (condition g (tested ts)) k (source l a o) (source l a o'))) (with_var x v env) top under d' w)
+    pub decided_last : (h : Passed (branch_items (condition g (tested ts)) k (source l a o) (source l a o')) (EmitsArms l a cells stack (words_at a f) (slots_of (place_of a) (variables q)) framed to (continued_by_jump way) as') (Emits l a cells stack (words_at a f) (slots_of (place_of a) (variables q)) framed to way c) k k' block)
+        → ((v : Word) (d' : Data) → ArmsBlock l a cells stack lay items begins s calls_n n f q pf framed j m outer d0 u as' to (continued_by_jump way) Must (suc k) h.0 h.1 (p + length (branch_items (condition g (tested ts)) k (source l a o) (source l a o'))) (x ∷ scope) later (with_var x v env) top under d' w
+        → ArmsSimulates l a cells stack lay items begins s calls_n n f q pf framed j m outer d0 u as' to (continued_by_jump way) Must (p + length (branch_items (condition g (tested ts)) k (source l a o) (source l a o'))) (with_var x v env) top under d' w)
         → ((v : Word) (d' : Data) → Block l a cells stack lay items begins f q framed pf.slots j m outer d0 u n c to way Must h.0 k' h.3.0 (p + length (branch_items (condition g (tested ts)) k (source l a o) (source l a o') ++ (h.1 ++ Label k ∷ []))) (x ∷ scope) later (with_var x v env) top under d' w
         → Simulates l a cells stack lay items begins f q framed pf.slots j m outer d0 u n calls_n c to way Must (p + length (branch_items (condition g (tested ts)) k (source l a o) (source l a o') ++ (h.1 ++ Label k ∷ []))) (with_var x v env) top under d' w)
         → Simulates l a cells stack lay items begins f q framed pf.slots j m outer d0 u n calls_n (prim g x o o' (choose (arm ts c as'))) to way Must p env top under d w
@@ -298,12 +298,12 @@ module _ (l : Program) (a : Assignment) (cells stack : ℕ) (lay : Layout) (item
             let r = number (arithmetic g v v') in
             let place = p + length (branch_items (condition g (tested ts)) k (source l a o) (source l a o')) in
             goes_in (condition g (tested ts)) h.1 h.3.0 h.3.1 t.to' (arms l (words_at a) (room l a cells stack lay items begins) calls_n (with_var x (number (arithmetic g v v')) env) top under as' w) (t.same (taken v v' i i' ∙ e))
-            (others_done r t.to' (bound_entry to way (further way) Must k (suc k) block h.1 p place scope later env top under d t.to' w x r b h.2
+            (others_done r t.to' (bound_entry to way (continued_by_jump way) Must k (suc k) block h.1 p place scope later env top under d t.to' w x r b h.2
             (front items place h.1 (Label k ∷ []) (behind_branch (condition g (tested ts)) h.1 h.3.0 h.3.1))
             (further_ready l a cells stack lay items begins s calls_n n f q pf framed j m outer d0 u way (p + length block) (place + length h.1) b.ready) (let le = b.above in omega arith) b.fine.1.1.1.1.1 own
             (further_registers l a cells stack lay items begins s calls_n n f q pf framed j m outer d0 u way to b.in_registers)
             (stood_weaken l a cells stack lay framed f j pf.slots d0 (lay.address m) (Needed (prim g x o o' (choose (arm ts c as'))) env Must) (ArmsNeed l a cells stack lay items begins s calls_n n f q pf framed j m outer d0 u as' (with_var x r env) Must) t.to' w (arms_need r) t.stood)
-            (λ z y. let is = b.under_is z y in (is.0, ap further is.1))))
+            (λ z y. let is = b.under_is z y in (is.0, ap continued_by_jump is.1))))
         each v v' i i' true e =
             let t = T v v' i i' in
             let r = number (arithmetic g v v') in
@@ -311,6 +311,6 @@ module _ (l : Program) (a : Assignment) (cells stack : ℕ) (lay : Layout) (item
             goes_past (condition g (tested ts)) h.1 h.3.0 h.3.1 t.far (code l (words_at a) (room l a cells stack lay items begins) calls_n (with_var x (number (arithmetic g v v')) env) top under c w) (t.other (taken v v' i i' ∙ e))
             (more r t.far (bound_entry to way way Must k h.0 block h.3.0 p place scope later env top under d t.far w x r b h.3.2 P.more
             (ready_at l a cells stack lay items begins way (p + length block) (place + length h.3.0) P.end b.ready)
-            (let le = b.above in let up = arms_up l a cells stack (words_at a f) (slots_of (place_of a) (variables q)) framed as' to (further way) (suc k) h.0 h.1 h.2 in omega arith) b.fine.1.1.1.1.0 own b.in_registers
+            (let le = b.above in let up = arms_up l a cells stack (words_at a f) (slots_of (place_of a) (variables q)) framed as' to (continued_by_jump way) (suc k) h.0 h.1 h.2 in omega arith) b.fine.1.1.1.1.0 own b.in_registers
             (stood_weaken l a cells stack lay framed f j pf.slots d0 (lay.address m) (Needed (prim g x o o' (choose (arm ts c as'))) env Must) (Needed c (with_var x r env) Must) t.far w (code_needs r) t.stood_far')
             b.under_is))

@@ -19,7 +19,7 @@ use Rattle.low_code.specs.Formed.{uses, arms_uses}
 use Rattle.low_code.proofs.TreeOf.{before_of-Set, before_of-Prim, before_of-Load, before_of-Save, before_of-Take, before_of-Put, before_of-Get, before_of-Call, before_of-Join, end_of-Choose, arm_of-parts}
 use Rattle.rv32_select.specs.declared.decides.Comparison.{Comparison}
 use Rattle.rv32_select.specs.Decides.{is_var, tests_result, decides_arms, decides_code, decides, decided}
-use Rattle.rv32_select.specs.Emitting.{Comparing, Deciding, one_arm}
+use Rattle.rv32_select.specs.Emitting.{IsDecidingComparison, DecidesBlockEnd, one_arm}
 
 -- one of two by a test that is known
 pub picked : (p t b b' : Bool) → p ≡ t → p ≡ true → b ≡ b' → b ≡ (if t then b' else false)
@@ -71,41 +71,41 @@ module _ (s : LowStmt) (end : Code) where
   by_before : (f : Code → Code) → before_of s ≡ f → decided (f end) ≡ false → decided (before_of s end) ≡ false
   by_before f e h = ap (λ g. decided (g end)) e ∙ h
 
-  pub set_undecided : (y : ℕ) (a : Operand) → s ≡ Set y a → Comparing (before_of s) end None
+  pub set_undecided : (y : ℕ) (a : Operand) → s ≡ Set y a → IsDecidingComparison (before_of s) end None
   set_undecided y a e = by_before _ (ap before_of e ∙ before_of-Set y a) refl
 
-  pub load_undecided : (y : ℕ) (a : Operand) (k : ℕ) → s ≡ Load y a k → Comparing (before_of s) end None
+  pub load_undecided : (y : ℕ) (a : Operand) (k : ℕ) → s ≡ Load y a k → IsDecidingComparison (before_of s) end None
   load_undecided y a k e = by_before _ (ap before_of e ∙ before_of-Load y a k) refl
 
-  pub save_undecided : (a : Operand) (k : ℕ) (b : Operand) → s ≡ Save a k b → Comparing (before_of s) end None
+  pub save_undecided : (a : Operand) (k : ℕ) (b : Operand) → s ≡ Save a k b → IsDecidingComparison (before_of s) end None
   save_undecided a k b e = by_before _ (ap before_of e ∙ before_of-Save a k b) refl
 
-  pub take_undecided : (ys : List ℕ) → s ≡ Take ys → Comparing (before_of s) end None
+  pub take_undecided : (ys : List ℕ) → s ≡ Take ys → IsDecidingComparison (before_of s) end None
   take_undecided ys e = by_before _ (ap before_of e ∙ before_of-Take ys) refl
 
-  pub put_undecided : (a : Operand) → s ≡ Put a → Comparing (before_of s) end None
+  pub put_undecided : (a : Operand) → s ≡ Put a → IsDecidingComparison (before_of s) end None
   put_undecided a e = by_before _ (ap before_of e ∙ before_of-Put a) refl
 
-  pub get_undecided : (y : ℕ) → s ≡ Get y → Comparing (before_of s) end None
+  pub get_undecided : (y : ℕ) → s ≡ Get y → IsDecidingComparison (before_of s) end None
   get_undecided y e = by_before _ (ap before_of e ∙ before_of-Get y) refl
 
-  pub call_undecided : (f site : ℕ) (as' : List Operand) (ys : List ℕ) → s ≡ Call f site as' ys → Comparing (before_of s) end None
+  pub call_undecided : (f site : ℕ) (as' : List Operand) (ys : List ℕ) → s ≡ Call f site as' ys → IsDecidingComparison (before_of s) end None
   call_undecided f site as' ys e = by_before _ (ap before_of e ∙ before_of-Call f site as' ys) refl
 
-  pub join_undecided : (ys : List ℕ) (b : Box LowBlock Global) → s ≡ Join ys b → Comparing (before_of s) end None
+  pub join_undecided : (ys : List ℕ) (b : Box LowBlock Global) → s ≡ Join ys b → IsDecidingComparison (before_of s) end None
   join_undecided ys b e = by_before _ (ap before_of e ∙ before_of-Join ys b) refl
 
-  pub prim_undecided : (f : PrimOp) (y : ℕ) (a b : Operand) (r : Bool) → s ≡ Prim f y a b → r ≡ decides f y end → r ≡ false → Comparing (before_of s) end None
+  pub prim_undecided : (f : PrimOp) (y : ℕ) (a b : Operand) (r : Bool) → s ≡ Prim f y a b → r ≡ decides f y end → r ≡ false → IsDecidingComparison (before_of s) end None
   prim_undecided f y a b r e is h = by_before _ (ap before_of e ∙ before_of-Prim f y a b) (sym is ∙ h)
 
-  pub prim_decided : (f : PrimOp) (y : ℕ) (a b : Operand) (r : Bool) → s ≡ Prim f y a b → r ≡ decides f y end → r ≡ true → Comparing (before_of s) end (Some (record { operation = f; variable = y; left = a; right = b }))
+  pub prim_decided : (f : PrimOp) (y : ℕ) (a b : Operand) (r : Bool) → s ≡ Prim f y a b → r ≡ decides f y end → r ≡ true → IsDecidingComparison (before_of s) end (Some (record { operation = f; variable = y; left = a; right = b }))
   prim_decided f y a b r e is h = (ap before_of e ∙ before_of-Prim f y a b, sym is ∙ h)
 
-pub deciding_last : (is_last : Bool) (before : Code → Code) (end : Code) (o : Option Comparison) → is_last ≡ true → Comparing before end o → Deciding is_last before end o
+pub deciding_last : (is_last : Bool) (before : Code → Code) (end : Code) (o : Option Comparison) → is_last ≡ true → IsDecidingComparison before end o → DecidesBlockEnd is_last before end o
 deciding_last is_last before end None e h = λ z. h
 deciding_last is_last before end (Some c) e h = (e, h)
 
-pub deciding_none : (is_last : Bool) (before : Code → Code) (end : Code) → is_last ≡ false → Deciding is_last before end None
+pub deciding_none : (is_last : Bool) (before : Code → Code) (end : Code) → is_last ≡ false → DecidesBlockEnd is_last before end None
 deciding_none is_last before end e = λ z. absurd (let no : false ≡ true = sym e ∙ z in cc)
 
 pub ruleset deciding = (choice_decides, set_undecided, load_undecided, save_undecided, take_undecided, put_undecided, get_undecided, call_undecided, join_undecided, prim_undecided, prim_decided, deciding_last, deciding_none)

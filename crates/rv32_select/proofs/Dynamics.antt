@@ -12,7 +12,7 @@ use Rattle.rv32_steps.specs.Trace.{procedures_at}
 use Rattle.rv32_items.specs.declared.Item.{Item}
 use Rattle.rv32_items.specs.Course.{Layout, Point, Exited, course}
 use Rattle.rv32_items.specs.Told.{ReturnsHome}
-use Rattle.rv32_select.specs.Selects.{start_at, Finishes, Follows, Arrives}
+use Rattle.rv32_select.specs.Selects.{start_point, EndsLikeRun, Follows, ReachesAnswer}
 use Rattle.rv32_select.proofs.Straight.{at}
 use Rattle.rv32_select.proofs.Leaves.{Leaves}
 use Rattle.rv32_select.proofs.Relation.{bases}
@@ -38,7 +38,7 @@ module _ (l : Program) (a : Assignment) (cells stack : ℕ) (lay : Layout) (item
   abbrev from : Point
   from = at (bases stack) lay items 0 (start_data l.width cells stack)
 
-  from_is : at (bases stack) lay items 0 (start_data l.width cells stack) ≡ start_at l.width cells stack lay
+  from_is : at (bases stack) lay items 0 (start_data l.width cells stack) ≡ start_point l.width cells stack lay
   from_is = starts_at l.width cells stack lay items s.stack_four
 
   starting : (i : List ℕ) (n : ℕ) → IsStart lay items begins i from (start_world l (words_at a) i n)
@@ -48,30 +48,30 @@ module _ (l : Program) (a : Assignment) (cells stack : ℕ) (lay : Layout) (item
   counted i n = one_entry_a_unit l (words_at a) (record { cells = Some cells; stack = Some stack }) i n
 
   pub selected_follows : (i : List ℕ) → IsBytes i → (k : ℕ) →
-      let c = course lay items k i (start_at l.width cells stack lay) in
+      let c = course lay items k i (start_point l.width cells stack lay) in
       Follows begins i (limited l (words_at a) cells stack i (length (procedures_at begins c.passed))) c
   selected_follows i bytes k =
       let n = length (procedures_at begins (course lay items k i from).passed) in
       subst (λ p. Follows begins i (limited l (words_at a) cells stack i (length (procedures_at begins (course lay items k i p).passed))) (course lay items k i p)) from_is
       (follows lay items begins i from (start_world l (words_at a) i n) (starting i n) k (limited l (words_at a) cells stack i n) (whole_run l a cells stack lay items begins s z i n bytes (never i n bytes)) (counted i n))
 
-  pub selected_arrives : (i : List ℕ) → IsBytes i → (n : ℕ) → (k : ℕ) × Arrives begins i (limited l (words_at a) cells stack i n) (course lay items k i (start_at l.width cells stack lay))
+  pub selected_arrives : (i : List ℕ) → IsBytes i → (n : ℕ) → (k : ℕ) × ReachesAnswer begins i (limited l (words_at a) cells stack i n) (course lay items k i (start_point l.width cells stack lay))
   selected_arrives i bytes n =
-      subst (λ p. (k : ℕ) × Arrives begins i (limited l (words_at a) cells stack i n) (course lay items k i p)) from_is
+      subst (λ p. (k : ℕ) × ReachesAnswer begins i (limited l (words_at a) cells stack i n) (course lay items k i p)) from_is
       (arrives lay items begins i from (start_world l (words_at a) i n) (starting i n) (limited l (words_at a) cells stack i n) (whole_run l a cells stack lay items begins s z i n bytes (never i n bytes)))
 
-  pub selected_home : (i : List ℕ) → IsBytes i → (k : ℕ) → ReturnsHome lay items k i (start_at l.width cells stack lay) []
+  pub selected_home : (i : List ℕ) → IsBytes i → (k : ℕ) → ReturnsHome lay items k i (start_point l.width cells stack lay) []
   selected_home i bytes k =
       subst (λ p. ReturnsHome lay items k i p []) from_is
       (home lay items begins i from (start_world l (words_at a) i k) (starting i k) k (limited l (words_at a) cells stack i k) (whole_run l a cells stack lay items begins s z i k bytes (never i k bytes)) (counted i k))
 
   -- a course that has come to exit 3 has left by the jump where no alternative was found
-  pub selected_leaves : (i : List ℕ) → IsBytes i → (k : ℕ) → (course lay items k i (start_at l.width cells stack lay)).end ≡ Exited 3 → Leaves lay items i (start_at l.width cells stack lay)
+  pub selected_leaves : (i : List ℕ) → IsBytes i → (k : ℕ) → (course lay items k i (start_point l.width cells stack lay)).end ≡ Exited 3 → Leaves lay items i (start_point l.width cells stack lay)
   selected_leaves i bytes k exited =
-      let begin = start_at l.width cells stack lay in
+      let begin = start_point l.width cells stack lay in
       let n = length (procedures_at begins (course lay items k i begin).passed) in
       let x = limited l (words_at a) cells stack i n in
       let f = selected_follows i bytes k in
-      let exit = (subst (λ e. Finishes i x (course lay items k i begin) e) exited f.finish).0 in
+      let exit = (subst (λ e. EndsLikeRun i x (course lay items k i begin) e) exited f.finish).0 in
       subst (λ p. Leaves lay items i p) from_is
       (leaves lay items begins i from (start_world l (words_at a) i n) (starting i n) x (whole_run l a cells stack lay items begins s z i n bytes (never i n bytes)) exit)

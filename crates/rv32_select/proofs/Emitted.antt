@@ -29,14 +29,14 @@ use Rattle.rv32_items.specs.declared.Item.{Item}
 use Rattle.rv32_items.specs.declared.Item.TheVariants.{Label, Jump}
 use Rattle.rv32_select.specs.declared.source.Source.{Source}
 use Rattle.rv32_select.specs.declared.decides.Comparison.{Comparison}
-use Rattle.rv32_select.specs.declared.source.Way.{Way}
-use Rattle.rv32_select.specs.declared.source.Way.TheVariants.{Follows}
+use Rattle.rv32_select.specs.declared.source.Continuation.{Continuation}
+use Rattle.rv32_select.specs.declared.source.Continuation.TheVariants.{Follows}
 use Rattle.rv32_select.specs.Emit.{plain, moves_code, number_moves, save_moves, restore_moves, result_spots, set_code, prim_code, load_code, save_code, take_items, put_code, get_code, branch_items, match_items}
-use Rattle.rv32_select.specs.IsSelected.{call_items, source, sources, heap_end, heap_full, places, further, way_out, tests_items, no_alternative, argument_spots_of, result_spots_of, results_of, moves_between, is_rare, waits, has_one, last_of, stands_last, Then, Emits, EmitsArms, EmitsLast, EmitsDecided, EmitsDecidedFirst, EmitsDecidedLast}
+use Rattle.rv32_select.specs.IsSelected.{call_items, source, sources, heap_end, heap_full, places, continued_by_jump, way_out, tests_items, no_alternative, argument_spots_of, result_spots_of, results_of, moves_between, is_rare, waits, has_one, last_of, first_arm_goes_last, Then, Emits, EmitsArms, EmitsLast, EmitsDecided, EmitsDecidedFirst, EmitsDecidedLast}
 use Rattle.rv32_select.specs.Decides.{compares, decides_arms, decides_code, decides, decided, tested, condition, other_condition}
-use Rattle.rv32_select.specs.Ranges.{IsSource, AreSpots, AllInRange, is_spot_in, Different, AreTargets}
+use Rattle.rv32_select.specs.Ranges.{IsSource, AreSpots, AllInRange, is_spot_in, AllSpotsDiffer, AreTargets}
 use Rattle.rv32_select.specs.Writable.{Writable, HasPlace, HavePlaces, OperandPlaced, OperandsPlaced, TargetsPlaced, TestsPlaced, CallPlaced, Placed, ArmsPlaced, ArmPlaced, ProcedurePlaced}
-use Rattle.rv32_select.specs.Emitting.{link_aside, link_back, Moved, Sent, Called, TailCalled, Emitted, EmittedArms, EmittedLast, EmittedDecidedFirst, EmittedDecidedLast, Before, ArmsBefore, one_arm}
+use Rattle.rv32_select.specs.Emitting.{link_aside, link_back, EmitsMoves, EmitsParallelMoves, Called, TailCalled, Emitted, EmittedArms, EmittedLast, EmittedDecidedFirst, EmittedDecidedLast, Before, ArmsBefore, one_arm}
 use Rattle.rv32_select.proofs.Plain.{plain_append}
 use Rattle.rv32_select.proofs.Rounded.{rounded}
 use Rattle.rv32_select.proofs.Sending.{spots_in_range, procedure_at}
@@ -221,7 +221,7 @@ before_results k r (suc n) lt =
     let no : nat_eq k r ≡ false = grind (arith, nat_tests) in
     ap (λ b. b || is_spot_in (Reg k) (result_spots (suc r) n)) no ∙ before_results k (suc r) n (omega arith)
 
-results_differ : (r n : ℕ) → Different (result_spots r n)
+results_differ : (r n : ℕ) → AllSpotsDiffer (result_spots r n)
 results_differ r zero = tt
 results_differ r (suc n) = (before_results r (suc r) n (omega arith), results_differ (suc r) n)
 
@@ -232,14 +232,14 @@ pub result_spots_are : (low : Low) (a : Assignment) (procs : List LowProc) (f : 
 result_spots_are low a procs f q spots w lt e is s = rw s (results_are 10 q.results (let few = few_results low a procs f q w lt e is in omega (arith, few)))
 
 pub results_taken : (low : Low) (a : Assignment) (procs : List LowProc) (f : ℕ) (q : LowProc) (xs : List ℕ) (to from : List Spot) (old new : List Item) → f < length low.procs → procs ≡ low.procs → q ≡ get_or procs f q
-    → (to ≡ map (place_of a) xs) × AreSpots to → from ≡ result_spots 10 q.results → Moved (moves_between to from) old new
-    → Moved (moves_between (map (place_of a) xs) (result_spots_of (program_of low) f)) old new
+    → (to ≡ map (place_of a) xs) × AreSpots to → from ≡ result_spots 10 q.results → EmitsMoves (moves_between to from) old new
+    → EmitsMoves (moves_between (map (place_of a) xs) (result_spots_of (program_of low) f)) old new
 results_taken low a procs f q xs to from old new lt e is t r m =
     let all : from ≡ result_spots_of (program_of low) f = r ∙ ap (λ p. result_spots 10 (results_of p)) (sym (result_at low procs f q lt e is)) in
     rw (sym t.0, sym all) m
 
 pub called_by : (l : Program) (a : Assignment) (saved f site : ℕ) (as' : List Operand) (xs : List ℕ) (registers : List ℕ) (old c1 c2 c3 c4 new : List Item) → registers ≡ saves_at a site → c1 ≡ old ++ plain (moves_code (save_moves saved registers))
-    → Sent (argument_spots_of l a f) (sources l a as') c1 c2 → c3 ≡ c2 ++ Jump 1 f ∷ [] → Moved (moves_between (map (place_of a) xs) (result_spots_of l f)) c3 c4 → new ≡ c4 ++ plain (moves_code (restore_moves saved registers))
+    → EmitsParallelMoves (argument_spots_of l a f) (sources l a as') c1 c2 → c3 ≡ c2 ++ Jump 1 f ∷ [] → EmitsMoves (moves_between (map (place_of a) xs) (result_spots_of l f)) c3 c4 → new ≡ c4 ++ plain (moves_code (restore_moves saved registers))
     → Called l a saved f site as' xs old new
 called_by l a saved f site as' xs registers old c1 c2 c3 c4 new e one sent jump moved two =
     let saves = plain (moves_code (save_moves saved (saves_at a site))) in
@@ -314,9 +314,9 @@ last_is : (ts : List (List LowTest × Code)) (c : Code) → last_of (arms_before
 last_is [] c = refl
 last_is (t ∷ ts) c = last_is ts c
 
-pub rule_is : (way : Way) (first : LowArm) (rest : List LowArm) (c : Code) → stands_last way (arms_before (map arm_of (first ∷ rest)) c) ≡ (if has_one first.tests then waits way (code_of first.block) c else false)
+pub rule_is : (way : Continuation) (first : LowArm) (rest : List LowArm) (c : Code) → first_arm_goes_last way (arms_before (map arm_of (first ∷ rest)) c) ≡ (if has_one first.tests then waits way (code_of first.block) c else false)
 rule_is way first rest c =
-    let parts : stands_last way (one_arm (arm_of first) (arms_before (map arm_of rest) c)) ≡ stands_last way (one_arm (first.tests, code_of first.block) (arms_before (map arm_of rest) c)) = ap (λ p. stands_last way (one_arm p (arms_before (map arm_of rest) c))) (arm_of-parts first) in
+    let parts : first_arm_goes_last way (one_arm (arm_of first) (arms_before (map arm_of rest) c)) ≡ first_arm_goes_last way (one_arm (first.tests, code_of first.block) (arms_before (map arm_of rest) c)) = ap (λ p. first_arm_goes_last way (one_arm p (arms_before (map arm_of rest) c))) (arm_of-parts first) in
     parts ∙ ap (λ d. if has_one first.tests then waits way (code_of first.block) d else false) (last_is (map arm_of rest) c)
 
 pub first_last_placed : (l : Program) (a : Assignment) (first : LowArm) (t : LowTest) (rest : List LowArm) (c : Code) → first.tests ≡ t ∷ [] → ArmsPlaced l a (arms_before (map arm_of (first ∷ rest)) c)
@@ -341,11 +341,11 @@ pub choice_none : (e : LowEnd) (arms items : List LowArm) (b : Box LowBlock Glob
 choice_none e arms [] b is are none = ap end_of is ∙ end_of-Choose arms b ∙ ap (λ ts. choose (arms_before (map arm_of ts) (code_of b.value))) (sym are)
 choice_none e arms (t ∷ ts) b is are none = absurd (omega (arith, none))
 
-pub arm_made : (l : Program) (a : Assignment) (cells stack words saved : ℕ) (framed : Bool) (to : List Spot) (way way' : Way) (t : LowArm) (old c1 mid new : List Item) (n label k m : ℕ) → label ≡ n → k ≡ suc n → way' ≡ further way → c1 ≡ old ++ tests_items l a label t.tests
+pub arm_made : (l : Program) (a : Assignment) (cells stack words saved : ℕ) (framed : Bool) (to : List Spot) (way way' : Continuation) (t : LowArm) (old c1 mid new : List Item) (n label k m : ℕ) → label ≡ n → k ≡ suc n → way' ≡ continued_by_jump way → c1 ≡ old ++ tests_items l a label t.tests
     → Emitted l a cells stack words saved framed to way' (code_of t.block) c1 k mid m → new ≡ mid ++ Label label ∷ []
     → ArmsBefore l a cells stack words saved framed to way (one_arm (arm_of t)) old n new m
 arm_made l a cells stack words saved framed to way way' t old c1 mid new n label k m is next w tested e then' =
-    let block : Emits l a cells stack words saved framed to (further way) (code_of t.block) (suc n) m e.items = rw (sym w, sym next) e.emits in
+    let block : Emits l a cells stack words saved framed to (continued_by_jump way) (code_of t.block) (suc n) m e.items = rw (sym w, sym next) e.emits in
     let tests = tests_items l a n t.tests in
     let all : new ≡ ((old ++ tests) ++ e.items) ++ Label n ∷ [] = then' ∙ (λ i. mid ++ Label (is i) ∷ []) ∙ ap (λ x. x ++ Label n ∷ []) (e.is ∙ ap (λ x. x ++ e.items) (tested ∙ ap (λ x. old ++ tests_items l a x t.tests) is)) in
     let shape : ((old ++ tests) ++ e.items) ++ Label n ∷ [] ≡ old ++ (tests ++ (e.items ++ Label n ∷ [])) = grind (arith, common_steps) in
@@ -367,7 +367,7 @@ module _ (l : Program) (a : Assignment) (cells stack words saved : ℕ) (framed 
     -- whether the statement before the rest decides this one
     pub pending : Code → Bool
     pub settles : (c : Code) → ((x : ℕ) → decides_code x c ≡ false) → pending c ≡ false
-    pub emits : (to : List Spot) (way : Way) (c : Code) (k : ℕ) (more : List Item)
+    pub emits : (to : List Spot) (way : Continuation) (c : Code) (k : ℕ) (more : List Item)
         → pending (rest c) ≡ false → Emits l a cells stack words saved framed to way (rest c) m k more → Emits l a cells stack words saved framed to way (whole c) n k (items ++ more)
 
   pub none_yet : (whole : Code → Code) (old : List Item) (n : ℕ) → Towards whole whole old n old n
@@ -411,7 +411,7 @@ module _ (l : Program) (a : Assignment) (cells stack words saved : ℕ) (framed 
         settled = λ z. free (last ∙ (let zero' : nat_eq left' 0 ≡ true = grind (arith, nat_tests) in zero'));
       })
 
-  pub block_made : (b : LowBlock) (items : List LowStmt) (i left : ℕ) (to : List Spot) (way : Way) (old mid new : List Item) (n k m : ℕ) → items ≡ b.stmts → length items ≤ i → Within items i left (end_of b.last) old n mid k
+  pub block_made : (b : LowBlock) (items : List LowStmt) (i left : ℕ) (to : List Spot) (way : Continuation) (old mid new : List Item) (n k m : ℕ) → items ≡ b.stmts → length items ≤ i → Within items i left (end_of b.last) old n mid k
       → Emitted l a cells stack words saved framed to way (end_of b.last) mid k new m → Emitted l a cells stack words saved framed to way (code_of b) old n new m
   block_made b items i left to way old mid new n k m is over t e =
       let none = drop_past items i over in
@@ -441,7 +441,7 @@ module _ (l : Program) (a : Assignment) (cells stack words saved : ℕ) (framed 
       let here : Placed l a (prim c.operation c.variable c.left c.right (end_of b.last)) = subst (Placed l a) (last_left items i left left' s c (end_of b.last) lt at t.count down none same) (t.towards.placed (end_of b.last) parts) in
       ((here.1, here.2), here.3)
 
-  pub decided_made : (b : LowBlock) (items : List LowStmt) (i left left' : ℕ) (s : LowStmt) (c : Comparison) (to : List Spot) (way : Way) (old mid new : List Item) (n k m : ℕ) → items ≡ b.stmts → i < length items → s ≡ get_or items i s → left' + 1 ≡ left → left' ≡ 0
+  pub decided_made : (b : LowBlock) (items : List LowStmt) (i left left' : ℕ) (s : LowStmt) (c : Comparison) (to : List Spot) (way : Continuation) (old mid new : List Item) (n k m : ℕ) → items ≡ b.stmts → i < length items → s ≡ get_or items i s → left' + 1 ≡ left → left' ≡ 0
       → before_of s ≡ prim c.operation c.variable c.left c.right → Within items i left (end_of b.last) old n mid k
       → Emitted l a cells stack words saved framed to way (prim c.operation c.variable c.left c.right (end_of b.last)) mid k new m → Emitted l a cells stack words saved framed to way (code_of b) old n new m
   decided_made b items i left left' s c to way old mid new n k m is lt at down none same t e =
@@ -470,17 +470,17 @@ module _ (l : Program) (a : Assignment) (cells stack words saved : ℕ) (framed 
       let parts : Placed l a (all_before (map before_of items) (end_of b.last)) = subst (λ ss. Placed l a (all_before (map before_of ss) (end_of b.last))) (sym e) (subst (Placed l a) (code_of-parts b) h) in
       subst (λ ss. Placed l a (all_before (map before_of ss) (end_of b.last))) (drop_past items i over) (t.towards.placed (end_of b.last) parts)
 
-  pub record TowardsArms (to : List Spot) (way : Way) (whole rest : Code → Arms) (old : List Item) (n : ℕ) (new : List Item) (m : ℕ) : Type 0 where
+  pub record TowardsArms (to : List Spot) (way : Continuation) (whole rest : Code → Arms) (old : List Item) (n : ℕ) (new : List Item) (m : ℕ) : Type 0 where
     pub items : List Item
     pub is : new ≡ old ++ items
     pub placed : (c : Code) → ArmsPlaced l a (whole c) → ArmsPlaced l a (rest c)
     pub emits : (c : Code) (k : ℕ) (more : List Item)
         → EmitsArms l a cells stack words saved framed to way (rest c) m k more → EmitsArms l a cells stack words saved framed to way (whole c) n k (items ++ more)
 
-  pub no_arm_yet : (to : List Spot) (way : Way) (whole : Code → Arms) (old : List Item) (n : ℕ) → TowardsArms to way whole whole old n old n
+  pub no_arm_yet : (to : List Spot) (way : Continuation) (whole : Code → Arms) (old : List Item) (n : ℕ) → TowardsArms to way whole whole old n old n
   no_arm_yet to way whole old n = record { items = []; is = sym (append-nil old); placed = λ c h. h; emits = λ c k more h. h }
 
-  pub one_more_arm : (to : List Spot) (way : Way) (whole : Code → Arms) (s : LowArm) (rest : List LowArm) (old mid new : List Item) (n k m : ℕ) → TowardsArms to way whole (arms_before (map arm_of (s ∷ rest))) old n mid k
+  pub one_more_arm : (to : List Spot) (way : Continuation) (whole : Code → Arms) (s : LowArm) (rest : List LowArm) (old mid new : List Item) (n k m : ℕ) → TowardsArms to way whole (arms_before (map arm_of (s ∷ rest))) old n mid k
       → ArmsBefore l a cells stack words saved framed to way (one_arm (arm_of s)) mid k new m → TowardsArms to way whole (arms_before (map arm_of rest)) old n new m
   one_more_arm to way whole s rest old mid new n k m t b = record {
     items = t.items ++ b.items;
@@ -491,7 +491,7 @@ module _ (l : Program) (a : Assignment) (cells stack words saved : ℕ) (framed 
         rw (append_assoc t.items b.items more) first;
   }
 
-  pub arm_added : (to : List Spot) (way : Way) (whole : Code → Arms) (items : List LowArm) (i : ℕ) (s : LowArm) (old mid new : List Item) (n k m : ℕ) → i < length items → s ≡ get_or items i s → TowardsArms to way whole (arms_before (map arm_of (drop i items))) old n mid k
+  pub arm_added : (to : List Spot) (way : Continuation) (whole : Code → Arms) (items : List LowArm) (i : ℕ) (s : LowArm) (old mid new : List Item) (n k m : ℕ) → i < length items → s ≡ get_or items i s → TowardsArms to way whole (arms_before (map arm_of (drop i items))) old n mid k
       → ArmsBefore l a cells stack words saved framed to way (one_arm (arm_of s)) mid k new m → TowardsArms to way whole (arms_before (map arm_of (drop (i + 1) items))) old n new m
   arm_added to way whole items i s old mid new n k m lt is t b =
       let front : drop i items ≡ s ∷ drop (suc i) items = drop-cons items i s lt ∙ ap (λ x. x ∷ drop (suc i) items) (sym is) in
@@ -499,7 +499,7 @@ module _ (l : Program) (a : Assignment) (cells stack words saved : ℕ) (framed 
       subst (λ x. TowardsArms to way whole (arms_before (map arm_of (drop x items))) old n new m) next
       (one_more_arm to way whole s (drop (suc i) items) old mid new n k m (subst (λ ss. TowardsArms to way whole (arms_before (map arm_of ss)) old n mid k) front t) b)
 
-  pub arms_made : (to : List Spot) (way : Way) (whole : Code → Arms) (c : Code) (items : List LowArm) (i : ℕ) (old mid new : List Item) (n k m : ℕ) → length items ≤ i → TowardsArms to way whole (arms_before (map arm_of (drop i items))) old n mid k
+  pub arms_made : (to : List Spot) (way : Continuation) (whole : Code → Arms) (c : Code) (items : List LowArm) (i : ℕ) (old mid new : List Item) (n k m : ℕ) → length items ≤ i → TowardsArms to way whole (arms_before (map arm_of (drop i items))) old n mid k
       → Emitted l a cells stack words saved framed to way c mid k new m → EmittedArms l a cells stack words saved framed to way (whole c) old n new m
   arms_made to way whole c items i old mid new n k m over t e =
       let last : EmitsArms l a cells stack words saved framed to way (arms_before (map arm_of (drop i items)) c) k m e.items = rw (drop_past items i over) e.emits in
@@ -510,11 +510,11 @@ module _ (l : Program) (a : Assignment) (cells stack words saved : ℕ) (framed 
       }
 
   -- the first arm, behind the others
-  pub first_last_made : (to : List Spot) (way way' : Way) (first : LowArm) (t : LowTest) (rest : List LowArm) (c : Code) (old c1 c2 c3 new : List Item) (n label k i m : ℕ) → first.tests ≡ t ∷ [] → label ≡ n → k ≡ suc n → way' ≡ further way
+  pub first_last_made : (to : List Spot) (way way' : Continuation) (first : LowArm) (t : LowTest) (rest : List LowArm) (c : Code) (old c1 c2 c3 new : List Item) (n label k i m : ℕ) → first.tests ≡ t ∷ [] → label ≡ n → k ≡ suc n → way' ≡ continued_by_jump way
       → c1 ≡ old ++ match_items label (source l a t.left) t.right → EmittedArms l a cells stack words saved framed to way' (arms_before (map arm_of rest) c) c1 k c2 i → c3 ≡ c2 ++ Label label ∷ []
       → Emitted l a cells stack words saved framed to way (code_of first.block) c3 i new m → EmittedLast l a cells stack words saved framed to way (arms_before (map arm_of (first ∷ rest)) c) old n new m
   first_last_made to way way' first t rest c old c1 c2 c3 new n label k i m one is next w matched others labelled e =
-      let arms' : EmitsArms l a cells stack words saved framed to (further way) (arms_before (map arm_of rest) c) (suc n) i others.items = rw (sym w, sym next) others.emits in
+      let arms' : EmitsArms l a cells stack words saved framed to (continued_by_jump way) (arms_before (map arm_of rest) c) (suc n) i others.items = rw (sym w, sym next) others.emits in
       let test = match_items n (source l a t.left) t.right in
       let all : new ≡ (((old ++ test) ++ others.items) ++ Label n ∷ []) ++ e.items =
       e.is ∙ ap (λ x. x ++ e.items) (labelled ∙ (λ i. c2 ++ Label (is i) ∷ []) ∙ ap (λ x. x ++ Label n ∷ []) (others.is ∙ ap (λ x. x ++ others.items) (matched ∙ ap (λ x. old ++ match_items x (source l a t.left) t.right) is))) in
@@ -525,27 +525,27 @@ module _ (l : Program) (a : Assignment) (cells stack words saved : ℕ) (framed 
         emits = (t, one, i, others.items, arms', (e.items, refl, e.emits));
       })
 
-  pub arm_at_placed : (to : List Spot) (way : Way) (items : List LowArm) (i : ℕ) (c : Code) (old new : List Item) (n m : ℕ) (s : LowArm) → i < length items → s ≡ get_or items i s → TowardsArms to way (arms_before (map arm_of items)) (arms_before (map arm_of (drop i items))) old n new m
+  pub arm_at_placed : (to : List Spot) (way : Continuation) (items : List LowArm) (i : ℕ) (c : Code) (old new : List Item) (n m : ℕ) (s : LowArm) → i < length items → s ≡ get_or items i s → TowardsArms to way (arms_before (map arm_of items)) (arms_before (map arm_of (drop i items))) old n new m
       → ArmsPlaced l a (arms_before (map arm_of items) c) → ArmPlaced l a (arm_of s)
   arm_at_placed to way items i c old new n m s lt is t h =
       let front : drop i items ≡ s ∷ drop (suc i) items = drop-cons items i s lt ∙ ap (λ x. x ∷ drop (suc i) items) (sym is) in
       let here : ArmsPlaced l a (arms_before (map arm_of (s ∷ drop (suc i) items)) c) = subst (λ ss. ArmsPlaced l a (arms_before (map arm_of ss) c)) front (t.placed c h) in
       (here.0, here.1)
 
-  pub otherwise_placed : (to : List Spot) (way : Way) (items : List LowArm) (i : ℕ) (c : Code) (old new : List Item) (n m : ℕ) → length items ≤ i → TowardsArms to way (arms_before (map arm_of items)) (arms_before (map arm_of (drop i items))) old n new m
+  pub otherwise_placed : (to : List Spot) (way : Continuation) (items : List LowArm) (i : ℕ) (c : Code) (old new : List Item) (n m : ℕ) → length items ≤ i → TowardsArms to way (arms_before (map arm_of items)) (arms_before (map arm_of (drop i items))) old n new m
       → ArmsPlaced l a (arms_before (map arm_of items) c) → Placed l a c
   otherwise_placed to way items i c old new n m over t h =
       subst (λ ss. ArmsPlaced l a (arms_before (map arm_of ss) c)) (drop_past items i over) (t.placed c h)
 
   -- a choice, by where its first arm stands
-  pub last_made : (to : List Spot) (way : Way) (as' : Arms) (old new : List Item) (n m : ℕ) → stands_last way as' ≡ true → EmittedLast l a cells stack words saved framed to way as' old n new m → Emitted l a cells stack words saved framed to way (choose as') old n new m
+  pub last_made : (to : List Spot) (way : Continuation) (as' : Arms) (old new : List Item) (n m : ℕ) → first_arm_goes_last way as' ≡ true → EmittedLast l a cells stack words saved framed to way as' old n new m → Emitted l a cells stack words saved framed to way (choose as') old n new m
   last_made to way as' old new n m e t = record {
     items = t.items;
     is = t.is;
     emits = inr (subst (λ r. elim r as (λ x. Type 0) [ true ↦ EmitsLast l a cells stack words saved framed to way as' n m t.items | false ↦ EmitsArms l a cells stack words saved framed to way as' n m t.items ]) (sym e) t.emits);
   }
 
-  pub in_order_made : (to : List Spot) (way : Way) (as' : Arms) (old new : List Item) (n m : ℕ) → stands_last way as' ≡ false → EmittedArms l a cells stack words saved framed to way as' old n new m → Emitted l a cells stack words saved framed to way (choose as') old n new m
+  pub in_order_made : (to : List Spot) (way : Continuation) (as' : Arms) (old new : List Item) (n m : ℕ) → first_arm_goes_last way as' ≡ false → EmittedArms l a cells stack words saved framed to way as' old n new m → Emitted l a cells stack words saved framed to way (choose as') old n new m
   in_order_made to way as' old new n m e t = record {
     items = t.items;
     is = t.is;
@@ -553,24 +553,24 @@ module _ (l : Program) (a : Assignment) (cells stack words saved : ℕ) (framed 
   }
 
   -- arms of which the first and the others are known, by the rule
-  pub last_chosen : (to : List Spot) (way : Way) (arms rest : List LowArm) (first : LowArm) (c : Code) (r : Bool) (old new : List Item) (n m : ℕ) → arms ≡ first ∷ rest → r ≡ (if has_one first.tests then waits way (code_of first.block) c else false) → r ≡ true
+  pub last_chosen : (to : List Spot) (way : Continuation) (arms rest : List LowArm) (first : LowArm) (c : Code) (r : Bool) (old new : List Item) (n m : ℕ) → arms ≡ first ∷ rest → r ≡ (if has_one first.tests then waits way (code_of first.block) c else false) → r ≡ true
       → EmittedLast l a cells stack words saved framed to way (arms_before (map arm_of (first ∷ rest)) c) old n new m → Emitted l a cells stack words saved framed to way (choose (arms_before (map arm_of arms) c)) old n new m
   last_chosen to way arms rest first c r old new n m all e t h =
       subst (λ ts. Emitted l a cells stack words saved framed to way (choose (arms_before (map arm_of ts) c)) old n new m) (sym all)
       (last_made to way (arms_before (map arm_of (first ∷ rest)) c) old new n m (rule_is way first rest c ∙ sym e ∙ t) h)
 
-  pub order_chosen : (to : List Spot) (way : Way) (arms rest : List LowArm) (first : LowArm) (c : Code) (r : Bool) (old new : List Item) (n m : ℕ) → arms ≡ first ∷ rest → r ≡ (if has_one first.tests then waits way (code_of first.block) c else false) → r ≡ false
+  pub order_chosen : (to : List Spot) (way : Continuation) (arms rest : List LowArm) (first : LowArm) (c : Code) (r : Bool) (old new : List Item) (n m : ℕ) → arms ≡ first ∷ rest → r ≡ (if has_one first.tests then waits way (code_of first.block) c else false) → r ≡ false
       → EmittedArms l a cells stack words saved framed to way (arms_before (map arm_of arms) c) old n new m → Emitted l a cells stack words saved framed to way (choose (arms_before (map arm_of arms) c)) old n new m
   order_chosen to way arms rest first c r old new n m all e t h =
-      let rule = ap (λ ts. stands_last way (arms_before (map arm_of ts) c)) all ∙ rule_is way first rest c ∙ sym e ∙ t in
+      let rule = ap (λ ts. first_arm_goes_last way (arms_before (map arm_of ts) c)) all ∙ rule_is way first rest c ∙ sym e ∙ t in
       in_order_made to way (arms_before (map arm_of arms) c) old new n m rule h
 
   -- a choice that a comparison decides
-  pub decided_first_made : (to : List Spot) (way way' : Way) (first : LowArm) (rest : List LowArm) (c : Code) (f : PrimOp) (left right : Source) (number : ℕ) (old c1 c2 c3 new : List Item) (n label k i m : ℕ) → label ≡ n → k ≡ suc n → way' ≡ further way → number ≡ tested first.tests
+  pub decided_first_made : (to : List Spot) (way way' : Continuation) (first : LowArm) (rest : List LowArm) (c : Code) (f : PrimOp) (left right : Source) (number : ℕ) (old c1 c2 c3 new : List Item) (n label k i m : ℕ) → label ≡ n → k ≡ suc n → way' ≡ continued_by_jump way → number ≡ tested first.tests
       → c1 ≡ old ++ branch_items (other_condition f number) label left right → Emitted l a cells stack words saved framed to way' (code_of first.block) c1 k c2 i → c3 ≡ c2 ++ Label label ∷ []
       → EmittedArms l a cells stack words saved framed to way (arms_before (map arm_of rest) c) c3 i new m → EmittedDecidedFirst l a cells stack words saved framed f left right to way (arms_before (map arm_of (first ∷ rest)) c) old n new m
   decided_first_made to way way' first rest c f left right number old c1 c2 c3 new n label k i m is next w which branched inner labelled e =
-      let block : Emits l a cells stack words saved framed to (further way) (code_of first.block) (suc n) i inner.items = rw (sym w, sym next) inner.emits in
+      let block : Emits l a cells stack words saved framed to (continued_by_jump way) (code_of first.block) (suc n) i inner.items = rw (sym w, sym next) inner.emits in
       let test = branch_items (other_condition f (tested first.tests)) n left right in
       let all : new ≡ (((old ++ test) ++ inner.items) ++ Label n ∷ []) ++ e.items =
       e.is ∙ ap (λ x. x ++ e.items) (labelled ∙ (λ i. c2 ++ Label (is i) ∷ []) ∙ ap (λ x. x ++ Label n ∷ []) (inner.is ∙ ap (λ x. x ++ inner.items) (branched ∙ (λ i. old ++ branch_items (other_condition f (which i)) (is i) left right)))) in
@@ -581,11 +581,11 @@ module _ (l : Program) (a : Assignment) (cells stack words saved : ℕ) (framed 
         emits = (i, inner.items, block, (e.items, refl, e.emits));
       })
 
-  pub decided_last_made : (to : List Spot) (way way' : Way) (first : LowArm) (rest : List LowArm) (c : Code) (f : PrimOp) (left right : Source) (number : ℕ) (old c1 c2 c3 new : List Item) (n label k i m : ℕ) → label ≡ n → k ≡ suc n → way' ≡ further way → number ≡ tested first.tests
+  pub decided_last_made : (to : List Spot) (way way' : Continuation) (first : LowArm) (rest : List LowArm) (c : Code) (f : PrimOp) (left right : Source) (number : ℕ) (old c1 c2 c3 new : List Item) (n label k i m : ℕ) → label ≡ n → k ≡ suc n → way' ≡ continued_by_jump way → number ≡ tested first.tests
       → c1 ≡ old ++ branch_items (condition f number) label left right → EmittedArms l a cells stack words saved framed to way' (arms_before (map arm_of rest) c) c1 k c2 i → c3 ≡ c2 ++ Label label ∷ []
       → Emitted l a cells stack words saved framed to way (code_of first.block) c3 i new m → EmittedDecidedLast l a cells stack words saved framed f left right to way (arms_before (map arm_of (first ∷ rest)) c) old n new m
   decided_last_made to way way' first rest c f left right number old c1 c2 c3 new n label k i m is next w which branched others labelled e =
-      let arms' : EmitsArms l a cells stack words saved framed to (further way) (arms_before (map arm_of rest) c) (suc n) i others.items = rw (sym w, sym next) others.emits in
+      let arms' : EmitsArms l a cells stack words saved framed to (continued_by_jump way) (arms_before (map arm_of rest) c) (suc n) i others.items = rw (sym w, sym next) others.emits in
       let test = branch_items (condition f (tested first.tests)) n left right in
       let all : new ≡ (((old ++ test) ++ others.items) ++ Label n ∷ []) ++ e.items =
       e.is ∙ ap (λ x. x ++ e.items) (labelled ∙ (λ i. c2 ++ Label (is i) ∷ []) ∙ ap (λ x. x ++ Label n ∷ []) (others.is ∙ ap (λ x. x ++ others.items) (branched ∙ (λ i. old ++ branch_items (condition f (which i)) (is i) left right)))) in
@@ -597,13 +597,13 @@ module _ (l : Program) (a : Assignment) (cells stack words saved : ℕ) (framed 
       })
 
   -- a comparison and its choice
-  decided_choice : (to : List Spot) (way : Way) (as' : Arms) (f : PrimOp) (x : ℕ) (b d : Operand) (left right : Source) (n m : ℕ) (items : List Item) → left ≡ source l a b → right ≡ source l a d → decides f x (choose as') ≡ true
+  decided_choice : (to : List Spot) (way : Continuation) (as' : Arms) (f : PrimOp) (x : ℕ) (b d : Operand) (left right : Source) (n m : ℕ) (items : List Item) → left ≡ source l a b → right ≡ source l a d → decides f x (choose as') ≡ true
       → EmitsDecided l a cells stack words saved framed f left right to way (choose as') n m items → Emits l a cells stack words saved framed to way (prim f x b d (choose as')) n m items
   decided_choice to way as' f x b d left right n m items from and is h =
       let there : EmitsDecided l a cells stack words saved framed f (source l a b) (source l a d) to way (choose as') n m items = rw (sym from, sym and) h in
       subst (λ r. elim r as (λ y. Type 0) [ true ↦ EmitsDecided l a cells stack words saved framed f (source l a b) (source l a d) to way (choose as') n m items | false ↦ Then (plain (prim_code f (place_of a x) (source l a b) (source l a d))) (Emits l a cells stack words saved framed to way (choose as') n m) items ]) (sym is) there
 
-  pub decided_last_chosen : (to : List Spot) (way : Way) (first : LowArm) (rest : List LowArm) (c : Code) (f : PrimOp) (x : ℕ) (b d : Operand) (left right : Source) (r : Bool) (old new : List Item) (n m : ℕ) → left ≡ source l a b → right ≡ source l a d
+  pub decided_last_chosen : (to : List Spot) (way : Continuation) (first : LowArm) (rest : List LowArm) (c : Code) (f : PrimOp) (x : ℕ) (b d : Operand) (left right : Source) (r : Bool) (old new : List Item) (n m : ℕ) → left ≡ source l a b → right ≡ source l a d
       → r ≡ (if has_one first.tests then waits way (code_of first.block) c else false) → r ≡ true → decides f x (choose (arms_before (map arm_of (first ∷ rest)) c)) ≡ true
       → EmittedDecidedLast l a cells stack words saved framed f left right to way (arms_before (map arm_of (first ∷ rest)) c) old n new m → Emitted l a cells stack words saved framed to way (prim f x b d (choose (arms_before (map arm_of (first ∷ rest)) c))) old n new m
   decided_last_chosen to way first rest c f x b d left right r old new n m from and e t is h =
@@ -615,7 +615,7 @@ module _ (l : Program) (a : Assignment) (cells stack words saved : ℕ) (framed 
             (subst (λ r. elim r as (λ y. Type 0) [ true ↦ EmitsDecidedLast l a cells stack words saved framed f left right to way as' n m h.items | false ↦ EmitsDecidedFirst l a cells stack words saved framed f left right to way as' n m h.items ]) (sym (rule_is way first rest c ∙ sym e ∙ t)) h.emits);
       }
 
-  pub decided_first_chosen : (to : List Spot) (way : Way) (first : LowArm) (rest : List LowArm) (c : Code) (f : PrimOp) (x : ℕ) (b d : Operand) (left right : Source) (r : Bool) (old new : List Item) (n m : ℕ) → left ≡ source l a b → right ≡ source l a d
+  pub decided_first_chosen : (to : List Spot) (way : Continuation) (first : LowArm) (rest : List LowArm) (c : Code) (f : PrimOp) (x : ℕ) (b d : Operand) (left right : Source) (r : Bool) (old new : List Item) (n m : ℕ) → left ≡ source l a b → right ≡ source l a d
       → r ≡ (if has_one first.tests then waits way (code_of first.block) c else false) → r ≡ false → decides f x (choose (arms_before (map arm_of (first ∷ rest)) c)) ≡ true
       → EmittedDecidedFirst l a cells stack words saved framed f left right to way (arms_before (map arm_of (first ∷ rest)) c) old n new m → Emitted l a cells stack words saved framed to way (prim f x b d (choose (arms_before (map arm_of (first ∷ rest)) c))) old n new m
   decided_first_chosen to way first rest c f x b d left right r old new n m from and e t is h =
@@ -633,7 +633,7 @@ module _ (l : Program) (a : Assignment) (cells stack words saved : ℕ) (framed 
 
   -- ---- ends
 
-  pub give_made : (e : LowEnd) (as' : List Operand) (to : List Spot) (way : Way) (old mid new : List Item) (n : ℕ) → e ≡ Give as' → Sent to (sources l a as') old mid → new ≡ mid ++ way_out framed words way → Emitted l a cells stack words saved framed to way (end_of e) old n new n
+  pub give_made : (e : LowEnd) (as' : List Operand) (to : List Spot) (way : Continuation) (old mid new : List Item) (n : ℕ) → e ≡ Give as' → EmitsParallelMoves to (sources l a as') old mid → new ≡ mid ++ way_out framed words way → Emitted l a cells stack words saved framed to way (end_of e) old n new n
   give_made e as' to way old mid new n is s out =
       let piece = plain (moves_code s.steps ++ number_moves to (sources l a as')) in
       rw (ap end_of is ∙ end_of-Give as') (record {
@@ -648,17 +648,17 @@ module _ (l : Program) (a : Assignment) (cells stack words saved : ℕ) (framed 
   pub give_placed : (e : LowEnd) (as' : List Operand) → e ≡ Give as' → Placed l a (end_of e) → OperandsPlaced l a as'
   give_placed e as' is h = subst (Placed l a) (ap end_of is ∙ end_of-Give as') h
 
-  pub tail_made : (e : LowEnd) (f site : ℕ) (as' : List Operand) (to : List Spot) (way : Way) (old new : List Item) (n : ℕ) → e ≡ Tail f site as' → TailCalled l a framed words f as' old new → Emitted l a cells stack words saved framed to way (end_of e) old n new n
+  pub tail_made : (e : LowEnd) (f site : ℕ) (as' : List Operand) (to : List Spot) (way : Continuation) (old new : List Item) (n : ℕ) → e ≡ Tail f site as' → TailCalled l a framed words f as' old new → Emitted l a cells stack words saved framed to way (end_of e) old n new n
   tail_made e f site as' to way old new n is t = rw (ap end_of is ∙ end_of-Tail f site as') (record { items = _; is = t.is; emits = (refl, t.steps, t.order, refl) })
 
   pub choose_placed : (e : LowEnd) (arms : List LowArm) (b : Box LowBlock Global) → e ≡ Choose arms b → Placed l a (end_of e) → ArmsPlaced l a (arms_before (map arm_of arms) (code_of b.value))
   choose_placed e arms b is h = subst (Placed l a) (ap end_of is ∙ end_of-Choose arms b) h
 
-  pub choose_made : (e : LowEnd) (arms : List LowArm) (b : Box LowBlock Global) (to : List Spot) (way : Way) (old new : List Item) (n m : ℕ) → e ≡ Choose arms b → Emitted l a cells stack words saved framed to way (choose (arms_before (map arm_of arms) (code_of b.value))) old n new m
+  pub choose_made : (e : LowEnd) (arms : List LowArm) (b : Box LowBlock Global) (to : List Spot) (way : Continuation) (old new : List Item) (n m : ℕ) → e ≡ Choose arms b → Emitted l a cells stack words saved framed to way (choose (arms_before (map arm_of arms) (code_of b.value))) old n new m
       → Emitted l a cells stack words saved framed to way (end_of e) old n new m
   choose_made e arms b to way old new n m is t = rw (ap end_of is ∙ end_of-Choose arms b) t
 
-  pub fail_made : (e : LowEnd) (to : List Spot) (way : Way) (old new : List Item) (n : ℕ) → e ≡ Fail → new ≡ old ++ Jump 5 (no_alternative l) ∷ [] → Emitted l a cells stack words saved framed to way (end_of e) old n new n
+  pub fail_made : (e : LowEnd) (to : List Spot) (way : Continuation) (old new : List Item) (n : ℕ) → e ≡ Fail → new ≡ old ++ Jump 5 (no_alternative l) ∷ [] → Emitted l a cells stack words saved framed to way (end_of e) old n new n
   fail_made e to way old new n is put' = rw (ap end_of is ∙ end_of-Fail) (record { items = Jump 5 (no_alternative l) ∷ []; is = put'; emits = (refl, refl) })
 
 pub chosen_placed : (l : Program) (a : Assignment) (e : LowEnd) (arms items : List LowArm) (b : Box LowBlock Global) (block : LowBlock) → e ≡ Choose arms b → items ≡ arms → block ≡ b.value → Placed l a (end_of e) → ArmsPlaced l a (arms_before (map arm_of items) (code_of block))

@@ -9,12 +9,12 @@ use Rattle.register_alloc.specs.Assignment.{Assignment, place_of, words_at}
 use Rattle.register_alloc.specs.Fits.{slots_of}
 use Rattle.rv32_items.specs.declared.Item.{Item}
 use Rattle.rv32_select.specs.declared.source.Source.{Source}
-use Rattle.rv32_select.specs.declared.source.Way.{Way}
-use Rattle.rv32_select.specs.declared.source.Way.TheVariants.{Returns, Follows}
+use Rattle.rv32_select.specs.declared.source.Continuation.{Continuation}
+use Rattle.rv32_select.specs.declared.source.Continuation.TheVariants.{Returns, Follows}
 use Rattle.rv32_select.specs.Emit.{plain, prim_code, result_spots}
 use Rattle.rv32_select.specs.Decides.{decides}
-use Rattle.rv32_select.specs.IsSelected.{EmitsEach, Round, Emits, EmitsArms, EmitsLast, EmitsDecided, EmitsDecidedFirst, EmitsDecidedLast, Then, EmitsProcedure, further, places, source, stands_last}
-use Rattle.rv32_select.specs.Halves.{Sought}
+use Rattle.rv32_select.specs.IsSelected.{EmitsEach, Round, Emits, EmitsArms, EmitsLast, EmitsDecided, EmitsDecidedFirst, EmitsDecidedLast, Then, EmitsProcedure, continued_by_jump, places, source, first_arm_goes_last}
+use Rattle.rv32_select.specs.Halves.{SearchedArm}
 use Rattle.rv32_select.proofs.HalvesFacts.{AllOf, IsUp, halves_up}
 
 -- what follows of both, whichever it is
@@ -29,7 +29,7 @@ behind_round false piece Rest items h = (h.2.2.0, h.2.2.2)
 
 module _ (l : Program) (a : Assignment) (cells stack words saved : ℕ) (framed : Bool) where
   mutual
-    pub emits_up : (c : Code) (to : List Spot) (way : Way) (n m : ℕ) (items : List Item) → Emits l a cells stack words saved framed to way c n m items → n ≤ m
+    pub emits_up : (c : Code) (to : List Spot) (way : Continuation) (n m : ℕ) (items : List Item) → Emits l a cells stack words saved framed to way c n m items → n ≤ m
     emits_up (set x b c) to way n m items h = emits_up c to way n m h.0 h.2
     emits_up (prim f x b d c) to way n m items h =
         whichever (EmitsDecided l a cells stack words saved framed f (source l a b) (source l a d) to way c n m items) (Then (plain (prim_code f (place_of a x) (source l a b) (source l a d))) (Emits l a cells stack words saved framed to way c n m) items) (decides f x c)
@@ -52,34 +52,34 @@ module _ (l : Program) (a : Assignment) (cells stack words saved : ℕ) (framed 
         let more = each.1 in
         omega (arith, up, more)
     emits_up (choose as') to way n m items (inr h) =
-        whichever (EmitsLast l a cells stack words saved framed to way as' n m items) (EmitsArms l a cells stack words saved framed to way as' n m items) (stands_last way as')
+        whichever (EmitsLast l a cells stack words saved framed to way as' n m items) (EmitsArms l a cells stack words saved framed to way as' n m items) (first_arm_goes_last way as')
         (λ z. last_up as' to way n m items z) (λ z. arms_up as' to way n m items z) h
     emits_up fail to way n m items h = let e = h.0 in omega arith
 
-    pub arms_up : (as' : Arms) (to : List Spot) (way : Way) (n m : ℕ) (items : List Item) → EmitsArms l a cells stack words saved framed to way as' n m items → n ≤ m
+    pub arms_up : (as' : Arms) (to : List Spot) (way : Continuation) (n m : ℕ) (items : List Item) → EmitsArms l a cells stack words saved framed to way as' n m items → n ≤ m
     arms_up (otherwise c) to way n m items h = emits_up c to way n m items h
     arms_up (arm ts c as') to way n m items h =
-        let first = emits_up c to (further way) (suc n) h.0 h.1 h.2 in
+        let first = emits_up c to (continued_by_jump way) (suc n) h.0 h.1 h.2 in
         let second = arms_up as' to way h.0 m h.3.0 h.3.2 in
         omega arith
 
-    pub each_up : (word : Operand) (as' : Arms) (to : List Spot) (way : Way) (all : List Sought) (k m : ℕ) (rest : List Item) → EmitsEach l a cells stack words saved framed word to way as' all k m rest → AllOf IsUp all × (k ≤ m)
+    pub each_up : (word : Operand) (as' : Arms) (to : List Spot) (way : Continuation) (all : List SearchedArm) (k m : ℕ) (rest : List Item) → EmitsEach l a cells stack words saved framed word to way as' all k m rest → AllOf IsUp all × (k ≤ m)
     each_up word (otherwise c) to way all k m rest h = (subst (AllOf IsUp) (sym h.0) tt, emits_up c to way k m rest h.1)
     each_up word (arm ts c as') to way all k m rest h =
         let more = each_up word as' to way h.1 k m rest h.5 in
-        (subst (AllOf IsUp) (sym h.2) (emits_up c to (further way) h.0.first h.0.next h.0.block h.4, more.0), more.1)
+        (subst (AllOf IsUp) (sym h.2) (emits_up c to (continued_by_jump way) h.0.first h.0.next h.0.block h.4, more.0), more.1)
 
-    pub last_up : (as' : Arms) (to : List Spot) (way : Way) (n m : ℕ) (items : List Item) → EmitsLast l a cells stack words saved framed to way as' n m items → n ≤ m
+    pub last_up : (as' : Arms) (to : List Spot) (way : Continuation) (n m : ℕ) (items : List Item) → EmitsLast l a cells stack words saved framed to way as' n m items → n ≤ m
     last_up (otherwise c) to way n m items h = absurd h
     last_up (arm ts c as') to way n m items h =
-        let first = arms_up as' to (further way) (suc n) h.2 h.3 h.4 in
+        let first = arms_up as' to (continued_by_jump way) (suc n) h.2 h.3 h.4 in
         let second = emits_up c to way h.2 m h.5.0 h.5.2 in
         omega arith
 
     -- a choice that a comparison decides
-    pub decided_up : (c : Code) (f : PrimOp) (left right : Source) (to : List Spot) (way : Way) (n m : ℕ) (items : List Item) → EmitsDecided l a cells stack words saved framed f left right to way c n m items → n ≤ m
+    pub decided_up : (c : Code) (f : PrimOp) (left right : Source) (to : List Spot) (way : Continuation) (n m : ℕ) (items : List Item) → EmitsDecided l a cells stack words saved framed f left right to way c n m items → n ≤ m
     decided_up (choose as') f left right to way n m items h =
-        whichever (EmitsDecidedLast l a cells stack words saved framed f left right to way as' n m items) (EmitsDecidedFirst l a cells stack words saved framed f left right to way as' n m items) (stands_last way as')
+        whichever (EmitsDecidedLast l a cells stack words saved framed f left right to way as' n m items) (EmitsDecidedFirst l a cells stack words saved framed f left right to way as' n m items) (first_arm_goes_last way as')
         (λ z. decided_last_up as' f left right to way n m items z) (λ z. decided_first_up as' f left right to way n m items z) h
     decided_up (set x b c) f left right to way n m items h = absurd h
     decided_up (prim g x b d c) f left right to way n m items h = absurd h
@@ -94,17 +94,17 @@ module _ (l : Program) (a : Assignment) (cells stack words saved : ℕ) (framed 
     decided_up (tail g site os) f left right to way n m items h = absurd h
     decided_up fail f left right to way n m items h = absurd h
 
-    pub decided_first_up : (as' : Arms) (f : PrimOp) (left right : Source) (to : List Spot) (way : Way) (n m : ℕ) (items : List Item) → EmitsDecidedFirst l a cells stack words saved framed f left right to way as' n m items → n ≤ m
+    pub decided_first_up : (as' : Arms) (f : PrimOp) (left right : Source) (to : List Spot) (way : Continuation) (n m : ℕ) (items : List Item) → EmitsDecidedFirst l a cells stack words saved framed f left right to way as' n m items → n ≤ m
     decided_first_up (otherwise c) f left right to way n m items h = absurd h
     decided_first_up (arm ts c as') f left right to way n m items h =
-        let first = emits_up c to (further way) (suc n) h.0 h.1 h.2 in
+        let first = emits_up c to (continued_by_jump way) (suc n) h.0 h.1 h.2 in
         let second = arms_up as' to way h.0 m h.3.0 h.3.2 in
         omega arith
 
-    pub decided_last_up : (as' : Arms) (f : PrimOp) (left right : Source) (to : List Spot) (way : Way) (n m : ℕ) (items : List Item) → EmitsDecidedLast l a cells stack words saved framed f left right to way as' n m items → n ≤ m
+    pub decided_last_up : (as' : Arms) (f : PrimOp) (left right : Source) (to : List Spot) (way : Continuation) (n m : ℕ) (items : List Item) → EmitsDecidedLast l a cells stack words saved framed f left right to way as' n m items → n ≤ m
     decided_last_up (otherwise c) f left right to way n m items h = absurd h
     decided_last_up (arm ts c as') f left right to way n m items h =
-        let first = arms_up as' to (further way) (suc n) h.0 h.1 h.2 in
+        let first = arms_up as' to (continued_by_jump way) (suc n) h.0 h.1 h.2 in
         let second = emits_up c to way h.0 m h.3.0 h.3.2 in
         omega arith
 

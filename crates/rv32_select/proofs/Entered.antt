@@ -12,9 +12,10 @@ use Rattle.register_alloc.specs.Assignment.{Assignment, place_of, words_at}
 use Rattle.low_code.specs.Formed.{variables}
 use Rattle.register_alloc.specs.Fits.{slots_of}
 use Rattle.rv32_items.specs.declared.Item.{Item}
-use Rattle.rv32_select.specs.declared.source.Way.TheVariants.{Returns}
+use Rattle.rv32_select.specs.declared.source.Continuation.TheVariants.{Returns}
 use Rattle.rv32_select.specs.Emit.{result_spots, entry_items, start_items, stop_items}
-use Rattle.rv32_select.specs.IsSelected.{EmitsProcedure, EmitsProcedures, IsSelected, stack_full, stack_end, heap_base, heap_end, heap_full, step, first_call, first_label, no_alternative, is_lasting}
+use Rattle.rv32_select.specs.IsSelected.{EmitsProcedure, EmitsProcedures, IsSelected, stack_full, heap_end, heap_full, step, first_call, first_label, no_alternative, is_lasting}
+use Rattle.limits.specs.Limits.{stack_end, heap_start}
 use Rattle.rv32_select.specs.Ranges.{AreSpots}
 use Rattle.rv32_select.specs.Writable.{Writable, Placed, ProcedurePlaced}
 use Rattle.rv32_select.specs.Emitting.{Emitted, EmittedProcedure}
@@ -89,12 +90,12 @@ next_procedure low a cells stack f f' count old mid new n k m size lt next t p =
 
 -- all items of a program
 pub whole_made : (low : Low) (a : Assignment) (cells stack count f n m : ℕ) (empty started called last new : List Item) → count ≡ length low.procs → count ≤ f → empty ≡ []
-    → started ≡ empty ++ start_items stack_end heap_base (heap_end (program_of low) cells) (step (program_of low)) (heap_full (program_of low)) low.globals
+    → started ≡ empty ++ start_items stack_end heap_start (heap_end (program_of low) cells) (step (program_of low)) (heap_full (program_of low)) low.globals
     → called ≡ started ++ first_call (program_of low) a (stack_end - stack) → n ≡ first_label (program_of low) → Procedures (program_of low) a cells stack (program_of low).procs f called n last m
     → new ≡ last ++ stop_items (no_alternative (program_of low)) → IsSelected (program_of low) a cells stack new
 whole_made low a cells stack count f n m empty started called last new size over none starts calls next t stops =
     let l = program_of low in
-    let head = start_items stack_end heap_base (heap_end l cells) (step l) (heap_full l) low.globals in
+    let head = start_items stack_end heap_start (heap_end l cells) (step l) (heap_full l) low.globals in
     let first = first_call l a (stack_end - stack) in
     let tail = stop_items (no_alternative l) in
     let past : drop f l.procs ≡ [] = drop_past l.procs f (let e = length-map low.procs procedure_of in omega (arith, size, over, e)) in

@@ -10,11 +10,11 @@ use Rattle.parallel_move.specs.declared.Spot.{Spot}
 use Rattle.parallel_move.specs.declared.Spot.TheVariants.{Reg, Slot, Scratch}
 use Rattle.low_code.specs.Tree.{Code, set, prim, load, save, take, put, get, call, join, give, tail, choose, fail, Arms, otherwise, arm, Procedure, Program}
 use Rattle.low_code.specs.Formed.{Distinct, uses, binds, arms_binds, variables, Site, calls_in, arms_calls, sites_of, all_sites, CallsInRange, AllCallsInRange, Formed}
-use Rattle.low_code.specs.Size.{code_size, arms_size, sizes, low_all}
+use Rattle.low_code.specs.Size.{code_size, arms_size, sizes, program_size}
 use Rattle.register_alloc.specs.Assignment.{Assignment, place_of, may_change, saves_at, words_at}
 use Rattle.register_alloc.specs.Live.{IsLive, EachBinding, EachBindingOfArms, LiveAfter, ArmsLiveAfter}
 use Rattle.register_alloc.specs.Written.{variable, result, Written, assigned, called}
-use Rattle.register_alloc.specs.Fits.{IsPlace, IsSlot, IsRegister, ClearOf, Apart, IsSaved, slots_of, slot_end, longest, AllSlots, ParametersInRegisters, Fits}
+use Rattle.register_alloc.specs.Fits.{IsPlace, IsSlot, IsRegister, ClearOf, Apart, IsSaved, slots_of, slot_end, most_saved, AllSlots, ParametersInRegisters, Fits}
 use Rattle.rv32_select.specs.Emit.{argument_spot, argument_spots, result_spots}
 use Rattle.low_code.specs.Literals.{Small, ArmsSmall}
 use Rattle.rv32_select.proofs.Relation.{Keeps}
@@ -79,12 +79,12 @@ slot_below place (y ∷ ys) x k h e = elim (or_true (nat_eq x y) (is_among x ys)
   | inr t ↦ let more = slot_below place ys x k t e in omega arith
 ]
 
-long_enough : (saved : ℕ → List ℕ) (ss : List Site) (k : ℕ) (s : Site) → slice_get ss k ≡ Some s → length (saved s.0) ≤ longest saved ss
+long_enough : (saved : ℕ → List ℕ) (ss : List Site) (k : ℕ) (s : Site) → slice_get ss k ≡ Some s → length (saved s.0) ≤ most_saved saved ss
 long_enough saved [] k s e = absurd (cc)
 long_enough saved (z ∷ ss) zero s e =
     let same : z ≡ s = cc in
-    let here : length (saved z.0) ≤ longest saved (z ∷ ss) = omega arith in
-    subst (λ (y : Site). length (saved y.0) ≤ longest saved (z ∷ ss)) same here
+    let here : length (saved z.0) ≤ most_saved saved (z ∷ ss) = omega arith in
+    subst (λ (y : Site). length (saved y.0) ≤ most_saved saved (z ∷ ss)) same here
 long_enough saved (z ∷ ss) (suc k) s e = let more = long_enough saved ss k s e in omega arith
 
 -- ---- a variable is live after a call of the block's own
@@ -265,7 +265,7 @@ module _ (l : Program) (a : Assignment) (fits : Fits l a) (formed : Formed l) (n
   saved = slots_of (place_of a) (variables q)
 
   abbrev slots : ℕ
-  slots = saved + longest (saves_at a) (calls_in q.body)
+  slots = saved + most_saved (saves_at a) (calls_in q.body)
 
   call_fits : (k site g : ℕ) → slice_get (calls_in q.body) k ≡ Some (site, g) → CallFits l a f g
   call_fits k site g e =
@@ -412,7 +412,7 @@ module _ (l : Program) (a : Assignment) (fits : Fits l a) (formed : Formed l) (n
         differ = apart_differ (place_of a) [] q.params q.body [] (fits.apart f q is).0;
       })
 
-  pub procedure_fine : Small q.body → length q.params ≤ 16 → q.results ≤ 13 → low_all l ≤ 25165824 → 4 * words_at a f < 2 ^ 28 → ProcedureFine l a f q
+  pub procedure_fine : Small q.body → length q.params ≤ 16 → q.results ≤ 13 → program_size l ≤ 25165824 → 4 * words_at a f < 2 ^ 28 → ProcedureFine l a f q
   procedure_fine small few_params few_results size frame =
       let each = fits.apart f q is in
       let args = arguments_given few_params fits.parameters in

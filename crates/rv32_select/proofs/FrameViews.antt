@@ -12,11 +12,11 @@ use Rattle.rv32_machine.specs.Memory.{Stretch}
 use Rattle.rv32_machine.specs.Arithmetic.{plus, pattern}
 use Rattle.rv32_machine.specs.Steps.{set_reg}
 use Rattle.rv32_steps.specs.Data.{Bases}
-use Rattle.rv32_steps.specs.Straight.{value}
+use Rattle.rv32_steps.specs.Straight.{register_value}
 use Rattle.parallel_move.specs.declared.Spot.{Spot}
 use Rattle.parallel_move.specs.declared.Spot.TheVariants.{Reg, Slot, Scratch}
 use Rattle.parallel_move.specs.declared.Move.{Move}
-use Rattle.parallel_move.specs.Moves.{Values, same, moved, one_by_one}
+use Rattle.parallel_move.specs.Moves.{Values, same, after_move, after_moves_in_order}
 use Rattle.rv32_select.specs.Emit.{upper, copy, slot_bytes, slot_base, reach, load_slot, store_slot, from_spot, slot_from, move_to, moves_code}
 use Rattle.rv32_select.proofs.Straight.{Data, with_reg, with_stack, Good, Does, does_nothing, does_to, does_on, does_lui, does_imm, does_op, does_load_stack, does_store_stack}
 use Rattle.rv32_select.proofs.NumberParts.{value_is, again, nothing_set, parts_sum}
@@ -141,7 +141,7 @@ module _ (c : Stretch) (b : Bases) (j slots : ℕ) where
   pub record Reached (k : ℕ) (d : Data) : Type 0 where
     pub seven : ℕ
     pub does : Does c b (reach k) d (with_reg d 7 seven)
-    pub place : plus (value (set_reg d.regs 7 seven) (slot_base k)) (pattern (lower (slot_bytes k))) ≡ b.stack + 4 * (j + (1 + k))
+    pub place : plus (register_value (set_reg d.regs 7 seven) (slot_base k)) (pattern (lower (slot_bytes k))) ≡ b.stack + 4 * (j + (1 + k))
 
   pub reached : (k : ℕ) (d : Data) → Good c b d → InFrame d → k < slots → Reached k d
   reached k d g f lt = by_test (nat_lt (slot_bytes k) 2048) refl
@@ -150,11 +150,11 @@ module _ (c : Stretch) (b : Bases) (j slots : ℕ) where
       there = slot_place k d g f lt
 
       made : (t : Bool) → nat_lt (slot_bytes k) 2048 ≡ t → (seven : ℕ) → Does c b (if t then [] else Lui 7 (upper (slot_bytes k)) ∷ Op op.Add 7 7 2 ∷ []) d (with_reg d 7 seven)
-          → plus (value (set_reg d.regs 7 seven) (if t then 2 else 7)) (pattern (lower (slot_bytes k))) ≡ b.stack + 4 * (j + (1 + k)) → Reached k d
+          → plus (register_value (set_reg d.regs 7 seven) (if t then 2 else 7)) (pattern (lower (slot_bytes k))) ≡ b.stack + 4 * (j + (1 + k)) → Reached k d
       made t e seven does place = record {
         seven = seven;
         does = subst (λ x. Does c b (if x then [] else Lui 7 (upper (slot_bytes k)) ∷ Op op.Add 7 7 2 ∷ []) d (with_reg d 7 seven)) (sym e) does;
-        place = ap (λ x. plus (value (set_reg d.regs 7 seven) (if x then 2 else 7)) (pattern (lower (slot_bytes k)))) e ∙ place;
+        place = ap (λ x. plus (register_value (set_reg d.regs 7 seven) (if x then 2 else 7)) (pattern (lower (slot_bytes k)))) e ∙ place;
       }
 
       by_test : (t : Bool) → nat_lt (slot_bytes k) 2048 ≡ t → Reached k d
@@ -190,14 +190,14 @@ module _ (c : Stretch) (b : Bases) (j slots : ℕ) where
   -- a slot gets what a register reads as
   pub record Saved (k r : ℕ) (d : Data) : Type 0 where
     pub seven : ℕ
-    pub does : Does c b (store_slot k r) d (with_stack (with_reg d 7 seven) (set d.stack (j + (1 + k)) (value d.regs r)))
+    pub does : Does c b (store_slot k r) d (with_stack (with_reg d 7 seven) (set d.stack (j + (1 + k)) (register_value d.regs r)))
 
   pub saved : (k r : ℕ) (d : Data) → Good c b d → InFrame d → k < slots → r ≢ 7 → Saved k r d
   saved k r d g f lt ne =
       let a = reached k d g f lt in
       let room : j + (1 + k) < length d.stack = let h = f.room in omega arith in
-      let same : value (set_reg d.regs 7 a.seven) r ≡ value d.regs r = ap (λ x. if nat_eq r 0 then 0 else x) (set_there d.regs 7 a.seven r ne) in
-      let second = does_store_stack c b r (slot_base k) (lower (slot_bytes k)) (j + (1 + k)) (value d.regs r) (with_reg d 7 a.seven) a.does.good ne a.place room same in
+      let same : register_value (set_reg d.regs 7 a.seven) r ≡ register_value d.regs r = ap (λ x. if nat_eq r 0 then 0 else x) (set_there d.regs 7 a.seven r ne) in
+      let second = does_store_stack c b r (slot_base k) (lower (slot_bytes k)) (j + (1 + k)) (register_value d.regs r) (with_reg d 7 a.seven) a.does.good ne a.place room same in
       record { seven = a.seven; does = does_on c b a.does second }
 
   -- ---- moves
@@ -224,7 +224,7 @@ module _ (c : Stretch) (b : Bases) (j slots : ℕ) where
         subst (λ t. Does c b (if t then [] else OpImm Addi r q (pos 0) ∷ []) d (with_reg d r (d.regs q))) (sym e) (does_to c b (does_nothing c b d g) same)
     | inr e ↦
         let lt : d.regs q < 2 ^ 32 = subst (λ x. x < 2 ^ 32) (value_is d.regs q one) (g.small q ne) in
-        let sum : plus (value d.regs q) 0 ≡ d.regs q = ap (λ x. plus x 0) (value_is d.regs q one) ∙ omega arith in
+        let sum : plus (register_value d.regs q) 0 ≡ d.regs q = ap (λ x. plus x 0) (value_is d.regs q one) ∙ omega arith in
         subst (λ t. Does c b (if t then [] else OpImm Addi r q (pos 0) ∷ []) d (with_reg d r (d.regs q))) (sym e) (does_imm c b Addi r q (pos 0) (d.regs q) d g sum lt)
   ]
 
@@ -273,12 +273,12 @@ module _ (c : Stretch) (b : Bases) (j slots : ℕ) where
       }
 
   -- what a register reads as goes to a slot
-  pub stores : (k r : ℕ) (d : Data) → Good c b d → InFrame d → k < slots → r ≢ 7 → Makes (store_slot k r) d (put (Slot k) (value d.regs r) (spots d))
+  pub stores : (k r : ℕ) (d : Data) → Good c b d → InFrame d → k < slots → r ≢ 7 → Makes (store_slot k r) d (put (Slot k) (register_value d.regs r) (spots d))
   stores k r d g f lt ne =
       let l = saved k r d g f lt ne in
       let d1 = with_reg d 7 l.seven in
       let f1 = in_frame f (seven_kept d l.seven) in
-      let v = value d.regs r in
+      let v = register_value d.regs r in
       record {
         to = with_stack d1 (set d.stack (j + (1 + k)) v);
         does = l.does;
@@ -338,20 +338,20 @@ module _ (c : Stretch) (b : Bases) (j slots : ℕ) where
   AllOk [] = Unit {0}
   AllOk (m ∷ ms) = Ok m.to × Ok m.from × AllOk ms
 
-  agree : (ms : List Move) → AllOk ms → (v w : Values) → ((s : Spot) → Ok s → v s ≡ w s) → (s : Spot) → Ok s → one_by_one ms v s ≡ one_by_one ms w s
+  agree : (ms : List Move) → AllOk ms → (v w : Values) → ((s : Spot) → Ok s → v s ≡ w s) → (s : Spot) → Ok s → after_moves_in_order ms v s ≡ after_moves_in_order ms w s
   agree [] h v w e s ok = e s ok
-  agree (m ∷ ms) h v w e s ok = agree ms h.2 (moved m v) (moved m w) (λ q o. ap (λ x. cond (same q m.to) x (v q)) (e m.from h.1) ∙ ap (λ x. cond (same q m.to) (w m.from) x) (e q o)) s ok
+  agree (m ∷ ms) h v w e s ok = agree ms h.2 (after_move m v) (after_move m w) (λ q o. ap (λ x. cond (same q m.to) x (v q)) (e m.from h.1) ∙ ap (λ x. cond (same q m.to) (w m.from) x) (e q o)) s ok
 
   -- moves, one after another
-  pub moves_made : (ms : List Move) (d : Data) → Good c b d → InFrame d → AllOk ms → Makes (moves_code ms) d (one_by_one ms (spots d))
+  pub moves_made : (ms : List Move) (d : Data) → Good c b d → InFrame d → AllOk ms → Makes (moves_code ms) d (after_moves_in_order ms (spots d))
   moves_made [] d g f h = makes_nothing d g
   moves_made (m ∷ ms) d g f h =
       let first = move_made m.to m.from d g f h.0 h.1 in
       let more = moves_made ms first.to first.does.good (in_frame f first.keeps) h.2 in
-      let rest : Makes (moves_code ms) first.to (one_by_one ms (moved m (spots d))) = record {
+      let rest : Makes (moves_code ms) first.to (after_moves_in_order ms (after_move m (spots d))) = record {
         to = more.to;
         does = more.does;
-        spots_are = λ s ok. more.spots_are s ok ∙ agree ms h.2 (spots first.to) (moved m (spots d)) first.spots_are s ok;
+        spots_are = λ s ok. more.spots_are s ok ∙ agree ms h.2 (spots first.to) (after_move m (spots d)) first.spots_are s ok;
         keeps = more.keeps;
       } in
       makes_on first rest

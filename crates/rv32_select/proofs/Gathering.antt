@@ -8,7 +8,7 @@ use Rattle.rv32_steps.specs.Data.{Bases}
 use Rattle.parallel_move.specs.declared.Spot.{Spot}
 use Rattle.parallel_move.specs.declared.Spot.TheVariants.{Reg, Slot, Scratch}
 use Rattle.parallel_move.specs.declared.Move.{Move}
-use Rattle.parallel_move.specs.Moves.{origin, at_once, AllEnds}
+use Rattle.parallel_move.specs.Moves.{source_spot, after_parallel_moves, AllMoveEnds}
 use Rattle.rv32_select.specs.declared.source.Source.{Source}
 use Rattle.rv32_select.specs.declared.source.Source.TheVariants.{At, Number}
 use Rattle.rv32_select.specs.Emit.{moves_code, move_from, spot_moves, number_moves}
@@ -33,23 +33,23 @@ pair_is_no x t s (u ∷ to) (y ∷ ss) h p = elim p [
   | inr r ↦ pair_is_no x t s to ss h.1 r
 ]
 
-origin_later : (t u : Spot) (s : Source) (ms : List Move) → t ≢ u → origin (move_from u s ++ ms) t ≡ origin ms t
-origin_later t u (At p) ms ne = ap (λ x. cond x p (origin ms t)) (differ t u ne)
+origin_later : (t u : Spot) (s : Source) (ms : List Move) → t ≢ u → source_spot (move_from u s ++ ms) t ≡ source_spot ms t
+origin_later t u (At p) ms ne = ap (λ x. cond x p (source_spot ms t)) (differ t u ne)
 origin_later t u (Number n) ms ne = refl
 
-pub origin_pair : (t p : Spot) (to : List Spot) (ss : List Source) → AllApart to → IsPair t (At p) to ss → origin (spot_moves to ss) t ≡ p
+pub origin_pair : (t p : Spot) (to : List Spot) (ss : List Source) → AllApart to → IsPair t (At p) to ss → source_spot (spot_moves to ss) t ≡ p
 origin_pair t p [] ss d h = absurd h
 origin_pair t p (u ∷ to) [] d h = absurd h
 origin_pair t p (u ∷ to) (x ∷ ss) d h = elim h [
   | inl e ↦
-      let here : origin (move_from t (At p) ++ spot_moves to ss) t ≡ p = ap (λ b. cond b p (origin (spot_moves to ss) t)) (same_itself t) in
-      subst (λ y. origin (move_from y x ++ spot_moves to ss) t ≡ p) e.0 (subst (λ y. origin (move_from t y ++ spot_moves to ss) t ≡ p) e.1 here)
+      let here : source_spot (move_from t (At p) ++ spot_moves to ss) t ≡ p = ap (λ b. cond b p (source_spot (spot_moves to ss) t)) (same_itself t) in
+      subst (λ y. source_spot (move_from y x ++ spot_moves to ss) t ≡ p) e.0 (subst (λ y. source_spot (move_from t y ++ spot_moves to ss) t ≡ p) e.1 here)
   | inr r ↦
       let ne : t ≢ u = λ q. pair_is_no u t (At p) to ss d.0 r (sym q) in
       origin_later t u x (spot_moves to ss) ne ∙ origin_pair t p to ss d.1 r
 ]
 
-pub origin_other : (s : Spot) (to : List Spot) (ss : List Source) → NotAmong s to → origin (spot_moves to ss) s ≡ s
+pub origin_other : (s : Spot) (to : List Spot) (ss : List Source) → NotAmong s to → source_spot (spot_moves to ss) s ≡ s
 origin_other s [] ss h = refl
 origin_other s (u ∷ to) [] h = refl
 origin_other s (u ∷ to) (x ∷ ss) h = origin_later s u x (spot_moves to ss) h.0 ∙ origin_other s to ss h.1
@@ -87,11 +87,11 @@ module _ (c : Stretch) (b : Bases) (j slots : ℕ) where
   ok_is (Slot k) e = grind (arith, nat_tests)
   ok_is Scratch e = tt
 
-  all_ok : (ms : List Move) → AllEnds is_ok ms → AllOk c b j slots ms
+  all_ok : (ms : List Move) → AllMoveEnds is_ok ms → AllOk c b j slots ms
   all_ok [] h = tt
   all_ok (m ∷ ms) h = (ok_is m.to h.0, ok_is m.from h.1, all_ok ms h.2)
 
-  ends_ok : (to : List Spot) (ss : List Source) → AllPlaces to → AllReadable ss → AllEnds is_ok (spot_moves to ss)
+  ends_ok : (to : List Spot) (ss : List Source) → AllPlaces to → AllReadable ss → AllMoveEnds is_ok (spot_moves to ss)
   ends_ok [] ss h k = tt
   ends_ok (t ∷ to) [] h k = tt
   ends_ok (t ∷ to) (Number n ∷ ss) h k = ends_ok to ss h.1 k.1
@@ -182,7 +182,7 @@ module _ (c : Stretch) (b : Bases) (j slots : ℕ) where
         keeps = kept_on c b j slots m.keeps n.keeps;
       }
     where
-      by_source : (t : Spot) (s : Source) → IsPair t s to ss → (e : Data) (n : Numbered to ss e) → spots c b j slots e t ≡ at_once (spot_moves to ss) (spots c b j slots d) t → spots c b j slots n.data' t ≡ read c b j slots d s
+      by_source : (t : Spot) (s : Source) → IsPair t s to ss → (e : Data) (n : Numbered to ss e) → spots c b j slots e t ≡ after_parallel_moves (spot_moves to ss) (spots c b j slots d) t → spots c b j slots n.data' t ≡ read c b j slots d s
       by_source t (At p) q e n is = n.moved' t p (place_of_pair t (At p) to ss places q) q ∙ is ∙ ap (spots c b j slots d) (origin_pair t p to ss df q)
       by_source t (Number m) q e n is = n.numbers t m q
 

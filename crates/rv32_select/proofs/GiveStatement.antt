@@ -15,8 +15,8 @@ use Rattle.register_alloc.specs.Assignment.{Assignment, place_of, words_at}
 use Rattle.rv32_items.specs.declared.Item.{Item}
 use Rattle.rv32_items.specs.declared.Item.TheVariants.{Label, Plain, Jump}
 use Rattle.rv32_items.specs.Course.{Layout, address_from}
-use Rattle.rv32_select.specs.declared.source.Way.{Way}
-use Rattle.rv32_select.specs.declared.source.Way.TheVariants.{Returns, Follows, Jumps}
+use Rattle.rv32_select.specs.declared.source.Continuation.{Continuation}
+use Rattle.rv32_select.specs.declared.source.Continuation.TheVariants.{Returns, Follows, Jumps}
 use Rattle.rv32_select.specs.Emit.{plain, moves_code, number_moves, leave_code, return_items, result_spots}
 use Rattle.rv32_select.specs.IsSelected.{sources, way_out}
 use Rattle.rv32_select.proofs.Courses.{Stands, front, back, stays}
@@ -89,7 +89,7 @@ module _ (l : Program) (a : Assignment) (cells stack : ℕ) (lay : Layout) (item
       )
 
   -- the words are at their spots, and what is left of the block is its way out
-  way_goes : (way : Way) (to : List Spot) (Must : ℕ → Word → Type 0) (p : ℕ) (vs : List Word) (d : Data) (w : World) → Stands items p (way_out framed (words_at a f) way) → Ready l a cells stack lay items begins way (p + length (way_out framed (words_at a f) way)) → InRegisters l a cells stack lay items begins f q framed pf.slots j m outer d0 u n way to
+  way_goes : (way : Continuation) (to : List Spot) (Must : ℕ → Word → Type 0) (p : ℕ) (vs : List Word) (d : Data) (w : World) → Stands items p (way_out framed (words_at a f) way) → Ready l a cells stack lay items begins way (p + length (way_out framed (words_at a f) way)) → InRegisters l a cells stack lay items begins f q framed pf.slots j m outer d0 u n way to
       → AllOwn l a f (slots_of (place_of a) (variables q)) to → ((y : ℕ) (v : Word) → Must y v → IsOwn l a f (slots_of (place_of a) (variables q)) (place_of a y))
       → Stood l a cells stack lay framed f j pf.slots d0 (lay.address m) Must d w → AllHold l.width to vs (spots lay.code (bases stack) j pf.slots d)
       → Does' lay items begins (Given l a cells stack lay items framed f j pf.slots d0 m outer to way Must) (at (bases stack) lay items p d) (m ∷ outer) w (gives vs w)
@@ -111,7 +111,7 @@ module _ (l : Program) (a : Assignment) (cells stack : ℕ) (lay : Layout) (item
       (λ x o. jumped_spot l a cells stack lay items begins s p 0 j pf.slots d x (omega arith) o) hold in
       (at (bases stack) lay items t d', (m ∷ outer, (ran, (t, (d', (to_label, (refl, (refl, (stood_jumped p (Jump 0 k) Must d w stands.0 owned st, hold')))))))))
 
-  pub give_simulated : (os : List Operand) (to : List Spot) (way : Way) (Must : ℕ → Word → Type 0) (k k' : ℕ) (block : List Item) (p : ℕ) (scope later : List ℕ) (env : Env) (top : ℕ) (under : Option ℕ) (d : Data) (w : World)
+  pub give_simulated : (os : List Operand) (to : List Spot) (way : Continuation) (Must : ℕ → Word → Type 0) (k k' : ℕ) (block : List Item) (p : ℕ) (scope later : List ℕ) (env : Env) (top : ℕ) (under : Option ℕ) (d : Data) (w : World)
       → Block l a cells stack lay items begins f q framed pf.slots j m outer d0 u n (give os) to way Must k k' block p scope later env top under d w
       → Simulates l a cells stack lay items begins f q framed pf.slots j m outer d0 u n calls_n (give os) to way Must p env top under d w
   unfolding code

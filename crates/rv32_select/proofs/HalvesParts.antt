@@ -7,17 +7,17 @@ use Rattle.rv32_items.specs.declared.Item.TheVariants.{Label, Plain, Branch, Jum
 use Rattle.rv32_items.specs.Placed.{size_of}
 use Rattle.rv32_select.specs.declared.source.Source.{Source}
 use Rattle.rv32_select.specs.Emit.{compare_items, test_items}
-use Rattle.rv32_select.specs.Halves.{Sought, Below, is_alone, last_test, Halves, one, two}
+use Rattle.rv32_select.specs.Halves.{SearchedArm, IsBelowBound, is_alone, last_test, Halves, one, two}
 use Rattle.rv32_select.proofs.Flowing.{Goes, Counts}
 use Rattle.rv32_select.proofs.Parts.{Part, inside_part, part_append, part_then, compare_part, closed_part, tested_part}
 use Rattle.rv32_select.proofs.HalvesFacts.{AllOf, all_front, all_back, IsUp, halves_up}
 
 -- the words of the blocks
-abbrev pub sizes : List Sought → ℕ
+abbrev pub sizes : List SearchedArm → ℕ
 sizes [] = 0
 sizes (s ∷ ss) = size_of s.block + sizes ss
 
-sizes_append : (xs ys : List Sought) → sizes (xs ++ ys) ≡ sizes xs + sizes ys
+sizes_append : (xs ys : List SearchedArm) → sizes (xs ++ ys) ≡ sizes xs + sizes ys
 sizes_append [] ys = omega arith
 sizes_append (x ∷ xs) ys = let more = sizes_append xs ys in omega (arith, more)
 
@@ -31,7 +31,7 @@ module _ (procs : ℕ) where
   goes_wider Far Near w (Jump r l ∷ xs) g = ((elim g.0.0 [ inl h ↦ inl h | inr h ↦ inr (w l h) ], g.0.1), goes_wider Far Near w xs g.1)
 
   module _ (Far : ℕ → Type 0) where
-    abbrev pub SoughtPart : Sought → Type 0
+    abbrev pub SoughtPart : SearchedArm → Type 0
     SoughtPart s = Counts s.first s.next s.block × Goes procs Far s.block
 
     module _ (miss : ℕ) (word : Source) (far : Far miss) where
@@ -40,7 +40,7 @@ module _ (procs : ℕ) where
       last_part n number false = compare_part procs Far (Unit {0}) Ne n miss word number far
 
       -- eight words for each number, and eight for each branch between two
-      pub halves_part : (low : ℕ) (high : Option ℕ) (all : List Sought) (n m : ℕ) (items : List Item) → Halves miss word low high all n m items → procs ≤ n → AllOf IsUp all → AllOf SoughtPart all
+      pub halves_part : (low : ℕ) (high : Option ℕ) (all : List SearchedArm) (n m : ℕ) (items : List Item) → Halves miss word low high all n m items → procs ≤ n → AllOf IsUp all → AllOf SoughtPart all
           → (most : ℕ) × ((8 + most ≤ 16 * length all + sizes all) × Part procs Far n m most (Unit {0}) items)
       halves_part low high all n m items (one s is first next from below made) le ups parts =
           let own = (subst (AllOf SoughtPart) is parts).0 in

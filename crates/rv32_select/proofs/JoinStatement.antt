@@ -11,8 +11,8 @@ use Rattle.register_alloc.specs.Assignment.{Assignment, place_of, words_at}
 use Rattle.rv32_items.specs.declared.Item.{Item}
 use Rattle.rv32_items.specs.declared.Item.TheVariants.{Label}
 use Rattle.rv32_items.specs.Course.{Layout}
-use Rattle.rv32_select.specs.declared.source.Way.{Way}
-use Rattle.rv32_select.specs.declared.source.Way.TheVariants.{Follows}
+use Rattle.rv32_select.specs.declared.source.Continuation.{Continuation}
+use Rattle.rv32_select.specs.declared.source.Continuation.TheVariants.{Follows}
 use Rattle.rv32_select.specs.IsSelected.{first_label}
 use Rattle.rv32_select.proofs.EmittedLabels.{emits_up}
 use Rattle.rv32_select.proofs.Courses.{front, back}
@@ -33,7 +33,7 @@ stood_weaken l a cells stack lay framed f j slots d0 link Needs Needs' d w h st 
 
 module _ (l : Program) (a : Assignment) (cells stack : ℕ) (lay : Layout) (items : List Item) (begins : List ℕ) (s : Setting l a cells stack lay items begins) (calls_n : Calls) (n : ℕ)
     (f : ℕ) (q : Procedure) (pf : ProcedureFine l a f q) (framed : Bool) (j m : ℕ) (outer : List ℕ) (d0 : Data) (u : ℕ) where
-  module _ (xs : List ℕ) (bb c : Code) (to : List Spot) (way : Way) (Must : ℕ → Word → Type 0) (k k' : ℕ) (block : List Item) (p : ℕ) (scope later : List ℕ) (env : Env) (top : ℕ) (under : Option ℕ) (d : Data) (w : World)
+  module _ (xs : List ℕ) (bb c : Code) (to : List Spot) (way : Continuation) (Must : ℕ → Word → Type 0) (k k' : ℕ) (block : List Item) (p : ℕ) (scope later : List ℕ) (env : Env) (top : ℕ) (under : Option ℕ) (d : Data) (w : World)
       (b : Block l a cells stack lay items begins f q framed pf.slots j m outer d0 u n (join xs bb c) to way Must k k' block p scope later env top under d w) where
     parts : Cut items p (b.emits.1 ++ Label k ∷ []) b.emits.3.0 block
     parts = cut items p (b.emits.1 ++ Label k ∷ []) b.emits.3.0 block b.emits.3.1 b.stands

@@ -6,13 +6,13 @@ use Rattle.rv32_isa.specs.declared.instr.Instr.TheVariants.{Jalr}
 use Rattle.rv32_machine.specs.Arithmetic.{is_taken}
 use Rattle.rv32_machine.specs.Steps.{set_reg}
 use Rattle.rv32_steps.specs.Data.{Bases}
-use Rattle.rv32_steps.specs.Straight.{value}
+use Rattle.rv32_steps.specs.Straight.{register_value}
 use Rattle.rv32_items.specs.declared.Cond.{Cond}
 use Rattle.rv32_items.specs.declared.Item.{Item}
 use Rattle.rv32_items.specs.declared.Item.TheVariants.{Label, Plain, Branch, Jump}
 use Rattle.rv32_items.specs.Course.{Layout, Point, Next, turn, turn_of, to_item, label_of, label_from, address_from, kind_of}
 use Rattle.rv32_items.specs.Told.{is_call, returns}
-use Rattle.rv32_items.specs.Placed.{Rises, is_instruction}
+use Rattle.rv32_items.specs.Placed.{AddressesRise, is_instruction}
 use Rattle.rv32_select.proofs.Courses.{Goes, one_on, one_call, one_return}
 use Rattle.rv32_select.proofs.Straight.{Data, at}
 
@@ -42,7 +42,7 @@ there_less [] n i e = cc
 there_less (x ∷ is) zero i e = omega arith
 there_less (x ∷ is) (suc n) i e = let h = there_less is n i e in omega arith
 
-module _ (lay : Layout) (items : List Item) (rises : Rises items lay) where
+module _ (lay : Layout) (items : List Item) (rises : AddressesRise items lay) where
   never_back : (n : ℕ) → n < length items → lay.address n ≤ lay.address (suc n)
   never_back n lt = let i = there_is items n lt in go i.0 i.1
     where
@@ -95,7 +95,7 @@ module _ (b : Bases) (lay : Layout) (items : List Item) where
   pub passes : (n l : ℕ) (d : Data) (input calls : List ℕ) → slice_get items n ≡ Some (Label l) → Goes lay items 1 input (at b lay items n d) calls [] (l ∷ []) input (at b lay items (suc n) d) calls
   passes n l d input calls here = goes_by n d (at b lay items (suc n) d) (Label l) input calls here refl refl refl
 
-  pub branches : (n t l left right : ℕ) (cond : Cond) (d : Data) (input calls : List ℕ) → slice_get items n ≡ Some (Branch cond left right l) → label_from 0 items l ≡ Some t → is_taken (kind_of cond) (value d.regs left) (value d.regs right) ≡ true → Goes lay items 1 input (at b lay items n d) calls [] [] input (at b lay items t (with_regs d (lay.far n d.regs))) calls
+  pub branches : (n t l left right : ℕ) (cond : Cond) (d : Data) (input calls : List ℕ) → slice_get items n ≡ Some (Branch cond left right l) → label_from 0 items l ≡ Some t → is_taken (kind_of cond) (register_value d.regs left) (register_value d.regs right) ≡ true → Goes lay items 1 input (at b lay items n d) calls [] [] input (at b lay items t (with_regs d (lay.far n d.regs))) calls
   branches n t l left right cond d input calls here to is =
       let p = at b lay items n d in
       let on = at b lay items (suc n) d in
@@ -104,7 +104,7 @@ module _ (b : Bases) (lay : Layout) (items : List Item) where
       ∙ ap (λ o. to_item lay items o (lay.far n d.regs) p) to)
       refl refl
 
-  pub goes_on : (n l left right : ℕ) (cond : Cond) (d : Data) (input calls : List ℕ) → slice_get items n ≡ Some (Branch cond left right l) → is_taken (kind_of cond) (value d.regs left) (value d.regs right) ≡ false → Goes lay items 1 input (at b lay items n d) calls [] [] input (at b lay items (suc n) d) calls
+  pub goes_on : (n l left right : ℕ) (cond : Cond) (d : Data) (input calls : List ℕ) → slice_get items n ≡ Some (Branch cond left right l) → is_taken (kind_of cond) (register_value d.regs left) (register_value d.regs right) ≡ false → Goes lay items 1 input (at b lay items n d) calls [] [] input (at b lay items (suc n) d) calls
   goes_on n l left right cond d input calls here is =
       let p = at b lay items n d in
       let on = at b lay items (suc n) d in

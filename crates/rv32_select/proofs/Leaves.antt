@@ -6,8 +6,8 @@ use Rattle.seq.proofs.Order.{le_or_lt}
 use Rattle.rv32_items.specs.declared.Item.{Item}
 use Rattle.rv32_items.specs.declared.Item.TheVariants.{Jump}
 use Rattle.rv32_items.specs.Course.{Layout, Point, Going, Exited, course}
-use Rattle.rv32_items.specs.Flows.{IsStop}
-use Rattle.rv32_items.specs.Leaving.{LeavesBy}
+use Rattle.rv32_items.specs.Flows.{IsStopItem}
+use Rattle.rv32_items.specs.Leaving.{LeavesByLinkJump}
 use Rattle.rv32_select.proofs.Courses.{course_none, Goes, Exits}
 use Rattle.rv32_select.proofs.Fronts.{course_front}
 
@@ -93,15 +93,15 @@ module _ (lay : Layout) (items : List Item) where
   }
 
   -- an item that is a jump is none of the stops
-  before_stops : (stops n target : ℕ) → ((k : ℕ) (i : Item) → stops ≤ k → slice_get items k ≡ Some i → IsStop i) → slice_get items n ≡ Some (Jump 5 target) → n < stops
+  before_stops : (stops n target : ℕ) → ((k : ℕ) (i : Item) → stops ≤ k → slice_get items k ≡ Some i → IsStopItem i) → slice_get items n ≡ Some (Jump 5 target) → n < stops
   before_stops stops n target all_stop here = elim (cases_lt n stops) [
     | inl lt ↦ lt
     | inr le ↦ absurd (all_stop n (Jump 5 target) le here)
   ]
 
   -- so does one that has come to an exit, where the last twelve items are the stops
-  pub leaves_by : (stops code k : ℕ) (input : List ℕ) (p : Point) → length items ≡ stops + 12 → ((n : ℕ) (i : Item) → stops ≤ n → slice_get items n ≡ Some i → IsStop i)
-      → (course lay items k input p).end ≡ Exited code → Leaves input p → LeavesBy lay items stops 5 input p k
+  pub leaves_by : (stops code k : ℕ) (input : List ℕ) (p : Point) → length items ≡ stops + 12 → ((n : ℕ) (i : Item) → stops ≤ n → slice_get items n ≡ Some i → IsStopItem i)
+      → (course lay items k input p).end ≡ Exited code → Leaves input p → LeavesByLinkJump lay items stops 5 input p k
   leaves_by stops code k input p last all_stop exited h =
       let same : h.stops ≡ stops = let more = h.last in omega arith in
       record {

@@ -3,7 +3,7 @@ use Rattle.std.proofs.Common.{◌≡◌, ◌≢◌, ℕ, ◌+◌, ◌*◌, ◌<�
 use Rattle.std.specs.Prelude.{pos, Option}
 use Rattle.std.proofs.Math.ListN.{length-set}
 use Rattle.rv32_machine.specs.Arithmetic.{plus}
-use Rattle.rv32_steps.specs.Straight.{value}
+use Rattle.rv32_steps.specs.Straight.{register_value}
 use Rattle.parallel_move.specs.declared.Spot.{Spot}
 use Rattle.parallel_move.specs.declared.Spot.TheVariants.{Reg, Slot, Scratch}
 use Rattle.low_code.specs.Tree.{Code, Procedure, Program}
@@ -14,7 +14,7 @@ use Rattle.register_alloc.specs.Fits.{slots_of}
 use Rattle.register_alloc.specs.Assignment.{Assignment, place_of, words_at}
 use Rattle.rv32_items.specs.declared.Item.{Item}
 use Rattle.rv32_items.specs.Course.{Layout}
-use Rattle.rv32_select.specs.declared.source.Way.{Way}
+use Rattle.rv32_select.specs.declared.source.Continuation.{Continuation}
 use Rattle.rv32_select.specs.Emit.{plain, put_link, take_link, link_put}
 use Rattle.rv32_select.specs.IsSelected.{Then}
 use Rattle.rv32_select.proofs.Straight.{Data, with_reg, with_stack, Good, Does, does_nothing, does_store_stack, does_load_stack, at}
@@ -40,8 +40,8 @@ module _ (l : Program) (a : Assignment) (cells stack : ℕ) (lay : Layout) where
   pub link_put_done : (framed : Bool) (j : ℕ) (d : Data) → Good lay.code (bases stack) d → d.regs 2 ≡ (bases stack).stack + 4 * j → j < length d.stack → LinkPut framed j d
   link_put_done true j d g sp inside =
       let top = g.top in
-      let place : plus (value d.regs 2) 0 ≡ (bases stack).stack + 4 * j = omega arith in
-      let one : value d.regs 1 ≡ d.regs 1 = refl in
+      let place : plus (register_value d.regs 2) 0 ≡ (bases stack).stack + 4 * j = omega arith in
+      let one : register_value d.regs 1 ≡ d.regs 1 = refl in
       record {
         to = with_stack d (set d.stack j (d.regs 1));
         does = does_store_stack lay.code (bases stack) 1 2 (pos 0) j (d.regs 1) d g (omega arith) place inside one;
@@ -64,7 +64,7 @@ module _ (l : Program) (a : Assignment) (cells stack : ℕ) (lay : Layout) where
 module _ (l : Program) (a : Assignment) (cells stack : ℕ) (lay : Layout) (items : List Item) (begins : List ℕ) (s : Setting l a cells stack lay items begins) (calls_n : Calls) (n : ℕ)
     (f : ℕ) (q : Procedure) (pf : ProcedureFine l a f q) (framed : Bool) (j m : ℕ) (outer : List ℕ) (d0 : Data) (u : ℕ) where
   -- before a piece that needs x1
-  pub link_aside : (Rest : List Item → Type 0) (c : Code) (to : List Spot) (way : Way) (Must : ℕ → Word → Type 0) (k : ℕ) (block : List Item) (p : ℕ) (scope later : List ℕ) (env : Env) (top : ℕ) (under : Option ℕ) (d : Data) (w : World)
+  pub link_aside : (Rest : List Item → Type 0) (c : Code) (to : List Spot) (way : Continuation) (Must : ℕ → Word → Type 0) (k : ℕ) (block : List Item) (p : ℕ) (scope later : List ℕ) (env : Env) (top : ℕ) (under : Option ℕ) (d : Data) (w : World)
       → Opened l a cells stack lay items begins f q framed pf.slots j m outer d0 u n false (Then (plain put_link) Rest block) c to way Must k block p scope later env top under d w
       → ((rest : List Item) (p' : ℕ) (d' : Data) → Opened l a cells stack lay items begins f q framed pf.slots j m outer d0 u n true (Rest rest) c to way Must k rest p' scope later env top under d' w
       → Simulates l a cells stack lay items begins f q framed pf.slots j m outer d0 u n calls_n c to way Must p' env top under d' w)
@@ -110,7 +110,7 @@ module _ (l : Program) (a : Assignment) (cells stack : ℕ) (lay : Layout) (item
       same e regs others Scratch = regs 5
 
   -- and behind it
-  pub link_back : (Rest : List Item → Type 0) (c : Code) (to : List Spot) (way : Way) (Must : ℕ → Word → Type 0) (k : ℕ) (block : List Item) (p : ℕ) (scope later : List ℕ) (env : Env) (top : ℕ) (under : Option ℕ) (d : Data) (w : World)
+  pub link_back : (Rest : List Item → Type 0) (c : Code) (to : List Spot) (way : Continuation) (Must : ℕ → Word → Type 0) (k : ℕ) (block : List Item) (p : ℕ) (scope later : List ℕ) (env : Env) (top : ℕ) (under : Option ℕ) (d : Data) (w : World)
       → Opened l a cells stack lay items begins f q framed pf.slots j m outer d0 u n true (Then (plain take_link) Rest block) c to way Must k block p scope later env top under d w
       → ((rest : List Item) (p' : ℕ) (d' : Data) → Opened l a cells stack lay items begins f q framed pf.slots j m outer d0 u n false (Rest rest) c to way Must k rest p' scope later env top under d' w
       → Simulates l a cells stack lay items begins f q framed pf.slots j m outer d0 u n calls_n c to way Must p' env top under d' w)
@@ -120,7 +120,7 @@ module _ (l : Program) (a : Assignment) (cells stack : ℕ) (lay : Layout) (item
       let g = b.stood.world.good in
       let top_small = g.top in
       let sp = b.stood.frame.sp in
-      let place : plus (value d.regs 2) 0 ≡ (bases stack).stack + 4 * j = omega arith in
+      let place : plus (register_value d.regs 2) 0 ≡ (bases stack).stack + 4 * j = omega arith in
       let link = get_or d.stack j 0 in
       let d' = with_reg d 1 link in
       let L = does_load_stack lay.code (bases stack) 1 2 (pos 0) j d g place (omega arith) in

@@ -11,8 +11,8 @@ use Rattle.rv32_machine.specs.Memory.{Stretch}
 use Rattle.rv32_machine.specs.Arithmetic.{plus}
 use Rattle.rv32_machine.specs.Steps.{set_reg}
 use Rattle.rv32_steps.specs.Data.{Bases, IsWord}
-use Rattle.rv32_steps.specs.Straight.{value}
-use Rattle.rv32_steps.specs.Laws.{Called}
+use Rattle.rv32_steps.specs.Straight.{register_value}
+use Rattle.rv32_steps.specs.Laws.{HasCallRegisters}
 use Rattle.rv32_steps.proofs.Bytes.{bytes_are_written, bytes_are_asked, bytes_are_taken}
 use Rattle.rv32_items.specs.declared.Item.{Item}
 use Rattle.rv32_items.specs.declared.Item.TheVariants.{Plain}
@@ -40,7 +40,7 @@ module _ (c : Stretch) (b : Bases) where
   -- a register gets what another one has
   moved : (r q v : ℕ) (d : Data) → Good c b d → 1 ≤ q → v < 2 ^ 32 → d.regs q ≡ v → Does c b (OpImm Addi r q (pos 0) ∷ []) d (with_reg d r v)
   moved r q v d g one small e =
-      let is : value d.regs q ≡ v = value_is d.regs q one ∙ e in
+      let is : register_value d.regs q ≡ v = value_is d.regs q one ∙ e in
       does_imm c b Addi r q (pos 0) v d g (ap (λ x. plus x 0) is ∙ (let y : plus v 0 ≡ v = omega arith in y)) small
 
   small_reg : (d : Data) → Good c b d → (r : ℕ) → 1 ≤ r → r ≢ 7 → d.regs r < 2 ^ 32
@@ -150,7 +150,7 @@ module _ (b : Bases) (lay : Layout) (items : List Item) where
   unfolding turn
   write_call n t d input calls here g lt n17 n10 n11 n12 =
       let p = at b lay items n d in
-      let r : Called 64 1 (b.stack + 4 * t) 1 d.regs = record { number_is = n17; file_is = n10; address_is = n11; len_is = n12 } in
+      let r : HasCallRegisters 64 1 (b.stack + 4 * t) 1 d.regs = record { number_is = n17; file_is = n10; address_is = n11; len_is = n12 } in
       let acts = bytes_are_written lay.code b [] d.regs (lay.address n) (words d) (b.stack + 4 * t) g.laid (in_stack_word d t lt) r in
       let q = at b lay items (suc n) (with_reg d 10 1) in
       one_written lay items p q (b.stack + 4 * t) 1 (get_or d.stack t 0 % 256 ∷ []) input calls
@@ -161,7 +161,7 @@ module _ (b : Bases) (lay : Layout) (items : List Item) where
   unfolding turn
   read_turn n t d here g lt n17 n10 n11 n12 =
       let p = at b lay items n d in
-      let r : Called 63 0 (b.stack + 4 * t) 1 d.regs = record { number_is = n17; file_is = n10; address_is = n11; len_is = n12 } in
+      let r : HasCallRegisters 63 0 (b.stack + 4 * t) 1 d.regs = record { number_is = n17; file_is = n10; address_is = n11; len_is = n12 } in
       let acts = bytes_are_asked lay.code b [] d.regs (lay.address n) (words d) (b.stack + 4 * t) g.laid (in_stack_word d t lt) r in
       ap (turn_of lay items p) here ∙ ap (behind_plain lay items p) acts
 

@@ -11,7 +11,7 @@ use Rattle.rv32_machine.specs.Memory.{Stretch}
 use Rattle.rv32_machine.specs.Arithmetic.{plus, pattern}
 use Rattle.rv32_machine.specs.Steps.{set_reg}
 use Rattle.rv32_steps.specs.Data.{Bases}
-use Rattle.rv32_steps.specs.Straight.{value}
+use Rattle.rv32_steps.specs.Straight.{register_value}
 use Rattle.rv32_select.specs.Emit.{is_short, upper, load_constant, add_to}
 use Rattle.rv32_select.proofs.Straight.{Data, with_reg, Good, Does, does_to, does_on, does_lui, does_imm, does_op}
 use Rattle.rv32_machine.proofs.Registers.{set_there, set_again, set_here}
@@ -21,7 +21,7 @@ pub ext : {f g : ℕ → ℕ} → ((q : ℕ) → f q ≡ g q) → f ≡ g
 ext h = λ i. λ q. h q i
 
 -- what a register reads as
-pub value_is : (regs : ℕ → ℕ) (r : ℕ) → 1 ≤ r → value regs r ≡ regs r
+pub value_is : (regs : ℕ → ℕ) (r : ℕ) → 1 ≤ r → register_value regs r ≡ regs r
 value_is regs r h = ap (λ b. if b then 0 else regs r) (eq_false r 0 (omega arith))
 
 pub set_same : (regs : ℕ → ℕ) (r : ℕ) → set_reg regs r (regs r) ≡ regs
@@ -87,8 +87,8 @@ module _ (c : Stretch) (b : Bases) where
       does_to c b (does_lui c b r (upper n) d g (omega arith)) (ap (with_reg d r) whole)
   long_number r n d g one lt false e =
       let first = does_lui c b r (upper n) d g (omega arith) in
-      let here : value (set_reg d.regs r (upper n * 4096)) r ≡ upper n * 4096 = value_is (set_reg d.regs r (upper n * 4096)) r one ∙ set_here d.regs r (upper n * 4096) in
-      let sum : plus (value (set_reg d.regs r (upper n * 4096)) r) (pattern (lower n)) ≡ n = ap (λ x. plus x (pattern (lower n))) here ∙ parts_join n lt in
+      let here : register_value (set_reg d.regs r (upper n * 4096)) r ≡ upper n * 4096 = value_is (set_reg d.regs r (upper n * 4096)) r one ∙ set_here d.regs r (upper n * 4096) in
+      let sum : plus (register_value (set_reg d.regs r (upper n * 4096)) r) (pattern (lower n)) ≡ n = ap (λ x. plus x (pattern (lower n))) here ∙ parts_join n lt in
       let second = does_imm c b Addi r r (lower n) n (with_reg d r (upper n * 4096)) first.good sum lt in
       does_to c b (does_on c b first second) (again d r (upper n * 4096) n)
 
@@ -110,13 +110,13 @@ module _ (c : Stretch) (b : Bases) where
   pub does_add : (r q n : ℕ) (d : Data) → Good c b d → 1 ≤ q → q ≢ 5 → n < 2 ^ 32 → Added r q n d
   does_add r q n d g one ne lt = elim (two_ways (is_short n)) [
     | inl e ↦
-        let sum : plus (value d.regs q) (pattern (lower n)) ≡ plus (d.regs q) n = ap (λ x. plus x (pattern (lower n))) (value_is d.regs q one) ∙ ap (plus (d.regs q)) (short_part n lt e) in
+        let sum : plus (register_value d.regs q) (pattern (lower n)) ≡ plus (d.regs q) n = ap (λ x. plus x (pattern (lower n))) (value_is d.regs q one) ∙ ap (plus (d.regs q)) (short_part n lt e) in
         let short = does_to c b (does_imm c b Addi r q (lower n) (plus (d.regs q) n) d g sum (omega arith)) (ap (λ x. with_reg x r (plus (d.regs q) n)) (sym (nothing_set d 5))) in
         record { scratch = d.regs 5; does = subst (λ t. Does c b (if t then OpImm Addi r q (lower n) ∷ [] else load_constant 5 n ++ Op op.Add r q 5 ∷ []) d (with_reg (with_reg d 5 (d.regs 5)) r (plus (d.regs q) n))) (sym e) short }
     | inr e ↦
         let first = does_number 5 n d g (omega arith) lt in
         let d1 = with_reg d 5 n in
-        let left : value d1.regs q ≡ d.regs q = value_is d1.regs q one ∙ set_there d.regs 5 n q ne in
+        let left : register_value d1.regs q ≡ d.regs q = value_is d1.regs q one ∙ set_there d.regs 5 n q ne in
         let second = does_op c b op.Add r q 5 (plus (d.regs q) n) d1 first.good (ap (λ x. plus x n) left) (omega arith) in
         record { scratch = n; does = subst (λ t. Does c b (if t then OpImm Addi r q (lower n) ∷ [] else load_constant 5 n ++ Op op.Add r q 5 ∷ []) d (with_reg d1 r (plus (d.regs q) n))) (sym e) (does_on c b first second) }
   ]

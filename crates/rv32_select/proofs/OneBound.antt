@@ -15,9 +15,10 @@ use Rattle.register_alloc.specs.Fits.{slots_of}
 use Rattle.register_alloc.specs.Assignment.{Assignment, place_of, words_at}
 use Rattle.rv32_items.specs.declared.Item.{Item}
 use Rattle.rv32_items.specs.Course.{Layout, Point}
-use Rattle.rv32_select.specs.declared.source.Way.{Way}
+use Rattle.rv32_select.specs.declared.source.Continuation.{Continuation}
 use Rattle.rv32_select.specs.Emit.{plain, set_code}
-use Rattle.rv32_select.specs.IsSelected.{heap_base, source, Emits}
+use Rattle.rv32_select.specs.IsSelected.{source, Emits}
+use Rattle.limits.specs.Limits.{heap_start}
 use Rattle.low_code.specs.Literals.{IsSmall}
 use Rattle.rv32_select.proofs.Courses.{Stands, front, back, Goes}
 use Rattle.rv32_select.proofs.Straight.{Data, Good, Does, plain_length, at, block}
@@ -44,7 +45,7 @@ cut items pos piece rest block e h =
     }
 
 module _ (l : Program) (a : Assignment) (cells stack : ℕ) (lay : Layout) (items : List Item) (begins : List ℕ) where
-  pub ready_at : (way : Way) (p r : ℕ) → p ≡ r → Ready l a cells stack lay items begins way p → Ready l a cells stack lay items begins way r
+  pub ready_at : (way : Continuation) (p r : ℕ) → p ≡ r → Ready l a cells stack lay items begins way p → Ready l a cells stack lay items begins way r
   ready_at way p r e h = subst (λ x. Ready l a cells stack lay items begins way x) e h
 
   -- plain instructions that stand at an item, beside a run that stays
@@ -56,7 +57,7 @@ module _ (l : Program) (a : Assignment) (cells stack : ℕ) (lay : Layout) (item
       quiet lay items begins w w (subst (λ n. Goes lay items (length is) w.input (at (bases stack) lay items pos d) calls [] [] w.input (at (bases stack) lay items n d') calls) count goes) refl refl refl refl refl
 
   -- the words of cells are below the stack
-  pub cell_small : (d : Data) (w : World) → HoldsWorld l a cells stack lay d w → (i : ℕ) → i < length w.cells → heap_base + 4 * l.width * i < 2 ^ 32
+  pub cell_small : (d : Data) (w : World) → HoldsWorld l a cells stack lay d w → (i : ℕ) → i < length w.cells → heap_start + 4 * l.width * i < 2 ^ 32
   cell_small d w h i lt =
       let room = h.room in
       let words = h.heap_words in
@@ -92,14 +93,14 @@ module _ (l : Program) (a : Assignment) (cells stack : ℕ) (lay : Layout) (item
           let globals = st.world.globals in
           let small = cell_small l a cells stack lay items begins d w st.world i (omega arith) in
           let same : cell i ≡ v = cc in
-          let word : (heap_base + 4 * l.width * i) % 2 ^ 32 ≡ heap_base + 4 * l.width * i = omega arith in
+          let word : (heap_start + 4 * l.width * i) % 2 ^ 32 ≡ heap_start + 4 * l.width * i = omega arith in
           (omega arith, word ∙ ap (word_of l.width) same)
 
   pub changed_by : {is : List Instr} {d : Data} {t : Spot} (v : Word) (z : Sets lay.code (bases stack) j pf.slots is d t (word_of l.width v)) → Changed l stack j pf.slots lay (t ∷ []) (v ∷ []) d z.to
   changed_by v z = record { held = (z.here, tt); others = λ p o ne. z.others p o ne.0; sp = z.keeps.frame; words = z.keeps.words; outside = z.keeps.outside }
 
   -- code that puts a word at the place of a variable, and then the rest of the block
-  pub one_bound : (c0 c : Code) (is : List Instr) (x : ℕ) (v : Word) (to : List Spot) (way : Way) (Must : ℕ → Word → Type 0) (k k' : ℕ) (block rest : List Item) (pos : ℕ) (scope later : List ℕ) (env : Env) (top : ℕ) (under : Option ℕ) (d : Data) (w : World)
+  pub one_bound : (c0 c : Code) (is : List Instr) (x : ℕ) (v : Word) (to : List Spot) (way : Continuation) (Must : ℕ → Word → Type 0) (k k' : ℕ) (block rest : List Item) (pos : ℕ) (scope later : List ℕ) (env : Env) (top : ℕ) (under : Option ℕ) (d : Data) (w : World)
       → (b : Block l a cells stack lay items begins f q framed pf.slots j m outer d0 u n c0 to way Must k k' block pos scope later env top under d w)
       → block ≡ plain is ++ rest → Emits l a cells stack (words_at a f) (slots_of (place_of a) (variables q)) framed to way c k k' rest
       → Sets lay.code (bases stack) j pf.slots is d (place_of a x) (word_of l.width v)
@@ -143,7 +144,7 @@ module _ (l : Program) (a : Assignment) (cells stack : ℕ) (lay : Layout) (item
       by_test y false t h own owned = owned y h
 
   -- a variable gets an operand
-  pub set_simulated : (x : ℕ) (o : Operand) (c : Code) (to : List Spot) (way : Way) (Must : ℕ → Word → Type 0) (k k' : ℕ) (block : List Item) (pos : ℕ) (scope later : List ℕ) (env : Env) (top : ℕ) (under : Option ℕ) (d : Data) (w : World)
+  pub set_simulated : (x : ℕ) (o : Operand) (c : Code) (to : List Spot) (way : Continuation) (Must : ℕ → Word → Type 0) (k k' : ℕ) (block : List Item) (pos : ℕ) (scope later : List ℕ) (env : Env) (top : ℕ) (under : Option ℕ) (d : Data) (w : World)
       → Block l a cells stack lay items begins f q framed pf.slots j m outer d0 u n (set x o c) to way Must k k' block pos scope later env top under d w
       → ((v : Word) (rest : List Item) (pos' : ℕ) (d' : Data) → Block l a cells stack lay items begins f q framed pf.slots j m outer d0 u n c to way Must k k' rest pos' (x ∷ scope) later (with_var x v env) top under d' w
       → Simulates l a cells stack lay items begins f q framed pf.slots j m outer d0 u n calls_n c to way Must pos' (with_var x v env) top under d' w)

@@ -6,7 +6,7 @@ use Rattle.rv32_isa.specs.declared.instr.Instr.{Instr}
 use Rattle.rv32_machine.specs.Memory.{Stretch}
 use Rattle.rv32_machine.specs.Steps.{set_reg}
 use Rattle.rv32_steps.specs.Data.{Bases}
-use Rattle.rv32_steps.specs.Straight.{value}
+use Rattle.rv32_steps.specs.Straight.{register_value}
 use Rattle.parallel_move.specs.declared.Spot.{Spot}
 use Rattle.parallel_move.specs.declared.Spot.TheVariants.{Reg, Slot, Scratch}
 use Rattle.parallel_move.specs.Moves.{Values, same}
@@ -42,7 +42,7 @@ module _ (c : Stretch) (b : Bases) (j slots : ℕ) where
     pub seven : ℕ
     pub own : ℕ
     pub does : Does c b (hold r s) d (with_reg (with_reg d 7 seven) r own)
-    pub value_is' : value (set_reg (set_reg d.regs 7 seven) r own) (held r s) ≡ read d s
+    pub value_is' : register_value (set_reg (set_reg d.regs 7 seven) r own) (held r s) ≡ read d s
 
   untouched : (d : Data) (r : ℕ) → with_reg (with_reg d 7 (d.regs 7)) r (d.regs r) ≡ d
   untouched d r = ap (λ x. with_reg x r (d.regs r)) (nothing_set d 7) ∙ nothing_set d r
@@ -57,7 +57,7 @@ module _ (c : Stretch) (b : Bases) (j slots : ℕ) where
         seven = d.regs 7;
         own = d.regs r;
         does = nothing_done d r g;
-        value_is' = ap (λ x. value x.regs q) (untouched d r) ∙ value_is d.regs q (omega arith);
+        value_is' = ap (λ x. register_value x.regs q) (untouched d r) ∙ value_is d.regs q (omega arith);
       }
   holds r (At (Slot k)) d g f lo hi ok =
       let l = loaded c b j slots r k d g f ok.0 in
@@ -71,12 +71,12 @@ module _ (c : Stretch) (b : Bases) (j slots : ℕ) where
   holds r (At Scratch) d g f lo hi ok = absurd (ok.1 refl)
   holds r (Number n) d g f lo hi ok = by_zero (nat_eq n 0) refl
     where
-      made : (t : Bool) → nat_eq n 0 ≡ t → (own : ℕ) → Does c b (if t then [] else load_constant r n) d (with_reg (with_reg d 7 (d.regs 7)) r own) → value (set_reg (set_reg d.regs 7 (d.regs 7)) r own) (if t then 0 else r) ≡ n → Held r (Number n) d
+      made : (t : Bool) → nat_eq n 0 ≡ t → (own : ℕ) → Does c b (if t then [] else load_constant r n) d (with_reg (with_reg d 7 (d.regs 7)) r own) → register_value (set_reg (set_reg d.regs 7 (d.regs 7)) r own) (if t then 0 else r) ≡ n → Held r (Number n) d
       made t e own does is = record {
         seven = d.regs 7;
         own = own;
         does = subst (λ x. Does c b (if x then [] else load_constant r n) d (with_reg (with_reg d 7 (d.regs 7)) r own)) (sym e) does;
-        value_is' = ap (λ x. value (set_reg (set_reg d.regs 7 (d.regs 7)) r own) (if x then 0 else r)) e ∙ is;
+        value_is' = ap (λ x. register_value (set_reg (set_reg d.regs 7 (d.regs 7)) r own) (if x then 0 else r)) e ∙ is;
       }
 
       by_zero : (t : Bool) → nat_eq n 0 ≡ t → Held r (Number n) d
@@ -103,10 +103,10 @@ module _ (c : Stretch) (b : Bases) (j slots : ℕ) where
   ]
 
   -- a register below x8 that changes leaves the operand, if it isn't the one in which that is
-  pub value_stays : (regs : ℕ → ℕ) (r v q : ℕ) → q ≢ r → value (set_reg regs r v) q ≡ value regs q
+  pub value_stays : (regs : ℕ → ℕ) (r v q : ℕ) → q ≢ r → register_value (set_reg regs r v) q ≡ register_value regs q
   value_stays regs r v q ne = ap (λ x. if nat_eq q 0 then 0 else x) (set_there regs r v q ne)
 
-  pub held_stays : (regs : ℕ → ℕ) (r own x v : ℕ) (s : Source) → Readable s → r ≢ x → 1 ≤ x → x < 8 → value (set_reg regs x v) (held r s) ≡ value regs (held r s)
+  pub held_stays : (regs : ℕ → ℕ) (r own x v : ℕ) (s : Source) → Readable s → r ≢ x → 1 ≤ x → x < 8 → register_value (set_reg regs x v) (held r s) ≡ register_value regs (held r s)
   held_stays regs r own x v s ok ne lo hi = elim (held_place r s ok) [
     | inl e ↦ value_stays regs x v (held r s) (λ h. ne (sym e ∙ h))
     | inr o ↦ elim o [
@@ -200,8 +200,8 @@ module _ (c : Stretch) (b : Bases) (j slots : ℕ) where
       record {
         to = s.to;
         does = does_on c b h.does s.does;
-        here = s.spots_are (Slot k) ok.0 ∙ put_here (Slot k) (value d1.regs (held 5 (Number n))) (spots c b j slots d1) ∙ h.value_is';
-        others = λ q o ne'. s.spots_are q o.0 ∙ put_there (Slot k) q (value d1.regs (held 5 (Number n))) (spots c b j slots d1) ne'
+        here = s.spots_are (Slot k) ok.0 ∙ put_here (Slot k) (register_value d1.regs (held 5 (Number n))) (spots c b j slots d1) ∙ h.value_is';
+        others = λ q o ne'. s.spots_are q o.0 ∙ put_there (Slot k) q (register_value d1.regs (held 5 (Number n))) (spots c b j slots d1) ne'
             ∙ seen_past (with_reg d 7 h.seven) 5 h.own (omega arith) (omega arith) q o ∙ seen_past d 7 h.seven (omega arith) (omega arith) q o;
         keeps = kept_on c b j slots kept1 s.keeps;
       }

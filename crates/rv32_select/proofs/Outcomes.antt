@@ -10,7 +10,7 @@ use Rattle.rv32_items.specs.declared.Item.{Item}
 use Rattle.rv32_items.specs.declared.Item.TheVariants.{Label}
 use Rattle.rv32_items.specs.Course.{Layout, Point, turn, onward, label_of, Going, Exited, Course, stands, after, course}
 use Rattle.rv32_items.specs.Told.{ReturnsHome}
-use Rattle.rv32_select.specs.Selects.{exit_of, SameEnd, Finishes, Follows, Matches, Arrives}
+use Rattle.rv32_select.specs.Selects.{exit_of, SameOutputAndInput, EndsLikeRun, Follows, Matches, ReachesAnswer}
 use Rattle.rv32_select.proofs.Courses.{course_more, course_none}
 use Rattle.rv32_select.proofs.Fronts.{IsFront, front_itself, passed_few, course_front, home_front}
 use Rattle.rv32_select.proofs.Leaves.{Leaves}
@@ -72,22 +72,22 @@ module _ (lay : Layout) (items : List Item) (begins input : List ℕ) (p : Point
         let z = start.used_is in
         omega arith
 
-    same_end : (w : World) (code : ℕ) (e : Ends lay items begins p [] w0 w code) (x : Answer) → world_of x ≡ w → SameEnd input x (after e.bytes e.labels (stands w.input (Exited code)))
+    same_end : (w : World) (code : ℕ) (e : Ends lay items begins p [] w0 w code) (x : Answer) → world_of x ≡ w → SameOutputAndInput input x (after e.bytes e.labels (stands w.input (Exited code)))
     same_end w code e x is =
         (sym (end_append e.bytes) ∙ sym (out_bytes w e.bytes e.out) ∙ ap (λ y. y.out) (sym is), used_all w e.used ∙ ap (λ y. y.used) (sym is))
 
     -- ---- arriving
 
-    arrives_exit : (w : World) (code : ℕ) (e : Ends lay items begins p [] w0 w code) (x : Answer) → world_of x ≡ w → exit_of (end_of x) ≡ Some code → Arrives begins input x (course lay items (e.count + 0) input p)
+    arrives_exit : (w : World) (code : ℕ) (e : Ends lay items begins p [] w0 w code) (x : Answer) → world_of x ≡ w → exit_of (end_of x) ≡ Some code → ReachesAnswer begins input x (course lay items (e.count + 0) input p)
     arrives_exit w code e x is exit =
-        subst (λ c. Arrives begins input x c) (sym (exit_course w code e 0))
+        subst (λ c. ReachesAnswer begins input x c) (sym (exit_course w code e 0))
         (record {
           entered = ap (procedures_at begins) (sym (end_append e.labels)) ∙ sym (entered_labels w e.labels e.entered) ∙ ap (λ y. y.entered) (sym is);
           output = ([], ap (λ y. y ++ []) (sym (out_bytes w e.bytes e.out) ∙ ap (λ y. y.out) (sym is)));
           ended = subst (λ o. Matches input x (after e.bytes e.labels (stands w.input (Exited code))) o) (sym exit) (refl, same_end w code e x is);
         })
 
-    pub arrives : (x : Answer) → Outcome w0 x → (k : ℕ) × Arrives begins input x (course lay items k input p)
+    pub arrives : (x : Answer) → Outcome w0 x → (k : ℕ) × ReachesAnswer begins input x (course lay items k input p)
     arrives (gives vs w) e = (e.count + 0, arrives_exit w 0 e (gives vs w) refl refl)
     arrives (stops no_alternative w) e = (e.0.count + 0, arrives_exit w 3 e.0 (stops no_alternative w) refl refl)
     arrives (stops heap_full w) e = (e.count + 0, arrives_exit w 4 e (stops heap_full w) refl refl)
@@ -98,7 +98,7 @@ module _ (lay : Layout) (items : List Item) (begins input : List ℕ) (p : Point
         let along = subst (λ i. course lay items (r.count + 0) i p ≡ after r.bytes r.labels (course lay items 0 w.input h.0)) start.input_is (r.way.by 0) in
         let is : course lay items (r.count + 0) input p ≡ after r.bytes r.labels c = along ∙ ap (after r.bytes r.labels) (course_none lay items w.input h.0) in (
           r.count + 0,
-          subst (λ c. Arrives begins input (stops out_of_units w) c) (sym is) (record {
+          subst (λ c. ReachesAnswer begins input (stops out_of_units w) c) (sym is) (record {
             entered = ap (procedures_at begins) (sym (end_append r.labels)) ∙ sym (entered_labels w r.labels r.entered);
             output = ([], ap (λ x. x ++ []) (sym (out_bytes w r.bytes r.out)));
             ended = tt;
@@ -110,7 +110,7 @@ module _ (lay : Layout) (items : List Item) (begins input : List ℕ) (p : Point
 
     -- a front of a course that has written, passed and read just what a run has
     follows_front : (x : Answer) (bytes labels : List ℕ) (c whole : Course) → (world_of x).out ≡ bytes → (world_of x).entered ≡ procedures_at begins labels → length (world_of x).entered ≤ length (procedures_at begins c.passed)
-        → whole.out ≡ bytes → whole.passed ≡ labels → length input - length whole.left ≤ (world_of x).used → IsFront c whole → Finishes input x c c.end → Follows begins input x c
+        → whole.out ≡ bytes → whole.passed ≡ labels → length input - length whole.left ≤ (world_of x).used → IsFront c whole → EndsLikeRun input x c c.end → Follows begins input x c
     follows_front x bytes labels c whole out entered few whole_out whole_passed used f finish = record {
       entered =
           let split : procedures_at begins labels ≡ procedures_at begins c.passed ++ procedures_at begins f.labels = ap (procedures_at begins) (sym whole_passed ∙ f.passed) ∙ procedures_split begins c.passed f.labels in
@@ -123,16 +123,16 @@ module _ (lay : Layout) (items : List Item) (begins input : List ℕ) (p : Point
     }
 
     -- an ended course is as it was
-    front_exit : (x : Answer) (code : ℕ) (c whole : Course) → exit_of (end_of x) ≡ Some code → whole.end ≡ Exited code → SameEnd input x whole → IsFront c whole → Finishes input x c c.end
+    front_exit : (x : Answer) (code : ℕ) (c whole : Course) → exit_of (end_of x) ≡ Some code → whole.end ≡ Exited code → SameOutputAndInput input x whole → IsFront c whole → EndsLikeRun input x c c.end
     front_exit x code c whole exit end same f = elim f.ended [
-      | inl g ↦ subst (λ e. Finishes input x c e) (sym g.1) tt
-      | inr is ↦ subst (λ y. Finishes input x y y.end) is (subst (λ e. Finishes input x whole e) (sym end) (exit, same))
+      | inl g ↦ subst (λ e. EndsLikeRun input x c e) (sym g.1) tt
+      | inr is ↦ subst (λ y. EndsLikeRun input x y y.end) is (subst (λ e. EndsLikeRun input x whole e) (sym end) (exit, same))
     ]
 
-    front_going : (x : Answer) (q : Point) (c whole : Course) → whole.end ≡ Going q → IsFront c whole → Finishes input x c c.end
+    front_going : (x : Answer) (q : Point) (c whole : Course) → whole.end ≡ Going q → IsFront c whole → EndsLikeRun input x c c.end
     front_going x q c whole end f = elim f.ended [
-      | inl g ↦ subst (λ e. Finishes input x c e) (sym g.1) tt
-      | inr is ↦ subst (λ y. Finishes input x y y.end) is (subst (λ e. Finishes input x whole e) (sym end) tt)
+      | inl g ↦ subst (λ e. EndsLikeRun input x c e) (sym g.1) tt
+      | inr is ↦ subst (λ y. EndsLikeRun input x y y.end) is (subst (λ e. EndsLikeRun input x whole e) (sym end) tt)
     ]
 
     front_of : (k count : ℕ) → k ≤ count → IsFront (course lay items k input p) (course lay items count input p)

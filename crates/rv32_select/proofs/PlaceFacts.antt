@@ -13,9 +13,10 @@ use Rattle.rv32_steps.specs.Trace.{procedure_from}
 use Rattle.rv32_items.specs.declared.Item.{Item}
 use Rattle.rv32_items.specs.declared.Item.TheVariants.{Label}
 use Rattle.rv32_items.specs.Course.{Layout, label_from}
-use Rattle.rv32_items.specs.Placed.{Rises}
+use Rattle.rv32_items.specs.Placed.{AddressesRise}
 use Rattle.rv32_select.specs.Emit.{argument_spots, result_spots, stop_items}
-use Rattle.rv32_select.specs.IsSelected.{heap_base, EmitsProcedure, first_label}
+use Rattle.rv32_select.specs.IsSelected.{EmitsProcedure, first_label}
+use Rattle.limits.specs.Limits.{heap_start}
 use Rattle.low_code.specs.Literals.{IsSmall, AreSmall, TestsSmall}
 use Rattle.rv32_select.proofs.Courses.{Stands}
 use Rattle.rv32_select.proofs.Relation.{Keeps}
@@ -119,8 +120,8 @@ pub record Setting (l : Program) (a : Assignment) (cells stack : ℕ) (lay : Lay
   pub stack_few : stack ≤ 67108864
   pub stack_some : 1024 ≤ stack
   pub stack_four : stack % 4 ≡ 0
-  pub rises : Rises items lay
-  pub below : end_of lay.code ≤ heap_base
+  pub rises : AddressesRise items lay
+  pub below : end_of lay.code ≤ heap_start
   pub once : (t n : ℕ) → slice_get items t ≡ Some (Label n) → label_from 0 items n ≡ Some t
   pub procedures : (f : ℕ) (q : Procedure) → slice_get l.procs f ≡ Some q → StandsAt l a cells stack items f q
   pub fine : (f : ℕ) (q : Procedure) → slice_get l.procs f ≡ Some q → ProcedureFine l a f q

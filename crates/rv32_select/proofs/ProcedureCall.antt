@@ -6,16 +6,17 @@ use Rattle.std.proofs.lemmas.Option.{slice_get_within}
 use Rattle.low_code.specs.Tree.{Procedure, Program}
 use Rattle.low_code.specs.Formed.{variables}
 use Rattle.low_code.specs.Values.{Word, Env, World, with_vars, no_vars, need, gives, stops, stack_full as stack_full', missing, out_of_units}
-use Rattle.low_code.specs.Run.{code, calls, spent, spend, as_many, body}
+use Rattle.low_code.specs.Run.{code, calls, spent, spend, with_result_count, body}
 use Rattle.register_alloc.specs.Fits.{slots_of}
 use Rattle.register_alloc.specs.Assignment.{Assignment, place_of, words_at}
 use Rattle.rv32_items.specs.declared.Item.{Item}
 use Rattle.rv32_items.specs.declared.Item.TheVariants.{Label}
 use Rattle.rv32_items.specs.Course.{Layout, Point, label_from, address_from}
-use Rattle.rv32_select.specs.declared.source.Way.TheVariants.{Returns}
+use Rattle.rv32_select.specs.declared.source.Continuation.TheVariants.{Returns}
 use Rattle.rv32_select.specs.Emit.{argument_spots, result_spots}
 use Rattle.rv32_select.proofs.Courses.{Stands, stays}
-use Rattle.rv32_select.specs.IsSelected.{is_lasting, stack_end}
+use Rattle.rv32_select.specs.IsSelected.{is_lasting}
+use Rattle.limits.specs.Limits.{stack_end}
 use Rattle.rv32_select.proofs.Straight.{Data, at}
 use Rattle.rv32_select.proofs.Relation.{bases, regs_of, AllHold, HoldsWorld, Back, quiet, Does', does_after, does_then, Given, HasBase}
 use Rattle.rv32_select.proofs.PlaceFacts.{ProcedureFine, Setting}
@@ -77,7 +78,7 @@ module _ (l : Program) (a : Assignment) (cells stack : ℕ) (lay : Layout) (item
           → Does' lay items begins (λ rs w' p calls'. (d' : Data) × ((p ≡ at (bases stack) lay items m d') × ((calls' ≡ outer) × (Back l a cells stack lay f bound d (result_spots 10 q.results) rs d' w' × (length rs ≡ q.results)))))
           (at (bases stack) lay items t d) (m ∷ outer) w (elim b [
             | true ↦ stops stack_full' (spent f (under + words_at a f) left w)
-            | false ↦ as_many q.results (code l (words_at a) (room l a cells stack lay items begins) (calls l (words_at a) (room l a cells stack lay items begins) n) env (under + words_at a f) (Some under) q.body (spent f (under + words_at a f) left w))
+            | false ↦ with_result_count q.results (code l (words_at a) (room l a cells stack lay items begins) (calls l (words_at a) (room l a cells stack lay items begins) n) env (under + words_at a f) (Some under) q.body (spent f (under + words_at a f) left w))
           ])
       by_limit left e env bind true over = stack_is_full l a cells stack lay items begins s f q pf t m bound under left outer vs w d is_q found h base sp total link args e (grind (arith, nat_tests))
       by_limit left e env bind false fits =
@@ -111,7 +112,7 @@ module _ (l : Program) (a : Assignment) (cells stack : ℕ) (lay : Layout) (item
           let answer = code l (words_at a) (room l a cells stack lay items begins) (calls l (words_at a) (room l a cells stack lay items begins) n) env (under + words_at a f) (Some under) q.body w' in
           let GB = Given l a cells stack lay items st.emits.framed f (bound - (1 + pf.slots)) pf.slots d m outer (result_spots 10 q.results) Returns (NoMust l a cells stack lay items begins s f q pf) in
           let G' = λ (rs : List Word) (w' : World) (p : Point) (calls' : List ℕ). (d' : Data) × ((p ≡ at (bases stack) lay items m d') × ((calls' ≡ outer) × (Back l a cells stack lay f bound d (result_spots 10 q.results) rs d' w' × (length rs ≡ q.results)))) in
-          does_after lay items begins G' (as_many q.results answer) z.ran
+          does_after lay items begins G' (with_result_count q.results answer) z.ran
           (does_then lay items begins GB G' (at (bases stack) lay items z.start z.to) (m ∷ outer) w' answer (λ rs w'. cond (nat_eq (length rs) q.results) (gives rs w') (stops missing w')) done
           (λ rs v p' c' le given.
           let back = subst (λ x. Back l a cells stack lay f x d (result_spots 10 q.results) rs given.0 v) whole given.1.1.1 in

@@ -8,7 +8,7 @@ use Rattle.rv32_isa.specs.declared.instr.Instr.TheVariants.{Store}
 use Rattle.rv32_isa.specs.declared.instr.StoreKind.TheVariants.{Sw}
 use Rattle.rv32_machine.specs.Arithmetic.{plus, negated}
 use Rattle.rv32_machine.specs.Steps.{set_reg}
-use Rattle.rv32_steps.specs.Straight.{value}
+use Rattle.rv32_steps.specs.Straight.{register_value}
 use Rattle.parallel_move.specs.declared.Spot.{Spot}
 use Rattle.parallel_move.specs.declared.Spot.TheVariants.{Reg, Slot, Scratch}
 use Rattle.low_code.specs.Tree.{Procedure, Program}
@@ -22,7 +22,8 @@ use Rattle.rv32_items.specs.declared.Item.{Item}
 use Rattle.rv32_items.specs.declared.Item.TheVariants.{Branch}
 use Rattle.rv32_items.specs.Course.{Layout, label_from}
 use Rattle.rv32_select.specs.Emit.{plain, link_put, add_to, load_constant, argument_spots, parameters_code, entry_items, base_register, base_at_entry}
-use Rattle.rv32_select.specs.IsSelected.{stack_end, is_lasting}
+use Rattle.rv32_select.specs.IsSelected.{is_lasting}
+use Rattle.limits.specs.Limits.{stack_end}
 use Rattle.rv32_select.proofs.Courses.{Stands, front, back}
 use Rattle.rv32_select.proofs.Straight.{Data, with_reg, with_stack, Good, Does, does_nothing, does_on, does_store_stack, at}
 use Rattle.rv32_select.proofs.NumberParts.{value_is, does_add, does_number}
@@ -76,15 +77,15 @@ module _ (l : Program) (a : Assignment) (lay : Layout) (stack f j slots saved : 
       }
   parameters_put i (Slot k ∷ ss) (v ∷ vs) d g fr own df free len h =
       let z = stores lay.code (bases stack) j slots k (8 + i) d g fr (omega (arith, le, own.0)) (let hi = free.0.1.0 in omega arith) in
-      let is : value d.regs (8 + i) ≡ d.regs (8 + i) = value_is d.regs (8 + i) (omega arith) in
+      let is : register_value d.regs (8 + i) ≡ d.regs (8 + i) = value_is d.regs (8 + i) (omega arith) in
       let same = λ (r : ℕ) (lo : 8 ≤ r) (hi : r < 32). z.spots_are (Reg r) (lo, hi) in
       let more = parameters_put (suc i) ss vs z.to z.does.good (in_frame lay.code (bases stack) j slots fr z.keeps) own.1 df.1 free.1 (omega arith) (args_same (suc i) ss vs d z.to free.1 same h.1) in
       let slot_ok : IsPlace lay.code (bases stack) j slots (Slot k) = own_place l a lay stack f j slots saved (Slot k) le own.0 in
       record {
         to = more.to;
         does = does_on lay.code (bases stack) z.does more.does;
-        hold = (more.others (Slot k) slot_ok df.0 ∙ z.spots_are (Slot k) slot_ok.0 ∙ put_here (Slot k) (value d.regs (8 + i)) (spots lay.code (bases stack) j slots d) ∙ is ∙ h.0, more.hold);
-        others = λ t o ne. more.others t o ne.1 ∙ z.spots_are t o.0 ∙ put_there (Slot k) t (value d.regs (8 + i)) (spots lay.code (bases stack) j slots d) ne.0;
+        hold = (more.others (Slot k) slot_ok df.0 ∙ z.spots_are (Slot k) slot_ok.0 ∙ put_here (Slot k) (register_value d.regs (8 + i)) (spots lay.code (bases stack) j slots d) ∙ is ∙ h.0, more.hold);
+        others = λ t o ne. more.others t o ne.1 ∙ z.spots_are t o.0 ∙ put_there (Slot k) t (register_value d.regs (8 + i)) (spots lay.code (bases stack) j slots d) ne.0;
         registers = λ r lo hi. more.registers r lo hi ∙ same r lo hi;
         keeps = kept_on lay.code (bases stack) j slots z.keeps more.keeps;
       }
@@ -108,7 +109,7 @@ module _ (l : Program) (a : Assignment) (cells stack : ℕ) (lay : Layout) (item
     pub same : (r : ℕ) → r ≢ 5 → to.regs r ≡ d.regs r
     pub heap : to.heap ≡ d.heap
     pub stack' : to.stack ≡ d.stack
-    pub is : value to.regs (base_register t) ≡ stack_end - stack
+    pub is : register_value to.regs (base_register t) ≡ stack_end - stack
 
   base_ready : (t : Bool) (d : Data) → Good lay.code (bases stack) d → HasBase t (stack_end - stack) d → BaseReady t d
   base_ready true d g h = record { to = d; does = does_nothing lay.code (bases stack) d g; same = λ r ne. refl; heap = refl; stack' = refl; is = h }
@@ -130,7 +131,7 @@ module _ (l : Program) (a : Assignment) (cells stack : ℕ) (lay : Layout) (item
     pub heap : to.heap ≡ d.heap
     pub stack' : to.stack ≡ d.stack
     pub ran : Ran lay items begins (at (bases stack) lay items p d) calls w (at (bases stack) lay items (p + length (plain (add_to 2 2 (negated (4 * words_at a f)) ++ base_at_entry (is_lasting a) (stack_end - stack)))) to) calls w
-    pub five : value to.regs (base_register (is_lasting a)) ≡ stack_end - stack
+    pub five : register_value to.regs (base_register (is_lasting a)) ≡ stack_end - stack
 
   frame_tested : (bound p : ℕ) (d : Data) (calls : List ℕ) (w : World) (rest : List Item) → Good lay.code (bases stack) d → HasBase (is_lasting a) (stack_end - stack) d → Stands items p (plain (add_to 2 2 (negated (4 * words_at a f)) ++ base_at_entry (is_lasting a) (stack_end - stack))) → FrameTested bound p d calls w rest
   frame_tested bound p d calls w rest g base stands =
@@ -202,7 +203,7 @@ module _ (l : Program) (a : Assignment) (cells stack : ℕ) (lay : Layout) (item
         let small = pf.small in
         let n = suc t + length (plain (add_to 2 2 (negated (4 * words_at a f)) ++ base_at_entry (is_lasting a) (stack_end - stack))) in
         let sum : plus (d.regs 2) (negated (4 * words_at a f)) < stack_end - stack = omega arith in
-        let low : nat_lt (z.to.regs 2) (value z.to.regs (base_register (is_lasting a))) ≡ true = let x = z.sp in let y = z.five in let lt : z.to.regs 2 < value z.to.regs (base_register (is_lasting a)) = omega arith in grind (arith, nat_tests) in
+        let low : nat_lt (z.to.regs 2) (register_value z.to.regs (base_register (is_lasting a))) ≡ true = let x = z.sp in let y = z.five in let lt : z.to.regs 2 < register_value z.to.regs (base_register (is_lasting a)) = omega arith in grind (arith, nat_tests) in
         let stop = stack_full_stop l a cells stack lay items begins s in
         let step = branches (bases stack) lay items n stop.place (2 + length l.procs) 2 (base_register (is_lasting a)) Ltu z.to w.input (m ∷ outer) branch_stands.0 stop.found low in
         let ran = ran_on lay items begins labelled (ran_on lay items begins z.ran (quiet lay items begins w' w' step refl refl refl refl refl)) in
@@ -218,7 +219,7 @@ module _ (l : Program) (a : Assignment) (cells stack : ℕ) (lay : Layout) (item
         let j = bound - (1 + pf.slots) in
         let n = suc t + length (plain (add_to 2 2 (negated (4 * words_at a f)) ++ base_at_entry (is_lasting a) (stack_end - stack))) in
         let sum : plus (d.regs 2) (negated (4 * words_at a f)) ≡ (bases stack).stack + 4 * (bound - (1 + pf.slots)) = omega arith in
-        let on : nat_lt (z.to.regs 2) (value z.to.regs (base_register (is_lasting a))) ≡ false = let x = z.sp in let y = z.five in let le : value z.to.regs (base_register (is_lasting a)) ≤ z.to.regs 2 = omega arith in grind (arith, nat_tests) in
+        let on : nat_lt (z.to.regs 2) (register_value z.to.regs (base_register (is_lasting a))) ≡ false = let x = z.sp in let y = z.five in let le : register_value z.to.regs (base_register (is_lasting a)) ≤ z.to.regs 2 = omega arith in grind (arith, nat_tests) in
         let step = goes_on (bases stack) lay items n (2 + length l.procs) 2 (base_register (is_lasting a)) Ltu z.to w.input (m ∷ outer) branch_stands.0 on in
         let len = h.stack_words in
         let same_length = ap length z.stack' in

@@ -16,9 +16,10 @@ use Rattle.rv32_steps.specs.Trace.{procedures_at, procedure_from}
 use Rattle.rv32_items.specs.declared.Item.{Item}
 use Rattle.rv32_items.specs.declared.Item.TheVariants.{Label}
 use Rattle.rv32_items.specs.Course.{Layout, Point, label_from}
-use Rattle.rv32_select.specs.declared.source.Way.{Way}
-use Rattle.rv32_select.specs.declared.source.Way.TheVariants.{Returns, Follows, Jumps}
-use Rattle.rv32_select.specs.IsSelected.{heap_base, stack_end, all_keep, is_lasting}
+use Rattle.rv32_select.specs.declared.source.Continuation.{Continuation}
+use Rattle.rv32_select.specs.declared.source.Continuation.TheVariants.{Returns, Follows, Jumps}
+use Rattle.rv32_select.specs.IsSelected.{no_mask_has_x27, is_lasting}
+use Rattle.limits.specs.Limits.{heap_start, stack_end}
 use Rattle.rv32_select.proofs.Courses.{Goes, Exits, goes, exits}
 use Rattle.rv32_select.proofs.Leaves.{Leaves, leaves_on}
 use Rattle.rv32_select.proofs.Straight.{Data, Good, at}
@@ -26,7 +27,7 @@ use Rattle.rv32_select.proofs.FrameViews.{spots, InFrame}
 use Rattle.seq.specs.Lists.{is_among}
 
 abbrev pub bases : (stack : ℕ) → Bases
-bases stack = record { heap = heap_base; stack = stack_end - stack }
+bases stack = record { heap = heap_start; stack = stack_end - stack }
 
 -- what stands in registers, whatever the frame
 abbrev pub regs_of : Data → Values
@@ -39,7 +40,7 @@ regs_of d Scratch = 0
 -- a number stands for itself, a cell for its address
 abbrev pub word_of : (width : ℕ) → Word → ℕ
 word_of width (number k) = k
-word_of width (cell i) = heap_base + 4 * width * i
+word_of width (cell i) = heap_start + 4 * width * i
 
 -- spots hold words, one each
 abbrev pub AllHold : (width : ℕ) → List Spot → List Word → Values → Type 0
@@ -73,11 +74,11 @@ if_false : (t x : Bool) → (if t then false else x) ≡ true → (t ≡ false) 
 if_false true x e = absurd (cc)
 if_false false x e = (refl, e)
 
-all_keep_one : (ms : List ℕ) (f : ℕ) → all_keep ms ≡ true → nat_eq (slice_index_or ms f 0 / 2 ^ 27 % 2) 1 ≡ false
+all_keep_one : (ms : List ℕ) (f : ℕ) → no_mask_has_x27 ms ≡ true → nat_eq (slice_index_or ms f 0 / 2 ^ 27 % 2) 1 ≡ false
 all_keep_one [] zero e = refl
 all_keep_one [] (suc f) e = refl
-all_keep_one (m ∷ ms) zero e = (if_false (nat_eq (m / 2 ^ 27 % 2) 1) (all_keep ms) e).0
-all_keep_one (m ∷ ms) (suc f) e = all_keep_one ms f (if_false (nat_eq (m / 2 ^ 27 % 2) 1) (all_keep ms) e).1
+all_keep_one (m ∷ ms) zero e = (if_false (nat_eq (m / 2 ^ 27 % 2) 1) (no_mask_has_x27 ms) e).0
+all_keep_one (m ∷ ms) (suc f) e = all_keep_one ms f (if_false (nat_eq (m / 2 ^ 27 % 2) 1) (no_mask_has_x27 ms) e).1
 
 -- x27 is such a register of each procedure
 pub base_kept : (l : Program) (a : Assignment) (f : ℕ) → is_lasting a ≡ true → Keeps l a f 27
@@ -96,8 +97,8 @@ module _ (l : Program) (a : Assignment) (cells stack : ℕ) (lay : Layout) where
   pub record HoldsWorld (d : Data) (w : World) : Type 0 where
     pub good : Good lay.code (bases stack) d
     pub cells_are : HoldsCells l.width d.heap w.cells
-    pub next : d.regs 3 ≡ heap_base + 4 * l.width * length w.cells
-    pub end : d.regs 4 ≡ heap_base + 4 * l.width * cells
+    pub next : d.regs 3 ≡ heap_start + 4 * l.width * length w.cells
+    pub end : d.regs 4 ≡ heap_start + 4 * l.width * cells
     pub room : length w.cells ≤ cells
     pub globals : length l.globals ≤ length w.cells
     pub input : IsBytes w.input
@@ -327,7 +328,7 @@ module _ (lay : Layout) (items : List Item) (begins : List ℕ) where
 module _ (l : Program) (a : Assignment) (cells stack : ℕ) (lay : Layout) (items : List Item) where
   -- where a block's words and the machine are behind it: returned from the procedure to item m, or at the item of a label. `Must`
   -- says the words of the variables that are needed there
-  abbrev pub Given : (framed : Bool) → (f j slots : ℕ) → (d0 : Data) → (m : ℕ) → (outer : List ℕ) → (to : List Spot) → Way → (Must : ℕ → Word → Type 0) → List Word → World → Point → List ℕ → Type 0
+  abbrev pub Given : (framed : Bool) → (f j slots : ℕ) → (d0 : Data) → (m : ℕ) → (outer : List ℕ) → (to : List Spot) → Continuation → (Must : ℕ → Word → Type 0) → List Word → World → Point → List ℕ → Type 0
   Given framed f j slots d0 m outer to Returns Must vs w q calls =
       (d : Data) × ((q ≡ at (bases stack) lay items m d) × ((calls ≡ outer) × Back l a cells stack lay f (j + (1 + slots)) d0 to vs d w))
   Given framed f j slots d0 m outer to (Follows n) Must vs w q calls =

@@ -11,7 +11,7 @@ use Rattle.register_alloc.specs.Fits.{slots_of}
 use Rattle.register_alloc.specs.Assignment.{Assignment, place_of, saves_at, words_at}
 use Rattle.rv32_items.specs.declared.Item.{Item}
 use Rattle.rv32_items.specs.Course.{Layout, address_from}
-use Rattle.rv32_select.specs.declared.source.Way.{Way}
+use Rattle.rv32_select.specs.declared.source.Continuation.{Continuation}
 use Rattle.rv32_select.specs.Emit.{plain, put_code, get_code, take_link}
 use Rattle.rv32_select.specs.IsSelected.{heap_end, source, call_items, Then, Emits}
 use Rattle.rv32_select.proofs.Straight.{Data}
@@ -24,7 +24,7 @@ use Rattle.rv32_select.proofs.Linked.{link_aside, link_back}
 module _ (l : Program) (a : Assignment) (cells stack : ℕ) (lay : Layout) (items : List Item) (begins : List ℕ) (s : Setting l a cells stack lay items begins) (calls_n : Calls) (n : ℕ)
     (f : ℕ) (q : Procedure) (pf : ProcedureFine l a f q) where
   -- a block whose items are said otherwise
-  pub said : (framed : Bool) (j m : ℕ) (outer : List ℕ) (d0 : Data) (u : ℕ) (here : Bool) (E E' : Type 0) (c : Code) (to : List Spot) (way : Way) (Must : ℕ → Word → Type 0) (k : ℕ) (block : List Item) (p : ℕ) (scope later : List ℕ) (env : Env) (top : ℕ) (under : Option ℕ) (d : Data) (w : World)
+  pub said : (framed : Bool) (j m : ℕ) (outer : List ℕ) (d0 : Data) (u : ℕ) (here : Bool) (E E' : Type 0) (c : Code) (to : List Spot) (way : Continuation) (Must : ℕ → Word → Type 0) (k : ℕ) (block : List Item) (p : ℕ) (scope later : List ℕ) (env : Env) (top : ℕ) (under : Option ℕ) (d : Data) (w : World)
       → E' → Opened l a cells stack lay items begins f q framed pf.slots j m outer d0 u n here E c to way Must k block p scope later env top under d w
       → Opened l a cells stack lay items begins f q framed pf.slots j m outer d0 u n here E' c to way Must k block p scope later env top under d w
   said framed j m outer d0 u here E E' c to way Must k block p scope later env top under d w e b = record {
@@ -47,7 +47,7 @@ module _ (l : Program) (a : Assignment) (cells stack : ℕ) (lay : Layout) (item
     under_is = b.under_is;
   }
 
-  pub put_round : (framed : Bool) (j m : ℕ) (outer : List ℕ) (d0 : Data) (u : ℕ) (o : Operand) (c : Code) (to : List Spot) (way : Way) (Must : ℕ → Word → Type 0) (k k' : ℕ) (block : List Item) (p : ℕ) (scope later : List ℕ) (env : Env) (top : ℕ) (under : Option ℕ) (d : Data) (w : World)
+  pub put_round : (framed : Bool) (j m : ℕ) (outer : List ℕ) (d0 : Data) (u : ℕ) (o : Operand) (c : Code) (to : List Spot) (way : Continuation) (Must : ℕ → Word → Type 0) (k k' : ℕ) (block : List Item) (p : ℕ) (scope later : List ℕ) (env : Env) (top : ℕ) (under : Option ℕ) (d : Data) (w : World)
       → Block l a cells stack lay items begins f q framed pf.slots j m outer d0 u n (put o c) to way Must k k' block p scope later env top under d w
       → ((w' : World) (rest : List Item) (p' : ℕ) (d' : Data) → Block l a cells stack lay items begins f q framed pf.slots j m outer d0 u n c to way Must k k' rest p' scope later env top under d' w'
       → Simulates l a cells stack lay items begins f q framed pf.slots j m outer d0 u n calls_n c to way Must p' env top under d' w')
@@ -61,7 +61,7 @@ module _ (l : Program) (a : Assignment) (cells stack : ℕ) (lay : Layout) (item
       (λ w' rest' p2 d2 b2. link_back l a cells stack lay items begins s calls_n n f q pf false j m outer d0 u Rest c to way Must k rest' p2 scope later env top under d2 w' b2
       (λ rest2 p3 d3 b3. more w' rest2 p3 d3 b3)))
 
-  pub get_round : (framed : Bool) (j m : ℕ) (outer : List ℕ) (d0 : Data) (u : ℕ) (x : ℕ) (c : Code) (to : List Spot) (way : Way) (Must : ℕ → Word → Type 0) (k k' : ℕ) (block : List Item) (p : ℕ) (scope later : List ℕ) (env : Env) (top : ℕ) (under : Option ℕ) (d : Data) (w : World)
+  pub get_round : (framed : Bool) (j m : ℕ) (outer : List ℕ) (d0 : Data) (u : ℕ) (x : ℕ) (c : Code) (to : List Spot) (way : Continuation) (Must : ℕ → Word → Type 0) (k k' : ℕ) (block : List Item) (p : ℕ) (scope later : List ℕ) (env : Env) (top : ℕ) (under : Option ℕ) (d : Data) (w : World)
       → Block l a cells stack lay items begins f q framed pf.slots j m outer d0 u n (get x c) to way Must k k' block p scope later env top under d w
       → ((v : Word) (w' : World) (rest : List Item) (p' : ℕ) (d' : Data) → Block l a cells stack lay items begins f q framed pf.slots j m outer d0 u n c to way Must k k' rest p' (x ∷ scope) later (with_var x v env) top under d' w'
       → Simulates l a cells stack lay items begins f q framed pf.slots j m outer d0 u n calls_n c to way Must p' (with_var x v env) top under d' w')
@@ -76,7 +76,7 @@ module _ (l : Program) (a : Assignment) (cells stack : ℕ) (lay : Layout) (item
       (λ rest2 p3 d3 b3. more v w' rest2 p3 d3 b3)))
 
   pub call_round : CallsSimulated l a cells stack lay items begins calls_n n → (framed : Bool) (j m : ℕ) (outer : List ℕ) (d0 : Data) (u : ℕ) → address_from 0 items lay (lay.address m) ≡ Some m → 4 * (j + (1 + pf.slots) + u) ≡ stack
-      → (g site : ℕ) (os : List Operand) (xs : List ℕ) (c : Code) (to : List Spot) (way : Way) (Must : ℕ → Word → Type 0) (k k' : ℕ) (block : List Item) (p : ℕ) (scope later : List ℕ) (env : Env) (top : ℕ) (under : Option ℕ) (d : Data) (w : World)
+      → (g site : ℕ) (os : List Operand) (xs : List ℕ) (c : Code) (to : List Spot) (way : Continuation) (Must : ℕ → Word → Type 0) (k k' : ℕ) (block : List Item) (p : ℕ) (scope later : List ℕ) (env : Env) (top : ℕ) (under : Option ℕ) (d : Data) (w : World)
       → Block l a cells stack lay items begins f q framed pf.slots j m outer d0 u n (call g site os xs c) to way Must k k' block p scope later env top under d w
       → ((env' : Env) (rest : List Item) (p' : ℕ) (d' : Data) (v : World) → Block l a cells stack lay items begins f q framed pf.slots j m outer d0 u n c to way Must k k' rest p' (xs ++ scope) later env' top under d' v
       → Simulates l a cells stack lay items begins f q framed pf.slots j m outer d0 u n calls_n c to way Must p' env' top under d' v)

@@ -7,7 +7,7 @@ use Rattle.seq.proofs.Truth.{two_ways}
 use Rattle.parallel_move.specs.declared.Spot.{Spot}
 use Rattle.parallel_move.specs.declared.Spot.TheVariants.{Reg, Slot}
 use Rattle.parallel_move.specs.declared.Move.{Move}
-use Rattle.parallel_move.specs.Moves.{Values, same, moved, one_by_one, is_target}
+use Rattle.parallel_move.specs.Moves.{Values, same, after_move, after_moves_in_order, is_target}
 use Rattle.register_alloc.specs.Fits.{Ascending}
 use Rattle.rv32_machine.specs.Memory.{Stretch}
 use Rattle.rv32_steps.specs.Data.{Bases}
@@ -17,11 +17,11 @@ use Rattle.register_alloc.proofs.Pigeons.{rest_ascends}
 use Rattle.seq.specs.Lists.{is_among}
 
 -- a spot that no move goes to
-not_moved : (ms : List Move) (v : Values) (s : Spot) → is_target s ms ≡ false → one_by_one ms v s ≡ v s
+not_moved : (ms : List Move) (v : Values) (s : Spot) → is_target s ms ≡ false → after_moves_in_order ms v s ≡ v s
 not_moved [] v s h = refl
 not_moved (m ∷ ms) v s h = elim (two_ways (same s m.to)) [
   | inl e ↦ let no : true ≡ false = ap (λ b. b || is_target s ms) (sym e) ∙ h in absurd (cc)
-  | inr e ↦ not_moved ms (moved m v) s (ap (λ b. b || is_target s ms) (sym e) ∙ h) ∙ ap (λ b. cond b (v m.from) (v s)) e
+  | inr e ↦ not_moved ms (after_move m v) s (ap (λ b. b || is_target s ms) (sym e) ∙ h) ∙ ap (λ b. cond b (v m.from) (v s)) e
 ]
 
 -- saves go to slots from `first` on, restores to registers
@@ -46,34 +46,34 @@ restore_others first (r ∷ rs) q h = elim (two_ways (nat_eq q r)) [
       ∙ restore_others (suc first) rs q (ap (λ b. b || is_among q rs) (sym e) ∙ h)
 ]
 
-pub save_keeps_register : (first : ℕ) (rs : List ℕ) (v : Values) (q : ℕ) → one_by_one (save_moves first rs) v (Reg q) ≡ v (Reg q)
+pub save_keeps_register : (first : ℕ) (rs : List ℕ) (v : Values) (q : ℕ) → after_moves_in_order (save_moves first rs) v (Reg q) ≡ v (Reg q)
 save_keeps_register first rs v q = not_moved (save_moves first rs) v (Reg q) (save_no_register first rs q)
 
-pub save_keeps_slot : (first : ℕ) (rs : List ℕ) (v : Values) (k : ℕ) → k < first → one_by_one (save_moves first rs) v (Slot k) ≡ v (Slot k)
+pub save_keeps_slot : (first : ℕ) (rs : List ℕ) (v : Values) (k : ℕ) → k < first → after_moves_in_order (save_moves first rs) v (Slot k) ≡ v (Slot k)
 save_keeps_slot first rs v k lt = not_moved (save_moves first rs) v (Slot k) (save_low first rs k lt)
 
-pub restore_keeps_slot : (first : ℕ) (rs : List ℕ) (v : Values) (k : ℕ) → one_by_one (restore_moves first rs) v (Slot k) ≡ v (Slot k)
+pub restore_keeps_slot : (first : ℕ) (rs : List ℕ) (v : Values) (k : ℕ) → after_moves_in_order (restore_moves first rs) v (Slot k) ≡ v (Slot k)
 restore_keeps_slot first rs v k = not_moved (restore_moves first rs) v (Slot k) (restore_no_slot first rs k)
 
-pub restore_keeps_register : (first : ℕ) (rs : List ℕ) (v : Values) (q : ℕ) → is_among q rs ≡ false → one_by_one (restore_moves first rs) v (Reg q) ≡ v (Reg q)
+pub restore_keeps_register : (first : ℕ) (rs : List ℕ) (v : Values) (q : ℕ) → is_among q rs ≡ false → after_moves_in_order (restore_moves first rs) v (Reg q) ≡ v (Reg q)
 restore_keeps_register first rs v q h = not_moved (restore_moves first rs) v (Reg q) (restore_others first rs q h)
 
 -- the i-th saved register stands in the i-th slot of the saves
-pub saved_word : (first : ℕ) (rs : List ℕ) (v : Values) (i r : ℕ) → slice_get rs i ≡ Some r → one_by_one (save_moves first rs) v (Slot (first + i)) ≡ v (Reg r)
+pub saved_word : (first : ℕ) (rs : List ℕ) (v : Values) (i r : ℕ) → slice_get rs i ≡ Some r → after_moves_in_order (save_moves first rs) v (Slot (first + i)) ≡ v (Reg r)
 saved_word first [] v i r e = absurd (cc)
 saved_word first (q ∷ rs) v zero r e =
     let z : first + 0 ≡ first = omega arith in
     let is : q ≡ r = cc in
     let itself : nat_eq first first ≡ true = grind (arith, nat_tests) in
     let m : Move = record { to = Slot first; from = Reg q } in
-    ap (λ k. one_by_one (save_moves (suc first) rs) (moved m v) (Slot k)) z
-    ∙ not_moved (save_moves (suc first) rs) (moved m v) (Slot first) (save_low (suc first) rs first (omega arith))
+    ap (λ k. after_moves_in_order (save_moves (suc first) rs) (after_move m v) (Slot k)) z
+    ∙ not_moved (save_moves (suc first) rs) (after_move m v) (Slot first) (save_low (suc first) rs first (omega arith))
     ∙ ap (λ b. cond b (v (Reg q)) (v (Slot first))) itself
     ∙ ap (λ x. v (Reg x)) is
 saved_word first (q ∷ rs) v (suc i) r e =
     let n : first + suc i ≡ suc first + i = omega arith in
     let m : Move = record { to = Slot first; from = Reg q } in
-    ap (λ k. one_by_one (save_moves (suc first) rs) (moved m v) (Slot k)) n ∙ saved_word (suc first) rs (moved m v) i r e
+    ap (λ k. after_moves_in_order (save_moves (suc first) rs) (after_move m v) (Slot k)) n ∙ saved_word (suc first) rs (after_move m v) i r e
     ∙ (let none : same (Reg r) (Slot first) ≡ false = refl in ap (λ b. cond b (v (Reg q)) (v (Reg r))) none)
 
 -- ascending registers are different
@@ -91,20 +91,20 @@ not_above q rs h = by_test (is_among q rs) refl
     by_test false e = refl
     by_test true e = let lt = below_all q rs h q e in absurd (omega arith)
 
-pub restored : (first : ℕ) (rs : List ℕ) (v : Values) (i r : ℕ) → Ascending rs → slice_get rs i ≡ Some r → one_by_one (restore_moves first rs) v (Reg r) ≡ v (Slot (first + i))
+pub restored : (first : ℕ) (rs : List ℕ) (v : Values) (i r : ℕ) → Ascending rs → slice_get rs i ≡ Some r → after_moves_in_order (restore_moves first rs) v (Reg r) ≡ v (Slot (first + i))
 restored first [] v i r a e = absurd (cc)
 restored first (q ∷ rs) v zero r a e =
     let z : first ≡ first + 0 = omega arith in
     let is : q ≡ r = cc in
     let m : Move = record { to = Reg q; from = Slot first } in
     let here : nat_eq r q ≡ true = grind (arith, nat_tests) in
-    not_moved (restore_moves (suc first) rs) (moved m v) (Reg r) (restore_others (suc first) rs r (subst (λ x. is_among x rs ≡ false) is (not_above q rs a)))
+    not_moved (restore_moves (suc first) rs) (after_move m v) (Reg r) (restore_others (suc first) rs r (subst (λ x. is_among x rs ≡ false) is (not_above q rs a)))
     ∙ ap (λ b. cond b (v (Slot first)) (v (Reg r))) here
     ∙ ap (λ k. v (Slot k)) z
 restored first (q ∷ rs) v (suc i) r a e =
     let n : suc first + i ≡ first + suc i = omega arith in
     let m : Move = record { to = Reg q; from = Slot first } in
-    restored (suc first) rs (moved m v) i r (rest_ascends q rs a) e ∙ ap (λ k. v (Slot k)) n
+    restored (suc first) rs (after_move m v) i r (rest_ascends q rs a) e ∙ ap (λ k. v (Slot k)) n
 
 pub among_index : (r : ℕ) (rs : List ℕ) → is_among r rs ≡ true → (i : ℕ) × (slice_get rs i ≡ Some r)
 among_index r [] e = absurd (cc)

@@ -19,10 +19,10 @@ use Rattle.rv32_items.specs.declared.Cond.TheVariants.{Ne, Geu}
 use Rattle.rv32_items.specs.declared.Item.{Item}
 use Rattle.rv32_items.specs.declared.Item.TheVariants.{Label}
 use Rattle.rv32_items.specs.Course.{Layout, label_from}
-use Rattle.rv32_select.specs.declared.source.Way.{Way}
+use Rattle.rv32_select.specs.declared.source.Continuation.{Continuation}
 use Rattle.rv32_select.specs.Emit.{compare_items, test_items}
-use Rattle.rv32_select.specs.Halves.{Sought, Below, is_alone, Halves, one, two}
-use Rattle.rv32_select.specs.IsSelected.{source, further, first_label, ByHalves, Emits, EmitsEach}
+use Rattle.rv32_select.specs.Halves.{SearchedArm, IsBelowBound, is_alone, Halves, one, two}
+use Rattle.rv32_select.specs.IsSelected.{source, continued_by_jump, first_label, ByHalves, Emits, EmitsEach}
 use Rattle.rv32_select.proofs.Courses.{Stands, front, back, stays}
 use Rattle.rv32_select.proofs.Straight.{Data, at}
 use Rattle.rv32_select.proofs.Relation.{bases, Stood, Ran, ran_on, quiet, Does', does_after, does_map, Given, Needed}
@@ -45,7 +45,7 @@ not_less : (x y : ℕ) → nat_lt x y ≡ false → y ≤ x
 not_less x y t = grind (arith, nat_tests)
 
 -- between bounds that leave one number, two are the same
-alone_same : (low : ℕ) (high : Option ℕ) (x v : ℕ) → is_alone low high ≡ true → low ≤ x → Below x high → low ≤ v → Below v high → nat_eq v x ≡ true
+alone_same : (low : ℕ) (high : Option ℕ) (x v : ℕ) → is_alone low high ≡ true → low ≤ x → IsBelowBound x high → low ≤ v → IsBelowBound v high → nat_eq v x ≡ true
 alone_same low None x v e a b c d = absurd (cc)
 alone_same low (Some high) x v e a b c d =
     let next : suc low ≡ high = grind (arith, nat_tests) in
@@ -65,27 +65,27 @@ module _ (l : Program) (a : Assignment) (cells stack : ℕ) (lay : Layout) (item
     comes_on pos p' p d' d ran h = (h.0, (ran_on lay items begins ran h.1.0, h.1.1))
 
     -- it comes to the block of the first number that the word is, and else to the item t
-    abbrev Lands : List Sought → (t p : ℕ) → Data → Type 0
+    abbrev Lands : List SearchedArm → (t p : ℕ) → Data → Type 0
     Lands [] t p d = Comes t p d
     Lands (x ∷ xs) t p d = ((nat_eq v x.number ≡ true) × ((pos : ℕ) × (Stands items pos x.block × Comes pos p d))) ⊎ ((nat_eq v x.number ≡ false) × Lands xs t p d)
 
-    lands_on : (xs : List Sought) (t p' p : ℕ) (d' d : Data) → Ran lay items begins (at (bases stack) lay items p d) (m ∷ outer) w (at (bases stack) lay items p' d') (m ∷ outer) w → Lands xs t p' d' → Lands xs t p d
+    lands_on : (xs : List SearchedArm) (t p' p : ℕ) (d' d : Data) → Ran lay items begins (at (bases stack) lay items p d) (m ∷ outer) w (at (bases stack) lay items p' d') (m ∷ outer) w → Lands xs t p' d' → Lands xs t p d
     lands_on [] t p' p d' d ran h = comes_on t p' p d' d ran h
     lands_on (x ∷ xs) t p' p d' d ran (inl h) = inl (h.0, (h.1.0, (h.1.1.0, comes_on h.1.0 p' p d' d ran h.1.1.1)))
     lands_on (x ∷ xs) t p' p d' d ran (inr h) = inr (h.0, lands_on xs t p' p d' d ran h.1)
 
-    abbrev IsOther : Sought → Type 0
+    abbrev IsOther : SearchedArm → Type 0
     IsOther x = nat_eq v x.number ≡ false
 
-    lands_behind : (xs ys : List Sought) (t p : ℕ) (d : Data) → AllOf IsOther xs → Lands ys t p d → Lands (xs ++ ys) t p d
+    lands_behind : (xs ys : List SearchedArm) (t p : ℕ) (d : Data) → AllOf IsOther xs → Lands ys t p d → Lands (xs ++ ys) t p d
     lands_behind [] ys t p d none h = h
     lands_behind (x ∷ xs) ys t p d none h = inr (none.0, lands_behind xs ys t p d none.1 h)
 
-    none_here : (ys : List Sought) (t p : ℕ) (d : Data) → AllOf IsOther ys → Comes t p d → Lands ys t p d
+    none_here : (ys : List SearchedArm) (t p : ℕ) (d : Data) → AllOf IsOther ys → Comes t p d → Lands ys t p d
     none_here [] t p d none h = h
     none_here (y ∷ ys) t p d none h = inr (none.0, none_here ys t p d none.1 h)
 
-    lands_before : (xs ys : List Sought) (t p : ℕ) (d : Data) → AllOf IsOther ys → Lands xs t p d → Lands (xs ++ ys) t p d
+    lands_before : (xs ys : List SearchedArm) (t p : ℕ) (d : Data) → AllOf IsOther ys → Lands xs t p d → Lands (xs ++ ys) t p d
     lands_before [] ys t p d none h = none_here ys t p d none h
     lands_before (x ∷ xs) ys t p d none (inl h) = inl h
     lands_before (x ∷ xs) ys t p d none (inr h) = inr (h.0, lands_before xs ys t p d none h.1)
@@ -95,7 +95,7 @@ module _ (l : Program) (a : Assignment) (cells stack : ℕ) (lay : Layout) (item
         (must : (y : ℕ) (z : Word) → Must y z → (is_among y scope ≡ true) × (is_among y later ≡ true)) (incl : (y : ℕ) → is_among y (used_by word) ≡ true → is_among y (uses c0) ≡ true) (small : IsSmall word)
         (is_number : number_in l (words_at a) env word ≡ Some v) where
       -- the last test, or none
-      last_lands : (x : Sought) (alone : Bool) (p : ℕ) (d : Data) → Stands items p ((if alone then [] else test_items miss (source l a word) x.number) ++ x.block) → (alone ≡ true → nat_eq v x.number ≡ true) → x.number < 2 ^ 32
+      last_lands : (x : SearchedArm) (alone : Bool) (p : ℕ) (d : Data) → Stands items p ((if alone then [] else test_items miss (source l a word) x.number) ++ x.block) → (alone ≡ true → nat_eq v x.number ≡ true) → x.number < 2 ^ 32
           → Stood l a cells stack lay framed f j pf.slots d0 (lay.address m) (Needed c0 env Must) d w → Lands (x ∷ []) t p d
       last_lands x true p d stands same lt st =
           inl (same refl, (p, (stands, (d, (quiet lay items begins w w (stays lay items w.input (at (bases stack) lay items p d) (m ∷ outer)) refl refl refl refl refl, st)))))
@@ -107,7 +107,7 @@ module _ (l : Program) (a : Assignment) (cells stack : ℕ) (lay : Layout) (item
             | inr e ↦ inr (e, (T.far, (T.other (ap not e), T.stood_far')))
           ]
 
-      search : (low : ℕ) (high : Option ℕ) (all : List Sought) (b b' : ℕ) (xs : List Item) → Halves miss (source l a word) low high all b b' xs → (p : ℕ) (d : Data) → Stands items p xs → low ≤ v → Below v high → length l.procs ≤ b
+      search : (low : ℕ) (high : Option ℕ) (all : List SearchedArm) (b b' : ℕ) (xs : List Item) → Halves miss (source l a word) low high all b b' xs → (p : ℕ) (d : Data) → Stands items p xs → low ≤ v → IsBelowBound v high → length l.procs ≤ b
           → AllOf IsUp all → AllOf IsWord all → Stood l a cells stack lay framed f j pf.slots d0 (lay.address m) (Needed c0 env Must) d w → Lands all t p d
       search low high all b b' xs (one x is first next from below made) p d stands le lt above ups words st =
           subst (λ ys. Lands ys t p d) (sym is)
@@ -142,15 +142,15 @@ module _ (l : Program) (a : Assignment) (cells stack : ℕ) (lay : Layout) (item
 
   -- ---- the arms
 
-  module _ (to : List Spot) (way : Way) (Must : ℕ → Word → Type 0) (scope later : List ℕ) (env : Env) (top : ℕ) (under : Option ℕ) (w : World) where
+  module _ (to : List Spot) (way : Continuation) (Must : ℕ → Word → Type 0) (scope later : List ℕ) (env : Env) (top : ℕ) (under : Option ℕ) (w : World) where
     -- the blocks of arms are simulated, wherever they stand
     abbrev pub EachSimulates : Arms → Type 0
     EachSimulates (otherwise c) = (k k' : ℕ) (block : List Item) (p : ℕ) (d : Data) → Block l a cells stack lay items begins f q framed pf.slots j m outer d0 u n c to way Must k k' block p scope later env top under d w → Simulates l a cells stack lay items begins f q framed pf.slots j m outer d0 u n calls_n c to way Must p env top under d w
     EachSimulates (arm ts c as') =
-        ((k k' : ℕ) (block : List Item) (p : ℕ) (d : Data) → Block l a cells stack lay items begins f q framed pf.slots j m outer d0 u n c to (further way) Must k k' block p scope later env top under d w → Simulates l a cells stack lay items begins f q framed pf.slots j m outer d0 u n calls_n c to (further way) Must p env top under d w)
+        ((k k' : ℕ) (block : List Item) (p : ℕ) (d : Data) → Block l a cells stack lay items begins f q framed pf.slots j m outer d0 u n c to (continued_by_jump way) Must k k' block p scope later env top under d w → Simulates l a cells stack lay items begins f q framed pf.slots j m outer d0 u n calls_n c to (continued_by_jump way) Must p env top under d w)
         × EachSimulates as'
 
-    each_word : (word : Operand) (as' : Arms) (all : List Sought) (k k' : ℕ) (rest : List Item) → EmitsEach l a cells stack (words_at a f) (slots_of (place_of a) (variables q)) framed word to way as' all k k' rest → ArmsFine l a f pf.slots (slots_of (place_of a) (variables q)) scope as' later → AllOf IsWord all
+    each_word : (word : Operand) (as' : Arms) (all : List SearchedArm) (k k' : ℕ) (rest : List Item) → EmitsEach l a cells stack (words_at a f) (slots_of (place_of a) (variables q)) framed word to way as' all k k' rest → ArmsFine l a f pf.slots (slots_of (place_of a) (variables q)) scope as' later → AllOf IsWord all
     each_word word (otherwise c) all k k' rest h fine = subst (AllOf IsWord) (sym h.0) tt
     each_word word (arm ts c as') all k k' rest h fine = subst (AllOf IsWord) (sym h.2) ((subst TestsSmall h.3 fine.0).0.1, each_word word as' h.1 k k' rest h.5 fine.1.1)
 
@@ -169,7 +169,7 @@ module _ (l : Program) (a : Assignment) (cells stack : ℕ) (lay : Layout) (item
           by_same true e = ap Some e
           by_same false e = ap Some e
 
-      arms_done : (as' : Arms) (all : List Sought) (k k' : ℕ) (rest : List Item) → EmitsEach l a cells stack (words_at a f) (slots_of (place_of a) (variables q)) framed word to way as' all k k' rest → EachSimulates as' → Lands (choose as0) env Must w v all t p d
+      arms_done : (as' : Arms) (all : List SearchedArm) (k k' : ℕ) (rest : List Item) → EmitsEach l a cells stack (words_at a f) (slots_of (place_of a) (variables q)) framed word to way as' all k k' rest → EachSimulates as' → Lands (choose as0) env Must w v all t p d
           → Stands items (suc t) rest → Ready l a cells stack lay items begins way (suc t + length rest) → first_label l ≤ k → AllOf (StartsFrom (first_label l)) all → ArmsFine l a f pf.slots (slots_of (place_of a) (variables q)) scope as' later → Narrows (ArmsNeed l a cells stack lay items begins s calls_n n f q pf framed j m outer d0 u as' env Must)
           → Does' lay items begins (Given l a cells stack lay items framed f j pf.slots d0 m outer to way Must) (at (bases stack) lay items p d) (m ∷ outer) w (arms l (words_at a) (room l a cells stack lay items begins) calls_n env top under as' w)
       unfolding arms
@@ -202,7 +202,7 @@ module _ (l : Program) (a : Assignment) (cells stack : ℕ) (lay : Layout) (item
                 let come = here.1.1.1 in
                 by_holds (holds l (words_at a) env ts) true (tested ts h.0.number true h.3 here.0)
                 (does_after lay items begins (Given l a cells stack lay items framed f j pf.slots d0 m outer to way Must) (code l (words_at a) (room l a cells stack lay items begins) calls_n env top under c w) come.1.0
-                (does_map lay items begins (Given l a cells stack lay items framed f j pf.slots d0 m outer to (further way) Must) (Given l a cells stack lay items framed f j pf.slots d0 m outer to way Must) (at (bases stack) lay items here.1.0 come.0) (m ∷ outer) w
+                (does_map lay items begins (Given l a cells stack lay items framed f j pf.slots d0 m outer to (continued_by_jump way) Must) (Given l a cells stack lay items framed f j pf.slots d0 m outer to way Must) (at (bases stack) lay items here.1.0 come.0) (m ∷ outer) w
                 (code l (words_at a) (room l a cells stack lay items begins) calls_n env top under c w) (further_given l a cells stack lay items begins s calls_n n f q pf framed j m outer d0 u to way Must)
                 (done.0 h.0.first h.0.next h.0.block here.1.0 come.0 (record {
                   emits = h.4;
@@ -221,7 +221,7 @@ module _ (l : Program) (a : Assignment) (cells stack : ℕ) (lay : Layout) (item
                   base = b.base;
                   left = b.left;
                   top_is = b.top_is;
-                  under_is = λ y z. let is = b.under_is y z in (is.0, ap further is.1);
+                  under_is = λ y z. let is = b.under_is y z in (is.0, ap continued_by_jump is.1);
                 }))))
             | inr other ↦
                 by_holds (holds l (words_at a) env ts) false (tested ts h.0.number false h.3 other.0)

@@ -8,12 +8,12 @@ use Rattle.low_code.specs.Run.{limited, NeverMissing}
 use Rattle.register_alloc.specs.Assignment.{Assignment, words_at}
 use Rattle.rv32_items.specs.declared.Item.{Item}
 use Rattle.rv32_items.specs.Course.{Layout, Exited, course}
-use Rattle.rv32_items.specs.Placed.{Rises}
+use Rattle.rv32_items.specs.Placed.{AddressesRise}
 use Rattle.rv32_items.specs.Told.{ReturnsHome}
 use Rattle.rv32_select.specs.IsSelected.{IsSelected}
-use Rattle.rv32_select.specs.Laws.{SelectedItemsDo}
+use Rattle.rv32_select.specs.Laws.{SelectionRefines}
 use Rattle.rv32_select.specs.Selectable.{Selectable}
-use Rattle.rv32_select.specs.Selects.{BelowHeap, start_at, Follows, Arrives}
+use Rattle.rv32_select.specs.Selects.{BelowHeap, start_point, Follows, ReachesAnswer}
 use Rattle.rv32_select.proofs.Leaves.{Leaves, leaves_by}
 use Rattle.rv32_select.proofs.PlaceFacts.{Setting}
 use Rattle.rv32_select.proofs.WholeRun.{Started}
@@ -23,18 +23,18 @@ use Rattle.rv32_select.proofs.Statics.{begins, selected_statics}
 
 -- what is known of the courses of selected items, whatever their layout, where these are the labels of procedures
 pub record SelectedRuns (l : Program) (a : Assignment) (cells stack : ℕ) (items : List Item) (begins : List ℕ) : Type 0 where
-  pub follows : (lay : Layout) → Rises items lay → BelowHeap lay → (i : List ℕ) → IsBytes i → (k : ℕ) →
-      let c = course lay items k i (start_at l.width cells stack lay) in
+  pub follows : (lay : Layout) → AddressesRise items lay → BelowHeap lay → (i : List ℕ) → IsBytes i → (k : ℕ) →
+      let c = course lay items k i (start_point l.width cells stack lay) in
       Follows begins i (limited l (words_at a) cells stack i (length (procedures_at begins c.passed))) c
-  pub arrives : (lay : Layout) → Rises items lay → BelowHeap lay → (i : List ℕ) → IsBytes i → (n : ℕ) →
-      (k : ℕ) × Arrives begins i (limited l (words_at a) cells stack i n) (course lay items k i (start_at l.width cells stack lay))
-  pub home : (lay : Layout) → Rises items lay → BelowHeap lay → (i : List ℕ) → IsBytes i → (k : ℕ) →
-      ReturnsHome lay items k i (start_at l.width cells stack lay) []
-  pub leaves : (lay : Layout) → Rises items lay → BelowHeap lay → (i : List ℕ) → IsBytes i → (k : ℕ)
-      → (course lay items k i (start_at l.width cells stack lay)).end ≡ Exited 3 → Leaves lay items i (start_at l.width cells stack lay)
+  pub arrives : (lay : Layout) → AddressesRise items lay → BelowHeap lay → (i : List ℕ) → IsBytes i → (n : ℕ) →
+      (k : ℕ) × ReachesAnswer begins i (limited l (words_at a) cells stack i n) (course lay items k i (start_point l.width cells stack lay))
+  pub home : (lay : Layout) → AddressesRise items lay → BelowHeap lay → (i : List ℕ) → IsBytes i → (k : ℕ) →
+      ReturnsHome lay items k i (start_point l.width cells stack lay) []
+  pub leaves : (lay : Layout) → AddressesRise items lay → BelowHeap lay → (i : List ℕ) → IsBytes i → (k : ℕ)
+      → (course lay items k i (start_point l.width cells stack lay)).end ≡ Exited 3 → Leaves lay items i (start_point l.width cells stack lay)
 
 module _ (l : Program) (a : Assignment) (cells stack : ℕ) (items : List Item) (fine : Selectable l a cells stack) (s : IsSelected l a cells stack items) where
-  setting : (lay : Layout) → Rises items lay → BelowHeap lay → Setting l a cells stack lay items (begins (length l.procs))
+  setting : (lay : Layout) → AddressesRise items lay → BelowHeap lay → Setting l a cells stack lay items (begins (length l.procs))
   setting lay rises below = selected_setting l a cells stack items fine s lay rises below
 
   started : Started l a cells stack items
@@ -48,7 +48,7 @@ module _ (l : Program) (a : Assignment) (cells stack : ℕ) (items : List Item) 
     leaves = λ lay rises below i bytes k exited. selected_leaves l a cells stack lay items (begins (length l.procs)) (setting lay rises below) started there i bytes k exited;
   }
 
-pub selected_items_do : SelectedItemsDo
+pub selected_items_do : SelectionRefines
 selected_items_do l a cells stack items fine there s =
     let still = selected_statics l a cells stack items fine s in
     let runs = selected_runs l a cells stack items fine s there in
@@ -67,5 +67,5 @@ selected_items_do l a cells stack items fine there s =
       follows = runs.follows;
       arrives = runs.arrives;
       home = runs.home;
-      leaves = λ lay rises below i bytes k exited. leaves_by lay items still.flows.stops 3 k i (start_at l.width cells stack lay) still.last still.flows.all_stop exited (runs.leaves lay rises below i bytes k exited);
+      leaves = λ lay rises below i bytes k exited. leaves_by lay items still.flows.stops 3 k i (start_point l.width cells stack lay) still.last still.flows.all_stop exited (runs.leaves lay rises below i bytes k exited);
     }

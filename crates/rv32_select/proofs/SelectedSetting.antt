@@ -5,17 +5,18 @@ use Rattle.std.specs.List.{range_with_len}
 use Rattle.std.proofs.lemmas.Bool.Decides.{nat_tests}
 use Rattle.rv32_steps.specs.Trace.{procedure_from}
 use Rattle.low_code.specs.Tree.{Procedure, Program}
-use Rattle.low_code.specs.Formed.{variables, Starts}
+use Rattle.low_code.specs.Formed.{variables, IsStartWellFormed}
 use Rattle.low_code.specs.Literals.{Small, AllSmall}
 use Rattle.register_alloc.specs.Assignment.{Assignment, place_of, words_at}
 use Rattle.register_alloc.specs.Fits.{slots_of}
 use Rattle.rv32_items.specs.declared.Item.{Item}
 use Rattle.rv32_items.specs.declared.Item.TheVariants.{Jump}
 use Rattle.rv32_items.specs.Course.{Layout}
-use Rattle.rv32_items.specs.Placed.{Rises}
-use Rattle.rv32_select.specs.declared.source.Way.TheVariants.{Returns}
+use Rattle.rv32_items.specs.Placed.{AddressesRise}
+use Rattle.rv32_select.specs.declared.source.Continuation.TheVariants.{Returns}
 use Rattle.rv32_select.specs.Emit.{plain, number_moves, result_spots, start_items, exit_with, stop_items, base_at_start}
-use Rattle.rv32_select.specs.IsSelected.{heap_base, stack_end, heap_end, step, heap_full, no_alternative, first_label, params_of, sources, start_argument, EmitsProcedures, first_call, IsSelected, is_lasting}
+use Rattle.rv32_select.specs.IsSelected.{heap_end, step, heap_full, no_alternative, first_label, params_of, sources, start_argument, EmitsProcedures, first_call, IsSelected, is_lasting}
+use Rattle.limits.specs.Limits.{heap_start, stack_end}
 use Rattle.rv32_select.specs.Selectable.{Selectable}
 use Rattle.rv32_select.specs.Selects.{BelowHeap}
 use Rattle.rv32_select.proofs.Courses.{Stands, front, back}
@@ -94,7 +95,7 @@ module _ (l : Program) (a : Assignment) (cells stack : ℕ) (items : List Item) 
 
 module _ (l : Program) (a : Assignment) (cells stack : ℕ) (items : List Item) (fine : Selectable l a cells stack) (s : IsSelected l a cells stack items) where
   abbrev start_piece : List Item
-  start_piece = start_items stack_end heap_base (heap_end l cells) (step l) (heap_full l) l.globals ++ first_call l a (stack_end - stack)
+  start_piece = start_items stack_end heap_start (heap_end l cells) (step l) (heap_full l) l.globals ++ first_call l a (stack_end - stack)
 
   abbrev stops_piece : List Item
   stops_piece = stop_items (no_alternative l)
@@ -119,7 +120,7 @@ module _ (l : Program) (a : Assignment) (cells stack : ℕ) (items : List Item) 
       let two = length-append s.procedures stops_piece in
       omega arith
 
-  pub selected_setting : (lay : Layout) → Rises items lay → BelowHeap lay → Setting l a cells stack lay items (begins (length l.procs))
+  pub selected_setting : (lay : Layout) → AddressesRise items lay → BelowHeap lay → Setting l a cells stack lay items (begins (length l.procs))
   selected_setting lay rises below = record {
     width_some = fine.width.0;
     width_small = fine.width.1;
@@ -142,19 +143,19 @@ module _ (l : Program) (a : Assignment) (cells stack : ℕ) (items : List Item) 
     last = all_items;
   }
 
-  selected_started : (o : Option Procedure) → slice_get l.procs l.start ≡ o → Starts l o l.argument → Started l a cells stack items
+  selected_started : (o : Option Procedure) → slice_get l.procs l.start ≡ o → IsStartWellFormed l o l.argument → Started l a cells stack items
   selected_started None e h = absurd h
   selected_started (Some q) e h = record {
     start = q;
     is_start = e;
-    stands = subst (λ (o : Option Procedure). Stands items 0 (start_items stack_end heap_base (heap_end l cells) (step l) (heap_full l) l.globals
+    stands = subst (λ (o : Option Procedure). Stands items 0 (start_items stack_end heap_start (heap_end l cells) (step l) (heap_full l) l.globals
         ++ (plain (number_moves (params_of a o) (sources l a (start_argument l.argument)) ++ base_at_start (is_lasting a) (stack_end - stack)) ++ Jump 1 l.start ∷ exit_with 0))) e start_stands;
     argument = λ i is. global l.argument i is h;
     tags = fine.formed.literals.tags;
     few = fine.globals;
   }
     where
-      global : (o : Option ℕ) (i : ℕ) → o ≡ Some i → Starts l (Some q) o → i < length l.globals
+      global : (o : Option ℕ) (i : ℕ) → o ≡ Some i → IsStartWellFormed l (Some q) o → i < length l.globals
       global None i is h = absurd (cc)
       global (Some k) i is h = let same : k ≡ i = cc in subst (λ n. n < length l.globals) same h.1
 

@@ -7,7 +7,7 @@ use Rattle.seq.proofs.Lists.{is_empty, drop_past}
 use Rattle.parallel_move.specs.declared.Spot.{Spot}
 use Rattle.parallel_move.specs.declared.Spot.TheVariants.{Reg}
 use Rattle.parallel_move.specs.declared.Move.{Move}
-use Rattle.parallel_move.specs.Moves.{same, is_target, DistinctTargets, NoScratch, DoesAtOnce, ends, StaysAmong, AllEnds}
+use Rattle.parallel_move.specs.Moves.{same, is_target, DistinctTargets, NoScratch, MovesInParallel, ends, UsesOnlyMoveSpots, AllMoveEnds}
 use Rattle.low_code.specs.declared.program.Operand.{Operand}
 use Rattle.low_code.specs.declared.program.Operand.TheVariants.{Var, Num, Cell}
 use Rattle.low_code.specs.declared.program.LowProc.{LowProc}
@@ -19,8 +19,8 @@ use Rattle.rv32_select.specs.declared.source.Source.{Source}
 use Rattle.rv32_select.specs.declared.source.Source.TheVariants.{At, Number}
 use Rattle.rv32_select.specs.Emit.{plain, moves_code, spot_moves, number_moves, result_spots, argument_spots}
 use Rattle.rv32_select.specs.IsSelected.{moves_between, sources, argument_spots_of, params_of}
-use Rattle.rv32_select.specs.Emitting.{Moved, Sent}
-use Rattle.rv32_select.specs.Ranges.{in_range, AllInRange, AreSpots, AreSources, is_spot_in, Different, AreTargets}
+use Rattle.rv32_select.specs.Emitting.{EmitsMoves, EmitsParallelMoves}
+use Rattle.rv32_select.specs.Ranges.{in_range, AllInRange, AreSpots, AreSources, is_spot_in, AllSpotsDiffer, AreTargets}
 use Rattle.rv32_select.specs.Writable.{Writable, OperandsPlaced, HavePlaces, TargetsPlaced}
 use Rattle.rv32_select.proofs.Plain.{plain_append}
 
@@ -37,7 +37,7 @@ not_sent s (t ∷ to) (Number n ∷ from) h = elim (two_ways (same s t)) [
   | inr e ↦ not_sent s to from (ap (λ b. b || is_spot_in s to) (sym e) ∙ h)
 ]
 
-sent_apart : (to : List Spot) (from : List Source) → Different to → DistinctTargets (spot_moves to from)
+sent_apart : (to : List Spot) (from : List Source) → AllSpotsDiffer to → DistinctTargets (spot_moves to from)
 sent_apart [] from d = tt
 sent_apart (t ∷ to) [] d = tt
 sent_apart (t ∷ to) (At u ∷ from) d = (not_sent t to from d.0, sent_apart to from d.1)
@@ -49,7 +49,7 @@ sent_clean (t ∷ to) [] h k = tt
 sent_clean (t ∷ to) (At u ∷ from) h k = (h.0.1, k.0.1, sent_clean to from h.1 k.1)
 sent_clean (t ∷ to) (Number n ∷ from) h k = sent_clean to from h.1 k.1
 
-sent_in_range : (to : List Spot) (from : List Source) → AreSpots to → AreSources from → AllEnds in_range (spot_moves to from)
+sent_in_range : (to : List Spot) (from : List Source) → AreSpots to → AreSources from → AllMoveEnds in_range (spot_moves to from)
 sent_in_range [] from h k = tt
 sent_in_range (t ∷ to) [] h k = tt
 sent_in_range (t ∷ to) (At u ∷ from) h k = (h.0.0, k.0.0, sent_in_range to from h.1 k.1)
@@ -64,7 +64,7 @@ not_between s (t ∷ to) (u ∷ from) h = elim (two_ways (same s t)) [
   | inr e ↦ ap (λ b. b || is_target s (moves_between to from)) e ∙ not_between s to from (ap (λ b. b || is_spot_in s to) (sym e) ∙ h)
 ]
 
-between_apart : (to from : List Spot) → Different to → DistinctTargets (moves_between to from)
+between_apart : (to from : List Spot) → AllSpotsDiffer to → DistinctTargets (moves_between to from)
 between_apart [] from d = tt
 between_apart (t ∷ to) [] d = tt
 between_apart (t ∷ to) (u ∷ from) d = (not_between t to from d.0, between_apart to from d.1)
@@ -74,7 +74,7 @@ between_clean [] from h k = tt
 between_clean (t ∷ to) [] h k = tt
 between_clean (t ∷ to) (u ∷ from) h k = (h.0.1, k.0.1, between_clean to from h.1 k.1)
 
-between_in_range : (to from : List Spot) → AreSpots to → AreSpots from → AllEnds in_range (moves_between to from)
+between_in_range : (to from : List Spot) → AreSpots to → AreSpots from → AllMoveEnds in_range (moves_between to from)
 between_in_range [] from h k = tt
 between_in_range (t ∷ to) [] h k = tt
 between_in_range (t ∷ to) (u ∷ from) h k = (h.0.0, k.0.0, between_in_range to from h.1 k.1)
@@ -86,7 +86,7 @@ sent_targets moves to from e h = rw e (sent_apart to from h.different)
 pub sent_no_scratch : (moves : List Move) (to : List Spot) (from : List Source) → moves ≡ spot_moves to from → AreTargets to → AreSources from → NoScratch moves
 sent_no_scratch moves to from e h k = rw e (sent_clean to from h.spots k)
 
-pub sent_ranges : (moves : List Move) (to : List Spot) (from : List Source) → moves ≡ spot_moves to from → AreTargets to → AreSources from → AllEnds in_range moves
+pub sent_ranges : (moves : List Move) (to : List Spot) (from : List Source) → moves ≡ spot_moves to from → AreTargets to → AreSources from → AllMoveEnds in_range moves
 sent_ranges moves to from e h k = rw e (sent_in_range to from h.spots k)
 
 pub between_targets : (moves : List Move) (to from : List Spot) → moves ≡ moves_between to from → AreTargets to → DistinctTargets moves
@@ -95,7 +95,7 @@ between_targets moves to from e h = rw e (between_apart to from h.different)
 pub between_no_scratch : (moves : List Move) (to from : List Spot) → moves ≡ moves_between to from → AreTargets to → AreSpots from → NoScratch moves
 between_no_scratch moves to from e h k = rw e (between_clean to from h.spots k)
 
-pub between_ranges : (moves : List Move) (to from : List Spot) → moves ≡ moves_between to from → AreTargets to → AreSpots from → AllEnds in_range moves
+pub between_ranges : (moves : List Move) (to from : List Spot) → moves ≡ moves_between to from → AreTargets to → AreSpots from → AllMoveEnds in_range moves
 between_ranges moves to from e h k = rw e (between_in_range to from h.spots k)
 
 pub spots_in_range : (ss : List Spot) → AreSpots ss → AllInRange ss
@@ -106,13 +106,13 @@ pub targets_in_range : (ss : List Spot) → AreTargets ss → AllInRange ss
 targets_in_range ss h = spots_in_range ss h.spots
 
 -- what the steps do
-pub steps_in_range : (steps moves : List Move) → StaysAmong steps moves → AllEnds in_range moves → AllEnds in_range steps
+pub steps_in_range : (steps moves : List Move) → UsesOnlyMoveSpots steps moves → AllMoveEnds in_range moves → AllMoveEnds in_range steps
 steps_in_range steps moves h k = h.stays in_range refl k
 
-pub moved_by : (steps moves : List Move) (old new : List Item) → DoesAtOnce steps moves → ends steps ≤ 2 * length moves → StaysAmong steps moves → new ≡ old ++ plain (moves_code steps) → Moved moves old new
+pub moved_by : (steps moves : List Move) (old new : List Item) → MovesInParallel steps moves → ends steps ≤ 2 * length moves → UsesOnlyMoveSpots steps moves → new ≡ old ++ plain (moves_code steps) → EmitsMoves moves old new
 moved_by steps moves old new once few among is = record { steps = steps; order = record { once = once; few = few; among = among }; is = is }
 
-pub sent_by : (moves : List Move) (to : List Spot) (from : List Source) (old mid new : List Item) → moves ≡ spot_moves to from → Moved moves old mid → new ≡ mid ++ plain (number_moves to from) → Sent to from old new
+pub sent_by : (moves : List Move) (to : List Spot) (from : List Source) (old mid new : List Item) → moves ≡ spot_moves to from → EmitsMoves moves old mid → new ≡ mid ++ plain (number_moves to from) → EmitsParallelMoves to from old new
 sent_by moves to from old mid new e m is =
     let n = number_moves to from in
     record {
@@ -121,7 +121,7 @@ sent_by moves to from old mid new e m is =
       is = is ∙ ap (λ x. x ++ plain n) m.is ∙ append_assoc old (plain (moves_code m.steps)) (plain n) ∙ ap (λ x. old ++ x) (sym (plain_append (moves_code m.steps) n));
     }
 
-pub between_by : (moves : List Move) (to from : List Spot) (old new : List Item) → moves ≡ moves_between to from → Moved moves old new → Moved (moves_between to from) old new
+pub between_by : (moves : List Move) (to from : List Spot) (old new : List Item) → moves ≡ moves_between to from → EmitsMoves moves old new → EmitsMoves (moves_between to from) old new
 between_by moves to from old new e m = rw (sym e) m
 
 -- where no spot or no word is left
@@ -179,7 +179,7 @@ module _ (l : Program) (a : Assignment) where
 pub targets_of : (l : Program) (a : Assignment) (xs : List ℕ) (made spots : List Spot) → spots ≡ made → (made ≡ map (place_of a) xs) × AreSpots made → TargetsPlaced l a xs → AreTargets spots
 targets_of l a xs made spots e h t = record {
   spots = subst AreSpots (sym e) h.1;
-  different = subst Different (sym (e ∙ h.0)) t.1;
+  different = subst AllSpotsDiffer (sym (e ∙ h.0)) t.1;
 }
 
 pub results_pushed : (made pushed : List Spot) (r i n : ℕ) → i < n → made ++ result_spots (r + i) (n - i) ≡ result_spots r n → pushed ≡ made ++ Reg (r + i) ∷ []

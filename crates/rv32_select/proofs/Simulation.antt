@@ -13,11 +13,11 @@ use Rattle.register_alloc.specs.Fits.{slots_of}
 use Rattle.rv32_items.specs.declared.Item.{Item}
 use Rattle.rv32_items.specs.declared.Item.TheVariants.{Label}
 use Rattle.rv32_items.specs.Course.{Layout, address_from}
-use Rattle.rv32_select.specs.declared.source.Way.{Way}
-use Rattle.rv32_select.specs.declared.source.Way.TheVariants.{Returns, Follows}
+use Rattle.rv32_select.specs.declared.source.Continuation.{Continuation}
+use Rattle.rv32_select.specs.declared.source.Continuation.TheVariants.{Returns, Follows}
 use Rattle.rv32_select.specs.Emit.{plain, prim_code, branch_items, result_spots, match_items}
 use Rattle.rv32_select.specs.Decides.{decides, tested, condition, other_condition}
-use Rattle.rv32_select.specs.IsSelected.{further, source, tests_items, stands_last, Then, Emits, EmitsArms, EmitsLast, EmitsDecided, EmitsDecidedFirst, EmitsDecidedLast}
+use Rattle.rv32_select.specs.IsSelected.{continued_by_jump, source, tests_items, first_arm_goes_last, Then, Emits, EmitsArms, EmitsLast, EmitsDecided, EmitsDecidedFirst, EmitsDecidedLast}
 use Rattle.rv32_select.proofs.Straight.{Data, at}
 use Rattle.rv32_select.proofs.Relation.{bases, Back, Needed}
 use Rattle.rv32_select.proofs.PlaceFacts.{ProcedureFine, Setting}
@@ -45,7 +45,7 @@ whichever_so T F false f g h = g h
 module _ (l : Program) (a : Assignment) (cells stack : ℕ) (lay : Layout) (items : List Item) (begins : List ℕ) (s : Setting l a cells stack lay items begins) (calls_n : Calls) (n : ℕ) (called : CallsSimulated l a cells stack lay items begins calls_n n)
     (f : ℕ) (q : Procedure) (pf : ProcedureFine l a f q) (framed : Bool) (j m : ℕ) (outer : List ℕ) (d0 : Data) (u : ℕ) (found : address_from 0 items lay (lay.address m) ≡ Some m) (total : 4 * (j + (1 + pf.slots) + u) ≡ stack) where
   mutual
-    pub simulate : (c : Code) (to : List Spot) (way : Way) (Must : ℕ → Word → Type 0) (k k' : ℕ) (block : List Item) (p : ℕ) (scope later : List ℕ) (env : Env) (top : ℕ) (under : Option ℕ) (d : Data) (w : World)
+    pub simulate : (c : Code) (to : List Spot) (way : Continuation) (Must : ℕ → Word → Type 0) (k k' : ℕ) (block : List Item) (p : ℕ) (scope later : List ℕ) (env : Env) (top : ℕ) (under : Option ℕ) (d : Data) (w : World)
         → Block l a cells stack lay items begins f q framed pf.slots j m outer d0 u n c to way Must k k' block p scope later env top under d w
         → Simulates l a cells stack lay items begins f q framed pf.slots j m outer d0 u n calls_n c to way Must p env top under d w
     simulate (set x o c) to way Must k k' block p scope later env top under d w b =
@@ -90,7 +90,7 @@ module _ (l : Program) (a : Assignment) (cells stack : ℕ) (lay : Layout) (item
               searched l a cells stack lay items begins s calls_n n f q pf framed j m outer d0 u to way Must scope later env top under w as' k k' block p d b h
               (simulate_each as' to way Must scope later env top under w)
           | inr h ↦
-              whichever (EmitsLast l a cells stack (words_at a f) (slots_of (place_of a) (variables q)) framed to way as' k k' block) (EmitsArms l a cells stack (words_at a f) (slots_of (place_of a) (variables q)) framed to way as' k k' block) (stands_last way as')
+              whichever (EmitsLast l a cells stack (words_at a f) (slots_of (place_of a) (variables q)) framed to way as' k k' block) (EmitsArms l a cells stack (words_at a f) (slots_of (place_of a) (variables q)) framed to way as' k k' block) (first_arm_goes_last way as')
               (λ h. simulate_last as' to way Must k k' block p scope later env top under d w b h)
               (λ h.
               simulate_arms as' to way Must k k' block p scope later env top under d w
@@ -100,7 +100,7 @@ module _ (l : Program) (a : Assignment) (cells stack : ℕ) (lay : Layout) (item
     simulate fail to way Must k k' block p scope later env top under d w b =
         fail_simulated l a cells stack lay items begins s calls_n n f q pf framed j m outer d0 u to way Must k k' block p scope later env top under d w b
 
-    pub simulate_arms : (as' : Arms) (to : List Spot) (way : Way) (Must : ℕ → Word → Type 0) (k k' : ℕ) (block : List Item) (p : ℕ) (scope later : List ℕ) (env : Env) (top : ℕ) (under : Option ℕ) (d : Data) (w : World)
+    pub simulate_arms : (as' : Arms) (to : List Spot) (way : Continuation) (Must : ℕ → Word → Type 0) (k k' : ℕ) (block : List Item) (p : ℕ) (scope later : List ℕ) (env : Env) (top : ℕ) (under : Option ℕ) (d : Data) (w : World)
         → ArmsBlock l a cells stack lay items begins s calls_n n f q pf framed j m outer d0 u as' to way Must k k' block p scope later env top under d w
         → ArmsSimulates l a cells stack lay items begins s calls_n n f q pf framed j m outer d0 u as' to way Must p env top under d w
     simulate_arms (otherwise c) to way Must k k' block p scope later env top under d w b =
@@ -109,16 +109,16 @@ module _ (l : Program) (a : Assignment) (cells stack : ℕ) (lay : Layout) (item
     simulate_arms (arm ts c as') to way Must k k' block p scope later env top under d w b =
         let h = b.emits in
         arm_simulated l a cells stack lay items begins s calls_n n f q pf framed j m outer d0 u ts c as' to way Must k k' block p scope later env top under d w b h
-        (λ d' b'. simulate c to (further way) Must (suc k) h.0 h.1 (p + length (tests_items l a k ts)) scope later env top under d' w b')
+        (λ d' b'. simulate c to (continued_by_jump way) Must (suc k) h.0 h.1 (p + length (tests_items l a k ts)) scope later env top under d' w b')
         (λ d' b'. simulate_arms as' to way Must h.0 k' h.3.0 (p + length (tests_items l a k ts ++ (h.1 ++ Label k ∷ []))) scope later env top under d' w b')
 
-    simulate_each : (as' : Arms) (to : List Spot) (way : Way) (Must : ℕ → Word → Type 0) (scope later : List ℕ) (env : Env) (top : ℕ) (under : Option ℕ) (w : World)
+    simulate_each : (as' : Arms) (to : List Spot) (way : Continuation) (Must : ℕ → Word → Type 0) (scope later : List ℕ) (env : Env) (top : ℕ) (under : Option ℕ) (w : World)
         → EachSimulates l a cells stack lay items begins s calls_n n f q pf framed j m outer d0 u to way Must scope later env top under w as'
     simulate_each (otherwise c) to way Must scope later env top under w = λ k k' block p d b. simulate c to way Must k k' block p scope later env top under d w b
     simulate_each (arm ts c as') to way Must scope later env top under w =
-        ((λ k k' block p d b. simulate c to (further way) Must k k' block p scope later env top under d w b), simulate_each as' to way Must scope later env top under w)
+        ((λ k k' block p d b. simulate c to (continued_by_jump way) Must k k' block p scope later env top under d w b), simulate_each as' to way Must scope later env top under w)
 
-    pub simulate_last : (as' : Arms) (to : List Spot) (way : Way) (Must : ℕ → Word → Type 0) (k k' : ℕ) (block : List Item) (p : ℕ) (scope later : List ℕ) (env : Env) (top : ℕ) (under : Option ℕ) (d : Data) (w : World)
+    pub simulate_last : (as' : Arms) (to : List Spot) (way : Continuation) (Must : ℕ → Word → Type 0) (k k' : ℕ) (block : List Item) (p : ℕ) (scope later : List ℕ) (env : Env) (top : ℕ) (under : Option ℕ) (d : Data) (w : World)
         → Block l a cells stack lay items begins f q framed pf.slots j m outer d0 u n (choose as') to way Must k k' block p scope later env top under d w
         → EmitsLast l a cells stack (words_at a f) (slots_of (place_of a) (variables q)) framed to way as' k k' block
         → ArmsSimulates l a cells stack lay items begins s calls_n n f q pf framed j m outer d0 u as' to way Must p env top under d w
@@ -127,15 +127,15 @@ module _ (l : Program) (a : Assignment) (cells stack : ℕ) (lay : Layout) (item
         let test = match_items k (source l a h.0.left) h.0.right in
         turned_arm l a cells stack lay items begins s calls_n n f q pf framed j m outer d0 u ts h.0 c as' to way Must k k' block p scope later env top under d w h.1 b (h.2, h.3, h.4, h.5)
         (λ d' b'. simulate c to way Must h.2 k' h.5.0 (p + length (test ++ (h.3 ++ Label k ∷ []))) scope later env top under d' w b')
-        (λ d' b'. simulate_arms as' to (further way) Must (suc k) h.2 h.3 (p + length test) scope later env top under d' w b')
+        (λ d' b'. simulate_arms as' to (continued_by_jump way) Must (suc k) h.2 h.3 (p + length test) scope later env top under d' w b')
 
     -- a comparison that decides the choice right behind it
-    pub simulate_decided : (c : Code) (g : PrimOp) (x : ℕ) (o o' : Operand) (to : List Spot) (way : Way) (Must : ℕ → Word → Type 0) (k k' : ℕ) (block : List Item) (p : ℕ) (scope later : List ℕ) (env : Env) (top : ℕ) (under : Option ℕ) (d : Data) (w : World)
+    pub simulate_decided : (c : Code) (g : PrimOp) (x : ℕ) (o o' : Operand) (to : List Spot) (way : Continuation) (Must : ℕ → Word → Type 0) (k k' : ℕ) (block : List Item) (p : ℕ) (scope later : List ℕ) (env : Env) (top : ℕ) (under : Option ℕ) (d : Data) (w : World)
         → Block l a cells stack lay items begins f q framed pf.slots j m outer d0 u n (prim g x o o' c) to way Must k k' block p scope later env top under d w → decides g x c ≡ true
         → EmitsDecided l a cells stack (words_at a f) (slots_of (place_of a) (variables q)) framed g (source l a o) (source l a o') to way c k k' block
         → Simulates l a cells stack lay items begins f q framed pf.slots j m outer d0 u n calls_n (prim g x o o' c) to way Must p env top under d w
     simulate_decided (choose as') g x o o' to way Must k k' block p scope later env top under d w b is h =
-        whichever (EmitsDecidedLast l a cells stack (words_at a f) (slots_of (place_of a) (variables q)) framed g (source l a o) (source l a o') to way as' k k' block) (EmitsDecidedFirst l a cells stack (words_at a f) (slots_of (place_of a) (variables q)) framed g (source l a o) (source l a o') to way as' k k' block) (stands_last way as')
+        whichever (EmitsDecidedLast l a cells stack (words_at a f) (slots_of (place_of a) (variables q)) framed g (source l a o) (source l a o') to way as' k k' block) (EmitsDecidedFirst l a cells stack (words_at a f) (slots_of (place_of a) (variables q)) framed g (source l a o) (source l a o') to way as' k k' block) (first_arm_goes_last way as')
         (λ z. simulate_decided_last as' g x o o' to way Must k k' block p scope later env top under d w b is z)
         (λ z. simulate_decided_first as' g x o o' to way Must k k' block p scope later env top under d w b is z) h
     simulate_decided (set y r c) g x o o' to way Must k k' block p scope later env top under d w b is h = absurd h
@@ -151,24 +151,24 @@ module _ (l : Program) (a : Assignment) (cells stack : ℕ) (lay : Layout) (item
     simulate_decided (tail y site os) g x o o' to way Must k k' block p scope later env top under d w b is h = absurd h
     simulate_decided fail g x o o' to way Must k k' block p scope later env top under d w b is h = absurd h
 
-    pub simulate_decided_first : (as' : Arms) (g : PrimOp) (x : ℕ) (o o' : Operand) (to : List Spot) (way : Way) (Must : ℕ → Word → Type 0) (k k' : ℕ) (block : List Item) (p : ℕ) (scope later : List ℕ) (env : Env) (top : ℕ) (under : Option ℕ) (d : Data) (w : World)
+    pub simulate_decided_first : (as' : Arms) (g : PrimOp) (x : ℕ) (o o' : Operand) (to : List Spot) (way : Continuation) (Must : ℕ → Word → Type 0) (k k' : ℕ) (block : List Item) (p : ℕ) (scope later : List ℕ) (env : Env) (top : ℕ) (under : Option ℕ) (d : Data) (w : World)
         → Block l a cells stack lay items begins f q framed pf.slots j m outer d0 u n (prim g x o o' (choose as')) to way Must k k' block p scope later env top under d w → decides g x (choose as') ≡ true
         → EmitsDecidedFirst l a cells stack (words_at a f) (slots_of (place_of a) (variables q)) framed g (source l a o) (source l a o') to way as' k k' block
         → Simulates l a cells stack lay items begins f q framed pf.slots j m outer d0 u n calls_n (prim g x o o' (choose as')) to way Must p env top under d w
     simulate_decided_first (otherwise c) g x o o' to way Must k k' block p scope later env top under d w b is h = absurd h
     simulate_decided_first (arm ts c as') g x o o' to way Must k k' block p scope later env top under d w b is h =
         decided_first l a cells stack lay items begins s calls_n n f q pf framed j m outer d0 u g x o o' ts c as' to way Must k k' block p scope later env top under d w b (decided g x ts c as' is) h
-        (λ v d' b'. simulate c to (further way) Must (suc k) h.0 h.1 (p + length (branch_items (other_condition g (tested ts)) k (source l a o) (source l a o'))) (x ∷ scope) later (with_var x v env) top under d' w b')
+        (λ v d' b'. simulate c to (continued_by_jump way) Must (suc k) h.0 h.1 (p + length (branch_items (other_condition g (tested ts)) k (source l a o) (source l a o'))) (x ∷ scope) later (with_var x v env) top under d' w b')
         (λ v d' b'. simulate_arms as' to way Must h.0 k' h.3.0 (p + length (branch_items (other_condition g (tested ts)) k (source l a o) (source l a o') ++ (h.1 ++ Label k ∷ []))) (x ∷ scope) later (with_var x v env) top under d' w b')
 
-    pub simulate_decided_last : (as' : Arms) (g : PrimOp) (x : ℕ) (o o' : Operand) (to : List Spot) (way : Way) (Must : ℕ → Word → Type 0) (k k' : ℕ) (block : List Item) (p : ℕ) (scope later : List ℕ) (env : Env) (top : ℕ) (under : Option ℕ) (d : Data) (w : World)
+    pub simulate_decided_last : (as' : Arms) (g : PrimOp) (x : ℕ) (o o' : Operand) (to : List Spot) (way : Continuation) (Must : ℕ → Word → Type 0) (k k' : ℕ) (block : List Item) (p : ℕ) (scope later : List ℕ) (env : Env) (top : ℕ) (under : Option ℕ) (d : Data) (w : World)
         → Block l a cells stack lay items begins f q framed pf.slots j m outer d0 u n (prim g x o o' (choose as')) to way Must k k' block p scope later env top under d w → decides g x (choose as') ≡ true
         → EmitsDecidedLast l a cells stack (words_at a f) (slots_of (place_of a) (variables q)) framed g (source l a o) (source l a o') to way as' k k' block
         → Simulates l a cells stack lay items begins f q framed pf.slots j m outer d0 u n calls_n (prim g x o o' (choose as')) to way Must p env top under d w
     simulate_decided_last (otherwise c) g x o o' to way Must k k' block p scope later env top under d w b is h = absurd h
     simulate_decided_last (arm ts c as') g x o o' to way Must k k' block p scope later env top under d w b is h =
         decided_last l a cells stack lay items begins s calls_n n f q pf framed j m outer d0 u g x o o' ts c as' to way Must k k' block p scope later env top under d w b (decided g x ts c as' is) h
-        (λ v d' b'. simulate_arms as' to (further way) Must (suc k) h.0 h.1 (p + length (branch_items (condition g (tested ts)) k (source l a o) (source l a o'))) (x ∷ scope) later (with_var x v env) top under d' w b')
+        (λ v d' b'. simulate_arms as' to (continued_by_jump way) Must (suc k) h.0 h.1 (p + length (branch_items (condition g (tested ts)) k (source l a o) (source l a o'))) (x ∷ scope) later (with_var x v env) top under d' w b')
         (λ v d' b'. simulate c to way Must h.0 k' h.3.0 (p + length (branch_items (condition g (tested ts)) k (source l a o) (source l a o') ++ (h.1 ++ Label k ∷ []))) (x ∷ scope) later (with_var x v env) top under d' w b')
 
 module _ (l : Program) (a : Assignment) (cells stack : ℕ) (lay : Layout) (items : List Item) (begins : List ℕ) (s : Setting l a cells stack lay items begins) where

@@ -8,7 +8,7 @@ use Rattle.low_code.specs.declared.program.PrimOp.TheVariants.{Add, Sub, Mul, Qu
 use Rattle.parallel_move.specs.declared.Spot.{Spot}
 use Rattle.parallel_move.specs.declared.Spot.TheVariants.{Reg, Slot, Scratch}
 use Rattle.parallel_move.specs.declared.Move.{Move}
-use Rattle.parallel_move.specs.Moves.{counted, ends}
+use Rattle.parallel_move.specs.Moves.{spot_cost, ends}
 use Rattle.rv32_select.specs.declared.source.Source.{Source}
 use Rattle.rv32_select.specs.declared.source.Source.TheVariants.{At, Number}
 use Rattle.rv32_select.specs.Emit.{link_put, is_short, load_constant, add_to, copy, reach, load_slot, store_slot, move_to, moves_code, keep, held, hold, number_into, spot_moves, number_moves, set_code, operation, is_immediate, immediate, operands_held, operate_on, is_free, operate_in_order, target, prim_code, high_part, load_code, save_code, is_offset, go_on, next_offset, cells_code, cells_below, aside, back, call_code, put_code, byte_given, get_code, parameters_code, leave_code, save_moves, restore_moves, globals_code, base_at_entry, base_at_start}
@@ -84,7 +84,7 @@ load_piece r k = piece_append 2 1 (reach k) _ (reach_piece k) (piece_one _ tt)
 pub store_piece : (k r : ℕ) → Piece 3 (store_slot k r)
 store_piece k r = piece_append 2 1 (reach k) _ (reach_piece k) (piece_one _ tt)
 
-pub move_piece : (to from : Spot) → Piece (3 * (counted to + counted from)) (move_to to from)
+pub move_piece : (to from : Spot) → Piece (3 * (spot_cost to + spot_cost from)) (move_to to from)
 move_piece (Reg r) (Reg q) = piece_more 1 6 _ (omega arith) (copy_piece r q)
 move_piece (Reg r) (Slot k) = piece_more 3 6 _ (omega arith) (load_piece r k)
 move_piece (Reg r) Scratch = piece_more 1 3 _ (omega arith) (copy_piece r 5)
@@ -98,8 +98,8 @@ move_piece Scratch Scratch = piece_nil 0
 pub moves_piece : (ms : List Move) → Piece (3 * ends ms) (moves_code ms)
 moves_piece [] = piece_nil 0
 moves_piece (m ∷ ms) =
-    piece_more (3 * (counted m.to + counted m.from) + 3 * ends ms) (3 * ends (m ∷ ms)) _ (omega arith)
-    (piece_append (3 * (counted m.to + counted m.from)) (3 * ends ms) (move_to m.to m.from) (moves_code ms) (move_piece m.to m.from) (moves_piece ms))
+    piece_more (3 * (spot_cost m.to + spot_cost m.from) + 3 * ends ms) (3 * ends (m ∷ ms)) _ (omega arith)
+    (piece_append (3 * (spot_cost m.to + spot_cost m.from)) (3 * ends ms) (move_to m.to m.from) (moves_code ms) (move_piece m.to m.from) (moves_piece ms))
 
 pub keep_piece : (r : ℕ) (s : Spot) → Piece 3 (keep r s)
 keep_piece r (Reg q) = piece_nil 3

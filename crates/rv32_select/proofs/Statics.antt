@@ -8,15 +8,15 @@ use Rattle.std.proofs.lemmas.List.FromFn.{length-range_with_len}
 use Rattle.std.proofs.lemmas.Bool.Decides.{nat_tests}
 use Rattle.std.proofs.lemmas.Option.{same_Some}
 use Rattle.low_code.specs.Tree.{Program}
-use Rattle.low_code.specs.Size.{low_all, calls_of, AtMostTwoTests}
+use Rattle.low_code.specs.Size.{program_size, calls_of, AtMostTwoTests}
 use Rattle.register_alloc.specs.Assignment.{Assignment}
 use Rattle.rv32_steps.specs.Trace.{is_one_of, AllDifferent}
 use Rattle.rv32_items.specs.declared.Item.{Item}
 use Rattle.rv32_items.specs.declared.Item.TheVariants.{Label, Plain, Branch, Jump}
 use Rattle.rv32_items.specs.Course.{label_from}
-use Rattle.rv32_items.specs.Placed.{is_instruction, size_of, IsPlain, AllPlain, target_of, times, LabelsStand, Stands}
+use Rattle.rv32_items.specs.Placed.{is_instruction, size_of, IsPlain, AllPlain, target_of, times, LabelsStand, LabelIsOnlyAt}
 use Rattle.rv32_items.specs.Told.{is_call}
-use Rattle.rv32_items.specs.Flows.{is_begin, NoBegin, GoesOn, IsStop, Flows}
+use Rattle.rv32_items.specs.Flows.{begins_procedure, NoProcedureBegins, IsForwardTransfer, IsStopItem, HasStructuredFlow}
 use Rattle.rv32_items.proofs.Stands.{stands}
 use Rattle.rv32_select.specs.IsSelected.{IsSelected}
 use Rattle.rv32_select.specs.Selectable.{Selectable}
@@ -70,7 +70,7 @@ module _ (procs : ℕ) where
   no_begin k le = one_of_numbers 0 procs k ∙ grind (arith, nat_tests)
 
   -- no procedure begins at items without their labels
-  inside_no_begin : (items : List Item) (k : ℕ) → Inside procs items → is_begin begins (slice_get items k) ≡ false
+  inside_no_begin : (items : List Item) (k : ℕ) → Inside procs items → begins_procedure begins (slice_get items k) ≡ false
   inside_no_begin [] k h = refl
   inside_no_begin (Label j ∷ items) zero h = no_begin j h.0
   inside_no_begin (Label j ∷ items) (suc k) h = inside_no_begin items k h.1
@@ -85,12 +85,12 @@ module _ (procs : ℕ) where
   record Found (l : ℕ) (items : List Item) : Type 0 where
     pub at : ℕ
     pub here : slice_get items at ≡ Some (Label l)
-    pub none : (q : ℕ) → q ≤ at → is_begin begins (slice_get items q) ≡ false
+    pub none : (q : ℕ) → q ≤ at → begins_procedure begins (slice_get items q) ≡ false
 
-  further_on : (l : ℕ) (i : Item) (items : List Item) → is_begin begins (Some i) ≡ false → Found l items → Found l (i ∷ items)
+  further_on : (l : ℕ) (i : Item) (items : List Item) → begins_procedure begins (Some i) ≡ false → Found l items → Found l (i ∷ items)
   further_on l i items other f = record { at = suc f.at; here = f.here; none = none }
     where
-      none : (q : ℕ) → q ≤ suc f.at → is_begin begins (slice_get (i ∷ items) q) ≡ false
+      none : (q : ℕ) → q ≤ suc f.at → begins_procedure begins (slice_get (i ∷ items) q) ≡ false
       none zero le = other
       none (suc q) le = f.none q (omega (arith, le))
 
@@ -101,7 +101,7 @@ module _ (procs : ℕ) where
     | inr more ↦ further_on l (Label k) items (no_begin k h.0) (found l items more)
   ]
     where
-      first : (q : ℕ) → q ≤ 0 → is_begin begins (slice_get (Label k ∷ items) q) ≡ false
+      first : (q : ℕ) → q ≤ 0 → begins_procedure begins (slice_get (Label k ∷ items) q) ≡ false
       first zero le = no_begin k h.0
       first (suc q) le = absurd (omega (arith, le))
   found l (Plain i ∷ items) h = further_on l (Plain i) items refl (found l items h)
@@ -159,14 +159,14 @@ label_stands (Jump r j ∷ items) (suc n) k e = label_stands items n k e
 
 abbrev AllStop : List Item → Type 0
 AllStop [] = Unit {0}
-AllStop (i ∷ is) = IsStop i × AllStop is
+AllStop (i ∷ is) = IsStopItem i × AllStop is
 
-stop_at : (items : List Item) (n : ℕ) (i : Item) → AllStop items → slice_get items n ≡ Some i → IsStop i
+stop_at : (items : List Item) (n : ℕ) (i : Item) → AllStop items → slice_get items n ≡ Some i → IsStopItem i
 stop_at [] n i h e = absurd (cc)
-stop_at (j ∷ items) zero i h e = subst IsStop (same_Some _ _ e) h.0
+stop_at (j ∷ items) zero i h e = subst IsStopItem (same_Some _ _ e) h.0
 stop_at (j ∷ items) (suc n) i h e = stop_at items n i h.1 e
 
-stop_has_no_target : (i : Item) (k : ℕ) → IsStop i → target_of i ≡ Some k → ⊥
+stop_has_no_target : (i : Item) (k : ℕ) → IsStopItem i → target_of i ≡ Some k → ⊥
 stop_has_no_target (Label j) k h e = cc
 stop_has_no_target (Plain i) k h e = cc
 stop_has_no_target (Branch c a b j) k h e = h
@@ -244,16 +244,16 @@ module _ (l : Program) (a : Assignment) (cells stack : ℕ) where
     begins_stand : (b : ℕ) → is_one_of (begins procs) b ≡ true → times b items ≡ 1
     begins_stand b e = let lt = begin_below procs b e in below_once b (omega (arith, lt))
 
-    begins_before : (n : ℕ) → is_begin (begins procs) (slice_get items n) ≡ true → n < front
+    begins_before : (n : ℕ) → begins_procedure (begins procs) (slice_get items n) ≡ true → n < front
     begins_before n e = elim (cases_lt n front) [
       | inl lt ↦ lt
       | inr le ↦
           let none = inside_no_begin procs stop (n - front) inside_stop in
-          let here = ap (is_begin (begins procs)) (at_stops n le) in
+          let here = ap (begins_procedure (begins procs)) (at_stops n le) in
           absurd (false≢true (sym none ∙ sym here ∙ e))
     ]
 
-    all_stops : (n : ℕ) (i : Item) → front ≤ n → slice_get items n ≡ Some i → IsStop i
+    all_stops : (n : ℕ) (i : Item) → front ≤ n → slice_get items n ≡ Some i → IsStopItem i
     all_stops n i le e = stop_at stop (n - front) i all_stop (sym (at_stops n le) ∙ e)
 
     target_before : (n k : ℕ) (i : Item) → slice_get items n ≡ Some i → target_of i ≡ Some k → n < front
@@ -274,7 +274,7 @@ module _ (l : Program) (a : Assignment) (cells stack : ℕ) where
       | inr behind ↦ behind
     ]
 
-    behind_begin : (n : ℕ) (o : Option Item) → slice_get items n ≡ o → is_begin (begins procs) o ≡ true → is_instruction (slice_get items (suc n)) ≡ true
+    behind_begin : (n : ℕ) (o : Option Item) → slice_get items n ≡ o → begins_procedure (begins procs) o ≡ true → is_instruction (slice_get items (suc n)) ≡ true
     behind_begin n None e h = absurd (cc)
     behind_begin n (Some (Label k)) e h =
         let b = behind procs far items n (Label k) w.goes e in
@@ -284,27 +284,27 @@ module _ (l : Program) (a : Assignment) (cells stack : ℕ) where
     behind_begin n (Some (Branch c p q k)) e h = absurd (cc)
     behind_begin n (Some (Jump r k)) e h = absurd (cc)
 
-    goes_ahead : (n k t : ℕ) (rest : List Item) → ((j : ℕ) → slice_get items (suc (n + j)) ≡ slice_get rest j) → Stands items k t → Found procs k rest → (n < t) × NoBegin (begins procs) items (suc n) t
+    goes_ahead : (n k t : ℕ) (rest : List Item) → ((j : ℕ) → slice_get items (suc (n + j)) ≡ slice_get rest j) → LabelIsOnlyAt items k t → Found procs k rest → (n < t) × NoProcedureBegins (begins procs) items (suc n) t
     goes_ahead n k t rest at s f =
         let place : suc (n + f.at) ≡ t = s.once (suc (n + f.at)) (at f.at ∙ f.here) in
         (omega arith, none)
       where
-        none : NoBegin (begins procs) items (suc n) t
+        none : NoProcedureBegins (begins procs) items (suc n) t
         none q from to =
             let place : suc (n + f.at) ≡ t = s.once (suc (n + f.at)) (at f.at ∙ f.here) in
             let same : q ≡ suc (n + (q - suc n)) = omega arith in
-            ap (λ j. is_begin (begins procs) (slice_get items j)) same ∙ ap (is_begin (begins procs)) (at (q - suc n)) ∙ f.none (q - suc n) (omega arith)
+            ap (λ j. begins_procedure (begins procs) (slice_get items j)) same ∙ ap (begins_procedure (begins procs)) (at (q - suc n)) ∙ f.none (q - suc n) (omega arith)
 
-    goes_on : (n k t : ℕ) (i : Item) → slice_get items n ≡ Some i → target_of i ≡ Some k → label_from 0 items k ≡ Some t → GoesOn (begins procs) items front n t
+    goes_on : (n k t : ℕ) (i : Item) → slice_get items n ≡ Some i → target_of i ≡ Some k → label_from 0 items k ≡ Some t → IsForwardTransfer (begins procs) items front n t
     goes_on n k t i e target at =
         let s = stands k items (reached_once n k i e target) in
         let same : s.0 ≡ t = same_Some _ _ (sym s.1.0 ∙ at) in
-        let standing = subst (Stands items k) same s.1.1 in
+        let standing = subst (LabelIsOnlyAt items k) same s.1.1 in
         let b = behind procs far items n i w.goes e in
         elim (reached i b.rest k b.goes target) [
           | inl ahead ↦ inl (goes_ahead n k t b.rest b.at standing (found procs k b.rest ahead))
           | inr h ↦ elim (cases_lt k procs) [
-            | inl lt ↦ inr (inl (ap (is_begin (begins procs)) standing.here ∙ begin_of procs k lt))
+            | inl lt ↦ inr (inl (ap (begins_procedure (begins procs)) standing.here ∙ begin_of procs k lt))
             | inr le ↦
                 let place = stop_behind k t le (far_below k h) standing.here in
                 let before = target_before n k i e target in
@@ -312,7 +312,7 @@ module _ (l : Program) (a : Assignment) (cells stack : ℕ) where
           ]
         ]
 
-    flows : Flows (begins procs) items
+    flows : HasStructuredFlow (begins procs) items
     flows = record {
       stops = front;
       procedures_before = begins_before;
@@ -331,10 +331,10 @@ pub record SelectedStatics (l : Program) (items : List Item) : Type 0 where
   pub plain : AllPlain items
   pub labels : LabelsStand items
   pub some_item : (n : ℕ) × (is_instruction (slice_get items n) ≡ true)
-  pub flows : Flows (begins (length l.procs)) items
+  pub flows : HasStructuredFlow (begins (length l.procs)) items
   pub last : length items ≡ flows.stops + 12
   pub nine_stop : size_of (drop flows.stops items) ≡ 9
-  pub few : AtMostTwoTests l → size_of items ≤ 64 * (length l.procs + length l.globals + 1) + 8 * low_all l + 256 * calls_of l
+  pub few : AtMostTwoTests l → size_of items ≤ 64 * (length l.procs + length l.globals + 1) + 8 * program_size l + 256 * calls_of l
 
 pub selected_statics : (l : Program) (a : Assignment) (cells stack : ℕ) (items : List Item) → Selectable l a cells stack → IsSelected l a cells stack items → SelectedStatics l items
 unfolding flows

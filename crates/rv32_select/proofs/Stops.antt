@@ -7,7 +7,7 @@ use Rattle.rv32_isa.specs.declared.instr.ImmKind.TheVariants.{Addi}
 use Rattle.rv32_machine.specs.Arithmetic.{plus}
 use Rattle.rv32_machine.specs.Steps.{set_reg}
 use Rattle.rv32_steps.specs.Data.{Bases}
-use Rattle.rv32_steps.specs.Straight.{value}
+use Rattle.rv32_steps.specs.Straight.{register_value}
 use Rattle.rv32_steps.specs.Trace.{procedures_at}
 use Rattle.rv32_steps.proofs.Calls.{dispatch}
 use Rattle.rv32_items.specs.declared.Cond.TheVariants.{Ltu}
@@ -17,7 +17,7 @@ use Rattle.rv32_items.specs.Course.{Layout, Ended, turn, turn_of, behind_plain, 
 use Rattle.low_code.specs.Tree.{Program}
 use Rattle.low_code.specs.Values.{World}
 use Rattle.register_alloc.specs.Assignment.{Assignment}
-use Rattle.rv32_items.specs.Placed.{Rises}
+use Rattle.rv32_items.specs.Placed.{AddressesRise}
 use Rattle.rv32_select.specs.Emit.{plain, add_to, room_items, raise_items, exit_with}
 use Rattle.rv32_select.proofs.Courses.{Stands, front, back, Goes, Exits, one_ended}
 use Rattle.rv32_select.proofs.Leaves.{Remains, remains_on, remains_exit}
@@ -31,14 +31,14 @@ use Rattle.rv32_select.proofs.OneBound.{plain_ran}
 use Rattle.rv32_machine.proofs.Registers.{set_there}
 
 -- what a taken branch or jump leaves of good data
-pub good_far : (items : List Item) (lay : Layout) (b : Bases) → Rises items lay → (n : ℕ) (d : Data) → Good lay.code b d → Good lay.code b (with_regs d (lay.far n d.regs))
+pub good_far : (items : List Item) (lay : Layout) (b : Bases) → AddressesRise items lay → (n : ℕ) (d : Data) → Good lay.code b d → Good lay.code b (with_regs d (lay.far n d.regs))
 good_far items lay b rises n d g = record {
   small = λ r ne. by_zero r ne (nat_eq r 0) refl (g.small r ne);
   laid = g.laid;
   top = g.top;
 }
   where
-    by_zero : (r : ℕ) → r ≢ 7 → (z : Bool) → nat_eq r 0 ≡ z → value d.regs r < 2 ^ 32 → (if z then 0 else lay.far n d.regs r) < 2 ^ 32
+    by_zero : (r : ℕ) → r ≢ 7 → (z : Bool) → nat_eq r 0 ≡ z → register_value d.regs r < 2 ^ 32 → (if z then 0 else lay.far n d.regs r) < 2 ^ 32
     by_zero r ne true e old = omega arith
     by_zero r ne false e old =
         let some : r ≢ 0 = grind (arith, nat_tests) in
@@ -48,12 +48,12 @@ module _ (b : Bases) (lay : Layout) (items : List Item) where
   -- an exit call ends the course
   pub exit_call : (n code : ℕ) (d : Data) (input calls : List ℕ) → slice_get items n ≡ Some (Plain Ecall) → d.regs 17 ≡ 93 → d.regs 10 ≡ code → Exits lay items 1 input (at b lay items n d) calls [] [] input code
   unfolding turn dispatch
-  exit_call n code d input calls here number value =
+  exit_call n code d input calls here number register_value =
       let p = at b lay items n d in
       one_ended lay items p code input calls
       (ap (turn_of lay items p) here
       ∙ ap (λ x. behind_plain lay items p (dispatch (state_at lay items p) x (d.regs 10) (d.regs 11) (d.regs 12))) number
-      ∙ ap Ended value)
+      ∙ ap Ended register_value)
       (ap label_of here)
 
 module _ (l : Program) (a : Assignment) (cells stack : ℕ) (lay : Layout) (items : List Item) (begins : List ℕ) (s : Setting l a cells stack lay items begins) where

@@ -13,8 +13,8 @@ use Rattle.rv32_machine.specs.Memory.{Stretch}
 use Rattle.rv32_machine.specs.Arithmetic.{plus, pattern, op_value, imm_value}
 use Rattle.rv32_machine.specs.Steps.{set_reg, act}
 use Rattle.rv32_steps.specs.Trace.{is_return}
-use Rattle.rv32_steps.specs.Data.{AreWords, Bases, Words, memory_of, LaidOut, slot, IsSlot, word_at, with_word}
-use Rattle.rv32_steps.specs.Straight.{value, Asks, AllAsk, regs_after, words_after, straight_regs, straight_words}
+use Rattle.rv32_steps.specs.Data.{AreWords, Bases, Words, memory_of, MemoryIsLaidOut, word_index, IsWordIndex, word_at, with_word}
+use Rattle.rv32_steps.specs.Straight.{register_value, InstructionIsAllowed, InstructionsAreAllowed, regs_after, words_after, straight_regs, straight_words}
 use Rattle.rv32_steps.proofs.Straight.{in_heap, still_apart, acts_on}
 use Rattle.rv32_items.specs.declared.Item.{Item}
 use Rattle.rv32_items.specs.declared.Item.TheVariants.{Plain}
@@ -48,8 +48,8 @@ plain_length (i ∷ is) = ap suc (plain_length is)
 module _ (c : Stretch) (b : Bases) where
   -- registers read as numbers of 32 bits, but for x7, which a jump may change, and the segments are apart
   pub record Good (d : Data) : Type 0 where
-    pub small : (r : ℕ) → r ≢ 7 → value d.regs r < 2 ^ 32
-    pub laid : LaidOut c b (words d)
+    pub small : (r : ℕ) → r ≢ 7 → register_value d.regs r < 2 ^ 32
+    pub laid : MemoryIsLaidOut c b (words d)
     pub top : b.stack + 4 * length d.stack < 2 ^ 32
 
   pub small_word : (ws : List ℕ) (k : ℕ) → AreWords ws → get_or ws k 0 < 2 ^ 32
@@ -60,14 +60,14 @@ module _ (c : Stretch) (b : Bases) where
   pub good_reg : (d : Data) (r v : ℕ) → Good d → v < 2 ^ 32 → Good (with_reg d r v)
   good_reg d r v g lt = record { small = λ q ne. go (nat_eq q 0) (nat_eq q r) q refl (g.small q ne); laid = g.laid; top = g.top }
     where
-      go : (z t : Bool) (q : ℕ) → nat_eq q 0 ≡ z → value d.regs q < 2 ^ 32 → (if z then 0 else (if t then v else d.regs q)) < 2 ^ 32
+      go : (z t : Bool) (q : ℕ) → nat_eq q 0 ≡ z → register_value d.regs q < 2 ^ 32 → (if z then 0 else (if t then v else d.regs q)) < 2 ^ 32
       go true t q e old = omega arith
       go false true q e old = lt
       go false false q e old = subst (λ b. (if b then 0 else d.regs q) < 2 ^ 32) e old
 
   -- instructions lead from some data to others, as they stand
   pub record Does (is : List Instr) (d d' : Data) : Type 0 where
-    pub asks : AllAsk b is d.regs (words d)
+    pub asks : InstructionsAreAllowed b is d.regs (words d)
     pub regs_are : straight_regs b is d.regs (words d) ≡ d'.regs
     pub words_are : straight_words b is d.regs (words d) ≡ words d'
     pub good : Good d'
@@ -75,7 +75,7 @@ module _ (c : Stretch) (b : Bases) where
   pub does_nothing : (d : Data) → Good d → Does [] d d
   does_nothing d g = record { asks = tt; regs_are = refl; words_are = refl; good = g }
 
-  all_append : (is js : List Instr) (regs : ℕ → ℕ) (w : Words) → AllAsk b is regs w → AllAsk b js (straight_regs b is regs w) (straight_words b is regs w) → AllAsk b (is ++ js) regs w
+  all_append : (is js : List Instr) (regs : ℕ → ℕ) (w : Words) → InstructionsAreAllowed b is regs w → InstructionsAreAllowed b js (straight_regs b is regs w) (straight_words b is regs w) → InstructionsAreAllowed b (is ++ js) regs w
   all_append [] js regs w h k = k
   all_append (i ∷ is) js regs w h k = (h.0, all_append is js (regs_after b i regs w) (words_after b i regs w) h.1 k)
 
@@ -90,8 +90,8 @@ module _ (c : Stretch) (b : Bases) where
   pub does_on : {is js : List Instr} {d e f : Data} → Does is d e → Does js e f → Does (is ++ js) d f
   does_on {is} {js} {d} {e} {f} h k = record {
     asks = all_append is js d.regs (words d) h.asks
-        (subst (λ r. AllAsk b js r (straight_words b is d.regs (words d))) (sym h.regs_are)
-        (subst (λ w. AllAsk b js e.regs w) (sym h.words_are) k.asks));
+        (subst (λ r. InstructionsAreAllowed b js r (straight_words b is d.regs (words d))) (sym h.regs_are)
+        (subst (λ w. InstructionsAreAllowed b js e.regs w) (sym h.words_are) k.asks));
     regs_are = regs_append is js d.regs (words d)
         ∙ ap (λ r. straight_regs b js r (straight_words b is d.regs (words d))) h.regs_are
         ∙ ap (λ w. straight_regs b js e.regs w) h.words_are
@@ -110,7 +110,7 @@ module _ (c : Stretch) (b : Bases) where
   pub does_lui : (rd imm : ℕ) (d : Data) → Good d → imm * 4096 < 2 ^ 32 → Does (Lui rd imm ∷ []) d (with_reg d rd (imm * 4096))
   does_lui rd imm d g lt = record { asks = (tt, tt); regs_are = refl; words_are = refl; good = good_reg d rd (imm * 4096) g lt }
 
-  pub does_imm : (kind : ImmKind) (rd rs1 : ℕ) (imm : ℤ) (v : ℕ) (d : Data) → Good d → imm_value kind (value d.regs rs1) (pattern imm) ≡ v → v < 2 ^ 32 → Does (OpImm kind rd rs1 imm ∷ []) d (with_reg d rd v)
+  pub does_imm : (kind : ImmKind) (rd rs1 : ℕ) (imm : ℤ) (v : ℕ) (d : Data) → Good d → imm_value kind (register_value d.regs rs1) (pattern imm) ≡ v → v < 2 ^ 32 → Does (OpImm kind rd rs1 imm ∷ []) d (with_reg d rd v)
   does_imm kind rd rs1 imm v d g e lt = record {
     asks = (tt, tt);
     regs_are = ap (λ x. set_reg d.regs rd x) e;
@@ -118,7 +118,7 @@ module _ (c : Stretch) (b : Bases) where
     good = good_reg d rd v g lt;
   }
 
-  pub does_op : (kind : OpKind) (rd rs1 rs2 v : ℕ) (d : Data) → Good d → op_value kind (value d.regs rs1) (value d.regs rs2) ≡ v → v < 2 ^ 32 → Does (Op kind rd rs1 rs2 ∷ []) d (with_reg d rd v)
+  pub does_op : (kind : OpKind) (rd rs1 rs2 v : ℕ) (d : Data) → Good d → op_value kind (register_value d.regs rs1) (register_value d.regs rs2) ≡ v → v < 2 ^ 32 → Does (Op kind rd rs1 rs2 ∷ []) d (with_reg d rd v)
   does_op kind rd rs1 rs2 v d g e lt = record {
     asks = (tt, tt);
     regs_are = ap (λ x. set_reg d.regs rd x) e;
@@ -128,25 +128,25 @@ module _ (c : Stretch) (b : Bases) where
 
   -- ---- words of the stack and of the heap
 
-  is_slot : (base : ℕ) (ws : List ℕ) (a k : ℕ) → a ≡ base + 4 * k → k < length ws → IsSlot base ws a × (slot base a ≡ k)
+  is_slot : (base : ℕ) (ws : List ℕ) (a k : ℕ) → a ≡ base + 4 * k → k < length ws → IsWordIndex base ws a × (word_index base a ≡ k)
   is_slot base ws a k e lt =
-      let same : slot base a ≡ k = omega arith in
+      let same : word_index base a ≡ k = omega arith in
       ((omega arith, omega arith), same)
 
   pub stack_read : (d : Data) (a t : ℕ) → a ≡ b.stack + 4 * t → word_at b (words d) a ≡ get_or d.stack t 0
   stack_read d a t e =
-      let same : slot b.stack a ≡ t = omega arith in
+      let same : word_index b.stack a ≡ t = omega arith in
       let high : nat_lt a b.stack ≡ false = let h : b.stack ≤ a = omega arith in grind (arith, nat_tests) in
-      ap (λ x. if x then get_or d.heap (slot b.heap a) 0 else get_or d.stack (slot b.stack a) 0) high ∙ ap (λ k. get_or d.stack k 0) same
+      ap (λ x. if x then get_or d.heap (word_index b.heap a) 0 else get_or d.stack (word_index b.stack a) 0) high ∙ ap (λ k. get_or d.stack k 0) same
 
   heap_read : (d : Data) (a i : ℕ) → Good d → a ≡ b.heap + 4 * i → i < length d.heap → word_at b (words d) a ≡ get_or d.heap i 0
   heap_read d a i g e lt =
       let is = is_slot b.heap d.heap a i e lt in
-      ap (λ x. if x then get_or d.heap (slot b.heap a) 0 else get_or d.stack (slot b.stack a) 0) (in_heap c b (words d) a g.laid is.0) ∙ ap (λ k. get_or d.heap k 0) is.1
+      ap (λ x. if x then get_or d.heap (word_index b.heap a) 0 else get_or d.stack (word_index b.stack a) 0) (in_heap c b (words d) a g.laid is.0) ∙ ap (λ k. get_or d.heap k 0) is.1
 
-  pub does_load_stack : (rd rs1 : ℕ) (imm : ℤ) (t : ℕ) (d : Data) → Good d → plus (value d.regs rs1) (pattern imm) ≡ b.stack + 4 * t → t < length d.stack → Does (Load Lw rd rs1 imm ∷ []) d (with_reg d rd (get_or d.stack t 0))
+  pub does_load_stack : (rd rs1 : ℕ) (imm : ℤ) (t : ℕ) (d : Data) → Good d → plus (register_value d.regs rs1) (pattern imm) ≡ b.stack + 4 * t → t < length d.stack → Does (Load Lw rd rs1 imm ∷ []) d (with_reg d rd (get_or d.stack t 0))
   does_load_stack rd rs1 imm t d g e lt =
-      let a = plus (value d.regs rs1) (pattern imm) in
+      let a = plus (register_value d.regs rs1) (pattern imm) in
       record {
         asks = (inr (is_slot b.stack d.stack a t e lt).0, tt);
         regs_are = ap (λ x. set_reg d.regs rd x) (stack_read d a t e);
@@ -154,9 +154,9 @@ module _ (c : Stretch) (b : Bases) where
         good = good_reg d rd (get_or d.stack t 0) g (small_word d.stack t g.laid.stack_words);
       }
 
-  pub does_load_heap : (rd rs1 : ℕ) (imm : ℤ) (i : ℕ) (d : Data) → Good d → plus (value d.regs rs1) (pattern imm) ≡ b.heap + 4 * i → i < length d.heap → Does (Load Lw rd rs1 imm ∷ []) d (with_reg d rd (get_or d.heap i 0))
+  pub does_load_heap : (rd rs1 : ℕ) (imm : ℤ) (i : ℕ) (d : Data) → Good d → plus (register_value d.regs rs1) (pattern imm) ≡ b.heap + 4 * i → i < length d.heap → Does (Load Lw rd rs1 imm ∷ []) d (with_reg d rd (get_or d.heap i 0))
   does_load_heap rd rs1 imm i d g e lt =
-      let a = plus (value d.regs rs1) (pattern imm) in
+      let a = plus (register_value d.regs rs1) (pattern imm) in
       record {
         asks = (inl (is_slot b.heap d.heap a i e lt).0, tt);
         regs_are = ap (λ x. set_reg d.regs rd x) (heap_read d a i g e lt);
@@ -166,29 +166,29 @@ module _ (c : Stretch) (b : Bases) where
 
   pub stack_written : (d : Data) (a t v : ℕ) → a ≡ b.stack + 4 * t → with_word b (words d) a v ≡ words (with_stack d (set d.stack t v))
   stack_written d a t v e =
-      let same : slot b.stack a ≡ t = omega arith in
+      let same : word_index b.stack a ≡ t = omega arith in
       let high : nat_lt a b.stack ≡ false = let h : b.stack ≤ a = omega arith in grind (arith, nat_tests) in
-      let in_the_heap : Words = record { heap = set d.heap (slot b.heap a) v; stack = d.stack } in
-      let in_the_stack : Words = record { heap = d.heap; stack = set d.stack (slot b.stack a) v } in
+      let in_the_heap : Words = record { heap = set d.heap (word_index b.heap a) v; stack = d.stack } in
+      let in_the_stack : Words = record { heap = d.heap; stack = set d.stack (word_index b.stack a) v } in
       ap (λ x. if x then in_the_heap else in_the_stack) high ∙ ap (λ k. words (with_stack d (set d.stack k v))) same
 
   heap_written : (d : Data) (a i v : ℕ) → Good d → a ≡ b.heap + 4 * i → i < length d.heap → with_word b (words d) a v ≡ words (with_heap d (set d.heap i v))
   heap_written d a i v g e lt =
       let is = is_slot b.heap d.heap a i e lt in
-      let in_the_heap : Words = record { heap = set d.heap (slot b.heap a) v; stack = d.stack } in
-      let in_the_stack : Words = record { heap = d.heap; stack = set d.stack (slot b.stack a) v } in
+      let in_the_heap : Words = record { heap = set d.heap (word_index b.heap a) v; stack = d.stack } in
+      let in_the_stack : Words = record { heap = d.heap; stack = set d.stack (word_index b.stack a) v } in
       ap (λ x. if x then in_the_heap else in_the_stack) (in_heap c b (words d) a g.laid is.0) ∙ ap (λ k. words (with_heap d (set d.heap k v))) is.1
 
   pub good_stack : (d : Data) (t v : ℕ) → Good d → v < 2 ^ 32 → Good (with_stack d (set d.stack t v))
   good_stack d t v g lt = record {
     small = g.small;
-    laid = subst (λ w. LaidOut c b w) (stack_written d (b.stack + 4 * t) t v refl) (still_apart c b [] (words d) (b.stack + 4 * t) v g.laid lt);
+    laid = subst (λ w. MemoryIsLaidOut c b w) (stack_written d (b.stack + 4 * t) t v refl) (still_apart c b [] (words d) (b.stack + 4 * t) v g.laid lt);
     top = let same = length-set d.stack t v in let h = g.top in omega arith;
   }
 
-  pub does_store_stack : (rs2 rs1 : ℕ) (imm : ℤ) (t v : ℕ) (d : Data) → Good d → rs2 ≢ 7 → plus (value d.regs rs1) (pattern imm) ≡ b.stack + 4 * t → t < length d.stack → value d.regs rs2 ≡ v → Does (Store Sw rs2 rs1 imm ∷ []) d (with_stack d (set d.stack t v))
+  pub does_store_stack : (rs2 rs1 : ℕ) (imm : ℤ) (t v : ℕ) (d : Data) → Good d → rs2 ≢ 7 → plus (register_value d.regs rs1) (pattern imm) ≡ b.stack + 4 * t → t < length d.stack → register_value d.regs rs2 ≡ v → Does (Store Sw rs2 rs1 imm ∷ []) d (with_stack d (set d.stack t v))
   does_store_stack rs2 rs1 imm t v d g ne e lt same =
-      let a = plus (value d.regs rs1) (pattern imm) in
+      let a = plus (register_value d.regs rs1) (pattern imm) in
       let small = g.small rs2 ne in
       record {
         asks = ((inr (is_slot b.stack d.stack a t e lt).0, small), tt);
@@ -197,24 +197,24 @@ module _ (c : Stretch) (b : Bases) where
         good = good_stack d t v g (omega arith);
       }
 
-  pub does_store_heap : (rs2 rs1 : ℕ) (imm : ℤ) (i v : ℕ) (d : Data) → Good d → rs2 ≢ 7 → plus (value d.regs rs1) (pattern imm) ≡ b.heap + 4 * i → i < length d.heap → value d.regs rs2 ≡ v → Does (Store Sw rs2 rs1 imm ∷ []) d (with_heap d (set d.heap i v))
+  pub does_store_heap : (rs2 rs1 : ℕ) (imm : ℤ) (i v : ℕ) (d : Data) → Good d → rs2 ≢ 7 → plus (register_value d.regs rs1) (pattern imm) ≡ b.heap + 4 * i → i < length d.heap → register_value d.regs rs2 ≡ v → Does (Store Sw rs2 rs1 imm ∷ []) d (with_heap d (set d.heap i v))
   does_store_heap rs2 rs1 imm i v d g ne e lt same =
-      let a = plus (value d.regs rs1) (pattern imm) in
+      let a = plus (register_value d.regs rs1) (pattern imm) in
       let small = g.small rs2 ne in
-      let is : with_word b (words d) a (value d.regs rs2) ≡ words (with_heap d (set d.heap i v)) = ap (λ x. with_word b (words d) a x) same ∙ heap_written d a i v g e lt in
+      let is : with_word b (words d) a (register_value d.regs rs2) ≡ words (with_heap d (set d.heap i v)) = ap (λ x. with_word b (words d) a x) same ∙ heap_written d a i v g e lt in
       record {
         asks = ((inl (is_slot b.heap d.heap a i e lt).0, small), tt);
         regs_are = refl;
         words_are = is;
         good = record {
           small = g.small;
-          laid = subst (λ w. LaidOut c b w) is (still_apart c b [] (words d) a (value d.regs rs2) g.laid small);
+          laid = subst (λ w. MemoryIsLaidOut c b w) is (still_apart c b [] (words d) a (register_value d.regs rs2) g.laid small);
           top = g.top;
         };
       }
 
 -- an instruction of straight code is no return
-no_return : (b : Bases) (i : Instr) (regs : ℕ → ℕ) (w : Words) → Asks b i regs w → is_return i ≡ false
+no_return : (b : Bases) (i : Instr) (regs : ℕ → ℕ) (w : Words) → InstructionIsAllowed b i regs w → is_return i ≡ false
 no_return b (Lui rd imm) regs w asks = refl
 no_return b (OpImm kind rd rs1 imm) regs w asks = refl
 no_return b (Shift kind rd rs1 amount) regs w asks = refl
@@ -237,7 +237,7 @@ module _ (b : Bases) (lay : Layout) (items : List Item) where
   abbrev pub at : ℕ → Data → Point
   at n d = record { regs = d.regs; item = n; memory = memory_of lay.code b (words d) [] }
 
-  each : (n : ℕ) (regs : ℕ → ℕ) (w : Words) (i : Instr) (input calls : List ℕ) → slice_get items n ≡ Some (Plain i) → LaidOut lay.code b w → Asks b i regs w → Goes lay items 1 input (standing n regs w) calls [] [] input (standing (suc n) (regs_after b i regs w) (words_after b i regs w)) calls
+  each : (n : ℕ) (regs : ℕ → ℕ) (w : Words) (i : Instr) (input calls : List ℕ) → slice_get items n ≡ Some (Plain i) → MemoryIsLaidOut lay.code b w → InstructionIsAllowed b i regs w → Goes lay items 1 input (standing n regs w) calls [] [] input (standing (suc n) (regs_after b i regs w) (words_after b i regs w)) calls
   unfolding turn
   each n regs w i input calls here ok asks =
       let p = standing n regs w in
@@ -250,7 +250,7 @@ module _ (b : Bases) (lay : Layout) (items : List Item) where
       subst (λ l. Goes lay items 1 input p calls [] l input q calls) (ap label_of here)
       (one_on lay items p q input calls does (ap is_call here) (ap returns here ∙ no_return b i regs w asks))
 
-  straight : (is : List Instr) (n m : ℕ) (regs : ℕ → ℕ) (w : Words) (input calls : List ℕ) → m ≡ n + length is → Stands items n (plain is) → LaidOut lay.code b w → AllAsk b is regs w → Goes lay items (length is) input (standing n regs w) calls [] [] input (standing m (straight_regs b is regs w) (straight_words b is regs w)) calls
+  straight : (is : List Instr) (n m : ℕ) (regs : ℕ → ℕ) (w : Words) (input calls : List ℕ) → m ≡ n + length is → Stands items n (plain is) → MemoryIsLaidOut lay.code b w → InstructionsAreAllowed b is regs w → Goes lay items (length is) input (standing n regs w) calls [] [] input (standing m (straight_regs b is regs w) (straight_words b is regs w)) calls
   straight [] n m regs w input calls e s ok asks =
       let same : n ≡ m = omega arith in
       subst (λ x. Goes lay items 0 input (standing n regs w) calls [] [] input (standing x regs w) calls) same (stays lay items input (standing n regs w) calls)

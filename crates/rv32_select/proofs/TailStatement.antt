@@ -11,10 +11,11 @@ use Rattle.register_alloc.specs.Assignment.{Assignment, place_of, words_at}
 use Rattle.rv32_items.specs.declared.Item.{Item}
 use Rattle.rv32_items.specs.declared.Item.TheVariants.{Jump}
 use Rattle.rv32_items.specs.Course.{Layout, Point, address_from}
-use Rattle.rv32_select.specs.declared.source.Way.{Way}
-use Rattle.rv32_select.specs.declared.source.Way.TheVariants.{Returns}
+use Rattle.rv32_select.specs.declared.source.Continuation.{Continuation}
+use Rattle.rv32_select.specs.declared.source.Continuation.TheVariants.{Returns}
 use Rattle.rv32_select.specs.Emit.{plain, moves_code, spot_moves, number_moves, leave_code, argument_spots, result_spots}
-use Rattle.rv32_select.specs.IsSelected.{sources, params_of, argument_spots_of, IsOrder, is_lasting, stack_end}
+use Rattle.rv32_select.specs.IsSelected.{sources, params_of, argument_spots_of, IsOrder, is_lasting}
+use Rattle.limits.specs.Limits.{stack_end}
 use Rattle.rv32_select.proofs.Courses.{Stands}
 use Rattle.rv32_select.proofs.Straight.{Data, Does, does_on, at}
 use Rattle.rv32_select.proofs.JumpStretches.{jumped, jumps}
@@ -37,7 +38,7 @@ free_hold l a lay stack j slots g (Scratch ∷ ss) (v ∷ vs) d d' o e h = absur
 
 module _ (l : Program) (a : Assignment) (cells stack : ℕ) (lay : Layout) (items : List Item) (begins : List ℕ) (s : Setting l a cells stack lay items begins) (calls_n : Calls) (n : ℕ) (called : CallsSimulated l a cells stack lay items begins calls_n n)
     (f : ℕ) (q : Procedure) (pf : ProcedureFine l a f q) (framed : Bool) (j m : ℕ) (outer : List ℕ) (d0 : Data) (u : ℕ) (found : address_from 0 items lay (lay.address m) ≡ Some m) (total : 4 * (j + (1 + pf.slots) + u) ≡ stack) where
-  pub tail_simulated : (g site : ℕ) (os : List Operand) (to : List Spot) (way : Way) (Must : ℕ → Word → Type 0) (k k' : ℕ) (block : List Item) (p : ℕ) (scope later : List ℕ) (env : Env) (top : ℕ) (under : Option ℕ) (d : Data) (w : World)
+  pub tail_simulated : (g site : ℕ) (os : List Operand) (to : List Spot) (way : Continuation) (Must : ℕ → Word → Type 0) (k k' : ℕ) (block : List Item) (p : ℕ) (scope later : List ℕ) (env : Env) (top : ℕ) (under : Option ℕ) (d : Data) (w : World)
       → Block l a cells stack lay items begins f q framed pf.slots j m outer d0 u n (tail g site os) to way Must k k' block p scope later env top under d w
       → Simulates l a cells stack lay items begins f q framed pf.slots j m outer d0 u n calls_n (tail g site os) to way Must p env top under d w
   unfolding code

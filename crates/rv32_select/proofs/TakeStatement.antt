@@ -14,9 +14,9 @@ use Rattle.register_alloc.specs.Fits.{slots_of}
 use Rattle.register_alloc.specs.Assignment.{Assignment, place_of, words_at}
 use Rattle.rv32_items.specs.declared.Item.{Item}
 use Rattle.rv32_items.specs.Course.{Layout}
-use Rattle.rv32_select.specs.declared.source.Way.{Way}
+use Rattle.rv32_select.specs.declared.source.Continuation.{Continuation}
 use Rattle.rv32_select.specs.Emit.{take_items}
-use Rattle.rv32_select.specs.IsSelected.{heap_base}
+use Rattle.limits.specs.Limits.{heap_start}
 use Rattle.rv32_select.proofs.Courses.{stays}
 use Rattle.rv32_select.proofs.Straight.{Data, at}
 use Rattle.rv32_select.proofs.FrameViews.{spots}
@@ -32,10 +32,10 @@ use Rattle.seq.proofs.Counted.{among_right}
 use Rattle.rv32_select.proofs.ProcedureEntry.{places_many}
 
 -- cells from the n-th on are at spots, as words
-at_are_words : (width : ℕ) (place : ℕ → Spot) (xs : List ℕ) (n : ℕ) (u : Values) → AllAt (4 * width) (map place xs) (heap_base + 4 * width * n) u → AllHold width (map place xs) (cell_places n xs) u
+at_are_words : (width : ℕ) (place : ℕ → Spot) (xs : List ℕ) (n : ℕ) (u : Values) → AllAt (4 * width) (map place xs) (heap_start + 4 * width * n) u → AllHold width (map place xs) (cell_places n xs) u
 at_are_words width place [] n u h = tt
 at_are_words width place (x ∷ xs) n u h =
-    let next : heap_base + 4 * width * n + 4 * width ≡ heap_base + 4 * width * suc n = omega arith in
+    let next : heap_start + 4 * width * n + 4 * width ≡ heap_start + 4 * width * suc n = omega arith in
     (h.0, at_are_words width place xs (suc n) u (subst (λ y. AllAt (4 * width) (map place xs) y u) next h.1))
 
 pub scope_owned : (l : Program) (a : Assignment) (f saved : ℕ) (xs scope : List ℕ) → AllOwn l a f saved (map (place_of a) xs) → ((y : ℕ) → is_among y scope ≡ true → IsOwn l a f saved (place_of a y)) → (y : ℕ) → is_among y (xs ++ scope) ≡ true → IsOwn l a f saved (place_of a y)
@@ -47,7 +47,7 @@ scope_owned l a f saved (x ∷ xs) scope own owned y h = elim (or_true (nat_eq y
 
 module _ (l : Program) (a : Assignment) (cells stack : ℕ) (lay : Layout) (items : List Item) (begins : List ℕ) (s : Setting l a cells stack lay items begins) (calls_n : Calls) (n : ℕ)
     (f : ℕ) (q : Procedure) (pf : ProcedureFine l a f q) (framed : Bool) (j m : ℕ) (outer : List ℕ) (d0 : Data) (u : ℕ) where
-  pub take_simulated : (xs : List ℕ) (c : Code) (to : List Spot) (way : Way) (Must : ℕ → Word → Type 0) (k k' : ℕ) (block : List Item) (p : ℕ) (scope later : List ℕ) (env : Env) (top : ℕ) (under : Option ℕ) (d : Data) (w : World)
+  pub take_simulated : (xs : List ℕ) (c : Code) (to : List Spot) (way : Continuation) (Must : ℕ → Word → Type 0) (k k' : ℕ) (block : List Item) (p : ℕ) (scope later : List ℕ) (env : Env) (top : ℕ) (under : Option ℕ) (d : Data) (w : World)
       → Block l a cells stack lay items begins f q framed pf.slots j m outer d0 u n (take xs c) to way Must k k' block p scope later env top under d w
       → ((env' : Env) (rest : List Item) (p' : ℕ) (d' : Data) (w' : World) → Block l a cells stack lay items begins f q framed pf.slots j m outer d0 u n c to way Must k k' rest p' (xs ++ scope) later env' top under d' w'
       → Simulates l a cells stack lay items begins f q framed pf.slots j m outer d0 u n calls_n c to way Must p' env' top under d' w')
@@ -65,7 +65,7 @@ module _ (l : Program) (a : Assignment) (cells stack : ℕ) (lay : Layout) (item
       product = ap (λ y. 4 * l.width * y) size_is
 
       -- the heap ends below 2 ^ 31
-      ends_low : heap_base + 4 * l.width * cells < 2 ^ 31
+      ends_low : heap_start + 4 * l.width * cells < 2 ^ 31
       ends_low =
           let words = h.heap_words in
           let below = h.good.laid.heap_below in
@@ -100,11 +100,11 @@ module _ (l : Program) (a : Assignment) (cells stack : ℕ) (lay : Layout) (item
           let end = h.end in
           let made = taking.enough (omega arith) in
           let len : length w'.cells ≡ length w.cells + length xs = length-append w.cells (replicate (length xs) (empty_cell l (words_at a))) ∙ ap (λ y. length w.cells + y) (length-replicate (length xs) (empty_cell l (words_at a))) in
-          let behind : made.to.regs 3 ≡ heap_base + 4 * l.width * (length w.cells + length xs) = made.next ∙ omega arith in
+          let behind : made.to.regs 3 ≡ heap_start + 4 * l.width * (length w.cells + length xs) = made.next ∙ omega arith in
           let world : HoldsWorld l a cells stack lay made.to w' = record {
             good = made.good;
             cells_are = subst (λ y. HoldsCells l.width y w'.cells) (sym made.heap) (cells_taken l.width d.heap w.cells (length xs) h.cells_are);
-            next = behind ∙ ap (λ y. heap_base + 4 * l.width * y) (sym len);
+            next = behind ∙ ap (λ y. heap_start + 4 * l.width * y) (sym len);
             end = made.end ∙ end;
             room = omega arith;
             globals = let g = h.globals in omega arith;

@@ -9,16 +9,17 @@ use Rattle.rv32_isa.specs.declared.instr.StoreKind.TheVariants.{Sw}
 use Rattle.parallel_move.specs.declared.Spot.{Spot}
 use Rattle.low_code.specs.Tree.{Procedure, Program}
 use Rattle.low_code.specs.Formed.{calls_in, variables}
-use Rattle.low_code.specs.Size.{code_size, sizes, low_all, calls_from, calls_of, FewTests, AllFewTests, AtMostTwoTests}
+use Rattle.low_code.specs.Size.{code_size, sizes, program_size, calls_from, calls_of, FewTests, AllFewTests, AtMostTwoTests}
 use Rattle.register_alloc.specs.Assignment.{Assignment, place_of, words_at}
 use Rattle.register_alloc.specs.Fits.{slots_of}
 use Rattle.rv32_items.specs.declared.Cond.TheVariants.{Ltu}
 use Rattle.rv32_items.specs.declared.Item.{Item}
 use Rattle.rv32_items.specs.declared.Item.TheVariants.{Branch, Jump}
 use Rattle.rv32_items.specs.Placed.{is_instruction, size_of, times}
-use Rattle.rv32_select.specs.declared.source.Way.TheVariants.{Returns}
+use Rattle.rv32_select.specs.declared.source.Continuation.TheVariants.{Returns}
 use Rattle.rv32_select.specs.Emit.{plain, is_short, load_constant, add_to, number_moves, result_spots, parameters_code, exit_with, room_items, globals_code, start_items, stop_items, link_put, base_register, base_at_entry, base_at_start}
-use Rattle.rv32_select.specs.IsSelected.{heap_base, stack_end, heap_end, heap_full, step, stack_full, no_alternative, places, sources, argument_spots_of, EmitsProcedure, EmitsProcedures, start_argument, first_call, IsSelected, is_lasting}
+use Rattle.rv32_select.specs.IsSelected.{heap_end, heap_full, step, stack_full, no_alternative, places, sources, argument_spots_of, EmitsProcedure, EmitsProcedures, start_argument, first_call, IsSelected, is_lasting}
+use Rattle.limits.specs.Limits.{heap_start, stack_end}
 use Rattle.rv32_select.specs.Writable.{ProcedurePlaced, Writable}
 use Rattle.rv32_select.proofs.StaticPieces.{piece_append, number_piece, add_piece, parameters_piece, globals_piece, sent_piece, link_piece, piece_more, base_piece, start_base_piece}
 use Rattle.rv32_select.proofs.Flowing.{Goes, goes_both, below, below_more, Counts}
@@ -142,18 +143,18 @@ module _ (l : Program) (a : Assignment) (cells stack : ℕ) where
       (part_append procs Far Few 0 0 0 3 3 (Jump 1 l.start ∷ []) (exit_with 0) (jump_part procs Far Few 0 1 l.start (inl (omega (arith, lt))) (λ e. lt)) (exit_part Few 0 0)))
 
   abbrev start : List Item
-  start = start_items stack_end heap_base (heap_end l cells) (step l) (heap_full l) l.globals
+  start = start_items stack_end heap_start (heap_end l cells) (step l) (heap_full l) l.globals
 
   start_part : (Few : Type 0) → Part procs Far 0 0 (12 + 4 * length l.globals) Few start
   start_part Few =
       let two = load_constant 2 stack_end in
-      let three = load_constant 3 heap_base in
+      let three = load_constant 3 heap_start in
       let four = load_constant 4 (heap_end l cells) in
       let bytes = step l * length l.globals in
       let tags = globals_code (step l) l.globals in
       part_more procs Far Few 0 0 (6 + (6 + 4 * length l.globals)) (12 + 4 * length l.globals) start (omega arith)
       (part_append procs Far Few 0 0 0 6 (6 + 4 * length l.globals) (plain (two ++ (three ++ four))) (room_items bytes (heap_full l) ++ plain tags)
-      (code_part procs Far Few 0 6 (two ++ (three ++ four)) (piece_append 2 4 two (three ++ four) (number_piece 2 stack_end) (piece_append 2 2 three four (number_piece 3 heap_base) (number_piece 4 (heap_end l cells)))))
+      (code_part procs Far Few 0 6 (two ++ (three ++ four)) (piece_append 2 4 two (three ++ four) (number_piece 2 stack_end) (piece_append 2 2 three four (number_piece 3 heap_start) (number_piece 4 (heap_end l cells)))))
       (part_append procs Far Few 0 0 0 6 (4 * length l.globals) (room_items bytes (heap_full l)) (plain tags)
       (room_part procs Far Few 0 bytes (heap_full l) (inl (omega arith)))
       (code_part procs Far Few 0 (4 * length l.globals) tags (globals_piece (step l) l.globals))))
@@ -192,7 +193,7 @@ module _ (l : Program) (a : Assignment) (cells stack : ℕ) where
     pub counts : (k : ℕ) → times k items ≡ below last k
     pub goes : Goes procs Far items
     pub first : is_instruction (slice_get items 0) ≡ true
-    pub size : AtMostTwoTests l → size_of items ≤ 64 * (procs + length l.globals + 1) + 8 * low_all l + 256 * calls_of l
+    pub size : AtMostTwoTests l → size_of items ≤ 64 * (procs + length l.globals + 1) + 8 * program_size l + 256 * calls_of l
 
   procedures_up : (qs : List Procedure) (f n m : ℕ) (items : List Item) → EmitsProcedures l a cells stack f qs n m items → n ≤ m
   procedures_up [] f n m items e = let same = e.0 in omega arith

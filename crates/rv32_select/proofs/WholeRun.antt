@@ -20,7 +20,8 @@ use Rattle.rv32_items.specs.Course.{Layout, label_from}
 use Rattle.rv32_items.specs.Placed.{is_instruction}
 use Rattle.rv32_select.specs.declared.source.Source.TheVariants.{Number}
 use Rattle.rv32_select.specs.Emit.{plain, load_constant, room_items, globals_code, start_items, argument_spots, number_moves, result_spots, exit_with, base_at_start}
-use Rattle.rv32_select.specs.IsSelected.{heap_base, stack_end, sources, start_argument, is_lasting}
+use Rattle.rv32_select.specs.IsSelected.{sources, start_argument, is_lasting}
+use Rattle.limits.specs.Limits.{heap_start, stack_end}
 use Rattle.low_code.specs.Literals.{TagsSmall}
 use Rattle.rv32_select.proofs.Courses.{Stands, front, back}
 use Rattle.rv32_select.proofs.Leaves.{leaves_on}
@@ -43,7 +44,7 @@ use Rattle.rv32_machine.proofs.Registers.{set_there, set_here}
 pub record Started (l : Program) (a : Assignment) (cells stack : ℕ) (items : List Item) : Type 0 where
   pub start : Procedure
   pub is_start : slice_get l.procs l.start ≡ Some start
-  pub stands : Stands items 0 (start_items stack_end heap_base (heap_base + 4 * l.width * cells) (4 * l.width) (1 + length l.procs) l.globals ++ (plain (number_moves (argument_spots 0 (map (place_of a) start.params)) (sources l a (start_argument l.argument)) ++ base_at_start (is_lasting a) (stack_end - stack)) ++ Jump 1 l.start ∷ exit_with 0))
+  pub stands : Stands items 0 (start_items stack_end heap_start (heap_start + 4 * l.width * cells) (4 * l.width) (1 + length l.procs) l.globals ++ (plain (number_moves (argument_spots 0 (map (place_of a) start.params)) (sources l a (start_argument l.argument)) ++ base_at_start (is_lasting a) (stack_end - stack)) ++ Jump 1 l.start ∷ exit_with 0))
   pub argument : (i : ℕ) → l.argument ≡ Some i → i < length l.globals
   pub tags : TagsSmall l.globals
   pub few : length l.globals ≤ 131072
@@ -121,7 +122,7 @@ module _ (l : Program) (a : Assignment) (cells stack : ℕ) (lay : Layout) (item
         stack' = stack';
       }
 
-      word : (i : ℕ) → i < length l.globals → ((heap_base + 4 * l.width * i) % 2 ^ 32 ≡ heap_base + 4 * l.width * i) × (heap_base + 4 * l.width * i < 2 ^ 32)
+      word : (i : ℕ) → i < length l.globals → ((heap_start + 4 * l.width * i) % 2 ^ 32 ≡ heap_start + 4 * l.width * i) × (heap_start + 4 * l.width * i < 2 ^ 32)
       word i lt =
           let product = product_small in
           let most : 4 * l.width * i ≤ 4 * l.width * cells = mul-le-mul_left (4 * l.width) (let x : i ≤ cells = omega arith in x) in
@@ -132,13 +133,13 @@ module _ (l : Program) (a : Assignment) (cells stack : ℕ) (lay : Layout) (item
       none_holds [] d = tt
       none_holds (s ∷ ss) d = tt
 
-      one_spot : (ss : List Spot) → AllFree l a l.start ss → (i : ℕ) → i < length l.globals → (to : Data) × (Does lay.code (bases stack) (number_moves ss (Number ((heap_base + 4 * l.width * i) % 2 ^ 32) ∷ [])) d to
+      one_spot : (ss : List Spot) → AllFree l a l.start ss → (i : ℕ) → i < length l.globals → (to : Data) × (Does lay.code (bases stack) (number_moves ss (Number ((heap_start + 4 * l.width * i) % 2 ^ 32) ∷ [])) d to
           × (AllHold l.width ss (cell i ∷ []) (regs_of to) × (((r : ℕ) → r < 5 → to.regs r ≡ d.regs r) × ((to.heap ≡ d.heap) × (to.stack ≡ d.stack)))))
       one_spot [] o i lt = (d, (does_nothing lay.code (bases stack) d g, (tt, ((λ r x. refl), (refl, refl)))))
       one_spot (Reg r ∷ ss) o i lt =
           let is = word i lt in
           let lo = o.0.0 in
-          let n = (heap_base + 4 * l.width * i) % 2 ^ 32 in
+          let n = (heap_start + 4 * l.width * i) % 2 ^ 32 in
           let does = does_number lay.code (bases stack) r n d g (omega arith) (omega arith) in
           let to = with_reg d r n in
           let whole = does_on lay.code (bases stack) does (subst (λ x. Does lay.code (bases stack) x to to) (sym (no_sources ss)) (does_nothing lay.code (bases stack) to does.good)) in
@@ -176,7 +177,7 @@ module _ (l : Program) (a : Assignment) (cells stack : ℕ) (lay : Layout) (item
 
   -- the pieces of the start-up
   abbrev numbers : List Instr
-  numbers = load_constant 2 stack_end ++ (load_constant 3 heap_base ++ load_constant 4 (heap_base + 4 * l.width * cells))
+  numbers = load_constant 2 stack_end ++ (load_constant 3 heap_start ++ load_constant 4 (heap_start + 4 * l.width * cells))
 
   abbrev room_piece : List Item
   room_piece = room_items (4 * l.width * length l.globals) (1 + length l.procs)
@@ -185,15 +186,15 @@ module _ (l : Program) (a : Assignment) (cells stack : ℕ) (lay : Layout) (item
   globals_piece = globals_code (4 * l.width) l.globals
 
   abbrev start_piece : List Item
-  start_piece = start_items stack_end heap_base (heap_base + 4 * l.width * cells) (4 * l.width) (1 + length l.procs) l.globals
+  start_piece = start_items stack_end heap_start (heap_start + 4 * l.width * cells) (4 * l.width) (1 + length l.procs) l.globals
 
   abbrev argument_code : List Instr
   argument_code = number_moves (argument_spots 0 (map (place_of a) z.start.params)) (sources l a (start_argument l.argument)) ++ base_at_start (is_lasting a) (stack_end - stack)
 
   abbrev numbered : Data
-  numbered = with_reg (with_reg (with_reg (start_data l.width cells stack) 2 stack_end) 3 heap_base) 4 (heap_base + 4 * l.width * cells)
+  numbered = with_reg (with_reg (with_reg (start_data l.width cells stack) 2 stack_end) 3 heap_start) 4 (heap_start + 4 * l.width * cells)
 
-  heap_small : heap_base + 4 * l.width * cells < 2 ^ 31
+  heap_small : heap_start + 4 * l.width * cells < 2 ^ 31
   heap_small =
       let product = product_small in
       let same : 4 * l.width * cells ≡ 4 * (l.width * cells) = omega arith in
@@ -212,8 +213,8 @@ module _ (l : Program) (a : Assignment) (cells stack : ℕ) (lay : Layout) (item
       let small = heap_small in
       let two = does_number lay.code (bases stack) 2 stack_end (start_data l.width cells stack) good_start (omega arith) (omega arith) in
       let d1 = with_reg (start_data l.width cells stack) 2 stack_end in
-      let three = does_number lay.code (bases stack) 3 heap_base d1 two.good (omega arith) (omega arith) in
-      let four = does_number lay.code (bases stack) 4 (heap_base + 4 * l.width * cells) (with_reg d1 3 heap_base) three.good (omega arith) (omega arith) in
+      let three = does_number lay.code (bases stack) 3 heap_start d1 two.good (omega arith) (omega arith) in
+      let four = does_number lay.code (bases stack) 4 (heap_start + 4 * l.width * cells) (with_reg d1 3 heap_start) three.good (omega arith) (omega arith) in
       does_on lay.code (bases stack) two (does_on lay.code (bases stack) three four)
 
   at_start : Stands items 0 start_piece
@@ -291,7 +292,7 @@ module _ (l : Program) (a : Assignment) (cells stack : ℕ) (lay : Layout) (item
       let keeps = test.keeps 0 0 in
       let heap_is : test.to.heap ≡ replicate (l.width * cells) 0 = keeps.heap in
       let empty : HoldsCells l.width test.to.heap [] = subst (λ x. HoldsCells l.width x []) (sym heap_is) (no_cells l.width (l.width * cells)) in
-      let none : heap_base ≡ heap_base + 4 * l.width * 0 = omega arith in
+      let none : heap_start ≡ heap_start + 4 * l.width * 0 = omega arith in
       let heap_len : length test.to.heap ≡ l.width * cells = ap length heap_is ∙ length-replicate (l.width * cells) 0 in
       let G = globals_done l lay cells stack s.width_some s.width_small l.globals [] test.to test.good z.tags empty (keeps.next ∙ none) heap_len (omega arith) in
       let p2 = 0 + length (plain numbers) + length room_piece in
@@ -320,7 +321,7 @@ module _ (l : Program) (a : Assignment) (cells stack : ℕ) (lay : Layout) (item
         world = record {
           good = good_jumped l a cells stack lay items begins s pj 1 (Jump 1 l.start) A.to jump_stands.0 A.does.good;
           cells_are = subst (λ x. HoldsCells l.width x w0.cells) (sym (A.heap ∙ A'.heap)) G.cells_are;
-          next = jump_reg 3 (omega arith) (omega arith) (omega arith) ∙ A.low 3 (omega arith) ∙ A'.low 3 (omega arith) ∙ G.next ∙ ap (λ x. heap_base + 4 * l.width * x) (let x : 0 + length l.globals ≡ length w0.cells = omega arith in x);
+          next = jump_reg 3 (omega arith) (omega arith) (omega arith) ∙ A.low 3 (omega arith) ∙ A'.low 3 (omega arith) ∙ G.next ∙ ap (λ x. heap_start + 4 * l.width * x) (let x : 0 + length l.globals ≡ length w0.cells = omega arith in x);
           end = jump_reg 4 (omega arith) (omega arith) (omega arith) ∙ A.low 4 (omega arith) ∙ A'.low 4 (omega arith) ∙ G.four ∙ keeps.end;
           room = omega arith;
           globals = omega arith;

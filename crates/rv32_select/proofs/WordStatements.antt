@@ -16,9 +16,10 @@ use Rattle.register_alloc.specs.Fits.{slots_of}
 use Rattle.register_alloc.specs.Assignment.{Assignment, place_of, words_at}
 use Rattle.rv32_items.specs.declared.Item.{Item}
 use Rattle.rv32_items.specs.Course.{Layout}
-use Rattle.rv32_select.specs.declared.source.Way.{Way}
+use Rattle.rv32_select.specs.declared.source.Continuation.{Continuation}
 use Rattle.rv32_select.specs.Emit.{plain, prim_code, load_code, save_code}
-use Rattle.rv32_select.specs.IsSelected.{heap_base, source, Then, Emits}
+use Rattle.rv32_select.specs.IsSelected.{source, Then, Emits}
+use Rattle.limits.specs.Limits.{heap_start}
 use Rattle.rv32_select.proofs.Courses.{Goes}
 use Rattle.rv32_select.proofs.Straight.{Data, at, block as stretch, plain_length}
 use Rattle.rv32_select.proofs.FrameViews.{spots}
@@ -63,7 +64,7 @@ module _ (l : Program) (a : Assignment) (cells stack : ℕ) (lay : Layout) where
 module _ (l : Program) (a : Assignment) (cells stack : ℕ) (lay : Layout) (items : List Item) (begins : List ℕ) (s : Setting l a cells stack lay items begins) (calls_n : Calls) (n : ℕ)
     (f : ℕ) (q : Procedure) (pf : ProcedureFine l a f q) (framed : Bool) (j m : ℕ) (outer : List ℕ) (d0 : Data) (u : ℕ) where
   -- a variable gets the result of an operation
-  pub prim_simulated : (p : PrimOp) (x : ℕ) (o o' : Operand) (c : Code) (to : List Spot) (way : Way) (Must : ℕ → Word → Type 0) (k k' : ℕ) (block : List Item) (pos : ℕ) (scope later : List ℕ) (env : Env) (top : ℕ) (under : Option ℕ) (d : Data) (w : World)
+  pub prim_simulated : (p : PrimOp) (x : ℕ) (o o' : Operand) (c : Code) (to : List Spot) (way : Continuation) (Must : ℕ → Word → Type 0) (k k' : ℕ) (block : List Item) (pos : ℕ) (scope later : List ℕ) (env : Env) (top : ℕ) (under : Option ℕ) (d : Data) (w : World)
       → Block l a cells stack lay items begins f q framed pf.slots j m outer d0 u n (prim p x o o' c) to way Must k k' block pos scope later env top under d w
       → Then (plain (prim_code p (place_of a x) (source l a o) (source l a o'))) (Emits l a cells stack (words_at a f) (slots_of (place_of a) (variables q)) framed to way c k k') block
       → ((v : Word) (rest : List Item) (pos' : ℕ) (d' : Data) → Block l a cells stack lay items begins f q framed pf.slots j m outer d0 u n c to way Must k k' rest pos' (x ∷ scope) later (with_var x v env) top under d' w
@@ -101,10 +102,10 @@ module _ (l : Program) (a : Assignment) (cells stack : ℕ) (lay : Layout) (item
       (omega arith, omega arith)
 
   pub cell_address : (i : ℕ) (r : ℕ) → r ≡ word_of l.width (cell i) → r ≡ (bases stack).heap + 4 * (l.width * i)
-  cell_address i r e = e ∙ (let same : heap_base + 4 * l.width * i ≡ heap_base + 4 * (l.width * i) = omega arith in same)
+  cell_address i r e = e ∙ (let same : heap_start + 4 * l.width * i ≡ heap_start + 4 * (l.width * i) = omega arith in same)
 
   -- a variable gets a word of a cell
-  pub load_simulated : (x : ℕ) (o : Operand) (index : ℕ) (c : Code) (to : List Spot) (way : Way) (Must : ℕ → Word → Type 0) (k k' : ℕ) (block : List Item) (pos : ℕ) (scope later : List ℕ) (env : Env) (top : ℕ) (under : Option ℕ) (d : Data) (w : World)
+  pub load_simulated : (x : ℕ) (o : Operand) (index : ℕ) (c : Code) (to : List Spot) (way : Continuation) (Must : ℕ → Word → Type 0) (k k' : ℕ) (block : List Item) (pos : ℕ) (scope later : List ℕ) (env : Env) (top : ℕ) (under : Option ℕ) (d : Data) (w : World)
       → Block l a cells stack lay items begins f q framed pf.slots j m outer d0 u n (load x o index c) to way Must k k' block pos scope later env top under d w
       → ((v : Word) (rest : List Item) (pos' : ℕ) (d' : Data) → Block l a cells stack lay items begins f q framed pf.slots j m outer d0 u n c to way Must k k' rest pos' (x ∷ scope) later (with_var x v env) top under d' w
       → Simulates l a cells stack lay items begins f q framed pf.slots j m outer d0 u n calls_n c to way Must pos' (with_var x v env) top under d' w)
@@ -137,7 +138,7 @@ module _ (l : Program) (a : Assignment) (cells stack : ℕ) (lay : Layout) (item
       by_cell (Some i) e = by_words i e (slice_get w.cells i) refl
 
   -- a word of a cell becomes an operand
-  pub save_simulated : (o : Operand) (index : ℕ) (o' : Operand) (c : Code) (to : List Spot) (way : Way) (Must : ℕ → Word → Type 0) (k k' : ℕ) (block : List Item) (pos : ℕ) (scope later : List ℕ) (env : Env) (top : ℕ) (under : Option ℕ) (d : Data) (w : World)
+  pub save_simulated : (o : Operand) (index : ℕ) (o' : Operand) (c : Code) (to : List Spot) (way : Continuation) (Must : ℕ → Word → Type 0) (k k' : ℕ) (block : List Item) (pos : ℕ) (scope later : List ℕ) (env : Env) (top : ℕ) (under : Option ℕ) (d : Data) (w : World)
       → Block l a cells stack lay items begins f q framed pf.slots j m outer d0 u n (save o index o' c) to way Must k k' block pos scope later env top under d w
       → ((w' : World) (rest : List Item) (pos' : ℕ) (d' : Data) → Block l a cells stack lay items begins f q framed pf.slots j m outer d0 u n c to way Must k k' rest pos' scope later env top under d' w'
       → Simulates l a cells stack lay items begins f q framed pf.slots j m outer d0 u n calls_n c to way Must pos' env top under d' w')
@@ -163,7 +164,7 @@ module _ (l : Program) (a : Assignment) (cells stack : ℕ) (lay : Layout) (item
           let world : HoldsWorld l a cells stack lay z.to w' = record {
             good = z.does.good;
             cells_are = subst (λ x. HoldsCells l.width x w'.cells) (sym heap_is) (cells_stored l.width d.heap w.cells i index ws old v h.cells_are e' e'' inside.1);
-            next = z.others 3 (omega arith) ∙ h.next ∙ ap (λ x. heap_base + 4 * l.width * x) (sym same_length);
+            next = z.others 3 (omega arith) ∙ h.next ∙ ap (λ x. heap_start + 4 * l.width * x) (sym same_length);
             end = z.others 4 (omega arith) ∙ h.end;
             room = let r = h.room in omega arith;
             globals = let r = h.globals in omega arith;

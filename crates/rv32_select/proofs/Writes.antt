@@ -11,13 +11,13 @@ use Rattle.low_code.specs.declared.program.Operand.{Operand}
 use Rattle.low_code.specs.declared.program.Operand.TheVariants.{Var, Num, Cell}
 use Rattle.low_code.specs.declared.program.LowTest.{LowTest}
 use Rattle.low_code.specs.Tree.{Code, set, prim, load, save, take, put, get, call, join, give, tail, choose, fail, Arms, otherwise, arm, Procedure, Program}
-use Rattle.low_code.specs.Formed.{Known, AllKnown, TestsKnown, Scoped, ArmsScoped, Site, calls_in, arms_calls, binds, arms_binds, variables, all_variables, CallsInRange, AllCallsInRange, Starts}
+use Rattle.low_code.specs.Formed.{OperandInScope, OperandsInScope, TestsInScope, Scoped, ArmsScoped, Site, calls_in, arms_calls, binds, arms_binds, variables, all_variables, CallsInRange, AllCallsInRange, IsStartWellFormed}
 use Rattle.low_code.specs.Size.{code_size, arms_size}
 use Rattle.register_alloc.specs.Assignment.{Assignment, place_of, saves_at, words_at}
 use Rattle.register_alloc.specs.Live.{EachBinding, EachBindingOfArms}
 use Rattle.register_alloc.specs.Fits.{words_of_frame, IsPlace, IsSlot, IsRegister, Apart, ClearOf, Ascending}
 use Rattle.rv32_select.specs.Emit.{argument_spot, argument_spots}
-use Rattle.rv32_select.specs.Ranges.{IsSpot, AreSpots, AreRegisters, is_spot_in, Different, AreTargets}
+use Rattle.rv32_select.specs.Ranges.{IsSpot, AreSpots, AreRegisters, is_spot_in, AllSpotsDiffer, AreTargets}
 use Rattle.rv32_select.specs.Writable.{HasPlace, HavePlaces, OperandPlaced, OperandsPlaced, TestsPlaced, Placed, ArmsPlaced, ProcedurePlaced, CanWrite}
 use Rattle.rv32_select.specs.Selectable.{Selectable}
 use Rattle.rv32_select.proofs.Among.{Within, within_cons, within_append, within_left, within_right, within_tail, within_head, variables_within, sites_within, site_among}
@@ -83,16 +83,16 @@ module _ (l : Program) (a : Assignment) (cells stack : ℕ) (s : Selectable l a 
   have_places [] w = tt
   have_places (x ∷ xs) w = (has_place x (within_head x xs all w), have_places xs (within_tail x xs all w))
 
-  operand_placed : (scope : List ℕ) (b : Operand) → Within scope all → Known globals scope b → OperandPlaced l a b
+  operand_placed : (scope : List ℕ) (b : Operand) → Within scope all → OperandInScope globals scope b → OperandPlaced l a b
   operand_placed scope (Var x) w k = has_place x (w x k)
   operand_placed scope (Num n) w k = tt
   operand_placed scope (Cell i) w k = tt
 
-  operands_placed : (scope : List ℕ) (bs : List Operand) → Within scope all → AllKnown globals scope bs → OperandsPlaced l a bs
+  operands_placed : (scope : List ℕ) (bs : List Operand) → Within scope all → OperandsInScope globals scope bs → OperandsPlaced l a bs
   operands_placed scope [] w k = tt
   operands_placed scope (b ∷ bs) w k = (operand_placed scope b w k.0, operands_placed scope bs w k.1)
 
-  tests_placed : (scope : List ℕ) (ts : List LowTest) → Within scope all → TestsKnown globals scope ts → TestsPlaced l a ts
+  tests_placed : (scope : List ℕ) (ts : List LowTest) → Within scope all → TestsInScope globals scope ts → TestsPlaced l a ts
   tests_placed scope [] w k = tt
   tests_placed scope (t ∷ ts) w k = (operand_placed scope t.left w k.0, tests_placed scope ts w k.1)
 
@@ -103,7 +103,7 @@ module _ (l : Program) (a : Assignment) (cells stack : ℕ) (s : Selectable l a 
       let e = differ (place_of a x) (place_of a y) (λ p. h.0 (sym p)) in
       ap (λ b. b || is_spot_in (place_of a x) (map (place_of a) xs)) e ∙ apart_from x xs h.1
 
-  different : (scope xs : List ℕ) (c : Code) (later : List ℕ) → Apart (place_of a) scope xs c later → Different (map (place_of a) xs)
+  different : (scope xs : List ℕ) (c : Code) (later : List ℕ) → Apart (place_of a) scope xs c later → AllSpotsDiffer (map (place_of a) xs)
   different scope [] c later h = tt
   different scope (x ∷ xs) c later h = (apart_from x xs h.1.0, different scope xs c later h.1.1)
 
@@ -194,18 +194,18 @@ module _ (l : Program) (a : Assignment) (cells stack : ℕ) (s : Selectable l a 
       go (Reg r) e rest = absurd (subst IsSlot e (h x (among_first x xs)))
       go Scratch e rest = absurd (subst IsSlot e (h x (among_first x xs)))
 
-  numbered : (i : ℕ) (xs : List ℕ) → i + length xs ≤ 16 → ((x : ℕ) → is_among x xs ≡ true → IsSlot (place_of a x)) → AreSpots (argument_spots i (map (place_of a) xs)) × Different (argument_spots i (map (place_of a) xs))
+  numbered : (i : ℕ) (xs : List ℕ) → i + length xs ≤ 16 → ((x : ℕ) → is_among x xs ≡ true → IsSlot (place_of a x)) → AreSpots (argument_spots i (map (place_of a) xs)) × AllSpotsDiffer (argument_spots i (map (place_of a) xs))
   numbered i [] n h = (tt, tt)
   numbered i (x ∷ xs) n h = go (place_of a x) refl (numbered (suc i) xs (omega (arith, n)) (λ y m. h y (among_later y x xs m)))
     where
-      go : (p : Spot) → place_of a x ≡ p → AreSpots (argument_spots (suc i) (map (place_of a) xs)) × Different (argument_spots (suc i) (map (place_of a) xs)) → AreSpots (argument_spots i (map (place_of a) (x ∷ xs))) × Different (argument_spots i (map (place_of a) (x ∷ xs)))
+      go : (p : Spot) → place_of a x ≡ p → AreSpots (argument_spots (suc i) (map (place_of a) xs)) × AllSpotsDiffer (argument_spots (suc i) (map (place_of a) xs)) → AreSpots (argument_spots i (map (place_of a) (x ∷ xs))) × AllSpotsDiffer (argument_spots i (map (place_of a) (x ∷ xs)))
       go (Slot j) e more =
           let slots = λ (y : ℕ) (m : is_among y xs ≡ true). h y (among_later y x xs m) in
           let at : argument_spot i (place_of a x) ≡ Reg (8 + i) = ap (argument_spot i) e in
           let here : IsSpot (Reg (8 + i)) = ((let lt : 8 + i < 32 = omega (arith, n) in grind (arith, nat_tests)), λ e. cc) in
-          let all_different : Different (Reg (8 + i) ∷ argument_spots (suc i) (map (place_of a) xs)) = (above i (suc i) xs (omega arith) slots, more.1) in (
+          let all_different : AllSpotsDiffer (Reg (8 + i) ∷ argument_spots (suc i) (map (place_of a) xs)) = (above i (suc i) xs (omega arith) slots, more.1) in (
             (subst IsSpot (sym at) here, more.0),
-            subst (λ t. Different (t ∷ argument_spots (suc i) (map (place_of a) xs))) (sym at) all_different,
+            subst (λ t. AllSpotsDiffer (t ∷ argument_spots (suc i) (map (place_of a) xs))) (sym at) all_different,
           )
       go (Reg r) e more = absurd (subst IsSlot e (h x (among_first x xs)))
       go Scratch e more = absurd (subst IsSlot e (h x (among_first x xs)))
@@ -265,7 +265,7 @@ module _ (l : Program) (a : Assignment) (cells stack : ℕ) (s : Selectable l a 
       inside (p ∷ qs) (suc f) q e = let more = inside qs f q e in omega (arith, more)
 
       go : (o : Option Procedure) → slice_get l.procs l.start ≡ o → l.start < length l.procs
-      go None e = absurd (subst (λ o. Starts l o l.argument) e s.formed.starts)
+      go None e = absurd (subst (λ o. IsStartWellFormed l o l.argument) e s.formed.starts)
       go (Some q) e = inside l.procs l.start q e
 
   pub can_write : CanWrite l a cells

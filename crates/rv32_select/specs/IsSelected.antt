@@ -3,7 +3,7 @@
 use Rattle.std.specs.Prelude.{◌/◌, nat_eq, ◌≡◌, ℕ, suc, ◌+◌, ◌-◌, ◌*◌, ◌%◌, ◌^◌, ◌≤◌, Bool, true, false, if◌then◌else◌, List, [], ◌∷◌, ◌++◌, map, length, Option, Some, None, slice_get, ◌⊎◌}
 use Rattle.parallel_move.specs.declared.Spot.{Spot}
 use Rattle.parallel_move.specs.declared.Move.{Move}
-use Rattle.parallel_move.specs.Moves.{DoesAtOnce, ends, StaysAmong}
+use Rattle.parallel_move.specs.Moves.{MovesInParallel, ends, UsesOnlyMoveSpots}
 use Rattle.low_code.specs.declared.program.Operand.{Operand}
 use Rattle.low_code.specs.declared.program.Operand.TheVariants.{Var, Num, Cell}
 use Rattle.low_code.specs.declared.program.LowTest.{LowTest}
@@ -16,24 +16,18 @@ use Rattle.rv32_items.specs.declared.Item.{Item}
 use Rattle.rv32_items.specs.declared.Item.TheVariants.{Label, Jump}
 use Rattle.rv32_select.specs.declared.source.Source.{Source}
 use Rattle.rv32_select.specs.declared.source.Source.TheVariants.{At, Number}
-use Rattle.rv32_select.specs.declared.source.Way.{Way}
-use Rattle.rv32_select.specs.declared.source.Way.TheVariants.{Returns, Follows, Jumps}
+use Rattle.rv32_select.specs.declared.source.Continuation.{Continuation}
+use Rattle.rv32_select.specs.declared.source.Continuation.TheVariants.{Returns, Follows, Jumps}
 use Rattle.rv32_select.specs.Emit.{put_link, take_link, plain, moves_code, spot_moves, number_moves, set_code, prim_code, load_code, save_code, take_items, put_code, get_code, exit_with, argument_spots, result_spots, entry_items, base_at_start, leave_code, return_items, save_moves, restore_moves, branch_items, test_items, match_items, start_items, stop_items}
 use Rattle.rv32_select.specs.Decides.{decides, tested, condition, other_condition}
-use Rattle.rv32_select.specs.Halves.{Sought, Halves}
-
--- the heap's first address, and the end of the frames
-abbrev pub heap_base : ℕ
-heap_base = 0x50000000
-
-abbrev pub stack_end : ℕ
-stack_end = 0x78000000
+use Rattle.rv32_select.specs.Halves.{SearchedArm, Halves}
+use Rattle.limits.specs.Limits.{heap_start, stack_end}
 
 -- steps that do moves at once, and go between no other spots
 pub record IsOrder (steps moves : List Move) : Type 0 where
-  pub once : DoesAtOnce steps moves
+  pub once : MovesInParallel steps moves
   pub few : ends steps ≤ 2 * length moves
-  pub among : StaysAmong steps moves
+  pub among : UsesOnlyMoveSpots steps moves
 
 -- a piece of items, and then others
 abbrev pub Then : (piece : List Item) → (List Item → Type 0) → List Item → Type 0
@@ -59,12 +53,12 @@ moves_between (t ∷ to) [] = []
 moves_between (t ∷ to) (s ∷ from) = record { to = t; from = s } ∷ moves_between to from
 
 -- the way where other items come before the label
-abbrev pub further : Way → Way
-further Returns = Returns
-further (Follows label) = Jumps label
-further (Jumps label) = Jumps label
+abbrev pub continued_by_jump : Continuation → Continuation
+continued_by_jump Returns = Returns
+continued_by_jump (Follows label) = Jumps label
+continued_by_jump (Jumps label) = Jumps label
 
-abbrev pub way_out : (framed : Bool) → (words : ℕ) → Way → List Item
+abbrev pub way_out : (framed : Bool) → (words : ℕ) → Continuation → List Item
 way_out framed words Returns = return_items framed words
 way_out framed words (Follows label) = []
 way_out framed words (Jumps label) = Jump 0 label ∷ []
@@ -87,7 +81,7 @@ is_rare fail = true
 
 -- where a choice goes on at a label, the first alternative needs no jump there if it stands behind
 -- the others, and the last one has it: that is done where the last one alone is rare
-abbrev pub waits : Way → (first last : Code) → Bool
+abbrev pub waits : Continuation → (first last : Code) → Bool
 waits Returns c d = false
 waits (Follows label) c d = if is_rare c then false else is_rare d
 waits (Jumps label) c d = if is_rare c then false else is_rare d
@@ -101,16 +95,16 @@ has_one [] = false
 has_one (t ∷ []) = true
 has_one (t ∷ (u ∷ ts)) = false
 
-abbrev pub stands_last : Way → Arms → Bool
-stands_last way (otherwise c) = false
-stands_last way (arm ts c as') = if has_one ts then waits way c (last_of as') else false
+abbrev pub first_arm_goes_last : Continuation → Arms → Bool
+first_arm_goes_last way (otherwise c) = false
+first_arm_goes_last way (arm ts c as') = if has_one ts then waits way c (last_of as') else false
 
 -- the bytes of a cell, and the heap's end
 abbrev pub step : Program → ℕ
 step l = 4 * l.width
 
 abbrev pub heap_end : Program → (cells : ℕ) → ℕ
-heap_end l cells = heap_base + step l * cells
+heap_end l cells = heap_start + step l * cells
 
 -- the labels of procedures are their numbers; then come those of the stops
 abbrev pub no_alternative : Program → ℕ
@@ -126,12 +120,12 @@ abbrev pub first_label : Program → ℕ
 first_label l = 3 + length l.procs
 
 -- no procedure changes x27, so that what is there from the start on lasts
-abbrev pub all_keep : (masks : List ℕ) → Bool
-all_keep [] = true
-all_keep (m ∷ ms) = if nat_eq (m / 2 ^ 27 % 2) 1 then false else all_keep ms
+abbrev pub no_mask_has_x27 : (masks : List ℕ) → Bool
+no_mask_has_x27 [] = true
+no_mask_has_x27 (m ∷ ms) = if nat_eq (m / 2 ^ 27 % 2) 1 then false else no_mask_has_x27 ms
 
 abbrev pub is_lasting : Assignment → Bool
-is_lasting a = all_keep a.masks
+is_lasting a = no_mask_has_x27 a.masks
 
 abbrev pub places : Assignment → List ℕ → List Spot
 places a xs = map (place_of a) xs
@@ -159,7 +153,7 @@ module _ (l : Program) (a : Assignment) where
   abbrev pub source : Operand → Source
   source (Var x) = At (place_of a x)
   source (Num k) = Number k
-  source (Cell i) = Number ((heap_base + step l * i) % 2 ^ 32)
+  source (Cell i) = Number ((heap_start + step l * i) % 2 ^ 32)
 
   abbrev pub sources : List Operand → List Source
   sources as' = map source as'
@@ -179,10 +173,10 @@ module _ (l : Program) (a : Assignment) where
 
   -- a choice by halves, with the items behind the search; n is the label where no number is the
   -- word
-  abbrev pub ByHalves : (Each : Operand → List Sought → (k : ℕ) → List Item → Type 0) → (n : ℕ)
+  abbrev pub ByHalves : (Each : Operand → List SearchedArm → (k : ℕ) → List Item → Type 0) → (n : ℕ)
       → List Item → Type 0
   ByHalves Each n items =
-      (word : Operand) × (all : List Sought) × (k : ℕ) × (search rest : List Item)
+      (word : Operand) × (all : List SearchedArm) × (k : ℕ) × (search rest : List Item)
       × Halves n (source word) 0 None all (suc n) k search × Each word all k rest
       × (items ≡ (search ++ Label n ∷ []) ++ rest)
 
@@ -200,7 +194,7 @@ module _ (l : Program) (a : Assignment) (cells stack : ℕ) where
     abbrev mutual
       -- the items of a block that gives its words to these spots and goes this way then; n is the
       -- first label of its own, and m the next one behind them
-      pub Emits : (to : List Spot) → Way → Code → (n m : ℕ) → List Item → Type 0
+      pub Emits : (to : List Spot) → Continuation → Code → (n m : ℕ) → List Item → Type 0
       Emits to way (set x b c) n m items =
           Then (plain (set_code (place_of a x) (source l a b))) (Emits to way c n m) items
       Emits to way (prim f x b d c) n m items =
@@ -216,9 +210,11 @@ module _ (l : Program) (a : Assignment) (cells stack : ℕ) where
       Emits to way (take xs c) n m items =
           Then (take_items (step l) (heap_full l) (places a xs)) (Emits to way c n m) items
       Emits to way (put b c) n m items =
-          Round framed (plain (put_code (heap_end l cells) (source l a b))) (Emits to way c n m) items
+          Round framed (plain (put_code (heap_end l cells) (source l a b)))
+          (Emits to way c n m) items
       Emits to way (get x c) n m items =
-          Round framed (plain (get_code (heap_end l cells) (place_of a x))) (Emits to way c n m) items
+          Round framed (plain (get_code (heap_end l cells) (place_of a x)))
+          (Emits to way c n m) items
       Emits to way (call f site as' xs c) n m items =
           (arguments results : List Move)
           × IsOrder arguments (spot_moves (argument_spots_of l a f) (sources l a as'))
@@ -231,7 +227,8 @@ module _ (l : Program) (a : Assignment) (cells stack : ℕ) where
       Emits to way (give as') n m items =
           (m ≡ n) × (steps : List Move) × IsOrder steps (spot_moves to (sources l a as'))
           × (items
-          ≡ plain (moves_code steps ++ number_moves to (sources l a as')) ++ way_out framed words way)
+          ≡ plain (moves_code steps ++ number_moves to (sources l a as'))
+          ++ way_out framed words way)
       Emits to way (tail f site as') n m items =
           (m ≡ n) × (steps : List Move)
           × IsOrder steps (spot_moves (argument_spots_of l a f) (sources l a as'))
@@ -240,61 +237,64 @@ module _ (l : Program) (a : Assignment) (cells stack : ℕ) where
           ++ Jump 0 f ∷ [])
       Emits to way (choose as') n m items =
           ByHalves l a (λ word all k rest. EmitsEach word to way as' all k m rest) n items
-          ⊎ elim (stands_last way as') [
+          ⊎ elim (first_arm_goes_last way as') [
             | true ↦ EmitsLast to way as' n m items
             | false ↦ EmitsArms to way as' n m items
           ]
       -- at the stop x5 has the address behind this jump, which tells where no alternative was
       Emits to way fail n m items = (m ≡ n) × (items ≡ Jump 5 (no_alternative l) ∷ [])
 
-      pub EmitsArms : (to : List Spot) → Way → Arms → (n m : ℕ) → List Item → Type 0
+      pub EmitsArms : (to : List Spot) → Continuation → Arms → (n m : ℕ) → List Item → Type 0
       EmitsArms to way (otherwise c) n m items = Emits to way c n m items
       EmitsArms to way (arm ts c as') n m items =
-          (k : ℕ) × (block : List Item) × Emits to (further way) c (suc n) k block
+          (k : ℕ) × (block : List Item) × Emits to (continued_by_jump way) c (suc n) k block
           × Then (tests_items l a n ts ++ (block ++ Label n ∷ [])) (EmitsArms to way as' k m) items
 
       -- arms with one test each, of this word: their numbers with their blocks, and the last block
-      pub EmitsEach : (word : Operand) → (to : List Spot) → Way → Arms → List Sought → (k m : ℕ)
+      pub EmitsEach : (word : Operand) → (to : List Spot) → Continuation
+          → Arms → List SearchedArm → (k m : ℕ)
           → List Item → Type 0
       EmitsEach word to way (otherwise c) all k m rest = (all ≡ []) × Emits to way c k m rest
       EmitsEach word to way (arm ts c as') all k m rest =
-          (s : Sought) × (others : List Sought) × (all ≡ s ∷ others)
+          (s : SearchedArm) × (others : List SearchedArm) × (all ≡ s ∷ others)
           × (ts ≡ record { left = word; right = s.number } ∷ [])
-          × Emits to (further way) c s.first s.next s.block
+          × Emits to (continued_by_jump way) c s.first s.next s.block
           × EmitsEach word to way as' others k m rest
 
       -- the first arm, with its one test, behind the others
-      pub EmitsLast : (to : List Spot) → Way → Arms → (n m : ℕ) → List Item → Type 0
+      pub EmitsLast : (to : List Spot) → Continuation → Arms → (n m : ℕ) → List Item → Type 0
       EmitsLast to way (otherwise c) n m items = ⊥
       EmitsLast to way (arm ts c as') n m items =
           (t : LowTest) × (ts ≡ t ∷ [])
-          × (k : ℕ) × (others : List Item) × EmitsArms to (further way) as' (suc n) k others
+          × (k : ℕ) × (others : List Item)
+          × EmitsArms to (continued_by_jump way) as' (suc n) k others
           × Then (match_items n (source l a t.left) t.right ++ (others ++ Label n ∷ []))
           (Emits to way c k m) items
 
       -- a choice whose first arm is taken by how two words compare
-      pub EmitsDecided : PrimOp → (left right : Source) → (to : List Spot) → Way → Code
+      pub EmitsDecided : PrimOp → (left right : Source) → (to : List Spot) → Continuation → Code
           → (n m : ℕ) → List Item → Type 0
-      EmitsDecided f left right to way (choose as') n m items = elim (stands_last way as') [
+      EmitsDecided f left right to way (choose as') n m items = elim (first_arm_goes_last way as') [
         | true ↦ EmitsDecidedLast f left right to way as' n m items
         | false ↦ EmitsDecidedFirst f left right to way as' n m items
       ]
       EmitsDecided f left right to way _ n m items = ⊥
 
       -- that arm first, and behind the others
-      pub EmitsDecidedFirst : PrimOp → (left right : Source) → (to : List Spot) → Way → Arms
+      pub EmitsDecidedFirst : PrimOp → (left right : Source) → (to : List Spot)
+          → Continuation → Arms
           → (n m : ℕ) → List Item → Type 0
       EmitsDecidedFirst f left right to way (otherwise c) n m items = ⊥
       EmitsDecidedFirst f left right to way (arm ts c as') n m items =
           Passed (branch_items (other_condition f (tested ts)) n left right)
-          (Emits to (further way) c) (EmitsArms to way as') n m items
+          (Emits to (continued_by_jump way) c) (EmitsArms to way as') n m items
 
-      pub EmitsDecidedLast : PrimOp → (left right : Source) → (to : List Spot) → Way → Arms
+      pub EmitsDecidedLast : PrimOp → (left right : Source) → (to : List Spot) → Continuation → Arms
           → (n m : ℕ) → List Item → Type 0
       EmitsDecidedLast f left right to way (otherwise c) n m items = ⊥
       EmitsDecidedLast f left right to way (arm ts c as') n m items =
           Passed (branch_items (condition f (tested ts)) n left right)
-          (EmitsArms to (further way) as') (Emits to way c) n m items
+          (EmitsArms to (continued_by_jump way) as') (Emits to way c) n m items
 
   -- procedure f: its entry, and its block
   pub record EmitsProcedure (f : ℕ) (q : Procedure) (n m : ℕ) (items : List Item) : Type 0 where
@@ -318,5 +318,5 @@ module _ (l : Program) (a : Assignment) (cells stack : ℕ) where
     pub procedures : List Item
     pub each : EmitsProcedures 0 l.procs (first_label l) last procedures
     pub is : items
-        ≡ (start_items stack_end heap_base (heap_end l cells) (step l) (heap_full l) l.globals
+        ≡ (start_items stack_end heap_start (heap_end l cells) (step l) (heap_full l) l.globals
         ++ first_call l a (stack_end - stack)) ++ (procedures ++ stop_items (no_alternative l))

@@ -9,8 +9,8 @@ use Rattle.rv32_select.specs.Selectable.{Selectable}
 use Rattle.rv32_select.specs.Selects.{Selects}
 
 -- items that are selected for low code that is never missing do what it does
-abbrev pub SelectedItemsDo : Type 0
-SelectedItemsDo =
+abbrev pub SelectionRefines : Type 0
+SelectionRefines =
     (l : Program) (a : Assignment) (cells stack : ℕ) (items : List Item)
     → Selectable l a cells stack → NeverMissing l → IsSelected l a cells stack items
     → Selects l a cells stack items

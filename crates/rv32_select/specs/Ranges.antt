@@ -40,11 +40,11 @@ is_spot_in s [] = false
 is_spot_in s (t ∷ ts) = same s t || is_spot_in s ts
 
 -- no spot twice
-abbrev pub Different : List Spot → Type 0
-Different [] = Unit {0}
-Different (s ∷ ss) = (is_spot_in s ss ≡ false) × Different ss
+abbrev pub AllSpotsDiffer : List Spot → Type 0
+AllSpotsDiffer [] = Unit {0}
+AllSpotsDiffer (s ∷ ss) = (is_spot_in s ss ≡ false) × AllSpotsDiffer ss
 
 -- spots to which words can go at once
 pub record AreTargets (to : List Spot) : Type 0 where
   pub spots : AreSpots to
-  pub different : Different to
+  pub different : AllSpotsDiffer to

@@ -1,20 +1,21 @@
 -- Items that do what low code does, in frames and on a heap of the given sizes.
 use Rattle.std.specs.Prelude.{◌≡◌, ℕ, ◌+◌, ◌-◌, ◌*◌, ◌≤◌, true, false, List, [], ◌∷◌, length, drop, replicate, Option, Some, None, slice_get}
 use Rattle.std.specs.List.{range_with_len}
-use Rattle.headline.specs.Carries.{IsBytes, Begins}
+use Rattle.headline.specs.Carries.{IsBytes, IsPrefixOf}
 use Rattle.low_code.specs.Tree.{Program}
 use Rattle.low_code.specs.Values.{Answer, no_alternative, out_of_units, missing, heap_full, stack_full}
-use Rattle.low_code.specs.Run.{End, done, ended, end_of, world_of, limited}
-use Rattle.low_code.specs.Size.{low_all, calls_of, AtMostTwoTests}
+use Rattle.low_code.specs.Run.{RunEnd, done, ended, end_of, world_of, limited}
+use Rattle.low_code.specs.Size.{program_size, calls_of, AtMostTwoTests}
 use Rattle.register_alloc.specs.Assignment.{Assignment, words_at}
 use Rattle.rv32_machine.specs.Memory.{Stretch, end_of as end_of_stretch}
 use Rattle.rv32_steps.specs.Trace.{is_one_of, AllDifferent, procedures_at}
 use Rattle.rv32_items.specs.declared.Item.{Item}
-use Rattle.rv32_items.specs.Course.{Layout, Point, End as CourseEnd, Going, Exited, Stopped, Course, course}
-use Rattle.rv32_items.specs.Placed.{is_instruction, size_of, AllPlain, LabelsStand, times, Rises}
+use Rattle.rv32_items.specs.Course.{Layout, Point, CourseEnd as CourseEnd, Going, Exited, Stopped, Course, course}
+use Rattle.rv32_items.specs.Placed.{is_instruction, size_of, AllPlain, LabelsStand, times, AddressesRise}
 use Rattle.rv32_items.specs.Told.{ReturnsHome}
-use Rattle.rv32_items.specs.Leaving.{LeavesBy}
-pub use Rattle.rv32_items.specs.Flows.{is_begin, NoBegin, GoesOn, IsStop, Flows}
+use Rattle.rv32_items.specs.Leaving.{LeavesByLinkJump}
+use Rattle.limits.specs.Limits.{heap_start, stack_end}
+pub use Rattle.rv32_items.specs.Flows.{begins_procedure, NoProcedureBegins, IsForwardTransfer, IsStopItem, HasStructuredFlow}
 
 -- ---- where the items start
 
@@ -22,23 +23,22 @@ pub use Rattle.rv32_items.specs.Flows.{is_begin, NoBegin, GoesOn, IsStop, Flows}
 abbrev pub zeros : (first size : ℕ) → Stretch
 zeros first size = record { first = first; write = true; exec = false; bytes = replicate size 0 }
 
--- at the first item, with all registers zero; the heap is at 0x50000000, and the stack ends at
--- 0x78000000
-abbrev pub start_at : (width cells stack : ℕ) → Layout → Point
-start_at width cells stack lay = record {
+-- at the first item, with all registers zero
+abbrev pub start_point : (width cells stack : ℕ) → Layout → Point
+start_point width cells stack lay = record {
   regs = λ r. 0;
   item = 0;
-  memory = lay.code ∷ zeros 0x50000000 (4 * width * cells) ∷ zeros (0x78000000 - stack) stack ∷ [];
+  memory = lay.code ∷ zeros heap_start (4 * width * cells) ∷ zeros (stack_end - stack) stack ∷ [];
 }
 
 -- the code ends before the heap begins
 abbrev pub BelowHeap : Layout → Type 0
-BelowHeap lay = end_of_stretch lay.code ≤ 0x50000000
+BelowHeap lay = end_of_stretch lay.code ≤ heap_start
 
 -- ---- what the items do
 
 -- the code with which the image exits where a run ends so
-abbrev pub exit_of : End → Option ℕ
+abbrev pub exit_of : RunEnd → Option ℕ
 exit_of done = Some 0
 exit_of (ended no_alternative) = Some 3
 exit_of (ended heap_full) = Some 4
@@ -46,31 +46,33 @@ exit_of (ended stack_full) = Some 5
 exit_of (ended out_of_units) = None
 exit_of (ended missing) = None
 
-abbrev pub SameEnd : (input : List ℕ) → Answer → Course → Type 0
-SameEnd input a c = (c.out ≡ (world_of a).out) × (length input - length c.left ≡ (world_of a).used)
+abbrev pub SameOutputAndInput : (input : List ℕ) → Answer → Course → Type 0
+SameOutputAndInput input a c =
+    (c.out ≡ (world_of a).out) × (length input - length c.left ≡ (world_of a).used)
 
-abbrev pub Finishes : (input : List ℕ) → Answer → Course → CourseEnd → Type 0
-Finishes input a c (Going p) = Unit {0}
-Finishes input a c (Exited code) = (exit_of (end_of a) ≡ Some code) × SameEnd input a c
-Finishes input a c (Stopped kind) = ⊥
+abbrev pub EndsLikeRun : (input : List ℕ) → Answer → Course → CourseEnd → Type 0
+EndsLikeRun input a c (Going p) = Unit {0}
+EndsLikeRun input a c (Exited code) =
+    (exit_of (end_of a) ≡ Some code) × SameOutputAndInput input a c
+EndsLikeRun input a c (Stopped kind) = ⊥
 
 -- a course has written and read no more than a run, passed the labels of the procedures that the
 -- run entered, and ended only as the run has
 pub record Follows (begins input : List ℕ) (a : Answer) (c : Course) : Type 0 where
   pub entered : procedures_at begins c.passed ≡ (world_of a).entered
-  pub output : Begins c.out (world_of a).out
+  pub output : IsPrefixOf c.out (world_of a).out
   pub used : length input - length c.left ≤ (world_of a).used
-  pub finish : Finishes input a c c.end
+  pub finish : EndsLikeRun input a c c.end
 
 abbrev pub Matches : (input : List ℕ) → Answer → Course → Option ℕ → Type 0
 Matches input a c None = Unit {0}
-Matches input a c (Some code) = (c.end ≡ Exited code) × SameEnd input a c
+Matches input a c (Some code) = (c.end ≡ Exited code) × SameOutputAndInput input a c
 
 -- a course has passed the labels of just the procedures that a run entered, written what that has,
 -- and ended where it has
-pub record Arrives (begins input : List ℕ) (a : Answer) (c : Course) : Type 0 where
+pub record ReachesAnswer (begins input : List ℕ) (a : Answer) (c : Course) : Type 0 where
   pub entered : procedures_at begins c.passed ≡ (world_of a).entered
-  pub output : Begins (world_of a).out c.out
+  pub output : IsPrefixOf (world_of a).out c.out
   pub ended : Matches input a c (exit_of (end_of a))
 
 -- ---- selection
@@ -86,32 +88,33 @@ pub record Selects (l : Program) (a : Assignment) (cells stack : ℕ) (items : L
   pub plain : AllPlain items
   pub labels : LabelsStand items
   pub some_item : (n : ℕ) × (is_instruction (slice_get items n) ≡ true)
-  pub flows : Flows begins items
+  pub flows : HasStructuredFlow begins items
   -- the stops are nine instructions, three for each code with which a run ends early
   pub nine_stop : size_of (drop flows.stops items) ≡ 9
   -- no more items, counted as they are placed, than this
   pub few : AtMostTwoTests l
       → size_of items
-      ≤ 64 * (length l.procs + length l.globals + 1) + 8 * low_all l + 256 * calls_of l
+      ≤ 64 * (length l.procs + length l.globals + 1) + 8 * program_size l + 256 * calls_of l
   -- whatever the layout, where the code is below the heap: after any number of items the course
   -- follows the run with as many units as procedures were passed,
-  pub follows : (lay : Layout) → Rises items lay → BelowHeap lay
+  pub follows : (lay : Layout) → AddressesRise items lay → BelowHeap lay
       → (i : List ℕ) → IsBytes i → (k : ℕ) →
-      let c = course lay items k i (start_at l.width cells stack lay) in
+      let c = course lay items k i (start_point l.width cells stack lay) in
       Follows begins i
       (limited l (words_at a) cells stack i (length (procedures_at begins c.passed))) c
   -- for any number of units it arrives where the run does,
-  pub arrives : (lay : Layout) → Rises items lay → BelowHeap lay
+  pub arrives : (lay : Layout) → AddressesRise items lay → BelowHeap lay
       → (i : List ℕ) → IsBytes i → (n : ℕ) →
       (k : ℕ)
-      × Arrives begins i (limited l (words_at a) cells stack i n)
-      (course lay items k i (start_at l.width cells stack lay))
+      × ReachesAnswer begins i (limited l (words_at a) cells stack i n)
+      (course lay items k i (start_point l.width cells stack lay))
   -- each return goes behind the last call that is open,
-  pub home : (lay : Layout) → Rises items lay → BelowHeap lay → (i : List ℕ) → IsBytes i → (k : ℕ) →
-      ReturnsHome lay items k i (start_at l.width cells stack lay) []
+  pub home : (lay : Layout) → AddressesRise items lay → BelowHeap lay
+      → (i : List ℕ) → IsBytes i → (k : ℕ) →
+      ReturnsHome lay items k i (start_point l.width cells stack lay) []
   -- and where a course ends because no alternative was found, it left the procedures by a jump that
   -- links x5
-  pub leaves : (lay : Layout) → Rises items lay → BelowHeap lay
+  pub leaves : (lay : Layout) → AddressesRise items lay → BelowHeap lay
       → (i : List ℕ) → IsBytes i → (k : ℕ)
-      → (course lay items k i (start_at l.width cells stack lay)).end ≡ Exited 3
-      → LeavesBy lay items flows.stops 5 i (start_at l.width cells stack lay) k
+      → (course lay items k i (start_point l.width cells stack lay)).end ≡ Exited 3
+      → LeavesByLinkJump lay items flows.stops 5 i (start_point l.width cells stack lay) k

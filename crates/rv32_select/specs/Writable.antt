@@ -11,7 +11,8 @@ use Rattle.low_code.specs.Formed.{variables}
 use Rattle.register_alloc.specs.Assignment.{Assignment, place_of, saves_at, words_at}
 use Rattle.register_alloc.specs.Fits.{slots_of}
 use Rattle.rv32_select.specs.Emit.{argument_spots}
-use Rattle.rv32_select.specs.Ranges.{IsSpot, AreRegisters, Different, AreTargets}
+use Rattle.rv32_select.specs.Ranges.{IsSpot, AreRegisters, AllSpotsDiffer, AreTargets}
+use Rattle.limits.specs.Limits.{largest_program, most_cells}
 
 -- a frame of less than 2^28 bytes, and the first of its slots for saved registers
 abbrev pub FrameFits : (words saved : ℕ) → Type 0
@@ -39,7 +40,7 @@ module _ (l : Program) (a : Assignment) where
   TestsPlaced (t ∷ ts) = OperandPlaced t.left × TestsPlaced ts
 
   abbrev pub TargetsPlaced : List ℕ → Type 0
-  TargetsPlaced xs = HavePlaces xs × Different (map (place_of a) xs)
+  TargetsPlaced xs = HavePlaces xs × AllSpotsDiffer (map (place_of a) xs)
 
   -- registers are saved only where they are variables': x8 to x31
   abbrev pub CallPlaced : (proc site : ℕ) → List Operand → List ℕ → Type 0
@@ -87,11 +88,11 @@ module _ (l : Program) (a : Assignment) where
   pub record Writable : Type 0 where
     pub width : (1 ≤ l.width) × (l.width ≤ 14)
     pub procedures : (f : ℕ) (q : Procedure) → slice_get l.procs f ≡ Some q → ProcedurePlaced q
-    pub few_procedures : length l.procs ≤ 131072
+    pub few_procedures : length l.procs ≤ largest_program
     pub frames : length a.frames ≡ length l.procs
     pub masks : length a.masks ≡ length l.procs
     pub words : (f : ℕ) → words_at a f < 67108864
     pub start : l.start < length l.procs
 
   abbrev pub CanWrite : (cells : ℕ) → Type 0
-  CanWrite cells = Writable × (cells ≤ 8000000)
+  CanWrite cells = Writable × (cells ≤ most_cells)

@@ -9,17 +9,18 @@ ghost use Rattle.rv32_select.specs.IsSelected.{source as source_of, sources as s
 ghost use Rattle.rv32_select.specs.Decides.{decides as decides_all};
 ghost use Rattle.rv32_select.specs.Ranges.{AreTargets};
 ghost use Rattle.rv32_select.specs.Writable.{Writable, CanWrite, FrameFits, Placed, ArmsPlaced, ArmPlaced, HavePlaces, OperandPlaced, OperandsPlaced, TestsPlaced, TargetsPlaced, CallPlaced, BlocksPlaced};
-ghost use Rattle.rv32_select.specs.Emitting.{Moved, Sent, Called, TailCalled, Emitted, EmittedArms, EmittedLast, EmittedDecidedFirst, EmittedDecidedLast, Before, ArmsBefore, one_arm, Rises, Searched};
+ghost use Rattle.rv32_select.specs.Emitting.{EmitsMoves, EmitsParallelMoves, Called, TailCalled, Emitted, EmittedArms, EmittedLast, EmittedDecidedFirst, EmittedDecidedLast, Before, ArmsBefore, one_arm, TestsAscend, Searched};
 ghost use Rattle.rv32_select.specs.Halves.{last_test as last_test_items};
 
 use crate::code::Code;
-use crate::context::{Context, Frame, HEAP_BASE, result_spots};
-use crate::decides::{Comparison, condition, deciding, other_condition, tested};
-use crate::links::further;
-use crate::rare::stands_last;
-use crate::search::{Search, extra_words, number_of, sought};
-use crate::source::Way;
+use crate::context::{Context, Frame, result_spots};
+use crate::decides::{Comparison, condition, deciding_last_comparison, other_condition, tested};
+use crate::links::continued_by_jump;
+use crate::rare::first_arm_goes_last;
+use crate::search::{Search, extra_words, number_of, searched_word};
+use crate::source::Continuation;
 use crate::statements::spared_by_offset;
+use limits::HEAP_START;
 use low_code::{LowArm, LowBlock, LowEnd, LowStmt, LowTest, Operand};
 use parallel_move::Spot;
 use rv32_isa::Reg;
@@ -51,7 +52,7 @@ impl<'a> Context<'a> {
         requires { CanWrite (program_of self.now.low.now) self.now.places.now self.now.cells }
         ensures { result ≡ end_of_heap (program_of self.now.low.now) self.now.cells }
     {
-        HEAP_BASE + 4 * self.low.width * self.cells
+        HEAP_START + 4 * self.low.width * self.cells
     }
 
     pub(crate) fn no_alternative(&self) -> u32
@@ -74,7 +75,7 @@ impl<'a> Context<'a> {
         requires writable { Writable (program_of self.now.low.now) self.now.places.now }
         requires operands { OperandsPlaced (program_of self.now.low.now) self.now.places.now
             operands.now }
-        ensures { OnOk result (Sent to.now
+        ensures { OnOk result (EmitsParallelMoves to.now
             (sources_of (program_of self.now.low.now) self.now.places.now operands.now)
             code.old code.new) }
     {
@@ -93,7 +94,7 @@ impl<'a> Context<'a> {
         requires proc { proc < length self.now.low.now.procs }
         requires operands { OperandsPlaced (program_of self.now.low.now) self.now.places.now
             operands.now }
-        ensures { OnOk result (Sent
+        ensures { OnOk result (EmitsParallelMoves
             (argument_spots_of (program_of self.now.low.now) self.now.places.now proc)
             (sources_of (program_of self.now.low.now) self.now.places.now operands.now)
             code.old code.new) }
@@ -108,7 +109,7 @@ impl<'a> Context<'a> {
         requires proc { proc < length self.now.low.now.procs }
         requires variables { TargetsPlaced (program_of self.now.low.now) self.now.places.now
             variables.now }
-        ensures { OnOk result (Moved
+        ensures { OnOk result (EmitsMoves
             (moves_across (map (place_of self.now.places.now) variables.now)
             (result_spots_of (program_of self.now.low.now) proc)) code.old code.new) }
     {
@@ -280,7 +281,13 @@ impl<'a> Context<'a> {
     {
         let label = out.fresh()?;
         let spots = self.spots(variables)?;
-        self.block(frame, out, spots.as_slice(), Way::Follows(label), block)?;
+        self.block(
+            frame,
+            out,
+            spots.as_slice(),
+            Continuation::Follows(label),
+            block,
+        )?;
         out.code.put(Item::Label(label))
     }
 
@@ -290,7 +297,7 @@ impl<'a> Context<'a> {
         frame: Frame,
         out: &mut Selection,
         to: &[Spot],
-        way: Way,
+        way: Continuation,
         arm: &LowArm,
     ) -> Result<(), AllocError>
         requires writable { CanWrite (program_of self.now.low.now) self.now.places.now
@@ -305,7 +312,7 @@ impl<'a> Context<'a> {
     {
         let label = out.fresh()?;
         self.tests(&mut out.code, label, arm.tests.as_slice())?;
-        self.block(frame, out, to, further(way), &arm.block)?;
+        self.block(frame, out, to, continued_by_jump(way), &arm.block)?;
         out.code.put(Item::Label(label))
     }
 
@@ -316,7 +323,7 @@ impl<'a> Context<'a> {
         frame: Frame,
         out: &mut Selection,
         to: &[Spot],
-        way: Way,
+        way: Continuation,
         arms: &[LowArm],
         otherwise: &LowBlock,
     ) -> Result<(), AllocError>
@@ -344,7 +351,7 @@ impl<'a> Context<'a> {
         frame: Frame,
         out: &mut Selection,
         to: &[Spot],
-        way: Way,
+        way: Continuation,
         first: &LowArm,
         test: LowTest,
         arms: &[LowArm],
@@ -365,7 +372,7 @@ impl<'a> Context<'a> {
         let label = out.fresh()?;
         out.code
             .match_to(label, self.source(test.left), test.right)?;
-        self.arms(frame, out, to, further(way), arms, otherwise)?;
+        self.arms(frame, out, to, continued_by_jump(way), arms, otherwise)?;
         out.code.put(Item::Label(label))?;
         self.block(frame, out, to, way, &first.block)?;
         Ok(())
@@ -393,7 +400,7 @@ impl<'a> Context<'a> {
         frame: Frame,
         out: &mut Selection,
         to: &[Spot],
-        way: Way,
+        way: Continuation,
         search: Search,
         arms: &[LowArm],
     ) -> Result<(), AllocError>
@@ -404,7 +411,7 @@ impl<'a> Context<'a> {
         requires some { 1 ≤ length arms.now }
         requires word { OperandPlaced (program_of self.now.low.now) self.now.places.now
             search.word }
-        requires rises { Rises search.word search.low search.high arms.now }
+        requires rises { TestsAscend search.word search.low search.high arms.now }
         requires placed { BlocksPlaced (program_of self.now.low.now) self.now.places.now arms.now }
         ensures { OnOk result (Searched (program_of self.now.low.now) self.now.places.now
             self.now.cells self.now.stack frame.words frame.saved frame.framed search.miss search.word to.now
@@ -443,7 +450,7 @@ impl<'a> Context<'a> {
         frame: Frame,
         out: &mut Selection,
         to: &[Spot],
-        way: Way,
+        way: Continuation,
         arms: &[LowArm],
         otherwise: &LowBlock,
     ) -> Result<(), AllocError>
@@ -458,7 +465,7 @@ impl<'a> Context<'a> {
             (choose (arms_before (map arm_of arms.now) (code_of otherwise.now))) out.old.code
             out.old.next out.new.code out.new.next) }
     {
-        let Some(word) = sought(out.spared, arms, otherwise) else {
+        let Some(word) = searched_word(out.spared, arms, otherwise) else {
             return self.choose(frame, out, to, way, arms, otherwise);
         };
         out.spared = out.spared.saturating_sub(extra_words(arms, word));
@@ -469,7 +476,7 @@ impl<'a> Context<'a> {
             low: 0,
             high: None,
         };
-        self.halves(frame, out, to, further(way), search, arms)?;
+        self.halves(frame, out, to, continued_by_jump(way), search, arms)?;
         out.code.put(Item::Label(miss))?;
         self.block(frame, out, to, way, otherwise)?;
         Ok(())
@@ -481,7 +488,7 @@ impl<'a> Context<'a> {
         frame: Frame,
         out: &mut Selection,
         to: &[Spot],
-        way: Way,
+        way: Continuation,
         arms: &[LowArm],
         otherwise: &LowBlock,
     ) -> Result<(), AllocError>
@@ -502,7 +509,7 @@ impl<'a> Context<'a> {
                 Ok(())
             }
             Some((first, others)) => {
-                if stands_last(way, first, otherwise) {
+                if first_arm_goes_last(way, first, otherwise) {
                     let test = first.tests.as_slice()[0];
                     self.first_last(frame, out, to, way, first, test, others, otherwise)?;
                     return Ok(());
@@ -520,7 +527,7 @@ impl<'a> Context<'a> {
         frame: Frame,
         out: &mut Selection,
         to: &[Spot],
-        way: Way,
+        way: Continuation,
         comparison: Comparison,
         first: &LowArm,
         others: &[LowArm],
@@ -552,7 +559,7 @@ impl<'a> Context<'a> {
             left,
             right,
         )?;
-        self.block(frame, out, to, further(way), &first.block)?;
+        self.block(frame, out, to, continued_by_jump(way), &first.block)?;
         out.code.put(Item::Label(label))?;
         self.arms(frame, out, to, way, others, otherwise)?;
         Ok(())
@@ -565,7 +572,7 @@ impl<'a> Context<'a> {
         frame: Frame,
         out: &mut Selection,
         to: &[Spot],
-        way: Way,
+        way: Continuation,
         comparison: Comparison,
         first: &LowArm,
         others: &[LowArm],
@@ -592,7 +599,7 @@ impl<'a> Context<'a> {
         let right = self.source(comparison.right);
         let number = tested(first.tests.as_slice());
         out.code.branch(condition(comparison.operation, number), label, left, right)?;
-        self.arms(frame, out, to, further(way), others, otherwise)?;
+        self.arms(frame, out, to, continued_by_jump(way), others, otherwise)?;
         out.code.put(Item::Label(label))?;
         self.block(frame, out, to, way, &first.block)?;
         Ok(())
@@ -604,7 +611,7 @@ impl<'a> Context<'a> {
         frame: Frame,
         out: &mut Selection,
         to: &[Spot],
-        way: Way,
+        way: Continuation,
         comparison: Comparison,
         first: &LowArm,
         others: &[LowArm],
@@ -627,7 +634,7 @@ impl<'a> Context<'a> {
             (choose (arms_before (map arm_of (first.now ∷ others.now)) (code_of otherwise.now))))
             out.old.code out.old.next out.new.code out.new.next) }
     {
-        if stands_last(way, first, otherwise) {
+        if first_arm_goes_last(way, first, otherwise) {
             self.decided_last(frame, out, to, way, comparison, first, others, otherwise)?;
             return Ok(());
         }
@@ -642,7 +649,7 @@ impl<'a> Context<'a> {
         frame: Frame,
         out: &mut Selection,
         to: &[Spot],
-        way: Way,
+        way: Continuation,
         comparison: Comparison,
         end: &LowEnd,
     ) -> Result<(), AllocError>
@@ -682,7 +689,7 @@ impl<'a> Context<'a> {
         frame: Frame,
         out: &mut Selection,
         to: &[Spot],
-        way: Way,
+        way: Continuation,
         end: &LowEnd,
     ) -> Result<(), AllocError>
         requires writable { CanWrite (program_of self.now.low.now) self.now.places.now
@@ -725,7 +732,7 @@ impl<'a> Context<'a> {
         frame: Frame,
         out: &mut Selection,
         to: &[Spot],
-        way: Way,
+        way: Continuation,
         block: &LowBlock,
     ) -> Result<(), AllocError>
         requires writable { CanWrite (program_of self.now.low.now) self.now.places.now
@@ -741,7 +748,7 @@ impl<'a> Context<'a> {
         let mut left = block.stmts.len();
         for stmt in block.stmts.as_slice() {
             left -= 1;
-            if let Some(comparison) = deciding(left == 0, stmt, &block.last) {
+            if let Some(comparison) = deciding_last_comparison(left == 0, stmt, &block.last) {
                 self.decided(frame, out, to, way, comparison, &block.last)?;
                 return Ok(());
             }

@@ -4,7 +4,7 @@
 ghost use Rattle.std.specs.Prelude.{◌≡◌, ◌++◌, [], ◌∷◌, ◌<◌, OnOk, IfOk, true};
 ghost use Rattle.rv32_select.specs.Emit.{plain, is_short as short_number, upper as upper_part, load_constant as number_code, add_to as add_code, copy as copy_code, slot_bytes as bytes_of_slot, slot_base as base_of_slot, reach as reach_code, load_slot as load_slot_code, store_slot as store_slot_code, from_spot as from_spot_code, slot_from as slot_from_code, move_to as move_code, moves_code, target as target_of, keep as keep_code, held as held_in, hold as hold_code, number_into as number_into_code};
 ghost use Rattle.rv32_select.specs.Ranges.{in_range, IsSource};
-ghost use Rattle.parallel_move.specs.Moves.{AllEnds};
+ghost use Rattle.parallel_move.specs.Moves.{AllMoveEnds};
 ghost use Rattle.rv32_items.specs.declared.Item.{Item};
 ghost use Rattle.rv32_isa.specs.declared.instr.Instr.{Instr};
 ghost use Rattle.rv32_machine.specs.Arithmetic.{negated as negated_number};
@@ -244,7 +244,7 @@ impl Code {
 
     /// Moves, one after another.
     pub(crate) fn moves(&mut self, moves: &[Move]) -> Result<(), AllocError>
-        requires { AllEnds in_range moves.now }
+        requires { AllMoveEnds in_range moves.now }
         ensures { OnOk result (self.new ≡ self.old ++ plain (moves_code moves.now)) }
     {
         for m in moves {

@@ -2,25 +2,23 @@
 #![tactic(auto, using(crate::proofs::Plain::plain_append, crate::proofs::Sending::sending), unfolding(crate::specs::Emit::plain))]
 
 ghost use Rattle.std.specs.Prelude.{◌≡◌, ◌++◌, [], ◌∷◌, ◌<◌, ◌+◌, ◌≤◌, length, map, slice_get, Some, OnOk, IfOk, true};
-ghost use Rattle.parallel_move.specs.Moves.{AllEnds, DistinctTargets, NoScratch};
+ghost use Rattle.parallel_move.specs.Moves.{AllMoveEnds, DistinctTargets, NoScratch};
 ghost use Rattle.low_code.specs.Tree.{program_of};
 ghost use Rattle.register_alloc.specs.Assignment.{place_of};
 ghost use Rattle.rv32_select.specs.Emit.{plain, moves_code, save_moves, restore_moves, argument_spot as spot_of_argument, argument_spots as spots_of_arguments, result_spots as spots_of_results, parameters_code, number_from as number_from_code, number_moves as numbers_code, spot_moves as moves_of};
 ghost use Rattle.rv32_select.specs.IsSelected.{source as source_of, sources as sources_of, argument_spots_of, moves_between as moves_across};
 ghost use Rattle.rv32_select.specs.Ranges.{in_range, AllInRange, IsSource, AreSources, IsSpot, AreSpots, AreTargets, AreRegisters};
 ghost use Rattle.rv32_select.specs.Writable.{Writable, HasPlace, HavePlaces, OperandPlaced, OperandsPlaced};
-ghost use Rattle.rv32_select.specs.Emitting.{Moved, Sent};
+ghost use Rattle.rv32_select.specs.Emitting.{EmitsMoves, EmitsParallelMoves};
 
 use crate::code::Code;
 use crate::source::Source;
+use limits::HEAP_START;
 use low_code::{Low, Operand};
 use parallel_move::{Move, Spot, order};
 use register_alloc::Places;
 use rv32_isa::Reg;
 use std::alloc::{AllocError, Global};
-
-/// The heap's first address.
-pub(crate) const HEAP_BASE: u32 = 0x50000000;
 
 /// The words of a procedure's frame, the first slot for saved registers, and whether the return
 /// address is in the frame from the entry to the end.
@@ -109,8 +107,8 @@ impl Code {
     fn moves_at_once(&mut self, alloc: Global, moves: &[Move]) -> Result<(), AllocError>
         requires distinct { DistinctTargets moves.now }
         requires no_scratch { NoScratch moves.now }
-        requires in_range { AllEnds in_range moves.now }
-        ensures { OnOk result (Moved moves.now self.old self.new) }
+        requires in_range { AllMoveEnds in_range moves.now }
+        ensures { OnOk result (EmitsMoves moves.now self.old self.new) }
     {
         let steps = order(alloc, moves)?;
         self.moves(steps.as_slice())
@@ -138,7 +136,7 @@ impl Code {
     ) -> Result<(), AllocError>
         requires targets { AreTargets to.now }
         requires sources { AreSources from.now }
-        ensures { OnOk result (Sent to.now from.now self.old self.new) }
+        ensures { OnOk result (EmitsParallelMoves to.now from.now self.old self.new) }
     {
         let moves = spot_moves(alloc, to, from)?;
         self.moves_at_once(alloc, moves.as_slice())?;
@@ -154,7 +152,7 @@ impl Code {
     ) -> Result<(), AllocError>
         requires targets { AreTargets to.now }
         requires sources { AreSpots from.now }
-        ensures { OnOk result (Moved (moves_across to.now from.now) self.old self.new) }
+        ensures { OnOk result (EmitsMoves (moves_across to.now from.now) self.old self.new) }
     {
         let moves = moves_between(alloc, to, from)?;
         self.moves_at_once(alloc, moves.as_slice())
@@ -215,7 +213,7 @@ impl<'a> Context<'a> {
             Operand::Var(x) => Source::At(self.places.place(x)),
             Operand::Num(n) => Source::Number(n),
             Operand::Cell(i) => {
-                let address = HEAP_BASE as u64 + 4 * self.low.width as u64 * i as u64;
+                let address = HEAP_START as u64 + 4 * self.low.width as u64 * i as u64;
                 Source::Number((address % 4294967296) as u32)
             }
         }

@@ -5,7 +5,7 @@ ghost use Rattle.std.specs.Prelude.{◌≡◌, ◌++◌, ◌||◌, nat_lt, if◌
 ghost use Rattle.low_code.specs.Tree.{Code, before_of, end_of, code_of, arm_of, arms_before};
 ghost use Rattle.low_code.specs.Formed.{used_by_all, used_by_tests, uses, arms_uses};
 ghost use Rattle.rv32_select.specs.Decides.{compares as is_comparison, is_var as is_that_var, tests_result as tests_its_result, decides_arms as decides_those, decides_code as decides_that, decides as decides_all, tested as number_tested, condition_one as true_condition, condition_zero as false_condition, condition as condition_of, other_condition as other_condition_of};
-ghost use Rattle.rv32_select.specs.Emitting.{Comparing, Deciding};
+ghost use Rattle.rv32_select.specs.Emitting.{IsDecidingComparison, DecidesBlockEnd};
 ghost use Rattle.seq.specs.Lists.{is_among};
 
 use low_code::{LowArm, LowBlock, LowEnd, LowStmt, LowTest, Operand, PrimOp};
@@ -196,7 +196,7 @@ fn decides(f: PrimOp, variable: u32, end: &LowEnd) -> bool
 
 /// The comparison of a statement that decides the end right behind it.
 fn compared(stmt: &LowStmt, end: &LowEnd) -> Option<Comparison>
-    ensures { Comparing (before_of stmt.now) (end_of end.now) result }
+    ensures { IsDecidingComparison (before_of stmt.now) (end_of end.now) result }
 {
     match stmt {
         LowStmt::Set(_, _) => None,
@@ -222,8 +222,12 @@ fn compared(stmt: &LowStmt, end: &LowEnd) -> Option<Comparison>
 }
 
 /// The same, where the statement is the last one of a block.
-pub(crate) fn deciding(is_last: bool, stmt: &LowStmt, end: &LowEnd) -> Option<Comparison>
-    ensures { Deciding is_last (before_of stmt.now) (end_of end.now) result }
+pub(crate) fn deciding_last_comparison(
+    is_last: bool,
+    stmt: &LowStmt,
+    end: &LowEnd,
+) -> Option<Comparison>
+    ensures { DecidesBlockEnd is_last (before_of stmt.now) (end_of end.now) result }
 {
     if is_last {
         return compared(stmt, end);

@@ -140,7 +140,7 @@ fn of_block(proc: u32, block: &LowBlock) -> Tally {
 }
 
 /// The words that a stack's base that lasts spares: one for each entry, but for two of the start.
-pub(crate) fn spared_by_base(lasting: bool, procs: u32) -> u32 {
+pub(crate) fn words_spared_by_base(lasting: bool, procs: u32) -> u32 {
     if lasting { procs.saturating_sub(2) } else { 0 }
 }
 

@@ -11,7 +11,7 @@ ghost use Rattle.rv32_select.specs.Selects.{Selects};
 use crate::blocks::Selection;
 use crate::code::Code;
 use crate::context::Context;
-use crate::framing::spared_by_base;
+use crate::framing::words_spared_by_base;
 use low_code::Low;
 use register_alloc::Places;
 use rv32_items::Asm;
@@ -31,8 +31,8 @@ mod slots;
 mod source;
 mod statements;
 
-pub use laws::selected_items_do;
-pub use source::{Source, Way};
+pub use laws::selection_refines;
+pub use source::{Continuation, Source};
 
 /// The items of a program over its places, for a heap of so many cells and frames of so many bytes.
 /// Where the program is never missing, they do what it does. `AllocError` where memory is wanting.
@@ -60,7 +60,7 @@ pub fn select(
     let mut out = Selection {
         code: Code::new(alloc),
         next: 3 + low.procs.len() as u32,
-        spared: spared_by_base(lasting, low.procs.len() as u32),
+        spared: words_spared_by_base(lasting, low.procs.len() as u32),
     };
     context.start_up(&mut out.code)?;
     context.first_call(&mut out.code, lasting)?;

@@ -3,23 +3,23 @@
 
 ghost use Rattle.std.specs.Prelude.{◌≡◌, ◌++◌, ◌<◌, OnOk};
 ghost use Rattle.rv32_select.specs.Emit.{put_link as put_link_code, take_link as take_link_code, link_put as link_put_code, link_taken as link_taken_code, plain, leave_code};
-ghost use Rattle.rv32_select.specs.IsSelected.{further as further_way, way_out as way_out_items};
+ghost use Rattle.rv32_select.specs.IsSelected.{continued_by_jump as further_way, way_out as way_out_items};
 ghost use Rattle.rv32_select.specs.Emitting.{link_aside as link_aside_items, link_back as link_back_items};
 
 use crate::code::Code;
-use crate::source::Way;
+use crate::source::Continuation;
 use rv32_isa::{Imm12, Instr, LoadKind, Reg, StoreKind};
 use rv32_items::Item;
 use std::alloc::AllocError;
 
 /// The way where other items come before the label.
-pub(crate) fn further(way: Way) -> Way
+pub(crate) fn continued_by_jump(way: Continuation) -> Continuation
     ensures { result ≡ further_way way }
 {
     match way {
-        Way::Returns => Way::Returns,
-        Way::Follows(label) => Way::Jumps(label),
-        Way::Jumps(label) => Way::Jumps(label),
+        Continuation::Returns => Continuation::Returns,
+        Continuation::Follows(label) => Continuation::Jumps(label),
+        Continuation::Jumps(label) => Continuation::Jumps(label),
     }
 }
 
@@ -87,17 +87,22 @@ impl Code {
         self.add_to(Reg(2), Reg(2), 4 * words)
     }
 
-    pub(crate) fn way_out(&mut self, framed: bool, words: u32, way: Way) -> Result<(), AllocError>
+    pub(crate) fn way_out(
+        &mut self,
+        framed: bool,
+        words: u32,
+        way: Continuation,
+    ) -> Result<(), AllocError>
         requires { words < 1073741824 }
         ensures { OnOk result (self.new ≡ self.old ++ way_out_items framed words way) }
     {
         match way {
-            Way::Returns => {
+            Continuation::Returns => {
                 self.leave(framed, words)?;
                 self.instr(Instr::Jalr(Reg(0), Reg(1), Imm12(0)))
             }
-            Way::Follows(_) => Ok(()),
-            Way::Jumps(label) => self.put(Item::Jump {
+            Continuation::Follows(_) => Ok(()),
+            Continuation::Jumps(label) => self.put(Item::Jump {
                 link: Reg(0),
                 label,
             }),

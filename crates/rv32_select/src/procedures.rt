@@ -8,20 +8,19 @@ ghost use Rattle.rv32_select.specs.IsSelected.{sources as sources_of, start_argu
 ghost use Rattle.rv32_select.specs.Ranges.{AreSources};
 ghost use Rattle.rv32_select.specs.Writable.{Writable, CanWrite};
 ghost use Rattle.rv32_select.specs.Emitting.{EmittedProcedure};
+ghost use Rattle.limits.specs.Limits.{largest_program, most_stack, heap_start, stack_end};
 
 use crate::blocks::Selection;
 use crate::code::{Code, add_immediate, held, negated};
-use crate::context::{Context, Frame, HEAP_BASE, result_spots};
+use crate::context::{Context, Frame, result_spots};
 use crate::framing::is_framed;
-use crate::source::{Source, Way};
+use crate::source::{Continuation, Source};
+use limits::{HEAP_START, STACK_END};
 use low_code::Operand;
 use parallel_move::Spot;
 use rv32_isa::{Imm12, Instr, Reg, StoreKind};
 use rv32_items::{Cond, Item};
 use std::alloc::AllocError;
-
-/// The end of the frames.
-const STACK_END: u32 = 0x78000000;
 
 /// The register that the stack's base is in.
 fn base_register(lasting: bool) -> Reg
@@ -100,7 +99,7 @@ impl Code {
 
     /// The exits without an alternative and with a full heap or stack.
     fn stops(&mut self, first: u32) -> Result<(), AllocError>
-        requires { first ≤ 131072 }
+        requires { first ≤ largest_program }
         ensures { OnOk result (self.new ≡ self.old ++ stop_items first) }
     {
         self.put(Item::Label(first))?;
@@ -143,9 +142,9 @@ impl<'a> Context<'a> {
     pub(crate) fn start_up(&self, code: &mut Code) -> Result<(), AllocError>
         requires writable { CanWrite (program_of self.now.low.now) self.now.places.now
             self.now.cells }
-        requires globals { length self.now.low.now.globals ≤ 131072 }
+        requires globals { length self.now.low.now.globals ≤ largest_program }
         ensures { OnOk result (code.new ≡ code.old
-            ++ start_items 2013265920 1342177280
+            ++ start_items stack_end heap_start
             (end_of_heap (program_of self.now.low.now) self.now.cells)
             (bytes_of_cell (program_of self.now.low.now))
             (heap_full_label (program_of self.now.low.now)) self.now.low.now.globals) }
@@ -153,7 +152,7 @@ impl<'a> Context<'a> {
         let globals = self.low.globals.as_slice();
         let step = 4 * self.low.width;
         code.load_constant(Reg(2), STACK_END)?;
-        code.load_constant(Reg(3), HEAP_BASE)?;
+        code.load_constant(Reg(3), HEAP_START)?;
         code.load_constant(Reg(4), self.heap_end())?;
         code.room(step * globals.len() as u32, self.heap_full())?;
         code.globals(step, globals)
@@ -162,11 +161,11 @@ impl<'a> Context<'a> {
     /// The call of the start, and the exit after it.
     pub(crate) fn first_call(&self, code: &mut Code, lasting: bool) -> Result<(), AllocError>
         requires writable { Writable (program_of self.now.low.now) self.now.places.now }
-        requires stack { self.now.stack ≤ 67108864 }
+        requires stack { self.now.stack ≤ most_stack }
         requires lasting { lasting ≡ is_lasting_base self.now.places.now }
         ensures { OnOk result (code.new ≡ code.old
             ++ first_call_items (program_of self.now.low.now) self.now.places.now
-            (2013265920 - self.now.stack)) }
+            (stack_end - self.now.stack)) }
     {
         let to = self.argument_spots(self.low.start)?;
         let from = self.start_sources()?;
@@ -188,7 +187,7 @@ impl<'a> Context<'a> {
     ) -> Result<(), AllocError>
         requires writable { CanWrite (program_of self.now.low.now) self.now.places.now
             self.now.cells }
-        requires stack { self.now.stack ≤ 67108864 }
+        requires stack { self.now.stack ≤ most_stack }
         requires lasting { lasting ≡ is_lasting_base self.now.places.now }
         requires proc { proc < length self.now.low.now.procs }
         ensures { OnOk result (EmittedProcedure (program_of self.now.low.now) self.now.places.now
@@ -219,7 +218,7 @@ impl<'a> Context<'a> {
             },
             out,
             results.as_slice(),
-            Way::Returns,
+            Continuation::Returns,
             &procedure.body,
         )?;
         Ok(())

@@ -5,7 +5,7 @@ ghost use Rattle.std.specs.Prelude.{◌≡◌, true, false, if◌then◌else◌}
 ghost use Rattle.low_code.specs.Tree.{Code as Block, before_of, end_of, code_of};
 ghost use Rattle.rv32_select.specs.IsSelected.{is_rare as is_rare_code, waits as waits_there, has_one};
 
-use crate::source::Way;
+use crate::source::Continuation;
 use low_code::{LowArm, LowBlock, LowEnd, LowStmt};
 
 /// Whether a statement calls a procedure.
@@ -51,18 +51,18 @@ fn is_rare(block: &LowBlock) -> bool
 }
 
 /// Whether the first alternative is to stand behind the others, of which this is the last.
-fn waits(way: Way, first: &LowBlock, last: &LowBlock) -> bool
+fn waits(way: Continuation, first: &LowBlock, last: &LowBlock) -> bool
     ensures { result ≡ waits_there way (code_of first.now) (code_of last.now) }
 {
     match way {
-        Way::Returns => false,
-        Way::Follows(_) => { if is_rare(first) { false } else { is_rare(last) } }
-        Way::Jumps(_) => { if is_rare(first) { false } else { is_rare(last) } }
+        Continuation::Returns => false,
+        Continuation::Follows(_) => { if is_rare(first) { false } else { is_rare(last) } }
+        Continuation::Jumps(_) => { if is_rare(first) { false } else { is_rare(last) } }
     }
 }
 
 /// Whether it has one test, too.
-pub(crate) fn stands_last(way: Way, first: &LowArm, last: &LowBlock) -> bool
+pub(crate) fn first_arm_goes_last(way: Continuation, first: &LowArm, last: &LowBlock) -> bool
     ensures { result ≡ (if has_one first.now.tests
         then waits_there way (code_of first.now.block) (code_of last.now) else false) }
 {

@@ -4,7 +4,7 @@
 ghost use Rattle.std.specs.Prelude.{◌≡◌, ◌∷◌, [], ◌≤◌, length, None, IfSome, true};
 ghost use Rattle.low_code.specs.declared.program.LowTest.{LowTest};
 ghost use Rattle.rv32_select.specs.Halves.{is_alone as is_alone_from};
-ghost use Rattle.rv32_select.specs.Emitting.{Rises, RisesWhere};
+ghost use Rattle.rv32_select.specs.Emitting.{TestsAscend, TestsAscendIfSearched};
 
 use crate::rare::is_common;
 use low_code::{LowArm, LowBlock, Operand};
@@ -54,7 +54,7 @@ fn number_where(arm: &LowArm, word: Operand) -> Option<u32>
 
 /// Whether each arm has one test, of this word, and the numbers rise.
 fn rises(arms: &[LowArm], word: Operand) -> bool
-    ensures { result ≡ true → Rises word 0 None arms.now }
+    ensures { result ≡ true → TestsAscend word 0 None arms.now }
 {
     let mut low = 0;
     for arm in arms {
@@ -94,8 +94,8 @@ pub(crate) fn extra_words(arms: &[LowArm], word: Operand) -> u32 {
 
 /// The word that arms look for by halves, where that takes no more words than were spared, and the
 /// first arm isn't likely the common one.
-pub(crate) fn sought(spared: u32, arms: &[LowArm], otherwise: &LowBlock) -> Option<Operand>
-    ensures { RisesWhere result arms.now }
+pub(crate) fn searched_word(spared: u32, arms: &[LowArm], otherwise: &LowBlock) -> Option<Operand>
+    ensures { TestsAscendIfSearched result arms.now }
 {
     if arms.len() < FEWEST {
         return None;

@@ -11,7 +11,7 @@ ghost use Rattle.rv32_select.specs.Writable.{HavePlaces};
 use crate::context::Context;
 use low_code::LowProc;
 use parallel_move::Spot;
-use register_alloc::Walk;
+use register_alloc::BindingWalk;
 use std::alloc::AllocError;
 
 /// One more than the number of a slot.
@@ -50,7 +50,7 @@ impl<'a> Context<'a> {
         ensures { IfOk result (λ slots. slots
             ≡ slots_of (place_of self.now.places.now) (variables_of (procedure_of procedure.now))) }
     {
-        let mut walk = Walk::new(self.alloc);
+        let mut walk = BindingWalk::new(self.alloc);
         walk.bind(procedure.params.as_slice())?;
         walk.block(&procedure.body)?;
         Ok(self.slots_among(walk.variables.as_slice()))

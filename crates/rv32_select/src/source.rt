@@ -12,7 +12,7 @@ pub enum Source {
 /// Where a block goes once it has given its words: it returns from its procedure, or goes on at a
 /// label, which follows in the items or is jumped to.
 #[derive(Clone, Copy, Debug, PartialEq, Eq)]
-pub enum Way {
+pub enum Continuation {
     Returns,
     Follows(u32),
     Jumps(u32),

@@ -78,7 +78,8 @@ fn high_part(k: u32, cell: Source) -> Source
     }
 }
 
-/// The words that are spared, with one more where the rest of the address is made by one instruction.
+/// The words that are spared, with one more where the rest of the address is made by one
+/// instruction.
 pub(crate) fn spared_by_offset(spared: u32, k: u32, cell: Source) -> u32 {
     match cell {
         Source::At(_) => spared,

@@ -7,15 +7,15 @@ use Rattle.rv32_machine.specs.Memory.{Stretch, end_of, access, bytes_at, bytes_o
 use Rattle.rv32_machine.specs.Arithmetic.{plus}
 use Rattle.rv32_machine.specs.Steps.{State, Written, set_reg, write_call, write_from, read_call, asked}
 use Rattle.rv32_steps.specs.Leads.{at}
-use Rattle.rv32_steps.specs.Data.{Bases, Words, word_segment, memory_of, LaidOut, slot, IsSlot, IsWord, word_at, with_word}
-use Rattle.rv32_steps.specs.Laws.{BytesAreWritten, BytesAreAsked, BytesAreTaken}
+use Rattle.rv32_steps.specs.Data.{Bases, Words, word_segment, memory_of, MemoryIsLaidOut, word_index, IsWordIndex, IsWord, word_at, with_word}
+use Rattle.rv32_steps.specs.Laws.{BytesAreWritten, ReadCallsAskForBytes, ReadBytesFillWords}
 use Rattle.rv32_steps.proofs.Fetch.{in_second, in_third, no_right, elsewhere}
 use Rattle.rv32_steps.proofs.Words.{words_length, read_low_byte, put_byte}
 use Rattle.rv32_steps.proofs.Access.{bytes_segment}
 use Rattle.rv32_steps.proofs.Straight.{in_heap, in_stack, heap_end, code_end, still_apart}
 use Rattle.rv32_steps.proofs.Calls.{dispatch}
 
-module _ (c : Stretch) (b : Bases) (rest : List Stretch) (w : Words) (ok : LaidOut c b w) where
+module _ (c : Stretch) (b : Bases) (rest : List Stretch) (w : Words) (ok : MemoryIsLaidOut c b w) where
   -- the segment and the offset of a word: those of the heap, or those of the stack
   pub record Stands (a : ℕ) : Type 0 where
     pub segment : ℕ
@@ -25,9 +25,9 @@ module _ (c : Stretch) (b : Bases) (rest : List Stretch) (w : Words) (ok : LaidO
     pub byte : bytes_at (memory_of c b w rest) segment offset 1 ≡ word_at b w a % 256 ∷ []
     pub store : (byte : ℕ) → word_at b w a ≡ 0 → byte < 256 → stored_at (memory_of c b w rest) segment offset (bytes_of 1 byte) ≡ memory_of c b (with_word b w a byte) rest
 
-  by_heap : (a : ℕ) → IsSlot b.heap w.heap a → Stands a
+  by_heap : (a : ℕ) → IsWordIndex b.heap w.heap a → Stands a
   by_heap a is =
-      let k = slot b.heap a in
+      let k = word_index b.heap a in
       let s = word_segment b.heap w.heap in
       let others = word_segment b.stack w.stack ∷ rest in
       let place = is.0 in
@@ -36,7 +36,7 @@ module _ (c : Stretch) (b : Bases) (rest : List Stretch) (w : Words) (ok : LaidO
       let fits : a + 1 ≤ end_of s = omega (arith, words_length w.heap) in
       let off : a - b.heap ≡ 4 * k = omega arith in
       let here : nat_lt a b.stack ≡ true = in_heap c b w a ok is in
-      let choice = λ (t : Bool). if t then get_or w.heap k 0 else get_or w.stack (slot b.stack a) 0 in
+      let choice = λ (t : Bool). if t then get_or w.heap k 0 else get_or w.stack (word_index b.stack a) 0 in
       record {
         segment = 1;
         offset = 4 * k;
@@ -46,14 +46,14 @@ module _ (c : Stretch) (b : Bases) (rest : List Stretch) (w : Words) (ok : LaidO
         store = λ byte none small.
             let zero_word : get_or w.heap k 0 ≡ 0 = ap choice (sym here) ∙ none in
             let in_the_heap : Words = record { heap = set w.heap k byte; stack = w.stack } in
-            let in_the_stack : Words = record { heap = w.heap; stack = set w.stack (slot b.stack a) byte } in
+            let in_the_stack : Words = record { heap = w.heap; stack = set w.stack (word_index b.stack a) byte } in
             ap (λ bytes. c ∷ bytes_segment b.heap bytes ∷ others) (put_byte w.heap k byte lt zero_word small)
             ∙ ap (λ t. memory_of c b (if t then in_the_heap else in_the_stack) rest) (sym here);
       }
 
-  by_stack : (a : ℕ) → IsSlot b.stack w.stack a → Stands a
+  by_stack : (a : ℕ) → IsWordIndex b.stack w.stack a → Stands a
   by_stack a is =
-      let k = slot b.stack a in
+      let k = word_index b.stack a in
       let h = word_segment b.heap w.heap in
       let s = word_segment b.stack w.stack in
       let place = is.0 in
@@ -63,7 +63,7 @@ module _ (c : Stretch) (b : Bases) (rest : List Stretch) (w : Words) (ok : LaidO
       let fits : a + 1 ≤ end_of s = omega (arith, words_length w.stack) in
       let off : a - b.stack ≡ 4 * k = omega arith in
       let here : nat_lt a b.stack ≡ false = in_stack b w a is in
-      let choice = λ (t : Bool). if t then get_or w.heap (slot b.heap a) 0 else get_or w.stack k 0 in
+      let choice = λ (t : Bool). if t then get_or w.heap (word_index b.heap a) 0 else get_or w.stack k 0 in
       record {
         segment = 2;
         offset = 4 * k;
@@ -72,7 +72,7 @@ module _ (c : Stretch) (b : Bases) (rest : List Stretch) (w : Words) (ok : LaidO
         byte = read_low_byte w.stack k lt ∙ ap (λ t. choice t % 256 ∷ []) (sym here);
         store = λ byte none small.
             let zero_word : get_or w.stack k 0 ≡ 0 = ap choice (sym here) ∙ none in
-            let in_the_heap : Words = record { heap = set w.heap (slot b.heap a) byte; stack = w.stack } in
+            let in_the_heap : Words = record { heap = set w.heap (word_index b.heap a) byte; stack = w.stack } in
             let in_the_stack : Words = record { heap = w.heap; stack = set w.stack k byte } in
             ap (λ bytes. c ∷ h ∷ bytes_segment b.stack bytes ∷ rest) (put_byte w.stack k byte lt zero_word small)
             ∙ ap (λ t. memory_of c b (if t then in_the_heap else in_the_stack) rest) (sym here);
@@ -94,7 +94,7 @@ bytes_are_written c b rest regs pc w a ok is r =
     ∙ ap (write_from s a 1) there.reads
     ∙ ap (λ bytes. Written a 1 bytes (at (set_reg regs 10 1) (plus pc 4) m)) there.byte
 
-pub bytes_are_asked : BytesAreAsked
+pub bytes_are_asked : ReadCallsAskForBytes
 unfolding dispatch
 bytes_are_asked c b rest regs pc w a ok is r =
     let s : State = at regs pc (memory_of c b w rest) in
@@ -104,7 +104,7 @@ bytes_are_asked c b rest regs pc w a ok is r =
     ∙ ap (λ x. read_call s 0 a x) r.len_is
     ∙ ap (asked a) (word_stands c b rest w ok a is).writes
 
-pub bytes_are_taken : BytesAreTaken
+pub bytes_are_taken : ReadBytesFillWords
 bytes_are_taken c b rest regs pc w a byte ok is none small address =
     let m = memory_of c b w rest in
     let there = word_stands c b rest w ok a is in (

@@ -9,9 +9,9 @@ use Rattle.rv32_machine.specs.declared.machine.TrapKind.TheVariants.{UnknownCall
 use Rattle.rv32_machine.specs.Memory.{Stretch, access, bytes_at, bytes_of, stored_at, stored_to}
 use Rattle.rv32_machine.specs.Arithmetic.{plus}
 use Rattle.rv32_machine.specs.Steps.{State, Outcome, Written, Ended, Trapped, step, set_reg, write_call, write_from, written, read_call, asked, given}
-use Rattle.rv32_steps.specs.Leads.{at, LeadsOn}
-use Rattle.rv32_steps.specs.Code.{Holds}
-use Rattle.rv32_steps.specs.Laws.{Called, WriteCallsWrite, ReadCallsTake, ReadCallsEnd, ExitCallsEnd}
+use Rattle.rv32_steps.specs.Leads.{at, StepsToOnInput}
+use Rattle.rv32_steps.specs.Code.{InstructionIsAt}
+use Rattle.rv32_steps.specs.Laws.{HasCallRegisters, WriteCallsWrite, ReadCallsTake, ReadCallsEnd, ExitCallsEnd}
 use Rattle.rv32_steps.proofs.Moves.{on_input, one_write, one_read, one_exit}
 
 -- by the number in x17
@@ -37,7 +37,7 @@ write c pc regs rest a len segment offset input h r some e =
     ∙ ap (write_from s a len) e
     ∙ ap (λ p. Written a len (bytes_at m segment offset len) (at (set_reg regs 10 len) p m)) h.next))
 
-asks : (c : Stretch) (pc : ℕ) (regs : ℕ → ℕ) (rest : List Stretch) (a segment offset : ℕ) → Holds c pc Ecall → Called 63 0 a 1 regs → access Write (c ∷ rest) a 1 ≡ At segment offset → step (at regs pc (c ∷ rest)) ≡ asked a (At segment offset)
+asks : (c : Stretch) (pc : ℕ) (regs : ℕ → ℕ) (rest : List Stretch) (a segment offset : ℕ) → InstructionIsAt c pc Ecall → HasCallRegisters 63 0 a 1 regs → access Write (c ∷ rest) a 1 ≡ At segment offset → step (at regs pc (c ∷ rest)) ≡ asked a (At segment offset)
 unfolding dispatch
 asks c pc regs rest a segment offset h r e =
     let m = c ∷ rest in
@@ -57,12 +57,12 @@ read c pc regs rest a segment offset byte input h r e =
     ap (λ x. at (set_reg regs 10 1) (plus pc 4) (stored_to m (bytes_of 1 byte) (access Write m x 1))) r.address_is
     ∙ ap (λ x. at (set_reg regs 10 1) (plus pc 4) (stored_to m (bytes_of 1 byte) x)) e
     ∙ ap (λ p. at (set_reg regs 10 1) p (stored_at m segment offset (bytes_of 1 byte))) h.next in
-    subst (λ t. LeadsOn 1 (byte ∷ input) s [] input t) answer (one_read s a (byte ∷ input) (asks c pc regs rest a segment offset h r e))
+    subst (λ t. StepsToOnInput 1 (byte ∷ input) s [] input t) answer (one_read s a (byte ∷ input) (asks c pc regs rest a segment offset h r e))
 
 pub read_end : ReadCallsEnd
 read_end c pc regs rest a segment offset h r e =
     let s : State = at regs pc (c ∷ rest) in
-    subst (λ t. LeadsOn 1 [] s [] [] t) (ap (λ p. at (set_reg regs 10 0) p (c ∷ rest)) h.next) (one_read s a [] (asks c pc regs rest a segment offset h r e))
+    subst (λ t. StepsToOnInput 1 [] s [] [] t) (ap (λ p. at (set_reg regs 10 0) p (c ∷ rest)) h.next) (one_read s a [] (asks c pc regs rest a segment offset h r e))
 
 pub leave : ExitCallsEnd
 unfolding dispatch

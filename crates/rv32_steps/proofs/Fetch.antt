@@ -11,10 +11,10 @@ use Rattle.rv32_machine.specs.declared.memory.Right.TheVariants.{Execute}
 use Rattle.rv32_machine.specs.declared.memory.Access.TheVariants.{At, Outside}
 use Rattle.rv32_machine.specs.Memory.{Stretch, allows, is_in, end_of, place_from, at_place, access, bytes_of, little_endian}
 use Rattle.rv32_machine.specs.declared.machine.TrapKind.TheVariants.{MisalignedJump}
-use Rattle.rv32_machine.specs.Steps.{Trapped, step, fetched, act_on}
-use Rattle.rv32_steps.specs.Laws.{CodeStands}
+use Rattle.rv32_machine.specs.Steps.{Trapped, step, fetch_and_execute, act_on}
+use Rattle.rv32_steps.specs.Laws.{SegmentHoldsCode}
 use Rattle.rv32_steps.specs.Leads.{at}
-pub use Rattle.rv32_steps.specs.Code.{code_bytes, AllInRange, Holds, Stand}
+pub use Rattle.rv32_steps.specs.Code.{code_bytes, AllInRange, InstructionIsAt, CodeIsAt}
 
 -- the tests that an address in a segment passes
 in_it : (s : Stretch) (address len : ℕ) → s.first ≤ address → address + len ≤ end_of s → 0 < len → (is_in address s ≡ true) × (nat_le (address + len) (end_of s) ≡ true)
@@ -72,29 +72,29 @@ elsewhere right s address h =
 pub four_back : (w : ℕ) → w < 2 ^ 32 → little_endian (bytes_of 4 w) ≡ w
 four_back w h = omega arith
 
-pub holds : (c : Stretch) (pc : ℕ) (i : Instr) → c.exec ≡ true → pc % 4 ≡ 0 → c.first ≤ pc → pc + 4 ≤ end_of c → pc + 4 < 2 ^ 32 → InRange i → word_of i < 2 ^ 32 → take 4 (drop (pc - c.first) c.bytes) ≡ bytes_of 4 (word_of i) → Holds c pc i
+pub holds : (c : Stretch) (pc : ℕ) (i : Instr) → c.exec ≡ true → pc % 4 ≡ 0 → c.first ≤ pc → pc + 4 ≤ end_of c → pc + 4 < 2 ^ 32 → InRange i → word_of i < 2 ^ 32 → take 4 (drop (pc - c.first) c.bytes) ≡ bytes_of 4 (word_of i) → InstructionIsAt c pc i
 unfolding step
 holds c pc i x al lo hi top range small is = record {
   steps = λ regs rest.
       let s = at regs pc (c ∷ rest) in
       let word : little_endian (take 4 (drop (pc - c.first) c.bytes)) ≡ word_of i = ap little_endian is ∙ four_back (word_of i) small in
       let aligned : nat_eq (pc % 4) 0 ≡ true = grind (arith, nat_tests) in
-      ap (λ b. if b then fetched s (access Execute (c ∷ rest) pc 4) else Trapped MisalignedJump) aligned
-      ∙ ap (fetched s) (in_first Execute c rest pc 4 x lo hi (omega arith))
+      ap (λ b. if b then fetch_and_execute s (access Execute (c ∷ rest) pc 4) else Trapped MisalignedJump) aligned
+      ∙ ap (fetch_and_execute s) (in_first Execute c rest pc 4 x lo hi (omega arith))
       ∙ ap (λ w. act_on s w (instr_of w)) word
       ∙ ap (act_on s (word_of i)) (decoded i range);
   next = omega arith;
 }
 
-pub front : (c : Stretch) (pc : ℕ) (a b : List Instr) → Stand c pc (a ++ b) → Stand c pc a
+pub front : (c : Stretch) (pc : ℕ) (a b : List Instr) → CodeIsAt c pc (a ++ b) → CodeIsAt c pc a
 front c pc [] b h = tt
 front c pc (i ∷ a) b h = (h.0, front c (pc + 4) a b h.1)
 
-pub back : (c : Stretch) (pc : ℕ) (a b : List Instr) → Stand c pc (a ++ b) → Stand c (pc + 4 * length a) b
-back c pc [] b h = let e : pc ≡ pc + 4 * 0 = omega arith in subst (λ n. Stand c n b) e h
+pub back : (c : Stretch) (pc : ℕ) (a b : List Instr) → CodeIsAt c pc (a ++ b) → CodeIsAt c (pc + 4 * length a) b
+back c pc [] b h = let e : pc ≡ pc + 4 * 0 = omega arith in subst (λ n. CodeIsAt c n b) e h
 back c pc (i ∷ a) b h =
     let e : pc + 4 + 4 * length a ≡ pc + 4 * length (i ∷ a) = omega arith in
-    subst (λ n. Stand c n b) e (back c (pc + 4) a b h.1)
+    subst (λ n. CodeIsAt c n b) e (back c (pc + 4) a b h.1)
 
 pub image_length : (is : List Instr) → length (code_bytes is) ≡ 4 * length is
 image_length [] = refl
@@ -104,16 +104,16 @@ pub cut : (pre bs post : List ℕ) → take (length bs) (drop (length pre) (pre 
 cut pre bs post = grind (arith, common_steps)
 
 -- the code of an image stands where it was put
-pub all_stand : (c : Stretch) (pre : List ℕ) (pc : ℕ) (is : List Instr) → c.exec ≡ true → c.bytes ≡ pre ++ code_bytes is → pc ≡ c.first + length pre → pc % 4 ≡ 0 → end_of c < 2 ^ 32 → AllInRange is → Stand c pc is
+pub all_stand : (c : Stretch) (pre : List ℕ) (pc : ℕ) (is : List Instr) → c.exec ≡ true → c.bytes ≡ pre ++ code_bytes is → pc ≡ c.first + length pre → pc % 4 ≡ 0 → end_of c < 2 ^ 32 → AllInRange is → CodeIsAt c pc is
 all_stand c pre pc [] x e at al top r = tt
 all_stand c pre pc (i ∷ is) x e at al top r =
     let w = bytes_of 4 (word_of i) in
     let total : length c.bytes ≡ length pre + (4 + 4 * length is) = ap length e ∙ length-append pre (code_bytes (i ∷ is)) ∙ ap (λ n. length pre + n) (image_length (i ∷ is) ∙ omega arith) in
     let off : pc - c.first ≡ length pre = omega arith in
     let four : take 4 (drop (pc - c.first) c.bytes) ≡ w = ap (λ n. take 4 (drop n c.bytes)) off ∙ ap (λ l. take 4 (drop (length pre) l)) e ∙ cut pre w (code_bytes is) in
-    let here : Holds c pc i = holds c pc i x al (omega arith) (omega arith) (omega arith) r.0 (word_small i r.0) four in
+    let here : InstructionIsAt c pc i = holds c pc i x al (omega arith) (omega arith) (omega arith) r.0 (word_small i r.0) four in
     let longer : length (pre ++ w) ≡ length pre + 4 = length-append pre w in
     (here, all_stand c (pre ++ w) (pc + 4) is x (e ∙ sym (append_assoc pre w (code_bytes is))) (omega arith) (omega arith) top r.1)
 
-pub code_stands : CodeStands
+pub code_stands : SegmentHoldsCode
 code_stands c is x e four below r = all_stand c [] c.first is x e (omega arith) four below r

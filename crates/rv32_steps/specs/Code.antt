@@ -18,12 +18,12 @@ AllInRange (i ∷ is) = InRange i × AllInRange is
 
 -- an instruction stands at an address of the code: with pc there a step does it, whatever the
 -- registers and the other segments
-pub record Holds (c : Stretch) (pc : ℕ) (i : Instr) : Type 0 where
+pub record InstructionIsAt (c : Stretch) (pc : ℕ) (i : Instr) : Type 0 where
   pub steps : (regs : ℕ → ℕ) (rest : List Stretch)
       → step (at regs pc (c ∷ rest)) ≡ act (at regs pc (c ∷ rest)) i
   pub next : plus pc 4 ≡ pc + 4
 
 -- instructions stand from an address on, one each four bytes
-abbrev pub Stand : Stretch → ℕ → List Instr → Type 0
-Stand c pc [] = Unit {0}
-Stand c pc (i ∷ is) = Holds c pc i × Stand c (pc + 4) is
+abbrev pub CodeIsAt : Stretch → ℕ → List Instr → Type 0
+CodeIsAt c pc [] = Unit {0}
+CodeIsAt c pc (i ∷ is) = InstructionIsAt c pc i × CodeIsAt c (pc + 4) is

@@ -31,7 +31,7 @@ abbrev pub memory_of : Stretch → Bases → Words → List Stretch → List Str
 memory_of c b w rest = c ∷ word_segment b.heap w.heap ∷ word_segment b.stack w.stack ∷ rest
 
 -- the code may not be written and stands below the heap, and the heap below the stack
-pub record LaidOut (c : Stretch) (b : Bases) (w : Words) : Type 0 where
+pub record MemoryIsLaidOut (c : Stretch) (b : Bases) (w : Words) : Type 0 where
   pub fixed : c.write ≡ false
   pub code_below : end_of c ≤ b.heap
   pub heap_below : b.heap + 4 * length w.heap ≤ b.stack
@@ -41,25 +41,26 @@ pub record LaidOut (c : Stretch) (b : Bases) (w : Words) : Type 0 where
   pub stack_words : AreWords w.stack
 
 -- the number of the word at an address
-abbrev pub slot : (base address : ℕ) → ℕ
-slot base address = (address - base) / 4
+abbrev pub word_index : (base address : ℕ) → ℕ
+word_index base address = (address - base) / 4
 
-abbrev pub IsSlot : (base : ℕ) → List ℕ → (address : ℕ) → Type 0
-IsSlot base ws address = (address ≡ base + 4 * slot base address) × (slot base address < length ws)
+abbrev pub IsWordIndex : (base : ℕ) → List ℕ → (address : ℕ) → Type 0
+IsWordIndex base ws address =
+    (address ≡ base + 4 * word_index base address) × (word_index base address < length ws)
 
 -- a word of the heap or of the stack stands at this address
 abbrev pub IsWord : Bases → Words → ℕ → Type 0
-IsWord b w address = IsSlot b.heap w.heap address ⊎ IsSlot b.stack w.stack address
+IsWord b w address = IsWordIndex b.heap w.heap address ⊎ IsWordIndex b.stack w.stack address
 
 abbrev pub word_at : Bases → Words → ℕ → ℕ
 word_at b w address =
-    if nat_lt address b.stack then get_or w.heap (slot b.heap address) 0
-    else get_or w.stack (slot b.stack address) 0
+    if nat_lt address b.stack then get_or w.heap (word_index b.heap address) 0
+    else get_or w.stack (word_index b.stack address) 0
 
 abbrev pub with_word : Bases → Words → ℕ → ℕ → Words
 with_word b w address v =
     if nat_lt address b.stack then record {
-      heap = set w.heap (slot b.heap address) v;
+      heap = set w.heap (word_index b.heap address) v;
       stack = w.stack;
     }
-    else record { heap = w.heap; stack = set w.stack (slot b.stack address) v }
+    else record { heap = w.heap; stack = set w.stack (word_index b.stack address) v }

@@ -9,11 +9,11 @@ abbrev pub at : (regs : ℕ → ℕ) → (pc : ℕ) → (memory : List Stretch) 
 at regs pc memory = record { regs = regs; pc = pc; memory = memory }
 
 -- in k steps from s to t, with these bytes written and, whatever the input, no byte read
-pub record Leads (k : ℕ) (s : State) (written : List ℕ) (t : State) : Type 0 where
+pub record StepsTo (k : ℕ) (s : State) (written : List ℕ) (t : State) : Type 0 where
   pub by : (n : ℕ) (input : List ℕ) → run (k + n) input s ≡ after written (run n input t)
 
 -- in k steps from s on this input to t, with these bytes written and this input left
-pub record LeadsOn (k : ℕ) (input : List ℕ) (s : State) (written : List ℕ)
+pub record StepsToOnInput (k : ℕ) (input : List ℕ) (s : State) (written : List ℕ)
     (left : List ℕ) (t : State) : Type 0 where
   pub by : (n : ℕ) → run (k + n) input s ≡ after written (run n left t)
 

@@ -44,9 +44,9 @@ procedures_at begins (a ∷ way) = procedure_from 0 begins a ++ procedures_at be
 -- ---- the last step before an address
 
 -- each address of a way is this one, or lies behind it
-abbrev pub AllFrom : (end : ℕ) → (way : List ℕ) → Type 0
-AllFrom end [] = Unit {0}
-AllFrom end (a ∷ way) = (end ≤ a) × AllFrom end way
+abbrev pub AllAtOrAfter : (end : ℕ) → (way : List ℕ) → Type 0
+AllAtOrAfter end [] = Unit {0}
+AllAtOrAfter end (a ∷ way) = (end ≤ a) × AllAtOrAfter end way
 
 -- the last address of a way that lies before `end`
 pub record IsLastBefore (end : ℕ) (way : List ℕ) (at : ℕ) : Type 0 where
@@ -54,7 +54,7 @@ pub record IsLastBefore (end : ℕ) (way : List ℕ) (at : ℕ) : Type 0 where
   pub behind : List ℕ
   pub splits : way ≡ before ++ at ∷ behind
   pub below : at < end
-  pub past : AllFrom end behind
+  pub past : AllAtOrAfter end behind
 
 -- ---- going forward
 

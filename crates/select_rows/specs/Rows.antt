@@ -5,7 +5,7 @@ use Rattle.low_code.specs.declared.program.Operand.TheVariants.{Var, Num}
 use Rattle.low_code.specs.declared.program.LowTest.{LowTest}
 use Rattle.low_code.specs.Tree.{Code, prim, load, save, take, put, get, call, join, give, tail, choose, fail, otherwise, arm, arms_before, Procedure, Program}
 use Rattle.low_code.specs.Formed.{Formed, variables}
-use Rattle.low_code.specs.Size.{AtMostTwoTests, low_all, calls_of}
+use Rattle.low_code.specs.Size.{AtMostTwoTests, program_size, calls_of}
 
 -- ---- how small they are
 
@@ -19,7 +19,7 @@ pub record IsRow (l : Program) : Type 0 where
   pub few : AreFew l.procs
   pub width : l.width ≡ 3
   pub tests : AtMostTwoTests l
-  pub size : low_all l ≤ 1000
+  pub size : program_size l ≤ 1000
   pub calls : calls_of l ≤ 1000
   pub procedures : length l.procs ≤ 1000
   pub globals : length l.globals ≤ 1000

@@ -92,9 +92,10 @@ fn word_at(words: &Vec<u32>, at: usize) -> u32 {
     0
 }
 
-// Six words are the start's, four the call's and the exit's behind it, five the entry's and 22 those
-// for a byte. The comparison is two: x6 gets 97, and a register whose word isn't less goes on past
-// the 19 words for a byte that is put and the three of a return. As many follow, and nine for stops.
+// Six words are the start's, four the call's and the exit's behind it, five the entry's and 22
+// those for a byte. The comparison is two: x6 gets 97, and a register whose word isn't less goes on
+// past the 19 words for a byte that is put and the three of a return. As many follow, and nine for
+// stops.
 #[test]
 fn a_comparison_is_one_branch(rt: HostRuntime) -> Result<(), Fail> {
     let low = less(rt.alloc())?;
@@ -106,8 +107,9 @@ fn a_comparison_is_one_branch(rt: HostRuntime) -> Result<(), Fail> {
     exits(&rt, rt.alloc(), &low, SMALL, b"a", 0, b">")
 }
 
-// By hand, by halves: a byte goes on to the upper half where it isn't below 4, then 2 or 6, then 1, 3,
-// 5 or 7, and then 8. What is left is one number, which isn't tested, or 8 and more, tested for 8.
+// By hand, by halves: a byte goes on to the upper half where it isn't below 4, then 2 or 6, then 1,
+// 3, 5 or 7, and then 8. What is left is one number, which isn't tested, or 8 and more, tested for
+// 8.
 #[test]
 fn bytes_are_looked_for(rt: HostRuntime) -> Result<(), Fail> {
     let low = letters(rt.alloc())?;

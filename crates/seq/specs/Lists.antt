@@ -42,9 +42,9 @@ is_among x [] = false
 is_among x (y ∷ ys) = nat_eq x y || is_among x ys
 
 -- whether there is a number
-abbrev pub there_is : Option ℕ → Bool
-there_is None = false
-there_is (Some n) = true
+abbrev pub is_present : Option ℕ → Bool
+is_present None = false
+is_present (Some n) = true
 
 -- a list, where there is one, and else the empty one
 abbrev pub or_empty : Option (List ℕ) → List ℕ

@@ -3,16 +3,13 @@
 use crate::tests::{LISTS, listed};
 use grin_opt::PassName;
 use std::test::Fail;
-use worked_texts::QUEENS;
+use worked_texts::{QUEENS, TAKE_TWICE};
 
-/// A program that takes a list twice, behind the prelude.
-const TAKES: &str =
-    "take xs = case xs of { Nil -> Nil; Cons h t -> Cons h (take t) }; main = take (take (Cons 65 Nil));";
-
-/// Its last stage, in which these passes find nothing to do. No block is nested. A cell of `take` may
-/// be `Nil`, `Cons` or a delayed call, a result `Nil` or `Cons`, so no tag is known of either. The
-/// cell `v13` leaves in a node, those of `main` in one another and in the argument of a call: none is
-/// known to be the procedure's own where it is fetched. The words of a result are read under `Cons`.
+/// The last stage of the program that takes a list twice, in which these passes find nothing to do.
+/// No block is nested. A cell of `take` may be `Nil`, `Cons` or a delayed call, a result `Nil` or
+/// `Cons`, so no tag is known of either. The cell `v13` leaves in a node, those of `main` in one
+/// another and in the argument of a call: none is known to be the procedure's own where it is
+/// fetched. The words of a result are read under `Cons`.
 const TAKES_LAST: &str = "global main = (Fmain)
 
 take v0 =
@@ -96,13 +93,13 @@ main =
 
 /// The front of the last stage of the eight queens, up to the end of `safe`. What `raise` leaves of
 /// it has 181 lines. In them each test is a nested block that gives `(CInt v)` and is looked at at
-/// once; each of them is laid flat, so that `eq` is followed by the case over its number. A result of
-/// `eight`, `@add` and `@sub` is a number, whose tag is `CInt`: the case over that tag around each
-/// update goes, and the update writes the literal tag. What is evaluated is looked at for its number
-/// alone, so of its three words one is given, and the fetch of the word past it goes. The cells of
-/// `add q d` and `sub q d` are the procedure's own, and are stored, updated and fetched by it alone:
-/// their tag is known where they are fetched, they are called at once, and no cell is left to store.
-/// The cell of `add d one` leaves in the call of `safe`, and stays.
+/// once; each of them is laid flat, so that `eq` is followed by the case over its number. A result
+/// of `eight`, `@add` and `@sub` is a number, whose tag is `CInt`: the case over that tag around
+/// each update goes, and the update writes the literal tag. What is evaluated is looked at for its
+/// number alone, so of its three words one is given, and the fetch of the word past it goes. The
+/// cells of `add q d` and `sub q d` are the procedure's own, and are stored, updated and fetched by
+/// it alone: their tag is known where they are fetched, they are called at once, and no cell is
+/// left to store. The cell of `add d one` leaves in the call of `safe`, and stays.
 const SAFE_LAST: &str = "global one = (Fone)
 global eight = (Feight)
 global ten = (Ften)
@@ -212,7 +209,7 @@ safe v0 v1 v2 =
 #[test]
 fn takes_keeps_what_leaves(rt: HostRuntime) -> Result<(), Fail> {
     let alloc = rt.alloc();
-    let text = format!(in alloc; "{LISTS}{TAKES}")?;
+    let text = format!(in alloc; "{LISTS}{TAKE_TWICE}")?;
     let listing = listed(alloc, text.as_str(), PassName::Dead)?;
     assert_eq!(rt; listing.as_slice(), TAKES_LAST.as_bytes());
     Ok(())

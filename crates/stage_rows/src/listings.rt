@@ -4,6 +4,7 @@ use grin_syntax::fresh::Fresh;
 use grin_syntax::{VarId, copy, list};
 use grin_text::program;
 use std::test::Fail;
+use worked_texts::EMPTY_TRANSLATED;
 
 // What the translation makes of `data Nil 0; data Cons 2; main = Nil;`, with other numbers for its
 // variables.
@@ -24,29 +25,6 @@ main =
       case v20 of
         (CInt v8) ->
           write v8
-          call @print v3
-        else ->
-          fail
-    else ->
-      fail
-";
-
-const PRINTING_LISTED: &str = "\
-global main = (Fmain)
-
-main =
-  unit (CNil)
-
-@print v0 =
-  v1 <- eval v0
-  case v1 of
-    (CNil) ->
-      unit (CNil)
-    (CCons v2 v3) ->
-      v4 <- eval v2
-      case v4 of
-        (CInt v5) ->
-          write v5
           call @print v3
         else ->
           fail
@@ -128,7 +106,7 @@ h =
 
 #[test]
 fn listings_are_as_written(rt: HostRuntime) -> Result<(), Fail> {
-    for (text, listing) in [(PRINTING, PRINTING_LISTED), (ALL, ALL_LISTED)] {
+    for (text, listing) in [(PRINTING, EMPTY_TRANSLATED), (ALL, ALL_LISTED)] {
         let g = program(rt.alloc(), text)?;
         assert_eq!(rt; list(rt.alloc(), &g)?.as_slice(), listing.as_bytes());
     }

@@ -7,7 +7,7 @@ use Rattle.text_commands.specs.declared.accept.Accepted.{Accepted}
 use Rattle.text_commands.specs.declared.status.Status.{Status}
 use Rattle.text_commands.specs.declared.status.Status.TheVariants.{Done, Refused, OutOfMemory, WriteFault}
 use Rattle.text_commands.specs.Text.{IsAcceptedAs}
-use Rattle.text_commands.specs.Checking.{summary, OfSummary, Checks}
+use Rattle.text_commands.specs.Checking.{summary, HoldsOfSummary, IsCheckOutcome}
 use Rattle.text_commands.proofs.Texts.{refused_long, accepted_short}
 
 -- the line of a program, put together of named numbers
@@ -24,7 +24,7 @@ line_is functions constructors size first second third whole e f g h =
 
 -- what holds of the line that was put holds of the line of the text
 pub of_summary : (text : List ℕ) (kept : Accepted) (Holds : List ℕ → Type 0) → IsAcceptedAs text kept
-    → Holds (summary (length kept.program.funs) (length kept.program.cons) kept.size) → OfSummary text Holds
+    → Holds (summary (length kept.program.funs) (length kept.program.cons) kept.size) → HoldsOfSummary text Holds
 of_summary text kept Holds h holds =
     let functions = subst (λ n. Holds (summary n (length kept.program.cons) kept.size)) (sym (length-map kept.program.funs function)) holds in
     let size = subst (λ n. Holds (summary (length (map function kept.program.funs)) (length kept.program.cons) n)) h.size functions in
@@ -34,7 +34,7 @@ of_summary text kept Holds h holds =
 
 module _ {K : Type 0} (o : SinkChange K) where
   pub checks_long : (front text : List ℕ) → 1048576 < length front → 1048576 < length text → (status : Status)
-      → Checks o front status → Checks o text status
+      → IsCheckOutcome o front status → IsCheckOutcome o text status
   checks_long front text short long (Refused k at) h = (refused_long front text short long k at h.0, h.1)
   checks_long front text short long OutOfMemory h = h
   checks_long front text short long Done h = accepted_short front h.0 h.1.0 short h.1.1

@@ -7,12 +7,12 @@ use mathlib.Core.Logic.{◌⊎◌, inl, inr}
 use Rattle.std.proofs.lemmas.Bool.{ltb-true, ltb-false}
 use Rattle.std.proofs.lemmas.Option.{same_Some}
 use Rattle.seq.proofs.Order.{le_or_lt}
-use Rattle.grin_io.specs.Content.{Files, Fills, file_named, rest_of, moved_on}
-use Rattle.grin_io.specs.Changes.{ShelfChange, of_shelf}
+use Rattle.grin_io.specs.Content.{Files, FillsBuffer, file_named, unread_rest, advanced_place}
+use Rattle.grin_io.specs.Changes.{ShelfChange, shelf_change}
 use Rattle.text_commands.specs.declared.status.Status.{Status}
 use Rattle.text_commands.specs.declared.status.Status.TheVariants.{OutOfMemory, ReadFault}
 use Rattle.text_commands.specs.Reading.{IsBehind, Goes, Reading, ReadsOn, IsRead, open_behind, Stay, IsUnread}
-use Rattle.text_commands.specs.Operands.{OfFile}
+use Rattle.text_commands.specs.Operands.{HoldsOfFileBytes}
 use Rattle.grin_io.proofs.Changes.{rises}
 
 -- the bytes at a buffer's front
@@ -72,32 +72,32 @@ empty_rest n bytes e =
 -- a reading of the open file
 pub goes_on : (named : List (List ℕ × List ℕ)) (opened : Option (List ℕ × ℕ)) (file text bytes buffer filled : List ℕ) (k : ℕ) → 0 < length buffer
     → file_named file named ≡ Some bytes → opened ≡ Some (file, length text) → text ≡ take (length text) bytes → length text ≤ length bytes
-    → Fills (rest_of named opened) buffer filled k
-    → IsBehind (record { named = named; opened = moved_on k opened }) file (text ++ take k filled)
-    × Goes (record { named = named; opened = moved_on k opened }) file text (text ++ take k filled) (nat_lt 0 k)
+    → FillsBuffer (unread_rest named opened) buffer filled k
+    → IsBehind (record { named = named; opened = advanced_place k opened }) file (text ++ take k filled)
+    × Goes (record { named = named; opened = advanced_place k opened }) file text (text ++ take k filled) (nat_lt 0 k)
 goes_on named opened file text bytes buffer filled k room is opened-is front short fills' =
-    let rest-is : rest_of named opened ≡ drop (length text) bytes = ap (rest_of named) opened-is ∙ ap (λ o. drop (length text) (unwrap_or o [])) is in
-    let fills : Fills (drop (length text) bytes) buffer filled k = subst (λ r. Fills r buffer filled k) rest-is fills' in
+    let rest-is : unread_rest named opened ≡ drop (length text) bytes = ap (unread_rest named) opened-is ∙ ap (λ o. drop (length text) (unwrap_or o [])) is in
+    let fills : FillsBuffer (drop (length text) bytes) buffer filled k = subst (λ r. FillsBuffer r buffer filled k) rest-is fills' in
     let more : text ++ take k filled ≡ take (length text + k) bytes = front_more text bytes buffer filled k front fills.within fills.front in
     let dropped : length (drop (length text) bytes) ≡ length bytes - length text = length-drop (length text) bytes in
     let fits : k ≤ length (drop (length text) bytes) = fills.within in
     let within : length text + k ≤ length bytes = omega (arith, fits, dropped, short) in
-    let moved : moved_on k opened ≡ Some (file, length text + k) = ap (moved_on k) opened-is in (
+    let moved : advanced_place k opened ≡ Some (file, length text + k) = ap (advanced_place k) opened-is in (
       subst (λ o. IsBehind (record { named = named; opened = o }) file (text ++ take k filled)) (sym moved) (behind_more named file text bytes k is within (text ++ take k filled) more),
-      goes_more named (moved_on k opened) file text bytes k is within (λ e. empty_rest (length text) bytes ((fills.ends room).0 e)) (text ++ take k filled) more,
+      goes_more named (advanced_place k opened) file text bytes k is within (λ e. empty_rest (length text) bytes ((fills.ends room).0 e)) (text ++ take k filled) more,
     )
 
 pub reads_on : (before now : Option Files) (text text' buffer filled : List ℕ) (k : ℕ) → 0 < length buffer
-    → IfSome before (λ old. Fills (rest_of old.named old.opened) buffer filled k × (now ≡ Some (record { named = old.named; opened = moved_on k old.opened })))
+    → IfSome before (λ old. FillsBuffer (unread_rest old.named old.opened) buffer filled k × (now ≡ Some (record { named = old.named; opened = advanced_place k old.opened })))
     → text' ≡ text ++ take k filled → ReadsOn before now text text' (nat_lt 0 k)
 reads_on before now text text' buffer filled k room reads text-is = λ old e file behind.
-    go old (subst (λ b. IfSome b (λ old. Fills (rest_of old.named old.opened) buffer filled k × (now ≡ Some (record { named = old.named; opened = moved_on k old.opened })))) e reads) file behind
+    go old (subst (λ b. IfSome b (λ old. FillsBuffer (unread_rest old.named old.opened) buffer filled k × (now ≡ Some (record { named = old.named; opened = advanced_place k old.opened })))) e reads) file behind
   where
-    go : (old : Files) → Fills (rest_of old.named old.opened) buffer filled k × (now ≡ Some (record { named = old.named; opened = moved_on k old.opened })) → (file : List ℕ) → IsBehind old file text
+    go : (old : Files) → FillsBuffer (unread_rest old.named old.opened) buffer filled k × (now ≡ Some (record { named = old.named; opened = advanced_place k old.opened })) → (file : List ℕ) → IsBehind old file text
         → (new : Files) × (now ≡ Some new) × (new.named ≡ old.named) × IsBehind new file text' × Goes new file text text' (nat_lt 0 k)
     go old r file behind =
         let both = goes_on old.named old.opened file text behind.bytes buffer filled k room behind.named behind.opened behind.front behind.within r.0 in
-        let new : Files = record { named = old.named; opened = moved_on k old.opened } in
+        let new : Files = record { named = old.named; opened = advanced_place k old.opened } in
         (new, r.1, refl, subst (λ t. IsBehind new file t) (sym text-is) both.0, subst (λ t. Goes new file text t (nat_lt 0 k)) (sym text-is) both.1)
 
 -- ---- the whole reading
@@ -126,7 +126,7 @@ behind_is : (files new : Files) (file text : List ℕ) → new.named ≡ files.n
 behind_is files new file text named behind = λ i. record { named = named i; opened = behind.opened i }
 
 module _ {F : Type 0} (content : F → Option Files) (faults : F → ℕ) (old new : F) (most : ℕ) (file text : List ℕ) where
-  pub read_full : Reading (content old) (content new) file text → length text ≡ most → IsRead (of_shelf content faults old new) most file text
+  pub read_full : Reading (content old) (content new) file text → length text ≡ most → IsRead (shelf_change content faults old new) most file text
   read_full reading full = record {
     front = λ files e.
         let r = reading files e in (
@@ -138,7 +138,7 @@ module _ {F : Type 0} (content : F → Option Files) (faults : F → ℕ) (old n
     short = omega (arith, full);
   }
 
-  pub read_ended : (before : Option Files) (text' : List ℕ) (more : Bool) → Reading (content old) before file text' → ReadsOn before (content new) text' text more → more ≡ false → length text ≤ most → IsRead (of_shelf content faults old new) most file text
+  pub read_ended : (before : Option Files) (text' : List ℕ) (more : Bool) → Reading (content old) before file text' → ReadsOn before (content new) text' text more → more ≡ false → length text ≤ most → IsRead (shelf_change content faults old new) most file text
   read_ended before text' more reading goes ended short = record {
     front = λ files e.
         let r = reading files e in
@@ -174,7 +174,7 @@ stay_join first before now s t old e =
 
 -- files that stayed, and were then not read on
 pub unread_on : {F : Type 0} (content : F → Option Files) (faults : F → ℕ) (old mid new : F) (status : Status) → Stay (content old) (content mid) → faults old ≤ faults mid
-    → IsUnread (of_shelf content faults mid new) status → IsUnread (of_shelf content faults old new) status
+    → IsUnread (shelf_change content faults mid new) status → IsUnread (shelf_change content faults old new) status
 unread_on content faults old mid new ReadFault stay later h = (rises (faults old) (faults mid) (faults new) later h.0, stay_join (content old) (content mid) (content new) stay h.1)
 unread_on content faults old mid new OutOfMemory stay later h = stay_join (content old) (content mid) (content new) stay h
 unread_on content faults old mid new _ stay later h = absurd h
@@ -184,7 +184,7 @@ unread_on content faults old mid new _ stay later h = absurd h
 -- what holds of the bytes that were read holds of the file, if it does so where the file has more than the most that are read
 pub of_file : {F : Type 0} (f : ShelfChange F) (most : ℕ) (file front : List ℕ) (outcome : List ℕ → Type 0)
     → ((bytes : List ℕ) → length front ≡ most → most < length bytes → outcome front → outcome bytes)
-    → IsRead f most file front → outcome front → OfFile f most file outcome
+    → IsRead f most file front → outcome front → HoldsOfFileBytes f most file outcome
 of_file f most file front outcome longer read h = go (f.content f.old) refl
   where
     by : (bytes : List ℕ) → front ≡ take most bytes → (length bytes ≤ most) ⊎ (most < length bytes) → outcome bytes
@@ -196,7 +196,7 @@ of_file f most file front outcome longer read h = go (f.content f.old) refl
     place_is : (bytes : List ℕ) → front ≡ take most bytes → length front ≡ min (length bytes) most
     place_is bytes is = omega (arith, ap length is, length-take most bytes)
 
-    go : (c : Option Files) → f.content f.old ≡ c → OfFile f most file outcome
+    go : (c : Option Files) → f.content f.old ≡ c → HoldsOfFileBytes f most file outcome
     go None is = (front, (λ files e. let c : None ≡ Some files = sym is ∙ e in absurd cc), h)
     go (Some files) is =
         let r = read.front files is in (

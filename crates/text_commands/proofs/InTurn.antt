@@ -9,10 +9,10 @@ use Rattle.seq.proofs.Lists.{some_is, none_is_some, map_append, map_push, take_n
 use Rattle.seq.proofs.Member.{in_left, in_right, in_map}
 use Rattle.seq.proofs.Order.{le_or_lt}
 use Rattle.grin_io.specs.Content.{Files, file_named}
-use Rattle.grin_io.specs.Changes.{ShelfChange, of_shelf}
+use Rattle.grin_io.specs.Changes.{ShelfChange, shelf_change}
 use Rattle.text_commands.specs.declared.status.Status.{Status}
-use Rattle.text_commands.specs.Reading.{IsRead, IsUnread, OfEach, Stay, open_behind, open_last, HaveTexts, AreRead, AddsFronts}
-use Rattle.text_commands.specs.Operands.{OfFiles}
+use Rattle.text_commands.specs.Reading.{IsRead, IsUnread, HoldsOfEachFile, Stay, open_behind, open_last, HaveTexts, AreRead, AddsFronts}
+use Rattle.text_commands.specs.Operands.{HoldsOfFileTexts}
 use Rattle.text_commands.proofs.Files.{unread_on}
 
 -- ---- lists, place by place
@@ -49,7 +49,7 @@ pub read_none : (c : Option Files) (most : ℕ) → AreRead c c most [] []
 read_none c most = record { front = λ shelf e. ([], tt, refl, e); short = tt }
 
 pub read_one : {F : Type 0} (content : F → Option Files) (faults : F → ℕ) (old new : F) (most : ℕ) (file front : List ℕ)
-    → IsRead (of_shelf content faults old new) most file front → AreRead (content old) (content new) most (file ∷ []) (front ∷ [])
+    → IsRead (shelf_change content faults old new) most file front → AreRead (content old) (content new) most (file ∷ []) (front ∷ [])
 read_one content faults old new most file front read = record {
   front = λ shelf e.
       let r = read.front shelf e in
@@ -86,7 +86,7 @@ adds_more before mid now most files files' old between new a b =
     (a.0 ++ b.0, read_more before mid now most files files' a.0 b.0 a.1 b.1, b.2 ∙ (ap (λ l. l ++ b.0) a.2 ∙ append_assoc old a.0 b.0))
 
 pub adds_one : {F : Type 0} (content : F → Option Files) (faults : F → ℕ) (before : Option Files) (mid new : F) (most : ℕ) (files : List (List ℕ)) (file front : List ℕ) (old texts texts' : List (List ℕ))
-    → AddsFronts before (content mid) most files old texts → IsRead (of_shelf content faults mid new) most file front → texts' ≡ texts ++ front ∷ []
+    → AddsFronts before (content mid) most files old texts → IsRead (shelf_change content faults mid new) most file front → texts' ≡ texts ++ front ∷ []
     → AddsFronts before (content new) most (files ++ file ∷ []) old texts'
 adds_one content faults before mid new most files file front old texts texts' a read is =
     adds_more before (content mid) (content new) most files (file ∷ []) old texts texts' a (front ∷ [], read_one content faults mid new most file front read, is)
@@ -96,14 +96,14 @@ stay_added before now most files old new a = stay_read before now most files a.0
 
 -- a file behind those that were read is not read
 pub unread_later : {F : Type 0} (content : F → Option Files) (faults : F → ℕ) (old mid new : F) (most : ℕ) (files before texts : List (List ℕ)) (status : Status)
-    → AddsFronts (content old) (content mid) most files before texts → faults old ≤ faults mid → IsUnread (of_shelf content faults mid new) status
-    → IsUnread (of_shelf content faults old new) status
+    → AddsFronts (content old) (content mid) most files before texts → faults old ≤ faults mid → IsUnread (shelf_change content faults mid new) status
+    → IsUnread (shelf_change content faults old new) status
 unread_later content faults old mid new most files before texts status a later h =
     unread_on content faults old mid new status (stay_added (content old) (content mid) most files before texts a) later h
 
 -- or is read
 pub stay_later : {F : Type 0} (content : F → Option Files) (faults : F → ℕ) (old mid new : F) (most : ℕ) (files before texts : List (List ℕ)) (file front : List ℕ)
-    → AddsFronts (content old) (content mid) most files before texts → IsRead (of_shelf content faults mid new) most file front → Stay (content old) (content new)
+    → AddsFronts (content old) (content mid) most files before texts → IsRead (shelf_change content faults mid new) most file front → Stay (content old) (content new)
 stay_later content faults old mid new most files before texts file front a read =
     stay_added (content old) (content new) most (files ++ file ∷ []) before (texts ++ front ∷ [])
     (adds_one content faults (content old) mid new most files file front before texts (texts ++ front ∷ []) a read refl)
@@ -121,14 +121,14 @@ at_in [] i x is = none_is_some is
 at_in (y ∷ xs) zero x is = subst (λ z. In z (y ∷ xs)) (some_is is) here
 at_in (y ∷ xs) (suc i) x is = there (at_in xs i x is)
 
-pub of_name : {X : Type 0} (P : List ℕ → Type 0) (f : X → List ℕ) (xs : List X) (i : ℕ) (x : X) (file : List ℕ) → OfEach P (map f xs) → i < length xs → x ≡ get_or xs i x
+pub of_name : {X : Type 0} (P : List ℕ → Type 0) (f : X → List ℕ) (xs : List X) (i : ℕ) (x : X) (file : List ℕ) → HoldsOfEachFile P (map f xs) → i < length xs → x ≡ get_or xs i x
     → file ≡ f x → P file
 of_name P f xs i x file each within is same = subst P (sym same) (each (f x) (in_map f xs (at_in xs i x (get_is xs i x within is))))
 
-pub of_front : (P : List ℕ → Type 0) (files others : List (List ℕ)) → OfEach P (files ++ others) → OfEach P files
+pub of_front : (P : List ℕ → Type 0) (files others : List (List ℕ)) → HoldsOfEachFile P (files ++ others) → HoldsOfEachFile P files
 of_front P files others each file h = each file (in_left files others h)
 
-pub of_others : (P : List ℕ → Type 0) (files others : List (List ℕ)) → OfEach P (files ++ others) → OfEach P others
+pub of_others : (P : List ℕ → Type 0) (files others : List (List ℕ)) → HoldsOfEachFile P (files ++ others) → HoldsOfEachFile P others
 of_others P files others each file h = each file (in_right files others h)
 
 -- ---- all of them
@@ -165,10 +165,10 @@ same_fronts most (text ∷ texts) = (inl refl, same_fronts most texts)
 -- what holds of what was read holds of the files, if it does so where files have more than the most that are read
 pub of_files : {F : Type 0} (f : ShelfChange F) (most : ℕ) (files fronts : List (List ℕ)) (outcome : List (List ℕ) → Type 0)
     → ((texts : List (List ℕ)) → AllZip (IsFront most) fronts texts → outcome fronts → outcome texts)
-    → AreRead (f.content f.old) (f.content f.new) most files fronts → outcome fronts → OfFiles f most files outcome
+    → AreRead (f.content f.old) (f.content f.new) most files fronts → outcome fronts → HoldsOfFileTexts f most files outcome
 of_files f most files fronts outcome longer read h = go (f.content f.old) refl
   where
-    go : (c : Option Files) → f.content f.old ≡ c → OfFiles f most files outcome
+    go : (c : Option Files) → f.content f.old ≡ c → HoldsOfFileTexts f most files outcome
     go None is = (
       fronts,
       (

@@ -6,11 +6,11 @@ use Rattle.std.proofs.lemmas.Bool.Decides.{Decides-eqb}
 use Rattle.seq.proofs.Lists.{some_is}
 use Rattle.core_reader.specs.RulesOf.{TextTooLong}
 use Rattle.core_reader.proofs.OnlyOne.{at_five}
-use Rattle.core_link.specs.Module.{IsUnread}
-use Rattle.core_link.specs.Rules.{Group, Reading, BrokenIn, Unread, OfModule, Broken, InFile, NoMainModule, OfFiles, IsBefore, rank_in, rank, IsFirstBroken}
+use Rattle.core_link.specs.Module.{IsReadingFault}
+use Rattle.core_link.specs.Rules.{RuleGroup, Reading, BrokenIn, Unread, OfModule, Broken, InFile, NoMainModule, OfFiles, IsBefore, rank_in, rank, IsFirstBroken}
 use Rattle.grin_io.specs.Changes.{SinkChange}
 use Rattle.text_commands.specs.declared.status.Status.{Status}
-use Rattle.text_commands.specs.Linking.{IsLinkedText, IsNotLinked, Links}
+use Rattle.text_commands.specs.Linking.{IsLinkedText, IsLinkRefusal, IsLinkOutcome}
 use Rattle.text_commands.proofs.InTurn.{IsFront}
 use Rattle.text_commands.proofs.Written.{writes_as}
 
@@ -47,23 +47,23 @@ long_rank = 0 ∷ 1048576 ∷ 5 ∷ []
 abbrev reading_rank : Bool → (k at : ℕ) → List ℕ
 reading_rank is_five k at = (if is_five then 0 else 1) ∷ at ∷ k ∷ []
 
-unread_after : (text : List ℕ) (k at : ℕ) → IsUnread text k at → (is_five : Bool) → (k == 5) ≡ is_five → IsBefore long_rank (reading_rank is_five k at)
+unread_after : (text : List ℕ) (k at : ℕ) → IsReadingFault text k at → (is_five : Bool) → (k == 5) ≡ is_five → IsBefore long_rank (reading_rank is_five k at)
 unread_after text k at u true is =
     let five : k ≡ 5 = (Decides-eqb k 5).0 is in
     inr (refl, inr (sym (at_five text k at u five), inr (sym five, tt)))
 unread_after text k at u false is = inl (omega arith)
 
 -- nothing that is broken in a text comes before it
-long_first : (text : List ℕ) (g : Group) (k at : ℕ) → BrokenIn text g k at → IsBefore long_rank (rank_in g k at)
+long_first : (text : List ℕ) (g : RuleGroup) (k at : ℕ) → BrokenIn text g k at → IsBefore long_rank (rank_in g k at)
 long_first text _ k at (Unread u) = unread_after text k at u (k == 5) refl
 long_first text _ k at (OfModule m t own) = inl (omega arith)
 
-in_file : (text : List ℕ) (g : Group) (k file at : ℕ) → BrokenIn text g k at → 0 ∷ file ∷ rank_in g k at ≡ rank g k file at
+in_file : (text : List ℕ) (g : RuleGroup) (k file at : ℕ) → BrokenIn text g k at → 0 ∷ file ∷ rank_in g k at ≡ rank g k file at
 in_file text _ k file at (Unread u) = refl
 in_file text _ k file at (OfModule m t own) = refl
 
 -- what comes as early is rule 5
-unread_long : (text front : List ℕ) (k at file : ℕ) → 1048576 < length text → IsUnread front k at → (is_five : Bool) → (k == 5) ≡ is_five
+unread_long : (text front : List ℕ) (k at file : ℕ) → 1048576 < length text → IsReadingFault front k at → (is_five : Bool) → (k == 5) ≡ is_five
     → IsBefore (0 ∷ file ∷ reading_rank is_five k at) (0 ∷ file ∷ long_rank) → BrokenIn text Reading k at
 unread_long text front k at file long u true is before =
     let five : k ≡ 5 = (Decides-eqb k 5).0 is in
@@ -80,7 +80,7 @@ no_later file rest (inr (e, inl h)) = absurd (omega (arith, h))
 no_later file rest (inr (e, inr (e', inl h))) = absurd (omega (arith, h))
 no_later file rest (inr (e, inr (e', inr h))) = absurd (omega (arith, h.0))
 
-broken_long : (text front : List ℕ) (g : Group) (k at file : ℕ) → 1048576 < length text → BrokenIn front g k at
+broken_long : (text front : List ℕ) (g : RuleGroup) (k at file : ℕ) → 1048576 < length text → BrokenIn front g k at
     → IsBefore (rank g k file at) (0 ∷ file ∷ long_rank) → BrokenIn text g k at
 broken_long text front _ k at file long (Unread u) before = unread_long text front k at file long u (k == 5) refl before
 broken_long text front _ k at file long (OfModule m t own) before = no_later file (at ∷ k ∷ []) before
@@ -113,8 +113,8 @@ too_long : (texts : List (List ℕ)) (file : ℕ) (text : List ℕ) → slice_ge
 too_long texts file text is long = InFile is (Unread (TextTooLong long))
 
 -- the first broken rule of what was read is that of the texts
-module _ (fronts texts : List (List ℕ)) (zip : AllZip (IsFront 1048577) fronts texts) (l : TooLong fronts texts) (g : Group) (k file at : ℕ)
-    (first : (g' : Group) (k' file' at' : ℕ) → Broken fronts g' k' file' at' → IsBefore (rank g k file at) (rank g' k' file' at')) where
+module _ (fronts texts : List (List ℕ)) (zip : AllZip (IsFront 1048577) fronts texts) (l : TooLong fronts texts) (g : RuleGroup) (k file at : ℕ)
+    (first : (g' : RuleGroup) (k' file' at' : ℕ) → Broken fronts g' k' file' at' → IsBefore (rank g k file at) (rank g' k' file' at')) where
   in_text : (front : List ℕ) → slice_get fronts file ≡ Some front → BrokenIn front g k at → Broken texts g k file at
   in_text front is b = go (at_left (IsFront 1048577) fronts texts zip file front is) where
     go : (text : List ℕ) × (slice_get texts file ≡ Some text) × IsFront 1048577 front text → Broken texts g k file at
@@ -122,7 +122,7 @@ module _ (fronts texts : List (List ℕ)) (zip : AllZip (IsFront 1048577) fronts
     go (text, is', inr h) =
         InFile is' (broken_long text front g k at file (omega (arith, h.1)) b (first Reading 5 file 1048576 (too_long fronts file front is (omega (arith, h.0)))))
 
-  first_in_text : (text : List ℕ) (g' : Group) (k' file' at' : ℕ) → slice_get texts file' ≡ Some text → BrokenIn text g' k' at' → IsBefore (rank g k file at) (rank g' k' file' at')
+  first_in_text : (text : List ℕ) (g' : RuleGroup) (k' file' at' : ℕ) → slice_get texts file' ≡ Some text → BrokenIn text g' k' at' → IsBefore (rank g k file at) (rank g' k' file' at')
   first_in_text text g' k' file' at' is b = go (at_right (IsFront 1048577) fronts texts zip file' text is) where
     go : (front : List ℕ) × (slice_get fronts file' ≡ Some front) × IsFront 1048577 front text → IsBefore (rank g k file at) (rank g' k' file' at')
     go (front, is', inl e) = first g' k' file' at' (InFile is' (subst (λ t. BrokenIn t g' k' at') (sym e) b))
@@ -132,8 +132,8 @@ module _ (fronts texts : List (List ℕ)) (zip : AllZip (IsFront 1048577) fronts
         (subst (IsBefore (0 ∷ file' ∷ long_rank)) (in_file text g' k' file' at' b) (inr (refl, inr (refl, long_first text g' k' at' b))))
 
 first_long : (fronts texts : List (List ℕ)) → AllZip (IsFront 1048577) fronts texts → TooLong fronts texts
-    → (g : Group) (k file at : ℕ) → Broken fronts g k file at
-    → ((g' : Group) (k' file' at' : ℕ) → Broken fronts g' k' file' at' → IsBefore (rank g k file at) (rank g' k' file' at'))
+    → (g : RuleGroup) (k file at : ℕ) → Broken fronts g k file at
+    → ((g' : RuleGroup) (k' file' at' : ℕ) → Broken fronts g' k' file' at' → IsBefore (rank g k file at) (rank g' k' file' at'))
     → IsFirstBroken texts k file at
 first_long fronts texts zip l g k file at (InFile is b) first = record {
   group = g;
@@ -144,7 +144,7 @@ first_long fronts texts zip l g k file at (InFile is b) first = record {
     is_first : (m : ℕ) (rest : List ℕ) → 0 < m → IsBefore (rank g k file at) (m ∷ rest)
     is_first m rest some = subst (λ r. IsBefore r (m ∷ rest)) (in_file _ g k file at b) (inl some)
 
-    later : (g' : Group) (k' file' at' : ℕ) → Broken texts g' k' file' at' → IsBefore (rank g k file at) (rank g' k' file' at')
+    later : (g' : RuleGroup) (k' file' at' : ℕ) → Broken texts g' k' file' at' → IsBefore (rank g k file at) (rank g' k' file' at')
     later g' k' file' at' (InFile is' b') = first_in_text fronts texts zip l g k file at first _ g' k' file' at' is' b'
     later _ _ _ _ (NoMainModule ms read lacks) = is_first 1 [] (omega arith)
     later _ k' file' at' (OfFiles ms read between) = is_first 2 (file' ∷ at' ∷ k' ∷ []) (omega arith)
@@ -162,13 +162,13 @@ first_long fronts texts zip l _ k file at (OfFiles ms read between) first = not_
 -- ---- what holds of what was read holds of the texts
 
 module _ {K : Type 0} (o : SinkChange K) where
-  linked_long : (fronts texts : List (List ℕ)) → AllZip (IsFront 1048577) fronts texts → TooLong fronts texts → (status : Status) → Links o fronts status → Links o texts status
+  linked_long : (fronts texts : List (List ℕ)) → AllZip (IsFront 1048577) fronts texts → TooLong fronts texts → (status : Status) → IsLinkOutcome o fronts status → IsLinkOutcome o texts status
   linked_long fronts texts zip l status h =
-      writes_as IsLinkedText IsNotLinked o fronts texts (λ bytes made. made.unbroken Reading 5 l.file 1048576 (too_long fronts l.file l.front l.read l.short))
+      writes_as IsLinkedText IsLinkRefusal o fronts texts (λ bytes made. made.unbroken Reading 5 l.file 1048576 (too_long fronts l.file l.front l.read l.short))
       (λ k number b. (b.0, b.1, first_long fronts texts zip l b.2.group k b.0 b.1 b.2.broken b.2.first, b.3)) status h
 
-  pub links_long : (fronts texts : List (List ℕ)) → AllZip (IsFront 1048577) fronts texts → (status : Status) → Links o fronts status → Links o texts status
+  pub links_long : (fronts texts : List (List ℕ)) → AllZip (IsFront 1048577) fronts texts → (status : Status) → IsLinkOutcome o fronts status → IsLinkOutcome o texts status
   links_long fronts texts zip status h = go (same_or_long fronts texts zip) where
-    go : (fronts ≡ texts) ⊎ TooLong fronts texts → Links o texts status
-    go (inl e) = subst (λ l. Links o l status) e h
+    go : (fronts ≡ texts) ⊎ TooLong fronts texts → IsLinkOutcome o texts status
+    go (inl e) = subst (λ l. IsLinkOutcome o l status) e h
     go (inr l) = linked_long fronts texts zip l status h

@@ -10,7 +10,7 @@ use Rattle.core_reader.specs.declared.refusal.ReadRefusal.{ReadRefusal}
 use Rattle.core_reader.specs.declared.refusal.ReadRefusal.TheVariants.{BadByte, Syntax, NumberRange, TooDeep, TextTooLong, Memory}
 use Rattle.core_reader.specs.Tree.{Term, Terms, NoTerms, AndTerm, Bind, Expr, App, Let, Case, Alts, NoAlts, AndAlt}
 use Rattle.core_reader.specs.Tree as tree
-use Rattle.core_reader.specs.Grammar.{anywhere, at_most_200, lexeme, SpellsTerm, SpellsTerms, SpellsBinds, SpellsExpr, SpellsAlts}
+use Rattle.core_reader.specs.Grammar.{unlimited_nesting, at_most_200, lexeme, SpellsTerm, SpellsTerms, SpellsBinds, SpellsExpr, SpellsAlts}
 use Rattle.core_reader.specs.TokensOf.{Piece}
 use Rattle.core_reader.specs.WordsOf.{said}
 use Rattle.core_reader.specs.NamesOf.{names_of}
@@ -27,7 +27,7 @@ use Rattle.core_print.specs.Depth.{term_depth, terms_depth, app_depth, group_dep
 use Rattle.core_link.proofs.LittleRoom.{are_tokens, in_little}
 use Rattle.core_types.specs.Source.{Source, erased}
 use Rattle.core_types.specs.Grammar.{Decl, Declares, Signs, Defines, SpellsDecls, functions_of}
-use Rattle.core_types.specs.Text.{IsText, IsRead}
+use Rattle.core_types.specs.Text.{IsSourceText, BreaksNoReadingRule}
 use Rattle.core_types.proofs.SourceReading.{source_reads}
 
 -- ---- with room for 200 open constructs no more are open
@@ -98,8 +98,8 @@ module _ {P : Type 0} {d : Dialect} {r : Reading} {Derives : Language P} (w : Re
   lexemes = map (said d names) stands.pieces
 
   -- what the text stands for begins with its first tokens
-  begun : (us vs : List Piece) → stands.pieces ≡ us ++ vs → Viable Derives anywhere us
-  begun us vs e = record { rest = vs; whole = p; is_program = subst (Derives anywhere p) e stands.program }
+  begun : (us vs : List Piece) → stands.pieces ≡ us ++ vs → Viable Derives unlimited_nesting us
+  begun us vs e = record { rest = vs; whole = p; is_program = subst (Derives unlimited_nesting p) e stands.program }
 
   agrees : (us vs : List Piece) → stands.pieces ≡ us ++ vs → Agrees d names us
   agrees us vs e = subst (λ v. Agrees d (names_of d v) us) (sym e) (agrees_front d us vs)
@@ -110,7 +110,7 @@ module _ {P : Type 0} {d : Dialect} {r : Reading} {Derives : Language P} (w : Re
   goes_on (Syntax at) (inl (h, e)) =
       let us = h.before ++ h.here ∷ [] in
       let cut = h.whole ∙ sym (one_last h.before h.here h.after) in
-      stops w anywhere names h.before h.state h.here (Syntax at) h.known.p (agrees us h.after cut) e (begun us h.after cut)
+      stops w unlimited_nesting names h.before h.state h.here (Syntax at) h.known.p (agrees us h.after cut) e (begun us h.after cut)
   goes_on (Syntax at) (inr (h, other, e)) =
       no_program w names stands.pieces h.state 0 (Syntax at) p h.known.p refl e stands.program
   goes_on (NumberRange at) h = let f = h.2 in cc
@@ -129,7 +129,7 @@ module _ {P : Type 0} {d : Dialect} {r : Reading} {Derives : Language P} (w : Re
   goes_on (Memory e) h = h
 
   -- so all that they spell is spelled with that room
-  needs_no_more : (a : r.Tree) → r.Spells anywhere a lexemes → r.Spells at_most_200 a lexemes
+  needs_no_more : (a : r.Tree) → r.Spells unlimited_nesting a lexemes → r.Spells at_most_200 a lexemes
   needs_no_more a spelled =
       in_little w names 0 stands.pieces a stands.tokens spelled (run_of r.step at_most_200 r.start (lexemes ++ end ∷ [])) refl
       (λ e ran. goes_on e (subst (Explained w names stands.pieces end) ran (explains w names stands.pieces end (are_tokens names stands.tokens) tt)))
@@ -137,10 +137,10 @@ module _ {P : Type 0} {d : Dialect} {r : Reading} {Derives : Language P} (w : Re
 -- ---- texts with types
 
 -- no more than 200 constructs are open at one place of the program without its types
-pub shallow : (text : List ℕ) (s : Source) → IsRead text → IsText text s → program_depth (erased s) ≤ 200
+pub shallow : (text : List ℕ) (s : Source) → BreaksNoReadingRule text → IsSourceText text s → program_depth (erased s) ≤ 200
 shallow text s read stands =
     let h = stands.program in
     let lexemes = map (said Types (names_of Types stands.pieces)) stands.pieces in
-    let spelled : SpellsDecls anywhere h.decls lexemes = subst (λ names. SpellsDecls anywhere h.decls (map (said Types names) stands.pieces)) h.names h.spelled in
+    let spelled : SpellsDecls unlimited_nesting h.decls lexemes = subst (λ names. SpellsDecls unlimited_nesting h.decls (map (said Types names) stands.pieces)) h.names h.spelled in
     let fits : functions_depth (functions_of h.decls) ≤ 200 = decls_shallow h.decls lexemes (needs_no_more source_reads text s read stands h.decls spelled) in
     subst (λ fs. functions_depth fs ≤ 200) h.functions fits

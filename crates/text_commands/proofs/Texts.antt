@@ -5,7 +5,7 @@ use Rattle.core_reader.specs.Tree as tree
 use Rattle.core_reader.proofs.Unbroken.{unbroken_is_readable}
 use Rattle.core_reader.specs.declared.dialect.Dialect.{Dialect}
 use Rattle.core_reader.specs.ProgramsOf.{Language}
-use Rattle.core_reader.specs.RulesOf.{IsFirstUnread, TextTooLong, NoLater}
+use Rattle.core_reader.specs.RulesOf.{IsFirstUnread, TextTooLong, IsNoLaterFault}
 use Rattle.arity_check.specs.Program.{Program}
 use Rattle.arity_check.specs.Accepted.{IsFirstBroken, IsValid}
 use Rattle.arity_check.specs.First as check
@@ -14,7 +14,7 @@ use Rattle.arity_check.specs.declared.refusal.CheckRefusal.{CheckRefusal}
 use Rattle.arity_check.specs.declared.refusal.CheckRefusal.TheVariants.{DuplicateConstructor, DuplicateFunction, DuplicateName, UnknownName, ConstructorArity, DefaultNotLast, DuplicateAlternative, MixedAlternatives, ReservedName, PrimitiveArity, NoMain, MainHasParameters, NoListConstructors, TooManyFunctions, TooManyConstructors, TooManyParameters, TooManyFields, CoreTooLarge, Memory}
 use Rattle.text_commands.specs.declared.status.Status.{Status}
 use Rattle.text_commands.specs.declared.status.Status.TheVariants.{Refused, OutOfMemory}
-use Rattle.text_commands.specs.Text.{IsRefusedBy, Unread, Unaccepted, IsAccepted, IsNotRead, IsUnaccepted}
+use Rattle.text_commands.specs.Text.{IsRefusedBy, Unread, Unaccepted, IsAccepted, IsTextRefusal, IsAcceptFailure}
 use Rattle.core_reader.proofs.OnlyOne.{at_five}
 
 -- a refusal that is no want of memory names the first broken rule
@@ -40,7 +40,7 @@ caused p (CoreTooLarge size) some h = h
 caused p (Memory e) some h = absurd (some refl)
 
 -- a text that is not read is not accepted
-pub not_accepted : (text : List ℕ) (status : Status) → IsNotRead text status → IsUnaccepted text status
+pub not_accepted : (text : List ℕ) (status : Status) → IsTextRefusal text status → IsAcceptFailure text status
 not_accepted text (Refused k at) h = Unread k at h
 not_accepted text OutOfMemory h = h
 not_accepted text _ h = absurd h
@@ -51,7 +51,7 @@ accepted_is_valid text source p a = record { program = source; readable = unbrok
 
 -- ---- texts that are too long
 
-five_first : (k at at' : ℕ) → NoLater k at 5 at' → k ≡ 5
+five_first : (k at at' : ℕ) → IsNoLaterFault k at 5 at' → k ≡ 5
 five_first k at at' (inl h) = h
 five_first k at at' (inr h) = absurd (h.0 refl)
 

@@ -13,14 +13,14 @@ use Rattle.arity_check.specs.declared.refusal.CheckRefusal.TheVariants as unchec
 use Rattle.arity_check.specs.Refusal as core
 use Rattle.arity_check.specs.Order.{IsBefore}
 use Rattle.arity_check.specs.Order as core-order
-use Rattle.core_types.specs.Refused.{IsCause, IsFirstBrokenText, IsUnbrokenText, Unread, Untyped, rule, number, unread_rule, mismatch_in}
+use Rattle.core_types.specs.Refused.{IsCause, IsFirstBrokenText, TextBreaksNoRule, Unread, Untyped, rule, number, unread_rule, mismatch_in}
 use Rattle.core_types.specs.Rules.{rank, IsFirstBroken}
 use Rattle.core_types.specs.Source.{Source}
 use Rattle.core_types.proofs.SourceReading.{source_reads}
 use Rattle.core_types.proofs.TextSides.{not_unread}
 use Rattle.core_types.specs.declared.refusal.TypeFault.{TypeFault}
 use Rattle.core_types.specs.declared.refusal.TypeFault.TheVariants as fault
-use Rattle.text_commands.specs.Typing.{IsTypedText, IsSidesText, Fitting, Apart, BreaksAnother, HasSides}
+use Rattle.text_commands.specs.Typing.{IsTypedText, IsMismatchReport, Fitting, Apart, BreaksOtherRule, HasMismatchReport}
 use Rattle.text_commands.proofs.Texts.{unread_long}
 
 -- a refusal that is no want of memory names the first broken rule
@@ -90,16 +90,16 @@ apart_short : (text : List ℕ) (at : ℕ) → 1048576 < length text → IsFirst
 apart_short text at long (Unread h) = not_unread text 83 at refl h.broken
 apart_short text at long (Untyped read s t h) = read 5 1048576 (reading.TextTooLong long)
 
-pub sides_short : (text bytes : List ℕ) → 1048576 < length text → IsSidesText text bytes → ⊥
+pub sides_short : (text bytes : List ℕ) → 1048576 < length text → IsMismatchReport text bytes → ⊥
 sides_short text bytes long (Fitting u e) = u.0 5 1048576 (reading.TextTooLong long)
 sides_short text bytes long (Apart {at = at} s broken t m e) = apart_short text at long broken
 
-pub another_long : (front text : List ℕ) → 1048576 < length front → 1048576 < length text → (k at : ℕ) → BreaksAnother front k at → BreaksAnother text k at
+pub another_long : (front text : List ℕ) → 1048576 < length front → 1048576 < length text → (k at : ℕ) → BreaksOtherRule front k at → BreaksOtherRule text k at
 another_long front text short long k at h = (untyped_long front text short long k at h.0, h.1)
 
 -- ---- texts that break no rule
 
-pub untyped_broken : (text : List ℕ) (k at : ℕ) → IsUnbrokenText text → IsFirstBrokenText text k at → ⊥
+pub untyped_broken : (text : List ℕ) (k at : ℕ) → TextBreaksNoRule text → IsFirstBrokenText text k at → ⊥
 untyped_broken text k at u (Unread h) = u.0 k at h.broken
 untyped_broken text k at u (Untyped read s t h) = u.1 s t k at h.broken
 
@@ -133,6 +133,6 @@ apart_once text k at at' h (Unread g) = absurd (not_unread text 83 at' refl g.br
 apart_once text k at at' (Unread h) (Untyped read s t g) = absurd (read k at h.broken)
 apart_once text k at at' (Untyped read s t h) (Untyped read' s' t' g) = one_rule s' k at at' (subst (λ (x : Source). IsFirstBroken x k at) (one_thing source_reads text s s' t t') h) g
 
-pub sided_broken : (text : List ℕ) (k at : ℕ) → HasSides text → BreaksAnother text k at → ⊥
+pub sided_broken : (text : List ℕ) (k at : ℕ) → HasMismatchReport text → BreaksOtherRule text k at → ⊥
 sided_broken text k at (inl u) b = untyped_broken text k at u b.0
 sided_broken text k at (inr h) b = b.1 (apart_once text k at h.0 b.0 h.1)

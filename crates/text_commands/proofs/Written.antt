@@ -2,7 +2,7 @@
 use Rattle.std.proofs.Common.{◌≡◌, ℕ, List, refl}
 use mathlib.Core.Logic.{◌⊎◌, inl, inr}
 use Rattle.grin_io.specs.Changes.{SinkChange}
-use Rattle.grin_io.specs.Causes.{Rose}
+use Rattle.grin_io.specs.Causes.{CountGrew}
 use Rattle.text_commands.specs.declared.status.Status.{Status}
 use Rattle.text_commands.specs.declared.status.Status.TheVariants.{Done, Refused, OutOfMemory, WriteFault}
 use Rattle.text_commands.specs.Writing.{Writes}
@@ -18,7 +18,7 @@ module _ {Source : Type 0} (IsMade : Source → List ℕ → Type 0) (IsRefused 
   writes_as source source' unmade refused _ h = absurd h
 
   -- where no put failed, a source that no rule refuses is written
-  pub writes_gives : (Rose (o.faults o.old) (o.faults o.new) → ⊥) → {Unbroken : Type 0} (source : Source) → ((rule number : ℕ) → Unbroken → IsRefused source rule number → ⊥)
+  pub writes_gives : (CountGrew (o.faults o.old) (o.faults o.new) → ⊥) → {Unbroken : Type 0} (source : Source) → ((rule number : ℕ) → Unbroken → IsRefused source rule number → ⊥)
       → (status : Status) → Writes IsMade IsRefused o source status → (status ≡ OutOfMemory) ⊎ (Unbroken → status ≡ Done)
   writes_gives well source kept Done h = inr (λ u. refl)
   writes_gives well source kept WriteFault h = absurd (well h.2.2.rose)

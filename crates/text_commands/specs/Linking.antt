@@ -20,11 +20,11 @@ pub record IsLinkedText (texts : List (List ℕ)) (bytes : List ℕ) : Type 0 wh
 
 -- This rule is the first that is broken. The number tells the file, counted from 0, and the place
 -- in it.
-abbrev pub IsNotLinked : (texts : List (List ℕ)) → (rule number : ℕ) → Type 0
-IsNotLinked texts rule number =
+abbrev pub IsLinkRefusal : (texts : List (List ℕ)) → (rule number : ℕ) → Type 0
+IsLinkRefusal texts rule number =
     (file at : ℕ) × IsFirstBroken texts rule file at × (number ≡ 2097152 * file + at)
 
 -- The status of texts that are linked, and what became of the sink: puts of the pieces of the
 -- program's canonical text, and none at a refusal or for want of memory.
-abbrev pub Links : {K : Type 0} → SinkChange K → (texts : List (List ℕ)) → Status → Type 0
-Links o texts status = Writes IsLinkedText IsNotLinked o texts status
+abbrev pub IsLinkOutcome : {K : Type 0} → SinkChange K → (texts : List (List ℕ)) → Status → Type 0
+IsLinkOutcome o texts status = Writes IsLinkedText IsLinkRefusal o texts status

@@ -17,5 +17,5 @@ pub record IsCanonicalText (text bytes : List ℕ) : Type 0 where
 
 -- The status of a text whose canonical text is put, and what became of the sink: puts of that
 -- text's pieces, and none at a refusal or for want of memory.
-abbrev pub Prints : {K : Type 0} → SinkChange K → (text : List ℕ) → Status → Type 0
-Prints o text status = Writes IsCanonicalText IsFirstUnread o text status
+abbrev pub IsPrintOutcome : {K : Type 0} → SinkChange K → (text : List ℕ) → Status → Type 0
+IsPrintOutcome o text status = Writes IsCanonicalText IsFirstUnread o text status

@@ -2,9 +2,9 @@
 use Rattle.std.specs.Prelude.{◌≡◌, ℕ, ◌<◌, ◌≤◌, Bool, true, false, List, [], ◌∷◌, ◌++◌, length, map, take, Option, Some}
 use Rattle.std.specs.List.{AllZip}
 use Rattle.seq.specs.Lists.{In}
-use Rattle.grin_io.specs.Causes.{Rose}
+use Rattle.grin_io.specs.Causes.{CountGrew}
 use Rattle.grin_io.specs.Content.{Files, file_named}
-use Rattle.grin_io.specs.Changes.{Told, ShelfChange}
+use Rattle.grin_io.specs.Changes.{KnownContent, ShelfChange}
 use Rattle.text_commands.specs.declared.status.Status.{Status}
 use Rattle.text_commands.specs.declared.status.Status.TheVariants.{OutOfMemory, ReadFault}
 
@@ -40,27 +40,28 @@ open_behind files file place = record { named = files.named; opened = Some (file
 
 -- all bytes of the file were read, or as many as the most that are read, and no further ones
 pub record IsRead {F : Type 0} (f : ShelfChange F) (most : ℕ) (file text : List ℕ) : Type 0 where
-  pub front : Told (f.content f.old) (λ files.
+  pub front : KnownContent (f.content f.old) (λ files.
       (bytes : List ℕ) × (file_named file files.named ≡ Some bytes) × (text ≡ take most bytes)
       × (f.content f.new ≡ Some (open_behind files file (length text))))
   pub short : length text ≤ most
 
 -- the files stay, whichever is open
 abbrev pub Stay : (before now : Option Files) → Type 0
-Stay before now = Told before (λ old. (new : Files) × (now ≡ Some new) × (new.named ≡ old.named))
+Stay before now =
+    KnownContent before (λ old. (new : Files) × (now ≡ Some new) × (new.named ≡ old.named))
 
 -- why a file was not read
 abbrev pub IsUnread : {F : Type 0} → ShelfChange F → Status → Type 0
 IsUnread f ReadFault =
-    Rose (f.faults f.old) (f.faults f.new) × Stay (f.content f.old) (f.content f.new)
+    CountGrew (f.faults f.old) (f.faults f.new) × Stay (f.content f.old) (f.content f.new)
 IsUnread f OutOfMemory = Stay (f.content f.old) (f.content f.new)
 IsUnread f _ = ⊥
 
 -- ---- several files
 
 -- this holds of each of the files
-abbrev pub OfEach : (List ℕ → Type 0) → (files : List (List ℕ)) → Type 0
-OfEach Holds files = (file : List ℕ) → In file files → Holds file
+abbrev pub HoldsOfEachFile : (List ℕ → Type 0) → (files : List (List ℕ)) → Type 0
+HoldsOfEachFile Holds files = (file : List ℕ) → In file files → Holds file
 
 -- the files, where each of these was opened in turn: the last one is open behind what was read of
 -- it
@@ -78,7 +79,7 @@ HaveTexts shelf files texts =
 -- of each of these files all bytes were read, or as many as the most, and no further ones
 pub record AreRead (before now : Option Files) (most : ℕ) (files fronts : List (List ℕ))
     : Type 0 where
-  pub front : Told before (λ shelf. (texts : List (List ℕ)) × HaveTexts shelf files texts
+  pub front : KnownContent before (λ shelf. (texts : List (List ℕ)) × HaveTexts shelf files texts
       × (fronts ≡ map (take most) texts) × (now ≡ Some (open_last shelf files fronts)))
   pub short : AllZip (λ file front. length front ≤ most) files fronts
 

@@ -9,7 +9,7 @@ use Rattle.arity_check.specs.Normal.{IsNormalForm}
 use Rattle.arity_check.specs.Program.{Program, program as program_of}
 use Rattle.text_commands.specs.declared.accept.Accepted.{Accepted}
 use Rattle.text_commands.specs.declared.status.Status.{Status}
-use Rattle.text_commands.specs.Writing.{IsUnwritten}
+use Rattle.text_commands.specs.Writing.{IsTransformFailure}
 
 -- Which rule a text breaks first, and where: one of the text, else one of its program.
 pub data IsRefusedBy (text : List ℕ) : (rule number : ℕ) → Type 0 where
@@ -21,7 +21,7 @@ pub data IsRefusedBy (text : List ℕ) : (rule number : ℕ) → Type 0 where
 pub record IsAccepted (text : List ℕ) (source : tree.Program) (program : Program) : Type 0 where
   pub read : IsUnbroken text
   pub stands : IsText text source
-  pub unbroken : check.IsUnbroken source
+  pub unbroken : check.BreaksNoRule source
   pub normal : IsNormalForm source program
 
 -- the text breaks none of the rules of reading and checking
@@ -31,18 +31,18 @@ pub record IsAcceptable (text : List ℕ) : Type 0 where
   pub accepted : IsAccepted text source program
 
 -- a text that breaks no rule stands for one program, of one normal form
-abbrev pub OneAccepted : Type 0
-OneAccepted =
+abbrev pub OneAcceptedProgram : Type 0
+OneAcceptedProgram =
     (text : List ℕ) (source source' : tree.Program) (p p' : Program)
     → IsAccepted text source p → IsAccepted text source' p' → (source ≡ source') × (p ≡ p')
 
 -- why a text is not read
-abbrev pub IsNotRead : (text : List ℕ) → Status → Type 0
-IsNotRead text status = IsUnwritten IsFirstUnread text status
+abbrev pub IsTextRefusal : (text : List ℕ) → Status → Type 0
+IsTextRefusal text status = IsTransformFailure IsFirstUnread text status
 
 -- why a text has no program
-abbrev pub IsUnaccepted : (text : List ℕ) → Status → Type 0
-IsUnaccepted text status = IsUnwritten IsRefusedBy text status
+abbrev pub IsAcceptFailure : (text : List ℕ) → Status → Type 0
+IsAcceptFailure text status = IsTransformFailure IsRefusedBy text status
 
 -- what is kept of an accepted text: the normal form and the size
 pub record IsAcceptedAs (text : List ℕ) (kept : Accepted) : Type 0 where

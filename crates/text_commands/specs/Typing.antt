@@ -4,8 +4,8 @@ use Rattle.std.specs.Prelude.{◌≡◌, ◌≢◌, ◌⊎◌, ℕ, List, [], �
 use Rattle.core_reader.specs.Readable.{IsReadable}
 use Rattle.core_print.specs.Canonical.{canonical}
 use Rattle.core_types.specs.Source.{Source, erased}
-use Rattle.core_types.specs.Text.{IsText}
-use Rattle.core_types.specs.Refused.{IsUnbrokenText, IsFirstBrokenText}
+use Rattle.core_types.specs.Text.{IsSourceText}
+use Rattle.core_types.specs.Refused.{TextBreaksNoRule, IsFirstBrokenText}
 use Rattle.core_types.specs.Typing.{Typed}
 use Rattle.core_types.specs.Sides.{IsMismatch}
 use Rattle.core_types.specs.Shown.{shown_sides}
@@ -20,8 +20,8 @@ use Rattle.text_commands.specs.Writing.{Writes}
 -- which is readable. Evaluation of that program never meets a value that no alternative accepts.
 pub record IsTypedText (text bytes : List ℕ) : Type 0 where
   pub source : Source
-  pub unbroken : IsUnbrokenText text
-  pub stands : IsText text source
+  pub unbroken : TextBreaksNoRule text
+  pub stands : IsSourceText text source
   pub readable : IsReadable (erased source)
   pub is_canonical : bytes ≡ canonical (erased source)
   pub program : Program
@@ -37,21 +37,21 @@ Types o text status = Writes IsTypedText IsFirstBrokenText o text status
 
 -- What is written of a text: nothing where it breaks no rule, and where its types do not fit the
 -- line of the two sides, with the names of the text.
-pub data IsSidesText (text bytes : List ℕ) : Type 0 where
-  Fitting : IsUnbrokenText text → bytes ≡ [] → IsSidesText text bytes
+pub data IsMismatchReport (text bytes : List ℕ) : Type 0 where
+  Fitting : TextBreaksNoRule text → bytes ≡ [] → IsMismatchReport text bytes
   Apart : {at : ℕ} {left right : Typed} (s : Source) → IsFirstBrokenText text 83 at
-      → IsText text s → IsMismatch s at left right
-      → bytes ≡ shown_sides s.names left right ++ codes "\n" → IsSidesText text bytes
+      → IsSourceText text s → IsMismatch s at left right
+      → bytes ≡ shown_sides s.names left right ++ codes "\n" → IsMismatchReport text bytes
 
 -- the text first breaks this rule, and not because its types do not fit
-abbrev pub BreaksAnother : List ℕ → (rule number : ℕ) → Type 0
-BreaksAnother text rule number = IsFirstBrokenText text rule number × (rule ≢ 83)
+abbrev pub BreaksOtherRule : List ℕ → (rule number : ℕ) → Type 0
+BreaksOtherRule text rule number = IsFirstBrokenText text rule number × (rule ≢ 83)
 
 -- the text breaks no rule, or first the one on types that do not fit
-abbrev pub HasSides : List ℕ → Type 0
-HasSides text = IsUnbrokenText text ⊎ ((at : ℕ) × IsFirstBrokenText text 83 at)
+abbrev pub HasMismatchReport : List ℕ → Type 0
+HasMismatchReport text = TextBreaksNoRule text ⊎ ((at : ℕ) × IsFirstBrokenText text 83 at)
 
 -- The status of a text with types, and what became of the sink: puts of the pieces of what is
 -- written of it, and none at a refusal or for want of memory.
 abbrev pub Sides : {K : Type 0} → SinkChange K → (text : List ℕ) → Status → Type 0
-Sides o text status = Writes IsSidesText BreaksAnother o text status
+Sides o text status = Writes IsMismatchReport BreaksOtherRule o text status

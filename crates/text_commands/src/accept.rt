@@ -5,7 +5,7 @@ ghost use Rattle.core_reader.specs.Tree as tree;
 ghost use Rattle.core_reader.specs.Text as reader;
 ghost use Rattle.core_reader.specs.Text.{IsText};
 ghost use Rattle.arity_check.specs.First as check;
-ghost use Rattle.text_commands.specs.Text.{IsAcceptedAs, IsNotRead, IsUnaccepted};
+ghost use Rattle.text_commands.specs.Text.{IsAcceptedAs, IsTextRefusal, IsAcceptFailure};
 
 use crate::status::{Status, refused};
 use arity_check::check::check;
@@ -13,6 +13,7 @@ use arity_check::normal::Checked;
 use arity_check::refusal::CheckRefusal;
 use core_reader::size::size;
 use core_reader::{ReadRefusal, read};
+use limits::MOST_BYTES;
 use std::alloc::Global;
 
 /// The program of a text that breaks no rule.
@@ -27,7 +28,7 @@ pub struct Accepted {
 /// Reads and checks a text. `Refused` with the first rule that it breaks, or `OutOfMemory`.
 pub fn accept(alloc: Global, text: &[u8]) -> Result<Accepted, Status>
     ensures accepted { IfOk result (IsAcceptedAs text.now) }
-    ensures unaccepted { IfErr result (IsUnaccepted text.now) }
+    ensures unaccepted { IfErr result (IsAcceptFailure text.now) }
 {
     let core = match read(alloc, text) {
         Ok(core) => core,
@@ -42,14 +43,14 @@ pub fn accept(alloc: Global, text: &[u8]) -> Result<Accepted, Status>
 
 /// The status for a text that isn't read.
 pub fn unread(refusal: &ReadRefusal) -> Status
-    ensures { (text : List ℕ) → reader.IsCause text refusal.now → IsNotRead text result }
+    ensures { (text : List ℕ) → reader.IsCause text refusal.now → IsTextRefusal text result }
 {
     match refusal {
         ReadRefusal::BadByte(at) => refused(1, *at),
         ReadRefusal::Syntax(at) => refused(2, *at),
         ReadRefusal::NumberRange(at) => refused(3, *at),
         ReadRefusal::TooDeep(at) => refused(4, *at),
-        ReadRefusal::TextTooLong => refused(5, 1048576),
+        ReadRefusal::TextTooLong => refused(5, MOST_BYTES),
         ReadRefusal::Memory(_) => Status::OutOfMemory,
     }
 }
@@ -57,7 +58,7 @@ pub fn unread(refusal: &ReadRefusal) -> Status
 /// The status for a program that breaks a rule.
 fn unchecked(refusal: &CheckRefusal) -> Status
     ensures { (text : List ℕ) (p : tree.Program) → reader.IsUnbroken text → IsText text p
-        → check.IsCause p refusal.now → IsUnaccepted text result }
+        → check.IsCause p refusal.now → IsAcceptFailure text result }
 {
     let rule = refusal.rule();
     if rule == 0 {

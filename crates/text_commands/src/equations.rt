@@ -2,8 +2,8 @@
 
 ghost use Rattle.std.specs.Prelude.{ℕ, List};
 ghost use Rattle.match_compile.specs.Rules.{IsCause};
-ghost use Rattle.text_commands.specs.Matching.{IsMatchedText, IsNotMatched};
-ghost use Rattle.text_commands.specs.Writing.{IsUnwritten};
+ghost use Rattle.text_commands.specs.Matching.{IsMatchedText, IsMatchRefusal};
+ghost use Rattle.text_commands.specs.Writing.{IsTransformFailure};
 
 use crate::status::{Status, refused};
 use crate::writing::Maker;
@@ -17,7 +17,7 @@ pub struct Equations;
 impl Maker for Equations {
     ghost made = { λ _ text bytes. IsMatchedText text bytes };
 
-    ghost refused = { λ _ text rule number. IsNotMatched text rule number };
+    ghost refused = { λ _ text rule number. IsMatchRefusal text rule number };
 
     fn make(&self, alloc: Global, text: &[u8]) -> Result<Vec<u8>, Status> {
         let core = match compile_matches(alloc, text) {
@@ -35,7 +35,7 @@ impl Maker for Equations {
 
 /// The status for a text whose equations are not compiled.
 fn unmatched(refusal: &MatchRefusal) -> Status
-    ensures { (text : List ℕ) → IsCause text refusal.now → IsUnwritten IsNotMatched text result }
+    ensures { (text : List ℕ) → IsCause text refusal.now → IsTransformFailure IsMatchRefusal text result }
 {
     let rule = refusal.rule();
     if rule == 0 {

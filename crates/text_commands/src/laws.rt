@@ -1,12 +1,12 @@
 // What the definitions of texts and answers say by themselves.
 
-ghost use Rattle.text_commands.specs.Text.{OneAccepted};
+ghost use Rattle.text_commands.specs.Text.{OneAcceptedProgram};
 
-use arity_check::laws::one_normal_form;
+use arity_check::laws::normal_form_is_unique;
 
 /// A text that breaks no rule stands for one program, which has one normal form.
 pub fn one_accepted_program()
-    ensures { OneAccepted }
+    ensures { OneAcceptedProgram }
 {
-    one_normal_form();
+    normal_form_is_unique();
 }

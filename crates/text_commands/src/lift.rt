@@ -4,7 +4,7 @@ ghost use Rattle.std.specs.Prelude.{ℕ, List};
 ghost use Rattle.lambda_lift.specs.Refusal.{IsCause};
 ghost use Rattle.lambda_lift.specs.Rules.{IsFirstBroken};
 ghost use Rattle.text_commands.specs.Lifting.{IsLiftedText};
-ghost use Rattle.text_commands.specs.Writing.{IsUnwritten};
+ghost use Rattle.text_commands.specs.Writing.{IsTransformFailure};
 
 use crate::status::{Status, refused};
 use crate::writing::Maker;
@@ -36,7 +36,7 @@ impl Maker for Lift {
 
 /// The status for a text that isn't lifted.
 fn unlifted(refusal: &LiftRefusal) -> Status
-    ensures { (text : List ℕ) → IsCause text refusal.now → IsUnwritten IsFirstBroken text result }
+    ensures { (text : List ℕ) → IsCause text refusal.now → IsTransformFailure IsFirstBroken text result }
 {
     let rule = refusal.rule();
     if rule == 0 {

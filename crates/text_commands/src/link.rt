@@ -1,10 +1,10 @@
 //! Texts of modules, linked to one text.
 
 ghost use Rattle.std.specs.Prelude.{◌≡◌, ℕ, ◌≤◌, List, IfOk, IfErr};
-ghost use Rattle.grin_io.specs.Changes.{of_sink};
+ghost use Rattle.grin_io.specs.Changes.{sink_change};
 ghost use Rattle.core_link.specs.Rules.{IsCause};
-ghost use Rattle.text_commands.specs.Linking.{IsLinkedText, IsNotLinked, Links};
-ghost use Rattle.text_commands.specs.Writing.{IsUnwritten};
+ghost use Rattle.text_commands.specs.Linking.{IsLinkedText, IsLinkRefusal, IsLinkOutcome};
+ghost use Rattle.text_commands.specs.Writing.{IsTransformFailure};
 
 use crate::pieces::put_pieces;
 use crate::status::Status;
@@ -18,7 +18,7 @@ const FILE: u64 = 2_097_152;
 
 /// The status for texts that aren't linked.
 fn unlinked(refusal: &LinkRefusal) -> Status
-    ensures { (texts : List (List ℕ)) → IsCause texts refusal.now → IsUnwritten IsNotLinked texts result }
+    ensures { (texts : List (List ℕ)) → IsCause texts refusal.now → IsTransformFailure IsLinkRefusal texts result }
 {
     match refusal.kind.rule() {
         Some((rule, at)) => Status::Refused {
@@ -32,7 +32,7 @@ fn unlinked(refusal: &LinkRefusal) -> Status
 /// The canonical text of the program that texts are together, or why there is none.
 fn linked(alloc: Global, texts: &Texts) -> Result<Vec<u8>, Status>
     ensures linked { IfOk result (λ bytes. IsLinkedText texts.now bytes.items) }
-    ensures unlinked { IfErr result (IsUnwritten IsNotLinked texts.now) }
+    ensures unlinked { IfErr result (IsTransformFailure IsLinkRefusal texts.now) }
 {
     let core = match link(alloc, texts) {
         Ok(core) => core,
@@ -47,7 +47,7 @@ fn linked(alloc: Global, texts: &Texts) -> Result<Vec<u8>, Status>
 /// Puts the canonical text of the program that texts are together, in pieces of 4,096 bytes. All
 /// memory is had before the first put.
 pub fn link_texts<K: Sink>(alloc: Global, texts: &Texts, out: &mut K) -> Status
-    ensures links { Links (of_sink K.put_gives K.taken K.faults out.old out.new) texts.now result }
+    ensures links { IsLinkOutcome (sink_change K.put_gives K.taken K.faults out.old out.new) texts.now result }
     ensures later { K.faults out.old ≤ K.faults out.new }
 {
     match linked(alloc, texts) {

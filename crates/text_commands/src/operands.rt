@@ -2,17 +2,17 @@
 
 ghost use Rattle.std.specs.Prelude.{◌≡◌, ◌≤◌};
 ghost use Rattle.command_line.specs.Commands.{names_of};
-ghost use Rattle.grin_io.specs.Changes.{of_shelf, of_sink};
-ghost use Rattle.text_commands.specs.Checking.{Checks};
-ghost use Rattle.text_commands.specs.Linking.{Links};
-ghost use Rattle.text_commands.specs.Operands.{OfOperand, OfOperands, most_of_text};
-ghost use Rattle.text_commands.specs.Reading.{OfEach};
+ghost use Rattle.grin_io.specs.Changes.{shelf_change, sink_change};
+ghost use Rattle.text_commands.specs.Checking.{IsCheckOutcome};
+ghost use Rattle.text_commands.specs.Linking.{IsLinkOutcome};
+ghost use Rattle.text_commands.specs.Operands.{HoldsOfOperandFile, HoldsOfOperandFiles, text_read_limit};
+ghost use Rattle.text_commands.specs.Reading.{HoldsOfEachFile};
 
 use crate::check::check_text;
 use crate::link::link_texts;
 use crate::reading::{MOST_OF_TEXT, read_file, read_files};
 use crate::status::Status;
-use command_line::Files;
+use command_line::FileOperands;
 use grin_io::{Shelf, Sink};
 use std::alloc::Global;
 
@@ -24,9 +24,9 @@ pub fn check_file<F: Shelf, K: Sink>(
     out: &mut K,
 ) -> Status
     requires { F.permitted file.now }
-    ensures answer { OfOperand (of_shelf F.content F.faults shelf.old shelf.new) most_of_text
+    ensures answer { HoldsOfOperandFile (shelf_change F.content F.faults shelf.old shelf.new) text_read_limit
         (out.new ≡ out.old) file.now (λ text status.
-        Checks (of_sink K.put_gives K.taken K.faults out.old out.new) text status) result }
+        IsCheckOutcome (sink_change K.put_gives K.taken K.faults out.old out.new) text status) result }
     ensures later { (F.faults shelf.old ≤ F.faults shelf.new)
         × (K.faults out.old ≤ K.faults out.new) }
 {
@@ -39,14 +39,14 @@ pub fn check_file<F: Shelf, K: Sink>(
 /// Links the texts of files, and puts the text of the program that they are together.
 pub fn link_files<F: Shelf, K: Sink>(
     alloc: Global,
-    files: &Files<'_>,
+    files: &FileOperands<'_>,
     shelf: &mut F,
     out: &mut K,
 ) -> Status
-    requires { OfEach F.permitted (names_of files.now) }
-    ensures answer { OfOperands (of_shelf F.content F.faults shelf.old shelf.new) most_of_text
+    requires { HoldsOfEachFile F.permitted (names_of files.now) }
+    ensures answer { HoldsOfOperandFiles (shelf_change F.content F.faults shelf.old shelf.new) text_read_limit
         (out.new ≡ out.old) (names_of files.now) (λ texts status.
-        Links (of_sink K.put_gives K.taken K.faults out.old out.new) texts status) result }
+        IsLinkOutcome (sink_change K.put_gives K.taken K.faults out.old out.new) texts status) result }
     ensures later { (F.faults shelf.old ≤ F.faults shelf.new)
         × (K.faults out.old ≤ K.faults out.new) }
 {

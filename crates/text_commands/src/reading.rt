@@ -2,11 +2,11 @@
 
 ghost use Rattle.std.specs.Prelude.{◌≡◌, ◌<◌, ◌≤◌, true, IfOk, IfErr, OnOk, length, map, string_bytes};
 ghost use Rattle.command_line.specs.Commands.{names_of};
-ghost use Rattle.grin_io.specs.Changes.{of_shelf};
-ghost use Rattle.text_commands.specs.Reading.{Reading, ReadsOn, IsRead, IsUnread, OfEach, AreRead, AddsFronts};
+ghost use Rattle.grin_io.specs.Changes.{shelf_change};
+ghost use Rattle.text_commands.specs.Reading.{Reading, ReadsOn, IsRead, IsUnread, HoldsOfEachFile, AreRead, AddsFronts};
 
 use crate::status::Status;
-use command_line::Files;
+use command_line::FileOperands;
 use core_link::Texts;
 use grin_io::Shelf;
 use std::alloc::Global;
@@ -17,8 +17,8 @@ pub const MOST_OF_TEXT: usize = 1_048_577;
 /// The most bytes of one reading.
 const PIECE: usize = 4096;
 
-/// Reads the next bytes of the open file into a buffer, and puts them after those that were read, up
-/// to so many in all; whether there were any.
+/// Reads the next bytes of the open file into a buffer, and puts them after those that were read,
+/// up to so many in all; whether there were any.
 fn read_piece<F: Shelf>(
     shelf: &mut F,
     most: usize,
@@ -33,7 +33,7 @@ fn read_piece<F: Shelf>(
     ensures grew { IfOk result (λ more. more ≡ true → length bytes.old.items
         < length bytes.new.items) }
     ensures room { length bytes.new.items ≤ most }
-    ensures unread { IfErr result (IsUnread (of_shelf F.content F.faults shelf.old shelf.new)) }
+    ensures unread { IfErr result (IsUnread (shelf_change F.content F.faults shelf.old shelf.new)) }
     ensures later { F.faults shelf.old ≤ F.faults shelf.new }
 {
     let room = (most - bytes.len()).min(PIECE);
@@ -58,8 +58,8 @@ pub fn read_file<F: Shelf>(
 ) -> Result<Vec<u8>, Status>
     requires { F.permitted name.now }
     ensures read { IfOk result (λ bytes.
-        IsRead (of_shelf F.content F.faults shelf.old shelf.new) most name.now bytes.items) }
-    ensures unread { IfErr result (IsUnread (of_shelf F.content F.faults shelf.old shelf.new)) }
+        IsRead (shelf_change F.content F.faults shelf.old shelf.new) most name.now bytes.items) }
+    ensures unread { IfErr result (IsUnread (shelf_change F.content F.faults shelf.old shelf.new)) }
     ensures later { F.faults shelf.old ≤ F.faults shelf.new }
 {
     let Ok(()) = shelf.open(name) else {
@@ -88,10 +88,10 @@ fn add_texts<F: Shelf>(
     most: usize,
     texts: &mut Texts,
 ) -> Result<(), Status>
-    requires { OfEach F.permitted (map string_bytes names.now) }
+    requires { HoldsOfEachFile F.permitted (map string_bytes names.now) }
     ensures read { OnOk result (AddsFronts (F.content shelf.old) (F.content shelf.new) most
         (map string_bytes names.now) texts.old texts.new) }
-    ensures unread { IfErr result (IsUnread (of_shelf F.content F.faults shelf.old shelf.new)) }
+    ensures unread { IfErr result (IsUnread (shelf_change F.content F.faults shelf.old shelf.new)) }
     ensures later { F.faults shelf.old ≤ F.faults shelf.new }
 {
     for name in names {
@@ -107,13 +107,13 @@ fn add_texts<F: Shelf>(
 pub fn read_files<F: Shelf>(
     alloc: Global,
     shelf: &mut F,
-    files: &Files<'_>,
+    files: &FileOperands<'_>,
     most: usize,
 ) -> Result<Texts, Status>
-    requires { OfEach F.permitted (names_of files.now) }
+    requires { HoldsOfEachFile F.permitted (names_of files.now) }
     ensures read { IfOk result (AreRead (F.content shelf.old) (F.content shelf.new) most
         (names_of files.now)) }
-    ensures unread { IfErr result (IsUnread (of_shelf F.content F.faults shelf.old shelf.new)) }
+    ensures unread { IfErr result (IsUnread (shelf_change F.content F.faults shelf.old shelf.new)) }
     ensures later { F.faults shelf.old ≤ F.faults shelf.new }
 {
     let mut texts = Texts::new(alloc);

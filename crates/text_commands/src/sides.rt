@@ -2,15 +2,15 @@
 
 ghost use Rattle.std.specs.Prelude.{◌≡◌, ◌++◌, ℕ, List, codes, IfOk, IfErr};
 ghost use Rattle.core_types.specs.Source.{Source};
-ghost use Rattle.core_types.specs.Text.{IsText};
+ghost use Rattle.core_types.specs.Text.{IsSourceText};
 ghost use Rattle.core_types.specs.Refused.{IsRefusal};
 ghost use Rattle.core_types.specs.Sides.{type_of};
 ghost use Rattle.core_types.specs.Shown.{shown_sides};
-ghost use Rattle.text_commands.specs.Typing.{IsSidesText, BreaksAnother};
-ghost use Rattle.text_commands.specs.Writing.{IsUnwritten};
+ghost use Rattle.text_commands.specs.Typing.{IsMismatchReport, BreaksOtherRule};
+ghost use Rattle.text_commands.specs.Writing.{IsTransformFailure};
 
 use crate::status::Status;
-use crate::types::untyped;
+use crate::types::type_failure_status;
 use crate::writing::Maker;
 use core_types::{Ty, TypeRefusal, read_source, shown_sides, typed};
 use std::alloc::{AllocError, Global};
@@ -20,9 +20,9 @@ use std::alloc::{AllocError, Global};
 pub struct Sides;
 
 impl Maker for Sides {
-    ghost made = { λ _ text bytes. IsSidesText text bytes };
+    ghost made = { λ _ text bytes. IsMismatchReport text bytes };
 
-    ghost refused = { λ _ text rule number. BreaksAnother text rule number };
+    ghost refused = { λ _ text rule number. BreaksOtherRule text rule number };
 
     fn make(&self, alloc: Global, text: &[u8]) -> Result<Vec<u8>, Status> {
         match typed(alloc, text) {
@@ -37,12 +37,12 @@ impl Maker for Sides {
 /// The line of a text whose types do not fit, or the status for one that breaks another rule.
 fn sided(alloc: Global, text: &[u8], refusal: &TypeRefusal) -> Result<Vec<u8>, Status>
     requires { IsRefusal text.now refusal.now }
-    ensures made { IfOk result (λ bytes. IsSidesText text.now bytes.items) }
-    ensures refused { IfErr result (IsUnwritten BreaksAnother text.now) }
+    ensures made { IfOk result (λ bytes. IsMismatchReport text.now bytes.items) }
+    ensures refused { IfErr result (IsTransformFailure BreaksOtherRule text.now) }
 {
     let (left, right) = match refusal {
         TypeRefusal::Mismatch(_, left, right) => (left, right),
-        TypeRefusal::Fault(fault) => return Err(untyped(fault)),
+        TypeRefusal::Fault(fault) => return Err(type_failure_status(fault)),
     };
     match line(alloc, text, left, right) {
         Ok(bytes) => Ok(bytes),
@@ -52,7 +52,7 @@ fn sided(alloc: Global, text: &[u8], refusal: &TypeRefusal) -> Result<Vec<u8>, S
 
 /// The line of two sides, with the names of a text.
 fn line(alloc: Global, text: &[u8], left: &Ty, right: &Ty) -> Result<Vec<u8>, AllocError>
-    ensures { IfOk result (λ bytes. (s : Source) → IsText text.now s
+    ensures { IfOk result (λ bytes. (s : Source) → IsSourceText text.now s
         → bytes.items ≡ shown_sides s.names (type_of left.now) (type_of right.now) ++ codes "\n") }
 {
     let Ok(source) = read_source(alloc, text) else {

@@ -1,10 +1,10 @@
 //! How a command ends, and what is told of it.
 
 ghost use Rattle.std.specs.Prelude.{◌≡◌, ◌+◌, ◌≤◌, ◌++◌, length};
-ghost use Rattle.grin_io.specs.Changes.{of_sink};
-ghost use Rattle.text_commands.specs.Statuses.{code_of, line_of, kind_text};
+ghost use Rattle.grin_io.specs.Changes.{sink_change};
+ghost use Rattle.text_commands.specs.Statuses.{exit_code_of, error_line_of, trap_kind_text};
 ghost use Rattle.text_commands.specs.declared.status.Status.TheVariants.{Refused, Exited, Trapped};
-ghost use Rattle.text_commands.specs.Telling.{IsTold};
+ghost use Rattle.text_commands.specs.Telling.{StatusIsPrinted};
 
 use crate::note::Note;
 use grin_io::Sink;
@@ -45,7 +45,7 @@ pub enum Status {
 impl Status {
     /// The status of the process.
     pub fn code(&self) -> u8
-        ensures { result ≡ code_of self.now }
+        ensures { result ≡ exit_code_of self.now }
     {
         match self {
             Status::Done => 0,
@@ -66,7 +66,7 @@ impl Status {
     /// Puts the line of the status on the error output, as one put; nothing at `Done`. A fault
     /// changes nothing else.
     pub fn tell<E: Sink>(&self, err: &mut E)
-        ensures { IsTold (of_sink E.put_gives E.taken E.faults err.old err.new) self.now }
+        ensures { StatusIsPrinted (sink_change E.put_gives E.taken E.faults err.old err.new) self.now }
     {
         match self {
             Status::Done => {}
@@ -119,7 +119,7 @@ pub fn refused(rule: u8, at: u32) -> Status
 
 /// The line of a refusal.
 fn refusal(rule: u8, number: u64) -> Note
-    ensures { result ≡ line_of (Refused rule number) }
+    ensures { result ≡ error_line_of (Refused rule number) }
 {
     let mut note = Note::new();
     note.push_named(b"grinc: refused ", rule as u64);
@@ -130,7 +130,7 @@ fn refusal(rule: u8, number: u64) -> Note
 
 /// The line of an exit.
 fn exit(code: u32) -> Note
-    ensures { result ≡ line_of (Exited code) }
+    ensures { result ≡ error_line_of (Exited code) }
 {
     let mut note = Note::new();
     note.push_named(b"grinc: exited ", code as u64);
@@ -140,7 +140,7 @@ fn exit(code: u32) -> Note
 
 /// The line of a trap.
 fn trap(kind: &TrapKind, pc: u32) -> Note
-    ensures { result ≡ line_of (Trapped kind.now pc) }
+    ensures { result ≡ error_line_of (Trapped kind.now pc) }
 {
     let mut note = Note::new();
     note.push(b"grinc: trap ");
@@ -153,7 +153,7 @@ fn trap(kind: &TrapKind, pc: u32) -> Note
 /// Puts the reason of a trap at the end.
 fn push_kind(note: &mut Note, kind: &TrapKind)
     requires { length note.old + 40 ≤ 136 }
-    ensures kind { note.new ≡ note.old ++ kind_text kind.now }
+    ensures kind { note.new ≡ note.old ++ trap_kind_text kind.now }
     ensures short { length note.new ≤ length note.old + 40 }
 {
     match kind {

@@ -2,8 +2,8 @@
 
 ghost use Rattle.std.specs.Prelude.{◌≡◌, ℕ, List, None};
 ghost use Rattle.core_types.specs.Refused.{IsCause, IsFirstBrokenText, mismatch_in};
-ghost use Rattle.text_commands.specs.Typing.{IsTypedText, BreaksAnother};
-ghost use Rattle.text_commands.specs.Writing.{IsUnwritten};
+ghost use Rattle.text_commands.specs.Typing.{IsTypedText, BreaksOtherRule};
+ghost use Rattle.text_commands.specs.Writing.{IsTransformFailure};
 
 use crate::status::Status;
 use crate::writing::Maker;
@@ -25,7 +25,7 @@ impl Maker for Types {
         typed_are_never_stuck();
         let typed = match typed_or_place(alloc, text) {
             Ok(typed) => typed,
-            Err(fault) => return Err(untyped(&fault)),
+            Err(fault) => return Err(type_failure_status(&fault)),
         };
         match print(alloc, &typed.core) {
             Ok(bytes) => Ok(bytes),
@@ -37,11 +37,11 @@ impl Maker for Types {
 }
 
 /// The status for a text whose types don't fit, or that breaks another rule.
-pub(crate) fn untyped(fault: &TypeFault) -> Status
+pub(crate) fn type_failure_status(fault: &TypeFault) -> Status
     ensures first { (text : List ℕ) → IsCause text fault.now
-        → IsUnwritten IsFirstBrokenText text result }
+        → IsTransformFailure IsFirstBrokenText text result }
     ensures another { mismatch_in fault.now ≡ None → (text : List ℕ) → IsCause text fault.now
-        → IsUnwritten BreaksAnother text result }
+        → IsTransformFailure BreaksOtherRule text result }
 {
     let rule = fault.rule();
     if rule == 0 {

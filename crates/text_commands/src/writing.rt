@@ -1,9 +1,9 @@
 //! Commands that make a text of the text of a file, and put it.
 
 ghost use Rattle.std.specs.Prelude.{◌≡◌, ◌≤◌, ℕ, List, IfOk, IfErr};
-ghost use Rattle.grin_io.specs.Changes.{of_shelf, of_sink};
-ghost use Rattle.text_commands.specs.Operands.{OfOperand, most_of_text};
-ghost use Rattle.text_commands.specs.Writing.{IsUnwritten, RefusesLong, Writes};
+ghost use Rattle.grin_io.specs.Changes.{shelf_change, sink_change};
+ghost use Rattle.text_commands.specs.Operands.{HoldsOfOperandFile, text_read_limit};
+ghost use Rattle.text_commands.specs.Writing.{IsTransformFailure, RefusesLongTexts, Writes};
 
 use crate::pieces::put_pieces;
 use crate::reading::{MOST_OF_TEXT, read_file};
@@ -22,17 +22,17 @@ pub trait Maker {
     /// The bytes that are made of a text, or why none are.
     fn make(&self, alloc: Global, text: &[u8]) -> Result<Vec<u8>, Status>
         ensures made { IfOk result (λ bytes. made self.now text.now bytes.items) }
-        ensures refused { IfErr result (IsUnwritten (refused self.now) text.now) };
+        ensures refused { IfErr result (IsTransformFailure (refused self.now) text.now) };
 
     /// A law: texts that are too long are refused, all alike.
     fn refuses_long(&self)
-        ensures { RefusesLong (made self.now) (refused self.now) };
+        ensures { RefusesLongTexts (made self.now) (refused self.now) };
 }
 
 /// Puts what is made of a text, in pieces of 4,096 bytes. All memory is had before the first put.
 pub fn write_text<M: Maker, K: Sink>(alloc: Global, maker: &M, text: &[u8], out: &mut K) -> Status
     ensures writes { Writes (M.made maker.now) (M.refused maker.now)
-        (of_sink K.put_gives K.taken K.faults out.old out.new) text.now result }
+        (sink_change K.put_gives K.taken K.faults out.old out.new) text.now result }
     ensures later { K.faults out.old ≤ K.faults out.new }
 {
     match maker.make(alloc, text) {
@@ -53,10 +53,10 @@ pub fn write_file<M: Maker, F: Shelf, K: Sink>(
     out: &mut K,
 ) -> Status
     requires { F.permitted file.now }
-    ensures answer { OfOperand (of_shelf F.content F.faults shelf.old shelf.new) most_of_text
+    ensures answer { HoldsOfOperandFile (shelf_change F.content F.faults shelf.old shelf.new) text_read_limit
         (out.new ≡ out.old) file.now (λ text status.
         Writes (M.made maker.now) (M.refused maker.now)
-        (of_sink K.put_gives K.taken K.faults out.old out.new) text status) result }
+        (sink_change K.put_gives K.taken K.faults out.old out.new) text status) result }
     ensures later { (F.faults shelf.old ≤ F.faults shelf.new)
         × (K.faults out.old ≤ K.faults out.new) }
 {

@@ -13,7 +13,7 @@ use Rattle.grin_syntax.specs.declared.program.Word.{Word}
 use Rattle.grin_syntax.specs.declared.program.Target.TheVariants as to
 use Rattle.grin_syntax.specs.Tree.{Code, end, store, bind, as_act}
 use Rattle.grin_syntax.specs.Binders.{numbers_of, cell_vars}
-use Rattle.grin_syntax.specs.Formed.{AllOf, Scope, InScope, with_words, with_target, WordFormed, CellFormed, ActFormed, CodeFormed, ArmsFormed}
+use Rattle.grin_syntax.specs.Formed.{AllOf, Scope, InScope, with_word_variables, with_target, WordFormed, CellFormed, ActFormed, CodeFormed, ArmsFormed}
 use Rattle.grin_syntax.proofs.Scopes.{first_in, Within, within_chain, within_words, within_target, word_stays, words_stay}
 use Rattle.grin_translate.specs.declared.tags.Delay.{Delay}
 use Rattle.grin_translate.specs.declared.tags.Delay.TheVariants.{Calls}
@@ -61,7 +61,7 @@ module _ (p : Program) (base : ℕ) where
       let more : Scope = with_node y scope in
       (hx, give_formed as' (suc t) y a more (first_in y.0 scope.nodes) (word_later scope more (node_within y scope) a ha.0) (words_later scope more (node_within y scope) as' ha.1))
 
-  pub on_number_formed : (v i : VarId) (b : Code) (scope : Scope) → InScope scope.nodes v.0 → CodeFormed (tr p) (with_words (i.0 ∷ []) scope) b → CodeFormed (tr p) scope (on_number p base v i b)
+  pub on_number_formed : (v i : VarId) (b : Code) (scope : Scope) → InScope scope.nodes v.0 → CodeFormed (tr p) (with_word_variables (i.0 ∷ []) scope) b → CodeFormed (tr p) scope (on_number p base v i b)
   unfolding ActFormed
   on_number_formed v i b scope hv hb = (hv, (number_known p, hb, (tt, tt, tt)))
 
@@ -74,9 +74,9 @@ module _ (p : Program) (base : ℕ) where
       let j : VarId = temp p base (t + 3) in
       let k : VarId = temp p base (t + 4) in
       let s1 : Scope = with_node v scope in
-      let s2 : Scope = with_words (i.0 ∷ []) s1 in
+      let s2 : Scope = with_word_variables (i.0 ∷ []) s1 in
       let s3 : Scope = with_node w s2 in
-      let s4 : Scope = with_words (j.0 ∷ []) s3 in
+      let s4 : Scope = with_word_variables (j.0 ∷ []) s3 in
       let last : Code = result_of p op i j k in (
         ha,
         on_number_formed v i (evaluated_of p b w j last) s1 (first_in v.0 scope.nodes) (
@@ -115,7 +115,7 @@ module _ (p : Program) (base : ℕ) where
     block_formed (App f) t S scope scoped ok waits = form_formed f t S scope scoped ok
     block_formed (Let group e) t S scope scoped ok waits =
         let S' : ℕ → Type 0 = λ x. S x ⊎ InGroup group x in
-        let scope' : Scope = with_words (cell_vars (map (cell_of p base) group)) scope in
+        let scope' : Scope = with_word_variables (cell_vars (map (cell_of p base) group)) scope in
         let scoped' : Scoped p base S' scope'.words = scoped_group p base group scoped in (
           cells_formed S' scope' scoped' group ok.0 (λ b h d i. waits d (or_left _ _ (any_has (λ b. binds d b.flat) group b h i))),
           block_formed e t S' scope' scoped' ok.1 (λ d i. waits d (or_right (list_any (λ b. binds d b.flat) group) _ i)),
@@ -130,7 +130,7 @@ module _ (p : Program) (base : ℕ) where
     arms_formed NoMore v t S scope scoped hv ok waits = (tt, tt, tt)
     arms_formed (OnCon c xs e rest) v t S scope scoped hv ok waits = (
       constructor_known p c (length xs) ok.0,
-      block_formed e t (λ x. S x ⊎ InLocals xs x) (with_words (numbers_of (map (local p base) xs)) scope) (scoped_fields p base xs scoped) ok.1 (λ d i. waits d (or_left _ _ i)),
+      block_formed e t (λ x. S x ⊎ InLocals xs x) (with_word_variables (numbers_of (map (local p base) xs)) scope) (scoped_fields p base xs scoped) ok.1 (λ d i. waits d (or_left _ _ i)),
       arms_formed rest v (t + temps e) S scope scoped hv ok.2 (λ d i. waits d (or_right (delays_in d e) _ i)),
     )
     arms_formed (OnInt k e rest) v t S scope scoped hv ok waits =
@@ -138,4 +138,4 @@ module _ (p : Program) (base : ℕ) where
     arms_formed (OnAny None e rest) v t S scope scoped hv ok waits = (tt, block_formed e t S scope scoped ok.0 (λ d i. waits d (or_left _ _ i)), tt)
     arms_formed (OnAny (Some x) e rest) v t S scope scoped hv ok waits =
         let y : ℕ = (local p base x).0 in
-        (tt, ((hv, tt), block_formed e t (λ z. S z ⊎ (z ≡ x)) (with_words (y ∷ []) scope) (scoped_local p base x scoped) ok.0 (λ d i. waits d (or_left _ _ i))), tt)
+        (tt, ((hv, tt), block_formed e t (λ z. S z ⊎ (z ≡ x)) (with_word_variables (y ∷ []) scope) (scoped_local p base x scoped) ok.0 (λ d i. waits d (or_left _ _ i))), tt)

@@ -13,7 +13,7 @@ use Rattle.grin_translate.specs.declared.tags.Delay.{Delay}
 use Rattle.grin_translate.specs.declared.tags.Delay.TheVariants.{Calls, Applies, Operates}
 use Rattle.grin_translate.specs.declared.tags.Kind.{Kind}
 use Rattle.grin_translate.specs.declared.tags.Kind.TheVariants.{Number, Constructor, Waits, Lacks}
-use Rattle.grin_translate.specs.Tags.{same_delay, binds, is_delayed, delays, kinds, tag, tag_of, proc}
+use Rattle.grin_translate.specs.Tags.{same_thunk_kind, binds, is_delayed, delays, kinds, tag, tag_of, proc}
 use Rattle.grin_translate.specs.Blocks.{word, node}
 use Rattle.grin_translate.specs.Translation.{print, delayed_procs, span, print_procs, tr}
 use Rattle.grin_translate.specs.WellFormed.{HasFields, HasParams, VarOk, FormOk}
@@ -54,7 +54,7 @@ module _ (p : Program) where
 
   pub proc_known : (d : Delay) → Has d (delays p) → ProcKnown (tr p) (proc p d)
   proc_known d h =
-      let lt = slice_get_within (map (λ x. x) (delays p)) (proc p d).0 d (found same_delay delay_sound delay_itself (λ x. x) d (delays p) h) in
+      let lt = slice_get_within (map (λ x. x) (delays p)) (proc p d).0 d (found same_thunk_kind delay_sound delay_itself (λ x. x) d (delays p) h) in
       omega (arith, lt, many_procs, length-map (delays p) (λ x. x))
 
   pub print_known : ProcKnown (tr p) (print p)

@@ -3,7 +3,7 @@ use Rattle.arity_check.specs.Accepted.{IsValid}
 use Rattle.arity_check.specs.Program.{Program}
 use Rattle.arity_check.specs.Numbered.{NewBindingsAreNumbered}
 use Rattle.grin_syntax.specs.Formed.{Formed}
-use Rattle.flow_system.specs.Covers.{Started}
+use Rattle.flow_system.specs.Covers.{CanBeStarted}
 use Rattle.flow_system.proofs.Starting.{formed_is_started}
 use Rattle.grin_translate.specs.Translation.{tr}
 use Rattle.grin_translate.specs.WellFormed.{WellFormed}
@@ -27,5 +27,5 @@ valid_is_formed numbered p valid =
       argument = argument_formed p ok;
     }
 
-pub valid_is_started : NewBindingsAreNumbered → (p : Program) → IsValid p → Started (tr p)
+pub valid_is_started : NewBindingsAreNumbered → (p : Program) → IsValid p → CanBeStarted (tr p)
 valid_is_started numbered p valid = formed_is_started (tr p) (valid_is_formed numbered p valid)

@@ -5,7 +5,7 @@ use Rattle.std.proofs.lemmas.List.{length-map}
 use Rattle.arity_check.specs.declared.normal.Bound.{Bound}
 use Rattle.arity_check.specs.declared.normal.Flat.{Flat}
 use Rattle.arity_check.specs.declared.normal.Flat.TheVariants as flat
-use Rattle.arity_check.specs.Numbered.{Numbered}
+use Rattle.arity_check.specs.Numbered.{LocalsAreConsecutive}
 use Rattle.arity_check.specs.Program.{Program}
 use Rattle.grin_syntax.specs.declared.program.VarId.{VarId}
 use Rattle.grin_syntax.specs.declared.program.Cell.{Cell}
@@ -52,7 +52,7 @@ fail_times y = refl
 module _ (p : Program) (base y : ℕ) where
   -- ---- locals that follow one another
 
-  pub group_placed : (t n : ℕ) (group : List Bound) → Numbered n group → Placed base y t t n (n + length group) (times y (cell_vars (map (cell_of p base) group)))
+  pub group_placed : (t n : ℕ) (group : List Bound) → LocalsAreConsecutive n group → Placed base y t t n (n + length group) (times y (cell_vars (map (cell_of p base) group)))
   group_placed t n [] h = placed_within base t t n (n + 0) 0 (omega arith) (omega arith) (omega arith) (omega arith) (omega arith) (placed_none base y t n)
   group_placed t n (b ∷ group) h =
       let same : one_if y (base + 2 * b.local) ≡ one_if y (base + 2 * n) = ap (λ x. one_if y (base + 2 * x)) h.0 in

@@ -5,7 +5,7 @@ use Rattle.std.proofs.lemmas.List.FromFn.{length-range_with_len}
 use Rattle.core_reader.specs.Tree as tree
 use Rattle.core_reader.specs.Tree.{Expr, Alts, Bind}
 use Rattle.arity_check.specs.declared.normal.Bound.{Bound}
-use Rattle.arity_check.specs.Numbered.{Numbered, NewBindingsAreNumbered}
+use Rattle.arity_check.specs.Numbered.{LocalsAreConsecutive, NewBindingsAreNumbered}
 use Rattle.arity_check.specs.Normal.{bound, IsGroup, NoMembers, AndMember, IsNormal, PlainApp, BoundApp, Group, Choice, AreBranches, NoBranches, ConBranch, IntBranch, NamelessBranch, NamedBranch}
 use Rattle.arity_check.specs.Scope.{Scope}
 use Rattle.arity_check.specs.Program.{Program, Term, Branches}
@@ -26,10 +26,10 @@ use Rattle.seq.specs.Lists.{times}
 -- ---- let groups are numbered in order
 
 module _ (numbered : NewBindingsAreNumbered) (p : tree.Program) where
-  group_numbered : {s : Scope} {n : ℕ} {bs : List Bind} {group : List Bound} {xs : List ℕ} → IsGroup p s n bs group xs → Numbered n group
+  group_numbered : {s : Scope} {n : ℕ} {bs : List Bind} {group : List Bound} {xs : List ℕ} → IsGroup p s n bs group xs → LocalsAreConsecutive n group
   group_numbered NoMembers = tt
   group_numbered {s = s} {n = n} (AndMember {b = b} news bounds form t f e g is) =
-      subst (Numbered n) (sym is) (numbered_both n t news (bound t form ∷ bounds) e (numbered p s n b.app.head b.app.args news form f) (refl, group_numbered g))
+      subst (LocalsAreConsecutive n) (sym is) (numbered_both n t news (bound t form ∷ bounds) e (numbered p s n b.app.head b.app.args news form f) (refl, group_numbered g))
 
   -- ---- where the locals of an expression end
 

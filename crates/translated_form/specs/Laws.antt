@@ -5,7 +5,7 @@ use Rattle.arity_check.specs.Program as core
 use Rattle.grin_syntax.specs.Tree.{Program}
 use Rattle.grin_syntax.specs.Formed.{AllOf, Formed}
 use Rattle.grin_meaning.specs.Ready.{most_fields, most_value_fields}
-use Rattle.flow_system.specs.Covers.{Started}
+use Rattle.flow_system.specs.Covers.{CanBeStarted}
 use Rattle.grin_translate.specs.Translation.{tr}
 
 -- each variable is bound once and before its uses, each site stands once, and what is named is
@@ -14,8 +14,8 @@ abbrev pub ValidTranslationsAreFormed : Type 0
 ValidTranslationsAreFormed = (p : core.Program) → IsValid p → Formed (tr p)
 
 -- global cells have no fields, and the argument of the start is one of them
-abbrev pub ValidTranslationsAreStarted : Type 0
-ValidTranslationsAreStarted = (p : core.Program) → IsValid p → Started (tr p)
+abbrev pub ValidTranslationsCanStart : Type 0
+ValidTranslationsCanStart = (p : core.Program) → IsValid p → CanBeStarted (tr p)
 
 -- procedures with few parameters, and tags with few fields; beside the fields of a value there is
 -- room for its tag

@@ -5,7 +5,7 @@
 //! without a body.
 #![tactic(auto)]
 
-ghost use Rattle.translated_form.specs.Laws.{ValidTranslationsAreFormed, ValidTranslationsAreStarted, ValidTranslationsHaveFewWords};
+ghost use Rattle.translated_form.specs.Laws.{ValidTranslationsAreFormed, ValidTranslationsCanStart, ValidTranslationsHaveFewWords};
 
 use arity_check::laws::new_bindings_are_numbered;
 
@@ -13,7 +13,7 @@ use arity_check::laws::new_bindings_are_numbered;
 /// of the start is one of them.
 pub fn valid_translations_are_formed()
     ensures formed { ValidTranslationsAreFormed }
-    ensures started { ValidTranslationsAreStarted }
+    ensures started { ValidTranslationsCanStart }
 {
     // The law that the locals of a normal form are numbered in order: so each is bound once.
     new_bindings_are_numbered();

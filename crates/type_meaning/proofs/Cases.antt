@@ -6,7 +6,7 @@ use Rattle.seq.proofs.Lists.{some_is, none_is_some}
 use Rattle.core_reader.specs.declared.syntax.Binder.{Binder}
 use Rattle.core_reader.specs.declared.syntax.Pattern.{Pattern}
 use Rattle.core_reader.specs.declared.syntax.Pattern.TheVariants as pattern
-use Rattle.core_reader.specs.Grammar.{IsSomeAlts}
+use Rattle.core_reader.specs.Grammar.{IsNonemptyAlts}
 use Rattle.core_reader.specs.Tree.{Expr, Alts, NoAlts, AndAlt}
 use Rattle.arity_check.specs.Patterns.{alt_at}
 use Rattle.arity_check.specs.Program as normal
@@ -15,10 +15,10 @@ use Rattle.arity_check.specs.Scope.{Scope, con_number}
 use Rattle.arity_check.specs.Normal.{Pairwise, IsConstructor, AreBranches, NoBranches, ConBranch, IntBranch, NamelessBranch, NamedBranch}
 use Rattle.core_types.specs.Source.{Constructor, TypeDecl, Source, erased}
 use Rattle.core_types.specs.Rules.{IsUnbroken, DuplicateType, IsPartial, OfIntegers, Lacks, type_with, names_constructor}
-use Rattle.core_types.specs.Typing.{Typed, Named, AtScrutinee, declared_by, constructor_in, applied, used_at, of_alts, scrutinee, Substitution, under, Solves, constraint}
+use Rattle.core_types.specs.Typing.{Typed, Named, AtScrutinee, constructor_by_name, constructor_in, applied, used_at, of_alts, scrutinee, Substitution, under, Solves, constraint}
 use Rattle.core_types.specs.Typing as types
 use Rattle.type_meaning.specs.Judgement.{Instance, instance, IsNamed, HasDefault, HasBranch, TakesAll}
-use Rattle.type_meaning.specs.SourceTypes.{ConHas, FunHas}
+use Rattle.type_meaning.specs.SourceTypes.{ConstructorHasType, FunctionHasType}
 use Rattle.type_meaning.proofs.Readings.{under_both, both_carry, carry_applied}
 use Rattle.type_meaning.proofs.Constructors.{declares, known}
 
@@ -39,18 +39,18 @@ not_in_names (d ∷ cs) n e = by_test (nat_eq d.name.name.0 n) e (not_in_names c
     by_test true e k = none_is_some (sym e)
     by_test false e k = k e
 
-pub with_constructor : (ds : List TypeDecl) (n : ℕ) (d : TypeDecl) (c : Constructor) → declared_by ds n ≡ Some (d, c) → type_with ds n ≡ Some d
+pub with_constructor : (ds : List TypeDecl) (n : ℕ) (d : TypeDecl) (c : Constructor) → constructor_by_name ds n ≡ Some (d, c) → type_with ds n ≡ Some d
 with_constructor [] n d c e = none_is_some e
 with_constructor (t ∷ ds) n d c e = by_found (constructor_in t.constructors n) refl e (with_constructor ds n d c)
   where
-    by_found : (o : Option Constructor) → constructor_in t.constructors n ≡ o → elim o as (λ _. Option (TypeDecl × Constructor)) [ Some c ↦ Some (t, c) | None ↦ declared_by ds n ] ≡ Some (d, c)
-        → (declared_by ds n ≡ Some (d, c) → type_with ds n ≡ Some d) → cond (names_constructor n t.constructors) (Some t) (type_with ds n) ≡ Some d
+    by_found : (o : Option Constructor) → constructor_in t.constructors n ≡ o → elim o as (λ _. Option (TypeDecl × Constructor)) [ Some c ↦ Some (t, c) | None ↦ constructor_by_name ds n ] ≡ Some (d, c)
+        → (constructor_by_name ds n ≡ Some (d, c) → type_with ds n ≡ Some d) → cond (names_constructor n t.constructors) (Some t) (type_with ds n) ≡ Some d
     by_found (Some b) i e k = ap (λ b. cond b (Some t) (type_with ds n)) (in_names t.constructors n b i) ∙ ap (λ (x : TypeDecl × Constructor). Some x.0) (some_is e)
     by_found None i e k = ap (λ b. cond b (Some t) (type_with ds n)) (not_in_names t.constructors n i) ∙ k e
 
 -- what the rules say of the alternatives of a case
 pub record Complete (s : Source) (alts : Alts) : Type 0 where
-  pub some : IsSomeAlts alts
+  pub some : IsNonemptyAlts alts
   pub whole : (q : Pattern) → alt_at alts 0 ≡ Some q → ((j : ℕ) (x : Binder) → alt_at alts j ≢ Some (pattern.Default x)) → IsPartial s alts q → ⊥
 
 module _ (s : Source) (p : normal.Program) (unbroken : IsUnbroken s) (cons : Pairwise (IsConstructor (erased s)) (erased s).constructors p.cons) where
@@ -68,7 +68,7 @@ module _ (s : Source) (p : normal.Program) (unbroken : IsUnbroken s) (cons : Pai
           some_is (sym a ∙ ap (λ n. slice_get s.types n) same ∙ b)
 
   -- a constructor of a type that is applied
-  pub constructor_of : (c : ℕ) (ts : List Typed) (d : TypeDecl) (var : ℕ → Typed) (i : ℕ) → slice_get s.types i ≡ Some d → ConHas s c ts (applied s d var)
+  pub constructor_of : (c : ℕ) (ts : List Typed) (d : TypeDecl) (var : ℕ → Typed) (i : ℕ) → slice_get s.types i ≡ Some d → ConstructorHasType s c ts (applied s d var)
       → (e : Constructor) × (n : ℕ) × (j : ℕ) × (con_number (erased s) n ≡ Some c) × (e.name.name.0 ≡ n) × (slice_get d.constructors j ≡ Some e)
   constructor_of c ts d var i at h =
       let w = declares s.types h.name h.type h.constructor h.declared in
@@ -149,12 +149,12 @@ module _ (s : Source) (p : normal.Program) (unbroken : IsUnbroken s) (cons : Pai
     scrutinee_is v c d e = ap (instance ρ) e ∙ carry_applied F _ (both_carry σ ρ) s (used_at s c.at) d
 
     pub takes_all : {sc : Scope} {n m : ℕ} {alts : Alts} {branches : Branches} (ls : types.Locals) (u : Typed) → AreBranches (erased s) sc n alts branches m → Complete s alts → Solves σ (of_alts s ls (scrutinee s alts) u alts)
-        → TakesAll (ConHas s) (FunHas s σ) (F (scrutinee s alts)) branches
+        → TakesAll (ConstructorHasType s) (FunctionHasType s σ) (F (scrutinee s alts)) branches
     takes_all {alts = alts} {branches = branches} ls u d complete solved = by_default (default_or d)
       where
         by_pattern : (alts : Alts) → Complete s alts → NoDefault alts → ((x number : ℕ) → con_number (erased s) x ≡ Some number → HasBranch number branches ⊎ NoPattern x alts)
             → ((c : Binder) (fields : List Binder) → alt_at alts 0 ≡ Some (pattern.Con c fields) → (number : ℕ) × (con_number (erased s) c.name.0 ≡ Some number))
-            → Solves σ (of_alts s ls (scrutinee s alts) u alts) → TakesAll (ConHas s) (FunHas s σ) (F (scrutinee s alts)) branches
+            → Solves σ (of_alts s ls (scrutinee s alts) u alts) → TakesAll (ConstructorHasType s) (FunctionHasType s σ) (F (scrutinee s alts)) branches
         by_pattern NoAlts complete none has numbers solved = absurd complete.some
         by_pattern (AndAlt (pattern.Int k at) body rest) complete none has numbers solved = absurd (complete.whole (pattern.Int k at) refl none (OfIntegers 0 refl))
         by_pattern (AndAlt (pattern.Default x) body rest) complete none has numbers solved = absurd (none 0 x refl)
@@ -171,7 +171,7 @@ module _ (s : Source) (p : normal.Program) (unbroken : IsUnbroken s) (cons : Pai
             inr (
               subst IsNamed (sym is) tt,
               λ number' ts h.
-                  let e = constructor_of number' ts k.type var w.type_place w.type_at (subst (λ t. ConHas s number' ts t) is h) in
+                  let e = constructor_of number' ts k.type var w.type_place w.type_at (subst (λ t. ConstructorHasType s number' ts t) is h) in
                   by_branch (has e.1 number' e.3)
                   (λ absent. complete.whole (pattern.Con c fields) refl none (Lacks e.2 (with_constructor s.types c.name.0 k.type k.constructor k.declared) e.5 (λ j b ys q r. absent j b ys q (r ∙ e.4)))),
             )
@@ -191,6 +191,6 @@ module _ (s : Source) (p : normal.Program) (unbroken : IsUnbroken s) (cons : Pai
         first_number (NamelessBranch q a b) c fields e = absurd cc
         first_number (NamedBranch q a b) c fields e = absurd cc
 
-        by_default : HasDefault branches ⊎ NoDefault alts → TakesAll (ConHas s) (FunHas s σ) (F (scrutinee s alts)) branches
+        by_default : HasDefault branches ⊎ NoDefault alts → TakesAll (ConstructorHasType s) (FunctionHasType s σ) (F (scrutinee s alts)) branches
         by_default (inl h) = inl h
         by_default (inr none) = by_pattern alts complete none (branch_or d) (first_number d) solved

@@ -9,12 +9,12 @@ use Rattle.arity_check.specs.Program as normal
 use Rattle.arity_check.specs.Scope.{con_number}
 use Rattle.arity_check.specs.Normal.{Pairwise, IsConstructor}
 use Rattle.arity_check.specs.Broken as core
-use Rattle.core_types.specs.Source.{Writtens, NoTypes, AndType, Constructor, TypeDecl, Source, count, data_of, data_in, erased}
+use Rattle.core_types.specs.Source.{WrittenTypes, NoTypes, AndType, Constructor, TypeDecl, Source, count, data_of, data_in, erased}
 use Rattle.core_types.specs.Rules.{IsUnbroken, InCore}
-use Rattle.core_types.specs.Typing.{Typed, Int, arrows, declared_by, constructor_in, constructor_type, read_list, applied, used_at, Substitution}
+use Rattle.core_types.specs.Typing.{Typed, Int, arrows, constructor_by_name, constructor_in, constructor_type, read_list, applied, used_at, Substitution}
 use Rattle.core_meaning.specs.WellFormed.{HasFields}
 use Rattle.type_meaning.specs.Judgement.{Instance}
-use Rattle.type_meaning.specs.SourceTypes.{ConHas}
+use Rattle.type_meaning.specs.SourceTypes.{ConstructorHasType}
 use Rattle.type_meaning.proofs.Readings.{under_both, both_carry, carry_arrows, carry_list, carry_applied, arrows_same}
 
 pub record PairBack {X Y : Type 0} (R : X → Y → Type 0) (xs : List X) (i : ℕ) (y : Y) : Type 0 where
@@ -93,11 +93,11 @@ in_type (d ∷ cs) n c e = by_test (nat_eq d.name.name.0 n) refl e (in_type cs n
     by_test true i e k = record { named = ap (λ (c : Constructor). c.name.name.0) (sym (some_is e)) ∙ eqb-true d.name.name.0 n i; place = 0; at = e }
     by_test false i e k = let r = k e in record { named = r.named; place = suc r.place; at = r.at }
 
-pub declares : (ds : List TypeDecl) (n : ℕ) (d : TypeDecl) (c : Constructor) → declared_by ds n ≡ Some (d, c) → Declares ds n d c
+pub declares : (ds : List TypeDecl) (n : ℕ) (d : TypeDecl) (c : Constructor) → constructor_by_name ds n ≡ Some (d, c) → Declares ds n d c
 declares [] n d c e = none_is_some e
 declares (t ∷ ds) n d c e = by_found (constructor_in t.constructors n) refl e (declares ds n d c)
   where
-    by_found : (o : Option Constructor) → constructor_in t.constructors n ≡ o → elim o as (λ _. Option (TypeDecl × Constructor)) [ Some c ↦ Some (t, c) | None ↦ declared_by ds n ] ≡ Some (d, c) → (declared_by ds n ≡ Some (d, c) → Declares ds n d c) → Declares (t ∷ ds) n d c
+    by_found : (o : Option Constructor) → constructor_in t.constructors n ≡ o → elim o as (λ _. Option (TypeDecl × Constructor)) [ Some c ↦ Some (t, c) | None ↦ constructor_by_name ds n ] ≡ Some (d, c) → (constructor_by_name ds n ≡ Some (d, c) → Declares ds n d c) → Declares (t ∷ ds) n d c
     by_found (Some b) i e k =
         let both : (t, b) ≡ (d, c) = some_is e in
         let type : t ≡ d = ap (λ (x : TypeDecl × Constructor). x.0) both in
@@ -144,7 +144,7 @@ data_place [] i j d c e h = none_is_some e
 data_place (t ∷ ds) zero j d c e h = (j, get_left (map data_of t.constructors) (all_data ds) j (data_of c) (map_get data_of t.constructors j c (ap (λ (t : TypeDecl). slice_get t.constructors j) (some_is e) ∙ h)))
 data_place (t ∷ ds) (suc i) j d c e h = let r = data_place ds i j d c e h in (length (map data_of t.constructors) + r.0, get_right (map data_of t.constructors) (all_data ds) r.0 (data_of c) r.1)
 
-pub declared_exactly : (ds : List TypeDecl) (i j : ℕ) (d : TypeDecl) (c : Constructor) → Different (flat_map data_in ds) → slice_get ds i ≡ Some d → slice_get d.constructors j ≡ Some c → declared_by ds c.name.name.0 ≡ Some (d, c)
+pub declared_exactly : (ds : List TypeDecl) (i j : ℕ) (d : TypeDecl) (c : Constructor) → Different (flat_map data_in ds) → slice_get ds i ≡ Some d → slice_get d.constructors j ≡ Some c → constructor_by_name ds c.name.name.0 ≡ Some (d, c)
 declared_exactly [] i j d c u e h = none_is_some e
 declared_exactly (t ∷ ds) zero j d c u e h = by_found (constructor_in t.constructors c.name.name.0) refl
   where
@@ -154,7 +154,7 @@ declared_exactly (t ∷ ds) zero j d c u e h = by_found (constructor_in t.constr
     here : slice_get t.constructors j ≡ Some c
     here = ap (λ (t : TypeDecl). slice_get t.constructors j) same ∙ h
 
-    by_found : (o : Option Constructor) → constructor_in t.constructors c.name.name.0 ≡ o → elim o as (λ _. Option (TypeDecl × Constructor)) [ Some c ↦ Some (t, c) | None ↦ declared_by ds c.name.name.0 ] ≡ Some (d, c)
+    by_found : (o : Option Constructor) → constructor_in t.constructors c.name.name.0 ≡ o → elim o as (λ _. Option (TypeDecl × Constructor)) [ Some c ↦ Some (t, c) | None ↦ constructor_by_name ds c.name.name.0 ] ≡ Some (d, c)
     by_found None q = absurd (absent t.constructors c.name.name.0 j c q here refl)
     by_found (Some b) q =
         let r = in_type t.constructors c.name.name.0 b q in
@@ -173,8 +173,8 @@ declared_exactly (t ∷ ds) (suc i) j d c u e h = by_found (constructor_in t.con
         let k = u (m + i) (m + j) c d (get_right (map data_of t.constructors) (all_data ds) i c a) (get_right (map data_of t.constructors) (all_data ds) j d b) q in
         omega (arith, k)
 
-    by_found : (o : Option Constructor) → constructor_in t.constructors c.name.name.0 ≡ o → declared_by ds c.name.name.0 ≡ Some (d, c) → (k : ℕ) × (slice_get (flat_map data_in ds) k ≡ Some (data_of c))
-        → elim o as (λ _. Option (TypeDecl × Constructor)) [ Some c ↦ Some (t, c) | None ↦ declared_by ds c.name.name.0 ] ≡ Some (d, c)
+    by_found : (o : Option Constructor) → constructor_in t.constructors c.name.name.0 ≡ o → constructor_by_name ds c.name.name.0 ≡ Some (d, c) → (k : ℕ) × (slice_get (flat_map data_in ds) k ≡ Some (data_of c))
+        → elim o as (λ _. Option (TypeDecl × Constructor)) [ Some c ↦ Some (t, c) | None ↦ constructor_by_name ds c.name.name.0 ] ≡ Some (d, c)
     by_found None q r k = r
     by_found (Some b) q r k =
         let w = in_type t.constructors c.name.name.0 b q in
@@ -187,7 +187,7 @@ declared_exactly (t ∷ ds) (suc i) j d c u e h = by_found (constructor_in t.con
 
 -- each constructor is declared
 abbrev IsDeclared : List TypeDecl → ℕ → Type 0
-IsDeclared ds n = (d : TypeDecl) × (c : Constructor) × (declared_by ds n ≡ Some (d, c))
+IsDeclared ds n = (d : TypeDecl) × (c : Constructor) × (constructor_by_name ds n ≡ Some (d, c))
 
 is_declared_in : (cs : List Constructor) (rest : List tree.Data) (i : ℕ) (d : tree.Data) → slice_get (map data_of cs ++ rest) i ≡ Some d
     → ((c : Constructor) × (constructor_in cs d.name ≡ Some c)) ⊎ ((constructor_in cs d.name ≡ None) × (j : ℕ) × (slice_get rest j ≡ Some d))
@@ -208,7 +208,7 @@ is_declared [] i d e = none_is_some e
 is_declared (t ∷ ds) i d e = by_found (constructor_in t.constructors d.name) (is_declared_in t.constructors (all_data ds) i d e) (λ j q. is_declared ds j d q)
   where
     by_found : (o : Option Constructor) → ((c : Constructor) × (o ≡ Some c)) ⊎ ((o ≡ None) × (j : ℕ) × (slice_get (all_data ds) j ≡ Some d)) → ((j : ℕ) → slice_get (all_data ds) j ≡ Some d → IsDeclared ds d.name)
-        → (x : TypeDecl) × (c : Constructor) × (elim o as (λ _. Option (TypeDecl × Constructor)) [ Some c ↦ Some (t, c) | None ↦ declared_by ds d.name ] ≡ Some (x, c))
+        → (x : TypeDecl) × (c : Constructor) × (elim o as (λ _. Option (TypeDecl × Constructor)) [ Some c ↦ Some (t, c) | None ↦ constructor_by_name ds d.name ] ≡ Some (x, c))
     by_found (Some b) h k = (t, b, refl)
     by_found None (inl h) k = none_is_some h.1
     by_found None (inr h) k = k h.1 h.2
@@ -229,7 +229,7 @@ module _ (s : Source) (p : normal.Program) (unbroken : IsUnbroken s) (cons : Pai
   pub record Known (n number : ℕ) : Type 0 where
     pub type : TypeDecl
     pub constructor : Constructor
-    pub declared : declared_by s.types n ≡ Some (type, constructor)
+    pub declared : constructor_by_name s.types n ≡ Some (type, constructor)
     pub at : slice_get (erased s).constructors number ≡ Some (data_of constructor)
     pub named : constructor.name.name.0 ≡ n
 
@@ -239,12 +239,12 @@ module _ (s : Source) (p : normal.Program) (unbroken : IsUnbroken s) (cons : Pai
       let r = placed (λ (d : tree.Data). nat_eq d.name n) (erased s).constructors number e in
       let same : r.item.name ≡ n = eqb-true r.item.name n r.passes in
       let d = is_declared s.types number r.item r.is in
-      let i : declared_by s.types n ≡ Some (d.0, d.1) = subst (λ n. declared_by s.types n ≡ Some (d.0, d.1)) same d.2 in
+      let i : constructor_by_name s.types n ≡ Some (d.0, d.1) = subst (λ n. constructor_by_name s.types n ≡ Some (d.0, d.1)) same d.2 in
       let h = declares s.types n d.0 d.1 i in
       let it : r.item ≡ data_of d.1 = one_data number h.place r.item (data_of d.1) r.is h.data_at (h.named ∙ sym same) in
       record { type = d.0; constructor = d.1; declared = i; at = r.is ∙ ap (λ d. Some d) it; named = h.named }
 
-  pub many : (var : ℕ → Typed) (ws : Writtens) → length (read_list s var ws) ≡ count ws
+  pub many : (var : ℕ → Typed) (ws : WrittenTypes) → length (read_list s var ws) ≡ count ws
   many var NoTypes = refl
   many var (AndType w ws) = ap suc (many var ws)
 
@@ -257,7 +257,7 @@ module _ (s : Source) (p : normal.Program) (unbroken : IsUnbroken s) (cons : Pai
 
   module _ (σ : Substitution) (ρ : Instance) where
     -- a constructor is used with all its fields
-    pub con_fits : (n at number k : ℕ) (ts : List Typed) (r : Typed) → con_number (erased s) n ≡ Some number → HasFields p number k → length ts ≡ k → under_both σ ρ (constructor_type s n at) ≡ arrows ts r → ConHas s number ts r
+    pub con_fits : (n at number k : ℕ) (ts : List Typed) (r : Typed) → con_number (erased s) n ≡ Some number → HasFields p number k → length ts ≡ k → under_both σ ρ (constructor_type s n at) ≡ arrows ts r → ConstructorHasType s number ts r
     con_fits n at number k ts r e f long q =
         let h = known n number e in
         let c = both_carry σ ρ in

@@ -7,22 +7,22 @@ use Rattle.core_reader.specs.declared.syntax.Binder.{Binder}
 use Rattle.core_reader.specs.Tree as tree
 use Rattle.arity_check.specs.Program as normal
 use Rattle.arity_check.specs.Normal.{Pairwise, IsConstructor}
-use Rattle.core_types.specs.Source.{Written, Writtens, NoTypes, AndType, Constructor, TypeDecl, Source, data_of, erased}
+use Rattle.core_types.specs.Source.{Written, WrittenTypes, NoTypes, AndType, Constructor, TypeDecl, Source, data_of, erased}
 use Rattle.core_types.specs.Source as written
 use Rattle.core_types.specs.Rules.{IsUnbroken, UnknownVariable, Has, HasIn, IsBound}
 use Rattle.core_types.specs.Lists.{is_named}
-use Rattle.core_types.specs.Typing.{Typed, Int, Named, Arrow, AndTyped, read, read_all, read_list, applied, all_of, declared_by}
+use Rattle.core_types.specs.Typing.{Typed, Int, Named, Arrow, AndTyped, read, read_all, read_list, applied, all_of, constructor_by_name}
 use Rattle.type_meaning.specs.Judgement.{Instance, instance, IsNamed}
-use Rattle.type_meaning.specs.SourceTypes.{ConHas}
+use Rattle.type_meaning.specs.SourceTypes.{ConstructorHasType}
 use Rattle.type_meaning.proofs.Readings.{instance_carries, carry_list, carry_applied}
 use Rattle.type_meaning.proofs.Constructors.{declares, known}
 
 -- ---- instances
 
-pub con_named : (s : Source) (c : ℕ) (ts : List Typed) (t : Typed) → ConHas s c ts t → IsNamed t
+pub con_named : (s : Source) (c : ℕ) (ts : List Typed) (t : Typed) → ConstructorHasType s c ts t → IsNamed t
 con_named s c ts t h = subst IsNamed (sym h.result) tt
 
-pub con_instances : (s : Source) (c : ℕ) (ts : List Typed) (t : Typed) (ρ : Instance) → ConHas s c ts t → ConHas s c (map (instance ρ) ts) (instance ρ t)
+pub con_instances : (s : Source) (c : ℕ) (ts : List Typed) (t : Typed) (ρ : Instance) → ConstructorHasType s c ts t → ConstructorHasType s c (map (instance ρ) ts) (instance ρ t)
 con_instances s c ts t ρ h = record {
   name = h.name;
   number = h.number;
@@ -57,11 +57,11 @@ mutual
   same_read s var var' (written.Named b args) h = ap (λ ts. if is_named s (codes "Int") b.name.0 then Int else Named b.name.0 ts) (same_read_all s var var' args (λ x i. h x (inr i)))
   same_read s var var' (written.Arrow from to) h = λ i. Arrow (same_read s var var' from (λ x i. h x (inr (inl i))) i) (same_read s var var' to (λ x i. h x (inr (inr i))) i)
 
-  same_read_all : (s : Source) (var var' : ℕ → Typed) (ws : Writtens) → ((x : Binder) → HasIn ws (written.Var x) → var x.name.0 ≡ var' x.name.0) → read_all s var ws ≡ read_all s var' ws
+  same_read_all : (s : Source) (var var' : ℕ → Typed) (ws : WrittenTypes) → ((x : Binder) → HasIn ws (written.Var x) → var x.name.0 ≡ var' x.name.0) → read_all s var ws ≡ read_all s var' ws
   same_read_all s var var' NoTypes h = refl
   same_read_all s var var' (AndType w ws) h = λ i. AndTyped (same_read s var var' w (λ x i. h x (inl i)) i) (same_read_all s var var' ws (λ x i. h x (inr i)) i)
 
-same_list : (s : Source) (var var' : ℕ → Typed) (ws : Writtens) → ((x : Binder) → HasIn ws (written.Var x) → var x.name.0 ≡ var' x.name.0) → read_list s var ws ≡ read_list s var' ws
+same_list : (s : Source) (var var' : ℕ → Typed) (ws : WrittenTypes) → ((x : Binder) → HasIn ws (written.Var x) → var x.name.0 ≡ var' x.name.0) → read_list s var ws ≡ read_list s var' ws
 same_list s var var' NoTypes h = refl
 same_list s var var' (AndType w ws) h = λ i. same_read s var var' w (λ x i. h x (inl i)) i ∷ same_list s var var' ws (λ x i. h x (inr i)) i
 
@@ -89,7 +89,7 @@ applied_args s d var var' e =
     all_same s _ _ args
 
 module _ (s : Source) (p : normal.Program) (unbroken : IsUnbroken s) (paired : Pairwise (IsConstructor (erased s)) (erased s).constructors p.cons) where
-  one_name : (c : ℕ) (ts us : List Typed) (t : Typed) (h : ConHas s c ts t) (k : ConHas s c us t) → k.name ≡ h.name
+  one_name : (c : ℕ) (ts us : List Typed) (t : Typed) (h : ConstructorHasType s c ts t) (k : ConstructorHasType s c us t) → k.name ≡ h.name
   one_name c ts us t h k =
       let a = known s p unbroken paired h.name c h.number in
       let b = known s p unbroken paired k.name c k.number in
@@ -103,10 +103,10 @@ module _ (s : Source) (p : normal.Program) (unbroken : IsUnbroken s) (paired : P
       by_bound x h (inl b) = subst (λ n. var n ≡ var' n) b.3 (var_same d.params var var' (applied_args s d var var' e) b.0 b.1 b.2)
       by_bound x h (inr b) = absurd (unbroken 82 x.at (UnknownVariable i at (j, c, in_type, h) b))
 
-  pub con_fields : (c : ℕ) (ts us : List Typed) (t : Typed) → ConHas s c ts t → ConHas s c us t → ts ≡ us
+  pub con_fields : (c : ℕ) (ts us : List Typed) (t : Typed) → ConstructorHasType s c ts t → ConstructorHasType s c us t → ts ≡ us
   con_fields c ts us t h k =
       let names = one_name c ts us t h k in
-      let both : (k.type, k.constructor) ≡ (h.type, h.constructor) = some_is (sym k.declared ∙ ap (declared_by s.types) names ∙ h.declared) in
+      let both : (k.type, k.constructor) ≡ (h.type, h.constructor) = some_is (sym k.declared ∙ ap (constructor_by_name s.types) names ∙ h.declared) in
       let type : k.type ≡ h.type = ap (λ (x : TypeDecl × Constructor). x.0) both in
       let con : k.constructor ≡ h.constructor = ap (λ (x : TypeDecl × Constructor). x.1) both in
       let w = declares s.types h.name h.type h.constructor h.declared in

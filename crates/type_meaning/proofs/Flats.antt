@@ -24,7 +24,7 @@ use Rattle.core_types.specs.Typing.{Typed, Arrow, Open, AtBracket, Locals, local
 use Rattle.core_types.specs.Typing as types
 use Rattle.core_meaning.specs.WellFormed.{HasFields}
 use Rattle.type_meaning.specs.Judgement.{Instance, instance, Context, VarHas, VarsHave, FormHas, GroupHas}
-use Rattle.type_meaning.specs.SourceTypes.{ConHas, FunHas}
+use Rattle.type_meaning.specs.SourceTypes.{ConstructorHasType, FunctionHasType}
 use Rattle.type_meaning.proofs.Readings.{under_both, both_carry, carry_arrows, arrows_same, arrows_fewer, arrows_append, Signed, used_has}
 use Rattle.type_meaning.proofs.Constructors.{con_fits}
 
@@ -86,7 +86,7 @@ module _ (s : Source) (p : normal.Program) (unbroken : IsUnbroken s) (cons : Pai
   F t = under_both σ ρ t
 
   abbrev pub Has : Context → List Bound → List Typed → Type 0
-  Has Γ = GroupHas (ConHas s) (FunHas s σ) Γ
+  Has Γ = GroupHas (ConstructorHasType s) (FunctionHasType s σ) Γ
 
   pub has_append : (Γ : Context) (bs cs : List Bound) (ts us : List Typed) → Has Γ bs ts → Has Γ cs us → Has Γ (bs ++ cs) (ts ++ us)
   has_append Γ [] cs [] us h k = k
@@ -168,7 +168,7 @@ module _ (s : Source) (p : normal.Program) (unbroken : IsUnbroken s) (cons : Pai
     record FunctionUsed (g k : ℕ) (t : Typed) : Type 0 where
       params : List Typed
       result : Typed
-      has : FunHas s σ g params result
+      has : FunctionHasType s σ g params result
       long : length params ≡ k
       type : t ≡ arrows params result
 
@@ -191,17 +191,17 @@ module _ (s : Source) (p : normal.Program) (unbroken : IsUnbroken s) (cons : Pai
     pub record FlatHas (news : List Bound) (form : Flat) (r : Typed) : Type 0 where
       pub types : List Typed
       pub long : length news ≡ length types
-      pub has : (Γ : Context) → Fits sc ls Γ → NewsIn Γ news types → Has Γ news types × FormHas (ConHas s) (FunHas s σ) Γ form r
+      pub has : (Γ : Context) → Fits sc ls Γ → NewsIn Γ news types → Has Γ news types × FormHas (ConstructorHasType s) (FunctionHasType s σ) Γ form r
 
     pub record ArgsHave (news : List Bound) (xs : List Var) (ts : List Typed) : Type 0 where
       pub types : List Typed
       pub long : length news ≡ length types
-      pub has : (Γ : Context) → Fits sc ls Γ → NewsIn Γ news types → Has Γ news types × VarsHave (ConHas s) (FunHas s σ) Γ xs ts
+      pub has : (Γ : Context) → Fits sc ls Γ → NewsIn Γ news types → Has Γ news types × VarsHave (ConstructorHasType s) (FunctionHasType s σ) Γ xs ts
 
     pub record ArgHas (news : List Bound) (x : Var) (t : Typed) : Type 0 where
       pub types : List Typed
       pub long : length news ≡ length types
-      pub has : (Γ : Context) → Fits sc ls Γ → NewsIn Γ news types → Has Γ news types × VarHas (ConHas s) (FunHas s σ) Γ x t
+      pub has : (Γ : Context) → Fits sc ls Γ → NewsIn Γ news types → Has Γ news types × VarHas (ConstructorHasType s) (FunctionHasType s σ) Γ x t
 
     abbrev pub args_types : Terms → List Typed
     args_types args = map F (terms_types s ls args)
@@ -225,23 +225,23 @@ module _ (s : Source) (p : normal.Program) (unbroken : IsUnbroken s) (cons : Pai
         solves_both (x ∷ xs) ys h k = (h.0, solves_both xs ys h.1 k)
 
     -- an argument that is itself
-    itself_has : (a : Term) (x : Var) → SameNames sc ls → itself (erased s) sc a ≡ Some x → (Γ : Context) → Fits sc ls Γ → VarHas (ConHas s) (FunHas s σ) Γ x (F (term_type s ls a))
+    itself_has : (a : Term) (x : Var) → SameNames sc ls → itself (erased s) sc a ≡ Some x → (Γ : Context) → Fits sc ls Γ → VarHas (ConstructorHasType s) (FunctionHasType s σ) Γ x (F (term_type s ls a))
     itself_has (Name f at) x n e Γ h = by_meaning (means (erased s) sc f) (name_type s ls f at) (name_says f at n) e
       where
-        by_meaning : (m : Meaning) (t : Typed) → NameSays m t → itself_as m ≡ Some x → VarHas (ConHas s) (FunHas s σ) Γ x (F t)
-        by_meaning (Local y) t k e = subst (λ x. VarHas (ConHas s) (FunHas s σ) Γ x (F t)) (some_is e) (k Γ h)
+        by_meaning : (m : Meaning) (t : Typed) → NameSays m t → itself_as m ≡ Some x → VarHas (ConstructorHasType s) (FunctionHasType s σ) Γ x (F t)
+        by_meaning (Local y) t k e = subst (λ x. VarHas (ConstructorHasType s) (FunctionHasType s σ) Γ x (F t)) (some_is e) (k Γ h)
         by_meaning (Function g zero) t k e =
             let u = function_used g 0 t k in
             let none : u.params ≡ [] = no_items u.params u.long in
             let q : F t ≡ u.result = u.type ∙ ap (λ ts. arrows ts u.result) none in
-            subst (λ x. VarHas (ConHas s) (FunHas s σ) Γ x (F t)) (some_is e) (subst (λ t. FunHas s σ g [] t) (sym q) (subst (λ ts. FunHas s σ g ts u.result) none u.has))
+            subst (λ x. VarHas (ConstructorHasType s) (FunctionHasType s σ) Γ x (F t)) (some_is e) (subst (λ t. FunctionHasType s σ g [] t) (sym q) (subst (λ ts. FunctionHasType s σ g ts u.result) none u.has))
           where
             no_items : (ts : List Typed) → length ts ≡ 0 → ts ≡ []
             no_items [] e = refl
             no_items (t ∷ ts) e = absurd (omega (arith, e))
         by_meaning (Function g (suc k)) t h e = by_test (nat_eq (suc k) 0) refl e
           where
-            by_test : (b : Bool) → nat_eq (suc k) 0 ≡ b → cond b (Some (var.Global g)) None ≡ Some x → VarHas (ConHas s) (FunHas s σ) Γ x (F t)
+            by_test : (b : Bool) → nat_eq (suc k) 0 ≡ b → cond b (Some (var.Global g)) None ≡ Some x → VarHas (ConstructorHasType s) (FunctionHasType s σ) Γ x (F t)
             by_test true q e = let z : suc k ≡ 0 = eqb-true (suc k) 0 q in absurd (omega (arith, z))
             by_test false q e = none_is_some e
         by_meaning (Primitive op) t k e = none_is_some e
@@ -254,14 +254,14 @@ module _ (s : Source) (p : normal.Program) (unbroken : IsUnbroken s) (cons : Pai
     counted_inner : {n : ℕ} {inner form : Flat} {args : Terms} {news : List Bound} → IsApplied (erased s) sc n inner args news form → AllCounted p news → Counted p inner
     counted_inner (Applied a) h = h.0
 
-    two_have : (Γ : Context) (op : PrimOp) (x y : Var) (ts : List Typed) (r : Typed) → Arrow types.Int (Arrow types.Int types.Int) ≡ arrows ts r → VarsHave (ConHas s) (FunHas s σ) Γ (x ∷ y ∷ []) ts → FormHas (ConHas s) (FunHas s σ) Γ (flat.Prim op x y) r
+    two_have : (Γ : Context) (op : PrimOp) (x y : Var) (ts : List Typed) (r : Typed) → Arrow types.Int (Arrow types.Int types.Int) ≡ arrows ts r → VarsHave (ConstructorHasType s) (FunctionHasType s σ) Γ (x ∷ y ∷ []) ts → FormHas (ConstructorHasType s) (FunctionHasType s σ) Γ (flat.Prim op x y) r
     two_have Γ op x y [] r e h = absurd h
     two_have Γ op x y (t ∷ []) r e h = absurd h.1
     two_have Γ op x y (t ∷ u ∷ []) r e h =
         let a : types.Int ≡ t = cc in
         let b : types.Int ≡ u = cc in
         let c : types.Int ≡ r = cc in
-        (sym c, subst (λ t. VarHas (ConHas s) (FunHas s σ) Γ x t) (sym a) h.0, subst (λ t. VarHas (ConHas s) (FunHas s σ) Γ y t) (sym b) h.1.0)
+        (sym c, subst (λ t. VarHas (ConstructorHasType s) (FunctionHasType s σ) Γ x t) (sym a) h.0, subst (λ t. VarHas (ConstructorHasType s) (FunctionHasType s σ) Γ y t) (sym b) h.1.0)
     two_have Γ op x y (t ∷ u ∷ v ∷ ts) r e h = absurd h.1.1
 
     mutual
@@ -302,20 +302,20 @@ module _ (s : Source) (p : normal.Program) (unbroken : IsUnbroken s) (cons : Pai
           let w = args_have a n k all in
           let u = function_used g 0 t says in
           let i = arrows_same u.params [] u.result (arrows (args_types args) r) u.long (sym u.type ∙ e) in
-          let fun : FunHas s σ g [] (arrows (args_types args) r) = subst (λ ts. FunHas s σ g ts (arrows (args_types args) r)) i.0 (subst (λ t. FunHas s σ g u.params t) i.1 u.has) in
+          let fun : FunctionHasType s σ g [] (arrows (args_types args) r) = subst (λ ts. FunctionHasType s σ g ts (arrows (args_types args) r)) i.0 (subst (λ t. FunctionHasType s σ g u.params t) i.1 u.has) in
           record { types = w.types; long = w.long; has = λ Γ f g. let v = w.has Γ f g in (v.0, (args_types args, fun, v.1)) }
       named_has (Called {g = g} {k = m} {args = args} {xs = xs} long a) t r n says e k all c =
           let w = args_have a n k all in
           let u = function_used g (suc m) t says in
           let i = arrows_same u.params (args_types args) u.result r (u.long ∙ sym long ∙ sym (args_long a)) (sym u.type ∙ e) in
-          let fun : FunHas s σ g (args_types args) r = subst (λ ts. FunHas s σ g ts r) i.0 (subst (λ t. FunHas s σ g u.params t) i.1 u.has) in
+          let fun : FunctionHasType s σ g (args_types args) r = subst (λ ts. FunctionHasType s σ g ts r) i.0 (subst (λ t. FunctionHasType s σ g u.params t) i.1 u.has) in
           record { types = w.types; long = w.long; has = λ Γ f g. let v = w.has Γ f g in (v.0, (args_types args, fun, v.1)) }
       named_has (Partial {g = g} {k = m} {args = args} {xs = xs} less a) t r n says e k all c =
           let w = args_have a n k all in
           let u = function_used g (suc m) t says in
           let l : length (args_types args) < length u.params = let x = args_long a in let y = u.long in omega (arith, less, x, y) in
           let i = arrows_fewer u.params (args_types args) u.result r l (sym u.type ∙ e) in
-          let fun : FunHas s σ g (args_types args ++ i.0 ∷ i.1) u.result = subst (λ ts. FunHas s σ g ts u.result) i.2 u.has in
+          let fun : FunctionHasType s σ g (args_types args ++ i.0 ∷ i.1) u.result = subst (λ ts. FunctionHasType s σ g ts u.result) i.2 u.has in
           record { types = w.types; long = w.long; has = λ Γ f g. let v = w.has Γ f g in (v.0, (args_types args, i.0, i.1, u.result, fun, i.3, v.1)) }
       named_has (Exceeded {g = g} {k = m} {args = args} {news = news} first rest news1 news2 xs split some long a b q) t r n says e k all c =
           let all' : AllCounted p (news1 ++ news2) = subst (AllCounted p) q all in
@@ -325,7 +325,7 @@ module _ (s : Source) (p : normal.Program) (unbroken : IsUnbroken s) (cons : Pai
           let e' : arrows u.params u.result ≡ arrows (args_types first) (arrows (args_types rest) r) =
           sym u.type ∙ e ∙ ap (λ args. arrows (args_types args) r) split ∙ ap (λ ts. arrows ts r) (types_append first rest) ∙ arrows_append (args_types first) (args_types rest) r in
           let i = arrows_same u.params (args_types first) u.result (arrows (args_types rest) r) (u.long ∙ sym long ∙ sym (args_long a)) e' in
-          let fun : FunHas s σ g (args_types first) u.result = subst (λ ts. FunHas s σ g ts u.result) i.0 u.has in
+          let fun : FunctionHasType s σ g (args_types first) u.result = subst (λ ts. FunctionHasType s σ g ts u.result) i.0 u.has in
           let inner : FlatHas news1 (flat.Call g xs) u.result = record { types = w.types; long = w.long; has = λ Γ f g. let v = w.has Γ f g in (v.0, (args_types first, fun, v.1)) } in
           applied_has b news1 news q u.result r n inner i.1 k'.1 (all_right (λ b. Counted p b.flat) news1 news2 all')
 

@@ -13,15 +13,15 @@ use Rattle.arity_check.specs.Program as normal
 use Rattle.arity_check.specs.Scope.{con_number}
 use Rattle.arity_check.specs.Normal.{Pairwise, IsConstructor}
 use Rattle.arity_check.proofs.Names.{same_bytes}
-use Rattle.core_types.specs.Source.{Written, Writtens, NoTypes, AndType, Constructor, TypeDecl, Source, data_of, erased}
+use Rattle.core_types.specs.Source.{Written, WrittenTypes, NoTypes, AndType, Constructor, TypeDecl, Source, data_of, erased}
 use Rattle.core_types.specs.Source as written
 use Rattle.core_types.specs.Rules.{IsUnbroken, ListType, ReservedType}
 use Rattle.core_types.proofs.Finding.{find_none, find_some}
 use Rattle.core_types.specs.Lists.{is_list, is_list_of, is_named, is_var, is_empty, is_one_var, is_applied, is_tail, is_item_and_tail, are_list_constructors, has_list_constructors}
-use Rattle.core_types.specs.Typing.{Typed, Types, Int, Named, NoTypeds, AndTyped, declared_by, integers, applied, read_list}
+use Rattle.core_types.specs.Typing.{Typed, Types, Int, Named, NoTypeds, AndTyped, constructor_by_name, integers, applied, read_list}
 use Rattle.core_types.specs.Typing as types
 use Rattle.core_meaning.specs.Evaluation.{nil, cons, con_named}
-use Rattle.type_meaning.specs.SourceTypes.{ConHas}
+use Rattle.type_meaning.specs.SourceTypes.{ConstructorHasType}
 use Rattle.type_meaning.proofs.Constructors.{pair_on, pair_back, placed, one_place, Different, data_place, declared_exactly}
 use Rattle.type_meaning.proofs.Cases.{constructor_of}
 
@@ -149,7 +149,7 @@ list_type s d e = by_params d.params refl e
     by_params (a ∷ []) q h = by_constructors a q d.constructors refl h
     by_params (a ∷ b ∷ ps) q h = absurd cc
 
-is_one_var_is : (x : ℕ) (ws : Writtens) → is_one_var x ws ≡ true → (b : Binder) × (ws ≡ AndType (written.Var b) NoTypes) × (b.name.0 ≡ x)
+is_one_var_is : (x : ℕ) (ws : WrittenTypes) → is_one_var x ws ≡ true → (b : Binder) × (ws ≡ AndType (written.Var b) NoTypes) × (b.name.0 ≡ x)
 is_one_var_is x NoTypes e = absurd cc
 is_one_var_is x (AndType (written.Named b args) ws) e = absurd cc
 is_one_var_is x (AndType (written.Arrow a b) ws) e = absurd cc
@@ -157,7 +157,7 @@ is_one_var_is x (AndType (written.Var b) NoTypes) e = (b, refl, eqb-true b.name.
 is_one_var_is x (AndType (written.Var b) (AndType w ws)) e = absurd (let r = both (nat_eq b.name.0 x) false e in let z : false ≡ true = r.1 in cc)
 
 -- the fields of `Cons`, where the parameter is an integer
-pub item_and_tail : (s : Source) (name x : ℕ) (ws : Writtens) (var : ℕ → Typed) → is_item_and_tail name x ws ≡ true → is_named s (codes "Int") name ≡ false
+pub item_and_tail : (s : Source) (name x : ℕ) (ws : WrittenTypes) (var : ℕ → Typed) → is_item_and_tail name x ws ≡ true → is_named s (codes "Int") name ≡ false
     → read_list s var ws ≡ var x ∷ Named name (AndTyped (var x) NoTypeds) ∷ []
 item_and_tail s name x NoTypes var e n = absurd cc
 item_and_tail s name x (AndType w ws) var e n =
@@ -180,12 +180,12 @@ item_and_tail s name x (AndType w ws) var e n =
         ∙ ap (λ ws. Named name (types.read_all s var ws)) one.1
         ∙ ap (λ y. Named name (AndTyped (var y) NoTypeds)) one.2
 
-    tail : (ws : Writtens) → is_tail name x ws ≡ true → read_list s var ws ≡ Named name (AndTyped (var x) NoTypeds) ∷ []
+    tail : (ws : WrittenTypes) → is_tail name x ws ≡ true → read_list s var ws ≡ Named name (AndTyped (var x) NoTypeds) ∷ []
     tail NoTypes e = absurd cc
     tail (AndType w NoTypes) e = ap (λ t. t ∷ []) (applied_is w (both (is_applied name x w) true e).0)
     tail (AndType w (AndType v ws)) e = absurd (let r = both (is_applied name x w) false e in let z : false ≡ true = r.1 in cc)
 
-no_fields : (s : Source) (ws : Writtens) (var : ℕ → Typed) → is_empty ws ≡ true → read_list s var ws ≡ []
+no_fields : (s : Source) (ws : WrittenTypes) (var : ℕ → Typed) → is_empty ws ≡ true → read_list s var ws ≡ []
 no_fields s NoTypes var e = refl
 no_fields s (AndType w ws) var e = absurd cc
 
@@ -247,7 +247,7 @@ module _ (s : Source) (p : normal.Program) (unbroken : IsUnbroken s) (paired : P
       let k = data_place s.types the_integers.place j the_type c the_integers.at at in
       named_number text c.name.name.0 k.0 c e refl k.1
 
-  list_con : (text : List ℕ) (c : Constructor) (j : ℕ) (ts : List Typed) → is_named s text c.name.name.0 ≡ true → slice_get the_type.constructors j ≡ Some c → ts ≡ read_list s var c.fields → ConHas s (con_named text p.cons) ts (integers s)
+  list_con : (text : List ℕ) (c : Constructor) (j : ℕ) (ts : List Typed) → is_named s text c.name.name.0 ≡ true → slice_get the_type.constructors j ≡ Some c → ts ≡ read_list s var c.fields → ConstructorHasType s (con_named text p.cons) ts (integers s)
   list_con text c j ts e at q = record {
     name = c.name.name.0;
     number = list_number text c j e at;
@@ -266,23 +266,23 @@ module _ (s : Source) (p : normal.Program) (unbroken : IsUnbroken s) (paired : P
       by_test false e = refl
       by_test true e = absurd (unbroken 81 the_type.name.at (ReservedType the_integers.place the_integers.at e))
 
-  pub nil_has : ConHas s (nil p) [] (integers s)
+  pub nil_has : ConstructorHasType s (nil p) [] (integers s)
   nil_has = let l = the_integers.list in list_con (codes "Nil") l.nil l.nil_place [] l.nil_named l.nil_at (sym (no_fields s l.nil.fields var l.nil_fields))
 
-  pub cons_has : ConHas s (cons p) (Int ∷ integers s ∷ []) (integers s)
+  pub cons_has : ConstructorHasType s (cons p) (Int ∷ integers s ∷ []) (integers s)
   cons_has =
       let l = the_integers.list in
       let fields = item_and_tail s the_type.name.name.0 l.param.name.0 l.cons.fields var l.cons_fields not_int in
       list_con (codes "Cons") l.cons l.cons_place (Int ∷ integers s ∷ []) l.cons_named l.cons_at (ap (λ t. Int ∷ t ∷ []) the_integers.is ∙ sym fields)
 
-  pub list_has : (c : ℕ) (ts : List Typed) → ConHas s c ts (integers s) → (c ≡ nil p) ⊎ (c ≡ cons p)
+  pub list_has : (c : ℕ) (ts : List Typed) → ConstructorHasType s c ts (integers s) → (c ≡ nil p) ⊎ (c ≡ cons p)
   list_has c ts h = by_either (l.either e.2 e.0 e.5)
     where
       l : IsListType s the_type
       l = the_integers.list
 
       e : (e : Constructor) × (n : ℕ) × (j : ℕ) × (con_number (erased s) n ≡ Some c) × (e.name.name.0 ≡ n) × (slice_get the_type.constructors j ≡ Some e)
-      e = constructor_of s p unbroken paired c ts the_type var the_integers.place the_integers.at (subst (λ t. ConHas s c ts t) integers_applied h)
+      e = constructor_of s p unbroken paired c ts the_type var the_integers.place the_integers.at (subst (λ t. ConstructorHasType s c ts t) integers_applied h)
 
       number : (text : List ℕ) (k : Constructor) (j : ℕ) → is_named s text k.name.name.0 ≡ true → slice_get the_type.constructors j ≡ Some k → e.0 ≡ k → c ≡ con_named text p.cons
       number text k j named at q =

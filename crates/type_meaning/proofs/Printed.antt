@@ -11,15 +11,15 @@ use Rattle.numbers.specs.Numbers.{low_byte}
 use Rattle.core_meaning.specs.Heap.{Value, Int, Con, Part, Call, Global, Input, Waiting, Heap}
 use Rattle.core_meaning.specs.Evaluation.{State, Answer, Gives, NoAlternative, OutOfBound, append, nil, cons, global, globals, params, params_of, start, within}
 use Rattle.core_meaning.specs.ByNeed as by_need
-use Rattle.core_meaning.specs.Printing.{Printed, Unaccepted, on_value, on_list, on_byte, print, printed}
+use Rattle.core_meaning.specs.Printing.{PrintedRun, Unaccepted, on_value, on_list, on_byte, print, printed}
 use Rattle.core_meaning.proofs.Shared.{count_more}
 use Rattle.type_meaning.specs.Judgement.{Instance, instance, IsNamed, IsTyped}
-use Rattle.type_meaning.specs.Heaps.{HeapTypes, Grows, NameHas, NamesHave}
+use Rattle.type_meaning.specs.Heaps.{HeapTypes, KeepsNameTypes, NameHasType, NamesHaveTypes}
 use Rattle.type_meaning.proofs.Types.{name_grows, name_itself}
 use Rattle.type_meaning.proofs.Sound as sound
 
 module _ (ConHas FunHas : ℕ → List Typed → Typed → Type 0) (p : Program) (integers : Typed) (typed : IsTyped ConHas FunHas p integers) where
-  abbrev Goes : Printed → Type 0
+  abbrev Goes : PrintedRun → Type 0
   Goes r = r.end ≢ Unaccepted
 
   abbrev Sound : HeapTypes → Heap → Type 0
@@ -34,8 +34,8 @@ module _ (ConHas FunHas : ℕ → List Typed → Typed → Type 0) (p : Program)
   abbrev BindingsHave : HeapTypes → Heap → List Typed → Type 0
   BindingsHave = sound.BindingsHave ConHas FunHas p integers typed
 
-  value_goes : (H : HeapTypes) (t : Typed) (a : Answer) (out : List ℕ) (go : Value → State → Printed) → AnswerHas H t a
-      → ((v : Value) (s : State) (H' : HeapTypes) → Grows H H' → Sound H' s.heap → ValueHas H' v t → Goes (go v s)) → Goes (on_value a out go)
+  value_goes : (H : HeapTypes) (t : Typed) (a : Answer) (out : List ℕ) (go : Value → State → PrintedRun) → AnswerHas H t a
+      → ((v : Value) (s : State) (H' : HeapTypes) → KeepsNameTypes H H' → Sound H' s.heap → ValueHas H' v t → Goes (go v s)) → Goes (on_value a out go)
   value_goes H t (Gives v s) out go (H', g, ok, h) f = f v s H' g ok h
   value_goes H t (NoAlternative s) out go h f = absurd h
   value_goes H t (OutOfBound s) out go h f = λ e. absurd cc
@@ -43,7 +43,7 @@ module _ (ConHas FunHas : ℕ → List Typed → Typed → Type 0) (p : Program)
   named : IsNamed integers
   named = typed.con_named (nil p) [] integers typed.nil_has
 
-  test_goes : (b : Bool) (x y : Printed) → b ≡ true → Goes x → Goes (elim b as (λ _. Printed) [ true ↦ x | false ↦ y ])
+  test_goes : (b : Bool) (x y : PrintedRun) → b ≡ true → Goes x → Goes (elim b as (λ _. PrintedRun) [ true ↦ x | false ↦ y ])
   test_goes true x y e h = h
   test_goes false x y e h = absurd cc
 
@@ -54,18 +54,18 @@ module _ (ConHas FunHas : ℕ → List Typed → Typed → Type 0) (p : Program)
       by_test true e = λ z. absurd cc
       by_test false e = absurd cc
 
-  list_goes : (H : HeapTypes) (v : Value) (out : List ℕ) (s : State) (go : ℕ → ℕ → Printed) → ValueHas H v integers
-      → ((h t : ℕ) → NameHas H h types.Int → NameHas H t integers → Goes (go h t)) → Goes (on_list (nil p) (cons p) v out s go)
+  list_goes : (H : HeapTypes) (v : Value) (out : List ℕ) (s : State) (go : ℕ → ℕ → PrintedRun) → ValueHas H v integers
+      → ((h t : ℕ) → NameHasType H h types.Int → NameHasType H t integers → Goes (go h t)) → Goes (on_list (nil p) (cons p) v out s go)
   list_goes H (Int k) out s go h f = absurd (subst IsNamed h named)
   list_goes H (Part g xs) out s go (ts, u, us, r, fun, e, n) f = absurd (subst IsNamed e named)
   list_goes H (Con d xs) out s go (ts, con, n) f = by_con (typed.list_has d ts con)
     where
-      ends : (ts : List Typed) (xs : List ℕ) → d ≡ nil p → ts ≡ [] → NamesHave H xs ts → Goes (on_list (nil p) (cons p) (Con d xs) out s go)
+      ends : (ts : List Typed) (xs : List ℕ) → d ≡ nil p → ts ≡ [] → NamesHaveTypes H xs ts → Goes (on_list (nil p) (cons p) (Con d xs) out s go)
       ends [] [] e q n = done_goes out s d e
       ends [] (x ∷ xs) e q n = absurd n
       ends (t ∷ ts) xs e q n = absurd cc
 
-      goes_on : (xs : List ℕ) → d ≡ cons p → NamesHave H xs (types.Int ∷ integers ∷ []) → Goes (on_list (nil p) (cons p) (Con d xs) out s go)
+      goes_on : (xs : List ℕ) → d ≡ cons p → NamesHaveTypes H xs (types.Int ∷ integers ∷ []) → Goes (on_list (nil p) (cons p) (Con d xs) out s go)
       goes_on [] e n = absurd n
       goes_on (h ∷ []) e n = absurd n.1
       goes_on (h ∷ t ∷ []) e n = test_goes (nat_eq d (cons p)) (go h t) _ (eq-eqb d (cons p) e) (f h t n.0 n.1.0)
@@ -73,14 +73,14 @@ module _ (ConHas FunHas : ℕ → List Typed → Typed → Type 0) (p : Program)
 
       by_con : (d ≡ nil p) ⊎ (d ≡ cons p) → Goes (on_list (nil p) (cons p) (Con d xs) out s go)
       by_con (inl e) = ends ts xs e (typed.con_fields (nil p) ts [] integers (subst (λ c. ConHas c ts integers) e con) typed.nil_has) n
-      by_con (inr e) = goes_on xs e (subst (λ ts. NamesHave H xs ts) (typed.con_fields (cons p) ts (types.Int ∷ integers ∷ []) integers (subst (λ c. ConHas c ts integers) e con) typed.cons_has) n)
+      by_con (inr e) = goes_on xs e (subst (λ ts. NamesHaveTypes H xs ts) (typed.con_fields (cons p) ts (types.Int ∷ integers ∷ []) integers (subst (λ c. ConHas c ts integers) e con) typed.cons_has) n)
 
-  byte_goes : (H : HeapTypes) (v : Value) (out : List ℕ) (s : State) (go : ℕ → Printed) → ValueHas H v types.Int → ((b : ℕ) → Goes (go b)) → Goes (on_byte v out s go)
+  byte_goes : (H : HeapTypes) (v : Value) (out : List ℕ) (s : State) (go : ℕ → PrintedRun) → ValueHas H v types.Int → ((b : ℕ) → Goes (go b)) → Goes (on_byte v out s go)
   byte_goes H (Int k) out s go h f = f (low_byte k)
   byte_goes H (Con c xs) out s go h f = absurd (typed.con_named c h.0 types.Int h.1)
   byte_goes H (Part g xs) out s go (ts, u, us, r, fun, e, n) f = absurd cc
 
-  printing : (n a : ℕ) (out : List ℕ) (s : State) (H : HeapTypes) → Sound H s.heap → NameHas H a integers → Goes (print p n a out s)
+  printing : (n a : ℕ) (out : List ℕ) (s : State) (H : HeapTypes) → Sound H s.heap → NameHasType H a integers → Goes (print p n a out s)
   printing zero a out s H ok h = λ e. absurd cc
   printing (suc n) a out s H ok h =
       value_goes H integers _ out _
@@ -153,7 +153,7 @@ module _ (ConHas FunHas : ℕ → List Typed → Typed → Type 0) (p : Program)
   start_types : Beginning 0 p.funs
   start_types = beginning p.funs 0 (λ j g e. let z : 0 + j ≡ j = omega arith in subst (λ k. slice_get p.funs k ≡ Some g) (sym z) e)
 
-  global_has : (f : ℕ) (t : Typed) → FunHas f [] t → NameHas start_types.types (global p f) t
+  global_has : (f : ℕ) (t : Typed) → FunHas f [] t → NameHasType start_types.types (global p f) t
   global_has f t h =
       let b = typed.bodies f [] t h in
       let z : 0 + f ≡ f = omega arith in
@@ -171,7 +171,7 @@ module _ (ConHas FunHas : ℕ → List Typed → Typed → Type 0) (p : Program)
   well_typed_goes i n = by_test (params p p.main == 0) refl typed.main_has n
     where
       by_test : (b : Bool) → (params p p.main == 0) ≡ b → FunHas p.main [] integers ⊎ FunHas p.main (integers ∷ []) integers → (n : ℕ)
-          → Goes (elim b as (λ _. Printed) [ true ↦ by_need.print 0 NoAlternative p n (global p p.main) [] (start p i n) | false ↦ by_need.printed_from_input 0 NoAlternative p i n ])
+          → Goes (elim b as (λ _. PrintedRun) [ true ↦ by_need.print 0 NoAlternative p n (global p p.main) [] (start p i n) | false ↦ by_need.printed_from_input 0 NoAlternative p i n ])
       by_test true e (inl h) n = printing n (global p p.main) [] (start p i n) start_types.types start_sound (global_has p.main integers h)
       by_test true e (inr h) n =
           let z : params p p.main ≡ 0 = eqb-true (params p p.main) 0 e in
@@ -187,7 +187,7 @@ module _ (ConHas FunHas : ℕ → List Typed → Typed → Type 0) (p : Program)
           let z : m + 0 ≡ m = omega arith in
           let o : m + 1 ≡ suc m = omega arith in
           let behind : (j : ℕ) → slice_get two j ≡ Some integers → slice_get (H ++ two) (m + j) ≡ Some integers = λ j q. sound.behind ConHas FunHas p integers typed (within p 0) (sound.sound_within ConHas FunHas p integers typed 0) H two heap j integers start_sound q in
-          let input : NameHas (H ++ two) m integers = name_itself (H ++ two) m integers (subst (λ n. slice_get (H ++ two) n ≡ Some integers) z (behind 0 refl)) in
-          let main : NameHas (H ++ two) (suc m) integers = name_itself (H ++ two) (suc m) integers (subst (λ n. slice_get (H ++ two) n ≡ Some integers) o (behind 1 refl)) in
+          let input : NameHasType (H ++ two) m integers = name_itself (H ++ two) m integers (subst (λ n. slice_get (H ++ two) n ≡ Some integers) z (behind 0 refl)) in
+          let main : NameHasType (H ++ two) (suc m) integers = name_itself (H ++ two) (suc m) integers (subst (λ n. slice_get (H ++ two) n ≡ Some integers) o (behind 1 refl)) in
           printing n (suc m) [] (append (start p i n) (Waiting Input ∷ Waiting (Call p.main (m ∷ [])) ∷ [])) (H ++ two)
           (sound.sound_append ConHas FunHas p integers typed (within p 0) (sound.sound_within ConHas FunHas p integers typed 0) H two heap (Waiting Input ∷ Waiting (Call p.main (m ∷ [])) ∷ []) start_sound (refl, ((integers ∷ [], h, (input, tt)), tt))) main

@@ -3,7 +3,7 @@ use Rattle.std.proofs.Common.{◌≡◌, ℕ, ◌<◌, Bool, true, false, cond, 
 use Rattle.std.specs.Prelude.{codes}
 use Rattle.core_reader.specs.declared.syntax.Binder.{Binder}
 use Rattle.core_reader.specs.Tree as tree
-use Rattle.core_types.specs.Source.{Written, Writtens, NoTypes, AndType, TypeDecl, Signature, Source}
+use Rattle.core_types.specs.Source.{Written, WrittenTypes, NoTypes, AndType, TypeDecl, Signature, Source}
 use Rattle.core_types.specs.Source as written
 use Rattle.core_types.specs.Lists.{is_named}
 use Rattle.core_types.specs.Typing.{Typed, Types, Int, Rigid, Named, Arrow, NoTypeds, AndTyped, arrows, read, read_all, read_list, signed, all_of, applied, used_at, function_type, own_type, signature_of, Substitution, under, under_all}
@@ -49,11 +49,11 @@ module _ (F : Typed → Typed) (Fs : Types → Types) (c : Carries F Fs) where
       carry_read (written.Named b args) = carry_named (is_named s (codes "Int") b.name.0) b.name.0 (read_all s var args) (read_all s carried args) (carry_read_all args)
       carry_read (written.Arrow from to) = c.arrow (read s var from) (read s var to) ∙ (λ i. Arrow (carry_read from i) (carry_read to i))
 
-      carry_read_all : (ws : Writtens) → Fs (read_all s var ws) ≡ read_all s carried ws
+      carry_read_all : (ws : WrittenTypes) → Fs (read_all s var ws) ≡ read_all s carried ws
       carry_read_all NoTypes = c.none
       carry_read_all (AndType w ws) = c.more (read s var w) (read_all s var ws) ∙ (λ i. AndTyped (carry_read w i) (carry_read_all ws i))
 
-    pub carry_list : (ws : Writtens) → map F (read_list s var ws) ≡ read_list s carried ws
+    pub carry_list : (ws : WrittenTypes) → map F (read_list s var ws) ≡ read_list s carried ws
     carry_list NoTypes = refl
     carry_list (AndType w ws) = λ i. carry_read w i ∷ carry_list ws i
 

@@ -11,12 +11,12 @@ use Rattle.arity_check.specs.declared.normal.Flat.{Flat}
 use Rattle.arity_check.specs.Program as normal
 use Rattle.arity_check.specs.Scope as scope
 use Rattle.arity_check.specs.Scope.{Scope}
-use Rattle.arity_check.specs.Numbered.{Numbered}
+use Rattle.arity_check.specs.Numbered.{LocalsAreConsecutive}
 use Rattle.arity_check.specs.Normal.{Pairwise, IsConstructor, bound, IsFlat, LoneHead, LoneBracket, IsGroup, NoMembers, AndMember}
 use Rattle.arity_check.proofs.Numbers.{flat_numbered, numbered_both}
 use Rattle.core_types.specs.Source.{Source, erased}
 use Rattle.core_types.specs.Rules.{IsUnbroken}
-use Rattle.core_types.specs.Typing.{Typed, Locals, open_at, binds, binds_all, with_group, of_app, of_terms, of_group, term_type, terms_types, within_term, within_terms, Substitution, under, Solves, arrows}
+use Rattle.core_types.specs.Typing.{Typed, Locals, binder_type_variable, binds, binds_all, with_group, of_app, of_terms, of_group, term_type, terms_types, within_term, within_terms, Substitution, under, Solves, arrows}
 use Rattle.type_meaning.specs.Judgement.{Instance, instance, Context, with_type, with_types, group_types}
 use Rattle.type_meaning.proofs.Readings.{under_both, both_carry, carry_arrows, Signed}
 use Rattle.type_meaning.proofs.Flats as flats
@@ -33,14 +33,14 @@ with_other Γ x y t ne = by_test (nat_eq y x) refl
     by_test false e = refl
 
 -- a group says nothing of the locals before it
-outside : (group : List Bound) (ts : List Typed) (Γ : Context) (n y : ℕ) → Numbered n group → y < n → group_types Γ group ts y ≡ Γ y
+outside : (group : List Bound) (ts : List Typed) (Γ : Context) (n y : ℕ) → LocalsAreConsecutive n group → y < n → group_types Γ group ts y ≡ Γ y
 outside [] ts Γ n y g lt = refl
 outside (b ∷ group) [] Γ n y g lt = refl
 outside (b ∷ group) (t ∷ ts) Γ n y g lt =
     let l = g.0 in
     outside group ts (with_type Γ b.local t) (n + 1) y g.1 (omega (arith, lt)) ∙ with_other Γ b.local y t (omega (arith, l, lt))
 
-pub group_in : (group : List Bound) (ts : List Typed) (Γ : Context) (n : ℕ) → Numbered n group → length group ≡ length ts → NewsIn (group_types Γ group ts) group ts
+pub group_in : (group : List Bound) (ts : List Typed) (Γ : Context) (n : ℕ) → LocalsAreConsecutive n group → length group ≡ length ts → NewsIn (group_types Γ group ts) group ts
 group_in [] [] Γ n g e = tt
 group_in [] (t ∷ ts) Γ n g e = absurd (omega (arith, e))
 group_in (b ∷ group) [] Γ n g e = absurd (omega (arith, e))
@@ -86,7 +86,7 @@ module _ (s : Source) (p : normal.Program) (unbroken : IsUnbroken s) (cons : Pai
   pub within_more : (sc : Scope) (ls : Locals) (Γ : Context) (n m : ℕ) → n ≤ m → Within sc ls Γ n → Within sc ls Γ m
   within_more sc ls Γ n m le w = record { names = w.names; fits = w.fits; below = below_more n m sc le w.below }
 
-  pub within_group : (sc : Scope) (ls : Locals) (Γ : Context) (n : ℕ) (group : List Bound) (ts : List Typed) → Numbered n group → Within sc ls Γ n → Within sc ls (group_types Γ group ts) n
+  pub within_group : (sc : Scope) (ls : Locals) (Γ : Context) (n : ℕ) (group : List Bound) (ts : List Typed) → LocalsAreConsecutive n group → Within sc ls Γ n → Within sc ls (group_types Γ group ts) n
   within_group sc ls Γ n group ts g w = record { names = w.names; fits = fits_also sc ls Γ (group_types Γ group ts) n (λ y lt. outside group ts Γ n y g lt) w.below w.fits; below = w.below }
 
   -- a local that has its type already
@@ -146,12 +146,12 @@ module _ (s : Source) (p : normal.Program) (unbroken : IsUnbroken s) (cons : Pai
   MembersIn Γ [] [] = Unit {0}
   MembersIn Γ [] (x ∷ xs) = ⊥
   MembersIn Γ (b ∷ bs) [] = ⊥
-  MembersIn Γ (b ∷ bs) (x ∷ xs) = (Γ x ≡ Some (F (open_at b.binder))) × MembersIn Γ bs xs
+  MembersIn Γ (b ∷ bs) (x ∷ xs) = (Γ x ≡ Some (F (binder_type_variable b.binder))) × MembersIn Γ bs xs
 
   pub record IsGroupTyped (inner : Scope) (ls : Locals) (n : ℕ) (group : List Bind) (bounds : List Bound) (xs : List ℕ) : Type 0 where
     pub types : List Typed
     pub long : length bounds ≡ length types
-    pub numbered : Numbered n bounds
+    pub numbered : LocalsAreConsecutive n bounds
     pub below : AllOf (λ x. x < n + length bounds) xs
     pub members : (Γ : Context) → NewsIn Γ bounds types → MembersIn Γ group xs
     pub has : (Γ : Context) → Fits inner ls Γ → NewsIn Γ bounds types → Has Γ bounds types
@@ -166,9 +166,9 @@ module _ (s : Source) (p : normal.Program) (unbroken : IsUnbroken s) (cons : Pai
       let tail : List Bound = bound t form ∷ bounds in
       let all' : AllCounted p (news ++ tail) = subst (AllCounted p) q all in
       let counted = all_right (λ b. Counted p b.flat) news tail all' in
-      let u : Typed = F (open_at b.binder) in
-      let one = app_has inner ls same (open_at b.binder) b.app.head b.app.args d (solves_left σ (of_app s ls (open_at b.binder) b.app) (of_group s ls bs) h) (all_left (λ b. Counted p b.flat) news tail all') counted.0 in
-      let more = group_typed ls rest same (solves_right σ (of_app s ls (open_at b.binder) b.app) (of_group s ls bs) h) counted.1 in
+      let u : Typed = F (binder_type_variable b.binder) in
+      let one = app_has inner ls same (binder_type_variable b.binder) b.app.head b.app.args d (solves_left σ (of_app s ls (binder_type_variable b.binder) b.app) (of_group s ls bs) h) (all_left (λ b. Counted p b.flat) news tail all') counted.0 in
+      let more = group_typed ls rest same (solves_right σ (of_app s ls (binder_type_variable b.binder) b.app) (of_group s ls bs) h) counted.1 in
       let ts : List Typed = one.types ++ u ∷ more.types in
       let l1 = length-append news tail in
       let l2 = length-append one.types (u ∷ more.types) in
@@ -192,9 +192,9 @@ module _ (s : Source) (p : normal.Program) (unbroken : IsUnbroken s) (cons : Pai
   same_members [] [] sc ls e h = h
   same_members [] (x ∷ xs) sc ls e h = absurd (omega (arith, e))
   same_members (b ∷ bs) [] sc ls e h = absurd (omega (arith, e))
-  same_members (b ∷ bs) (x ∷ xs) sc ls e h = same_members bs xs (scope.binds (erased s) b.binder.name.0 x sc) (binds s b.binder (open_at b.binder) ls) (omega (arith, e)) (by_test (scope.is_named (erased s) (codes "_") b.binder.name.0))
+  same_members (b ∷ bs) (x ∷ xs) sc ls e h = same_members bs xs (scope.binds (erased s) b.binder.name.0 x sc) (binds s b.binder (binder_type_variable b.binder) ls) (omega (arith, e)) (by_test (scope.is_named (erased s) (codes "_") b.binder.name.0))
     where
-      by_test : (c : Bool) → SameNames (cond c sc ((b.binder.name.0, x) ∷ sc)) (cond c ls ((b.binder.name.0, open_at b.binder) ∷ ls))
+      by_test : (c : Bool) → SameNames (cond c sc ((b.binder.name.0, x) ∷ sc)) (cond c ls ((b.binder.name.0, binder_type_variable b.binder) ∷ ls))
       by_test true = h
       by_test false = (refl, h)
 
@@ -204,7 +204,7 @@ module _ (s : Source) (p : normal.Program) (unbroken : IsUnbroken s) (cons : Pai
   within_members [] (x ∷ xs) sc ls Γ n m lt w = absurd m
   within_members (b ∷ bs) [] sc ls Γ n m lt w = absurd m
   within_members (b ∷ bs) (x ∷ xs) sc ls Γ n m lt w =
-      within_members bs xs (scope.binds (erased s) b.binder.name.0 x sc) (binds s b.binder (open_at b.binder) ls) Γ n m.1 lt.1 (within_also sc ls Γ n x b.binder (open_at b.binder) lt.0 m.0 w)
+      within_members bs xs (scope.binds (erased s) b.binder.name.0 x sc) (binds s b.binder (binder_type_variable b.binder) ls) Γ n m.1 lt.1 (within_also sc ls Γ n x b.binder (binder_type_variable b.binder) lt.0 m.0 w)
 
   pub group_long : {inner : Scope} {n : ℕ} {group : List Bind} {bounds : List Bound} {xs : List ℕ} → IsGroup (erased s) inner n group bounds xs → length group ≡ length xs
   group_long NoMembers = refl

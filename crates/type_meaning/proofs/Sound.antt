@@ -14,10 +14,10 @@ use Rattle.arity_check.specs.Program.{Program, Term, App, Let, Case, Branches, N
 use Rattle.core_types.specs.Typing.{Typed, Types, Open, Rigid, Named, Arrow, NoTypeds, AndTyped, arrows}
 use Rattle.core_types.specs.Typing as types
 use Rattle.core_meaning.specs.Heap.{Value, Int, Con, Part, Delayed, Call, Apply, Prim, Global, Input, Binding, Known, Waiting, Heap, Env, with_local, with_locals}
-use Rattle.core_meaning.specs.Numbers.{operate}
-use Rattle.core_meaning.specs.Evaluation.{State, Answer, Gives, NoAlternative, OutOfBound, and_then, with_number, is_con, fields_of, is_int, spend_of, append, update, Onward, nil, cons, global, params_of, params, name, names, binding, with_group, give, give_all, next_byte, parameters, force_binding, force, apply, prim, form, eval, select, enter_body, proceed, within}
+use Rattle.core_meaning.specs.Numbers.{primitive_result}
+use Rattle.core_meaning.specs.Evaluation.{State, Answer, Gives, NoAlternative, OutOfBound, and_then, with_number, is_con, fields_of, is_int, spend_of, append, update, DelayedEvaluator, nil, cons, global, params_of, params, name, names, binding, with_group, give, give_all, next_byte, parameters, force_binding, force, apply, prim, form, eval, select, enter_body, proceed, within}
 use Rattle.type_meaning.specs.Judgement.{Instance, instance, IsNamed, Context, with_type, with_types, group_types, HasDefault, HasBranch, TakesAll, VarHas, VarsHave, FormHas, GroupHas, TermHas, BranchesHave, IsTyped}
-use Rattle.type_meaning.specs.Heaps.{HeapTypes, Grows, NameHas, NamesHave, EnvHas}
+use Rattle.type_meaning.specs.Heaps.{HeapTypes, KeepsNameTypes, NameHasType, NamesHaveTypes, EnvHasTypes}
 use Rattle.type_meaning.specs.Heaps as heaps
 use Rattle.type_meaning.proofs.Types.{instance_arrows, name_grows, names_grow, env_grows, name_itself, name_instance, names_instance, names_long, names_append, grows_append, env_local, env_locals}
 use Rattle.type_meaning.proofs.Types as lemmas
@@ -47,20 +47,20 @@ module _ (ConHas FunHas : ℕ → List Typed → Typed → Type 0) (p : Program)
   -- a heap of these types, with the functions without parameters
   pub record Sound (H : HeapTypes) (heap : Heap) : Type 0 where
     pub bindings : BindingsHave H heap H
-    pub globals : (f : ℕ) (t : Typed) → FunHas f [] t → NameHas H (global p f) t
+    pub globals : (f : ℕ) (t : Typed) → FunHas f [] t → NameHasType H (global p f) t
 
   abbrev pub AnswerHas : HeapTypes → Typed → Answer → Type 0
-  AnswerHas H t (Gives v s) = (H' : HeapTypes) × Grows H H' × Sound H' s.heap × ValueHas H' v t
+  AnswerHas H t (Gives v s) = (H' : HeapTypes) × KeepsNameTypes H H' × Sound H' s.heap × ValueHas H' v t
   AnswerHas H t (NoAlternative s) = ⊥
   AnswerHas H t (OutOfBound s) = Unit {0}
 
-  pub answer_grows : (H H' : HeapTypes) (t : Typed) (a : Answer) → Grows H H' → AnswerHas H' t a → AnswerHas H t a
+  pub answer_grows : (H H' : HeapTypes) (t : Typed) (a : Answer) → KeepsNameTypes H H' → AnswerHas H' t a → AnswerHas H t a
   answer_grows H H' t (Gives v s) g (H'', g', ok, h) = (H'', λ a u e. g' a u (g a u e), ok, h)
   answer_grows H H' t (NoAlternative s) g h = absurd h
   answer_grows H H' t (OutOfBound s) g h = tt
 
   pub answer_then : (H : HeapTypes) (t u : Typed) (a : Answer) (go : Value → State → Answer) → AnswerHas H t a
-      → ((v : Value) (s : State) (H' : HeapTypes) → Grows H H' → Sound H' s.heap → ValueHas H' v t → AnswerHas H' u (go v s)) → AnswerHas H u (and_then a go)
+      → ((v : Value) (s : State) (H' : HeapTypes) → KeepsNameTypes H H' → Sound H' s.heap → ValueHas H' v t → AnswerHas H' u (go v s)) → AnswerHas H u (and_then a go)
   answer_then H t u (Gives v s) go (H', g, ok, h) k = answer_grows H H' u (go v s) g (k v s H' g ok h)
   answer_then H t u (NoAlternative s) go h k = absurd h
   answer_then H t u (OutOfBound s) go h k = tt
@@ -91,25 +91,25 @@ module _ (ConHas FunHas : ℕ → List Typed → Typed → Type 0) (p : Program)
 
   -- ---- names that are forced, and values that are given names
 
-  abbrev pub SoundOnward : Onward → Type 0
+  abbrev pub SoundOnward : DelayedEvaluator → Type 0
   SoundOnward onward = (w : Delayed) (d : ℕ) (s : State) (H : HeapTypes) (t : Typed) → Sound H s.heap → DelayedHas H w t → AnswerHas H t (onward w d s)
 
-  module _ (onward : Onward) (on : SoundOnward onward) where
+  module _ (onward : DelayedEvaluator) (on : SoundOnward onward) where
     updated : (H : HeapTypes) (a : ℕ) (t u : Typed) (v : Value) (s : State) → slice_get H a ≡ Some t → Sound H s.heap → ValueHas H v t → ValueHas H v u → AnswerHas H u (Gives v (update s a v))
     updated H a t u v s e ok h k = (H, (λ a u e. e), record { bindings = lemmas.binding_set ConHas FunHas integers H s.heap H a t v ok.bindings e h; globals = ok.globals }, k)
 
-    forced : (b : Binding) (a d : ℕ) (s : State) (H : HeapTypes) (t : Typed) → Sound H s.heap → (n : NameHas H a t) → BindingHas H b n.general → AnswerHas H t (force_binding p onward (Some b) a d s)
+    forced : (b : Binding) (a d : ℕ) (s : State) (H : HeapTypes) (t : Typed) → Sound H s.heap → (n : NameHasType H a t) → BindingHas H b n.general → AnswerHas H t (force_binding p onward (Some b) a d s)
     forced (Known v) a d s H t ok n h = gives H v s t ok (subst (λ u. ValueHas H v u) (sym n.by) (value_instance H v n.general n.ρ h))
     forced (Waiting w) a d s H t ok n h =
         answer_then H n.general t (onward w (suc d) s) (λ v s. Gives v (update s a v)) (on w (suc d) s H n.general ok h)
         (λ v s H' g ok h. updated H' a n.general t v s (g a n.general n.is) ok h (subst (λ u. ValueHas H' v u) (sym n.by) (value_instance H' v n.general n.ρ h)))
 
-    pub forcing : (a d : ℕ) (s : State) (H : HeapTypes) (t : Typed) → Sound H s.heap → NameHas H a t → AnswerHas H t (force p onward a d s)
+    pub forcing : (a d : ℕ) (s : State) (H : HeapTypes) (t : Typed) → Sound H s.heap → NameHasType H a t → AnswerHas H t (force p onward a d s)
     forcing a d s H t ok n =
         let b = lemmas.binding_at ConHas FunHas integers H s.heap H a n.general ok.bindings n.is in
         subst (λ o. AnswerHas H t (force_binding p onward o a d s)) (sym b.1) (forced b.0 a d s H t ok n b.2)
 
-    giving : (v : Value) (b d : ℕ) (s : State) (H : HeapTypes) (u r : Typed) → Sound H s.heap → ValueHas H v (Arrow u r) → NameHas H b u → AnswerHas H r (give p onward v b d s)
+    giving : (v : Value) (b d : ℕ) (s : State) (H : HeapTypes) (u r : Typed) → Sound H s.heap → ValueHas H v (Arrow u r) → NameHasType H b u → AnswerHas H r (give p onward v b d s)
     giving (Int k) b d s H u r ok h n = int_is_no_arrow h
     giving (Con c xs) b d s H u r ok h n = absurd (typed.con_named c h.0 (Arrow u r) h.1)
     giving (Part f xs) b d s H u r ok (ts, u', us, r', fun, e, m) n = by_test us fun (arrow_to e) (nat_lt (suc (length xs)) (params p f)) refl
@@ -120,8 +120,8 @@ module _ (ConHas FunHas : ℕ → List Typed → Typed → Type 0) (p : Program)
         as_long : length xs ≡ length ts
         as_long = names_long H xs ts m
 
-        all_have : NamesHave H (xs ++ b ∷ []) (ts ++ u' ∷ [])
-        all_have = names_append H xs (b ∷ []) ts (u' ∷ []) m (subst (λ t. NameHas H b t) (arrow_from e) n, tt)
+        all_have : NamesHaveTypes H (xs ++ b ∷ []) (ts ++ u' ∷ [])
+        all_have = names_append H xs (b ∷ []) ts (u' ∷ []) m (subst (λ t. NameHasType H b t) (arrow_from e) n, tt)
 
         by_test : (us : List Typed) → FunHas f (ts ++ u' ∷ us) r' → r ≡ arrows us r' → (t : Bool) → nat_lt (suc (length xs)) (params p f) ≡ t
             → AnswerHas H r (if t then Gives (Part f (xs ++ b ∷ [])) s else onward (Call f (xs ++ b ∷ [])) d s)
@@ -138,7 +138,7 @@ module _ (ConHas FunHas : ℕ → List Typed → Typed → Type 0) (p : Program)
             let all = length-append ts (u' ∷ w ∷ us) in
             absurd (omega (arith, l, k, all, as_long))
 
-    giving_all : (bs : List ℕ) (v : Value) (d : ℕ) (s : State) (H : HeapTypes) (us : List Typed) (r : Typed) → Sound H s.heap → ValueHas H v (arrows us r) → NamesHave H bs us → AnswerHas H r (give_all p onward v bs d s)
+    giving_all : (bs : List ℕ) (v : Value) (d : ℕ) (s : State) (H : HeapTypes) (us : List Typed) (r : Typed) → Sound H s.heap → ValueHas H v (arrows us r) → NamesHaveTypes H bs us → AnswerHas H r (give_all p onward v bs d s)
     giving_all [] v d s H [] r ok h n = gives H v s r ok h
     giving_all [] v d s H (u ∷ us) r ok h n = absurd n
     giving_all (b ∷ bs) v d s H [] r ok h n = absurd n
@@ -148,7 +148,7 @@ module _ (ConHas FunHas : ℕ → List Typed → Typed → Type 0) (p : Program)
         answer_then H (arrows us r) r (give p onward v b (suc d) s) (λ w s. give_all p onward w (c ∷ bs) d s) (giving v b (suc d) s H u (arrows us r) ok h n.0)
         (λ w s H' g ok h. giving_all (c ∷ bs) w d s H' us r ok h (names_grow H H' (c ∷ bs) us g n.1))
 
-    applying : (a : ℕ) (bs : List ℕ) (d : ℕ) (s : State) (H : HeapTypes) (us : List Typed) (r : Typed) → Sound H s.heap → NameHas H a (arrows us r) → NamesHave H bs us → AnswerHas H r (apply p onward a bs d s)
+    applying : (a : ℕ) (bs : List ℕ) (d : ℕ) (s : State) (H : HeapTypes) (us : List Typed) (r : Typed) → Sound H s.heap → NameHasType H a (arrows us r) → NamesHaveTypes H bs us → AnswerHas H r (apply p onward a bs d s)
     applying a [] d s H [] r ok h n = forcing a d s H r ok h
     applying a [] d s H (u ∷ us) r ok h n = absurd n
     applying a (b ∷ bs) d s H us r ok h n =
@@ -160,20 +160,20 @@ module _ (ConHas FunHas : ℕ → List Typed → Typed → Type 0) (p : Program)
     with_int H (Con c xs) s t go h f = absurd (typed.con_named c h.0 types.Int h.1)
     with_int H (Part f xs) s t go (ts, u, us, r, fun, e, n) g = int_is_no_arrow (sym e)
 
-    operating : (op : PrimOp) (a b d : ℕ) (s : State) (H : HeapTypes) (t : Typed) → Sound H s.heap → t ≡ types.Int → NameHas H a types.Int → NameHas H b types.Int → AnswerHas H t (prim p onward op a b d s)
+    operating : (op : PrimOp) (a b d : ℕ) (s : State) (H : HeapTypes) (t : Typed) → Sound H s.heap → t ≡ types.Int → NameHasType H a types.Int → NameHasType H b types.Int → AnswerHas H t (prim p onward op a b d s)
     operating op a b d s H t ok e m n =
         answer_then H types.Int t (force p onward a (suc d) s) _ (forcing a (suc d) s H types.Int ok m) (λ v s H' g ok h. with_int H' v s t _ h (λ i.
         answer_then H' types.Int t (force p onward b (suc d) s) _ (forcing b (suc d) s H' types.Int ok (name_grows H H' b types.Int g n)) (λ w s H'' g ok h. with_int H'' w s t _ h (λ j.
-        gives H'' (Int (operate op i j)) s t ok e))))
+        gives H'' (Int (primitive_result op i j)) s t ok e))))
 
     -- ---- forms and bindings
 
-    module _ (H : HeapTypes) (globals : (f : ℕ) (t : Typed) → FunHas f [] t → NameHas H (global p f) t) (Γ : Context) (env : Env) (k : EnvHas H Γ env) where
-      name_has : (x : Var) (t : Typed) → VarHas ConHas FunHas Γ x t → NameHas H (name p env x) t
+    module _ (H : HeapTypes) (globals : (f : ℕ) (t : Typed) → FunHas f [] t → NameHasType H (global p f) t) (Γ : Context) (env : Env) (k : EnvHasTypes H Γ env) where
+      name_has : (x : Var) (t : Typed) → VarHas ConHas FunHas Γ x t → NameHasType H (name p env x) t
       name_has (var.Local x) t h = k x t h
       name_has (var.Global f) t h = globals f t h
 
-      names_have : (xs : List Var) (ts : List Typed) → VarsHave ConHas FunHas Γ xs ts → NamesHave H (names p env xs) ts
+      names_have : (xs : List Var) (ts : List Typed) → VarsHave ConHas FunHas Γ xs ts → NamesHaveTypes H (names p env xs) ts
       names_have [] [] h = tt
       names_have [] (t ∷ ts) h = absurd h
       names_have (x ∷ xs) [] h = absurd h
@@ -193,7 +193,7 @@ module _ (ConHas FunHas : ℕ → List Typed → Typed → Type 0) (p : Program)
       group_has (b ∷ group) [] h = absurd h
       group_has (b ∷ group) (t ∷ ts) h = (binding_has b.flat t h.0, group_has group ts h.1)
 
-    forming : (f : Flat) (Γ : Context) (env : Env) (d : ℕ) (s : State) (H : HeapTypes) (t : Typed) → Sound H s.heap → EnvHas H Γ env → FormHas ConHas FunHas Γ f t → AnswerHas H t (form p onward env f d s)
+    forming : (f : Flat) (Γ : Context) (env : Env) (d : ℕ) (s : State) (H : HeapTypes) (t : Typed) → Sound H s.heap → EnvHasTypes H Γ env → FormHas ConHas FunHas Γ f t → AnswerHas H t (form p onward env f d s)
     forming (flat.Int i) Γ env d s H t ok k h = gives H (Int i) s t ok h
     forming (flat.Con c xs) Γ env d s H t ok k h = gives H (Con c (names p env xs)) s t ok (binding_has H ok.globals Γ env k (flat.Con c xs) t h)
     forming (flat.Part f xs) Γ env d s H t ok k h = gives H (Part f (names p env xs)) s t ok (binding_has H ok.globals Γ env k (flat.Part f xs) t h)
@@ -206,7 +206,7 @@ module _ (ConHas FunHas : ℕ → List Typed → Typed → Type 0) (p : Program)
     -- ---- groups
 
     env_group : (Δ : Context) (group : List Bound) (ts : List Typed) (H : HeapTypes) (Γ : Context) (env : Env) (a : ℕ) → GroupHas ConHas FunHas Δ group ts
-        → ((i : ℕ) (t : Typed) → slice_get ts i ≡ Some t → slice_get H (a + i) ≡ Some t) → EnvHas H Γ env → EnvHas H (group_types Γ group ts) (with_group p env group a)
+        → ((i : ℕ) (t : Typed) → slice_get ts i ≡ Some t → slice_get H (a + i) ≡ Some t) → EnvHasTypes H Γ env → EnvHasTypes H (group_types Γ group ts) (with_group p env group a)
     env_group Δ [] ts H Γ env a h at k = k
     env_group Δ (b ∷ group) [] H Γ env a h at k = absurd h
     env_group Δ (b ∷ group) (t ∷ ts) H Γ env a h at k =
@@ -262,33 +262,33 @@ module _ (ConHas FunHas : ℕ → List Typed → Typed → Type 0) (p : Program)
     takes_none (Part f xs) t = t
 
     -- the fields of a value that a branch accepts
-    fields_have : (H : HeapTypes) (c : ℕ) (v : Value) (ts : List Typed) (u : Typed) → is_con c v ≡ true → ValueHas H v u → ConHas c ts u → NamesHave H (fields_of v) ts
+    fields_have : (H : HeapTypes) (c : ℕ) (v : Value) (ts : List Typed) (u : Typed) → is_con c v ≡ true → ValueHas H v u → ConHas c ts u → NamesHaveTypes H (fields_of v) ts
     fields_have H c (Int k) ts u e h i = absurd cc
     fields_have H c (Part f xs) ts u e h i = absurd cc
     fields_have H c (Con d xs) ts u e h i =
         let same : d ≡ c = eqb-true d c e in
-        subst (λ ts. NamesHave H xs ts) (typed.con_fields c h.0 ts u (subst (λ c. ConHas c h.0 u) same h.1) i) h.2
+        subst (λ ts. NamesHaveTypes H xs ts) (typed.con_fields c h.0 ts u (subst (λ c. ConHas c h.0 u) same h.1) i) h.2
 
     -- ---- expressions
 
     mutual
-      pub evaluating : (e : Term) (Γ : Context) (env : Env) (d : ℕ) (s : State) (H : HeapTypes) (t : Typed) → Sound H s.heap → EnvHas H Γ env → TermHas ConHas FunHas Γ e t → AnswerHas H t (eval p onward e env d s)
+      pub evaluating : (e : Term) (Γ : Context) (env : Env) (d : ℕ) (s : State) (H : HeapTypes) (t : Typed) → Sound H s.heap → EnvHasTypes H Γ env → TermHas ConHas FunHas Γ e t → AnswerHas H t (eval p onward e env d s)
       evaluating (App f) Γ env d s H t ok k h = forming f Γ env d s H t ok k h
       evaluating (Let group body) Γ env d s H t ok k (ts, g, h) =
           let Δ : Context = group_types Γ group ts in
           let new : Env = with_group p env group (length s.heap) in
           let H' : HeapTypes = H ++ ts in
-          let grows : Grows H H' = grows_append H ts in
-          let k' : EnvHas H' Δ new = env_group Δ group ts H' Γ env (length s.heap) g (λ i u e. behind H ts s.heap i u ok e) (env_grows H H' Γ env grows k) in
+          let grows : KeepsNameTypes H H' = grows_append H ts in
+          let k' : EnvHasTypes H' Δ new = env_group Δ group ts H' Γ env (length s.heap) g (λ i u e. behind H ts s.heap i u ok e) (env_grows H H' Γ env grows k) in
           let more : Heap = map (λ b. binding p new b.flat) group in
-          let globals : (f : ℕ) (t : Typed) → FunHas f [] t → NameHas H' (global p f) t = λ f t i. name_grows H H' (global p f) t grows (ok.globals f t i) in
+          let globals : (f : ℕ) (t : Typed) → FunHas f [] t → NameHasType H' (global p f) t = λ f t i. name_grows H H' (global p f) t grows (ok.globals f t i) in
           let ok' : Sound H' (s.heap ++ more) = sound_append H ts s.heap more ok (group_has H' globals Δ new k' group ts g) in
           answer_grows H H' t (eval p onward body new d (append s more)) grows (evaluating body Δ new d (append s more) H' t ok' k' h)
       evaluating (Case tested branches) Γ env d s H t ok k (u, h, all, bs) =
           answer_then H u t (eval p onward tested env (suc d) s) (λ v s. select p onward branches v env d s) (evaluating tested Γ env (suc d) s H u ok k h)
           (λ v s H' g ok h. selecting branches v Γ env d s H' u t ok (env_grows H H' Γ env g k) h (takes H' v u branches h all) bs)
 
-      selecting : (bs : Branches) (v : Value) (Γ : Context) (env : Env) (d : ℕ) (s : State) (H : HeapTypes) (u t : Typed) → Sound H s.heap → EnvHas H Γ env → ValueHas H v u → Takes v bs
+      selecting : (bs : Branches) (v : Value) (Γ : Context) (env : Env) (d : ℕ) (s : State) (H : HeapTypes) (u t : Typed) → Sound H s.heap → EnvHasTypes H Γ env → ValueHas H v u → Takes v bs
           → BranchesHave ConHas FunHas Γ u bs t → AnswerHas H t (select p onward bs v env d s)
       selecting NoMore v Γ env d s H u t ok k h a b = absurd (takes_none v a)
       selecting (OnCon c xs body rest) v Γ env d s H u t ok k h a (ts, con, b, r) =
@@ -300,22 +300,22 @@ module _ (ConHas FunHas : ℕ → List Typed → Typed → Type 0) (p : Program)
       selecting (OnAny None body rest) v Γ env d s H u t ok k h a (b, r) = evaluating body Γ env d s H t ok k b
       selecting (OnAny (Some x) body rest) v Γ env d s H u t ok k h a (b, r) =
           let H' : HeapTypes = H ++ u ∷ [] in
-          let grows : Grows H H' = grows_append H (u ∷ []) in
+          let grows : KeepsNameTypes H H' = grows_append H (u ∷ []) in
           let ok' : Sound H' (s.heap ++ Known v ∷ []) = sound_append H (u ∷ []) s.heap (Known v ∷ []) ok (lemmas.value_grows ConHas FunHas integers H H' v u grows h, tt) in
           let z : length s.heap + 0 ≡ length s.heap = omega arith in
-          let n : NameHas H' (length s.heap) u = name_itself H' (length s.heap) u (subst (λ n. slice_get H' n ≡ Some u) z (behind H (u ∷ []) s.heap 0 u ok refl)) in
+          let n : NameHasType H' (length s.heap) u = name_itself H' (length s.heap) u (subst (λ n. slice_get H' n ≡ Some u) z (behind H (u ∷ []) s.heap 0 u ok refl)) in
           answer_grows H H' t (eval p onward body (with_local env x (length s.heap)) d (append s (Known v ∷ []))) grows
           (evaluating body (with_type Γ x u) (with_local env x (length s.heap)) d (append s (Known v ∷ [])) H' t ok' (env_local H' Γ env x (length s.heap) u n (env_grows H H' Γ env grows k)) b)
 
     -- ---- functions
 
-    arguments : (H : HeapTypes) (xs : List ℕ) (ts : List Typed) → NamesHave H xs ts → EnvHas H (slice_get ts) (parameters xs)
+    arguments : (H : HeapTypes) (xs : List ℕ) (ts : List Typed) → NamesHaveTypes H xs ts → EnvHasTypes H (slice_get ts) (parameters xs)
     arguments H xs [] h x t e = none_is_some e
     arguments H [] (u ∷ ts) h x t e = absurd h
-    arguments H (a ∷ xs) (u ∷ ts) h zero t e = subst (λ t. NameHas H a t) (some_is e) h.0
+    arguments H (a ∷ xs) (u ∷ ts) h zero t e = subst (λ t. NameHasType H a t) (some_is e) h.0
     arguments H (a ∷ xs) (u ∷ ts) h (suc x) t e = arguments H xs ts h.1 x t e
 
-    entering : (f : ℕ) (xs : List ℕ) (d : ℕ) (s : State) (H : HeapTypes) (ts : List Typed) (t : Typed) → Sound H s.heap → FunHas f ts t → NamesHave H xs ts
+    entering : (f : ℕ) (xs : List ℕ) (d : ℕ) (s : State) (H : HeapTypes) (ts : List Typed) (t : Typed) → Sound H s.heap → FunHas f ts t → NamesHaveTypes H xs ts
         → AnswerHas H t (enter_body p onward (slice_get p.funs f) xs d s)
     entering f xs d s H ts t ok h n =
         let b = typed.bodies f ts t h in
@@ -328,8 +328,8 @@ module _ (ConHas FunHas : ℕ → List Typed → Typed → Type 0) (p : Program)
         let two : List Typed = types.Int ∷ integers ∷ [] in
         let z : m + 0 ≡ m = omega arith in
         let o : m + 1 ≡ suc m = omega arith in
-        let head : NameHas (H ++ two) m types.Int = name_itself (H ++ two) m types.Int (subst (λ n. slice_get (H ++ two) n ≡ Some types.Int) z (behind H two s.heap 0 types.Int ok refl)) in
-        let tail : NameHas (H ++ two) (suc m) integers = name_itself (H ++ two) (suc m) integers (subst (λ n. slice_get (H ++ two) n ≡ Some integers) o (behind H two s.heap 1 integers ok refl)) in
+        let head : NameHasType (H ++ two) m types.Int = name_itself (H ++ two) m types.Int (subst (λ n. slice_get (H ++ two) n ≡ Some types.Int) z (behind H two s.heap 0 types.Int ok refl)) in
+        let tail : NameHasType (H ++ two) (suc m) integers = name_itself (H ++ two) (suc m) integers (subst (λ n. slice_get (H ++ two) n ≡ Some integers) o (behind H two s.heap 1 integers ok refl)) in
         (H ++ two, grows_append H two, sound_append H two s.heap (Known (Int (pos k)) ∷ Waiting Input ∷ []) ok (refl, (refl, tt)), (two, subst (λ t. ConHas (cons p) two t) (sym e) typed.cons_has, (head, (tail, tt))))
 
     pub proceeding : (w : Delayed) (d : ℕ) (s : State) (H : HeapTypes) (t : Typed) → Sound H s.heap → DelayedHas H w t → AnswerHas H t (proceed p onward w d s)

@@ -18,7 +18,7 @@ use Rattle.core_types.specs.Rules.{IsUnbroken, HasCase, HasCaseIn}
 use Rattle.core_types.specs.Typing.{Typed, Locals, binds_all, with_group, of_group, of_expr, of_alts, of_pattern, with_pattern, scrutinee, read_list, applied, used_at, constraint, Constraint, Substitution, under, Solves}
 use Rattle.core_meaning.specs.WellFormed.{HasFields}
 use Rattle.type_meaning.specs.Judgement.{Instance, Context, with_type, with_types, group_types, TermHas, BranchesHave}
-use Rattle.type_meaning.specs.SourceTypes.{ConHas, FunHas}
+use Rattle.type_meaning.specs.SourceTypes.{ConstructorHasType, FunctionHasType}
 use Rattle.type_meaning.proofs.Readings.{under_both, both_carry, carry_list, Signed}
 use Rattle.type_meaning.proofs.Constructors.{known, known_fields, many}
 use Rattle.type_meaning.proofs.Flats.{solves_left, solves_right, NewsIn, AllCounted, Counted}
@@ -63,15 +63,15 @@ module _ (s : Source) (p : normal.Program) (unbroken : IsUnbroken s) (cons : Pai
   Scoped = Within s p unbroken cons σ signs ρ
 
   abbrev Terms : Context → normal.Term → Typed → Type 0
-  Terms = TermHas (ConHas s) (FunHas s σ)
+  Terms = TermHas (ConstructorHasType s) (FunctionHasType s σ)
 
   abbrev Branches : Context → Typed → normal.Branches → Typed → Type 0
-  Branches = BranchesHave (ConHas s) (FunHas s σ)
+  Branches = BranchesHave (ConstructorHasType s) (FunctionHasType s σ)
 
   -- the fields of a pattern
   pattern_within : (v : Typed) (c : Binder) (fields : List Binder) (sc : Scope) (ls : Locals) (Γ : Context) (n number : ℕ) → con_number (erased s) c.name.0 ≡ Some number → HasFields p number (length fields)
       → Solves σ (of_pattern s v (pattern.Con c fields)) → Scoped sc ls Γ n
-      → (ts : List Typed) × ConHas s number ts (F v)
+      → (ts : List Typed) × ConstructorHasType s number ts (F v)
       × Scoped (scope.binds_all (erased s) (map (λ (b : Binder). b.name.0) fields) (range_with_len n (length fields)) sc) (with_pattern s v (pattern.Con c fields) ls) (with_types Γ (range_with_len n (length fields)) ts) (n + length fields)
   pattern_within v c fields sc ls Γ n number e f solved w =
       let k = known s p unbroken cons c.name.0 number e in
@@ -83,7 +83,7 @@ module _ (s : Source) (p : normal.Program) (unbroken : IsUnbroken s) (cons : Pai
       let inner = within_binders s p unbroken cons σ signs ρ fields us sc ls Γ n long w in
       let same : binds_all s fields us ls ≡ with_pattern s v (pattern.Con c fields) ls =
       sym (ap (λ o. elim o as (λ _. Locals) [ Some x ↦ binds_all s fields (read_list s (used_at s c.at) x.1.fields) ls | None ↦ ls ]) k.declared) in
-      let con : ConHas s number (map F us) (F v) = record {
+      let con : ConstructorHasType s number (map F us) (F v) = record {
         name = c.name.0;
         number = e;
         type = k.type;

@@ -6,7 +6,7 @@ use Rattle.core_types.specs.Typing.{Typed, Types, Open, Rigid, Named, Arrow, NoT
 use Rattle.core_types.specs.Typing as types
 use Rattle.core_meaning.specs.Heap.{Value, Int, Con, Part, Call, Apply, Prim, Global, Input, Binding, Known, Waiting, Heap, Env, with_local, with_locals}
 use Rattle.type_meaning.specs.Judgement.{Instance, instance, instances, Context, with_type, with_types}
-use Rattle.type_meaning.specs.Heaps.{HeapTypes, Grows, NameHas, NamesHave, EnvHas, ValueHas, BindingHas, BindingsHave}
+use Rattle.type_meaning.specs.Heaps.{HeapTypes, KeepsNameTypes, NameHasType, NamesHaveTypes, EnvHasTypes, ValueHas, BindingHas, BindingsHave}
 
 -- ---- instances
 
@@ -44,55 +44,55 @@ instance_arrows ρ (u ∷ us) t = ap (λ r. Arrow (instance ρ u) r) (instance_a
 
 -- ---- names
 
-pub name_grows : (H H' : HeapTypes) (a : ℕ) (t : Typed) → Grows H H' → NameHas H a t → NameHas H' a t
+pub name_grows : (H H' : HeapTypes) (a : ℕ) (t : Typed) → KeepsNameTypes H H' → NameHasType H a t → NameHasType H' a t
 name_grows H H' a t g h = record { general = h.general; is = g a h.general h.is; ρ = h.ρ; by = h.by }
 
-pub names_grow : (H H' : HeapTypes) (as' : List ℕ) (ts : List Typed) → Grows H H' → NamesHave H as' ts → NamesHave H' as' ts
+pub names_grow : (H H' : HeapTypes) (as' : List ℕ) (ts : List Typed) → KeepsNameTypes H H' → NamesHaveTypes H as' ts → NamesHaveTypes H' as' ts
 names_grow H H' [] [] g h = tt
 names_grow H H' [] (t ∷ ts) g h = absurd h
 names_grow H H' (a ∷ as') [] g h = absurd h
 names_grow H H' (a ∷ as') (t ∷ ts) g h = (name_grows H H' a t g h.0, names_grow H H' as' ts g h.1)
 
-pub env_grows : (H H' : HeapTypes) (Γ : Context) (env : Env) → Grows H H' → EnvHas H Γ env → EnvHas H' Γ env
+pub env_grows : (H H' : HeapTypes) (Γ : Context) (env : Env) → KeepsNameTypes H H' → EnvHasTypes H Γ env → EnvHasTypes H' Γ env
 env_grows H H' Γ env g h x t e = name_grows H H' (env x) t g (h x t e)
 
-pub name_itself : (H : HeapTypes) (a : ℕ) (t : Typed) → slice_get H a ≡ Some t → NameHas H a t
+pub name_itself : (H : HeapTypes) (a : ℕ) (t : Typed) → slice_get H a ≡ Some t → NameHasType H a t
 name_itself H a t e = record { general = t; is = e; ρ = Rigid; by = sym (instance_same t) }
 
-pub name_instance : (H : HeapTypes) (a : ℕ) (t : Typed) (ρ : Instance) → NameHas H a t → NameHas H a (instance ρ t)
+pub name_instance : (H : HeapTypes) (a : ℕ) (t : Typed) (ρ : Instance) → NameHasType H a t → NameHasType H a (instance ρ t)
 name_instance H a t ρ h = record { general = h.general; is = h.is; ρ = after ρ h.ρ; by = ap (instance ρ) h.by ∙ instance_after ρ h.ρ h.general }
 
-pub names_instance : (H : HeapTypes) (as' : List ℕ) (ts : List Typed) (ρ : Instance) → NamesHave H as' ts → NamesHave H as' (map (instance ρ) ts)
+pub names_instance : (H : HeapTypes) (as' : List ℕ) (ts : List Typed) (ρ : Instance) → NamesHaveTypes H as' ts → NamesHaveTypes H as' (map (instance ρ) ts)
 names_instance H [] [] ρ h = tt
 names_instance H [] (t ∷ ts) ρ h = absurd h
 names_instance H (a ∷ as') [] ρ h = absurd h
 names_instance H (a ∷ as') (t ∷ ts) ρ h = (name_instance H a t ρ h.0, names_instance H as' ts ρ h.1)
 
-pub names_long : (H : HeapTypes) (as' : List ℕ) (ts : List Typed) → NamesHave H as' ts → length as' ≡ length ts
+pub names_long : (H : HeapTypes) (as' : List ℕ) (ts : List Typed) → NamesHaveTypes H as' ts → length as' ≡ length ts
 names_long H [] [] h = refl
 names_long H [] (t ∷ ts) h = absurd h
 names_long H (a ∷ as') [] h = absurd h
 names_long H (a ∷ as') (t ∷ ts) h = ap suc (names_long H as' ts h.1)
 
-pub names_append : (H : HeapTypes) (as' bs : List ℕ) (ts us : List Typed) → NamesHave H as' ts → NamesHave H bs us → NamesHave H (as' ++ bs) (ts ++ us)
+pub names_append : (H : HeapTypes) (as' bs : List ℕ) (ts us : List Typed) → NamesHaveTypes H as' ts → NamesHaveTypes H bs us → NamesHaveTypes H (as' ++ bs) (ts ++ us)
 names_append H [] bs [] us h k = k
 names_append H [] bs (t ∷ ts) us h k = absurd h
 names_append H (a ∷ as') bs [] us h k = absurd h
 names_append H (a ∷ as') bs (t ∷ ts) us h k = (h.0, names_append H as' bs ts us h.1 k)
 
-pub grows_append : (H more : HeapTypes) → Grows H (H ++ more)
+pub grows_append : (H more : HeapTypes) → KeepsNameTypes H (H ++ more)
 grows_append H more a t e = get_left H more a t e
 
 -- ---- environments
 
-pub env_local : (H : HeapTypes) (Γ : Context) (env : Env) (x a : ℕ) (t : Typed) → NameHas H a t → EnvHas H Γ env → EnvHas H (with_type Γ x t) (with_local env x a)
+pub env_local : (H : HeapTypes) (Γ : Context) (env : Env) (x a : ℕ) (t : Typed) → NameHasType H a t → EnvHasTypes H Γ env → EnvHasTypes H (with_type Γ x t) (with_local env x a)
 env_local H Γ env x a t n h y u e = by_test (nat_eq y x) e
   where
-    by_test : (b : Bool) → cond b (Some t) (Γ y) ≡ Some u → NameHas H (cond b a (env y)) u
-    by_test true e = subst (λ t. NameHas H a t) (some_is e) n
+    by_test : (b : Bool) → cond b (Some t) (Γ y) ≡ Some u → NameHasType H (cond b a (env y)) u
+    by_test true e = subst (λ t. NameHasType H a t) (some_is e) n
     by_test false e = h y u e
 
-pub env_locals : (H : HeapTypes) (Γ : Context) (env : Env) (xs as' : List ℕ) (ts : List Typed) → NamesHave H as' ts → EnvHas H Γ env → EnvHas H (with_types Γ xs ts) (with_locals env xs as')
+pub env_locals : (H : HeapTypes) (Γ : Context) (env : Env) (xs as' : List ℕ) (ts : List Typed) → NamesHaveTypes H as' ts → EnvHasTypes H Γ env → EnvHasTypes H (with_types Γ xs ts) (with_locals env xs as')
 env_locals H Γ env [] as' ts n h = h
 env_locals H Γ env (x ∷ xs) [] [] n h = h
 env_locals H Γ env (x ∷ xs) [] (t ∷ ts) n h = absurd n
@@ -103,12 +103,12 @@ env_locals H Γ env (x ∷ xs) (a ∷ as') (t ∷ ts) n h =
 module _ (ConHas FunHas : ℕ → List Typed → Typed → Type 0) (integers : Typed) where
   -- ---- values and bindings
 
-  pub value_grows : (H H' : HeapTypes) (v : Value) (t : Typed) → Grows H H' → ValueHas ConHas FunHas integers H v t → ValueHas ConHas FunHas integers H' v t
+  pub value_grows : (H H' : HeapTypes) (v : Value) (t : Typed) → KeepsNameTypes H H' → ValueHas ConHas FunHas integers H v t → ValueHas ConHas FunHas integers H' v t
   value_grows H H' (Int k) t g h = h
   value_grows H H' (Con c xs) t g h = (h.0, h.1, names_grow H H' xs h.0 g h.2)
   value_grows H H' (Part f xs) t g (ts, u, us, r, fun, e, n) = (ts, u, us, r, fun, e, names_grow H H' xs ts g n)
 
-  pub binding_grows : (H H' : HeapTypes) (b : Binding) (t : Typed) → Grows H H' → BindingHas ConHas FunHas integers H b t → BindingHas ConHas FunHas integers H' b t
+  pub binding_grows : (H H' : HeapTypes) (b : Binding) (t : Typed) → KeepsNameTypes H H' → BindingHas ConHas FunHas integers H b t → BindingHas ConHas FunHas integers H' b t
   binding_grows H H' (Known v) t g h = value_grows H H' v t g h
   binding_grows H H' (Waiting (Call f xs)) t g h = (h.0, h.1, names_grow H H' xs h.0 g h.2)
   binding_grows H H' (Waiting (Apply a xs)) t g h = (h.0, name_grows H H' a (arrows h.0 t) g h.1, names_grow H H' xs h.0 g h.2)
@@ -116,7 +116,7 @@ module _ (ConHas FunHas : ℕ → List Typed → Typed → Type 0) (integers : T
   binding_grows H H' (Waiting (Global f)) t g h = h
   binding_grows H H' (Waiting Input) t g h = h
 
-  pub bindings_grow : (H H' : HeapTypes) (bs : Heap) (ts : List Typed) → Grows H H' → BindingsHave ConHas FunHas integers H bs ts → BindingsHave ConHas FunHas integers H' bs ts
+  pub bindings_grow : (H H' : HeapTypes) (bs : Heap) (ts : List Typed) → KeepsNameTypes H H' → BindingsHave ConHas FunHas integers H bs ts → BindingsHave ConHas FunHas integers H' bs ts
   bindings_grow H H' [] [] g h = tt
   bindings_grow H H' [] (t ∷ ts) g h = absurd h
   bindings_grow H H' (b ∷ bs) [] g h = absurd h

@@ -5,7 +5,7 @@ use Rattle.std.specs.List.{range_with_len, flat_map, find}
 use Rattle.seq.specs.Lists.{AllOf}
 use Rattle.seq.proofs.Lists.{some_is, none_is_some, all_get, get_within, length_map}
 use Rattle.core_reader.specs.declared.syntax.Binder.{Binder}
-use Rattle.core_reader.specs.Grammar.{IsSomeAlts}
+use Rattle.core_reader.specs.Grammar.{IsNonemptyAlts}
 use Rattle.core_reader.specs.Readable.{IsReadable, ReadableExpr, ReadableAlts, ReadableFunction}
 use Rattle.core_reader.specs.Tree as tree
 use Rattle.core_reader.specs.Tree.{Expr, App, Let, Case, Alts, NoAlts, AndAlt}
@@ -26,7 +26,7 @@ use Rattle.core_types.specs.Typing as types
 use Rattle.core_meaning.specs.WellFormed.{WellFormed, FormOk, TermOk, BranchesOk, FunOk}
 use Rattle.core_meaning.proofs.Valid.{valid_is_well_formed, different_places}
 use Rattle.type_meaning.specs.Judgement.{Instance, instance, Context, TermHas, IsTypedFunction, IsTyped}
-use Rattle.type_meaning.specs.SourceTypes.{ConHas, FunHas}
+use Rattle.type_meaning.specs.SourceTypes.{ConstructorHasType, FunctionHasType}
 use Rattle.type_meaning.proofs.Types.{instance_same, instance_after, after}
 use Rattle.type_meaning.proofs.Readings.{under_both, Signed}
 use Rattle.type_meaning.proofs.Constructors.{pair_on, pair_back, Placed, placed}
@@ -68,14 +68,14 @@ module _ (p : normal.Program) where
 -- ---- cases that were read
 
 mutual
-  readable_case : (names : List (List ℕ)) (e : Expr) (alts : Alts) → ReadableExpr names e → HasCase e alts → IsSomeAlts alts
+  readable_case : (names : List (List ℕ)) (e : Expr) (alts : Alts) → ReadableExpr names e → HasCase e alts → IsNonemptyAlts alts
   readable_case names (App app) alts r h = absurd h
   readable_case names (Let group e) alts r h = readable_case names e alts r.2 h
-  readable_case names (Case e these) alts r (inl h) = subst IsSomeAlts (sym h) r.0
+  readable_case names (Case e these) alts r (inl h) = subst IsNonemptyAlts (sym h) r.0
   readable_case names (Case e these) alts r (inr (inl h)) = readable_case names e alts r.1 h
   readable_case names (Case e these) alts r (inr (inr h)) = readable_case_in names these alts r.2 h
 
-  readable_case_in : (names : List (List ℕ)) (these alts : Alts) → ReadableAlts names these → HasCaseIn these alts → IsSomeAlts alts
+  readable_case_in : (names : List (List ℕ)) (these alts : Alts) → ReadableAlts names these → HasCaseIn these alts → IsNonemptyAlts alts
   readable_case_in names NoAlts alts r h = absurd h
   readable_case_in names (AndAlt pat e rest) alts r (inl h) = readable_case names e alts r.1 h
   readable_case_in names (AndAlt pat e rest) alts r (inr h) = readable_case_in names rest alts r.2 h
@@ -132,7 +132,7 @@ module _ (s : Source) (p : normal.Program) (σ : Substitution) (readable : IsRea
         (within_also s p unbroken nf.cons σ signs ρ sc ls Γ m n b u (omega (arith, le)) (subst (λ n. Γ n ≡ Some (F u)) z (at 0 u refl)) w)
 
     body_has : (f : tree.Function) (i : ℕ) (g : normal.Function) → slice_get s.functions i ≡ Some f → slice_get p.funs i ≡ Some g → IsFunction (erased s) f g
-        → TermHas (ConHas s) (FunHas s σ) (slice_get (map (λ b. instance ρ (under σ (param_type s f b))) f.params)) g.body (F (result_type s f))
+        → TermHas (ConstructorHasType s) (FunctionHasType s σ) (slice_get (map (λ b. instance ρ (under σ (param_type s f b))) f.params)) g.body (F (result_type s f))
     body_has f i g at gat h =
         let ts : List Typed = map (λ b. instance ρ (under σ (param_type s f b))) f.params in
         let us : List Typed = map (param_type s f) f.params in
@@ -144,7 +144,7 @@ module _ (s : Source) (p : normal.Program) (σ : Substitution) (readable : IsRea
         let in_body = solves_right σ (of_signature s f) (of_expr s ls (result_type s f) f.body) (solves_at σ s s.functions i f solved at) in
         term_has s p unbroken nf.cons σ signs ρ h.body ls (slice_get ts) (result_type s f) w in_body (term_counted p g.body _ (all_get (FunOk p) p.funs i g well.bodies gat)) (complete f i at)
 
-  bodies : (f : ℕ) (ts : List Typed) (t : Typed) → FunHas s σ f ts t → IsTypedFunction (ConHas s) (FunHas s σ) p f ts t
+  bodies : (f : ℕ) (ts : List Typed) (t : Typed) → FunctionHasType s σ f ts t → IsTypedFunction (ConstructorHasType s) (FunctionHasType s σ) p f ts t
   bodies f ts t h =
       let on = pair_on (IsFunction (erased s)) s.functions p.funs f h.function nf.funs h.is in
       let us : List Typed = map (λ b. instance h.ρ (under σ (param_type s h.function b))) h.function.params in
@@ -153,14 +153,14 @@ module _ (s : Source) (p : normal.Program) (σ : Substitution) (readable : IsRea
         function = on.other;
         is = on.is;
         params = ap length h.params ∙ length_map _ h.function.params ∙ sym on.pair.params;
-        body = subst (λ ts. TermHas (ConHas s) (FunHas s σ) (slice_get ts) on.other.body t) (sym h.params) (subst (λ t. TermHas (ConHas s) (FunHas s σ) (slice_get us) on.other.body t) (sym h.result) body);
+        body = subst (λ ts. TermHas (ConstructorHasType s) (FunctionHasType s σ) (slice_get ts) on.other.body t) (sym h.params) (subst (λ t. TermHas (ConstructorHasType s) (FunctionHasType s σ) (slice_get us) on.other.body t) (sym h.result) body);
       }
 
   map_after : (ρ' ρ : Instance) (f : tree.Function) (bs : List Binder) → map (instance ρ') (map (λ b. instance ρ (under σ (param_type s f b))) bs) ≡ map (λ b. instance (after ρ' ρ) (under σ (param_type s f b))) bs
   map_after ρ' ρ f [] = refl
   map_after ρ' ρ f (b ∷ bs) = λ i. instance_after ρ' ρ (under σ (param_type s f b)) i ∷ map_after ρ' ρ f bs i
 
-  fun_instances : (f : ℕ) (ts : List Typed) (t : Typed) (ρ : Instance) → FunHas s σ f ts t → FunHas s σ f (map (instance ρ) ts) (instance ρ t)
+  fun_instances : (f : ℕ) (ts : List Typed) (t : Typed) (ρ : Instance) → FunctionHasType s σ f ts t → FunctionHasType s σ f (map (instance ρ) ts) (instance ρ t)
   fun_instances f ts t ρ h = record {
     function = h.function;
     is = h.is;
@@ -173,7 +173,7 @@ module _ (s : Source) (p : normal.Program) (σ : Substitution) (readable : IsRea
   no_params [] e = refl
   no_params (b ∷ bs) e = absurd (omega (arith, e))
 
-  general : (f : ℕ) (function : normal.Function) → slice_get p.funs f ≡ Some function → function.params ≡ 0 → (g : Typed) × FunHas s σ f [] g × ((t : Typed) → FunHas s σ f [] t → (ρ : Instance) × (t ≡ instance ρ g))
+  general : (f : ℕ) (function : normal.Function) → slice_get p.funs f ≡ Some function → function.params ≡ 0 → (g : Typed) × FunctionHasType s σ f [] g × ((t : Typed) → FunctionHasType s σ f [] t → (ρ : Instance) × (t ≡ instance ρ g))
   general f function at none =
       let back = pair_back (IsFunction (erased s)) s.functions p.funs f function nf.funs at in
       let own = back.other in
@@ -197,7 +197,7 @@ module _ (s : Source) (p : normal.Program) (σ : Substitution) (readable : IsRea
       by_found None = refl
       by_found (Some d) = refl
 
-  main_has : FunHas s σ p.main [] (integers s) ⊎ FunHas s σ p.main (integers s ∷ []) (integers s)
+  main_has : FunctionHasType s σ p.main [] (integers s) ⊎ FunctionHasType s σ p.main (integers s ∷ []) (integers s)
   main_has = by_params f.params refl
     where
       here : Placed (λ (f : tree.Function). scope.is_named (erased s) (codes "main") f.name) s.functions p.main
@@ -213,16 +213,16 @@ module _ (s : Source) (p : normal.Program) (σ : Substitution) (readable : IsRea
       result = integers_closed Rigid ∙ ap (λ b. instance Rigid (under σ (if b then integers s else types.Open (types.AtResult f.at)))) (sym main)
 
       param : (b : Binder) → integers s ≡ instance Rigid (under σ (param_type s f b))
-      param b = integers_closed Rigid ∙ ap (λ c. instance Rigid (under σ (if c then integers s else types.open_at b))) (sym main)
+      param b = integers_closed Rigid ∙ ap (λ c. instance Rigid (under σ (if c then integers s else types.binder_type_variable b))) (sym main)
 
-      by_params : (bs : List Binder) → f.params ≡ bs → FunHas s σ p.main [] (integers s) ⊎ FunHas s σ p.main (integers s ∷ []) (integers s)
+      by_params : (bs : List Binder) → f.params ≡ bs → FunctionHasType s σ p.main [] (integers s) ⊎ FunctionHasType s σ p.main (integers s ∷ []) (integers s)
       by_params [] e = inl (record { function = f; is = here.is; ρ = Rigid; params = sym (ap (map (λ b. instance Rigid (under σ (param_type s f b)))) e); result = result })
       by_params (b ∷ []) e = inr (record { function = f; is = here.is; ρ = Rigid; params = ap (λ t. t ∷ []) (param b) ∙ sym (ap (map (λ b. instance Rigid (under σ (param_type s f b)))) e); result = result })
       by_params (b ∷ c ∷ bs) e =
           let l : length f.params ≡ suc (suc (length bs)) = ap length e in
           absurd (unbroken 20 f.at (InCore (core.MainHasParameters p.main here.is main (omega (arith, l)))))
 
-  pub well_typed : IsTyped (ConHas s) (FunHas s σ) p (integers s)
+  pub well_typed : IsTyped (ConstructorHasType s) (FunctionHasType s σ) p (integers s)
   well_typed = record {
     bodies = bodies;
     con_instances = fields.con_instances s;

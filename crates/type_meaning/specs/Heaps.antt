@@ -10,37 +10,38 @@ abbrev pub HeapTypes : Type 0
 HeapTypes = List Typed
 
 -- names keep their types
-abbrev pub Grows : HeapTypes → HeapTypes → Type 0
-Grows H H' = (a : ℕ) (t : Typed) → slice_get H a ≡ Some t → slice_get H' a ≡ Some t
+abbrev pub KeepsNameTypes : HeapTypes → HeapTypes → Type 0
+KeepsNameTypes H H' = (a : ℕ) (t : Typed) → slice_get H a ≡ Some t → slice_get H' a ≡ Some t
 
-pub record NameHas (H : HeapTypes) (a : ℕ) (t : Typed) : Type 0 where
+pub record NameHasType (H : HeapTypes) (a : ℕ) (t : Typed) : Type 0 where
   pub general : Typed
   pub is : slice_get H a ≡ Some general
   pub ρ : Instance
   pub by : t ≡ instance ρ general
 
-abbrev pub NamesHave : HeapTypes → List ℕ → List Typed → Type 0
-NamesHave H [] [] = Unit {0}
-NamesHave H [] (t ∷ ts) = ⊥
-NamesHave H (a ∷ as') [] = ⊥
-NamesHave H (a ∷ as') (t ∷ ts) = NameHas H a t × NamesHave H as' ts
+abbrev pub NamesHaveTypes : HeapTypes → List ℕ → List Typed → Type 0
+NamesHaveTypes H [] [] = Unit {0}
+NamesHaveTypes H [] (t ∷ ts) = ⊥
+NamesHaveTypes H (a ∷ as') [] = ⊥
+NamesHaveTypes H (a ∷ as') (t ∷ ts) = NameHasType H a t × NamesHaveTypes H as' ts
 
-abbrev pub EnvHas : HeapTypes → Context → Env → Type 0
-EnvHas H Γ env = (x : ℕ) (t : Typed) → Γ x ≡ Some t → NameHas H (env x) t
+abbrev pub EnvHasTypes : HeapTypes → Context → Env → Type 0
+EnvHasTypes H Γ env = (x : ℕ) (t : Typed) → Γ x ≡ Some t → NameHasType H (env x) t
 
 module _ (ConHas FunHas : ℕ → List Typed → Typed → Type 0) (integers : Typed) where
   abbrev pub ValueHas : HeapTypes → Value → Typed → Type 0
   ValueHas H (Int k) t = t ≡ types.Int
-  ValueHas H (Con c xs) t = (ts : List Typed) × ConHas c ts t × NamesHave H xs ts
+  ValueHas H (Con c xs) t = (ts : List Typed) × ConHas c ts t × NamesHaveTypes H xs ts
   ValueHas H (Part f xs) t =
       (ts : List Typed) × (u : Typed) × (us : List Typed) × (r : Typed)
-      × FunHas f (ts ++ u ∷ us) r × (t ≡ arrows (u ∷ us) r) × NamesHave H xs ts
+      × FunHas f (ts ++ u ∷ us) r × (t ≡ arrows (u ∷ us) r) × NamesHaveTypes H xs ts
 
   abbrev pub DelayedHas : HeapTypes → Delayed → Typed → Type 0
-  DelayedHas H (Call f xs) t = (ts : List Typed) × FunHas f ts t × NamesHave H xs ts
-  DelayedHas H (Apply a xs) t = (ts : List Typed) × NameHas H a (arrows ts t) × NamesHave H xs ts
+  DelayedHas H (Call f xs) t = (ts : List Typed) × FunHas f ts t × NamesHaveTypes H xs ts
+  DelayedHas H (Apply a xs) t =
+      (ts : List Typed) × NameHasType H a (arrows ts t) × NamesHaveTypes H xs ts
   DelayedHas H (Prim op a b) t =
-      (t ≡ types.Int) × NameHas H a types.Int × NameHas H b types.Int
+      (t ≡ types.Int) × NameHasType H a types.Int × NameHasType H b types.Int
   DelayedHas H (Global f) t = FunHas f [] t
   DelayedHas H Input t = t ≡ integers
 

@@ -8,7 +8,7 @@ use Rattle.core_types.specs.Rules.{IsUnbroken}
 use Rattle.core_types.specs.Typing.{Substitution, Solves, constraints, integers}
 use Rattle.core_meaning.specs.Printing.{printed, Unaccepted}
 use Rattle.type_meaning.specs.Judgement.{IsTyped}
-use Rattle.type_meaning.specs.SourceTypes.{ConHas, FunHas}
+use Rattle.type_meaning.specs.SourceTypes.{ConstructorHasType, FunctionHasType}
 
 -- on no input and within no number of units
 abbrev pub NeverStuck : Program → Type 0
@@ -19,13 +19,13 @@ abbrev pub SolvedAreWellTyped : Type 0
 SolvedAreWellTyped =
     (s : Source) (p : Program) (σ : Substitution) → IsReadable (erased s) → IsUnbroken s
     → Solves σ (constraints s) → IsNormalForm (erased s) p
-    → IsTyped (ConHas s) (FunHas s σ) p (integers s)
+    → IsTyped (ConstructorHasType s) (FunctionHasType s σ) p (integers s)
 
 -- and what is well typed is never stuck
 abbrev pub WellTypedAreNeverStuck : Type 0
 WellTypedAreNeverStuck =
     (s : Source) (p : Program) (σ : Substitution)
-    → IsTyped (ConHas s) (FunHas s σ) p (integers s) → NeverStuck p
+    → IsTyped (ConstructorHasType s) (FunctionHasType s σ) p (integers s) → NeverStuck p
 
 -- So a program that breaks no rule and whose constraints have a solution never meets a value that
 -- no alternative accepts.

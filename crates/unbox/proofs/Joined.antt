@@ -11,9 +11,9 @@ use Rattle.grin_syntax.specs.Formed.{AllOf}
 use Rattle.flow_system.specs.Solution.{Solution}
 use Rattle.pass_ground.proofs.Tests.{all_front, all_back}
 use Rattle.unbox.specs.declared.ties.Tie.{Tie}
-use Rattle.unbox.specs.Ends.{Procedures, is_int, has_int, act_calls, code_calls, arms_calls, IntAct, IntCode, IntArms}
-use Rattle.unbox.specs.Members.{ActClosed, CodeClosed, ArmsClosed, ProcedureClosed, ProceduresClosed, IsMembers}
-use Rattle.unbox.specs.Ties.{act_called, code_called, arms_called, act_ints, code_ints, arms_ints, act_ties, code_ties, arms_ties, body_tie, ties_from, any_in, all_in, Heeds, IsGreatest}
+use Rattle.unboxing.specs.Ends.{Procedures, is_int, has_int, act_calls, code_calls, arms_calls, IntAct, IntCode, IntArms}
+use Rattle.unboxing.specs.Members.{ActClosed, CodeClosed, ArmsClosed, ProcedureClosed, ProceduresClosed, IsGreatestClosedSet}
+use Rattle.unbox.specs.Ties.{act_called, code_called, arms_called, act_ints, code_ints, arms_ints, act_ties, code_ties, arms_ties, body_tie, ties_from, any_in, all_in, RespectsTie, IsGreatestRespecting}
 
 spread : (a b c d : Bool) → (a && c) ≡ true → (b && d) ≡ true → ((a && b) && (c && d)) ≡ true
 spread a b c d h k = and_from (a && b) (c && d) (and_from a b (and_left a c h) (and_left b d k)) (and_from c d (and_right a c h) (and_right b d k))
@@ -116,7 +116,7 @@ module _ (A : Solution) (S : Procedures) where
   mutual
     unfolding ActClosed act_ties
 
-    act_heeds : (o : Act) → ActClosed A S o → AllOf (Heeds S) (act_ties A o)
+    act_heeds : (o : Act) → ActClosed A S o → AllOf (RespectsTie S) (act_ties A o)
     act_heeds (case v as') h = arms_heed as' h
     act_heeds (nested b) h = code_heeds b h
     act_heeds (unit v) h = tt
@@ -131,19 +131,19 @@ module _ (A : Solution) (S : Procedures) where
     act_heeds (write a) h = tt
     act_heeds fail h = tt
 
-    code_heeds : (b : Code) → CodeClosed A S b → AllOf (Heeds S) (code_ties A b)
+    code_heeds : (b : Code) → CodeClosed A S b → AllOf (RespectsTie S) (code_ties A b)
     code_heeds (end o) h = act_heeds o h
     code_heeds (store cs b) h = code_heeds b h
-    code_heeds (bind t o b) h = ((λ e. act_int o (h.0 (sym (act_any o) ∙ e))), all_both (Heeds S) (act_ties A o) (code_ties A b) (act_heeds o h.1) (code_heeds b h.2))
+    code_heeds (bind t o b) h = ((λ e. act_int o (h.0 (sym (act_any o) ∙ e))), all_both (RespectsTie S) (act_ties A o) (code_ties A b) (act_heeds o h.1) (code_heeds b h.2))
 
-    arms_heed : (as' : Arms) → ArmsClosed A S as' → AllOf (Heeds S) (arms_ties A as')
+    arms_heed : (as' : Arms) → ArmsClosed A S as' → AllOf (RespectsTie S) (arms_ties A as')
     arms_heed no_arm h = tt
-    arms_heed (arm s b as') h = all_both (Heeds S) (code_ties A b) (arms_ties A as') (code_heeds b h.0) (arms_heed as' h.1)
+    arms_heed (arm s b as') h = all_both (RespectsTie S) (code_ties A b) (arms_ties A as') (code_heeds b h.0) (arms_heed as' h.1)
 
   mutual
     unfolding ActClosed act_ties
 
-    act_closed : (o : Act) → AllOf (Heeds S) (act_ties A o) → ActClosed A S o
+    act_closed : (o : Act) → AllOf (RespectsTie S) (act_ties A o) → ActClosed A S o
     act_closed (case v as') h = arms_closed as' h
     act_closed (nested b) h = code_closed b h
     act_closed (unit v) h = tt
@@ -158,16 +158,16 @@ module _ (A : Solution) (S : Procedures) where
     act_closed (write a) h = tt
     act_closed fail h = tt
 
-    code_closed : (b : Code) → AllOf (Heeds S) (code_ties A b) → CodeClosed A S b
+    code_closed : (b : Code) → AllOf (RespectsTie S) (code_ties A b) → CodeClosed A S b
     code_closed (end o) h = act_closed o h
     code_closed (store cs b) h = code_closed b h
-    code_closed (bind t o b) h = ((λ e. int_act o (h.0 (act_any o ∙ e))), act_closed o (all_front (Heeds S) (act_ties A o) (code_ties A b) h.1), code_closed b (all_back (Heeds S) (act_ties A o) (code_ties A b) h.1))
+    code_closed (bind t o b) h = ((λ e. int_act o (h.0 (act_any o ∙ e))), act_closed o (all_front (RespectsTie S) (act_ties A o) (code_ties A b) h.1), code_closed b (all_back (RespectsTie S) (act_ties A o) (code_ties A b) h.1))
 
-    arms_closed : (as' : Arms) → AllOf (Heeds S) (arms_ties A as') → ArmsClosed A S as'
+    arms_closed : (as' : Arms) → AllOf (RespectsTie S) (arms_ties A as') → ArmsClosed A S as'
     arms_closed no_arm h = tt
-    arms_closed (arm s b as') h = (code_closed b (all_front (Heeds S) (code_ties A b) (arms_ties A as') h), arms_closed as' (all_back (Heeds S) (code_ties A b) (arms_ties A as') h))
+    arms_closed (arm s b as') h = (code_closed b (all_front (RespectsTie S) (code_ties A b) (arms_ties A as') h), arms_closed as' (all_back (RespectsTie S) (code_ties A b) (arms_ties A as') h))
 
-  body_heeds : (f : ℕ) (q : Procedure) → ProcedureClosed A S f q → Heeds S (body_tie A f q)
+  body_heeds : (f : ℕ) (q : Procedure) → ProcedureClosed A S f q → RespectsTie S (body_tie A f q)
   body_heeds f q k e =
       let m : S f ≡ true = member (S f) refl e in
       spread (has_int A f) (code_ints A q.body) (S f) (all_in S (code_called q.body)) (and_from (has_int A f) (S f) (k.some m) m) (code_int q.body (k.ints m))
@@ -176,7 +176,7 @@ module _ (A : Solution) (S : Procedures) where
       member true r e = r
       member false r e = k.member (sym (code_any q.body) ∙ sym (ap (λ b. b || any_in S (code_called q.body)) r) ∙ e)
 
-  body_closed : (f : ℕ) (q : Procedure) → Heeds S (body_tie A f q) → AllOf (Heeds S) (code_ties A q.body) → ProcedureClosed A S f q
+  body_closed : (f : ℕ) (q : Procedure) → RespectsTie S (body_tie A f q) → AllOf (RespectsTie S) (code_ties A q.body) → ProcedureClosed A S f q
   body_closed f q h k = record {
     member = λ e. and_left (S f) (all_in S (code_called q.body)) (and_right (has_int A f && code_ints A q.body) (S f && all_in S (code_called q.body)) (h (called e (S f) refl)));
     ints = λ e. int_code q.body (and_from (code_ints A q.body) (all_in S (code_called q.body))
@@ -193,23 +193,23 @@ module _ (A : Solution) (S : Procedures) where
       called e true r = itself r
       called e false r = ap (λ b. b || any_in S (code_called q.body)) r ∙ (code_any q.body ∙ e)
 
-  pub closed_heeds : (f : ℕ) (qs : List Procedure) → ProceduresClosed A S f qs → AllOf (Heeds S) (ties_from A f qs)
+  pub closed_heeds : (f : ℕ) (qs : List Procedure) → ProceduresClosed A S f qs → AllOf (RespectsTie S) (ties_from A f qs)
   closed_heeds f [] h = tt
-  closed_heeds f (q ∷ qs) h = (body_heeds f q h.0, all_both (Heeds S) (code_ties A q.body) (ties_from A (suc f) qs) (code_heeds q.body h.0.blocks) (closed_heeds (suc f) qs h.1))
+  closed_heeds f (q ∷ qs) h = (body_heeds f q h.0, all_both (RespectsTie S) (code_ties A q.body) (ties_from A (suc f) qs) (code_heeds q.body h.0.blocks) (closed_heeds (suc f) qs h.1))
 
-  pub heeds_closed : (f : ℕ) (qs : List Procedure) → AllOf (Heeds S) (ties_from A f qs) → ProceduresClosed A S f qs
+  pub heeds_closed : (f : ℕ) (qs : List Procedure) → AllOf (RespectsTie S) (ties_from A f qs) → ProceduresClosed A S f qs
   heeds_closed f [] h = tt
   heeds_closed f (q ∷ qs) h = (
-    body_closed f q h.0 (all_front (Heeds S) (code_ties A q.body) (ties_from A (suc f) qs) h.1),
-    heeds_closed (suc f) qs (all_back (Heeds S) (code_ties A q.body) (ties_from A (suc f) qs) h.1),
+    body_closed f q h.0 (all_front (RespectsTie S) (code_ties A q.body) (ties_from A (suc f) qs) h.1),
+    heeds_closed (suc f) qs (all_back (RespectsTie S) (code_ties A q.body) (ties_from A (suc f) qs) h.1),
   )
 
-pub greatest_members : (A : Solution) (g : Program) (M : Procedures) → IsGreatest (length g.procs) (ties_from A 0 g.procs) M → IsMembers A g M
+pub greatest_members : (A : Solution) (g : Program) (M : Procedures) → IsGreatestRespecting (length g.procs) (ties_from A 0 g.procs) M → IsGreatestClosedSet A g M
 greatest_members A g M k = record { closed = heeds_closed A M 0 g.procs k.heeds; greatest = λ T within closed. k.greatest T within (closed_heeds A T 0 g.procs closed) }
 
-pub greatest_of : (A : Solution) (g : Grin) (M : Procedures) (ps : List Proc) (ts us : List Tie) (n : ℕ) → ps ≡ g.procs → ts ≡ ties_from A 0 (map procedure_of ps) → us ≡ ts → n ≡ length g.procs → IsGreatest n us M
-    → IsMembers A (program_of g) M
+pub greatest_of : (A : Solution) (g : Grin) (M : Procedures) (ps : List Proc) (ts us : List Tie) (n : ℕ) → ps ≡ g.procs → ts ≡ ties_from A 0 (map procedure_of ps) → us ≡ ts → n ≡ length g.procs → IsGreatestRespecting n us M
+    → IsGreatestClosedSet A (program_of g) M
 greatest_of A g M ps ts us n p t u e k =
     let count : n ≡ length (map procedure_of g.procs) = e ∙ sym (length-map g.procs procedure_of) in
     let same : us ≡ ties_from A 0 (map procedure_of g.procs) = u ∙ t ∙ ap (λ ps. ties_from A 0 (map procedure_of ps)) p in
-    greatest_members A (program_of g) M (subst (λ l. IsGreatest (length (map procedure_of g.procs)) l M) same (subst (λ n. IsGreatest n us M) count k))
+    greatest_members A (program_of g) M (subst (λ l. IsGreatestRespecting (length (map procedure_of g.procs)) l M) same (subst (λ n. IsGreatestRespecting n us M) count k))

@@ -2,13 +2,8 @@ pub mod Boxing
 pub mod Joined
 pub mod Loops
 pub mod Numbered
-pub mod Numbers
 pub mod Readers
 pub mod Rounding
-pub mod Same
-pub mod Shape
 pub mod SoFar
-pub mod Stays
 pub mod Sweeping
-pub mod Well
-pub mod PassContract
+pub mod Contract

@@ -6,18 +6,18 @@ use Rattle.seq.proofs.Lists.{take_next}
 use Rattle.grin_syntax.specs.declared.program.ProcId.{ProcId}
 use Rattle.grin_syntax.specs.Formed.{AllOf}
 use Rattle.unbox.specs.declared.ties.Tie.{Tie}
-use Rattle.unbox.specs.Ends.{Procedures, is_member}
-use Rattle.unbox.specs.Ties.{all_in, Heeds, IsGreatest}
-use Rattle.unbox.specs.Rounds.{trues, Within, Taken, Heeded}
+use Rattle.unboxing.specs.Ends.{Procedures, is_member}
+use Rattle.unbox.specs.Ties.{all_in, RespectsTie, IsGreatestRespecting}
+use Rattle.unbox.specs.Rounds.{count_members, Within, ProceduresRemoved, TiesEnforced}
 use Rattle.unbox.proofs.Rounding.{one_taken, none_taken, more_taken, tie_taken, more_heeded}
 
 -- ---- procedures
 
-pub one_out : (old new : List Bool) (f : ProcId) (inside : Bool) → inside ≡ is_member old f.0 → inside ≡ true → new ≡ slice_set old f.0 false → Taken old new (f ∷ []) inside
-one_out old new f inside h e k = subst (Taken old new (f ∷ [])) (sym e) (one_taken old new f (sym h ∙ e) k)
+pub one_out : (old new : List Bool) (f : ProcId) (inside : Bool) → inside ≡ is_member old f.0 → inside ≡ true → new ≡ slice_set old f.0 false → ProceduresRemoved old new (f ∷ []) inside
+one_out old new f inside h e k = subst (ProceduresRemoved old new (f ∷ [])) (sym e) (one_taken old new f (sym h ∙ e) k)
 
-pub one_not_in : (old : List Bool) (f : ProcId) (inside : Bool) → inside ≡ is_member old f.0 → inside ≡ false → Taken old old (f ∷ []) inside
-one_not_in old f inside h e = subst (Taken old old (f ∷ [])) (sym e) (none_taken old f (sym h ∙ e))
+pub one_not_in : (old : List Bool) (f : ProcId) (inside : Bool) → inside ≡ is_member old f.0 → inside ≡ false → ProceduresRemoved old old (f ∷ []) inside
+one_not_in old f inside h e = subst (ProceduresRemoved old old (f ∷ [])) (sym e) (none_taken old f (sym h ∙ e))
 
 module _ (S : Procedures) where
   all_in_push : (fs : List ProcId) (f : ProcId) → all_in S (fs ++ f ∷ []) ≡ (all_in S fs && S f.0)
@@ -30,32 +30,32 @@ module _ (S : Procedures) where
   pub all_in_done : (fs : List ProcId) (i : ℕ) (all : Bool) → length fs ≤ i → all ≡ all_in S (take i fs) → all ≡ all_in S fs
   all_in_done fs i all le a = a ∙ ap (all_in S) (take_all i fs le)
 
-pub taken_next : (old mid new : List Bool) (fs : List ProcId) (i : ℕ) (d : ProcId) (changed here both : Bool) → i < length fs → Taken mid new (get_or fs i d ∷ []) here → both ≡ (changed || here)
-    → Taken old mid (take i fs) changed → Taken old new (take (i + 1) fs) both
+pub taken_next : (old mid new : List Bool) (fs : List ProcId) (i : ℕ) (d : ProcId) (changed here both : Bool) → i < length fs → ProceduresRemoved mid new (get_or fs i d ∷ []) here → both ≡ (changed || here)
+    → ProceduresRemoved old mid (take i fs) changed → ProceduresRemoved old new (take (i + 1) fs) both
 taken_next old mid new fs i d changed here both lt k b t = rw (take_more fs i d lt, b) (more_taken old mid new (take i fs) (get_or fs i d ∷ []) changed here t k)
 
-pub taken_done : (old new : List Bool) (fs : List ProcId) (i : ℕ) (changed : Bool) → length fs ≤ i → Taken old new (take i fs) changed → Taken old new fs changed
-taken_done old new fs i changed le t = subst (λ l. Taken old new l changed) (take_all i fs le) t
+pub taken_done : (old new : List Bool) (fs : List ProcId) (i : ℕ) (changed : Bool) → length fs ≤ i → ProceduresRemoved old new (take i fs) changed → ProceduresRemoved old new fs changed
+taken_done old new fs i changed le t = subst (λ l. ProceduresRemoved old new l changed) (take_all i fs le) t
 
 -- ---- ties
 
 pub is_kept : (S : Procedures) (t : Tie) (ps : List ProcId) (all kept : Bool) → ps ≡ t.procs → all ≡ all_in S ps → kept ≡ (t.sound && all) → (t.sound && all_in S t.procs) ≡ kept
 is_kept S t ps all kept e h k = sym (k ∙ ap (λ b. t.sound && b) (h ∙ ap (all_in S) e))
 
-pub heeded_next : (old mid new : List Bool) (ts : List Tie) (i : ℕ) (t : Tie) (changed here both : Bool) → i < length ts → t ≡ get_or ts i t → Heeded mid new (t ∷ []) here → both ≡ (changed || here)
-    → Heeded old mid (take i ts) changed → Heeded old new (take (i + 1) ts) both
+pub heeded_next : (old mid new : List Bool) (ts : List Tie) (i : ℕ) (t : Tie) (changed here both : Bool) → i < length ts → t ≡ get_or ts i t → TiesEnforced mid new (t ∷ []) here → both ≡ (changed || here)
+    → TiesEnforced old mid (take i ts) changed → TiesEnforced old new (take (i + 1) ts) both
 heeded_next old mid new ts i t changed here both lt e k b h = rw (take_next ts i t lt e, b) (more_heeded old mid new (take i ts) (t ∷ []) changed here h k)
 
-pub heeded_done : (old new : List Bool) (ts : List Tie) (i : ℕ) (changed : Bool) → length ts ≤ i → Heeded old new (take i ts) changed → Heeded old new ts changed
-heeded_done old new ts i changed le h = subst (λ l. Heeded old new l changed) (take_all i ts le) h
+pub heeded_done : (old new : List Bool) (ts : List Tie) (i : ℕ) (changed : Bool) → length ts ≤ i → TiesEnforced old new (take i ts) changed → TiesEnforced old new ts changed
+heeded_done old new ts i changed le h = subst (λ l. TiesEnforced old new l changed) (take_all i ts le) h
 
-pub taken_out : (old new : List Bool) (t : Tie) (ps : List ProcId) (kept changed : Bool) → ps ≡ t.procs → (t.sound && all_in (is_member old) t.procs) ≡ kept → kept ≡ false → Taken old new ps changed → Heeded old new (t ∷ []) changed
-taken_out old new t ps kept changed e h k x = tie_taken old new t changed (h ∙ k) (subst (λ ps. Taken old new ps changed) e x)
+pub taken_out : (old new : List Bool) (t : Tie) (ps : List ProcId) (kept changed : Bool) → ps ≡ t.procs → (t.sound && all_in (is_member old) t.procs) ≡ kept → kept ≡ false → ProceduresRemoved old new ps changed → TiesEnforced old new (t ∷ []) changed
+taken_out old new t ps kept changed e h k x = tie_taken old new t changed (h ∙ k) (subst (λ ps. ProceduresRemoved old new ps changed) e x)
 
 -- backwards
 pub record Back (ts : List Tie) (old new : List Bool) : Type 0 where
-  pub sound : (T : Procedures) → AllOf (Heeds T) ts → Within T old → Within T new
-  pub fewer : trues new ≤ trues old
+  pub sound : (T : Procedures) → AllOf (RespectsTie T) ts → Within T old → Within T new
+  pub fewer : count_members new ≤ count_members old
 
 pub no_step_back : (ts : List Tie) (old : List Bool) → Back ts old old
 no_step_back ts old = record { sound = λ T all w. w; fewer = omega arith }
@@ -65,42 +65,42 @@ at_place P [] i x lt h = absurd (omega arith)
 at_place P (y ∷ xs) zero x lt h = h.0
 at_place P (y ∷ xs) (suc i) x lt h = at_place P xs i x (omega arith) h.1
 
-pub step_back : (ts : List Tie) (old mid new : List Bool) (i : ℕ) (t : Tie) (changed : Bool) → i < length ts → t ≡ get_or ts i t → Heeded mid new (t ∷ []) changed → Back ts old mid → Back ts old new
+pub step_back : (ts : List Tie) (old mid new : List Bool) (i : ℕ) (t : Tie) (changed : Bool) → i < length ts → t ≡ get_or ts i t → TiesEnforced mid new (t ∷ []) changed → Back ts old mid → Back ts old new
 step_back ts old mid new i t changed lt e h b = record {
-  sound = λ T all w. h.sound T (subst (Heeds T) (sym e) (at_place (Heeds T) ts i t lt all), tt) (b.sound T all w);
-  fewer = let x : trues new ≤ trues mid = h.fewer.at_most in let y : trues mid ≤ trues old = b.fewer in omega (arith, x, y);
+  sound = λ T all w. h.sound T (subst (RespectsTie T) (sym e) (at_place (RespectsTie T) ts i t lt all), tt) (b.sound T all w);
+  fewer = let x : count_members new ≤ count_members mid = h.fewer.at_most in let y : count_members mid ≤ count_members old = b.fewer in omega (arith, x, y);
 }
 
 -- ---- rounds
 
-pub there_and_back : (old mid new : List Bool) (ts : List Tie) (changed : Bool) → Heeded old mid ts changed → changed ≡ true
-    → ((T : Procedures) → AllOf (Heeds T) ts → Within T mid → Within T new) → trues new ≤ trues mid → Heeded old new ts true
+pub there_and_back : (old mid new : List Bool) (ts : List Tie) (changed : Bool) → TiesEnforced old mid ts changed → changed ≡ true
+    → ((T : Procedures) → AllOf (RespectsTie T) ts → Within T mid → Within T new) → count_members new ≤ count_members mid → TiesEnforced old new ts true
 there_and_back old mid new ts changed h c s f = record {
   sound = λ T all w. s T all (h.sound T all w);
   done = λ e. cc;
-  fewer = record { at_most = let x : trues mid < trues old = h.fewer.less c in omega (arith, x, f); less = λ e. let x : trues mid < trues old = h.fewer.less c in omega (arith, x, f); still = λ e. cc };
+  fewer = record { at_most = let x : count_members mid < count_members old = h.fewer.less c in omega (arith, x, f); less = λ e. let x : count_members mid < count_members old = h.fewer.less c in omega (arith, x, f); still = λ e. cc };
 }
 
 -- no set that heeds the ties has lost a procedure
 pub record Rounds (count : ℕ) (ts : List Tie) (inside : List Bool) (more : Bool) : Type 0 where
-  pub sound : (T : Procedures) → ((f : ℕ) → T f ≡ true → f < count) → AllOf (Heeds T) ts → Within T inside
-  pub done : more ≡ false → AllOf (Heeds (is_member inside)) ts
+  pub sound : (T : Procedures) → ((f : ℕ) → T f ≡ true → f < count) → AllOf (RespectsTie T) ts → Within T inside
+  pub done : more ≡ false → AllOf (RespectsTie (is_member inside)) ts
 
 pub first_round : (count : ℕ) (ts : List Tie) (inside : List Bool) → ((T : Procedures) → ((f : ℕ) → T f ≡ true → f < count) → Within T inside) → Rounds count ts inside true
 first_round count ts inside h = record { sound = λ T below all. h T below; done = λ e. cc }
 
-pub next_round : (count : ℕ) (ts : List Tie) (old new : List Bool) (more changed : Bool) → Rounds count ts old more → Heeded old new ts changed → Rounds count ts new changed
+pub next_round : (count : ℕ) (ts : List Tie) (old new : List Bool) (more changed : Bool) → Rounds count ts old more → TiesEnforced old new ts changed → Rounds count ts new changed
 next_round count ts old new more changed r h = record { sound = λ T below all. h.sound T all (r.sound T below all); done = h.done }
 
-pub last_round : (count : ℕ) (ts : List Tie) (inside : List Bool) (more : Bool) → Rounds count ts inside more → more ≡ false → IsGreatest count ts (is_member inside)
+pub last_round : (count : ℕ) (ts : List Tie) (inside : List Bool) (more : Bool) → Rounds count ts inside more → more ≡ false → IsGreatestRespecting count ts (is_member inside)
 last_round count ts inside more r e = record { heeds = r.done e; greatest = λ T below all. r.sound T below all }
 
-pub rounds_end : (old new : List Bool) (ts : List Tie) (more changed : Bool) → more ≡ true → Heeded old new ts changed → trues new + cond changed 1 0 < trues old + cond more 1 0
-rounds_end old new ts more changed e h = subst (λ b. trues new + cond changed 1 0 < trues old + cond b 1 0) (sym e) (go changed refl)
+pub rounds_end : (old new : List Bool) (ts : List Tie) (more changed : Bool) → more ≡ true → TiesEnforced old new ts changed → count_members new + cond changed 1 0 < count_members old + cond more 1 0
+rounds_end old new ts more changed e h = subst (λ b. count_members new + cond changed 1 0 < count_members old + cond b 1 0) (sym e) (go changed refl)
   where
-    go : (c : Bool) → changed ≡ c → trues new + cond c 1 0 < trues old + 1
-    go true q = let x : trues new < trues old = h.fewer.less q in omega (arith, x)
-    go false q = let x : trues new ≤ trues old = h.fewer.at_most in omega (arith, x)
+    go : (c : Bool) → changed ≡ c → count_members new + cond c 1 0 < count_members old + 1
+    go true q = let x : count_members new < count_members old = h.fewer.less q in omega (arith, x)
+    go false q = let x : count_members new ≤ count_members old = h.fewer.at_most in omega (arith, x)
 
 -- ---- all are in
 

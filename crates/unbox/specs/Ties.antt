@@ -6,7 +6,7 @@ use Rattle.grin_syntax.specs.Tree.{Code, end, store, bind, Act, unit, call, case
 use Rattle.grin_syntax.specs.Formed.{AllOf}
 use Rattle.flow_system.specs.Solution.{Solution}
 use Rattle.unbox.specs.declared.ties.Tie.{Tie}
-use Rattle.unbox.specs.Ends.{Procedures, is_int, has_int}
+use Rattle.unboxing.specs.Ends.{Procedures, is_int, has_int}
 
 unfoldable mutual
   -- the procedures that the ends of a piece call
@@ -86,11 +86,11 @@ all_in S [] = true
 all_in S (f ∷ fs) = S f.0 && all_in S fs
 
 -- where one of the procedures is in the set, all are, and may be
-abbrev pub Heeds : Procedures → Tie → Type 0
-Heeds S t = any_in S t.procs ≡ true → (t.sound && all_in S t.procs) ≡ true
+abbrev pub RespectsTie : Procedures → Tie → Type 0
+RespectsTie S t = any_in S t.procs ≡ true → (t.sound && all_in S t.procs) ≡ true
 
 -- S heeds the ties, and includes each set of so many procedures that does
-pub record IsGreatest (count : ℕ) (ts : List Tie) (S : Procedures) : Type 0 where
-  pub heeds : AllOf (Heeds S) ts
-  pub greatest : (T : Procedures) → ((f : ℕ) → T f ≡ true → f < count) → AllOf (Heeds T) ts
+pub record IsGreatestRespecting (count : ℕ) (ts : List Tie) (S : Procedures) : Type 0 where
+  pub heeds : AllOf (RespectsTie S) ts
+  pub greatest : (T : Procedures) → ((f : ℕ) → T f ≡ true → f < count) → AllOf (RespectsTie T) ts
       → (f : ℕ) → T f ≡ true → S f ≡ true

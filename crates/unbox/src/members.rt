@@ -3,9 +3,9 @@
 
 ghost use Rattle.std.specs.Prelude.{◌≡◌, ◌≤◌, ◌∷◌, [], ◌<◌, ℕ, true, IfOk};
 ghost use Rattle.grin_syntax.specs.Formed.{AllOf};
-ghost use Rattle.unbox.specs.Ends.{Procedures, is_member};
-ghost use Rattle.unbox.specs.Ties.{all_in, Heeds, IsGreatest};
-ghost use Rattle.unbox.specs.Rounds.{trues, Within, Taken, Heeded};
+ghost use Rattle.unboxing.specs.Ends.{Procedures, is_member};
+ghost use Rattle.unbox.specs.Ties.{all_in, RespectsTie, IsGreatestRespecting};
+ghost use Rattle.unbox.specs.Rounds.{count_members, Within, ProceduresRemoved, TiesEnforced};
 
 use crate::blocks::Members;
 use crate::ties::Tie;
@@ -28,7 +28,7 @@ impl Members {
 
     // Takes out a procedure, and says whether it was in.
     fn take_out(&mut self, f: ProcId) -> bool
-        ensures { Taken self.old.inside self.new.inside (f ∷ []) result }
+        ensures { ProceduresRemoved self.old.inside self.new.inside (f ∷ []) result }
     {
         let inside = self.has(f);
         if inside {
@@ -39,7 +39,7 @@ impl Members {
 
     // Takes out all of these, and says whether one was in.
     fn take_all(&mut self, procs: &[ProcId]) -> bool
-        ensures { Taken self.old.inside self.new.inside procs.now result }
+        ensures { ProceduresRemoved self.old.inside self.new.inside procs.now result }
     {
         let mut changed = false;
         for f in procs {
@@ -50,7 +50,7 @@ impl Members {
 
     // Takes out the procedures of a tie where one of them is out, or none may be a member.
     fn heed(&mut self, tie: &Tie) -> bool
-        ensures { Heeded self.old.inside self.new.inside (tie.now ∷ []) result }
+        ensures { TiesEnforced self.old.inside self.new.inside (tie.now ∷ []) result }
     {
         let procs = tie.procs.as_slice();
         let kept = both(tie.sound, self.has_all(procs));
@@ -62,7 +62,7 @@ impl Members {
 
     // Heeds each tie, and says whether a procedure was taken out.
     fn sweep(&mut self, ties: &[Tie]) -> bool
-        ensures { Heeded self.old.inside self.new.inside ties.now result }
+        ensures { TiesEnforced self.old.inside self.new.inside ties.now result }
     {
         let mut changed = false;
         for tie in ties {
@@ -74,9 +74,9 @@ impl Members {
     // Heeds each tie, the last one first, so that chains of ends that call each other take few
     // rounds.
     fn back(&mut self, ties: &[Tie])
-        ensures sound { (T : Procedures) → AllOf (Heeds T) ties.now → Within T self.old.inside
+        ensures sound { (T : Procedures) → AllOf (RespectsTie T) ties.now → Within T self.old.inside
             → Within T self.new.inside }
-        ensures fewer { trues self.new.inside ≤ trues self.old.inside }
+        ensures fewer { count_members self.new.inside ≤ count_members self.old.inside }
     {
         let mut left = ties.len();
         'back: while left > 0 {
@@ -87,7 +87,7 @@ impl Members {
 
     // Heeds each tie, there and back.
     fn round(&mut self, ties: &[Tie]) -> bool
-        ensures { Heeded self.old.inside self.new.inside ties.now result }
+        ensures { TiesEnforced self.old.inside self.new.inside ties.now result }
     {
         let changed = self.sweep(ties);
         if changed {
@@ -112,7 +112,7 @@ fn all_inside(alloc: Global, count: usize) -> Result<Members, AllocError>
 /// The members among so many procedures with these ties: procedures are taken out until a round
 /// takes out none.
 pub(crate) fn members(alloc: Global, count: usize, ties: &[Tie]) -> Result<Members, AllocError>
-    ensures { IfOk result (λ m. IsGreatest count ties.now (is_member m.inside)) }
+    ensures { IfOk result (λ m. IsGreatestRespecting count ties.now (is_member m.inside)) }
 {
     let mut members = all_inside(alloc, count)?;
     let mut more = true;

@@ -5,11 +5,11 @@ ghost use Rattle.std.specs.Prelude.{◌≡◌, IfOk};
 ghost use Rattle.grin_syntax.specs.Tree.{program_of};
 ghost use Rattle.grin_meaning.specs.Ready.{IsFetchedByWords};
 ghost use Rattle.points_to.specs.Found.{found};
-ghost use Rattle.pass_ground.specs.Vectors.{OfVectors};
-ghost use Rattle.unbox.specs.Ends.{is_member};
-ghost use Rattle.unbox.specs.Members.{IsMembers};
-ghost use Rattle.unbox.specs.Unboxing.{unboxed};
-ghost use Rattle.unbox.specs.Unboxed.{Unboxed, ByLeast};
+ghost use Rattle.pass_ground.specs.Vectors.{IsVectorForm};
+ghost use Rattle.unboxing.specs.Ends.{is_member};
+ghost use Rattle.unboxing.specs.Members.{IsGreatestClosedSet};
+ghost use Rattle.unboxing.specs.Unboxing.{unboxed};
+ghost use Rattle.unboxing.specs.Unboxed.{Unboxed, MadeByLeastSolution};
 
 use crate::blocks::Members;
 use crate::members::members;
@@ -27,19 +27,19 @@ use std::alloc::{AllocError, Global};
 pub struct Unbox;
 
 impl Pass for Unbox {
-    ghost takes = { λ g. OfVectors (program_of g) × IsFetchedByWords (program_of g) };
+    ghost takes = { λ g. IsVectorForm (program_of g) × IsFetchedByWords (program_of g) };
 
     ghost gives = { λ g h. Unboxed (program_of g) (program_of h) };
 
     fn apply(&self, alloc: Global, g: Grin) -> Result<Grin, AllocError> {
-        let h = with_bare_numbers(alloc, g)?;
+        let h = with_unboxed_numbers(alloc, g)?;
         Ok(h)
     }
 }
 
 /// What the pass makes of any program, whatever its runs do.
-pub fn with_bare_numbers(alloc: Global, g: Grin) -> Result<Grin, AllocError>
-    ensures { IfOk result (λ h. ByLeast (program_of g) (program_of h)) }
+pub fn with_unboxed_numbers(alloc: Global, g: Grin) -> Result<Grin, AllocError>
+    ensures { IfOk result (λ h. MadeByLeastSolution (program_of g) (program_of h)) }
 {
     let flow = least(alloc, &g)?;
     let members = found_members(alloc, &flow, &g)?;
@@ -50,7 +50,7 @@ pub fn with_bare_numbers(alloc: Global, g: Grin) -> Result<Grin, AllocError>
 // The members of a program.
 fn found_members(alloc: Global, flow: &Flow, g: &Grin) -> Result<Members, AllocError>
     ensures { IfOk result (λ m.
-        IsMembers (found flow.now) (program_of g.now) (is_member m.inside)) }
+        IsGreatestClosedSet (found flow.now) (program_of g.now) (is_member m.inside)) }
 {
     let procs = g.procs.as_slice();
     let ties = ties(alloc, flow, procs)?;

@@ -8,7 +8,7 @@ use Rattle.seq.proofs.Order.{same_or_not}
 use Rattle.unification.specs.declared.classes.Classes.{Classes}
 use Rattle.unification.specs.declared.term.Symbol.{Symbol}
 use Rattle.unification.specs.declared.term.Term.{Term}
-use Rattle.unification.specs.Classes.{members_of, IsPartition, AreSingle, preferred, moved, AreJoined}
+use Rattle.unification.specs.Classes.{members_of, IsPartition, AreSingletons, preferred, moved, ClassesAreMerged}
 use Rattle.unification.specs.Shown.{class_of, kept_of}
 use Rattle.unification.specs.Terms.{symbol_of}
 use Rattle.unification.proofs.Basics.{if_same, if_not, set_other, read_at, get_in}
@@ -69,7 +69,7 @@ module _ (xs class class' first : List ℕ) (k to : ℕ) (lk : k < length xs) (w
   others_stay old i q =
       ap (λ l. get_or l i 0) e ∙ get_or-set_other class (get_or xs k 0) i to 0 (λ z. q (subst (λ x. In x xs) (sym z) item_in)) ∙ old i q
 
-pub single_partition : (n : ℕ) (c : Classes) → AreSingle n c → IsPartition n c
+pub single_partition : (n : ℕ) (c : Classes) → AreSingletons n c → IsPartition n c
 single_partition n c s = record {
   classes = s.classes;
   keeps = s.keeps;
@@ -188,7 +188,7 @@ module _ (terms : List Term) (c c' : Classes) (a b : ℕ) (ms : List ℕ) (p : I
         subst (λ k. (k < length terms) × (class_of c' k ≡ r)) (sym (kept_other r q)) (k.0, of_class (kept_of c r) r k.0 k.1 (λ y. z (own ∙ y))))
         (same_or_not r b)
 
-    pub are_joined : AreJoined terms c c' a b
+    pub are_joined : ClassesAreMerged terms c c' a b
     are_joined = record {
       partition = record {
         classes = lc ∙ p.classes;

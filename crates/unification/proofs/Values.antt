@@ -3,19 +3,19 @@ use Rattle.std.proofs.Common.{◌≡◌, ◌<◌, ℕ, zero, suc, List, [], ◌�
 use Rattle.seq.specs.Lists.{In, here, there}
 use Rattle.unification.specs.declared.term.Symbol.{Symbol}
 use Rattle.unification.specs.declared.term.Term.{Term}
-use Rattle.unification.specs.Classes.{Respects, AreEqual}
+use Rattle.unification.specs.Classes.{RespectsStructure, PairsAreEqual}
 use Rattle.unification.specs.Solutions.{Substitution, Solves}
 use Rattle.unification.specs.Terms.{symbol_of, arguments_of, AreEarlier, tree_below, tree, equations}
-use Rattle.unification.specs.Trees.{Tree, Trees, Open, Made, AndTree, under, under_all, trees}
+use Rattle.unification.specs.Trees.{Tree, Trees, Open, Made, AndTree, substituted, all_substituted, trees}
 
 pub trees_same : (f g : ℕ → Tree) (xs : List ℕ) → ((x : ℕ) → In x xs → f x ≡ g x) → trees f xs ≡ trees g xs
 trees_same f g [] h = refl
 trees_same f g (x ∷ xs) h =
     ap (λ t. AndTree t (trees f xs)) (h x here) ∙ ap (AndTree (g x)) (trees_same f g xs (λ y i. h y (there i)))
 
-pub under_trees : (σ : Substitution) (f : ℕ → Tree) (xs : List ℕ) → under_all σ (trees f xs) ≡ trees (λ x. under σ (f x)) xs
+pub under_trees : (σ : Substitution) (f : ℕ → Tree) (xs : List ℕ) → all_substituted σ (trees f xs) ≡ trees (λ x. substituted σ (f x)) xs
 under_trees σ f [] = refl
-under_trees σ f (x ∷ xs) = ap (AndTree (under σ (f x))) (under_trees σ f xs)
+under_trees σ f (x ∷ xs) = ap (AndTree (substituted σ (f x))) (under_trees σ f xs)
 
 module _ (terms : List Term) where
   -- a term by what it is
@@ -50,32 +50,32 @@ module _ (terms : List Term) where
       (λ x j. let lt : x < i = earlier i x j in same_below earlier i (suc x) x lt (omega arith)))
 
   -- what terms are under a substitution
-  pub value_respects : AreEarlier terms → (τ : Substitution) → Respects terms (λ i. under τ (tree terms i))
-  value_respects earlier τ i s e = ap (under τ) (made_tree earlier i s e)
+  pub value_respects : AreEarlier terms → (τ : Substitution) → RespectsStructure terms (λ i. substituted τ (tree terms i))
+  value_respects earlier τ i s e = ap (substituted τ) (made_tree earlier i s e)
       ∙ ap (Made s) (under_trees τ (tree terms) (arguments_of terms i))
 
-  pub value_open : (τ : Substitution) (i : ℕ) → symbol_of terms i ≡ None → under τ (tree terms i) ≡ τ i
-  value_open τ i e = ap (under τ) (open_below (suc i) i e)
+  pub value_open : (τ : Substitution) (i : ℕ) → symbol_of terms i ≡ None → substituted τ (tree terms i) ≡ τ i
+  value_open τ i e = ap (substituted τ) (open_below (suc i) i e)
 
   -- Trees that respect terms are what a substitution that puts them for variables makes of the terms.
-  pub value_below : AreEarlier terms → (v : ℕ → Tree) (σ : Substitution) → Respects terms v → (b : ℕ) → ((i : ℕ) → i < b → symbol_of terms i ≡ None → σ i ≡ v i)
-      → (n i : ℕ) → i < n → i < b → under σ (tree_below terms n i) ≡ v i
+  pub value_below : AreEarlier terms → (v : ℕ → Tree) (σ : Substitution) → RespectsStructure terms v → (b : ℕ) → ((i : ℕ) → i < b → symbol_of terms i ≡ None → σ i ≡ v i)
+      → (n i : ℕ) → i < n → i < b → substituted σ (tree_below terms n i) ≡ v i
   value_below earlier v σ r b h zero i k l = absurd (omega arith)
-  value_below earlier v σ r b h (suc n) i k l = either (under σ (tree_below terms (suc n) i) ≡ v i) i
-      (λ s e. ap (under σ) (made_below n i s e)
+  value_below earlier v σ r b h (suc n) i k l = either (substituted σ (tree_below terms (suc n) i) ≡ v i) i
+      (λ s e. ap (substituted σ) (made_below n i s e)
       ∙ ap (Made s) (under_trees σ (tree_below terms n) (arguments_of terms i)
-      ∙ trees_same (λ x. under σ (tree_below terms n x)) v (arguments_of terms i)
+      ∙ trees_same (λ x. substituted σ (tree_below terms n x)) v (arguments_of terms i)
       (λ x j. let lt : x < i = earlier i x j in value_below earlier v σ r b h n x (omega arith) (omega arith)))
       ∙ sym (r i s e))
-      (λ e. ap (under σ) (open_below (suc n) i e) ∙ h i l e)
+      (λ e. ap (substituted σ) (open_below (suc n) i e) ∙ h i l e)
 
   -- solutions are trees that are equal
-  pub solves_equal : (τ : Substitution) (pairs : List (ℕ × ℕ)) → Solves τ (equations terms pairs) → AreEqual (λ i. under τ (tree terms i)) pairs
+  pub solves_equal : (τ : Substitution) (pairs : List (ℕ × ℕ)) → Solves τ (equations terms pairs) → PairsAreEqual (λ i. substituted τ (tree terms i)) pairs
   solves_equal τ [] s = tt
   solves_equal τ (p ∷ ps) s = (s.0, solves_equal τ ps s.1)
 
-  pub equal_solves : (σ : Substitution) (v : ℕ → Tree) (pairs : List (ℕ × ℕ)) → ((p : ℕ × ℕ) → In p pairs → (under σ (tree terms p.0) ≡ v p.0) × (under σ (tree terms p.1) ≡ v p.1))
-      → AreEqual v pairs → Solves σ (equations terms pairs)
+  pub equal_solves : (σ : Substitution) (v : ℕ → Tree) (pairs : List (ℕ × ℕ)) → ((p : ℕ × ℕ) → In p pairs → (substituted σ (tree terms p.0) ≡ v p.0) × (substituted σ (tree terms p.1) ≡ v p.1))
+      → PairsAreEqual v pairs → Solves σ (equations terms pairs)
   equal_solves σ v [] h e = tt
   equal_solves σ v (p ∷ ps) h e =
       let q = h p here in

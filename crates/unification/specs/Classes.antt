@@ -5,7 +5,7 @@ use Rattle.unification.specs.declared.classes.Classes.{Classes}
 use Rattle.unification.specs.declared.term.Symbol.{Symbol}
 use Rattle.unification.specs.declared.term.Term.{Term}
 use Rattle.unification.specs.Shown.{class_of, kept_of}
-use Rattle.unification.specs.Terms.{symbol_of, arguments_of, AreBelow}
+use Rattle.unification.specs.Terms.{symbol_of, arguments_of, PairsAreBelow}
 use Rattle.unification.specs.Trees.{Tree, Made, trees}
 use Rattle.seq.specs.Lists.{In, or_empty}
 
@@ -26,7 +26,7 @@ pub record IsPartition (n : ℕ) (c : Classes) : Type 0 where
       → (kept_of c r < n) × (class_of c (kept_of c r) ≡ r)
 
 -- each of so many terms in a class of its own
-pub record AreSingle (n : ℕ) (c : Classes) : Type 0 where
+pub record AreSingletons (n : ℕ) (c : Classes) : Type 0 where
   pub classes : length c.class.items ≡ n
   pub keeps : length c.kept.items ≡ n
   pub groups : length c.members.items ≡ n
@@ -43,44 +43,46 @@ abbrev pub moved : ℕ → ℕ → ℕ → ℕ
 moved a b r = if r == a then b else r
 
 -- Class a goes into class b, and all else stays.
-pub record AreJoined (terms : List Term) (c c' : Classes) (a b : ℕ) : Type 0 where
+pub record ClassesAreMerged (terms : List Term) (c c' : Classes) (a b : ℕ) : Type 0 where
   pub partition : IsPartition (length terms) c'
   pub classes : (i : ℕ) → i < length terms → class_of c' i ≡ moved a b (class_of c i)
   pub kept : kept_of c' b ≡ preferred terms (kept_of c b) (kept_of c a)
   pub others : (r : ℕ) → (r ≡ b → ⊥) → kept_of c' r ≡ kept_of c r
 
 -- what terms are, so that they are made of their arguments
-abbrev pub Respects : List Term → (ℕ → Tree) → Type 0
-Respects terms v =
+abbrev pub RespectsStructure : List Term → (ℕ → Tree) → Type 0
+RespectsStructure terms v =
     (i : ℕ) (s : Symbol) → symbol_of terms i ≡ Some s
     → v i ≡ Made s (trees v (arguments_of terms i))
 
 -- the terms of each pair are equal
-abbrev pub AreEqual : (ℕ → Tree) → List (ℕ × ℕ) → Type 0
-AreEqual v [] = Unit {0}
-AreEqual v (p ∷ ps) = (v p.0 ≡ v p.1) × AreEqual v ps
+abbrev pub PairsAreEqual : (ℕ → Tree) → List (ℕ × ℕ) → Type 0
+PairsAreEqual v [] = Unit {0}
+PairsAreEqual v (p ∷ ps) = (v p.0 ≡ v p.1) × PairsAreEqual v ps
 
 -- the terms of each class are equal
-abbrev pub IsJoined : ℕ → Classes → (ℕ → Tree) → Type 0
-IsJoined n c v = (i : ℕ) → i < n → v (class_of c i) ≡ v i
+abbrev pub ClassTermsAreEqual : ℕ → Classes → (ℕ → Tree) → Type 0
+ClassTermsAreEqual n c v = (i : ℕ) → i < n → v (class_of c i) ≡ v i
 
 -- the terms of each class are equal, and those of each pair
-pub record Fits (n : ℕ) (c : Classes) (todo : List (ℕ × ℕ)) (v : ℕ → Tree) : Type 0 where
-  pub joined : IsJoined n c v
-  pub equal : AreEqual v todo
+pub record SolvesClassesAndPairs (n : ℕ) (c : Classes) (todo : List (ℕ × ℕ)) (v : ℕ → Tree)
+    : Type 0 where
+  pub joined : ClassTermsAreEqual n c v
+  pub equal : PairsAreEqual v todo
 
 -- A term is as the kept term of its class, once all pairs are joined.
-pub record IsAs (terms : List Term) (c : Classes) (todo : List (ℕ × ℕ)) (s : Symbol) (i k : ℕ) : Type 0 where
+pub record EqualsKeptTerm (terms : List Term) (c : Classes) (todo : List (ℕ × ℕ))
+    (s : Symbol) (i k : ℕ) : Type 0 where
   pub symbol : symbol_of terms k ≡ Some s
-  pub same : (v : ℕ → Tree) → Fits (length terms) c todo v
+  pub same : (v : ℕ → Tree) → SolvesClassesAndPairs (length terms) c todo v
       → trees v (arguments_of terms i) ≡ trees v (arguments_of terms k)
 
 -- classes and pairs while terms are joined
-pub record IsUnderWay (terms : List Term) (c : Classes) (todo : List (ℕ × ℕ)) : Type 0 where
+pub record IsMergingState (terms : List Term) (c : Classes) (todo : List (ℕ × ℕ)) : Type 0 where
   pub partition : IsPartition (length terms) c
-  pub below : AreBelow (length terms) todo
+  pub below : PairsAreBelow (length terms) todo
   pub linked : (i : ℕ) (s : Symbol) → i < length terms → symbol_of terms i ≡ Some s
-      → IsAs terms c todo s i (kept_of c (class_of c i))
+      → EqualsKeptTerm terms c todo s i (kept_of c (class_of c i))
 
 -- items of two lists in pairs
 abbrev pub paired : List ℕ → List ℕ → List (ℕ × ℕ)
@@ -89,20 +91,21 @@ paired (x ∷ xs) [] = []
 paired (x ∷ xs) (y ∷ ys) = (x, y) ∷ paired xs ys
 
 -- The arguments of two terms are put in pairs, so that the terms are equal where the pairs are.
-pub record Pairs (terms : List Term) (old new : List (ℕ × ℕ)) (x y : ℕ) : Type 0 where
-  pub below : AreBelow (length terms) old → AreBelow (length terms) new
-  pub before : (v : ℕ → Tree) → AreEqual v new → AreEqual v old
-  pub after : (v : ℕ → Tree) → Respects terms v → v x ≡ v y → AreEqual v old → AreEqual v new
+pub record ArgumentsArePaired (terms : List Term) (old new : List (ℕ × ℕ)) (x y : ℕ) : Type 0 where
+  pub below : PairsAreBelow (length terms) old → PairsAreBelow (length terms) new
+  pub before : (v : ℕ → Tree) → PairsAreEqual v new → PairsAreEqual v old
+  pub after : (v : ℕ → Tree) → RespectsStructure terms v → v x ≡ v y
+      → PairsAreEqual v old → PairsAreEqual v new
   pub same : (s t : Symbol) → symbol_of terms x ≡ Some s → symbol_of terms y ≡ Some t
-      → (s ≡ t) × ((v : ℕ → Tree) → AreEqual v new
+      → (s ≡ t) × ((v : ℕ → Tree) → PairsAreEqual v new
       → trees v (arguments_of terms x) ≡ trees v (arguments_of terms y))
   pub few : (s : Symbol) → symbol_of terms y ≡ Some s
       → length new ≤ length old + length (arguments_of terms x)
   pub none : symbol_of terms y ≡ None → new ≡ old
 
 -- no trees for these terms are equal
-abbrev pub Differ : List Term → ℕ → ℕ → Type 0
-Differ terms x y = (v : ℕ → Tree) → Respects terms v → v x ≡ v y → ⊥
+abbrev pub CannotBeEqual : List Term → ℕ → ℕ → Type 0
+CannotBeEqual terms x y = (v : ℕ → Tree) → RespectsStructure terms v → v x ≡ v y → ⊥
 
 -- a sum over the numbers below one
 abbrev pub total : (ℕ → ℕ) → ℕ → ℕ
@@ -119,13 +122,16 @@ abbrev pub work : List Term → Classes → List (ℕ × ℕ) → ℕ
 work terms c todo = total (arguments_kept terms c) (length terms) + length todo
 
 -- The pairs are joined in part: the same trees fit, and less is to be done.
-pub record Advances (terms : List Term) (c : Classes) (todo : List (ℕ × ℕ)) (c' : Classes) (todo' : List (ℕ × ℕ)) : Type 0 where
-  pub under_way : IsUnderWay terms c' todo'
-  pub before : (v : ℕ → Tree) → Fits (length terms) c' todo' v → Fits (length terms) c todo v
-  pub after : (v : ℕ → Tree) → Respects terms v → Fits (length terms) c todo v
-      → Fits (length terms) c' todo' v
+pub record MergingProgresses (terms : List Term) (c : Classes) (todo : List (ℕ × ℕ))
+    (c' : Classes) (todo' : List (ℕ × ℕ)) : Type 0 where
+  pub under_way : IsMergingState terms c' todo'
+  pub before : (v : ℕ → Tree) → SolvesClassesAndPairs (length terms) c' todo' v
+      → SolvesClassesAndPairs (length terms) c todo v
+  pub after : (v : ℕ → Tree) → RespectsStructure terms v
+      → SolvesClassesAndPairs (length terms) c todo v
+      → SolvesClassesAndPairs (length terms) c' todo' v
 
 -- no trees fit
-abbrev pub NoneFits : List Term → Classes → List (ℕ × ℕ) → Type 0
-NoneFits terms c todo =
-    (v : ℕ → Tree) → Respects terms v → Fits (length terms) c todo v → ⊥
+abbrev pub IsUnsatisfiable : List Term → Classes → List (ℕ × ℕ) → Type 0
+IsUnsatisfiable terms c todo =
+    (v : ℕ → Tree) → RespectsStructure terms v → SolvesClassesAndPairs (length terms) c todo v → ⊥

@@ -1,6 +1,6 @@
 -- Solutions of equations between trees.
 use Rattle.std.specs.Prelude.{◌≡◌, ℕ, suc, List, [], ◌∷◌, take}
-use Rattle.unification.specs.Trees.{Tree, under}
+use Rattle.unification.specs.Trees.{Tree, substituted}
 
 -- what variables stand for
 abbrev pub Substitution : Type 0
@@ -8,13 +8,13 @@ Substitution = ℕ → Tree
 
 abbrev pub Solves : Substitution → List (Tree × Tree) → Type 0
 Solves σ [] = Unit {0}
-Solves σ (e ∷ es) = (under σ e.0 ≡ under σ e.1) × Solves σ es
+Solves σ (e ∷ es) = (substituted σ e.0 ≡ substituted σ e.1) × Solves σ es
 
 -- Each other solution is had from this one.
 pub record IsMostGeneral (σ : Substitution) (es : List (Tree × Tree)) : Type 0 where
   pub solves : Solves σ es
   pub general : (τ : Substitution) → Solves τ es
-      → (ρ : Substitution) × ((n : ℕ) → τ n ≡ under ρ (σ n))
+      → (ρ : Substitution) × ((n : ℕ) → τ n ≡ substituted ρ (σ n))
 
 -- no substitution solves them
 abbrev pub AreUnsolvable : List (Tree × Tree) → Type 0

@@ -47,5 +47,5 @@ abbrev pub equations : List Term → List (ℕ × ℕ) → List (Tree × Tree)
 equations terms pairs = map (equation terms) pairs
 
 -- the places of these pairs are below a number
-abbrev pub AreBelow : ℕ → List (ℕ × ℕ) → Type 0
-AreBelow n pairs = (p : ℕ × ℕ) → In p pairs → (p.0 < n) × (p.1 < n)
+abbrev pub PairsAreBelow : ℕ → List (ℕ × ℕ) → Type 0
+PairsAreBelow n pairs = (p : ℕ × ℕ) → In p pairs → (p.0 < n) × (p.1 < n)

@@ -14,13 +14,13 @@ mutual
 
 abbrev mutual
   -- what is had by putting trees for variables
-  pub under : (ℕ → Tree) → Tree → Tree
-  under σ (Open n) = σ n
-  under σ (Made s ts) = Made s (under_all σ ts)
+  pub substituted : (ℕ → Tree) → Tree → Tree
+  substituted σ (Open n) = σ n
+  substituted σ (Made s ts) = Made s (all_substituted σ ts)
 
-  pub under_all : (ℕ → Tree) → Trees → Trees
-  under_all σ NoTrees = NoTrees
-  under_all σ (AndTree t ts) = AndTree (under σ t) (under_all σ ts)
+  pub all_substituted : (ℕ → Tree) → Trees → Trees
+  all_substituted σ NoTrees = NoTrees
+  all_substituted σ (AndTree t ts) = AndTree (substituted σ t) (all_substituted σ ts)
 
 -- the trees at these places
 abbrev pub trees : (ℕ → Tree) → List ℕ → Trees

@@ -2,7 +2,7 @@
 
 ghost use Rattle.std.specs.Prelude.{◌≡◌, ◌<◌, ℕ, length, [], ◌++◌, slice_get, slice_set, slice_index, IfOk, OnOk};
 ghost use Rattle.seq.specs.Lists.{In, or_empty};
-ghost use Rattle.unification.specs.Classes.{AreSingle, AreJoined, IsPartition, preferred};
+ghost use Rattle.unification.specs.Classes.{AreSingletons, ClassesAreMerged, IsPartition, preferred};
 ghost use Rattle.unification.specs.Shown.{class_of, kept_of};
 
 use crate::term::{Term, symbol_at};
@@ -23,7 +23,7 @@ pub struct Classes {
 impl Classes {
     /// So many terms, each in a class of its own.
     pub fn new(alloc: Global, count: usize) -> Result<Classes, AllocError>
-        ensures { IfOk result (AreSingle count) }
+        ensures { IfOk result (AreSingletons count) }
     {
         let mut class = Vec::new(alloc);
         let mut members = Vec::new(alloc);
@@ -91,7 +91,7 @@ impl Classes {
         requires within { (a < length terms.now) × (b < length terms.now) }
         requires roots { (class_of self.old a ≡ a) × (class_of self.old b ≡ b) }
         requires distinct { a ≡ b → ⊥ }
-        ensures { OnOk result (AreJoined terms.now self.old self.new a b) }
+        ensures { OnOk result (ClassesAreMerged terms.now self.old self.new a b) }
     {
         self.keep(terms, a, b);
         let mut moved = taken(alloc, &mut self.members, a);

@@ -1,7 +1,7 @@
 //! Pairs of terms are joined, with the arguments of what they are, until none is left.
 
 ghost use Rattle.std.specs.Prelude.{◌≡◌, ◌<◌, ◌≤◌, ℕ, length, true, false, [], ◌∷◌, ◌++◌, OnOk, IfOk};
-ghost use Rattle.unification.specs.Classes.{IsUnderWay, IsPartition, Pairs, Differ, Advances, NoneFits, work, paired};
+ghost use Rattle.unification.specs.Classes.{IsMergingState, IsPartition, ArgumentsArePaired, CannotBeEqual, MergingProgresses, IsUnsatisfiable, work, paired};
 ghost use Rattle.unification.specs.Shown.{class_of, kept_of};
 ghost use Rattle.unification.specs.Terms.{AreEarlier};
 
@@ -31,8 +31,8 @@ fn pair_arguments(
     requires earlier { AreEarlier terms.now }
     requires within { (x < length terms.now) × (y < length terms.now) }
     ensures pairs { IfOk result (λ together. together ≡ true
-        → Pairs terms.now todo.old.items todo.new.items x y) }
-    ensures differ { IfOk result (λ together. together ≡ false → Differ terms.now x y) }
+        → ArgumentsArePaired terms.now todo.old.items todo.new.items x y) }
+    ensures differ { IfOk result (λ together. together ≡ false → CannotBeEqual terms.now x y) }
 {
     match symbol_at(terms, x) {
         None => Ok(true),
@@ -64,17 +64,17 @@ fn join_classes(
     todo: &mut Vec<(usize, usize)>,
 ) -> Result<bool, AllocError>
     requires earlier { AreEarlier terms.now }
-    requires under_way { IsUnderWay terms.now classes.old (todo.old.items ++ (a, b) ∷ []) }
+    requires under_way { IsMergingState terms.now classes.old (todo.old.items ++ (a, b) ∷ []) }
     requires roots { (class_of classes.old a ≡ a) × (class_of classes.old b ≡ b) }
     requires distinct { a ≡ b → ⊥ }
     ensures advances { IfOk result (λ together. together ≡ true
-        → Advances terms.now classes.old (todo.old.items ++ (a, b) ∷ []) classes.new
+        → MergingProgresses terms.now classes.old (todo.old.items ++ (a, b) ∷ []) classes.new
         todo.new.items) }
     ensures work { IfOk result (λ together. together ≡ true
         → work terms.now classes.new todo.new.items
         ≤ work terms.now classes.old todo.old.items) }
     ensures none { IfOk result (λ together. together ≡ false
-        → NoneFits terms.now classes.old (todo.old.items ++ (a, b) ∷ [])) }
+        → IsUnsatisfiable terms.now classes.old (todo.old.items ++ (a, b) ∷ [])) }
 {
     let x = classes.kept_of(a);
     let y = classes.kept_of(b);
@@ -94,15 +94,15 @@ fn join_pair(
     todo: &mut Vec<(usize, usize)>,
 ) -> Result<bool, AllocError>
     requires earlier { AreEarlier terms.now }
-    requires under_way { IsUnderWay terms.now classes.old (todo.old.items ++ pair ∷ []) }
+    requires under_way { IsMergingState terms.now classes.old (todo.old.items ++ pair ∷ []) }
     ensures advances { IfOk result (λ together. together ≡ true
-        → Advances terms.now classes.old (todo.old.items ++ pair ∷ []) classes.new
+        → MergingProgresses terms.now classes.old (todo.old.items ++ pair ∷ []) classes.new
         todo.new.items) }
     ensures work { IfOk result (λ together. together ≡ true
         → work terms.now classes.new todo.new.items
         ≤ work terms.now classes.old todo.old.items) }
     ensures none { IfOk result (λ together. together ≡ false
-        → NoneFits terms.now classes.old (todo.old.items ++ pair ∷ [])) }
+        → IsUnsatisfiable terms.now classes.old (todo.old.items ++ pair ∷ [])) }
 {
     let a = classes.class_of(pair.0);
     let b = classes.class_of(pair.1);
@@ -117,18 +117,18 @@ fn join_pair(
 
 /// Joins the terms of pairs. Says whether there are trees for which no symbols or numbers of
 /// arguments differ.
-pub fn join_all(
+pub fn unify_pairs(
     alloc: Global,
     terms: &[Term],
     classes: &mut Classes,
     pairs: Vec<(usize, usize)>,
 ) -> Result<bool, AllocError>
     requires earlier { AreEarlier terms.now }
-    requires under_way { IsUnderWay terms.now classes.old pairs.items }
+    requires under_way { IsMergingState terms.now classes.old pairs.items }
     ensures advances { IfOk result (λ together. together ≡ true
-        → Advances terms.now classes.old pairs.items classes.new []) }
+        → MergingProgresses terms.now classes.old pairs.items classes.new []) }
     ensures none { IfOk result (λ together. together ≡ false
-        → NoneFits terms.now classes.old pairs.items) }
+        → IsUnsatisfiable terms.now classes.old pairs.items) }
 {
     let mut todo = pairs;
     'joining: while let Some(pair) = todo.pop() {

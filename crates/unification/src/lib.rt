@@ -10,6 +10,6 @@ pub mod term;
 mod walk;
 
 pub use classes::Classes;
-pub use pieces::{Piece, pieces_of};
+pub use pieces::{Piece, tree_pieces};
 pub use solution::{first_unsolved, solve};
 pub use term::{Symbol, Term};

@@ -1,8 +1,8 @@
 //! Terms as a solution leaves them, each in a row.
 
 ghost use Rattle.std.specs.Prelude.{◌≡◌, ◌<◌, ℕ, length, IfOk, MatchOption};
-ghost use Rattle.unification.specs.Pieces.{pieces, first_piece};
-ghost use Rattle.unification.specs.Shown.{AreClasses, Shows, kept_of};
+ghost use Rattle.unification.specs.Pieces.{pieces, head_piece};
+ghost use Rattle.unification.specs.Shown.{AreClasses, ShowsTrees, kept_of};
 ghost use Rattle.unification.specs.Terms.{AreEarlier};
 ghost use Rattle.unification.specs.Trees.{Tree};
 
@@ -22,7 +22,7 @@ pub enum Piece {
 /// What the tree of a class begins with, by the term that the class keeps.
 fn first_of(terms: &[Term], classes: &Classes, class: usize, kept: usize) -> Piece
     requires { kept ≡ kept_of classes.now class }
-    ensures { result ≡ first_piece terms.now classes.now class }
+    ensures { result ≡ head_piece terms.now classes.now class }
 {
     match symbol_at(terms, kept) {
         Some(symbol) => Piece::Made(symbol, arguments_at(terms, kept).len()),
@@ -33,7 +33,7 @@ fn first_of(terms: &[Term], classes: &Classes, class: usize, kept: usize) -> Pie
 /// The tree that the class of a term stands for, in a row: each symbol before its arguments, of
 /// which the last one comes first. `None` where the tree has more pieces than there is room for. It
 /// can have 2^n of them, since what is shared is written more than once.
-pub fn pieces_of(
+pub fn tree_pieces(
     alloc: Global,
     terms: &[Term],
     classes: &Classes,
@@ -43,7 +43,7 @@ pub fn pieces_of(
     requires earlier { AreEarlier terms.now }
     requires classes { AreClasses (length terms.now) classes.now }
     requires within { at < length terms.now }
-    ensures { IfOk result (λ written. (v : ℕ → Tree) → Shows terms.now classes.now v
+    ensures { IfOk result (λ written. (v : ℕ → Tree) → ShowsTrees terms.now classes.now v
         → MatchOption written (room < length (pieces (v at))) (λ row. row.items ≡ pieces (v at))) }
 {
     let mut row = Vec::new(alloc);

@@ -3,12 +3,12 @@
 ghost use Rattle.std.specs.Prelude.{◌≡◌, ℕ, length, true, false, IfOk, MatchOption};
 ghost use Rattle.unification.specs.Shown.{IsSolved};
 ghost use Rattle.unification.specs.Solutions.{AreUnsolvable, IsFirstUnsolved, Solves, Substitution};
-ghost use Rattle.unification.specs.Terms.{AreEarlier, AreBelow, equations};
+ghost use Rattle.unification.specs.Terms.{AreEarlier, PairsAreBelow, equations};
 
 use crate::classes::Classes;
-use crate::joining::join_all;
+use crate::joining::unify_pairs;
 use crate::term::Term;
-use crate::walk::are_founded;
+use crate::walk::is_acyclic;
 use std::alloc::{AllocError, Global};
 
 /// The classes of the most general solution of the equations between the terms of pairs, or `None`
@@ -20,16 +20,16 @@ pub fn solve(
     pairs: &[(usize, usize)],
 ) -> Result<Option<Classes>, AllocError>
     requires earlier { AreEarlier terms.now }
-    requires below { AreBelow (length terms.now) pairs.now }
+    requires below { PairsAreBelow (length terms.now) pairs.now }
     ensures { IfOk result (λ solved. MatchOption solved
         (AreUnsolvable (equations terms.now pairs.now)) (IsSolved terms.now pairs.now)) }
 {
     let mut classes = Classes::new(alloc, terms.len())?;
     let todo = Vec::from_slice(alloc, pairs)?;
-    if !join_all(alloc, terms, &mut classes, todo)? {
+    if !unify_pairs(alloc, terms, &mut classes, todo)? {
         return Ok(None);
     }
-    if !are_founded(alloc, terms, &classes)? {
+    if !is_acyclic(alloc, terms, &classes)? {
         return Ok(None);
     }
     Ok(Some(classes))
@@ -38,7 +38,7 @@ pub fn solve(
 /// Whether the equations between the terms of pairs have a solution.
 fn is_solvable(alloc: Global, terms: &[Term], pairs: &[(usize, usize)]) -> Result<bool, AllocError>
     requires earlier { AreEarlier terms.now }
-    requires below { AreBelow (length terms.now) pairs.now }
+    requires below { PairsAreBelow (length terms.now) pairs.now }
     ensures solvable { IfOk result (λ solvable. solvable ≡ true
         → (σ : Substitution) × Solves σ (equations terms.now pairs.now)) }
     ensures unsolvable { IfOk result (λ solvable. solvable ≡ false
@@ -58,7 +58,7 @@ pub fn first_unsolved(
     pairs: &[(usize, usize)],
 ) -> Result<Option<usize>, AllocError>
     requires earlier { AreEarlier terms.now }
-    requires below { AreBelow (length terms.now) pairs.now }
+    requires below { PairsAreBelow (length terms.now) pairs.now }
     ensures { IfOk result (λ first. MatchOption first
         ((σ : Substitution) × Solves σ (equations terms.now pairs.now))
         (IsFirstUnsolved (equations terms.now pairs.now))) }

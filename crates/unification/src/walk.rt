@@ -2,10 +2,10 @@
 
 ghost use Rattle.std.specs.Prelude.{◌≡◌, ◌<◌, ◌+◌, ◌^◌, ℕ, List, length, true, false, [], ◌∷◌, ◌++◌, slice_set, MatchOption, OnOk, IfOk};
 ghost use Rattle.unification.specs.Classes.{IsPartition};
-ghost use Rattle.unification.specs.Shown.{class_of, Stands};
+ghost use Rattle.unification.specs.Shown.{class_of, ClassStandsForTree};
 ghost use Rattle.unification.specs.Terms.{AreEarlier};
 ghost use Rattle.unification.specs.Trees.{Tree};
-ghost use Rattle.unification.specs.Walks.{IsWalk, IsAt, IsNext, IsFresh, Steps, Begins, Visits, NoneJoins};
+ghost use Rattle.unification.specs.Walks.{IsDepthFirstWalk, IsAtArgument, IsNextArgument, NothingVisited, WalkSteps, EntersClass, VisitsClassWholly, HasNoFiniteSolution};
 
 use crate::classes::Classes;
 use crate::term::{Term, arguments_at};
@@ -13,7 +13,7 @@ use std::alloc::{AllocError, Global};
 
 /// How far a class has been walked: not at all, with so many of its arguments done, or whole.
 #[derive(Clone, Copy, Debug)]
-pub enum Mark {
+pub enum VisitMark {
     Unseen,
     Entered(usize),
     Done,
@@ -22,18 +22,18 @@ pub enum Mark {
 /// The marks of classes, and the classes that are entered, each within the one before it.
 #[derive(Drop)]
 struct Walk {
-    marks: Vec<Mark>,
+    marks: Vec<VisitMark>,
     path: Vec<usize>,
 }
 
 impl Walk {
     /// No class is seen.
     fn new(alloc: Global, count: usize) -> Result<Walk, AllocError>
-        ensures { IfOk result (IsFresh count) }
+        ensures { IfOk result (NothingVisited count) }
     {
         let mut marks = Vec::new(alloc);
         for i in 0..count {
-            marks.push(Mark::Unseen)?;
+            marks.push(VisitMark::Unseen)?;
         }
         Ok(Walk {
             marks,
@@ -45,10 +45,10 @@ impl Walk {
     fn enter(&mut self, class: usize) -> Result<(), AllocError>
         requires { class < length self.old.marks.items }
         ensures marks { self.new.marks.items
-            ≡ slice_set self.old.marks.items class (Mark.Entered 0) }
+            ≡ slice_set self.old.marks.items class (VisitMark.Entered 0) }
         ensures path { OnOk result (self.new.path.items ≡ self.old.path.items ++ class ∷ []) }
     {
-        self.marks[class] = Mark::Entered(0);
+        self.marks[class] = VisitMark::Entered(0);
         self.path.push(class)?;
         Ok(())
     }
@@ -57,10 +57,10 @@ impl Walk {
     fn leave(&mut self, class: usize)
         requires within { class < length self.old.marks.items }
         requires last { (front : List ℕ) × (self.old.path.items ≡ front ++ class ∷ []) }
-        ensures marks { self.new.marks.items ≡ slice_set self.old.marks.items class Mark.Done }
+        ensures marks { self.new.marks.items ≡ slice_set self.old.marks.items class VisitMark.Done }
         ensures path { self.old.path.items ≡ self.new.path.items ++ class ∷ [] }
     {
-        self.marks[class] = Mark::Done;
+        self.marks[class] = VisitMark::Done;
         self.path.pop();
     }
 
@@ -88,22 +88,22 @@ impl Walk {
     ) -> Result<bool, AllocError>
         requires earlier { AreEarlier terms.now }
         requires partition { IsPartition (length terms.now) classes.now }
-        requires at { IsAt terms.now classes.now self.old top first }
-        requires next { IsNext terms.now classes.now top first next }
+        requires at { IsAtArgument terms.now classes.now self.old top first }
+        requires next { IsNextArgument terms.now classes.now top first next }
         requires fits { first + 1 < 2 ^ 64 }
         ensures steps { IfOk result (λ outside. outside ≡ true
-            → Steps terms.now classes.now self.old self.new) }
+            → WalkSteps terms.now classes.now self.old self.new) }
         ensures none { IfOk result (λ outside. outside ≡ false
-            → NoneJoins terms.now classes.now) }
+            → HasNoFiniteSolution terms.now classes.now) }
     {
         match self.marks[next] {
-            Mark::Unseen => {
+            VisitMark::Unseen => {
                 self.enter(next)?;
                 Ok(true)
             }
-            Mark::Entered(_) => Ok(false),
-            Mark::Done => {
-                self.marks[top] = Mark::Entered(first + 1);
+            VisitMark::Entered(_) => Ok(false),
+            VisitMark::Done => {
+                self.marks[top] = VisitMark::Entered(first + 1);
                 Ok(true)
             }
         }
@@ -119,11 +119,11 @@ impl Walk {
     ) -> Result<bool, AllocError>
         requires earlier { AreEarlier terms.now }
         requires partition { IsPartition (length terms.now) classes.now }
-        requires at { IsAt terms.now classes.now self.old top first }
+        requires at { IsAtArgument terms.now classes.now self.old top first }
         ensures steps { IfOk result (λ outside. outside ≡ true
-            → Steps terms.now classes.now self.old self.new) }
+            → WalkSteps terms.now classes.now self.old self.new) }
         ensures none { IfOk result (λ outside. outside ≡ false
-            → NoneJoins terms.now classes.now) }
+            → HasNoFiniteSolution terms.now classes.now) }
     {
         let arguments = arguments_at(terms, classes.kept_of(top));
         if first >= arguments.len() {
@@ -139,32 +139,32 @@ impl Walk {
     fn step(&mut self, terms: &[Term], classes: &Classes, top: usize) -> Result<bool, AllocError>
         requires earlier { AreEarlier terms.now }
         requires partition { IsPartition (length terms.now) classes.now }
-        requires walk { IsWalk terms.now classes.now self.old }
+        requires walk { IsDepthFirstWalk terms.now classes.now self.old }
         requires last { (front : List ℕ) × (self.old.path.items ≡ front ++ top ∷ []) }
         ensures steps { IfOk result (λ outside. outside ≡ true
-            → Steps terms.now classes.now self.old self.new) }
+            → WalkSteps terms.now classes.now self.old self.new) }
         ensures none { IfOk result (λ outside. outside ≡ false
-            → NoneJoins terms.now classes.now) }
+            → HasNoFiniteSolution terms.now classes.now) }
     {
         match self.marks[top] {
-            Mark::Entered(first) => self.look(terms, classes, top, first),
-            Mark::Unseen => Ok(false),
-            Mark::Done => Ok(false),
+            VisitMark::Entered(first) => self.look(terms, classes, top, first),
+            VisitMark::Unseen => Ok(false),
+            VisitMark::Done => Ok(false),
         }
     }
 
     /// Enters a class that is not seen.
     fn begin(&mut self, class: usize) -> Result<(), AllocError>
         requires { class < length self.old.marks.items }
-        ensures { OnOk result (Begins self.old self.new class) }
+        ensures { OnOk result (EntersClass self.old self.new class) }
     {
         match self.marks[class] {
-            Mark::Unseen => {
+            VisitMark::Unseen => {
                 self.enter(class)?;
                 Ok(())
             }
-            Mark::Entered(_) => Ok(()),
-            Mark::Done => Ok(()),
+            VisitMark::Entered(_) => Ok(()),
+            VisitMark::Done => Ok(()),
         }
     }
 
@@ -172,14 +172,14 @@ impl Walk {
     fn visit(&mut self, terms: &[Term], classes: &Classes, class: usize) -> Result<bool, AllocError>
         requires earlier { AreEarlier terms.now }
         requires partition { IsPartition (length terms.now) classes.now }
-        requires walk { IsWalk terms.now classes.now self.old }
+        requires walk { IsDepthFirstWalk terms.now classes.now self.old }
         requires path { self.old.path.items ≡ [] }
         requires within { class < length terms.now }
         requires root { class_of classes.now class ≡ class }
         ensures visits { IfOk result (λ founded. founded ≡ true
-            → Visits terms.now classes.now self.old self.new class) }
+            → VisitsClassWholly terms.now classes.now self.old self.new class) }
         ensures none { IfOk result (λ founded. founded ≡ false
-            → NoneJoins terms.now classes.now) }
+            → HasNoFiniteSolution terms.now classes.now) }
     {
         self.begin(class)?;
         'walking: while let Some(top) = self.last() {
@@ -192,12 +192,12 @@ impl Walk {
 }
 
 /// Says whether no class stands within itself.
-pub fn are_founded(alloc: Global, terms: &[Term], classes: &Classes) -> Result<bool, AllocError>
+pub fn is_acyclic(alloc: Global, terms: &[Term], classes: &Classes) -> Result<bool, AllocError>
     requires earlier { AreEarlier terms.now }
     requires partition { IsPartition (length terms.now) classes.now }
     ensures stand { IfOk result (λ founded. founded ≡ true → (i : ℕ) → i < length terms.now
-        → (t : Tree) × Stands terms.now classes.now (class_of classes.now i) t) }
-    ensures none { IfOk result (λ founded. founded ≡ false → NoneJoins terms.now classes.now) }
+        → (t : Tree) × ClassStandsForTree terms.now classes.now (class_of classes.now i) t) }
+    ensures none { IfOk result (λ founded. founded ≡ false → HasNoFiniteSolution terms.now classes.now) }
 {
     let mut walk = Walk::new(alloc, terms.len())?;
     for i in 0..terms.len() {

@@ -4,7 +4,7 @@ use Rattle.std.proofs.lemmas.List.{take_more}
 use Rattle.seq.specs.Lists.{In, here, there}
 use Rattle.seq.proofs.Member.{none_in}
 use Rattle.unification.specs.declared.term.Term.{Term}
-use Rattle.unification.specs.Terms.{AreEarlier, AreBelow, arguments_in}
+use Rattle.unification.specs.Terms.{AreEarlier, PairsAreBelow, arguments_in}
 use Rattle.unification.proofs.Basics.{at_pushed}
 use Rattle.unification.proofs.Pairing.{below_join, below_one}
 
@@ -26,5 +26,5 @@ below_at (x ∷ xs) n h i here = h 0 (omega arith)
 below_at (x ∷ xs) n h i (there k) = below_at xs n (λ j l. h (suc j) (omega arith)) i k
 below_at [] n h i k = none_in k
 
-pub pairs_more : (n : ℕ) (ps : List (ℕ × ℕ)) (i : ℕ) (d : ℕ × ℕ) → i < length ps → (get_or ps i d).0 < n → (get_or ps i d).1 < n → AreBelow n (take i ps) → AreBelow n (take (i + 1) ps)
-pairs_more n ps i d l a b h = subst (AreBelow n) (sym (take_more ps i d l)) (below_join n (take i ps) (get_or ps i d ∷ []) h (below_one n (get_or ps i d) a b))
+pub pairs_more : (n : ℕ) (ps : List (ℕ × ℕ)) (i : ℕ) (d : ℕ × ℕ) → i < length ps → (get_or ps i d).0 < n → (get_or ps i d).1 < n → PairsAreBelow n (take i ps) → PairsAreBelow n (take (i + 1) ps)
+pairs_more n ps i d l a b h = subst (PairsAreBelow n) (sym (take_more ps i d l)) (below_join n (take i ps) (get_or ps i d ∷ []) h (below_one n (get_or ps i d) a b))

@@ -2,7 +2,7 @@
 
 ghost use Rattle.std.specs.Prelude.{◌≡◌, ◌<◌, ◌≤◌, ℕ, length, true, Some, IfOk, OnOk};
 ghost use Rattle.seq.specs.Lists.{In};
-ghost use Rattle.unification.specs.Terms.{AreEarlier, AreBelow, arguments_in};
+ghost use Rattle.unification.specs.Terms.{AreEarlier, PairsAreBelow, arguments_in};
 
 use seq::Seq;
 use std::alloc::{AllocError, Global};
@@ -24,7 +24,7 @@ fn are_below(places: &[usize], count: usize) -> bool
 
 /// Whether the places of pairs are below a number.
 fn pairs_are_below(pairs: &[(usize, usize)], count: usize) -> bool
-    ensures { result ≡ true → AreBelow count pairs.now }
+    ensures { result ≡ true → PairsAreBelow count pairs.now }
 {
     for i in 0..pairs.len() {
         if pairs[i].0 >= count {

@@ -1,7 +1,7 @@
 pub mod Listed
 pub mod Loops
-pub mod Same
-pub mod Shape
+pub mod Simulated
+pub mod Gives
 pub mod Step
-pub mod Well
-pub mod PassContract
+pub mod Formed
+pub mod Contract

@@ -14,11 +14,11 @@ use Rattle.flow_system.specs.declared.fact.Place.TheVariants.{Var as var}
 use Rattle.flow_system.specs.declared.fact.Part.TheVariants.{Tags as tags, Word as word}
 use Rattle.flow_system.specs.Solution.{Solution, At}
 use Rattle.points_to.specs.Held.{In, there}
-use Rattle.update_special.specs.Updates.{stands_for, tags_of}
+use Rattle.update_special.specs.Updates.{may_have_tag, tags_of}
 
 -- what is asked of each tag that is listed
 abbrev pub is_met : ℕ → Solution → ℕ → ℕ → Bool
-is_met count A x t = nat_lt t count && stands_for A x t
+is_met count A x t = nat_lt t count && may_have_tag A x t
 
 -- ---- the loop
 
@@ -37,10 +37,10 @@ module _ (p : ℕ → Bool) (ts : List TagId) (i : ℕ) (t : TagId) (made : List
 
 all_listed : (count : ℕ) (A : Solution) (x : ℕ) (tags' : List TagId) → IsStrictlyIncreasing (map (λ t. t.0) tags') → ((t : ℕ) → In t (map (λ t. t.0) tags') ↔ (At A (var x) tags (tag t) ⊎ At A (var x) (word 0) (tag t)))
     → filter (is_met count A x) (map (λ t. t.0) tags') ≡ tags_of count A x
-all_listed count A x tags' up exact = sym (those_filtered (stands_for A x) (is_met count A x) count 0 count (map (λ t. t.0) tags') (omega arith) (ascends _ up)
+all_listed count A x tags' up exact = sym (those_filtered (may_have_tag A x) (is_met count A x) count 0 count (map (λ t. t.0) tags') (omega arith) (ascends _ up)
     (λ t lt e le. (exact t).1 (inr (record { there = e })))
-    (λ t m lt. ap (λ b. b && stands_for A x t) (lt_true t count lt))
-    (λ t m le. ap (λ b. b && stands_for A x t) (lt_false t count le)))
+    (λ t m lt. ap (λ b. b && may_have_tag A x t) (lt_true t count lt))
+    (λ t m le. ap (λ b. b && may_have_tag A x t) (lt_false t count le)))
 
 pub all_made : (count : ℕ) (A : Solution) (x : ℕ) (items : List TagId) (i : ℕ) (made : List TagId) → IsStrictlyIncreasing (map (λ t. t.0) items)
     → ((t : ℕ) → In t (map (λ t. t.0) items) ↔ (At A (var x) tags (tag t) ⊎ At A (var x) (word 0) (tag t))) → length items ≤ i

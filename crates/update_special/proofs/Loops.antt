@@ -13,7 +13,7 @@ use Rattle.grin_syntax.specs.declared.program.Op.TheVariants.{Case, Update}
 use Rattle.grin_syntax.specs.Tree.{Code, arm, update, case, act_of, before_of, arm_of, all_before, arms_of}
 use Rattle.grin_syntax.proofs.TreeOf.{act_of-Case, act_of-Update}
 use Rattle.grin_syntax.proofs.Pieces.{all_before_push}
-use Rattle.update_special.specs.Updates.{most_tags, by_tags, update_with, update_arms, update_act, update_code, update_all, update_arm}
+use Rattle.update_special.specs.Updates.{max_case_tags, update_by_tags, update_alternative, update_arms, update_act, update_code, update_all, update_arm}
 
 module _ (T : ℕ → List ℕ) where
   -- ---- blocks
@@ -43,29 +43,29 @@ module _ (T : ℕ → List ℕ) where
 -- ---- the alternatives of an update
 
 module _ (a : Word) (v : Val) where
-  pub arms_are : (ts : List ℕ) → arms_of (map (update_with a v) ts) ≡ update_arms a v ts
+  pub arms_are : (ts : List ℕ) → arms_of (map (update_alternative a v) ts) ≡ update_arms a v ts
   arms_are [] = refl
-  arms_are (t ∷ ts) = ap (arm (update_with a v t).0 (update_with a v t).1) (arms_are ts)
+  arms_are (t ∷ ts) = ap (arm (update_alternative a v t).0 (update_alternative a v t).1) (arms_are ts)
 
-  pub alternative_next : (tags : List TagId) (i : ℕ) (t : TagId) (made : List Alt) (one : Alt) → i < length tags → t ≡ get_or tags i t → arm_of one ≡ update_with a v t.0
-      → map arm_of made ≡ map (update_with a v) (map (λ t. t.0) (take i tags)) → map arm_of (made ++ one ∷ []) ≡ map (update_with a v) (map (λ t. t.0) (take (i + 1) tags))
+  pub alternative_next : (tags : List TagId) (i : ℕ) (t : TagId) (made : List Alt) (one : Alt) → i < length tags → t ≡ get_or tags i t → arm_of one ≡ update_alternative a v t.0
+      → map arm_of made ≡ map (update_alternative a v) (map (λ t. t.0) (take i tags)) → map arm_of (made ++ one ∷ []) ≡ map (update_alternative a v) (map (λ t. t.0) (take (i + 1) tags))
   alternative_next tags i t made one lt at e h =
       map_push arm_of made one ∙ (λ j. h j ++ e j ∷ [])
-      ∙ sym (map_push (update_with a v) (map (λ t. t.0) (take i tags)) t.0)
-      ∙ ap (map (update_with a v)) (sym (map_push (λ t. t.0) (take i tags) t) ∙ ap (map (λ t. t.0)) (sym (take_next tags i t lt at)))
+      ∙ sym (map_push (update_alternative a v) (map (λ t. t.0) (take i tags)) t.0)
+      ∙ ap (map (update_alternative a v)) (sym (map_push (λ t. t.0) (take i tags) t) ∙ ap (map (λ t. t.0)) (sym (take_next tags i t lt at)))
 
   many : (ts : List TagId) → length (map (λ t. t.0) ts) ≡ length ts
   many ts = length-map ts (λ t. t.0)
 
-  pub over_many : (ts : List TagId) → most_tags < length ts → act_of (Update a v) ≡ by_tags a v (map (λ t. t.0) ts)
+  pub over_many : (ts : List TagId) → max_case_tags < length ts → act_of (Update a v) ≡ update_by_tags a v (map (λ t. t.0) ts)
   over_many ts more =
-      let e : nat_le (length (map (λ t. t.0) ts)) most_tags ≡ false = lt-leb _ _ (omega (arith, many ts)) in
+      let e : nat_le (length (map (λ t. t.0) ts)) max_case_tags ≡ false = lt-leb _ _ (omega (arith, many ts)) in
       act_of-Update a v ∙ sym (ap (λ b. cond b (case v (update_arms a v (map (λ t. t.0) ts))) (update a v)) e)
 
-  pub over_few : (v' : Val) (ts items : List TagId) (i : ℕ) (made : List Alt) → v' ≡ v → items ≡ ts → length ts ≤ most_tags → length items ≤ i
-      → map arm_of made ≡ map (update_with a v) (map (λ t. t.0) (take i items)) → act_of (Case v' made) ≡ by_tags a v (map (λ t. t.0) ts)
+  pub over_few : (v' : Val) (ts items : List TagId) (i : ℕ) (made : List Alt) → v' ≡ v → items ≡ ts → length ts ≤ max_case_tags → length items ≤ i
+      → map arm_of made ≡ map (update_alternative a v) (map (λ t. t.0) (take i items)) → act_of (Case v' made) ≡ update_by_tags a v (map (λ t. t.0) ts)
   over_few v' ts items i made q f few le h =
-      let e : nat_le (length (map (λ t. t.0) ts)) most_tags ≡ true = le-leb _ _ (omega (arith, many ts)) in
-      let all : map arm_of made ≡ map (update_with a v) (map (λ t. t.0) ts) = h ∙ ap (λ l. map (update_with a v) (map (λ t. t.0) l)) (take_all i items le ∙ f) in
+      let e : nat_le (length (map (λ t. t.0) ts)) max_case_tags ≡ true = le-leb _ _ (omega (arith, many ts)) in
+      let all : map arm_of made ≡ map (update_alternative a v) (map (λ t. t.0) ts) = h ∙ ap (λ l. map (update_alternative a v) (map (λ t. t.0) l)) (take_all i items le ∙ f) in
       act_of-Case v' made ∙ (λ j. case (q j) (arms_of (all j))) ∙ ap (case v) (arms_are (map (λ t. t.0) ts))
       ∙ sym (ap (λ b. cond b (case v (update_arms a v (map (λ t. t.0) ts))) (update a v)) e)

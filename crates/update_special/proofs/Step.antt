@@ -11,14 +11,14 @@ use Rattle.grin_syntax.specs.declared.program.Val.TheVariants.{NodeVar, Node as 
 use Rattle.grin_syntax.specs.Tags.{tag_id}
 use Rattle.grin_syntax.specs.Tree.{end, update, case, Program}
 use Rattle.grin_meaning.specs.Values.{Datum, number, tag, cell, Node, Value, node, words, Env, State, World, Answer, gives, need, and_then, with_vars, fits, fits_not, node_fit, only_word, as_node, word_of, words_of, value_of, node_of}
-use Rattle.grin_meaning.specs.Run.{Calls, act_by, code_by, arms_by, looking, choose, passing, place_of, with_node}
+use Rattle.grin_meaning.specs.Run.{Calls, act_by, code_by, arms_by, require_if_checked, choose, with_state_seen, place_of, with_node}
 use Rattle.grin_meaning.specs.Checks.{is_none_or, is_filled, fills}
 use Rattle.flow_system.specs.declared.fact.Place.TheVariants.{Var as var}
 use Rattle.flow_system.specs.Solution.{Solution, At}
-use Rattle.flow_system.specs.Covers.{Lies, ValueIn}
+use Rattle.flow_system.specs.Covers.{StateIsCovered, ValueIn}
 use Rattle.flow_system.proofs.Lying.{from_some}
 use Rattle.pass_ground.specs.OpenUpdates.{variable_of, tag_variable}
-use Rattle.update_special.specs.Updates.{stands_for, tags_of, tagged, update_arms}
+use Rattle.update_special.specs.Updates.{may_have_tag, tags_of, with_literal_tag, update_arms}
 use Rattle.seq.proofs.Those.{those_have}
 use Rattle.seq.proofs.Member.{none_in, cons_in}
 use Rattle.seq.specs.Lists.{In}
@@ -83,7 +83,7 @@ module _ (p : Program) (env : Env) where
       go (Some d) r f = let h : Headed n d = headed d [] n f in record { there = r ∙ ap Some h.is_tag; known = h.known }
 
   -- with its tag a value stays what it is
-  pub same_value : (v : Val) (x : VarId) (t : ℕ) → tag_variable v ≡ Some x → word_of p env (Var x) ≡ Some (tag t) → value_of p env (tagged t v) ≡ value_of p env v
+  pub same_value : (v : Val) (x : VarId) (t : ℕ) → tag_variable v ≡ Some x → word_of p env (Var x) ≡ Some (tag t) → value_of p env (with_literal_tag t v) ≡ value_of p env v
   same_value (NodeVar y) x t e q = cc
   same_value (Node' u ws) x t e q = cc
   same_value (Vector []) x t e q = cc
@@ -93,7 +93,7 @@ module _ (p : Program) (env : Env) where
   same_value (One a) x t e q =
       subst (λ b. value_of p env (One (TagWord (tag_id t))) ≡ value_of p env (One b)) (sym (head_of a x e)) (ap (λ o. and_then o (λ d. Some (words (d ∷ [])))) (sym q))
 
-  pub same_fills : (v : Val) (x : VarId) (t : ℕ) → tag_variable v ≡ Some x → word_of p env (Var x) ≡ Some (tag t) → fills p env (tagged t v) ≡ fills p env v
+  pub same_fills : (v : Val) (x : VarId) (t : ℕ) → tag_variable v ≡ Some x → word_of p env (Var x) ≡ Some (tag t) → fills p env (with_literal_tag t v) ≡ fills p env v
   same_fills (NodeVar y) x t e q = cc
   same_fills (Node' u ws) x t e q = cc
   same_fills (Vector []) x t e q = cc
@@ -104,10 +104,10 @@ module _ (p : Program) (env : Env) where
 
 -- ---- the tag is in the set of the variable
 
-pub tag_listed : (p : Program) (A : Solution) (s : State) → Lies p A s → (x : VarId) (n : Node) → TagThere p s.env x n → In n.tag (tags_of (length p.tags) A x.0)
-tag_listed p A s lies x n h = those_have (stands_for A x.0) n.tag (go (s.env x.0) refl h.there) 0 (length p.tags) (omega arith) (let k : n.tag < length p.tags = h.known in omega arith)
+pub tag_listed : (p : Program) (A : Solution) (s : State) → StateIsCovered p A s → (x : VarId) (n : Node) → TagThere p s.env x n → In n.tag (tags_of (length p.tags) A x.0)
+tag_listed p A s lies x n h = those_have (may_have_tag A x.0) n.tag (go (s.env x.0) refl h.there) 0 (length p.tags) (omega arith) (let k : n.tag < length p.tags = h.known in omega arith)
   where
-    one : (ds : List Datum) → s.env x.0 ≡ Some (words ds) → only_word (words ds) ≡ Some (tag n.tag) → stands_for A x.0 n.tag ≡ true
+    one : (ds : List Datum) → s.env x.0 ≡ Some (words ds) → only_word (words ds) ≡ Some (tag n.tag) → may_have_tag A x.0 n.tag ≡ true
     one [] q e = cc
     one (d ∷ d' ∷ ds) q e = cc
     one (d ∷ []) q e =
@@ -115,7 +115,7 @@ tag_listed p A s lies x n h = those_have (stands_for A x.0) n.tag (go (s.env x.0
         let at : ValueIn p s.heap (At A (var x.0)) (words (tag n.tag ∷ [])) = from_some (ValueIn p s.heap (At A (var x.0))) (s.env x.0) (words (tag n.tag ∷ [])) (lies.variables x.0) (q ∙ ap (λ d. Some (words (d ∷ []))) same) in
         at.0.there
 
-    go : (o : Option Value) → s.env x.0 ≡ o → and_then o only_word ≡ Some (tag n.tag) → stands_for A x.0 n.tag ≡ true
+    go : (o : Option Value) → s.env x.0 ≡ o → and_then o only_word ≡ Some (tag n.tag) → may_have_tag A x.0 n.tag ≡ true
     go None q e = cc
     go (Some (node m)) q e = cc
     go (Some (words ds)) q e = one ds q e
@@ -129,29 +129,29 @@ module _ (p : Program) (c : Calls) (looks : Bool) (env : Env) (d : ℕ) where
   update_is a v v' w e f = λ j. need (and_then (word_of p env a) place_of) w (λ i. need (slice_get w.cells i) w (λ y. need (and_then (e j) (as_node p)) w (λ n. looking_if (f j) (gives (words []) (with_node i n y w)) w)))
     where
       looking_if : Bool → Answer → World → Answer
-      looking_if b x w = looking looks b w x
+      looking_if b x w = require_if_checked looks b w x
 
   arms_come : (a : W.Word) (v : Val) (x : VarId) (y : Value) (n : Node) (ts : List ℕ) (w : World) → tag_variable v ≡ Some x → as_node p y ≡ Some n → word_of p env (Var x) ≡ Some (tag n.tag) → In n.tag ts
-      → arms_by p c looks env d y (update_arms a v ts) w ≡ act_by p c looks env d (update a v) (passing env w)
+      → arms_by p c looks env d y (update_arms a v ts) w ≡ act_by p c looks env d (update a v) (with_state_seen env w)
   unfolding act_by
   arms_come a v x y n [] w e f q h = none_in h
-  arms_come a v x y n (t ∷ ts) w e f q h = ap (λ o. choose (node_fit t [] o) w (λ bs. code_by p c looks (with_vars bs env) d (end (update a (tagged t v))) (passing (with_vars bs env) w)) (arms_by p c looks env d y (update_arms a v ts) w)) f ∙ go (nat_eq n.tag t) refl (cons_in t ts h) (λ m. arms_come a v x y n ts w e f q m)
+  arms_come a v x y n (t ∷ ts) w e f q h = ap (λ o. choose (node_fit t [] o) w (λ bs. code_by p c looks (with_vars bs env) d (end (update a (with_literal_tag t v))) (with_state_seen (with_vars bs env) w)) (arms_by p c looks env d y (update_arms a v ts) w)) f ∙ go (nat_eq n.tag t) refl (cons_in t ts h) (λ m. arms_come a v x y n ts w e f q m)
     where
-      go : (b : Bool) → nat_eq n.tag t ≡ b → (n.tag ≡ t) ⊎ In n.tag ts → (In n.tag ts → arms_by p c looks env d y (update_arms a v ts) w ≡ act_by p c looks env d (update a v) (passing env w))
-          → choose (cond b (fits []) fits_not) w (λ bs. code_by p c looks (with_vars bs env) d (end (update a (tagged t v))) (passing (with_vars bs env) w)) (arms_by p c looks env d y (update_arms a v ts) w) ≡ act_by p c looks env d (update a v) (passing env w)
+      go : (b : Bool) → nat_eq n.tag t ≡ b → (n.tag ≡ t) ⊎ In n.tag ts → (In n.tag ts → arms_by p c looks env d y (update_arms a v ts) w ≡ act_by p c looks env d (update a v) (with_state_seen env w))
+          → choose (cond b (fits []) fits_not) w (λ bs. code_by p c looks (with_vars bs env) d (end (update a (with_literal_tag t v))) (with_state_seen (with_vars bs env) w)) (arms_by p c looks env d y (update_arms a v ts) w) ≡ act_by p c looks env d (update a v) (with_state_seen env w)
       go true r h later =
           let same : n.tag ≡ t = grind (arith, nat_tests) in
           let is : word_of p env (Var x) ≡ Some (tag t) = subst (λ k. word_of p env (Var x) ≡ Some (tag k)) same q in
-          update_is a v (tagged t v) (passing env w) (same_value p env v x t e is) (same_fills p env v x t e is)
+          update_is a v (with_literal_tag t v) (with_state_seen env w) (same_value p env v x t e is) (same_fills p env v x t e is)
       go false r (inl s) later = let not : nat_eq n.tag t ≡ true = grind (arith, nat_tests) in cc
       go false r (inr m) later = later m
 
   -- where the value is a node of one of these tags
   pub case_comes : (a : W.Word) (v : Val) (x : VarId) (n : Node) (ts : List ℕ) (w : World) → tag_variable v ≡ Some x → node_of p env v ≡ Some n → In n.tag ts
-      → act_by p c looks env d (case v (update_arms a v ts)) w ≡ act_by p c looks env d (update a v) (passing env w)
+      → act_by p c looks env d (case v (update_arms a v ts)) w ≡ act_by p c looks env d (update a v) (with_state_seen env w)
   unfolding act_by
   case_comes a v x n ts w e q h = go (value_of p env v) refl q
     where
-      go : (o : Option Value) → value_of p env v ≡ o → and_then o (as_node p) ≡ Some n → need o w (λ y. arms_by p c looks env d y (update_arms a v ts) w) ≡ act_by p c looks env d (update a v) (passing env w)
+      go : (o : Option Value) → value_of p env v ≡ o → and_then o (as_node p) ≡ Some n → need o w (λ y. arms_by p c looks env d y (update_arms a v ts) w) ≡ act_by p c looks env d (update a v) (with_state_seen env w)
       go None r f = cc
       go (Some y) r f = arms_come a v x y n ts w e f (tag_there p env v x n e q).there h

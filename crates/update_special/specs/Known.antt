@@ -5,5 +5,5 @@ use Rattle.update_special.specs.declared.blocks.Tags.{Tags}
 use Rattle.update_special.specs.Updates.{tags_of}
 
 -- the tags in the set of a variable
-abbrev pub tags_by : Tags → ℕ → List ℕ
-tags_by t = tags_of t.count (found t.flow.now)
+abbrev pub tags_by_solution : Tags → ℕ → List ℕ
+tags_by_solution t = tags_of t.count (found t.flow.now)

@@ -20,46 +20,46 @@ use Rattle.seq.specs.Lists.{those}
 -- ---- tags of variables
 
 -- a solution has the tag in the set of a variable
-abbrev pub stands_for : Solution → ℕ → ℕ → Bool
-stands_for A x t = among (tag t) (A (var x) (word 0))
+abbrev pub may_have_tag : Solution → ℕ → ℕ → Bool
+may_have_tag A x t = among (tag t) (A (var x) (word 0))
 
 -- the tags in the set of a variable, ascending, in a program with so many tags
 abbrev pub tags_of : ℕ → Solution → ℕ → List ℕ
-tags_of count A x = those (stands_for A x) 0 count
+tags_of count A x = those (may_have_tag A x) 0 count
 
 -- ---- tags of values
 
 -- a value with a literal tag in place of its first word
-abbrev pub tagged : ℕ → V.Val → V.Val
-tagged t (NodeVar x) = NodeVar x
-tagged t (Node u ws) = Node u ws
-tagged t (Vector ws) = Vector (slice_set ws 0 (TagWord (tag_id t)))
-tagged t (One a) = One (TagWord (tag_id t))
+abbrev pub with_literal_tag : ℕ → V.Val → V.Val
+with_literal_tag t (NodeVar x) = NodeVar x
+with_literal_tag t (Node u ws) = Node u ws
+with_literal_tag t (Vector ws) = Vector (slice_set ws 0 (TagWord (tag_id t)))
+with_literal_tag t (One a) = One (TagWord (tag_id t))
 
 -- ---- the pass
 
 -- an update with more tags than these stays
-abbrev pub most_tags : ℕ
-most_tags = 8
+abbrev pub max_case_tags : ℕ
+max_case_tags = 8
 
 -- an alternative in which the tag is known
-abbrev pub update_with : W.Word → V.Val → ℕ → Shape × Code
-update_with a v t = (NodeShape (tag_id t) [], end (update a (tagged t v)))
+abbrev pub update_alternative : W.Word → V.Val → ℕ → Shape × Code
+update_alternative a v t = (NodeShape (tag_id t) [], end (update a (with_literal_tag t v)))
 
 abbrev pub update_arms : W.Word → V.Val → List ℕ → Arms
 update_arms a v [] = no_arm
 update_arms a v (t ∷ ts) =
-    arm (NodeShape (tag_id t) []) (end (update a (tagged t v))) (update_arms a v ts)
+    arm (NodeShape (tag_id t) []) (end (update a (with_literal_tag t v))) (update_arms a v ts)
 
-abbrev pub by_tags : W.Word → V.Val → List ℕ → Act
-by_tags a v ts =
-    cond (nat_le (length ts) most_tags) (case v (update_arms a v ts)) (update a v)
+abbrev pub update_by_tags : W.Word → V.Val → List ℕ → Act
+update_by_tags a v ts =
+    cond (nat_le (length ts) max_case_tags) (case v (update_arms a v ts)) (update a v)
 
 -- with the tags of each variable
 module _ (T : ℕ → List ℕ) where
   abbrev pub specialised : W.Word → V.Val → Option VarId → Act
   specialised a v None = update a v
-  specialised a v (Some x) = by_tags a v (T x.0)
+  specialised a v (Some x) = update_by_tags a v (T x.0)
 
   unfoldable mutual
     pub update_act : Act → Act

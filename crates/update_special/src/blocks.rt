@@ -5,8 +5,8 @@ ghost use Rattle.std.specs.Prelude.{◌≡◌, ◌&&◌, map, nat_lt, IfOk};
 ghost use Rattle.grin_syntax.specs.Tree.{Code, act_of, before_of, arm_of, code_of};
 ghost use Rattle.points_to.specs.Found.{found};
 ghost use Rattle.pass_ground.specs.OpenUpdates.{variable_of, tag_variable};
-ghost use Rattle.update_special.specs.Known.{tags_by};
-ghost use Rattle.update_special.specs.Updates.{stands_for, tagged, by_tags, update_with, specialised, update_act, update_code, update_arm};
+ghost use Rattle.update_special.specs.Known.{tags_by_solution};
+ghost use Rattle.update_special.specs.Updates.{may_have_tag, with_literal_tag, update_by_tags, update_alternative, specialised, update_act, update_code, update_arm};
 
 use grin_syntax::{Alt, Block, Op, Shape, Stmt, TagId, Val, VarId, Word};
 use points_to::Flow;
@@ -29,7 +29,7 @@ impl Tags<'_> {
     /// A block with its updates as cases.
     #[cycle(update)]
     pub(crate) fn block(&self, alloc: Global, block: Block) -> Result<Block, AllocError>
-        ensures { IfOk result (λ b. code_of b ≡ update_code (tags_by self.now) (code_of block)) }
+        ensures { IfOk result (λ b. code_of b ≡ update_code (tags_by_solution self.now) (code_of block)) }
     {
         let mut stmts = Seq::new(alloc);
         for stmt in block.stmts.into_vec() {
@@ -44,8 +44,8 @@ impl Tags<'_> {
 
     #[cycle(update)]
     fn stmt(&self, alloc: Global, stmt: Stmt) -> Result<Stmt, AllocError>
-        ensures { IfOk result (λ s. (c : Code) → before_of s (update_code (tags_by self.now) c)
-            ≡ update_code (tags_by self.now) (before_of stmt c)) }
+        ensures { IfOk result (λ s. (c : Code) → before_of s (update_code (tags_by_solution self.now) c)
+            ≡ update_code (tags_by_solution self.now) (before_of stmt c)) }
     {
         match stmt {
             Stmt::Store(cells) => Ok(Stmt::Store(cells)),
@@ -56,7 +56,7 @@ impl Tags<'_> {
     #[cycle(update)]
     #[tactic(auto, using(grin_syntax::proofs::TreeOf::tree_of, crate::proofs::Loops::case_updated), unfolding(crate::specs::Updates::update_act))]
     fn op(&self, alloc: Global, op: Op) -> Result<Op, AllocError>
-        ensures { IfOk result (λ o. act_of o ≡ update_act (tags_by self.now) (act_of op)) }
+        ensures { IfOk result (λ o. act_of o ≡ update_act (tags_by_solution self.now) (act_of op)) }
     {
         match op {
             Op::Update(word, value) => self.update(alloc, word, value),
@@ -86,7 +86,7 @@ impl Tags<'_> {
 
     #[cycle(update)]
     fn alt(&self, alloc: Global, alt: Alt) -> Result<Alt, AllocError>
-        ensures { IfOk result (λ a. arm_of a ≡ update_arm (tags_by self.now) (arm_of alt)) }
+        ensures { IfOk result (λ a. arm_of a ≡ update_arm (tags_by_solution self.now) (arm_of alt)) }
     {
         Ok(Alt {
             pattern: alt.pattern,
@@ -97,7 +97,7 @@ impl Tags<'_> {
     // An update, or a case over the tags of what it puts into the cell.
     fn update(&self, alloc: Global, word: Word, value: Val) -> Result<Op, AllocError>
         ensures { IfOk result (λ o. act_of o
-            ≡ specialised (tags_by self.now) word value (tag_variable value)) }
+            ≡ specialised (tags_by_solution self.now) word value (tag_variable value)) }
     {
         match tag_variable(&value) {
             Some(var) => {
@@ -110,7 +110,7 @@ impl Tags<'_> {
 
     /// The tags that a variable may stand for, ascending.
     pub fn tags_of(&self, alloc: Global, var: VarId) -> Result<Seq<TagId>, AllocError>
-        ensures { IfOk result (λ ts. map (λ t. t.0) ts ≡ tags_by self.now var.0) }
+        ensures { IfOk result (λ ts. map (λ t. t.0) ts ≡ tags_by_solution self.now var.0) }
     {
         let mut made = Seq::new(alloc);
         for tag in self.flow.nodes_of(var) {
@@ -123,7 +123,7 @@ impl Tags<'_> {
 
     // Whether a variable may stand for a tag of the program.
     fn may_be(&self, var: VarId, tag: TagId) -> bool
-        ensures { result ≡ (nat_lt tag.0 self.now.count && stands_for (found self.now.flow.now)
+        ensures { result ≡ (nat_lt tag.0 self.now.count && may_have_tag (found self.now.flow.now)
             var.0 tag.0) }
     {
         (tag.0 as usize) < self.count && self.flow.holds_tag(var, tag)
@@ -132,7 +132,7 @@ impl Tags<'_> {
 
 // A case with an alternative for each of these tags, or the update where they are too many.
 fn over_tags(alloc: Global, word: Word, value: Val, tags: Seq<TagId>) -> Result<Op, AllocError>
-    ensures { IfOk result (λ o. act_of o ≡ by_tags word value (map (λ t. t.0) tags)) }
+    ensures { IfOk result (λ o. act_of o ≡ update_by_tags word value (map (λ t. t.0) tags)) }
 {
     if tags.len() > MOST_TAGS {
         return Ok(Op::Update(word, value));
@@ -146,7 +146,7 @@ fn over_tags(alloc: Global, word: Word, value: Val, tags: Seq<TagId>) -> Result<
 
 // The update of a cell by a value with this tag.
 fn alternative(alloc: Global, word: Word, value: &Val, tag: TagId) -> Result<Alt, AllocError>
-    ensures { IfOk result (λ a. arm_of a ≡ update_with word value.now tag.0) }
+    ensures { IfOk result (λ a. arm_of a ≡ update_alternative word value.now tag.0) }
 {
     let update = Op::Update(word, with_tag(alloc, value, tag)?);
     Ok(Alt {
@@ -160,7 +160,7 @@ fn alternative(alloc: Global, word: Word, value: &Val, tag: TagId) -> Result<Alt
 
 // A value with this tag in place of its first word.
 fn with_tag(alloc: Global, value: &Val, tag: TagId) -> Result<Val, AllocError>
-    ensures { IfOk result (λ v. v ≡ tagged tag.0 value.now) }
+    ensures { IfOk result (λ v. v ≡ with_literal_tag tag.0 value.now) }
 {
     match value {
         Val::Vector(words) => {

@@ -4,9 +4,9 @@
 ghost use Rattle.std.specs.Prelude.{◌≡◌, IfOk};
 ghost use Rattle.grin_syntax.specs.Tree.{program_of};
 ghost use Rattle.points_to.specs.Found.{found};
-ghost use Rattle.pass_ground.specs.Vectors.{OfVectors};
+ghost use Rattle.pass_ground.specs.Vectors.{IsVectorForm};
 ghost use Rattle.update_special.specs.Updates.{updated};
-ghost use Rattle.update_special.specs.Updated.{Updated, ByLeast};
+ghost use Rattle.update_special.specs.Updated.{Updated, MadeByLeastSolution};
 
 use crate::blocks::Tags;
 use grin_meaning::Pass;
@@ -23,7 +23,7 @@ use std::alloc::{AllocError, Global};
 pub struct Updates;
 
 impl Pass for Updates {
-    ghost takes = { λ g. OfVectors (program_of g) };
+    ghost takes = { λ g. IsVectorForm (program_of g) };
 
     ghost gives = { λ g h. Updated (program_of g) (program_of h) };
 
@@ -35,7 +35,7 @@ impl Pass for Updates {
 
 /// What the pass makes of any program, whatever its runs do.
 pub fn with_literal_tags(alloc: Global, g: Grin) -> Result<Grin, AllocError>
-    ensures { IfOk result (λ h. ByLeast (program_of g) (program_of h)) }
+    ensures { IfOk result (λ h. MadeByLeastSolution (program_of g) (program_of h)) }
 {
     let flow = least(alloc, &g)?;
     let h = with_cases(alloc, g, &flow)?;

@@ -14,15 +14,15 @@ use Rattle.std.proofs.lemmas.Bool.Decides.{nat_tests}
 use Rattle.std.proofs.lemmas.Option.{same_Some, slice_get_within, slice_get-get_or, get_or_from_slice_get}
 use Rattle.variable_uses.specs.declared.uses.Use.{Use}
 use Rattle.variable_uses.specs.declared.uses.Uses.{Uses}
-use Rattle.variable_uses.specs.Uses.{AreUses, IsUsedWithin, in_order, used_at}
+use Rattle.variable_uses.specs.Uses.{AreUses, IsUsedWithin, use_order, used_at}
 
 -- ---- the order
 
-in_order_total : IsTotalOrder in_order
+in_order_total : IsTotalOrder use_order
 in_order_total = then_total (on_total (λ u. u.variable) nat_cmp_total) (on_total (λ u. u.at) nat_cmp_total)
 
 abbrev pub is_before : Use → Use → Bool
-is_before v u = is_lt (in_order u v)
+is_before v u = is_lt (use_order u v)
 
 -- what `<` answers
 pub before_is : (v u : Use) → partial_lt use_partial_ord.partial_cmp-value.it u v ≡ is_before v u
@@ -34,10 +34,10 @@ before_is v u = both (nat_cmp u.variable v.variable) (nat_cmp u.at v.at)
     both Greater b = refl
 
 -- what comes before a use comes before it in a sorted list
-pub parted : (us : List Use) (v : Use) → IsSorted in_order us → IsPartitionedBy (is_before v) us
+pub parted : (us : List Use) (v : Use) → IsSorted use_order us → IsPartitionedBy (is_before v) us
 parted us v sorted i j d le lt before =
-    let rise : ordering_index (in_order (slice_index_or us i d) v) ≤ ordering_index (in_order (slice_index_or us j d) v) = searchable_from_sorted in_order_total (λ u. u) us v sorted i j d le lt in
-    lower (in_order (slice_index_or us i d) v) (in_order (slice_index_or us j d) v) rise before
+    let rise : ordering_index (use_order (slice_index_or us i d) v) ≤ ordering_index (use_order (slice_index_or us j d) v) = searchable_from_sorted in_order_total (λ u. u) us v sorted i j d le lt in
+    lower (use_order (slice_index_or us i d) v) (use_order (slice_index_or us j d) v) rise before
   where
     lower : (a b : Ordering) → ordering_index a ≤ ordering_index b → is_lt b ≡ true → is_lt a ≡ true
     lower Less b h e = refl
@@ -71,7 +71,7 @@ moved us vs h k v there =
     (m.0, slice_get-get_or us m.0 v m.1 ∙ ap Some is)
 
 pub are_uses : (used : List ℕ) (us : List Use) (u : Uses) → ((p : ℕ) → p < length used → slice_get us p ≡ Some (record { variable = used_at used p; at = p })) → length us ≡ length used
-    → IsPermutation us u.uses.items → IsSorted in_order u.uses.items → AreUses used u
+    → IsPermutation us u.uses.items → IsSorted use_order u.uses.items → AreUses used u
 are_uses used us u is count p ascending = record {
   ascending = ascending;
   each = λ k lt. moved u.uses.items us (IsPermutation-sym us u.uses.items p) k _ (is k lt);

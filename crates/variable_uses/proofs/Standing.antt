@@ -5,7 +5,7 @@ use Rattle.seq.proofs.Lists.{drop_before, append_again}
 use Rattle.seq.specs.Lists.{is_among}
 use Rattle.seq.proofs.Counted.{among_first, among_later, among_cases}
 use Rattle.variable_uses.specs.Uses.{IsUsedWithin}
-use Rattle.variable_uses.specs.Stands.{Stands}
+use Rattle.variable_uses.specs.Stands.{ListSegmentAt}
 
 -- ---- standing in a list
 
@@ -14,16 +14,16 @@ drop_more items zero n = let e : 0 + n ≡ n = omega arith in ap (λ j. drop j i
 drop_more [] (suc k) n = drop-nil (suc k + n) ∙ sym (drop-nil n) ∙ ap (drop n) (sym (drop-nil (suc k)))
 drop_more (x ∷ items) (suc k) n = let e : suc k + n ≡ suc (k + n) = omega arith in ap (λ j. drop j (x ∷ items)) e ∙ drop_more items k n
 
-pub stands_first : {A : Type 0} (items : List A) (at : ℕ) (xs ys : List A) → Stands items at (xs ++ ys) → Stands items at xs
+pub stands_first : {A : Type 0} (items : List A) (at : ℕ) (xs ys : List A) → ListSegmentAt items at (xs ++ ys) → ListSegmentAt items at xs
 stands_first items at xs ys s = record { after = ys ++ s.after; is = s.is ∙ append_again xs ys s.after }
 
-pub stands_rest : {A : Type 0} (items : List A) (at : ℕ) (xs ys : List A) → Stands items at (xs ++ ys) → Stands items (at + length xs) ys
+pub stands_rest : {A : Type 0} (items : List A) (at : ℕ) (xs ys : List A) → ListSegmentAt items at (xs ++ ys) → ListSegmentAt items (at + length xs) ys
 stands_rest items at xs ys s = record {
   after = s.after;
   is = drop_more items at (length xs) ∙ ap (drop (length xs)) (s.is ∙ append_again xs ys s.after) ∙ drop_before xs (ys ++ s.after);
 }
 
-pub stands_all : {A : Type 0} (items : List A) → Stands items 0 items
+pub stands_all : {A : Type 0} (items : List A) → ListSegmentAt items 0 items
 stands_all items = record { after = []; is = end items }
   where
     end : {A : Type 0} (xs : List A) → xs ≡ xs ++ []
@@ -53,12 +53,12 @@ at_among (x ∷ xs) y h = elim (among_cases y x xs h) [
 ]
 
 -- the size of an inner block
-pub stands_head : (items : List ℕ) (at n : ℕ) (rest : List ℕ) → Stands items at (n ∷ rest) → slice_index_or items at 0 ≡ n
+pub stands_head : (items : List ℕ) (at n : ℕ) (rest : List ℕ) → ListSegmentAt items at (n ∷ rest) → slice_index_or items at 0 ≡ n
 stands_head items at n rest s =
     let e : at ≡ at + 0 = omega arith in
     ap (λ j. slice_index_or items j 0) e ∙ at_drop items at 0 ∙ ap (λ l. slice_index_or l 0 0) s.is
 
-module _ (used : List ℕ) (at : ℕ) (part : List ℕ) (s : Stands used at part) (y : ℕ) where
+module _ (used : List ℕ) (at : ℕ) (part : List ℕ) (s : ListSegmentAt used at part) (y : ℕ) where
   in_part : (j : ℕ) → j < length part → slice_index_or used (at + j) 0 ≡ slice_index_or part j 0
   in_part j h = at_drop used at j ∙ ap (λ l. slice_index_or l j 0) s.is ∙ index_first part s.after j h
 

@@ -2,6 +2,6 @@
 use Rattle.std.specs.Prelude.{◌≡◌, ℕ, List, ◌++◌, drop}
 
 -- the items from this place on begin with these
-pub record Stands {A : Type 0} (items : List A) (at : ℕ) (part : List A) : Type 0 where
+pub record ListSegmentAt {A : Type 0} (items : List A) (at : ℕ) (part : List A) : Type 0 where
   pub after : List A
   pub is : drop at items ≡ part ++ after

@@ -16,12 +16,12 @@ IsUsedWithin used x from to = (p : ℕ)
     × ((from ≤ p) × ((p < to) × ((p < length used) × (used_at used p ≡ x))))
 
 -- by the variables, and where they are the same by the positions
-abbrev pub in_order : Use → Use → Ordering
-in_order u v = ordering_then (nat_cmp u.variable v.variable) (nat_cmp u.at v.at)
+abbrev pub use_order : Use → Use → Ordering
+use_order u v = ordering_then (nat_cmp u.variable v.variable) (nat_cmp u.at v.at)
 
 -- all uses, and no others, ascending
 pub record AreUses (used : List ℕ) (u : Uses) : Type 0 where
-  pub ascending : IsSorted in_order u.uses.items
+  pub ascending : IsSorted use_order u.uses.items
   pub each : (p : ℕ) → p < length used
       → (i : ℕ) × (slice_get u.uses.items i ≡ Some (record { variable = used_at used p; at = p }))
   pub only : (i : ℕ) (v : Use) → slice_get u.uses.items i ≡ Some v

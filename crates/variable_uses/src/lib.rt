@@ -1,4 +1,5 @@
-//! Where the variables of a text are used: a list of uses is searched by a variable and by positions.
+//! Where the variables of a text are used: a list of uses is searched by a variable and by
+//! positions.
 #![tactic(auto)]
 
 pub mod uses;

@@ -5,5 +5,5 @@ pub mod Vals
 pub mod Standing
 pub mod Steps
 pub mod Simulated
-pub mod Shape
-pub mod PassContract
+pub mod Gives
+pub mod Contract

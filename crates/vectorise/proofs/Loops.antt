@@ -19,7 +19,7 @@ use Rattle.grin_meaning.specs.Ready.{value_fields, most_value_fields}
 use Rattle.vectorise.specs.declared.known.Known.{Known}
 use Rattle.vectorise.specs.declared.known.Known.TheVariants.{Field}
 use Rattle.vectorise.specs.Known.{Layout, Table, word_or_zero, noted_fields, noted_shape, noted_act, noted_code, noted_arms, noted_procs}
-use Rattle.vectorise.specs.Vectors.{wide_val, bare, wide_act, wide_code, wide_arms, wide_arm}
+use Rattle.vectorise.specs.Vectors.{wide_val, without_binders, wide_act, wide_code, wide_arms, wide_arm}
 
 -- ---- the longest node
 
@@ -119,7 +119,7 @@ module _ (l : Layout) (k : Table) where
   arms_widen : (as' : List (Shape × Code)) → arms_of (map (wide_arm l k) as') ≡ wide_arms l k (arms_of as')
   unfolding wide_act
   arms_widen [] = refl
-  arms_widen (a ∷ as') = ap (arm (bare a.0) (wide_code l k a.1)) (arms_widen as')
+  arms_widen (a ∷ as') = ap (arm (without_binders a.0) (wide_code l k a.1)) (arms_widen as')
 
   pub case_widens : (v v' : Val) (made alts : List Alt) → v' ≡ wide_val l k v → map arm_of made ≡ map (wide_arm l k) (map arm_of alts) → act_of (Case v' made) ≡ wide_act l k (act_of (Case v alts))
   unfolding wide_act

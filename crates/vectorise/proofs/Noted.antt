@@ -13,7 +13,7 @@ use Rattle.grin_syntax.specs.declared.program.Val as V
 use Rattle.grin_syntax.specs.declared.program.Val.TheVariants.{NodeVar, Node, Vector, One}
 use Rattle.grin_syntax.specs.Tree.{Code, end, store, bind, Act, unit, fetch, fetch_word, update, eval, apply, call, prim, read, write, case, nested, fail, Arms, no_arm, arm, Procedure, Program}
 use Rattle.grin_syntax.specs.Binders.{numbers_of, target_vars, shape_vars, cell_vars, act_vars, code_vars, arms_vars, procs_vars}
-use Rattle.grin_syntax.specs.Formed.{AllOf, Scope, with_words, with_target, params_scope, WordFormed, ValFormed, ActFormed, CodeFormed, ArmsFormed, ProcedureFormed, Formed}
+use Rattle.grin_syntax.specs.Formed.{AllOf, Scope, with_word_variables, with_target, params_scope, WordFormed, ValFormed, ActFormed, CodeFormed, ArmsFormed, ProcedureFormed, Formed}
 use Rattle.grin_syntax.specs.Fresh.{variables, past_procs}
 use Rattle.grin_syntax.proofs.Scopes.{first_in}
 use Rattle.grin_syntax.proofs.Unbound.{past_procs_none}
@@ -261,7 +261,7 @@ module _ (l : Layout) where
     fields_same p scope k (Vector ws) on f = refl
     fields_same p scope k (One w) on f = refl
 
-    on_words : (scope : Scope) (xs : List ℕ) (k : Table) → OnScope scope k → On xs k → OnScope (with_words xs scope) k
+    on_words : (scope : Scope) (xs : List ℕ) (k : Table) → OnScope scope k → On xs k → OnScope (with_word_variables xs scope) k
     on_words scope xs k sc at y i =
         let f : times y (xs ++ scope.words) ≡ times y xs + times y scope.words = times_append y xs scope.words in
         ⊎_elim (λ h. at y h) (λ h. sc y h) (some_of (times y xs) (times y scope.nodes + times y scope.words) (omega arith))
@@ -327,7 +327,7 @@ module _ (l : Layout) where
             let xs : List ℕ = cell_vars cs in
             let at : (y : ℕ) → 0 < times y xs → slice_get K y ≡ slice_get k y = λ y i. on y (in_left y xs (code_vars b) i) ∙ code_leaves b k y (apart_left scope xs (code_vars b) once y i) in (
               cells_plain cs (λ y i. at y i ∙ clean y (in_left y xs (code_vars b) i)),
-              code_known b (with_words xs scope) k f.1 (once_words scope xs (code_vars b) once) (on_words scope xs k sc at) (λ y i. clean y (in_right y xs (code_vars b) i)) (λ y i. on y (in_right y xs (code_vars b) i)),
+              code_known b (with_word_variables xs scope) k f.1 (once_words scope xs (code_vars b) once) (on_words scope xs k sc at) (λ y i. clean y (in_right y xs (code_vars b) i)) (λ y i. on y (in_right y xs (code_vars b) i)),
             )
         code_known (bind t o b) scope k f once sc clean on =
             let xs : List ℕ = target_vars t in
@@ -359,7 +359,7 @@ module _ (l : Layout) where
             let of_shape : (y : ℕ) → 0 < times y xs → slice_get K y ≡ slice_get k1 y
             = λ y i. on y (in_left y xs (bs ++ rs) i) ∙ arms_leave ws as' k2 y (third_free scope xs bs rs once y (omega (arith, i))) ∙ code_leaves b k1 y (second_of_first scope xs bs rs once y i) in (
               shape_known ws s k (once_first scope xs bs rs once) (λ y i. clean y (in_left y xs (bs ++ rs) i)) of_shape,
-              code_known b (with_words xs scope) k1 f.1 (once_words scope xs bs (once_two scope xs bs rs once))
+              code_known b (with_word_variables xs scope) k1 f.1 (once_words scope xs bs (once_two scope xs bs rs once))
                   (on_words scope xs k1 (λ y i. sc y i ∙ sym (shape_leaves ws s k y (first_of_scope scope xs bs rs once y i))) of_shape)
                   (λ y i. shape_leaves ws s k y (first_of_second scope xs bs rs once y i) ∙ clean y (in_right y xs (bs ++ rs) (in_left y bs rs i)))
                   (λ y i. on y (in_right y xs (bs ++ rs) (in_left y bs rs i)) ∙ arms_leave ws as' k2 y (third_of_second scope xs bs rs once y i)),

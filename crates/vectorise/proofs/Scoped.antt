@@ -16,15 +16,15 @@ use Rattle.grin_syntax.specs.declared.program.Val as V
 use Rattle.grin_syntax.specs.declared.program.Val.TheVariants.{NodeVar, Node, Vector, One}
 use Rattle.grin_syntax.specs.Tree.{Code, end, store, bind, Act, unit, fetch, fetch_word, update, eval, apply, call, prim, read, write, case, nested, fail, Arms, no_arm, arm, Procedure, Program}
 use Rattle.grin_syntax.specs.Binders.{numbers_of, target_vars, shape_vars, cell_vars, act_vars, code_vars, arms_vars}
-use Rattle.grin_syntax.specs.Formed.{AllOf, Scope, InScope, with_words, with_target, params_scope, WordFormed, ValFormed, CellFormed, ShapeFormed, ActFormed, CodeFormed, ArmsFormed}
+use Rattle.grin_syntax.specs.Formed.{AllOf, Scope, InScope, with_word_variables, with_target, params_scope, WordFormed, ValFormed, CellFormed, ShapeFormed, ActFormed, CodeFormed, ArmsFormed}
 use Rattle.grin_syntax.specs.Fresh.{variables, past_vars, past_target, past_cells, past_act, past_code, past_arms}
 use Rattle.grin_syntax.proofs.Counted.{fresh, fresh_below, fresh_once, fresh_past}
 use Rattle.grin_syntax.proofs.Scopes.{first_in, with_procs, known_again}
 use Rattle.grin_meaning.specs.Checks.{is_fetch}
 use Rattle.grin_meaning.specs.Ready.{value_fields, most_fields, most_value_fields}
 use Rattle.vectorise.specs.declared.known.Known.TheVariants.{Field}
-use Rattle.vectorise.specs.Known.{Layout, Table, vector_start, room, is_fetched, room_of, word_or_zero, word_for, as_word, as_words, field_words}
-use Rattle.vectorise.specs.Vectors.{wide_val, given_val, wide_target, bare, wide_cells, wide_act, wide_code, wide_arms}
+use Rattle.vectorise.specs.Known.{Layout, Table, vector_start, room, is_fetched, field_capacity_of, word_or_zero, word_for, as_word, as_words, field_words}
+use Rattle.vectorise.specs.Vectors.{wide_val, returned_val, wide_target, without_binders, wide_cells, wide_act, wide_code, wide_arms}
 use Rattle.vectorise.proofs.Noted.{in_left, in_right, in_later, IsPlain, TargetKnown, FieldsKnown, ShapeKnown, ActKnown, CodeKnown, ArmsKnown}
 use Rattle.seq.specs.Lists.{times}
 use Rattle.seq.proofs.Counted.{counts, none_at, times_append, one_at}
@@ -126,7 +126,7 @@ module _ (l : Layout) where
       cell_vars_stay [] = refl
       cell_vars_stay (c ∷ cs) = ap (λ xs. c.var.0 ∷ xs) (cell_vars_stay cs)
 
-      no_vars : (s : Shape) → shape_vars (bare s) ≡ []
+      no_vars : (s : Shape) → shape_vars (without_binders s) ≡ []
       no_vars (shape.Node t xs) = refl
       no_vars (shape.Int k) = refl
       no_vars shape.Else = refl
@@ -163,7 +163,7 @@ module _ (l : Layout) where
         arms_count : (u z : ℕ) (as' : Arms) → Origin u z → past_arms as' ≤ l.base → times u (arms_vars (wide_arms l K as')) ≤ times z (arms_vars as')
         arms_count u z no_arm o le = omega arith
         arms_count u z (arm s b as') o le =
-            more u z (shape_vars (bare s)) (code_vars (wide_code l K b) ++ arms_vars (wide_arms l K as')) (shape_vars s) (code_vars b ++ arms_vars as')
+            more u z (shape_vars (without_binders s)) (code_vars (wide_code l K b) ++ arms_vars (wide_arms l K as')) (shape_vars s) (code_vars b ++ arms_vars as')
             (subst (λ xs. times u xs ≤ times z (shape_vars s)) (sym (no_vars s)) (omega arith))
             (more u z (code_vars (wide_code l K b)) (arms_vars (wide_arms l K as')) (code_vars b) (arms_vars as') (code_counts u z b o (omega arith)) (arms_count u z as' o (omega arith)))
 
@@ -206,13 +206,13 @@ module _ (l : Layout) where
         go zero e = let a : times y (xs ++ ys) ≡ times y xs + times y ys = times_append y xs ys in inr (omega (arith, e, h, a))
 
     -- word variables that stay
-    pub words_carry : (xs : List ℕ) (scope : Scope) (scope' : List ℕ) → ((y : ℕ) → InScope xs y → IsPlain l K y) → Carries scope scope' → Carries (with_words xs scope) (xs ++ scope')
+    pub words_carry : (xs : List ℕ) (scope : Scope) (scope' : List ℕ) → ((y : ℕ) → InScope xs y → IsPlain l K y) → Carries scope scope' → Carries (with_word_variables xs scope) (xs ++ scope')
     words_carry xs scope scope' plain c = record {
       words = λ x h. ⊎_elim (λ i. subst (WordIn (xs ++ scope')) (sym (plain_word x (plain x.0 i))) (in_left x.0 xs scope' i)) (λ i. word_more xs scope' _ (c.words x i)) (split x.0 xs scope.words h);
       nodes = λ x h j lt. in_right (vector_start l x + j) xs scope' (c.nodes x h j lt);
     }
 
-    pub words_below : (xs : List ℕ) (scope : Scope) (scope' : List ℕ) → ((u z : ℕ) → Origin u z → times u xs ≤ times z xs) → Below scope scope' → Below (with_words xs scope) (xs ++ scope')
+    pub words_below : (xs : List ℕ) (scope : Scope) (scope' : List ℕ) → ((u z : ℕ) → Origin u z → times u xs ≤ times z xs) → Below scope scope' → Below (with_word_variables xs scope) (xs ++ scope')
     words_below xs scope scope' f b u z o =
         let e : times u (xs ++ scope') ≡ times u xs + times u scope' = times_append u xs scope' in
         let g : times z (xs ++ scope.words) ≡ times z xs + times z scope.words = times_append z xs scope.words in
@@ -284,12 +284,12 @@ module _ (l : Layout) where
         at_field : (x y : VarId) (w : W.Word) → x.0 ≡ y.0 → slice_get K y.0 ≡ Some (Field w) → WordIn scope' w → WordIn scope' (word_for x (slice_get K x.0))
         at_field x y w e q i = subst (λ o. WordIn scope' (word_for x o)) (sym (ap (slice_get K) e ∙ q)) i
 
-    pub fields_carry : (ws : List W.Word) (s : Shape) (scope : Scope) (scope' : List ℕ) → AllOf (WordIn scope') ws → ShapeKnown l K ws s → Carries scope scope' → Carries (with_words (shape_vars s) scope) scope'
+    pub fields_carry : (ws : List W.Word) (s : Shape) (scope : Scope) (scope' : List ℕ) → AllOf (WordIn scope') ws → ShapeKnown l K ws s → Carries scope scope' → Carries (with_word_variables (shape_vars s) scope) scope'
     fields_carry ws (shape.Node t xs) scope scope' f k c = record { words = λ x h. ⊎_elim (λ i. fields_are ws xs scope' f k x i) (λ i. c.words x i) (split x.0 (numbers_of xs) scope.words h); nodes = c.nodes }
     fields_carry ws (shape.Int i) scope scope' f k c = c
     fields_carry ws shape.Else scope scope' f k c = c
 
-    pub fields_below : (xs : List ℕ) (scope : Scope) (scope' : List ℕ) → Below scope scope' → Below (with_words xs scope) scope'
+    pub fields_below : (xs : List ℕ) (scope : Scope) (scope' : List ℕ) → Below scope scope' → Below (with_word_variables xs scope) scope'
     fields_below xs scope scope' b u z o =
         let g : times z (xs ++ scope.words) ≡ times z xs + times z scope.words = times_append z xs scope.words in
         let k : times u scope' ≤ times z scope.nodes + times z scope.words = b u z o in
@@ -317,19 +317,19 @@ module _ (l : Layout) where
       room_least false = omega arith
 
       pub fields_formed : (scope : Scope) (scope' : List ℕ) → Carries scope scope' → (v : V.Val) → ValFormed p scope v → AllOf (WordIn scope') (field_words l K v)
-      fields_formed scope scope' c (NodeVar x) h = run_formed scope' (suc (vector_start l x.0)) (room_of l K x) (λ j lt. let e : vector_start l x.0 + suc j ≡ suc (vector_start l x.0) + j = omega arith in subst (InScope scope') e (c.nodes x.0 h (suc j) (omega (arith, lt))))
+      fields_formed scope scope' c (NodeVar x) h = run_formed scope' (suc (vector_start l x.0)) (field_capacity_of l K x) (λ j lt. let e : vector_start l x.0 + suc j ≡ suc (vector_start l x.0) + j = omega arith in subst (InScope scope') e (c.nodes x.0 h (suc j) (omega (arith, lt))))
       fields_formed scope scope' c (Node t ws) h = words_formed scope scope' c ws h.1
       fields_formed scope scope' c (Vector ws) h = tt
       fields_formed scope scope' c (One w) h = tt
 
       val_formed : (scope : Scope) (scope' : List ℕ) → Carries scope scope' → (v : V.Val) → ValFormed p scope v → ValFormed there (as_scope scope') (wide_val l K v)
-      val_formed scope scope' c (NodeVar x) h = run_formed scope' (vector_start l x.0) (suc (room_of l K x)) (c.nodes x.0 h)
+      val_formed scope scope' c (NodeVar x) h = run_formed scope' (vector_start l x.0) (suc (field_capacity_of l K x)) (c.nodes x.0 h)
       val_formed scope scope' c (Node t ws) h = (h.0, words_formed scope scope' c ws h.1)
       val_formed scope scope' c (Vector ws) h = words_formed scope scope' c ws h
       val_formed scope scope' c (One w) h = word_formed scope scope' c w h
 
-      given_formed : (scope : Scope) (scope' : List ℕ) → Carries scope scope' → (v : V.Val) → ValFormed p scope v → ValFormed there (as_scope scope') (given_val l K v)
-      given_formed scope scope' c (NodeVar x) h = run_formed scope' (vector_start l x.0) (suc l.most_value) (λ j lt. c.nodes x.0 h j (let r : l.most_value ≤ room_of l K x = room_least (is_fetched (slice_get K x.0)) in omega (arith, lt, r)))
+      given_formed : (scope : Scope) (scope' : List ℕ) → Carries scope scope' → (v : V.Val) → ValFormed p scope v → ValFormed there (as_scope scope') (returned_val l K v)
+      given_formed scope scope' c (NodeVar x) h = run_formed scope' (vector_start l x.0) (suc l.most_value) (λ j lt. c.nodes x.0 h j (let r : l.most_value ≤ field_capacity_of l K x = room_least (is_fetched (slice_get K x.0)) in omega (arith, lt, r)))
       given_formed scope scope' c (Node t ws) h = val_formed scope scope' c (Node t ws) h
       given_formed scope scope' c (Vector ws) h = val_formed scope scope' c (Vector ws) h
       given_formed scope scope' c (One w) h = val_formed scope scope' c (One w) h
@@ -338,13 +338,13 @@ module _ (l : Layout) where
       cells_formed scope scope' c [] h = tt
       cells_formed scope scope' c (x ∷ cs) h = (val_formed scope scope' c x.val h.0, cells_formed scope scope' c cs h.1)
 
-      pub cells_carry : (cs : List Cell) (scope : Scope) (scope' : List ℕ) → AllOf (λ c. IsPlain l K c.var.0) cs → Carries scope scope' → Carries (with_words (cell_vars cs) scope) (cell_vars (wide_cells l K cs) ++ scope')
-      cells_carry cs scope scope' k c = subst (λ xs. Carries (with_words (cell_vars cs) scope) (xs ++ scope')) (sym (cell_vars_stay few K cs)) (words_carry (cell_vars cs) scope scope' (cells_are cs k) c)
+      pub cells_carry : (cs : List Cell) (scope : Scope) (scope' : List ℕ) → AllOf (λ c. IsPlain l K c.var.0) cs → Carries scope scope' → Carries (with_word_variables (cell_vars cs) scope) (cell_vars (wide_cells l K cs) ++ scope')
+      cells_carry cs scope scope' k c = subst (λ xs. Carries (with_word_variables (cell_vars cs) scope) (xs ++ scope')) (sym (cell_vars_stay few K cs)) (words_carry (cell_vars cs) scope scope' (cells_are cs k) c)
 
-      pub cells_below : (cs : List Cell) (scope : Scope) (scope' : List ℕ) → past_cells cs ≤ l.base → Below scope scope' → Below (with_words (cell_vars cs) scope) (cell_vars (wide_cells l K cs) ++ scope')
-      cells_below cs scope scope' le b = subst (λ xs. Below (with_words (cell_vars cs) scope) (xs ++ scope')) (sym (cell_vars_stay few K cs)) (words_below (cell_vars cs) scope scope' (λ u z o. cells_counts u z cs o le) b)
+      pub cells_below : (cs : List Cell) (scope : Scope) (scope' : List ℕ) → past_cells cs ≤ l.base → Below scope scope' → Below (with_word_variables (cell_vars cs) scope) (cell_vars (wide_cells l K cs) ++ scope')
+      cells_below cs scope scope' le b = subst (λ xs. Below (with_word_variables (cell_vars cs) scope) (xs ++ scope')) (sym (cell_vars_stay few K cs)) (words_below (cell_vars cs) scope scope' (λ u z o. cells_counts u z cs o le) b)
 
-      shape_formed : (s : Shape) → ShapeFormed p s → ShapeFormed there (bare s)
+      shape_formed : (s : Shape) → ShapeFormed p s → ShapeFormed there (without_binders s)
       shape_formed (shape.Node t xs) h = h
       shape_formed (shape.Int k) h = tt
       shape_formed shape.Else h = tt
@@ -377,8 +377,8 @@ module _ (l : Layout) where
         pub code_formed : (b : Code) (scope : Scope) (scope' : List ℕ) → Carries scope scope' → CodeKnown l K b → CodeFormed p scope b → CodeFormed there (as_scope scope') (wide_code l K b)
         code_formed (end o) scope scope' c k h = act_formed o scope scope' c k h
         code_formed (store cs b) scope scope' c k h =
-            let c' : Carries (with_words (cell_vars cs) scope) (cell_vars (wide_cells l K cs) ++ scope') = cells_carry cs scope scope' k.0 c in
-            (cells_formed (with_words (cell_vars cs) scope) (cell_vars (wide_cells l K cs) ++ scope') c' cs h.0, code_formed b (with_words (cell_vars cs) scope) (cell_vars (wide_cells l K cs) ++ scope') c' k.1 h.1)
+            let c' : Carries (with_word_variables (cell_vars cs) scope) (cell_vars (wide_cells l K cs) ++ scope') = cells_carry cs scope scope' k.0 c in
+            (cells_formed (with_word_variables (cell_vars cs) scope) (cell_vars (wide_cells l K cs) ++ scope') c' cs h.0, code_formed b (with_word_variables (cell_vars cs) scope) (cell_vars (wide_cells l K cs) ++ scope') c' k.1 h.1)
         code_formed (bind t o b) scope scope' c k h = (
           act_formed o scope scope' c k.1 h.0,
           subst (λ s. CodeFormed there s (wide_code l K b)) (sym (target_scope (is_fetch o) t scope'))
@@ -389,6 +389,6 @@ module _ (l : Layout) where
         arms_formed ws no_arm scope scope' c f k h = tt
         arms_formed ws (arm s b as') scope scope' c f k h = (
           shape_formed s h.0,
-          subst (λ xs. CodeFormed there (with_words xs (as_scope scope')) (wide_code l K b)) (sym (no_vars few K s)) (code_formed b (with_words (shape_vars s) scope) scope' (fields_carry ws s scope scope' f k.0 c) k.1 h.1),
+          subst (λ xs. CodeFormed there (with_word_variables xs (as_scope scope')) (wide_code l K b)) (sym (no_vars few K s)) (code_formed b (with_word_variables (shape_vars s) scope) scope' (fields_carry ws s scope scope' f k.0 c) k.1 h.1),
           arms_formed ws as' scope scope' c f k.2 h.2,
         )

@@ -12,15 +12,15 @@ use Rattle.grin_syntax.specs.declared.program.Target.TheVariants as to
 use Rattle.grin_syntax.specs.declared.program.Word as W
 use Rattle.grin_syntax.specs.Tree.{Code, end, store, bind, Act, unit, fetch, fetch_word, update, eval, apply, call, prim, read, write, case, nested, fail, Arms, no_arm, arm, Procedure, Program}
 use Rattle.grin_syntax.specs.Binders.{numbers_of, target_vars, shape_vars, cell_vars, act_vars, code_vars, arms_vars, procs_vars}
-use Rattle.grin_syntax.specs.Formed.{AllOf, Scope, InScope, with_words, with_target, params_scope, WordFormed, CellFormed, ActFormed, CodeFormed, ArmsFormed, ProcedureFormed, Formed}
+use Rattle.grin_syntax.specs.Formed.{AllOf, Scope, InScope, with_word_variables, with_target, params_scope, WordFormed, CellFormed, ActFormed, CodeFormed, ArmsFormed, ProcedureFormed, Formed}
 use Rattle.grin_syntax.specs.Fresh.{past_vars, past_target, past_cells, past_act, past_code, past_arms, past_procs}
 use Rattle.grin_meaning.specs.Values.{Datum, Node, Value, node, words, Env, HeapCell, and_then, Binding, with_vars, one_each, as_node, word_of, value_of, bindings_of}
 use Rattle.grin_meaning.specs.Run.{Calls, places, cells_of, place_of, is_fun_kind, is_some_and}
 use Rattle.grin_meaning.specs.Checks.{has_block, is_fetch, is_node_target, is_delayed, not_delayed, is_given, fills, all_fill, is_bound_well}
-use Rattle.grin_meaning.specs.Ready.{value_fields, most_value_fields, EachAct, EachCode, EachArms, EachBody, inlined_kind}
+use Rattle.grin_meaning.specs.Ready.{value_fields, most_value_fields, EachAct, EachCode, EachArms, EveryBodyIsOfKind, inlined_kind}
 use Rattle.grin_meaning.specs.Rewritten.{rewritten_procedure}
 use Rattle.grin_meaning.specs.Keeps.{Keeps}
-use Rattle.grin_meaning.specs.Looking.{look, LooksNeverMissing}
+use Rattle.grin_meaning.specs.Looking.{checked_run, CheckedRunsNeverMissing}
 use Rattle.grin_meaning.specs.Follows.{Same, same}
 use Rattle.grin_meaning.specs.Full.{FullNode, FullCell, FullState}
 use Rattle.grin_meaning.proofs.Back.{CallsBack}
@@ -30,8 +30,8 @@ use Rattle.grin_meaning.proofs.Rules.{Relation, Plan, Here, Setting, CallsFollow
 use Rattle.grin_meaning.proofs.Procedures.{BodyFollows, BodiesFollow, no_more, one_more, side_by_side, run_follows}
 use Rattle.grin_meaning.proofs.KeptBy.{likewise_kept, looking_kept}
 use Rattle.vectorise.specs.Known.{Layout, layout_of, Table, table_of, room, as_word, as_words, field_words}
-use Rattle.vectorise.specs.Vectors.{wide_val, given_val, wide_target, bare, wide_cells, wide_act, wide_code, wide_arms, vectorised}
-use Rattle.vectorise.specs.Whole.{NoVector, NoVectorTarget, IsWhole, whole_kind}
+use Rattle.vectorise.specs.Vectors.{wide_val, returned_val, wide_target, without_binders, wide_cells, wide_act, wide_code, wide_arms, vectorised}
+use Rattle.vectorise.specs.Whole.{NoVector, NoVectorTarget, UsesWholeNodes, whole_node_kind}
 use Rattle.vectorise.proofs.Noted.{in_left, IsPlain, TargetKnown, ActKnown, CodeKnown, ArmsKnown, ProcedureKnown, all_known, once_target, once_two, once_third}
 use Rattle.vectorise.proofs.Scoped.{WordIn, params_carry, all_counts, most_value_most, target_carries, target_below, cells_carry, cells_below, fields_carry, fields_below, fields_formed}
 use Rattle.vectorise.proofs.Standing.{Stand, Held, reorder, places_stand, params_stand}
@@ -71,7 +71,7 @@ once_middle scope xs os bs once y =
 target_new : (scope : Scope) (xs ys : List ℕ) → Once scope (xs ++ ys) → (y : ℕ) → InScope xs y → times y scope.nodes + times y scope.words ≡ 0
 target_new scope xs ys once y i = let o : times y scope.nodes + times y scope.words + times y (xs ++ ys) ≤ 1 = once y in let e : times y (xs ++ ys) ≡ times y xs + times y ys = times_append y xs ys in omega (arith, o, e, i)
 
-module _ (g : Program) (formed : Formed g) (never : LooksNeverMissing g) (inlined : EachBody inlined_kind g.procs) (whole : IsWhole g) where
+module _ (g : Program) (formed : Formed g) (never : CheckedRunsNeverMissing g) (inlined : EveryBodyIsOfKind inlined_kind g.procs) (whole : UsesWholeNodes g) where
   abbrev l : Layout
   l = layout_of g
 
@@ -207,7 +207,7 @@ module _ (g : Program) (formed : Formed g) (never : LooksNeverMissing g) (inline
       held : Holds scope scope'
       formed_act : ActFormed g scope o
       inlined_act : EachAct inlined_kind o
-      whole_act : EachAct whole_kind o
+      whole_act : EachAct whole_node_kind o
       known_act : ActKnown l K o
       once_act : Once scope (act_vars o)
       past : past_act o ≤ l.base
@@ -216,7 +216,7 @@ module _ (g : Program) (formed : Formed g) (never : LooksNeverMissing g) (inline
       held : Holds scope scope'
       formed_code : CodeFormed g scope b
       inlined_code : EachCode inlined_kind b
-      whole_code : EachCode whole_kind b
+      whole_code : EachCode whole_node_kind b
       known_code : CodeKnown l K b
       once_code : Once scope (code_vars b)
       past : past_code b ≤ l.base
@@ -226,7 +226,7 @@ module _ (g : Program) (formed : Formed g) (never : LooksNeverMissing g) (inline
       formed_words : AllOf (WordIn l K g procs same_count scope') ws
       formed_arms : ArmsFormed g scope as'
       inlined_arms : EachArms inlined_kind as'
-      whole_arms : EachArms whole_kind as'
+      whole_arms : EachArms whole_node_kind as'
       known_arms : ArmsKnown l K ws as'
       once_arms : Once scope (arms_vars as')
       past : past_arms as' ≤ l.base
@@ -234,11 +234,11 @@ module _ (g : Program) (formed : Formed g) (never : LooksNeverMissing g) (inline
     not_fetched : {A : Type 0} → false ≡ true → A
     not_fetched h = cc
 
-    stores_too : (scope : Scope) (scope' : List ℕ) (cs : List Cell) → Holds scope scope' → AllOf (CellFormed g (with_words (cell_vars cs) scope)) cs → AllOf (λ c. NoVector c.val) cs → AllOf (λ c. IsPlain l K c.var.0) cs → Once scope (cell_vars cs) → past_cells cs ≤ l.base
-        → (x : Here plan (St scope)) (y : Stored it (St scope) cs x) → StoresToo it (St scope) (St (with_words (cell_vars cs) scope)) cs (wide_cells l K cs) x y.hs
+    stores_too : (scope : Scope) (scope' : List ℕ) (cs : List Cell) → Holds scope scope' → AllOf (CellFormed g (with_word_variables (cell_vars cs) scope)) cs → AllOf (λ c. NoVector c.val) cs → AllOf (λ c. IsPlain l K c.var.0) cs → Once scope (cell_vars cs) → past_cells cs ≤ l.base
+        → (x : Here plan (St scope)) (y : Stored it (St scope) cs x) → StoresToo it (St scope) (St (with_word_variables (cell_vars cs) scope)) cs (wide_cells l K cs) x y.hs
     stores_too scope scope' cs held f w k once past x y =
         let many : length x.w.cells ≡ length x.b.cells = ap length (sym (same_cells x.b)) in
-        let scope1 : Scope = with_words (cell_vars cs) scope in
+        let scope1 : Scope = with_word_variables (cell_vars cs) scope in
         let env1 : Env = with_vars (places (length x.w.cells) cs) x.env in
         let env1' : Env = with_vars (places (length x.b.cells) (wide_cells l K cs)) x.env' in
         let st1 : Stand l K g procs same_count scope1 env1 env1'
@@ -280,8 +280,8 @@ module _ (g : Program) (formed : Formed g) (never : LooksNeverMissing g) (inline
           (z.y', z.value, (x.related, z.node_same, λ n r. (z.fine n r).1))))
       act_goes (nested b) scope scope' q = act_more it (nested b) (nested (wide_code l K b)) (λ c e e' r. r) (λ a a' u. (u, not_fetched)) (nested_follows it b (wide_code l K b)
           (code_goes b scope scope' (record { held = q.held; formed_code = q.formed_act; inlined_code = q.inlined_act.1; whole_code = q.whole_act.1; known_code = q.known_act; once_code = q.once_act; past = q.past })))
-      act_goes (unit v) scope scope' q = unit_follows it v (given_val l K v) (λ x y e seen.
-          let u : (y' : Value) × (value_of g x.env' (given_val l K v) ≡ Some y') × Results y y' × (fills g x.env' (given_val l K v) ≡ true) = unit_goes l K g procs same_count scope x.env x.env' x.related x.known.variables few v q.formed_act q.whole_act.0 q.whole_act.1 y e in
+      act_goes (unit v) scope scope' q = unit_follows it v (returned_val l K v) (λ x y e seen.
+          let u : (y' : Value) × (value_of g x.env' (returned_val l K v) ≡ Some y') × Results y y' × (fills g x.env' (returned_val l K v) ≡ true) = unit_goes l K g procs same_count scope x.env x.env' x.related x.known.variables few v q.formed_act q.whole_act.0 q.whole_act.1 y e in
           (λ _. u.3, u.0, u.1, (u.2, not_fetched)))
       act_goes (fetch a) scope scope' q = fetch_follows it a (as_word K a) (λ x i y e r. (
         cell_too scope x a q.formed_act i y e r,
@@ -316,7 +316,7 @@ module _ (g : Program) (formed : Formed g) (never : LooksNeverMissing g) (inline
       code_goes (end o) scope scope' q = end_follows it o (wide_act l K o) (act_more it o (wide_act l K o) (λ c e e' r. r) (λ a a' u. u.0)
           (act_goes o scope scope' (record { held = q.held; formed_act = q.formed_code; inlined_act = q.inlined_code; whole_act = q.whole_code; known_act = q.known_code; once_act = q.once_code; past = q.past })))
       code_goes (store cs b) scope scope' q =
-          let scope1 : Scope = with_words (cell_vars cs) scope in
+          let scope1 : Scope = with_word_variables (cell_vars cs) scope in
           let scope1' : List ℕ = cell_vars (wide_cells l K cs) ++ scope' in
           store_follows it {R = St scope} {R' = St scope1} cs (wide_cells l K cs) b (wide_code l K b)
           (code_goes b scope1 scope1' (record {
@@ -354,8 +354,8 @@ module _ (g : Program) (formed : Formed g) (never : LooksNeverMissing g) (inline
 
       arms_goes : (ws : List W.Word) (as' : Arms) (scope : Scope) (scope' : List ℕ) → GoodArms scope scope' ws as' → ArmsFollow it (On scope ws) Results as' (wide_arms l K as')
       arms_goes ws no_arm scope scope' q = no_arm_follows it no_arm
-      arms_goes ws (arm p b as') scope scope' q = arm_follows it {U = On scope ws} {U' = On scope ws} {R' = St (with_words (shape_vars p) scope)} p (bare p) b (wide_code l K b) as' (wide_arms l K as')
-          (code_goes b (with_words (shape_vars p) scope) scope' (record {
+      arms_goes ws (arm p b as') scope scope' q = arm_follows it {U = On scope ws} {U' = On scope ws} {R' = St (with_word_variables (shape_vars p) scope)} p (without_binders p) b (wide_code l K b) as' (wide_arms l K as')
+          (code_goes b (with_word_variables (shape_vars p) scope) scope' (record {
             held = record { carries = fields_carry l K g procs same_count ws p scope scope' q.formed_words q.known_arms.0 q.held.carries; below = fields_below l K g procs same_count (shape_vars p) scope scope' q.held.below };
             formed_code = q.formed_arms.1;
             inlined_code = q.inlined_arms.1;
@@ -403,11 +403,11 @@ module _ (g : Program) (formed : Formed g) (never : LooksNeverMissing g) (inline
     enters_too q plain past once bs (same {a = xs}) e = (
       bs,
       e,
-      reorder l K g procs same_count (with_words (numbers_of q.params) none) (params_scope q) (with_vars bs nothing) (with_vars bs nothing) (λ y h. h) (λ y h. in_left y (numbers_of q.params) [] h)
+      reorder l K g procs same_count (with_word_variables (numbers_of q.params) none) (params_scope q) (with_vars bs nothing) (with_vars bs nothing) (λ y h. h) (λ y h. in_left y (numbers_of q.params) [] h)
           (params_stand l K g procs same_count q.params xs bs none [] nothing nothing past plain once e none_held nothing_stands),
     )
 
-    body_goes : (f : ℕ) (q : Procedure) → ProcedureFormed g q → EachCode inlined_kind q.body → EachCode whole_kind q.body → ProcedureKnown l K g q → Once none (numbers_of q.params ++ code_vars q.body) → past_vars q.params ≤ l.base → past_code q.body ≤ l.base
+    body_goes : (f : ℕ) (q : Procedure) → ProcedureFormed g q → EachCode inlined_kind q.body → EachCode whole_node_kind q.body → ProcedureKnown l K g q → Once none (numbers_of q.params ++ code_vars q.body) → past_vars q.params ≤ l.base → past_code q.body ≤ l.base
         → BodyFollows it f q (rewritten_procedure (wide_code l K) q)
     body_goes f q fq iq wq kq once pq pb = record {
       R = St (params_scope q);
@@ -425,7 +425,7 @@ module _ (g : Program) (formed : Formed g) (never : LooksNeverMissing g) (inline
       given = λ v v' u seen. (λ e. given_too g l.most_value some_value u (seen e), u);
     }
 
-    bodies_go : (f : ℕ) (qs : List Procedure) → AllOf (ProcedureFormed g) qs → EachBody inlined_kind qs → EachBody whole_kind qs → AllOf (ProcedureKnown l K g) qs
+    bodies_go : (f : ℕ) (qs : List Procedure) → AllOf (ProcedureFormed g) qs → EveryBodyIsOfKind inlined_kind qs → EveryBodyIsOfKind whole_node_kind qs → AllOf (ProcedureKnown l K g) qs
         → ((y : ℕ) → times y (procs_vars qs) ≤ 1) → past_procs qs ≤ l.base → BodiesFollow it f qs (map (rewritten_procedure (wide_code l K)) qs)
     bodies_go f [] fq iq wq kq once past = no_more
     bodies_go f (q ∷ qs) fq iq wq kq once past = one_more {f = f} {q = q} {r = rewritten_procedure (wide_code l K) q} (body_goes f q fq.0 iq.0 wq.0 kq.0 here (omega (arith, past)) (omega (arith, past)))
@@ -439,9 +439,9 @@ module _ (g : Program) (formed : Formed g) (never : LooksNeverMissing g) (inline
 
   -- ---- the whole program
 
-  goes_likewise : (i : List ℕ) (n : ℕ) → Likewise no_deeper (Gives g l.most_value) (look g i n) (look (vectorised g) i n)
+  goes_likewise : (i : List ℕ) (n : ℕ) → Likewise no_deeper (Gives g l.most_value) (checked_run g i n) (checked_run (vectorised g) i n)
   goes_likewise i n = run_follows plan (λ c c' cb cf. bodies_go c c' cb cf 0 g.procs formed.procedures inlined whole (all_known g formed) formed.variables_once (omega arith)) i n
       same same (nodes_full g formed true i n).passed
 
-  pub vectorised_kept : LooksNeverMissing (vectorised g) × Keeps g (vectorised g)
-  vectorised_kept = looking_kept g (vectorised g) never (λ i n. likewise_kept no_deeper (Gives g l.most_value) (look g i n) (look (vectorised g) i n) (goes_likewise i n))
+  pub vectorised_kept : CheckedRunsNeverMissing (vectorised g) × Keeps g (vectorised g)
+  vectorised_kept = looking_kept g (vectorised g) never (λ i n. likewise_kept no_deeper (Gives g l.most_value) (checked_run g i n) (checked_run (vectorised g) i n) (goes_likewise i n))

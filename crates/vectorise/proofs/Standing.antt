@@ -9,13 +9,13 @@ use Rattle.grin_syntax.specs.declared.program.Word as W
 use Rattle.grin_syntax.specs.declared.program.Word.TheVariants.{Lit, Var, Global, TagWord}
 use Rattle.grin_syntax.specs.Tree.{Procedure, Program}
 use Rattle.grin_syntax.specs.Binders.{numbers_of, cell_vars}
-use Rattle.grin_syntax.specs.Formed.{AllOf, Scope, InScope, with_words}
+use Rattle.grin_syntax.specs.Formed.{AllOf, Scope, InScope, with_word_variables}
 use Rattle.grin_syntax.specs.Fresh.{variables, past_vars, past_cells}
 use Rattle.grin_syntax.proofs.Counted.{fresh_below, fresh_past}
 use Rattle.grin_syntax.proofs.Scopes.{first_in}
 use Rattle.grin_meaning.specs.Values.{Datum, tag, cell, Node, Value, node, words, Env, and_then, only_word, padded, Binding, with_vars, one_each, word_of, words_of, bindings_of}
 use Rattle.grin_meaning.specs.Run.{places}
-use Rattle.vectorise.specs.Known.{Layout, Table, vector_start, room_of, word_for, vector_words}
+use Rattle.vectorise.specs.Known.{Layout, Table, vector_start, field_capacity_of, word_for, vector_words}
 use Rattle.vectorise.specs.Vectors.{wide_cells}
 use Rattle.vectorise.proofs.Noted.{in_later, IsPlain, FieldsKnown}
 use Rattle.vectorise.proofs.Scoped.{Origin, all_counts, WordIn, Carries, Below, words_carry, words_below, is_first}
@@ -28,7 +28,7 @@ use Rattle.grin_syntax.proofs.Placed.{same_var}
 
 module _ (l : Layout) (K : Table) (g : Program) (procs : List Procedure) (same_count : length procs ≡ length g.procs) where
   abbrev pub NodeStands : VarId → Value → Env → Type 0
-  NodeStands x (node n) env' = (words_of g env' (vector_words l x (suc (room_of l K x))) ≡ Some (vector_of (room_of l K x) n)) × (length n.fields ≤ room_of l K x)
+  NodeStands x (node n) env' = (words_of g env' (vector_words l x (suc (field_capacity_of l K x))) ≡ Some (vector_of (field_capacity_of l K x) n)) × (length n.fields ≤ field_capacity_of l K x)
   NodeStands x (words ds) env' = ⊥
 
   abbrev pub WordStands : VarId → Value → Env → Type 0
@@ -64,7 +64,7 @@ module _ (l : Layout) (K : Table) (g : Program) (procs : List Procedure) (same_c
   keep_env scope scope' env env' env'' c keeps st = record { nodes = λ x h v e. on_node x h v (st.nodes x h v e); words = λ x h v e. on_word x h v (st.words x h v e) }
     where
       on_node : (x : VarId) → InScope scope.nodes x.0 → (v : Value) → NodeStands x v env' → NodeStands x v env''
-      on_node x h (node n) s = (run_kept scope' env' env'' keeps (vector_start l x.0) (suc (room_of l K x)) (c.nodes x.0 h) ∙ s.0, s.1)
+      on_node x h (node n) s = (run_kept scope' env' env'' keeps (vector_start l x.0) (suc (field_capacity_of l K x)) (c.nodes x.0 h) ∙ s.0, s.1)
       on_node x h (words ds) s = s
 
       on_word : (x : VarId) → InScope scope.words x.0 → (v : Value) → WordStands x v env' → WordStands x v env''
@@ -85,7 +85,7 @@ module _ (l : Layout) (K : Table) (g : Program) (procs : List Procedure) (same_c
   is_value h = cc
 
   pub add_word : (scope : Scope) (env env' : Env) (x : VarId) (d : Datum) → times x.0 scope.nodes ≡ 0 → word_of g env' (word_for x (slice_get K x.0)) ≡ Some d → Stand scope env env'
-      → Stand (with_words (x.0 ∷ []) scope) (plus x.0 (words (d ∷ [])) env) env'
+      → Stand (with_word_variables (x.0 ∷ []) scope) (plus x.0 (words (d ∷ [])) env) env'
   add_word scope env env' x d none w st = record {
     nodes = λ y h v e. old_node y h v (nat_eq y.0 x.0) refl e;
     words = λ y h v e. at_word y h v (nat_eq y.0 x.0) refl e;
@@ -131,13 +131,13 @@ module _ (l : Layout) (K : Table) (g : Program) (procs : List Procedure) (same_c
   -- ---- fields of a pattern
 
   pub fields_goes : (ws : List W.Word) (xs : List VarId) (ds : List Datum) (bs : List Binding) (scope : Scope) (env env' : Env) → Stands g env' ws ds → FieldsKnown l K ws xs → ((x : ℕ) → InScope (numbers_of xs) x → times x scope.nodes ≡ 0)
-      → one_each xs ds ≡ Some bs → Stand scope env env' → Stand (with_words (numbers_of xs) scope) (with_vars bs env) env'
-  fields_goes ws [] [] bs scope env env' s k none e st = let h : bs ≡ [] = cc in subst (λ b. Stand (with_words [] scope) (with_vars b env) env') (sym h) st
+      → one_each xs ds ≡ Some bs → Stand scope env env' → Stand (with_word_variables (numbers_of xs) scope) (with_vars bs env) env'
+  fields_goes ws [] [] bs scope env env' s k none e st = let h : bs ≡ [] = cc in subst (λ b. Stand (with_word_variables [] scope) (with_vars b env) env') (sym h) st
   fields_goes ws [] (d ∷ ds) bs scope env env' s k none e st = cc
   fields_goes ws (x ∷ xs) [] bs scope env env' s k none e st = cc
   fields_goes [] (x ∷ xs) (d ∷ ds) bs scope env env' s k none e st = absurd s
   fields_goes (w ∷ ws) (x ∷ xs) (d ∷ ds) bs scope env env' s k none e st = go (one_each xs ds) refl e
-      (λ cs q. fields_goes ws xs ds cs (with_words (x.0 ∷ []) scope) (plus x.0 (words (d ∷ [])) env) env' s.1 k.1 (λ y h. none y (in_later y x.0 (numbers_of xs) h)) q
+      (λ cs q. fields_goes ws xs ds cs (with_word_variables (x.0 ∷ []) scope) (plus x.0 (words (d ∷ [])) env) env' s.1 k.1 (λ y h. none y (in_later y x.0 (numbers_of xs) h)) q
       (add_word scope env env' x d (none x.0 (first_in x.0 (numbers_of xs))) (ap (λ o. word_of g env' (word_for x o)) k.0 ∙ s.0) st))
     where
       order : (y : ℕ) → InScope ((x.0 ∷ numbers_of xs) ++ scope.words) y → InScope (numbers_of xs ++ (x.0 ∷ scope.words)) y
@@ -147,13 +147,13 @@ module _ (l : Layout) (K : Table) (g : Program) (procs : List Procedure) (same_c
           omega (arith, h, a, b)
 
       go : (o : Option (List Binding)) → one_each xs ds ≡ o → and_then o (λ cs. Some ((x.0, words (d ∷ [])) ∷ cs)) ≡ Some bs
-          → ((cs : List Binding) → one_each xs ds ≡ Some cs → Stand (with_words (numbers_of xs) (with_words (x.0 ∷ []) scope)) (with_vars cs (plus x.0 (words (d ∷ [])) env)) env')
-          → Stand (with_words (numbers_of (x ∷ xs)) scope) (with_vars bs env) env'
+          → ((cs : List Binding) → one_each xs ds ≡ Some cs → Stand (with_word_variables (numbers_of xs) (with_word_variables (x.0 ∷ []) scope)) (with_vars cs (plus x.0 (words (d ∷ [])) env)) env')
+          → Stand (with_word_variables (numbers_of (x ∷ xs)) scope) (with_vars bs env) env'
       go None q e f = cc
       go (Some cs) q e f =
           let same : (x.0, words (d ∷ [])) ∷ cs ≡ bs = some_same e in
-          subst (λ b. Stand (with_words (numbers_of (x ∷ xs)) scope) (with_vars b env) env') same
-          (reorder (with_words (numbers_of xs) (with_words (x.0 ∷ []) scope)) (with_words (numbers_of (x ∷ xs)) scope) (with_vars cs (plus x.0 (words (d ∷ [])) env)) env' (λ y h. h) order (f cs q))
+          subst (λ b. Stand (with_word_variables (numbers_of (x ∷ xs)) scope) (with_vars b env) env') same
+          (reorder (with_word_variables (numbers_of xs) (with_word_variables (x.0 ∷ []) scope)) (with_word_variables (numbers_of (x ∷ xs)) scope) (with_vars cs (plus x.0 (words (d ∷ [])) env)) env' (λ y h. h) order (f cs q))
         where
           some_same : {as' cs : List Binding} → ◌≡◌ {A = Option (List Binding)} (Some as') (Some cs) → as' ≡ cs
           some_same h = cc
@@ -175,14 +175,14 @@ module _ (l : Layout) (K : Table) (g : Program) (procs : List Procedure) (same_c
   own_word x d env = let e : nat_eq x x ≡ true = grind (arith, nat_tests) in ap (λ b. and_then (cond b (Some (words (d ∷ []))) (env x)) only_word) e
 
   pub bind_word : (scope : Scope) (scope' : List ℕ) (env env' : Env) (x : VarId) (d : Datum) → x.0 < l.base → IsPlain l K x.0 → times x.0 scope.nodes ≡ 0 → times x.0 scope.words ≡ 0 → Held scope scope' → Stand scope env env'
-      → Stand (with_words (x.0 ∷ []) scope) (plus x.0 (words (d ∷ [])) env) (plus x.0 (words (d ∷ [])) env')
+      → Stand (with_word_variables (x.0 ∷ []) scope) (plus x.0 (words (d ∷ [])) env) (plus x.0 (words (d ∷ [])) env')
   bind_word scope scope' env env' x d lt plain n w h st =
       add_word scope env (plus x.0 (words (d ∷ [])) env') x d n (ap (λ o. word_of g (plus x.0 (words (d ∷ [])) env') (word_for x o)) plain ∙ own_word x.0 d env')
       (keep_env scope scope' env env' (plus x.0 (words (d ∷ [])) env') h.carries (plus_keeps x.0 (words (d ∷ [])) env' scope' (new_var scope scope' x.0 lt h n w)) st)
 
   -- ---- cells
 
-  held_word : (scope : Scope) (scope' : List ℕ) (x : VarId) → x.0 < l.base → IsPlain l K x.0 → Held scope scope' → Held (with_words (x.0 ∷ []) scope) (x.0 ∷ scope')
+  held_word : (scope : Scope) (scope' : List ℕ) (x : VarId) → x.0 < l.base → IsPlain l K x.0 → Held scope scope' → Held (with_word_variables (x.0 ∷ []) scope) (x.0 ∷ scope')
   held_word scope scope' x lt plain h = record {
     carries = words_carry l K g procs same_count (x.0 ∷ []) scope scope' (λ y i. subst (IsPlain l K) (sym (only y i)) plain) h.carries;
     below = words_below l K g procs same_count (x.0 ∷ []) scope scope' (λ u z o. one u z o) h.below;
@@ -195,21 +195,21 @@ module _ (l : Layout) (K : Table) (g : Program) (procs : List Procedure) (same_c
       one u z o = all_counts l u z (x ∷ []) o (omega (arith, lt))
 
   pub places_stand : (cs : List Cell) (a : ℕ) (scope : Scope) (scope' : List ℕ) (env env' : Env) → past_cells cs ≤ l.base → AllOf (λ c. IsPlain l K c.var.0) cs → Once scope (cell_vars cs) → Held scope scope' → Stand scope env env'
-      → Stand (with_words (cell_vars cs) scope) (with_vars (places a cs) env) (with_vars (places a (wide_cells l K cs)) env')
+      → Stand (with_word_variables (cell_vars cs) scope) (with_vars (places a cs) env) (with_vars (places a (wide_cells l K cs)) env')
   places_stand [] a scope scope' env env' le plain once h st = st
   places_stand (c ∷ cs) a scope scope' env env' le plain once h st =
       let x : VarId = c.var in
       let lt : x.0 < l.base = omega (arith, le) in
       let n : times x.0 scope.nodes + times x.0 scope.words ≡ 0 = alone in
-      let s1 : Scope = with_words (x.0 ∷ []) scope in
-      reorder (with_words (cell_vars cs) s1) (with_words (cell_vars (c ∷ cs)) scope) _ _ (λ y i. i) order
+      let s1 : Scope = with_word_variables (x.0 ∷ []) scope in
+      reorder (with_word_variables (cell_vars cs) s1) (with_word_variables (cell_vars (c ∷ cs)) scope) _ _ (λ y i. i) order
       (places_stand cs (suc a) s1 (x.0 ∷ scope') _ _ (omega (arith, le)) plain.1 later (held_word scope scope' x lt plain.0 h)
       (bind_word scope scope' env env' x (cell a) lt plain.0 (omega (arith, n)) (omega (arith, n)) h st))
     where
       alone : times c.var.0 scope.nodes + times c.var.0 scope.words ≡ 0
       alone = let o : times c.var.0 scope.nodes + times c.var.0 scope.words + times c.var.0 (c.var.0 ∷ cell_vars cs) ≤ 1 = once c.var.0 in let e : counts (nat_eq c.var.0 c.var.0) ≡ 1 = one_at c.var.0 in omega (arith, o, e)
 
-      later : Once (with_words (c.var.0 ∷ []) scope) (cell_vars cs)
+      later : Once (with_word_variables (c.var.0 ∷ []) scope) (cell_vars cs)
       later y = let o : times y scope.nodes + times y scope.words + times y (c.var.0 ∷ cell_vars cs) ≤ 1 = once y in omega (arith, o)
 
       order : (y : ℕ) → InScope ((c.var.0 ∷ cell_vars cs) ++ scope.words) y → InScope (cell_vars cs ++ (c.var.0 ∷ scope.words)) y
@@ -220,18 +220,18 @@ module _ (l : Layout) (K : Table) (g : Program) (procs : List Procedure) (same_c
 
   -- the arguments of a procedure
   pub params_stand : (xs : List VarId) (ds : List Datum) (bs : List Binding) (scope : Scope) (scope' : List ℕ) (env env' : Env) → past_vars xs ≤ l.base → AllOf (λ x. IsPlain l K x.0) xs → Once scope (numbers_of xs)
-      → one_each xs ds ≡ Some bs → Held scope scope' → Stand scope env env' → Stand (with_words (numbers_of xs) scope) (with_vars bs env) (with_vars bs env')
-  params_stand [] [] bs scope scope' env env' le plain once e h st = let q : bs ≡ [] = cc in subst (λ b. Stand (with_words [] scope) (with_vars b env) (with_vars b env')) (sym q) st
+      → one_each xs ds ≡ Some bs → Held scope scope' → Stand scope env env' → Stand (with_word_variables (numbers_of xs) scope) (with_vars bs env) (with_vars bs env')
+  params_stand [] [] bs scope scope' env env' le plain once e h st = let q : bs ≡ [] = cc in subst (λ b. Stand (with_word_variables [] scope) (with_vars b env) (with_vars b env')) (sym q) st
   params_stand [] (d ∷ ds) bs scope scope' env env' le plain once e h st = cc
   params_stand (x ∷ xs) [] bs scope scope' env env' le plain once e h st = cc
   params_stand (x ∷ xs) (d ∷ ds) bs scope scope' env env' le plain once e h st = go (one_each xs ds) refl e
-      (λ cs q. params_stand xs ds cs (with_words (x.0 ∷ []) scope) (x.0 ∷ scope') _ _ (omega (arith, le)) plain.1 later q (held_word scope scope' x (omega (arith, le)) plain.0 h)
+      (λ cs q. params_stand xs ds cs (with_word_variables (x.0 ∷ []) scope) (x.0 ∷ scope') _ _ (omega (arith, le)) plain.1 later q (held_word scope scope' x (omega (arith, le)) plain.0 h)
       (bind_word scope scope' env env' x d (omega (arith, le)) plain.0 (let n = alone in omega (arith, n)) (let n = alone in omega (arith, n)) h st))
     where
       alone : times x.0 scope.nodes + times x.0 scope.words ≡ 0
       alone = let o : times x.0 scope.nodes + times x.0 scope.words + times x.0 (x.0 ∷ numbers_of xs) ≤ 1 = once x.0 in let e : counts (nat_eq x.0 x.0) ≡ 1 = one_at x.0 in omega (arith, o, e)
 
-      later : Once (with_words (x.0 ∷ []) scope) (numbers_of xs)
+      later : Once (with_word_variables (x.0 ∷ []) scope) (numbers_of xs)
       later y = let o : times y scope.nodes + times y scope.words + times y (x.0 ∷ numbers_of xs) ≤ 1 = once y in omega (arith, o)
 
       order : (y : ℕ) → InScope ((x.0 ∷ numbers_of xs) ++ scope.words) y → InScope (numbers_of xs ++ (x.0 ∷ scope.words)) y
@@ -241,12 +241,12 @@ module _ (l : Layout) (K : Table) (g : Program) (procs : List Procedure) (same_c
           omega (arith, i, a, b)
 
       go : (o : Option (List Binding)) → one_each xs ds ≡ o → and_then o (λ cs. Some ((x.0, words (d ∷ [])) ∷ cs)) ≡ Some bs
-          → ((cs : List Binding) → one_each xs ds ≡ Some cs → Stand (with_words (numbers_of xs) (with_words (x.0 ∷ []) scope)) (with_vars cs (plus x.0 (words (d ∷ [])) env)) (with_vars cs (plus x.0 (words (d ∷ [])) env')))
-          → Stand (with_words (numbers_of (x ∷ xs)) scope) (with_vars bs env) (with_vars bs env')
+          → ((cs : List Binding) → one_each xs ds ≡ Some cs → Stand (with_word_variables (numbers_of xs) (with_word_variables (x.0 ∷ []) scope)) (with_vars cs (plus x.0 (words (d ∷ [])) env)) (with_vars cs (plus x.0 (words (d ∷ [])) env')))
+          → Stand (with_word_variables (numbers_of (x ∷ xs)) scope) (with_vars bs env) (with_vars bs env')
       go None q e f = cc
       go (Some cs) q e f =
           let same : (x.0, words (d ∷ [])) ∷ cs ≡ bs = some_same e in
-          subst (λ b. Stand (with_words (numbers_of (x ∷ xs)) scope) (with_vars b env) (with_vars b env')) same (reorder (with_words (numbers_of xs) (with_words (x.0 ∷ []) scope)) (with_words (numbers_of (x ∷ xs)) scope) _ _ (λ y i. i) order (f cs q))
+          subst (λ b. Stand (with_word_variables (numbers_of (x ∷ xs)) scope) (with_vars b env) (with_vars b env')) same (reorder (with_word_variables (numbers_of xs) (with_word_variables (x.0 ∷ []) scope)) (with_word_variables (numbers_of (x ∷ xs)) scope) _ _ (λ y i. i) order (f cs q))
         where
           some_same : {as' cs : List Binding} → ◌≡◌ {A = Option (List Binding)} (Some as') (Some cs) → as' ≡ cs
           some_same h = cc
@@ -276,10 +276,10 @@ module _ (l : Layout) (K : Table) (g : Program) (procs : List Procedure) (same_c
       go (inr a) (inr b) = fresh_past u (vector_start l x) k b
       go (inr a) (inl b) = let c : times u scope' ≤ times x scope.nodes + times x scope.words = h.below u x (inr (a, omega (arith, b, le))) in absurd (omega (arith, c, n, w, i))
 
-  pub bind_node : (scope : Scope) (scope' : List ℕ) (env env' : Env) (x : VarId) (n : Node) → suc (room_of l K x) ≤ suc l.most → times x.0 scope.nodes ≡ 0 → times x.0 scope.words ≡ 0 → length n.fields ≤ room_of l K x → Held scope scope' → Stand scope env env'
-      → Stand (record { nodes = x.0 ∷ scope.nodes; words = scope.words }) (plus x.0 (node n) env) (with_vars (named (vector_start l x.0) (vector_of (room_of l K x) n)) env')
+  pub bind_node : (scope : Scope) (scope' : List ℕ) (env env' : Env) (x : VarId) (n : Node) → suc (field_capacity_of l K x) ≤ suc l.most → times x.0 scope.nodes ≡ 0 → times x.0 scope.words ≡ 0 → length n.fields ≤ field_capacity_of l K x → Held scope scope' → Stand scope env env'
+      → Stand (record { nodes = x.0 ∷ scope.nodes; words = scope.words }) (plus x.0 (node n) env) (with_vars (named (vector_start l x.0) (vector_of (field_capacity_of l K x) n)) env')
   bind_node scope scope' env env' x n le no_node no_word fits h st =
-      let k : ℕ = room_of l K x in
+      let k : ℕ = field_capacity_of l K x in
       let ds : List Datum = vector_of k n in
       let many : length ds ≡ suc k = (let e : length (filled k n.fields) ≡ k = filled_length k n.fields in omega (arith, e)) in
       add_node scope env (with_vars (named (vector_start l x.0) ds) env') x n no_word (names_stand g (vector_start l x.0) (suc k) ds env' many, fits)

@@ -15,7 +15,7 @@ use Rattle.grin_syntax.specs.declared.program.Val as V
 use Rattle.grin_syntax.specs.declared.program.Val.TheVariants.{NodeVar, Node as NodeVal, Vector, One}
 use Rattle.grin_syntax.specs.Tree.{Procedure, Program}
 use Rattle.grin_syntax.specs.Binders.{numbers_of, target_vars, shape_vars}
-use Rattle.grin_syntax.specs.Formed.{AllOf, Scope, InScope, with_words, with_target, WordFormed, ValFormed, CellFormed}
+use Rattle.grin_syntax.specs.Formed.{AllOf, Scope, InScope, with_word_variables, with_target, WordFormed, ValFormed, CellFormed}
 use Rattle.grin_syntax.specs.Fresh.{past_target}
 use Rattle.grin_syntax.proofs.Scopes.{first_in}
 use Rattle.grin_meaning.specs.Values.{Datum, number, tag, cell, Node, Value, node, words, Env, HeapCell, and_then, only_word, Binding, with_vars, one_each, fits, fits_not, fits_if, fields_fit, node_fit, number_fit, int_fit, fit_of, fields_of, made_node, as_node, word_of, words_of, value_of, node_of, bindings_of}
@@ -23,8 +23,8 @@ use Rattle.grin_meaning.specs.Run.{cells_of}
 use Rattle.grin_meaning.specs.Checks.{is_none_or, is_given, is_filled, fills, all_fill}
 use Rattle.grin_meaning.specs.Full.{FullNode, FullValue}
 use Rattle.grin_meaning.proofs.Fullness.{as_node_full}
-use Rattle.vectorise.specs.Known.{Layout, Table, vector_start, room, is_fetched, room_of, word_for, as_word, as_words, vector_words, field_words}
-use Rattle.vectorise.specs.Vectors.{wide_val, given_val, wide_target, bare, wide_cells}
+use Rattle.vectorise.specs.Known.{Layout, Table, vector_start, room, is_fetched, field_capacity_of, word_for, as_word, as_words, vector_words, field_words}
+use Rattle.vectorise.specs.Vectors.{wide_val, returned_val, wide_target, without_binders, wide_cells}
 use Rattle.vectorise.specs.Whole.{NoVector, NoVectorTarget, NoWord}
 use Rattle.vectorise.proofs.Noted.{TargetKnown, ShapeKnown}
 use Rattle.vectorise.proofs.Scoped.{room_fits}
@@ -91,10 +91,10 @@ module _ (l : Layout) (K : Table) (g : Program) (procs : List Procedure) (same_c
     -- a value that is there: the node that it stands for, and where its vector is
     module _ (full : (x : ℕ) → IfSome (env x) (FullValue g)) where
       -- what a unit gives
-      pub unit_goes : (few : l.most_value ≤ l.most) (v : V.Val) → ValFormed g scope v → NoWord v → NoVector v → (y : Value) → value_of g env v ≡ Some y → (y' : Value) × (value_of g env' (given_val l K v) ≡ Some y') × Gives g l.most_value y y' × (fills g env' (given_val l K v) ≡ true)
+      pub unit_goes : (few : l.most_value ≤ l.most) (v : V.Val) → ValFormed g scope v → NoWord v → NoVector v → (y : Value) → value_of g env v ≡ Some y → (y' : Value) × (value_of g env' (returned_val l K v) ≡ Some y') × Gives g l.most_value y y' × (fills g env' (returned_val l K v) ≡ true)
       unit_goes few (NodeVar x) f w u y e = go y e (st.nodes x f y e) (full x.0)
         where
-          least : l.most_value ≤ room_of l K x
+          least : l.most_value ≤ field_capacity_of l K x
           least = at (is_fetched (slice_get K x.0))
             where
               at : (b : Bool) → l.most_value ≤ room l b
@@ -105,11 +105,11 @@ module _ (l : Layout) (K : Table) (g : Program) (procs : List Procedure) (same_c
           of_some P v h q = subst (λ o. IfSome o P) q h
 
           go : (y : Value) → env x.0 ≡ Some y → NodeStands l K g procs same_count x y env' → IfSome (env x.0) (FullValue g)
-              → (y' : Value) × (value_of g env' (given_val l K (NodeVar x)) ≡ Some y') × Gives g l.most_value y y' × (fills g env' (given_val l K (NodeVar x)) ≡ true)
+              → (y' : Value) × (value_of g env' (returned_val l K (NodeVar x)) ≡ Some y') × Gives g l.most_value y y' × (fills g env' (returned_val l K (NodeVar x)) ≡ true)
           go (words ds) q s h = absurd s
           go (node n) q s h =
               let whole : FullNode g n = of_some (FullValue g) (node n) h q in
-              let there : words_of g env' (vector_words l x (suc l.most_value)) ≡ Some (vector_of l.most_value n) = vector_shorter g env' (vector_start l x.0) (room_of l K x) l.most_value n least s.0 in
+              let there : words_of g env' (vector_words l x (suc l.most_value)) ≡ Some (vector_of l.most_value n) = vector_shorter g env' (vector_start l x.0) (field_capacity_of l K x) l.most_value n least s.0 in
               (words (vector_of l.most_value n), ap (λ o. and_then o (λ ds. Some (words ds))) there, gives_vector whole, ap (λ o. is_none_or o (is_filled g)) there ∙ vector_filled g l.most_value n whole)
       unit_goes few (NodeVal t ws) f w u y e =
           let x : (ds : List Datum) × (words_of g env ws ≡ Some ds) × (and_then (made_node g t.0 ds) (λ n. Some (node n)) ≡ Some y) = some_and g (words_of g env ws) _ y e in
@@ -140,7 +140,7 @@ module _ (l : Layout) (K : Table) (g : Program) (procs : List Procedure) (same_c
           go : (y : Value) → env x.0 ≡ Some y → NodeStands l K g procs same_count x y env' → IfSome (env x.0) (FullValue g) → Wide (NodeVar x) y
           go (words ds) q s h = absurd s
           go (node n) q s h =
-              let k : ℕ = room_of l K x in
+              let k : ℕ = field_capacity_of l K x in
               let whole : FullNode g n = of_some (FullValue g) (node n) h q in
               record {
                 y' = words (vector_of k n);
@@ -238,7 +238,7 @@ module _ (l : Layout) (K : Table) (g : Program) (procs : List Procedure) (same_c
   node_bound : (few : l.most_value ≤ l.most) (f : Bool) (x : VarId) (scope : Scope) (scope' : List ℕ) (env env' : Env) (n : Node) (bs : List Binding) → is_fetched (slice_get K x.0) ≡ f → times x.0 scope.nodes + times x.0 scope.words ≡ 0 → Held l K g procs same_count scope scope'
       → St scope env env' → length n.fields ≤ room l f → Some ((x.0, node n) ∷ []) ≡ Some bs → St (with_target (to.Node x) scope) (with_vars bs env) (with_vars (named (vector_start l x.0) (vector_of (room l f) n)) env')
   node_bound few f x scope scope' env env' n bs k z h st r e =
-      let b : room_of l K x ≡ room l f = ap (room l) k in
+      let b : field_capacity_of l K x ≡ room l f = ap (room l) k in
       subst (λ c. St (with_target (to.Node x) scope) (with_vars c env) (with_vars (named (vector_start l x.0) (vector_of (room l f) n)) env')) (one_is e)
       (subst (λ j. St (with_target (to.Node x) scope) (with_vars ((x.0, node n) ∷ []) env) (with_vars (named (vector_start l x.0) (vector_of j n)) env')) b
       (bind_node l K g procs same_count scope scope' env env' x n (room_fits l few (is_fetched (slice_get K x.0))) (omega (arith, z)) (omega (arith, z)) (subst (λ j. length n.fields ≤ j) (sym b) r) h st))
@@ -260,7 +260,7 @@ module _ (l : Layout) (K : Table) (g : Program) (procs : List Procedure) (same_c
       let n : times x.0 scope.nodes + times x.0 scope.words ≡ 0 = new x.0 (first_in x.0 []) in (
         (x.0, words (number i ∷ [])) ∷ [],
         refl,
-        subst (λ b. St (with_words (x.0 ∷ []) scope) (with_vars b env) (with_vars ((x.0, words (number i ∷ [])) ∷ []) env')) (sym q)
+        subst (λ b. St (with_word_variables (x.0 ∷ []) scope) (with_vars b env) (with_vars ((x.0, words (number i ∷ [])) ∷ []) env')) (sym q)
             (bind_word l K g procs same_count scope scope' env env' x (number i) (omega (arith, le)) k (omega (arith, n)) (omega (arith, n)) h st),
       )
     where
@@ -278,7 +278,7 @@ module _ (l : Layout) (K : Table) (g : Program) (procs : List Procedure) (same_c
   -- ---- patterns
 
   -- a pattern that binds nothing fits where the pattern fits
-  pub bare_fits : (q : Shape) (y y' : Value) (bs : List Binding) → as_node g y' ≡ as_node g y → fit_of g q y ≡ fits bs → fit_of g (bare q) y' ≡ fits []
+  pub bare_fits : (q : Shape) (y y' : Value) (bs : List Binding) → as_node g y' ≡ as_node g y → fit_of g q y ≡ fits bs → fit_of g (without_binders q) y' ≡ fits []
   bare_fits shape.Else y y' bs s e = refl
   bare_fits (shape.Int k) y y' bs s e = go (as_node g y) s e
     where
@@ -306,7 +306,7 @@ module _ (l : Layout) (K : Table) (g : Program) (procs : List Procedure) (same_c
           on true e = refl
           on false e = cc
 
-  pub bare_not : (q : Shape) (y y' : Value) → as_node g y' ≡ as_node g y → fit_of g q y ≡ fits_not → fit_of g (bare q) y' ≡ fits_not
+  pub bare_not : (q : Shape) (y y' : Value) → as_node g y' ≡ as_node g y → fit_of g q y ≡ fits_not → fit_of g (without_binders q) y' ≡ fits_not
   bare_not shape.Else y y' s e = cc
   bare_not (shape.Int k) y y' s e = ap (int_fit k) s ∙ e
   bare_not (shape.Node t xs) y y' s e = go (as_node g y) s e
@@ -329,9 +329,9 @@ module _ (l : Layout) (K : Table) (g : Program) (procs : List Procedure) (same_c
 
   -- the fields of the value are the words
   pub pattern_goes : (q : Shape) (y : Value) (bs : List Binding) (ws : List W.Word) (scope : Scope) (env env' : Env) → ((n : Node) → as_node g y ≡ Some n → Stands g env' ws n.fields) → ShapeKnown l K ws q
-      → ((x : ℕ) → InScope (shape_vars q) x → times x scope.nodes ≡ 0) → fit_of g q y ≡ fits bs → St scope env env' → St (with_words (shape_vars q) scope) (with_vars bs env) env'
-  pattern_goes shape.Else y bs ws scope env env' fine k new e st = let h : bs ≡ [] = cc in subst (λ b. St (with_words [] scope) (with_vars b env) env') (sym h) st
-  pattern_goes (shape.Int i) y bs ws scope env env' fine k new e st = let h : bs ≡ [] = go (as_node g y) e in subst (λ b. St (with_words [] scope) (with_vars b env) env') (sym h) st
+      → ((x : ℕ) → InScope (shape_vars q) x → times x scope.nodes ≡ 0) → fit_of g q y ≡ fits bs → St scope env env' → St (with_word_variables (shape_vars q) scope) (with_vars bs env) env'
+  pattern_goes shape.Else y bs ws scope env env' fine k new e st = let h : bs ≡ [] = cc in subst (λ b. St (with_word_variables [] scope) (with_vars b env) env') (sym h) st
+  pattern_goes (shape.Int i) y bs ws scope env env' fine k new e st = let h : bs ≡ [] = go (as_node g y) e in subst (λ b. St (with_word_variables [] scope) (with_vars b env) env') (sym h) st
     where
       number_on : (b : Bool) → cond b (fits []) fits_not ≡ fits bs → bs ≡ []
       number_on true e = cc
@@ -349,20 +349,20 @@ module _ (l : Layout) (K : Table) (g : Program) (procs : List Procedure) (same_c
       go (Some n) e = on (nat_eq n.tag 0) n.fields e
   pattern_goes (shape.Node t xs) y bs ws scope env env' fine k new e st = go (as_node g y) refl e
     where
-      bind_fields : (ys : List VarId) (n : Node) → as_node g y ≡ Some n → ShapeKnown l K ws (shape.Node t ys) → ((x : ℕ) → InScope (numbers_of ys) x → times x scope.nodes ≡ 0) → fields_fit ys n.fields ≡ fits bs → St (with_words (numbers_of ys) scope) (with_vars bs env) env'
-      bind_fields [] n r k new e = let h : bs ≡ [] = cc in subst (λ b. St (with_words [] scope) (with_vars b env) env') (sym h) st
+      bind_fields : (ys : List VarId) (n : Node) → as_node g y ≡ Some n → ShapeKnown l K ws (shape.Node t ys) → ((x : ℕ) → InScope (numbers_of ys) x → times x scope.nodes ≡ 0) → fields_fit ys n.fields ≡ fits bs → St (with_word_variables (numbers_of ys) scope) (with_vars bs env) env'
+      bind_fields [] n r k new e = let h : bs ≡ [] = cc in subst (λ b. St (with_word_variables [] scope) (with_vars b env) env') (sym h) st
       bind_fields (x ∷ ys) n r k new e = some_fits (one_each (x ∷ ys) n.fields) refl e
         where
-          some_fits : (o : Option (List Binding)) → one_each (x ∷ ys) n.fields ≡ o → fits_if o ≡ fits bs → St (with_words (numbers_of (x ∷ ys)) scope) (with_vars bs env) env'
+          some_fits : (o : Option (List Binding)) → one_each (x ∷ ys) n.fields ≡ o → fits_if o ≡ fits bs → St (with_word_variables (numbers_of (x ∷ ys)) scope) (with_vars bs env) env'
           some_fits None q e = cc
           some_fits (Some cs) q e =
               let h : cs ≡ bs = cc in
-              subst (λ b. St (with_words (numbers_of (x ∷ ys)) scope) (with_vars b env) env') h (fields_goes l K g procs same_count ws (x ∷ ys) n.fields cs scope env env' (fine n r) k new q st)
+              subst (λ b. St (with_word_variables (numbers_of (x ∷ ys)) scope) (with_vars b env) env') h (fields_goes l K g procs same_count ws (x ∷ ys) n.fields cs scope env env' (fine n r) k new q st)
 
-      go : (o : Option Node) → as_node g y ≡ o → node_fit t.0 xs o ≡ fits bs → St (with_words (numbers_of xs) scope) (with_vars bs env) env'
+      go : (o : Option Node) → as_node g y ≡ o → node_fit t.0 xs o ≡ fits bs → St (with_word_variables (numbers_of xs) scope) (with_vars bs env) env'
       go None r e = cc
       go (Some n) r e = on (nat_eq n.tag t.0) e
         where
-          on : (b : Bool) → cond b (fields_fit xs n.fields) fits_not ≡ fits bs → St (with_words (numbers_of xs) scope) (with_vars bs env) env'
+          on : (b : Bool) → cond b (fields_fit xs n.fields) fits_not ≡ fits bs → St (with_word_variables (numbers_of xs) scope) (with_vars bs env) env'
           on true e = bind_fields xs n r k new e
           on false e = cc

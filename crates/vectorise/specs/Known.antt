@@ -41,8 +41,8 @@ abbrev pub is_fetched : Option known.Known → Bool
 is_fetched (Some Fetched) = true
 is_fetched _ = false
 
-abbrev pub room_of : Layout → Table → VarId → ℕ
-room_of l k x = room l (is_fetched (slice_get k x.0))
+abbrev pub field_capacity_of : Layout → Table → VarId → ℕ
+field_capacity_of l k x = room l (is_fetched (slice_get k x.0))
 
 abbrev pub word_for : VarId → Option known.Known → W.Word
 word_for x (Some (Field w)) = w
@@ -62,7 +62,8 @@ vector_words l x count = map Var (variables (vector_start l x.0) count)
 
 -- the words that stand for the fields of the value of a case
 abbrev pub field_words : Layout → Table → V.Val → List W.Word
-field_words l k (NodeVar x) = map Var (variables (suc (vector_start l x.0)) (room_of l k x))
+field_words l k (NodeVar x) =
+    map Var (variables (suc (vector_start l x.0)) (field_capacity_of l k x))
 field_words l k (Node t ws) = as_words k ws
 field_words l k _ = []
 

@@ -11,19 +11,19 @@ use Rattle.grin_syntax.specs.Tree.{Code, end, store, bind, Act, unit, fetch, fet
 use Rattle.grin_syntax.specs.Fresh.{variables}
 use Rattle.grin_meaning.specs.Checks.{is_fetch}
 use Rattle.grin_meaning.specs.Rewritten.{rewritten}
-use Rattle.vectorise.specs.Known.{Layout, layout_of, Table, table_of, vector_start, room, room_of, as_word, as_words, vector_words}
+use Rattle.vectorise.specs.Known.{Layout, layout_of, Table, table_of, vector_start, room, field_capacity_of, as_word, as_words, vector_words}
 
 -- a node variable is its vector
 abbrev pub wide_val : Layout → Table → V.Val → V.Val
-wide_val l k (NodeVar x) = Vector (vector_words l x (suc (room_of l k x)))
+wide_val l k (NodeVar x) = Vector (vector_words l x (suc (field_capacity_of l k x)))
 wide_val l k (Node t ws) = Node t (as_words k ws)
 wide_val l k (Vector ws) = Vector (as_words k ws)
 wide_val l k (One w) = One (as_word k w)
 
 -- what a unit gives is a value, so the words past those of a value are left out
-abbrev pub given_val : Layout → Table → V.Val → V.Val
-given_val l k (NodeVar x) = Vector (vector_words l x (suc l.most_value))
-given_val l k v = wide_val l k v
+abbrev pub returned_val : Layout → Table → V.Val → V.Val
+returned_val l k (NodeVar x) = Vector (vector_words l x (suc l.most_value))
+returned_val l k v = wide_val l k v
 
 -- the target of a fetch, or of another operation
 abbrev pub wide_target : Layout → (fetched : Bool) → Target → Target
@@ -32,9 +32,9 @@ wide_target l fetched (to.Node x) =
 wide_target l fetched t = t
 
 -- patterns bind nothing
-abbrev pub bare : Shape → Shape
-bare (shape.Node t xs) = shape.Node t []
-bare s = s
+abbrev pub without_binders : Shape → Shape
+without_binders (shape.Node t xs) = shape.Node t []
+without_binders s = s
 
 abbrev pub wide_cells : Layout → Table → List Cell → List Cell
 wide_cells l k cs = map {A = Cell} (λ c. record c { val = wide_val l k c.val }) cs
@@ -42,7 +42,7 @@ wide_cells l k cs = map {A = Cell} (λ c. record c { val = wide_val l k c.val })
 module _ (l : Layout) (k : Table) where
   unfoldable mutual
     pub wide_act : Act → Act
-    wide_act (unit v) = unit (given_val l k v)
+    wide_act (unit v) = unit (returned_val l k v)
     wide_act (fetch a) = fetch (as_word k a)
     wide_act (fetch_word a i) = fetch_word (as_word k a) i
     wide_act (update a v) = update (as_word k a) (wide_val l k v)
@@ -63,10 +63,10 @@ module _ (l : Layout) (k : Table) where
 
     pub wide_arms : Arms → Arms
     wide_arms no_arm = no_arm
-    wide_arms (arm s b as') = arm (bare s) (wide_code b) (wide_arms as')
+    wide_arms (arm s b as') = arm (without_binders s) (wide_code b) (wide_arms as')
 
   abbrev pub wide_arm : Shape × Code → Shape × Code
-  wide_arm a = (bare a.0, wide_code a.1)
+  wide_arm a = (without_binders a.0, wide_code a.1)
 
 abbrev pub vectorised : Program → Program
 vectorised g = rewritten (wide_code (layout_of g) (table_of g)) g

@@ -5,7 +5,7 @@ use Rattle.grin_syntax.specs.declared.program.Val.TheVariants.{Vector, One}
 use Rattle.grin_syntax.specs.declared.program.Target.{Target}
 use Rattle.grin_syntax.specs.declared.program.Target.TheVariants as to
 use Rattle.grin_syntax.specs.Tree.{Act, unit, fetch_word, Program}
-use Rattle.grin_meaning.specs.Ready.{Kind, any_kind, EachBody}
+use Rattle.grin_meaning.specs.Ready.{PieceKind, any_kind, EveryBodyIsOfKind}
 
 abbrev pub NoVector : Val → Type 0
 NoVector (Vector ws) = ⊥
@@ -24,12 +24,12 @@ GivesNodes (unit v) = NoWord v
 GivesNodes (fetch_word a i) = ⊥
 GivesNodes _ = Unit {0}
 
-abbrev pub whole_kind : Kind
-whole_kind = record any_kind {
+abbrev pub whole_node_kind : PieceKind
+whole_node_kind = record any_kind {
   operation = GivesNodes;
   target = NoVectorTarget;
   value = NoVector;
 }
 
-abbrev pub IsWhole : Program → Type 0
-IsWhole g = EachBody whole_kind g.procs
+abbrev pub UsesWholeNodes : Program → Type 0
+UsesWholeNodes g = EveryBodyIsOfKind whole_node_kind g.procs

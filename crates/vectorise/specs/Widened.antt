@@ -5,7 +5,7 @@ use Rattle.grin_syntax.specs.declared.program.Target.{Target}
 use Rattle.grin_syntax.specs.declared.program.Target.TheVariants as to
 use Rattle.grin_syntax.specs.Tree.{Code, end, store, bind, Act, case, nested, Arms, no_arm, arm, Procedure, Program}
 use Rattle.grin_syntax.specs.Formed.{Formed}
-use Rattle.grin_syntax.specs.SameOutside.{SameOutside}
+use Rattle.grin_syntax.specs.SameOutside.{DifferOnlyInBodies}
 use Rattle.grin_meaning.specs.Checks.{is_fetch}
 use Rattle.grin_meaning.specs.Ready.{most_fields, most_value_fields, IsVectorised, Ready}
 use Rattle.grin_meaning.specs.Slim.{procs_weight, procs_calls, procedure_words}
@@ -46,10 +46,11 @@ module _ (most most_value : ℕ) where
   Widths _ _ = ⊥
 
 -- no procedure has more words than before
-abbrev pub FewWords : List Procedure → List Procedure → Type 0
-FewWords [] [] = Unit {0}
-FewWords (q ∷ qs) (r ∷ rs) = (procedure_words r ≤ procedure_words q) × FewWords qs rs
-FewWords _ _ = ⊥
+abbrev pub ProcedureWordsDoNotGrow : List Procedure → List Procedure → Type 0
+ProcedureWordsDoNotGrow [] [] = Unit {0}
+ProcedureWordsDoNotGrow (q ∷ qs) (r ∷ rs) =
+    (procedure_words r ≤ procedure_words q) × ProcedureWordsDoNotGrow qs rs
+ProcedureWordsDoNotGrow _ _ = ⊥
 
 -- what vectorising makes of g: no node variable is left, and each is a vector of the width that its
 -- place asks for; what comes after takes it; and neither its weight, nor its calls, nor the words
@@ -59,7 +60,7 @@ pub record Widened (g h : Program) : Type 0 where
   pub ready : Ready h
   pub vectorised : IsVectorised h
   pub widths : Widths (most_fields g.tags) (most_value_fields g.tags) g.procs h.procs
-  pub outside : SameOutside g h
+  pub outside : DifferOnlyInBodies g h
   pub light : procs_weight h.procs ≤ procs_weight g.procs
   pub few_calls : procs_calls h.procs ≤ procs_calls g.procs
-  pub few_words : FewWords g.procs h.procs
+  pub few_words : ProcedureWordsDoNotGrow g.procs h.procs

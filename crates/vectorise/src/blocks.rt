@@ -3,11 +3,11 @@
 
 ghost use Rattle.std.specs.Prelude.{◌≡◌, IfOk};
 ghost use Rattle.grin_syntax.specs.Tree.{Code, act_of, before_of, arm_of, code_of};
-ghost use Rattle.vectorise.specs.Vectors.{wide_target, wide_cells, bare, wide_act, wide_code, wide_arm};
+ghost use Rattle.vectorise.specs.Vectors.{wide_target, wide_cells, without_binders, wide_act, wide_code, wide_arm};
 
-use crate::known::{Known, fetches};
+use crate::known::{Known, fetches_whole_node};
 use crate::layout::Layout;
-use crate::words::{as_word, as_words, given_val, vector_vars, wide_val};
+use crate::words::{as_word, as_words, returned_val, vector_vars, wide_val};
 use grin_syntax::{Alt, Block, Cell, Op, Shape, Stmt, Target};
 use seq::Seq;
 use std::alloc::{AllocError, Global};
@@ -27,7 +27,7 @@ impl Vectors {
             ≡ wide_act self.now.layout self.now.known (act_of op)) }
     {
         match op {
-            Op::Unit(v) => Ok(Op::Unit(given_val(alloc, &self.layout, &self.known, v)?)),
+            Op::Unit(v) => Ok(Op::Unit(returned_val(alloc, &self.layout, &self.known, v)?)),
             Op::Fetch(w) => Ok(Op::Fetch(as_word(&self.known, w))),
             Op::FetchWord(w, i) => Ok(Op::FetchWord(as_word(&self.known, w), i)),
             Op::Update(w, v) => {
@@ -79,7 +79,7 @@ impl Vectors {
         match stmt {
             Stmt::Store(cells) => Ok(Stmt::Store(self.cells(alloc, cells)?)),
             Stmt::Bind(target, op) => {
-                let target = self.target(alloc, target, fetches(&op))?;
+                let target = self.target(alloc, target, fetches_whole_node(&op))?;
                 Ok(Stmt::Bind(target, self.op(alloc, op)?))
             }
         }
@@ -134,7 +134,7 @@ impl Vectors {
 
 // A pattern that binds nothing.
 fn without_vars(alloc: Global, pattern: Shape) -> Shape
-    ensures { result ≡ bare pattern }
+    ensures { result ≡ without_binders pattern }
 {
     match pattern {
         Shape::Node(tag, _) => Shape::Node(tag, Seq::new(alloc)),

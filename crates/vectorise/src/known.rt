@@ -115,7 +115,7 @@ fn note_stmt(
         Stmt::Store(_) => Ok(()),
         Stmt::Bind(target, op) => {
             note_op(alloc, layout, known, op)?;
-            note_target(known, target, fetches(op));
+            note_target(known, target, fetches_whole_node(op));
             Ok(())
         }
     }
@@ -138,7 +138,7 @@ fn note_block(
 }
 
 /// Whether an operation fetches a whole node.
-pub(crate) fn fetches(op: &Op) -> bool
+pub(crate) fn fetches_whole_node(op: &Op) -> bool
     ensures { result ≡ is_fetch (act_of op.now) }
 {
     match op {

@@ -5,7 +5,7 @@ ghost use Rattle.std.specs.Prelude.{◌≡◌, map, IfOk};
 ghost use Rattle.grin_syntax.specs.Tree.{program_of};
 ghost use Rattle.grin_syntax.specs.Formed.{Formed};
 ghost use Rattle.grin_meaning.specs.Ready.{Ready};
-ghost use Rattle.vectorise.specs.Whole.{IsWhole};
+ghost use Rattle.vectorise.specs.Whole.{UsesWholeNodes};
 ghost use Rattle.vectorise.specs.Widened.{Widened};
 ghost use Rattle.vectorise.specs.Vectors.{vectorised};
 
@@ -24,7 +24,7 @@ use std::alloc::{AllocError, Global};
 pub struct Vectorise;
 
 impl Pass for Vectorise {
-    ghost takes = { λ g. Formed (program_of g) × Ready (program_of g) × IsWhole (program_of g) };
+    ghost takes = { λ g. Formed (program_of g) × Ready (program_of g) × UsesWholeNodes (program_of g) };
 
     ghost gives = { λ g h. Widened (program_of g) (program_of h) };
 

@@ -4,8 +4,8 @@
 ghost use Rattle.std.specs.Prelude.{◌≡◌, suc, map, IfOk};
 ghost use Rattle.grin_syntax.specs.declared.program.Word.TheVariants.{Var};
 ghost use Rattle.grin_syntax.specs.Fresh.{variables};
-ghost use Rattle.vectorise.specs.Known.{vector_start, room_of, as_word, as_words, vector_words, field_words};
-ghost use Rattle.vectorise.specs.Vectors.{wide_val, given_val};
+ghost use Rattle.vectorise.specs.Known.{vector_start, field_capacity_of, as_word, as_words, vector_words, field_words};
+ghost use Rattle.vectorise.specs.Vectors.{wide_val, returned_val};
 
 use crate::known::Known;
 use crate::layout::Layout;
@@ -47,8 +47,8 @@ pub(crate) fn as_words(
 }
 
 /// For how many fields there is room in the vector of a node variable.
-fn room_of(layout: &Layout, known: &Seq<Known>, x: VarId) -> u32
-    ensures { result ≡ room_of layout.now known.now x }
+fn field_capacity_of(layout: &Layout, known: &Seq<Known>, x: VarId) -> u32
+    ensures { result ≡ field_capacity_of layout.now known.now x }
 {
     layout.room(matches!(known.get(x.0 as usize), Some(Known::Fetched)))
 }
@@ -105,7 +105,7 @@ pub(crate) fn field_words(
 {
     match v {
         Val::NodeVar(x) => {
-            let vars = fields_of(alloc, layout, *x, room_of(layout, known, *x))?;
+            let vars = fields_of(alloc, layout, *x, field_capacity_of(layout, known, *x))?;
             all_vars(alloc, vars.as_slice())
         }
         Val::Node(_, words) => as_words(alloc, known, words.as_slice()),
@@ -132,7 +132,12 @@ pub(crate) fn wide_val(
     ensures { IfOk result (λ made. made ≡ wide_val layout.now known.now v) }
 {
     match v {
-        Val::NodeVar(x) => Ok(Val::Vector(vector(alloc, layout, x, room_of(layout, known, x))?)),
+        Val::NodeVar(x) => Ok(Val::Vector(vector(
+            alloc,
+            layout,
+            x,
+            field_capacity_of(layout, known, x),
+        )?)),
         Val::Node(tag, words) => Ok(Val::Node(tag, as_words(alloc, known, words.as_slice())?)),
         Val::Vector(words) => Ok(Val::Vector(as_words(alloc, known, words.as_slice())?)),
         Val::One(word) => Ok(Val::One(as_word(known, word))),
@@ -140,13 +145,13 @@ pub(crate) fn wide_val(
 }
 
 /// A value that a unit gives: of a node variable's vector the words that a value may have.
-pub(crate) fn given_val(
+pub(crate) fn returned_val(
     alloc: Global,
     layout: &Layout,
     known: &Seq<Known>,
     v: Val,
 ) -> Result<Val, AllocError>
-    ensures { IfOk result (λ made. made ≡ given_val layout.now known.now v) }
+    ensures { IfOk result (λ made. made ≡ returned_val layout.now known.now v) }
 {
     match v {
         Val::NodeVar(x) => Ok(Val::Vector(vector(alloc, layout, x, layout.most_value)?)),

@@ -8,8 +8,8 @@ use Rattle.grin_syntax.specs.declared.program.Val.{Val}
 use Rattle.grin_syntax.specs.declared.program.Val.TheVariants.{NodeVar, Node, Vector, One}
 use Rattle.grin_syntax.specs.Tree.{Code, end, store, bind, Act, unit, fetch, fetch_word, update, eval, apply, call, prim, read, write, case, nested, fail, Arms, no_arm, arm, Procedure}
 use Rattle.grin_syntax.specs.Formed.{AllOf}
-use Rattle.grin_meaning.specs.Ready.{EachAct, EachCode, EachArms, EachBody}
-use Rattle.vectorise.specs.Whole.{NoVector, NoVectorTarget, NoWord, whole_kind}
+use Rattle.grin_meaning.specs.Ready.{EachAct, EachCode, EachArms, EveryBodyIsOfKind}
+use Rattle.vectorise.specs.Whole.{NoVector, NoVectorTarget, NoWord, whole_node_kind}
 use Rattle.inlined_form.proofs.Sorts.{Sort, Sorts, nothing_known, vars_sorted, cells_sorted, target_sorted, sort_of, TargetFits, KeptFits, ScrutineeFits, GivenFits, alternative_sorted, ActFits, CodeFits, ArmsFit, ProcedureFits}
 
 kept_whole : (Γ : Sorts) (v : Val) → KeptFits Γ v → NoVector v
@@ -44,7 +44,7 @@ module _ (ts : List Tag) where
   mutual
     unfolding ActFits EachAct
 
-    act_whole : (o : Act) (Γ : Sorts) → ActFits ts ⊥ ⊥ Γ o → EachAct whole_kind o
+    act_whole : (o : Act) (Γ : Sorts) → ActFits ts ⊥ ⊥ Γ o → EachAct whole_node_kind o
     act_whole (unit v) Γ h = given_whole Γ v h
     act_whole (fetch a) Γ h = tt
     act_whole (fetch_word a i) Γ h = absurd h
@@ -59,15 +59,15 @@ module _ (ts : List Tag) where
     act_whole (nested b) Γ h = (tt, code_whole b Γ h)
     act_whole fail Γ h = tt
 
-    code_whole : (b : Code) (Γ : Sorts) → CodeFits ts ⊥ ⊥ Γ b → EachCode whole_kind b
+    code_whole : (b : Code) (Γ : Sorts) → CodeFits ts ⊥ ⊥ Γ b → EachCode whole_node_kind b
     code_whole (end o) Γ h = act_whole o Γ h.1
     code_whole (store cs b) Γ h = (cells_whole (cells_sorted cs Γ) cs h.0, code_whole b (cells_sorted cs Γ) h.1)
     code_whole (bind t o b) Γ h = (target_whole t (sort_of o) h.0, act_whole o Γ h.1, code_whole b (target_sorted t (sort_of o) Γ) h.2)
 
-    arms_whole : (as' : Arms) (v : Val) (Γ : Sorts) → ArmsFit ts ⊥ ⊥ Γ v as' → EachArms whole_kind as'
+    arms_whole : (as' : Arms) (v : Val) (Γ : Sorts) → ArmsFit ts ⊥ ⊥ Γ v as' → EachArms whole_node_kind as'
     arms_whole no_arm v Γ h = tt
     arms_whole (arm s b as') v Γ h = (tt, code_whole b (alternative_sorted ts s v Γ) h.0, arms_whole as' v Γ h.1)
 
-  pub procs_whole : (qs : List Procedure) → AllOf (ProcedureFits ts ⊥ ⊥) qs → EachBody whole_kind qs
+  pub procs_whole : (qs : List Procedure) → AllOf (ProcedureFits ts ⊥ ⊥) qs → EveryBodyIsOfKind whole_node_kind qs
   procs_whole [] h = tt
   procs_whole (q ∷ qs) h = (code_whole q.body (vars_sorted q.params nothing_known) h.0, procs_whole qs h.1)

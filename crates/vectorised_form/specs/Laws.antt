@@ -8,11 +8,11 @@ use Rattle.flow_system.specs.System.{system}
 use Rattle.flow_system.specs.Tables.{tables}
 use Rattle.inlining.specs.Applications.{inlined}
 use Rattle.grin_translate.specs.Translation.{tr}
-use Rattle.vectorise.specs.Whole.{IsWhole}
+use Rattle.vectorise.specs.Whole.{UsesWholeNodes}
 
 -- a translated program whose evaluations and applications are inlined is well formed, ready, and
 -- gives whole nodes
 abbrev pub VectoriseTakesInlined : Type 0
 VectoriseTakesInlined =
     (p : core.Program) → IsValid p → (A : Solution) → Solves (tables (tr p)) (system (tr p)) A
-    → Formed (inlined A (tr p)) × Ready (inlined A (tr p)) × IsWhole (inlined A (tr p))
+    → Formed (inlined A (tr p)) × Ready (inlined A (tr p)) × UsesWholeNodes (inlined A (tr p))

@@ -1,7 +1,7 @@
 use Rattle.std.proofs.Common.{◌≡◌, take}
 use Rattle.inlining.specs.Size.{cells_size}
-use Rattle.inlining.specs.Expanded.{capped}
+use Rattle.inlining.specs.Expanded.{saturated_at_64_bits}
 use Rattle.apply_inline.proofs.expanded.cells_size.Given as goal
 
 abbrev pub invariant-loop-cell : goal.invariant-loop-cell
-invariant-loop-cell l = l.size ≡ capped (cells_size (take l.cell-index l.cells))
+invariant-loop-cell l = l.size ≡ saturated_at_64_bits (cells_size (take l.cell-index l.cells))

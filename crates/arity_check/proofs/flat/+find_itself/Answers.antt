@@ -16,7 +16,7 @@ bracketed p s head (x ∷ xs) at e = refl
 
 pub returns-in-Name : goal.returns-in-Name
 returns-in-Name t c = λ p k.
-    c.variable.ensures ∙ ap itself_as (c.stands_for.ensures ∙ ap (λ k. meaning k c.args.scope.now c.in-Name.name.0) k ∙ meaning_means p c.args.scope.now c.in-Name.name.0)
+    c.variable.ensures ∙ ap itself_as (c.meaning_of_name.ensures ∙ ap (λ k. meaning k c.args.scope.now c.in-Name.name.0) k ∙ meaning_means p c.args.scope.now c.in-Name.name.0)
     ∙ ap (itself p c.args.scope.now) (sym (term_of-Name c.in-Name.name c.in-Name.field-1) ∙ ap term (sym c.in-Name.is))
 
 pub returns-else-is_empty : goal.returns-else-is_empty

@@ -1,4 +1,4 @@
-use Rattle.arity_raise.proofs.PassContract.{by_least}
+use Rattle.arity_raise.proofs.Contract.{by_least}
 use Rattle.arity_raise.proofs.pass.with_raised_params.Goals as goal
 
 pub with_fields-requires : goal.with_fields-requires

@@ -1,7 +1,7 @@
 use Rattle.std.proofs.Common.{map, ap, ◌∙◌}
 use Rattle.grin_syntax.specs.Tree.{procedure_of, program_of}
 use Rattle.points_to.specs.Found.{found}
-use Rattle.arity_raise.specs.UpdatedCells.{updated_of}
+use Rattle.pass_ground.specs.Updated.{updated_of}
 use Rattle.arity_raise.proofs.Sites.{no_sites, sites_next, sites_done}
 use Rattle.arity_raise.proofs.updated.updated_sites.Goals as goal
 

@@ -28,24 +28,24 @@ lean_stmt-returns-in_ok-lean_op-in-Bind-clause-uses t c =
 pub lean_stmt-returns-in_ok-note_cells-in-Store-clause-uses : goal.lean_stmt-returns-in_ok-note_cells-in-Store-clause-uses
 lean_stmt-returns-in_ok-note_cells-in-Store-clause-uses t c = λ c' m o. stored_used c.in-Store.cells c.as_slice.result.now c.args.uses.now _ m c' c.in_ok-note_cells-in-Store.ensures o c.as_slice.ensures
 
-pub lean_block-loop-stmt-init : goal.lean_block-loop-stmt-init
-lean_block-loop-stmt-init t c = leans_begin _ _ c.args.block.last.value c.into_inner.result _ _ (search rules) (search rules) c.in_ok-last.ensures.tree c.in_ok-last.ensures.uses
+pub without_idle_block-loop-stmt-init : goal.without_idle_block-loop-stmt-init
+without_idle_block-loop-stmt-init t c = leans_begin _ _ c.args.block.last.value c.into_inner.result _ _ (search rules) (search rules) c.in_ok-last.ensures.tree c.in_ok-last.ensures.uses
 
-pub lean_block-loop-stmt-preserved-in_ok-push-in-Some-2 : goal.lean_block-loop-stmt-preserved-in_ok-push-in-Some-2
-lean_block-loop-stmt-preserved-in_ok-push-in-Some-2 t c =
+pub without_idle_block-loop-stmt-preserved-in_ok-push-in-Some-2 : goal.without_idle_block-loop-stmt-preserved-in_ok-push-in-Some-2
+without_idle_block-loop-stmt-preserved-in_ok-push-in-Some-2 t c =
     rw c.in_ok-push-in-Some-2.ensures.items (leans_stay _ _ _ _ _ _ _ _ _ _ _ (sym c.count-from.ensures) c.loop-stmt.invariant c.in_ok-stmt.ensures.tree c.in_ok-stmt.ensures.uses c.in-Some-2.is)
 
-pub lean_block-loop-stmt-preserved : goal.lean_block-loop-stmt-preserved
-lean_block-loop-stmt-preserved t c = leans_go _ _ _ _ _ _ _ _ _ _ (sym c.count-from.ensures) c.loop-stmt.invariant c.in_ok-stmt.ensures.tree c.in_ok-stmt.ensures.uses c.in-None-2.is
+pub without_idle_block-loop-stmt-preserved : goal.without_idle_block-loop-stmt-preserved
+without_idle_block-loop-stmt-preserved t c = leans_go _ _ _ _ _ _ _ _ _ _ (sym c.count-from.ensures) c.loop-stmt.invariant c.in_ok-stmt.ensures.tree c.in_ok-stmt.ensures.uses c.in-None-2.is
 
 -- all statements were walked, the last one first
-all_stmts : (t : ℕ) (c : goal.lean_block-In_ok-new t) → c.loop-stmt.yielded ≡ reverse c.args.block.stmts
+all_stmts : (t : ℕ) (c : goal.without_idle_block-In_ok-new t) → c.loop-stmt.yielded ≡ reverse c.args.block.stmts
 all_stmts t c =
     let all = YieldsList-end (YieldsList-from_vec c.reverse.new.self.items (search rules) (search rules)) c.loop-stmt.yielded c.loop-stmt.stmt-iterator c.loop-stmt.yielded_by _ c.next.new.self c.in-None.is c.next.ensures.steps in
     sym (map_same c.loop-stmt.yielded) ∙ all.0 ∙ c.reverse.ensures.items ∙ ap reverse c.into_vec-stmts.ensures
 
-pub lean_block-returns-clause-tree : goal.lean_block-returns-clause-tree
-lean_block-returns-clause-tree t c = leans_tree _ _ c.args.block _ _ _ _ (all_stmts t c) c.loop-stmt.invariant (search rules) (search rules)
+pub without_idle_block-returns-clause-tree : goal.without_idle_block-returns-clause-tree
+without_idle_block-returns-clause-tree t c = leans_tree _ _ c.args.block _ _ _ _ (all_stmts t c) c.loop-stmt.invariant (search rules) (search rules)
 
-pub lean_block-returns-clause-uses : goal.lean_block-returns-clause-uses
-lean_block-returns-clause-uses t c = leans_uses _ _ c.args.block _ _ _ (all_stmts t c) c.loop-stmt.invariant
+pub without_idle_block-returns-clause-uses : goal.without_idle_block-returns-clause-uses
+without_idle_block-returns-clause-uses t c = leans_uses _ _ c.args.block _ _ _ (all_stmts t c) c.loop-stmt.invariant

@@ -1,7 +1,7 @@
 use Rattle.std.proofs.Common.{◌≡◌, List, length, map, sym, ap, subst, arith, ◌∙◌, ◌<◌, ◌^◌}
 use Rattle.std.specs.Prelude.{All, sum_by}
 use Rattle.std.specs.List.{AllZip}
-use Rattle.core_reader.specs.Different.{AreDifferent}
+use Rattle.core_reader.specs.Different.{AreDistinct}
 use Rattle.core_reader.specs.Size.{program_size}
 use Rattle.core_reader.specs.Tree.{Program, program}
 use Rattle.core_link.specs.declared.module.Module as code
@@ -40,4 +40,4 @@ returns-clause-readable c =
     (subst (λ ms. AllZip (NumberedIn c.in_ok-names.names) ms rs) c.as_slice-2.ensures.value c.in_ok-names.ensures)
     (c.in_ok-declared.ensures.constructors ∙ ap (λ v. joined_constructors (map part_of all) (map numbers_of v)) c.as_slice-3.ensures.value)
     (c.in_ok-declared.ensures.functions ∙ ap (λ v. joined_functions (map part_of all) (map numbers_of v)) c.as_slice-3.ensures.value)
-    (subst AreDifferent c.names.view_is c.names.invariant) (omega (arith, e))
+    (subst AreDistinct c.names.view_is c.names.invariant) (omega (arith, e))

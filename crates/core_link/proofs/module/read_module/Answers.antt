@@ -3,7 +3,7 @@ use Rattle.std.proofs.lemmas.Result.{err_from_is_err_and}
 use Rattle.core_reader.specs.declared.dialect.Dialect.TheVariants.{Modules}
 use Rattle.core_reader.specs.Tree.{data_of, function}
 use Rattle.core_reader.specs.Readable.{IsReadable}
-use Rattle.core_reader.specs.Different.{AreDifferent}
+use Rattle.core_reader.specs.Different.{AreDistinct}
 use Rattle.core_reader.specs.LexedOf.{texts_of}
 use Rattle.core_reader.specs.Machine.{Fails}
 use Rattle.core_reader.specs.Declaring as core
@@ -15,8 +15,8 @@ use Rattle.core_reader.proofs.Readability.{different_from}
 use Rattle.core_link.proofs.Modules.{misnamed_refused, refused, declarations_refused, found, module_from}
 use Rattle.core_link.proofs.module.read_module.Goals as goal
 
-pub returns-then-text-gt-MOST_BYTES-clause-refused : goal.returns-then-text-gt-MOST_BYTES-clause-refused
-returns-then-text-gt-MOST_BYTES-clause-refused c = too_long c.args.text.now (omega arith)
+pub returns-then-text-clause-refused : goal.returns-then-text-clause-refused
+returns-then-text-clause-refused c = too_long c.args.text.now (omega arith)
 
 pub returns-in-Some-clause-refused : goal.returns-in-Some-clause-refused
 returns-in-Some-clause-refused c =
@@ -55,7 +55,7 @@ returns-in_err-declarations-clause-refused c =
 pub copied_names-requires : goal.copied_names-requires
 copied_names-requires c =
     let l = c.in_ok-lexed.ensures in
-    subst AreDifferent (sym l.named) (different_from Modules [] l.pieces tt)
+    subst AreDistinct (sym l.named) (different_from Modules [] l.pieces tt)
 
 pub returns-clause-found : goal.returns-clause-found
 returns-clause-found c =

@@ -5,8 +5,8 @@ use Rattle.arity_check.specs.Tables.{known}
 use Rattle.arity_check.specs.Whole.{known_of}
 use Rattle.core_link.specs.Module.{Module, body}
 use Rattle.core_link.specs.ModuleOf.{module_of}
-use Rattle.core_link.specs.Rules.{Own}
-use Rattle.core_link.specs.Found.{IsFirstAt, IsFirstOf, sooner, earliest, binder_place, is_declared}
+use Rattle.core_link.specs.Rules.{BreaksOwnRule}
+use Rattle.core_link.specs.Found.{IsFirstPlaceWhere, NamesFirstBrokenRule, sooner, earliest, binder_place, is_declared}
 use Rattle.core_link.proofs.Owned.{own_first, exports_first, UnknownExport}
 use Rattle.core_link.proofs.rules.own.Goals as goal
 
@@ -20,4 +20,4 @@ returns c =
     ∙ ap (earliest (λ b. not (is_declared (known c.args.globals.now) b.name.0)) binder_place None) (sym c.as_slice.ensures) ∙ sym c.unknown_export-export.ensures in
     let all : c.sooner-3.result ≡ sooner (sooner (sooner None 22 c.reserved-reserved.result) 55 e) 58 c.doubles-double.result =
     c.sooner-3.ensures ∙ ap (λ w. sooner w 58 c.doubles-double.result) (c.sooner-2.ensures ∙ ap (λ w. sooner w 55 e) c.sooner.ensures) in
-    subst (IsFirstOf (Own m)) (sym all) (own_first m c.reserved-reserved.result e c.doubles-double.result c.reserved-reserved.ensures (subst (IsFirstAt (UnknownExport m)) exports (exports_first m)) c.doubles-double.ensures)
+    subst (NamesFirstBrokenRule (BreaksOwnRule m)) (sym all) (own_first m c.reserved-reserved.result e c.doubles-double.result c.reserved-reserved.ensures (subst (IsFirstPlaceWhere (UnknownExport m)) exports (exports_first m)) c.doubles-double.ensures)

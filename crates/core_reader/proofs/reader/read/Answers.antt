@@ -3,7 +3,7 @@ use Rattle.std.proofs.lemmas.Result.{err_from_is_err_and}
 use Rattle.core_reader.specs.declared.dialect.Dialect.TheVariants.{Core}
 use Rattle.core_reader.specs.Tree.{Program, data_of, function}
 use Rattle.core_reader.specs.Programs.{IsText}
-use Rattle.core_reader.specs.Different.{AreDifferent}
+use Rattle.core_reader.specs.Different.{AreDistinct}
 use Rattle.core_reader.specs.Readable.{IsReadable}
 use Rattle.core_reader.specs.Lexed.{texts_of}
 use Rattle.core_reader.specs.Parsed.{ReadsProgram}
@@ -11,8 +11,8 @@ use Rattle.core_reader.proofs.Readability.{different_from}
 use Rattle.core_reader.proofs.Answers.{found, found_readable, refused, too_long, program_of}
 use Rattle.core_reader.proofs.reader.read.Goals as goal
 
-pub returns-then-text-gt-MOST_BYTES-clause-refused : goal.returns-then-text-gt-MOST_BYTES-clause-refused
-returns-then-text-gt-MOST_BYTES-clause-refused c = too_long c.args.text.now (omega arith)
+pub returns-then-text-clause-refused : goal.returns-then-text-clause-refused
+returns-then-text-clause-refused c = too_long c.args.text.now (omega arith)
 
 pub returns-in_err-declarations-clause-refused : goal.returns-in_err-declarations-clause-refused
 returns-in_err-declarations-clause-refused c =
@@ -26,7 +26,7 @@ returns-in_err-declarations-clause-refused c =
 pub copied_names-requires : goal.copied_names-requires
 copied_names-requires c =
     let l = c.in_ok-lexed.ensures in
-    subst AreDifferent (sym l.named) (different_from Core [] l.pieces tt)
+    subst AreDistinct (sym l.named) (different_from Core [] l.pieces tt)
 
 pub returns-clause-found : goal.returns-clause-found
 returns-clause-found c =

@@ -2,7 +2,7 @@ use Rattle.std.proofs.Common.{get_or, subst, arith}
 use Rattle.core_reader.specs.declared.syntax.Binder.{Binder}
 use Rattle.core_reader.specs.Tree.{function as function_tree}
 use Rattle.core_types.specs.Typing.{param_type}
-use Rattle.core_types.specs.Instances.{GivesEach}
+use Rattle.core_types.specs.Instances.{AddsTermsForTypes}
 use Rattle.core_types.proofs.Instancing.{one_given, map_one, map_whole}
 use Rattle.core_types.proofs.building.param_types.Goals as goal
 
@@ -18,6 +18,6 @@ loop-param-preserved c = λ s k h.
 
 pub returns : goal.returns
 returns c = λ s k h.
-    subst (λ ts. GivesEach c.args.nodes.now c.loop-param.nodes ts c.loop-param.terms.items)
+    subst (λ ts. AddsTermsForTypes c.args.nodes.now c.loop-param.nodes ts c.loop-param.terms.items)
     (map_whole (param_type s (function_tree c.args.function.now)) c.as_slice-param-items.result.now c.args.function.now.params c.loop-param.param-index c.as_slice-param-items.ensures (omega arith))
     (c.loop-param.invariant s k h)

@@ -2,7 +2,7 @@ use Rattle.std.proofs.Common.{map, ap, subst, arith}
 use Rattle.std.proofs.lemmas.List.{take_all}
 use Rattle.core_reader.specs.Tree.{term as term_of, terms_of}
 use Rattle.core_types.specs.Typing.{term_type, terms_types}
-use Rattle.core_types.specs.Instances.{GivesEach}
+use Rattle.core_types.specs.Instances.{AddsTermsForTypes}
 use Rattle.core_types.proofs.Heads.{one_type}
 use Rattle.core_types.proofs.Adding.{locals_kept}
 use Rattle.core_types.proofs.Instancing.{one_given}
@@ -19,6 +19,6 @@ loop-atom-preserved c = λ s ls k h d.
 
 pub returns : goal.returns
 returns c = λ s ls k h d.
-    subst (λ ts. GivesEach c.args.nodes.now c.loop-atom.nodes ts c.loop-atom.terms.items)
+    subst (λ ts. AddsTermsForTypes c.args.nodes.now c.loop-atom.nodes ts c.loop-atom.terms.items)
     (ap (λ atoms. terms_types s ls (terms_of (map term_of atoms))) (take_all c.loop-atom.atom-index c.args.atoms.now (omega arith)))
     (c.loop-atom.invariant s ls k h d)

@@ -3,7 +3,7 @@ use Rattle.arity_check.specs.Tables.{known}
 use Rattle.core_types.specs.SourceOf.{written as tree_of, types_in}
 use Rattle.core_types.specs.Typing.{Int, Named, Arrow, read, read_all}
 use Rattle.core_types.specs.Nodes.{DenoteAll}
-use Rattle.core_types.specs.Instances.{variable_of, GivesEach}
+use Rattle.core_types.specs.Instances.{variable_of, AddsTermsForTypes}
 use Rattle.core_types.proofs.Denoting.{grows_then}
 use Rattle.core_types.proofs.TreeOf.{written-Named, written-Arrow}
 use Rattle.core_types.proofs.Instancing.{gives_as, gives_then, int_read, named_read, read_denoted, one_given, read_more, read_whole}
@@ -54,6 +54,6 @@ read_all-loop-written-preserved t c = λ s k h.
 
 pub read_all-returns : goal.read_all-returns
 read_all-returns t c = λ s k h.
-    subst (λ ts. GivesEach c.args.nodes.now c.loop-written.nodes ts c.loop-written.terms.items)
+    subst (λ ts. AddsTermsForTypes c.args.nodes.now c.loop-written.nodes ts c.loop-written.terms.items)
     (read_whole s (variable_of c.args.instance) c.args.types.now c.loop-written.written-index (omega arith))
     (c.loop-written.invariant s k h)

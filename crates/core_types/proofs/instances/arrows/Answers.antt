@@ -1,6 +1,6 @@
 use Rattle.std.proofs.Common.{◌≡◌, ◌≤◌, ◌-◌, zero, suc, length, drop, subst, arith}
 use Rattle.core_types.specs.Typing.{arrows}
-use Rattle.core_types.specs.Nodes.{Gives}
+use Rattle.core_types.specs.Nodes.{AddsTermForType}
 use Rattle.core_types.proofs.Denoting.{grows_refl}
 use Rattle.core_types.proofs.Instancing.{gives_as, past_all, arrow_more}
 use Rattle.core_types.proofs.instances.arrows.Goals as goal
@@ -24,11 +24,11 @@ leading-preserved c =
       given = λ ts t h e d.
           arrow_more c.args.nodes.now c.leading.nodes c.arrow.new.self ts t c.args.from.now (i - 1) c.leading.at c.in_ok-at.at 0
           (omega (arith, within, c.leading-test.true)) e
-          (subst (λ i. Gives c.args.nodes.now c.leading.nodes (arrows (drop i ts) t) c.leading.at) before (c.leading.invariant.given ts t h e d))
+          (subst (λ i. AddsTermForType c.args.nodes.now c.leading.nodes (arrows (drop i ts) t) c.leading.at) before (c.leading.invariant.given ts t h e d))
           c.in_ok-at.ensures;
     }
 
 pub returns : goal.returns
 returns c = λ ts t h e d.
     let none : c.leading.left ≡ zero = omega (arith, c.leading-test.false) in
-    subst (λ i. Gives c.args.nodes.now c.leading.nodes (arrows (drop i ts) t) c.leading.at) none (c.leading.invariant.given ts t h e d)
+    subst (λ i. AddsTermForType c.args.nodes.now c.leading.nodes (arrows (drop i ts) t) c.leading.at) none (c.leading.invariant.given ts t h e d)

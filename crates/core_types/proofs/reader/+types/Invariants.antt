@@ -1,7 +1,7 @@
 use Rattle.std.proofs.Common.{◌≡◌, ◌≤◌, ◌+◌, ◌*◌, length}
-use Rattle.core_types.specs.Source.{Writtens, NoTypes}
+use Rattle.core_types.specs.Source.{WrittenTypes, NoTypes}
 use Rattle.core_types.specs.SourceOf.{types_in}
-use Rattle.core_types.specs.Reading.{Frame, Own, nests, KeepsTypes}
+use Rattle.core_types.specs.Reading.{Frame, Own, nests, CollectsTypes}
 use Rattle.core_types.specs.Reading as reading
 use Rattle.core_types.proofs.reader.+types.Given as goal
 
@@ -22,7 +22,7 @@ decreases-in_brackets l = 4 * length l.parser.now.rest.now + 3
 
 abbrev pub invariant-types-loop-parser : goal.invariant-types-loop-parser
 invariant-types-loop-parser l = record {
-  reads : (state : Writtens → Own) (frame : Writtens → Frame) → KeepsTypes state frame → ((ts : Writtens) → nests (frame ts) ≡ l.fn.parser.depth) → reading.at (state NoTypes) l.fn.parser.rest.now ≡ reading.at (state (types_in l.types.items)) l.parser.rest.now;
+  reads : (state : WrittenTypes → Own) (frame : WrittenTypes → Frame) → CollectsTypes state frame → ((ts : WrittenTypes) → nests (frame ts) ≡ l.fn.parser.depth) → reading.at (state NoTypes) l.fn.parser.rest.now ≡ reading.at (state (types_in l.types.items)) l.parser.rest.now;
   shorter : length l.parser.rest.now ≤ length l.fn.parser.rest.now;
   depth : l.parser.depth ≡ l.fn.parser.depth;
 }

@@ -7,7 +7,7 @@ use Rattle.core_reader.specs.declared.token.Token.TheVariants as word
 use Rattle.core_reader.specs.declared.token.Further.TheVariants as further
 use Rattle.core_types.specs.SourceOf.{constructor_of, types_in}
 use Rattle.core_types.specs.Grammar.{Declares, bar}
-use Rattle.core_types.specs.Reading.{constructing, Top, ConName, Fields}
+use Rattle.core_types.specs.Reading.{with_new_constructor, Top, ConName, Fields}
 use Rattle.core_types.specs.Reading as reading
 use Rattle.core_types.proofs.Taking.{takes, refuses_at, fails_from, no_fields_end, type_with, behind_shorter}
 use Rattle.core_types.proofs.Parts.{nearer_still}
@@ -32,7 +32,7 @@ returns-then-ne-clause-reads c = λ ds b ps.
     let after = c.take.new.self.rest.now in
     c.loop-constructors.invariant.reads ds b ps
     ∙ c.in_ok-constructor.ensures.reads ds d
-    ∙ takes (Outside (Fields ds d con.name (types_in con.fields))) (Outside (Top (ds ++ Declares (constructing d con.name (types_in con.fields)) ∷ []))) rest (front rest) word.Semicolon after refl c.in_ok-take.ensures.takes.0 c.in_ok-take.ensures.takes.1 refl
+    ∙ takes (Outside (Fields ds d con.name (types_in con.fields))) (Outside (Top (ds ++ Declares (with_new_constructor d con.name (types_in con.fields)) ∷ []))) rest (front rest) word.Semicolon after refl c.in_ok-take.ensures.takes.0 c.in_ok-take.ensures.takes.1 refl
     ∙ ap (λ w. reading.at (Top (ds ++ Declares (type_with b ps w) ∷ [])) after) (sym (map_push constructor_of items con) ∙ ap (map constructor_of) (sym c.in_ok-push.ensures.items))
 
 pub loop-constructors-preserved : goal.loop-constructors-preserved
@@ -47,7 +47,7 @@ loop-constructors-preserved c =
           let d = type_with b ps (map constructor_of items) in
           c.loop-constructors.invariant.reads ds b ps
           ∙ c.in_ok-constructor.ensures.reads ds d
-          ∙ takes (Outside (Fields ds d con.name (types_in con.fields))) (Outside (ConName ds (constructing d con.name (types_in con.fields)))) rest c.peek.result bar after c.peek.ensures t c.advance.ensures.rest refl
+          ∙ takes (Outside (Fields ds d con.name (types_in con.fields))) (Outside (ConName ds (with_new_constructor d con.name (types_in con.fields)))) rest c.peek.result bar after c.peek.ensures t c.advance.ensures.rest refl
           ∙ ap (λ w. reading.at (ConName ds (type_with b ps w)) after) (sym (map_push constructor_of items con) ∙ ap (map constructor_of) (sym c.in_ok-push.ensures.items));
       shorter = nearer_still _ _ _ _ _ (ap length c.advance.ensures.rest) (behind_shorter rest) c.in_ok-constructor.ensures.shorter c.loop-constructors.invariant.shorter;
       depth = c.advance.ensures.depth ∙ c.in_ok-constructor.ensures.depth;

@@ -5,7 +5,7 @@ use Rattle.core_reader.specs.Tree as tree
 use Rattle.core_reader.specs.Machine.{Outermost, nests, Ended, InBody, Apply, front}
 use Rattle.core_reader.specs.AroundOf.{Outside, Within}
 use Rattle.core_reader.specs.declared.token.Token.TheVariants as word
-use Rattle.core_types.specs.Reading.{binder, defined, InFunction, Params, Top, run}
+use Rattle.core_types.specs.Reading.{binder, function_declaration, InFunction, Params, Top, run}
 use Rattle.core_types.specs.Reading as reading
 use Rattle.core_types.proofs.Taking.{takes, refuses, refuses_at, fails_from, params, body_read, body_fails, no_param, no_end_step, naming}
 use Rattle.core_types.proofs.reader.function.Goals as goal
@@ -58,4 +58,4 @@ returns-clause-reads c = λ ds.
     let d : nests Outermost ≡ c.take.new.self.depth = omega arith in
     named ∙ held ∙ equals ∙ body_read k (tree.expr c.in_ok-body.body) c.take.new.self.rest.now ts4 (c.in_ok-body.ensures.reads Outermost d)
     ∙ takes (Within k (Ended Outermost (tree.expr c.in_ok-body.body))) _ ts4 (front ts4) word.Semicolon _ refl c.in_ok-take-2.ensures.takes.0 c.in_ok-take-2.ensures.takes.1 refl
-    ∙ ap (λ w. reading.at (Top (ds ++ defined b w (tree.expr c.in_ok-body.body) ∷ [])) c.take-2.new.self.rest.now) (sym c.from_vec.ensures)
+    ∙ ap (λ w. reading.at (Top (ds ++ function_declaration b w (tree.expr c.in_ok-body.body) ∷ [])) c.take-2.new.self.rest.now) (sym c.from_vec.ensures)

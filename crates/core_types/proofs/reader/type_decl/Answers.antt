@@ -6,7 +6,7 @@ use Rattle.core_reader.specs.declared.token.Token.TheVariants as word
 use Rattle.core_reader.specs.declared.token.Further.TheVariants as further
 use Rattle.core_types.specs.SourceOf.{constructor_of}
 use Rattle.core_types.specs.Grammar.{Declares}
-use Rattle.core_types.specs.Reading.{binder, type_named, Top, TypeName, TypeParams, ConName}
+use Rattle.core_types.specs.Reading.{binder, empty_type_decl, Top, TypeName, TypeParams, ConName}
 use Rattle.core_types.specs.Reading as reading
 use Rattle.core_types.proofs.Taking.{takes, refuses_at, fails_from, type_params, no_type_name, no_type_param}
 use Rattle.core_types.proofs.reader.type_decl.Goals as goal
@@ -33,7 +33,7 @@ returns-in_err-constructors-in-Con-clause-reads c = λ ds.
     let entered = takes (Outside (Top ds)) (Outside (TypeName ds)) ts (front ts) (word.Further further.TypeDecl) c.advance.new.self.rest.now refl c.requires.word c.advance.ensures.rest refl in
     let named = takes (Outside (TypeName ds)) (Outside (TypeParams ds b [])) c.advance.new.self.rest.now c.peek-next.result (word.Con c.in-Con.name) c.advance-in-Con.new.self.rest.now c.peek-next.ensures c.in-Con.is c.advance-in-Con.ensures.rest refl in
     let held = type_params ds b ps c.advance-in-Con.new.self.rest.now ts2 c.in_ok-params-in-Con.ensures.reads in
-    let equals = takes (Outside (TypeParams ds b ps)) (Outside (ConName ds (type_named b ps))) ts2 (front ts2) word.Equals c.take.new.self.rest.now refl c.in_ok-take-in-Con.ensures.takes.0 c.in_ok-take-in-Con.ensures.takes.1 refl in
+    let equals = takes (Outside (TypeParams ds b ps)) (Outside (ConName ds (empty_type_decl b ps))) ts2 (front ts2) word.Equals c.take.new.self.rest.now refl c.in_ok-take-in-Con.ensures.takes.0 c.in_ok-take-in-Con.ensures.takes.1 refl in
     rw (q.1, q.2) (fails_from c.in_err-constructors-in-Con.field-0.0 _ _ (entered ∙ named ∙ held ∙ equals) (c.in_err-constructors-in-Con.ensures.reads ds b ps))
 
 pub returns-in_ok-constructors-in-Con-clause-reads : goal.returns-in_ok-constructors-in-Con-clause-reads
@@ -46,7 +46,7 @@ returns-in_ok-constructors-in-Con-clause-reads c = λ ds.
     takes (Outside (Top ds)) (Outside (TypeName ds)) ts (front ts) (word.Further further.TypeDecl) c.advance.new.self.rest.now refl c.requires.word c.advance.ensures.rest refl
     ∙ takes (Outside (TypeName ds)) (Outside (TypeParams ds b [])) c.advance.new.self.rest.now c.peek-next.result (word.Con c.in-Con.name) c.advance-in-Con.new.self.rest.now c.peek-next.ensures c.in-Con.is c.advance-in-Con.ensures.rest refl
     ∙ type_params ds b ps c.advance-in-Con.new.self.rest.now ts2 c.in_ok-params-in-Con.ensures.reads
-    ∙ takes (Outside (TypeParams ds b ps)) (Outside (ConName ds (type_named b ps))) ts2 (front ts2) word.Equals c.take.new.self.rest.now refl c.in_ok-take-in-Con.ensures.takes.0 c.in_ok-take-in-Con.ensures.takes.1 refl
+    ∙ takes (Outside (TypeParams ds b ps)) (Outside (ConName ds (empty_type_decl b ps))) ts2 (front ts2) word.Equals c.take.new.self.rest.now refl c.in_ok-take-in-Con.ensures.takes.0 c.in_ok-take-in-Con.ensures.takes.1 refl
     ∙ c.in_ok-constructors-in-Con.ensures.reads ds b ps
     ∙ (λ i. reading.at (Top (ds ++ Declares (record { name = b; params = sym c.from_vec.ensures i; constructors = map constructor_of (sym c.from_vec-in-Con.ensures i) }) ∷ [])) rest)
 

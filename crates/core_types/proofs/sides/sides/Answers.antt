@@ -4,9 +4,9 @@ use Rattle.unification.specs.declared.classes.Classes.{Classes}
 use Rattle.unification.specs.declared.term.Term.{Term}
 use Rattle.unification.specs.Shown.{IsSolved}
 use Rattle.unification.specs.Solutions.{AreUnsolvable}
-use Rattle.unification.specs.Terms.{AreBelow, equations}
+use Rattle.unification.specs.Terms.{PairsAreBelow, equations}
 use Rattle.unification.proofs.Solving.{below_taken}
-use Rattle.core_types.specs.declared.building.Builder.{Builder}
+use Rattle.core_types.specs.declared.building.ConstraintBuilder.{ConstraintBuilder}
 use Rattle.core_types.specs.Sides.{type_of}
 use Rattle.core_types.proofs.Unsolved.{pairs_below}
 use Rattle.core_types.proofs.BothSides.{pair_below, both_sides}
@@ -14,26 +14,26 @@ use Rattle.core_types.proofs.sides.sides.Goals as goal
 
 pub solve-requires-clause-below : goal.solve-requires-clause-below
 solve-requires-clause-below c =
-    let b : Builder = c.args.builder.now in
-    subst (λ (ts : List Term). AreBelow (length ts) (take c.args.number c.as_slice-pairs.result.now)) (sym c.as_slice-terms.ensures.value)
-    (subst (λ (ps : List (ℕ × ℕ)). AreBelow (length b.nodes.terms.items) (take c.args.number ps)) (sym c.as_slice-pairs.ensures.value)
+    let b : ConstraintBuilder = c.args.builder.now in
+    subst (λ (ts : List Term). PairsAreBelow (length ts) (take c.args.number c.as_slice-pairs.result.now)) (sym c.as_slice-terms.ensures.value)
+    (subst (λ (ps : List (ℕ × ℕ)). PairsAreBelow (length b.nodes.terms.items) (take c.args.number ps)) (sym c.as_slice-pairs.ensures.value)
     (below_taken (length b.nodes.terms.items) c.args.number b.pairs.items (pairs_below b c.requires.stands.0 c.requires.stands.1)))
 
 pub side-requires-clause-within : goal.side-requires-clause-within
 side-requires-clause-within c =
-    let b : Builder = c.args.builder.now in
+    let b : ConstraintBuilder = c.args.builder.now in
     let l = pair_below (length b.nodes.terms.items) b.pairs.items c.args.number c.in-Some.pair (pairs_below b c.requires.stands.0 c.requires.stands.1) (sym c.pair_at.ensures ∙ c.in-Some.is) in
     subst (λ (ts : List Term). c.in-Some.pair.0 < length ts) (sym c.as_slice-terms.ensures.value) l.0
 
 pub side-requires-2-clause-within : goal.side-requires-2-clause-within
 side-requires-2-clause-within c =
-    let b : Builder = c.args.builder.now in
+    let b : ConstraintBuilder = c.args.builder.now in
     let l = pair_below (length b.nodes.terms.items) b.pairs.items c.args.number c.in-Some.pair (pairs_below b c.requires.stands.0 c.requires.stands.1) (sym c.pair_at.ensures ∙ c.in-Some.is) in
     subst (λ (ts : List Term). c.in-Some.pair.1 < length ts) (sym c.as_slice-terms.ensures.value) l.1
 
 pub returns : goal.returns
 returns c = λ cs k stands e.
-    let b : Builder = c.args.builder.now in
+    let b : ConstraintBuilder = c.args.builder.now in
     let ts : List Term = c.as_slice-terms.result.now in
     let ps : List (ℕ × ℕ) = c.as_slice-pairs.result.now in
     let solved : IsSolved ts (take c.args.number ps) c.in-Some-before.classes = subst (λ (o : Option Classes). MatchOption o (AreUnsolvable (equations ts (take c.args.number ps))) (IsSolved ts (take c.args.number ps))) c.in-Some-before.is c.in_ok-before.ensures in

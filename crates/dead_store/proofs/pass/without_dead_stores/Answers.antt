@@ -1,4 +1,4 @@
-use Rattle.dead_store.proofs.PassContract.{is_stored, is_kept}
+use Rattle.dead_store.proofs.Contract.{is_stored, is_kept}
 use Rattle.dead_store.proofs.pass.without_dead_stores.Goals as goal
 
 pub returns-clause-shape : goal.returns-clause-shape

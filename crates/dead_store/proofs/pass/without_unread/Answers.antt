@@ -1,4 +1,4 @@
-use Rattle.dead_store.proofs.PassContract.{left_by}
+use Rattle.dead_store.proofs.Contract.{left_by}
 use Rattle.dead_store.proofs.pass.without_unread.Goals as goal
 
 pub returns : goal.returns

@@ -2,14 +2,14 @@ use Rattle.std.proofs.Common.{pos, [], map, refl, sym, subst, ◌∙◌}
 use Rattle.grin_syntax.specs.declared.program.Word.TheVariants.{Lit}
 use Rattle.grin_syntax.specs.Tree.{before_of, code_of, all_before}
 use Rattle.fetch_passes.specs.Split.{split_code}
-use Rattle.fetch_passes.specs.Notes.{Here, sized, code_trace}
+use Rattle.fetch_passes.specs.Notes.{Here, with_own_size, code_trace}
 use Rattle.fetch_passes.proofs.Splits.{procs_next}
 use Rattle.fetch_passes.proofs.Places.{here_whole}
 use Rattle.fetch_passes.proofs.pass.split_procs.Goals as goal
 
 pub block-requires : goal.block-requires
 block-requires c =
-    let t = sized (code_trace (code_of c.proc-item.result.body)) in
+    let t = with_own_size (code_trace (code_of c.proc-item.result.body)) in
     subst (λ n. Here n (record { at = 0; piece = 0 }) t) (sym c.in_ok-notes.ensures) (here_whole t (record { at = 0; piece = 0 }) refl refl)
 
 pub loop-proc-preserved : goal.loop-proc-preserved

@@ -1,7 +1,7 @@
 use Rattle.std.proofs.Common.{sym, subst, suc, rules}
 use Rattle.grin_syntax.specs.Tree.{act_of, end}
 use Rattle.fetch_passes.specs.Notes.{nothing, code_trace}
-use Rattle.fetch_passes.specs.Asked.{BeginsBy}
+use Rattle.fetch_passes.specs.Asked.{BeginsWithAct}
 use Rattle.fetch_passes.proofs.Firsts.{code_from, code_none}
 use Rattle.fetch_passes.proofs.Asking.{passed_none, store_comes, bind_begins, fetch_passed, begins_last}
 use Rattle.fetch_passes.proofs.windows.open_window.Goals as goal
@@ -27,4 +27,4 @@ pub returns : goal.returns
 returns c =
     let last = end (act_of c.args.last.now) in
     c.in_ok-window.ensures (code_from c.args.stmts.now 0 last) (code_from c.args.stmts.now c.loop-stmt.stmt-index last) nothing c.loop-stmt.invariant
-    (subst (λ k. BeginsBy c.args.tag.0 (act_of c.args.last.now) k nothing) (sym (code_none c.args.stmts.now c.loop-stmt.stmt-index last c.loop-stmt-test.false)) (begins_last c.args.notes.now c.args.tag.0 c.args.last.now))
+    (subst (λ k. BeginsWithAct c.args.tag.0 (act_of c.args.last.now) k nothing) (sym (code_none c.args.stmts.now c.loop-stmt.stmt-index last c.loop-stmt-test.false)) (begins_last c.args.notes.now c.args.tag.0 c.args.last.now))

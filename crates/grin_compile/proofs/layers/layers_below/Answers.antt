@@ -21,7 +21,7 @@ place-requires-clause-labels c =
     let made = c.in_ok-low.ensures in
     let given = c.requires in
     (selects g l c.in_ok-places.places c.args.cells c.args.stack given.lowerable made.formed made.lowers (made.small given.lowerable.narrow)
-    (c.in_ok-places.ensures.fits made.formed (few_parameters g l made.lowers) (few_results g l made.lowers)) given.sizes c.in_ok-asm.asm.items c.selected_items_do.ensures c.in_ok-asm.ensures.selected).labels
+    (c.in_ok-places.ensures.fits made.formed (few_parameters g l made.lowers) (few_results g l made.lowers)) given.sizes c.in_ok-asm.asm.items c.selection_refines.ensures c.in_ok-asm.ensures.selected).labels
 
 pub place-requires-clause-plain : goal.place-requires-clause-plain
 place-requires-clause-plain c =
@@ -30,7 +30,7 @@ place-requires-clause-plain c =
     let made = c.in_ok-low.ensures in
     let given = c.requires in
     (selects g l c.in_ok-places.places c.args.cells c.args.stack given.lowerable made.formed made.lowers (made.small given.lowerable.narrow)
-    (c.in_ok-places.ensures.fits made.formed (few_parameters g l made.lowers) (few_results g l made.lowers)) given.sizes c.in_ok-asm.asm.items c.selected_items_do.ensures c.in_ok-asm.ensures.selected).plain
+    (c.in_ok-places.ensures.fits made.formed (few_parameters g l made.lowers) (few_results g l made.lowers)) given.sizes c.in_ok-asm.asm.items c.selection_refines.ensures c.in_ok-asm.ensures.selected).plain
 
 pub place-requires-clause-size : goal.place-requires-clause-size
 place-requires-clause-size c =
@@ -39,7 +39,7 @@ place-requires-clause-size c =
     let made = c.in_ok-low.ensures in
     let given = c.requires in
     items_fit g l c.in_ok-places.places c.args.cells c.args.stack given.lowerable made.formed made.lowers (made.small given.lowerable.narrow)
-    (c.in_ok-places.ensures.fits made.formed (few_parameters g l made.lowers) (few_results g l made.lowers)) given.sizes c.in_ok-asm.asm.items c.selected_items_do.ensures c.in_ok-asm.ensures.selected
+    (c.in_ok-places.ensures.fits made.formed (few_parameters g l made.lowers) (few_results g l made.lowers)) given.sizes c.in_ok-asm.asm.items c.selection_refines.ensures c.in_ok-asm.ensures.selected
 
 pub procedures-requires : goal.procedures-requires
 procedures-requires c =
@@ -57,7 +57,7 @@ place-requires-clause-asked c k lt =
     let made = c.in_ok-low.ensures in
     let given = c.requires in
     begins_stand g l c.in_ok-places.places c.args.cells c.args.stack given.lowerable made.formed made.lowers (made.small given.lowerable.narrow)
-    (c.in_ok-places.ensures.fits made.formed (few_parameters g l made.lowers) (few_results g l made.lowers)) given.sizes c.in_ok-asm.asm.items c.selected_items_do.ensures c.in_ok-asm.ensures.selected
+    (c.in_ok-places.ensures.fits made.formed (few_parameters g l made.lowers) (few_results g l made.lowers)) given.sizes c.in_ok-asm.asm.items c.selection_refines.ensures c.in_ok-asm.ensures.selected
     k (omega (arith, c.procedures.ensures))
 
 pub returns : goal.returns
@@ -70,7 +70,7 @@ returns c =
     let small = made.small given.lowerable.narrow in
     let fits = c.in_ok-places.ensures.fits made.formed (few_parameters g l made.lowers) (few_results g l made.lowers) in
     let items = c.in_ok-asm.asm.items in
-    let law = c.selected_items_do.ensures in
+    let law = c.selection_refines.ensures in
     let placement = c.in_ok-placement.placement in
     let placed = c.in_ok-placement.ensures.placed in
     let named = subst (λ ps. c.in_ok-names.names.items ≡ names_of (map procedure_of ps)) c.as_slice.ensures c.in_ok-names.ensures in

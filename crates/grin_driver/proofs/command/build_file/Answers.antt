@@ -1,15 +1,15 @@
 use Rattle.std.proofs.Common.{ℕ, List, arith}
 use mathlib.Core.Logic.{inr}
-use Rattle.grin_io.specs.Changes.{of_shelf, of_sink}
-use Rattle.grin_driver.specs.Building.{Builds}
+use Rattle.grin_io.specs.Changes.{shelf_change, sink_change}
+use Rattle.grin_driver.specs.Building.{IsBuildOutcome}
 use Rattle.text_commands.proofs.Files.{of_file}
 use Rattle.grin_driver.proofs.Codes.{builds_long}
 use Rattle.grin_driver.proofs.command.build_file.Goals as goal
 
 pub returns-in-Ok-clause-answer : goal.returns-in-Ok-clause-answer
 returns-in-Ok-clause-answer g c =
-    let o = of_sink g.K.Sink.put_gives g.K.Sink.taken g.K.Sink.faults c.args.out.now c.build_text.new.out in
-    let says = λ (text : List ℕ). Builds o text c.args.options.cells c.args.options.stack c.build_text.result in
-    inr (of_file (of_shelf g.F.Shelf.content g.F.Shelf.faults c.args.shelf.now c.read_file.new.shelf) 1048577 c.args.file.now c.in-Ok.text.items says
+    let o = sink_change g.K.Sink.put_gives g.K.Sink.taken g.K.Sink.faults c.args.out.now c.build_text.new.out in
+    let says = λ (text : List ℕ). IsBuildOutcome o text c.args.options.cells c.args.options.stack c.build_text.result in
+    inr (of_file (shelf_change g.F.Shelf.content g.F.Shelf.faults c.args.shelf.now c.read_file.new.shelf) 1048577 c.args.file.now c.in-Ok.text.items says
     (λ text full long h. builds_long o c.in-Ok.text.items text c.args.options.cells c.args.options.stack (omega (arith, full)) (omega (arith, long)) c.build_text.result h)
     c.in-Ok.ensures.read (rw c.as_slice.ensures.value at c.build_text.ensures.builds))

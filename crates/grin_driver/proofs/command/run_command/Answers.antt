@@ -1,5 +1,5 @@
 use Rattle.std.proofs.Common.{refl}
-use Rattle.grin_io.specs.Changes.{of_shelf, of_source, of_sink}
+use Rattle.grin_io.specs.Changes.{shelf_change, source_change, sink_change}
 use Rattle.grin_driver.proofs.Costs.{asked_run, asked_exec}
 use Rattle.grin_driver.proofs.command.run_command.Goals as goal
 
@@ -17,10 +17,10 @@ returns-in-Run-clause-answer g c = rw (c.in-Run.is, c.asked.ensures.status) c.ru
 
 pub returns-in-Run-clause-cost : goal.returns-in-Run-clause-cost
 returns-in-Run-clause-cost g c =
-    let f = of_shelf g.F.Shelf.content g.F.Shelf.faults c.args.shelf.now c.run_file.new.shelf in
-    rw (c.in-Run.is, c.asked.ensures.status, c.asked.ensures.cost) (asked_run (of_source g.I.Source.read_gives g.I.Source.left g.I.Source.is_over g.I.Source.faults c.args.input.now c.run_file.new.input) (of_sink g.K.Sink.put_gives g.K.Sink.taken g.K.Sink.faults c.args.out.now c.run_file.new.out) f _ _ _ _ _ c.run_file.result.status c.run_file.result.cost c.run_file.ensures.cost)
+    let f = shelf_change g.F.Shelf.content g.F.Shelf.faults c.args.shelf.now c.run_file.new.shelf in
+    rw (c.in-Run.is, c.asked.ensures.status, c.asked.ensures.cost) (asked_run (source_change g.I.Source.read_gives g.I.Source.left g.I.Source.is_over g.I.Source.faults c.args.input.now c.run_file.new.input) (sink_change g.K.Sink.put_gives g.K.Sink.taken g.K.Sink.faults c.args.out.now c.run_file.new.out) f _ _ _ _ _ c.run_file.result.status c.run_file.result.cost c.run_file.ensures.cost)
 
 pub returns-in-Exec-clause-cost : goal.returns-in-Exec-clause-cost
 returns-in-Exec-clause-cost g c =
-    let f = of_shelf g.F.Shelf.content g.F.Shelf.faults c.args.shelf.now c.exec_file.new.shelf in
-    rw (c.in-Exec.is, c.asked-in-Exec.ensures.status, c.asked-in-Exec.ensures.cost) (asked_exec (of_source g.I.Source.read_gives g.I.Source.left g.I.Source.is_over g.I.Source.faults c.args.input.now c.exec_file.new.input) (of_sink g.K.Sink.put_gives g.K.Sink.taken g.K.Sink.faults c.args.out.now c.exec_file.new.out) f _ _ _ c.exec_file.result.status c.exec_file.result.cost c.exec_file.ensures.cost)
+    let f = shelf_change g.F.Shelf.content g.F.Shelf.faults c.args.shelf.now c.exec_file.new.shelf in
+    rw (c.in-Exec.is, c.asked-in-Exec.ensures.status, c.asked-in-Exec.ensures.cost) (asked_exec (source_change g.I.Source.read_gives g.I.Source.left g.I.Source.is_over g.I.Source.faults c.args.input.now c.exec_file.new.input) (sink_change g.K.Sink.put_gives g.K.Sink.taken g.K.Sink.faults c.args.out.now c.exec_file.new.out) f _ _ _ c.exec_file.result.status c.exec_file.result.cost c.exec_file.ensures.cost)

@@ -1,5 +1,5 @@
 use Rattle.std.proofs.Common.{ℕ, List, [], ◌∷◌, refl, sym, ap, ◌∙◌, subst}
-use Rattle.grin_io.specs.Changes.{of_sink}
+use Rattle.grin_io.specs.Changes.{sink_change}
 use Rattle.grin_io.proofs.Changes.{told, broke_off_one}
 use Rattle.grin_driver.specs.Generating.{IsSummary, Generates}
 use Rattle.grin_driver.proofs.Summaries.{unsummed_is_generated}
@@ -17,6 +17,6 @@ returns-in-Ok-summed-clause-generates g c =
 
 pub returns-clause-generates : goal.returns-clause-generates
 returns-clause-generates g c =
-    let o = of_sink g.K.Sink.put_gives g.K.Sink.taken g.K.Sink.faults c.args.out.now c.args.out.now in
+    let o = sink_change g.K.Sink.put_gives g.K.Sink.taken g.K.Sink.faults c.args.out.now c.args.out.now in
     subst (λ (t : List ℕ). Generates o t c.in-Err.status) (c.as_slice.ensures.value ∙ c.in-Ok.ensures)
     (unsummed_is_generated o c.as_slice.result.now c.in-Err.status c.in-Err.ensures.unsummed refl)

@@ -1,4 +1,4 @@
-use Rattle.copy_prop.proofs.PassContract.{is_kept}
+use Rattle.copy_prop.proofs.Contract.{is_kept}
 use Rattle.grin_opt.proofs.FewerCopies.{made_lean}
 use Rattle.grin_opt.proofs.schedule.copied.Goals as goal
 

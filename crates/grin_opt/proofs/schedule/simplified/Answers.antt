@@ -1,4 +1,4 @@
-use Rattle.case_simplify.proofs.PassContract.{is_kept}
+use Rattle.case_simplify.proofs.Contract.{is_kept}
 use Rattle.grin_opt.proofs.FewerCases.{made_simple}
 use Rattle.grin_opt.proofs.schedule.simplified.Goals as goal
 

@@ -3,7 +3,7 @@ use Rattle.arity_check.specs.Program.{program}
 use Rattle.grin_syntax.specs.Tree.{program_of}
 use Rattle.grin_syntax.specs.Formed.{Formed}
 use Rattle.grin_meaning.specs.Keeps.{Keeps}
-use Rattle.grin_opt.specs.declared.pass.PassName.TheVariants.{Translate}
+use Rattle.stage_names.specs.declared.PassName.TheVariants.{Translate}
 use Rattle.grin_stages.specs.Stage.{IsStage, translated}
 use Rattle.grin_stages.proofs.Stages.{made_evaluations, made_applications}
 use Rattle.grin_stages.proofs.inlined.inlined_stages.Goals as goal

@@ -1,4 +1,4 @@
-use Rattle.known_words.proofs.PassContract.{by_least}
+use Rattle.known_words.proofs.Contract.{by_least}
 use Rattle.known_words.proofs.pass.with_known_words.Goals as goal
 
 pub returns : goal.returns

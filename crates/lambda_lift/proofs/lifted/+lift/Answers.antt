@@ -21,9 +21,9 @@ use Rattle.lambda_lift.specs.Headers.{binders_of, within}
 use Rattle.lambda_lift.specs.Free.{free}
 use Rattle.lambda_lift.specs.Abstractions.{Abstraction, in_term, in_terms, in_group, in_expr, in_alts}
 use Rattle.lambda_lift.specs.Lifted.{arguments, parameters, lifted_name, lifted_function, lift_term, lift_terms, lift_group, lift, lift_alts}
-use Rattle.lambda_lift.specs.Gathered.{of_names}
-use Rattle.lambda_lift.specs.Growing.{grows, lift_app}
-use Rattle.lambda_lift.specs.Broadest.{abstraction, in_app}
+use Rattle.lambda_lift.specs.Gathered.{program_of_names}
+use Rattle.lambda_lift.specs.Growing.{with_lifted_functions, lift_app}
+use Rattle.lambda_lift.specs.Broadest.{abstraction, lambdas_in_application}
 use Rattle.lambda_lift.proofs.Grown.{replaced, grows_joined, grows_none, made_count, terms_more}
 use Rattle.lambda_lift.proofs.Members.{in_terms_more, group_more, alts_more, core_more, in_joined, in_alts_joined, lift_joined, lift_alts_joined}
 use Rattle.lambda_lift.proofs.Leaving.{leaves}
@@ -31,20 +31,20 @@ use Rattle.lambda_lift.proofs.lifted.+lift.Goals as goal
 
 pub under-returns-clause-scope : goal.under-returns-clause-scope
 under-returns-clause-scope t c =
-    leaves (of_names c.args.words.now) c.args.binders.now c.args.scope.now c.enter_all.new.scope c.expr.new.scope c.leave.new.self c.len-depth.result c.len-depth.ensures c.in_ok-enter_all.ensures c.in_ok-new.ensures.scope c.leave.ensures
+    leaves (program_of_names c.args.words.now) c.args.binders.now c.args.scope.now c.enter_all.new.scope c.expr.new.scope c.leave.new.self c.len-depth.result c.len-depth.ensures c.in_ok-enter_all.ensures c.in_ok-new.ensures.scope c.leave.ensures
 
 pub app-loop-arg-preserved : goal.app-loop-arg-preserved
 app-loop-arg-preserved t c =
-    let d : Program = of_names c.args.words.now in
+    let d : Program = program_of_names c.args.words.now in
     let s : Scope = c.args.scope.now in
     let start : List core.Function = map core.function c.atom.new.made in
     let before = c.loop-arg.yielded in
     let x : Atom = c.in-Some.arg in
     let ts = map term before in
     let more : map term (before ++ x ∷ []) ≡ ts ++ term x ∷ [] = map-append term before (x ∷ []) in
-    let made : map core.function c.atom-in-loop-arg.new.made ≡ grows d start (in_terms d s (terms_of (map term (before ++ x ∷ [])))) =
-    c.in_ok-atom.ensures.made ∙ (λ i. grows d (c.loop-arg.invariant.made i) (in_term d (c.loop-arg.invariant.scope i) (term x)))
-    ∙ sym (grows_joined d start (in_terms d s (terms_of ts)) (in_term d s (term x))) ∙ sym (ap (grows d start) (ap (λ ts. in_terms d s (terms_of ts)) more ∙ in_terms_more d s ts (term x))) in
+    let made : map core.function c.atom-in-loop-arg.new.made ≡ with_lifted_functions d start (in_terms d s (terms_of (map term (before ++ x ∷ [])))) =
+    c.in_ok-atom.ensures.made ∙ (λ i. with_lifted_functions d (c.loop-arg.invariant.made i) (in_term d (c.loop-arg.invariant.scope i) (term x)))
+    ∙ sym (grows_joined d start (in_terms d s (terms_of ts)) (in_term d s (term x))) ∙ sym (ap (with_lifted_functions d start) (ap (λ ts. in_terms d s (terms_of ts)) more ∙ in_terms_more d s ts (term x))) in
     let many : length c.loop-arg.made ≡ length c.atom.new.made + length (in_terms d s (terms_of ts)) = made_count d c.atom.new.made c.loop-arg.made (in_terms d s (terms_of ts)) c.loop-arg.invariant.made in
     let new : core.term c.in_ok-atom.field-0 ≡ lift_term d s (length c.atom.new.made + length (in_terms d s (terms_of ts))) (term x) =
     c.in_ok-atom.ensures.lifted ∙ (λ i. lift_term d (c.loop-arg.invariant.scope i) (many i) (term x)) in
@@ -59,18 +59,18 @@ app-loop-arg-preserved t c =
 
 pub app-returns-clause-made : goal.app-returns-clause-made
 app-returns-clause-made t c =
-    let d : Program = of_names c.args.words.now in
+    let d : Program = program_of_names c.args.words.now in
     let s : Scope = c.args.scope.now in
     let all = YieldsList-end (YieldsList-from_vec c.args.app.args (search rules) (search rules)) c.loop-arg.yielded c.loop-arg.arg-iterator c.loop-arg.yielded_by _ c.next.new.self c.in-None.is c.next.ensures.steps in
     let read : c.loop-arg.yielded ≡ c.args.app.args = sym (map_same c.loop-arg.yielded) ∙ all.0 in
-    c.loop-arg.invariant.made ∙ ap (λ made. grows d made (in_terms d s (terms_of (map term c.loop-arg.yielded)))) c.in_ok-head.ensures.made
+    c.loop-arg.invariant.made ∙ ap (λ made. with_lifted_functions d made (in_terms d s (terms_of (map term c.loop-arg.yielded)))) c.in_ok-head.ensures.made
     ∙ sym (grows_joined d (map core.function c.args.made.now) (in_term d s (term c.args.app.head)) (in_terms d s (terms_of (map term c.loop-arg.yielded))))
-    ∙ ap (λ ts. grows d (map core.function c.args.made.now) (in_term d s (term c.args.app.head) ++ in_terms d s (terms_of (map term ts)))) read
-    ∙ ap (λ a. grows d (map core.function c.args.made.now) (in_app d s a)) (sym (application_of c.args.app))
+    ∙ ap (λ ts. with_lifted_functions d (map core.function c.args.made.now) (in_term d s (term c.args.app.head) ++ in_terms d s (terms_of (map term ts)))) read
+    ∙ ap (λ a. with_lifted_functions d (map core.function c.args.made.now) (lambdas_in_application d s a)) (sym (application_of c.args.app))
 
 pub app-returns-clause-lifted : goal.app-returns-clause-lifted
 app-returns-clause-lifted t c =
-    let d : Program = of_names c.args.words.now in
+    let d : Program = program_of_names c.args.words.now in
     let s : Scope = c.args.scope.now in
     let k : ℕ = length c.args.made.now in
     let all = YieldsList-end (YieldsList-from_vec c.args.app.args (search rules) (search rules)) c.loop-arg.yielded c.loop-arg.arg-iterator c.loop-arg.yielded_by _ c.next.new.self c.in-None.is c.next.ensures.steps in
@@ -83,30 +83,30 @@ app-returns-clause-lifted t c =
 
 pub under-returns-clause-made : goal.under-returns-clause-made
 under-returns-clause-made t c =
-    c.in_ok-new.ensures.made ∙ ap (λ s. grows (of_names c.args.words.now) (map core.function c.args.made.now) (in_expr (of_names c.args.words.now) s (expr c.args.body))) c.in_ok-enter_all.ensures
+    c.in_ok-new.ensures.made ∙ ap (λ s. with_lifted_functions (program_of_names c.args.words.now) (map core.function c.args.made.now) (in_expr (program_of_names c.args.words.now) s (expr c.args.body))) c.in_ok-enter_all.ensures
 
 pub under-returns-clause-lifted : goal.under-returns-clause-lifted
 under-returns-clause-lifted t c =
-    c.in_ok-new.ensures.lifted ∙ ap (λ s. lift (of_names c.args.words.now) s (length c.args.made.now) (expr c.args.body)) c.in_ok-enter_all.ensures
+    c.in_ok-new.ensures.lifted ∙ ap (λ s. lift (program_of_names c.args.words.now) s (length c.args.made.now) (expr c.args.body)) c.in_ok-enter_all.ensures
 
 pub app-loop-arg-init : goal.app-loop-arg-init
 app-loop-arg-init t c = record {
   head = refl;
   scope = c.in_ok-head.ensures.scope;
-  made = sym (grows_none (of_names c.args.words.now) (map core.function c.atom.new.made));
+  made = sym (grows_none (program_of_names c.args.words.now) (map core.function c.atom.new.made));
   args = ap (λ as'. core.terms_of (map core.term as')) c.new-args.ensures;
 }
 
 pub members-loop-bind-init : goal.members-loop-bind-init
 members-loop-bind-init t c = record {
   scope = refl;
-  made = sym (grows_none (of_names c.args.words.now) (map core.function c.args.made.now));
+  made = sym (grows_none (program_of_names c.args.words.now) (map core.function c.args.made.now));
   members = ap (map core.bind) c.new-members.ensures;
 }
 
 pub members-loop-bind-preserved : goal.members-loop-bind-preserved
 members-loop-bind-preserved t c =
-    let d : Program = of_names c.args.words.now in
+    let d : Program = program_of_names c.args.words.now in
     let s : Scope = c.args.scope.now in
     let start = c.args.made.now in
     let before = c.loop-bind.yielded in
@@ -117,8 +117,8 @@ members-loop-bind-preserved t c =
     record {
       scope = c.in_ok-member.ensures.scope ∙ c.loop-bind.invariant.scope;
       made =
-          c.in_ok-member.ensures.made ∙ (λ i. grows d (c.loop-bind.invariant.made i) (in_group d (c.loop-bind.invariant.scope i) one))
-          ∙ sym (grows_joined d (map core.function start) (in_group d s g) (in_group d s one)) ∙ sym (ap (grows d (map core.function start)) (ap (in_group d s) (group_more before x) ∙ in_joined d s g one));
+          c.in_ok-member.ensures.made ∙ (λ i. with_lifted_functions d (c.loop-bind.invariant.made i) (in_group d (c.loop-bind.invariant.scope i) one))
+          ∙ sym (grows_joined d (map core.function start) (in_group d s g) (in_group d s one)) ∙ sym (ap (with_lifted_functions d (map core.function start)) (ap (in_group d s) (group_more before x) ∙ in_joined d s g one));
       members =
           ap (map core.bind) c.in_ok-push.ensures.ok ∙ map-append core.bind c.loop-bind.members (_ ∷ [])
           ∙ (λ i. (c.loop-bind.invariant.members i) ++ ((c.in_ok-member.ensures.lifted ∙ (λ j. lift_group d (c.loop-bind.invariant.scope j) (many j) one)) i))
@@ -127,14 +127,14 @@ members-loop-bind-preserved t c =
 
 pub members-returns-clause-made : goal.members-returns-clause-made
 members-returns-clause-made t c =
-    let d : Program = of_names c.args.words.now in
+    let d : Program = program_of_names c.args.words.now in
     let all = YieldsList-end (YieldsList-from_vec c.args.group (search rules) (search rules)) c.loop-bind.yielded c.loop-bind.bind-iterator c.loop-bind.yielded_by _ c.next.new.self c.in-None.is c.next.ensures.steps in
     let read : c.loop-bind.yielded ≡ c.args.group = sym (map_same c.loop-bind.yielded) ∙ all.0 in
-    c.loop-bind.invariant.made ∙ ap (λ bs. grows d (map core.function c.args.made.now) (in_group d c.args.scope.now (group_of (map member bs)))) read
+    c.loop-bind.invariant.made ∙ ap (λ bs. with_lifted_functions d (map core.function c.args.made.now) (in_group d c.args.scope.now (group_of (map member bs)))) read
 
 pub members-returns-clause-lifted : goal.members-returns-clause-lifted
 members-returns-clause-lifted t c =
-    let d : Program = of_names c.args.words.now in
+    let d : Program = program_of_names c.args.words.now in
     let all = YieldsList-end (YieldsList-from_vec c.args.group (search rules) (search rules)) c.loop-bind.yielded c.loop-bind.bind-iterator c.loop-bind.yielded_by _ c.next.new.self c.in-None.is c.next.ensures.steps in
     let read : c.loop-bind.yielded ≡ c.args.group = sym (map_same c.loop-bind.yielded) ∙ all.0 in
     c.loop-bind.invariant.members ∙ ap (λ bs. lift_group d c.args.scope.now (length c.args.made.now) (group_of (map member bs))) read
@@ -142,13 +142,13 @@ members-returns-clause-lifted t c =
 pub alternatives-loop-alt-init : goal.alternatives-loop-alt-init
 alternatives-loop-alt-init t c = record {
   scope = refl;
-  made = sym (grows_none (of_names c.args.words.now) (map core.function c.args.made.now));
+  made = sym (grows_none (program_of_names c.args.words.now) (map core.function c.args.made.now));
   arms = ap (λ as'. core.alts_of (map core.alternative as')) c.new-arms.ensures;
 }
 
 pub alternatives-loop-alt-preserved : goal.alternatives-loop-alt-preserved
 alternatives-loop-alt-preserved t c =
-    let d : Program = of_names c.args.words.now in
+    let d : Program = program_of_names c.args.words.now in
     let s : Scope = c.args.scope.now in
     let start = c.args.made.now in
     let before = c.loop-alt.yielded in
@@ -159,8 +159,8 @@ alternatives-loop-alt-preserved t c =
     record {
       scope = c.in_ok-alternative.ensures.scope ∙ c.loop-alt.invariant.scope;
       made =
-          c.in_ok-alternative.ensures.made ∙ (λ i. grows d (c.loop-alt.invariant.made i) (in_alts d (c.loop-alt.invariant.scope i) one))
-          ∙ sym (grows_joined d (map core.function start) (in_alts d s g) (in_alts d s one)) ∙ sym (ap (grows d (map core.function start)) (ap (in_alts d s) (alts_more before x) ∙ in_alts_joined d s g one));
+          c.in_ok-alternative.ensures.made ∙ (λ i. with_lifted_functions d (c.loop-alt.invariant.made i) (in_alts d (c.loop-alt.invariant.scope i) one))
+          ∙ sym (grows_joined d (map core.function start) (in_alts d s g) (in_alts d s one)) ∙ sym (ap (with_lifted_functions d (map core.function start)) (ap (in_alts d s) (alts_more before x) ∙ in_alts_joined d s g one));
       arms =
           ap (λ as'. core.alts_of (map core.alternative as')) c.in_ok-push.ensures.ok ∙ core_more c.loop-alt.arms _
           ∙ (λ i. (c.loop-alt.invariant.arms i) ⊹ᶜ ((c.in_ok-alternative.ensures.lifted ∙ (λ j. lift_alts d (c.loop-alt.invariant.scope j) (many j) one)) i))
@@ -169,38 +169,38 @@ alternatives-loop-alt-preserved t c =
 
 pub alternatives-returns-clause-made : goal.alternatives-returns-clause-made
 alternatives-returns-clause-made t c =
-    let d : Program = of_names c.args.words.now in
+    let d : Program = program_of_names c.args.words.now in
     let all = YieldsList-end (YieldsList-from_vec c.args.alts (search rules) (search rules)) c.loop-alt.yielded c.loop-alt.alt-iterator c.loop-alt.yielded_by _ c.next.new.self c.in-None.is c.next.ensures.steps in
     let read : c.loop-alt.yielded ≡ c.args.alts = sym (map_same c.loop-alt.yielded) ∙ all.0 in
-    c.loop-alt.invariant.made ∙ ap (λ as'. grows d (map core.function c.args.made.now) (in_alts d c.args.scope.now (alts_of (map alternative as')))) read
+    c.loop-alt.invariant.made ∙ ap (λ as'. with_lifted_functions d (map core.function c.args.made.now) (in_alts d c.args.scope.now (alts_of (map alternative as')))) read
 
 pub alternatives-returns-clause-lifted : goal.alternatives-returns-clause-lifted
 alternatives-returns-clause-lifted t c =
-    let d : Program = of_names c.args.words.now in
+    let d : Program = program_of_names c.args.words.now in
     let all = YieldsList-end (YieldsList-from_vec c.args.alts (search rules) (search rules)) c.loop-alt.yielded c.loop-alt.alt-iterator c.loop-alt.yielded_by _ c.next.new.self c.in-None.is c.next.ensures.steps in
     let read : c.loop-alt.yielded ≡ c.args.alts = sym (map_same c.loop-alt.yielded) ∙ all.0 in
     c.loop-alt.invariant.arms ∙ ap (λ as'. lift_alts d c.args.scope.now (length c.args.made.now) (alts_of (map alternative as'))) read
 
 -- what makes no function
-none_made : (d : Program) (s : Scope) (made : List core.Function) (a : Atom) (t : Term) → term a ≡ t → in_term d s t ≡ [] → made ≡ grows d made (in_term d s (term a))
-none_made d s made a t e n = sym (ap (grows d made) (ap (in_term d s) e ∙ n) ∙ grows_none d made)
+none_made : (d : Program) (s : Scope) (made : List core.Function) (a : Atom) (t : Term) → term a ≡ t → in_term d s t ≡ [] → made ≡ with_lifted_functions d made (in_term d s (term a))
+none_made d s made a t e n = sym (ap (with_lifted_functions d made) (ap (in_term d s) e ∙ n) ∙ grows_none d made)
 
 pub atom-returns-in-Name-clause-made : goal.atom-returns-in-Name-clause-made
 atom-returns-in-Name-clause-made t c =
-    none_made (of_names c.args.words.now) c.args.scope.now (map core.function c.args.made.now) c.args.atom _ (ap term c.in-Name.is ∙ term_of-Name c.in-Name.name c.in-Name.at) refl
+    none_made (program_of_names c.args.words.now) c.args.scope.now (map core.function c.args.made.now) c.args.atom _ (ap term c.in-Name.is ∙ term_of-Name c.in-Name.name c.in-Name.at) refl
 
 pub atom-returns-in-Con-clause-made : goal.atom-returns-in-Con-clause-made
 atom-returns-in-Con-clause-made t c =
-    none_made (of_names c.args.words.now) c.args.scope.now (map core.function c.args.made.now) c.args.atom _ (ap term c.in-Con.is ∙ term_of-Con c.in-Con.name c.in-Con.at) refl
+    none_made (program_of_names c.args.words.now) c.args.scope.now (map core.function c.args.made.now) c.args.atom _ (ap term c.in-Con.is ∙ term_of-Con c.in-Con.name c.in-Con.at) refl
 
 pub atom-returns-in-Int-clause-made : goal.atom-returns-in-Int-clause-made
 atom-returns-in-Int-clause-made t c =
-    none_made (of_names c.args.words.now) c.args.scope.now (map core.function c.args.made.now) c.args.atom _ (ap term c.in-Int.is ∙ term_of-Int c.in-Int.k c.in-Int.at) refl
+    none_made (program_of_names c.args.words.now) c.args.scope.now (map core.function c.args.made.now) c.args.atom _ (ap term c.in-Int.is ∙ term_of-Int c.in-Int.k c.in-Int.at) refl
 
 -- a function in the place of one that stands for it
 module _ (names : List (List ℕ)) (s : Scope) (params : List Binder) (body : Expr) (at : ℕ) where
   abbrev d : Program
-  d = of_names names
+  d = program_of_names names
 
   abbrev own : Abstraction
   own = abstraction s params body at
@@ -208,35 +208,35 @@ module _ (names : List (List ℕ)) (s : Scope) (params : List Binder) (body : Ex
   abbrev inner : List Abstraction
   inner = in_expr d (within d params s) body
 
-  placed : (old pushed done last : List code-function.Function) (other f : code-function.Function) (number : ℕ) → number ≡ length old → pushed ≡ old ++ other ∷ [] → map core.function done ≡ grows d (map core.function pushed) inner
-      → last ≡ set done number f → core.function f ≡ lifted_function d number own → map core.function last ≡ grows d (map core.function old) (own ∷ inner)
+  placed : (old pushed done last : List code-function.Function) (other f : code-function.Function) (number : ℕ) → number ≡ length old → pushed ≡ old ++ other ∷ [] → map core.function done ≡ with_lifted_functions d (map core.function pushed) inner
+      → last ≡ set done number f → core.function f ≡ lifted_function d number own → map core.function last ≡ with_lifted_functions d (map core.function old) (own ∷ inner)
   placed old pushed done last other f number n p made l e =
       let many : number ≡ length (map core.function old) = n ∙ sym (length-map old core.function) in
       ap (map core.function) l ∙ map-set core.function done number f
-      ∙ ap (λ xs. set xs number (core.function f)) (made ∙ ap (λ ys. grows d ys inner) (ap (map core.function) p ∙ map-append core.function old (other ∷ [])))
-      ∙ ap (λ n. set (grows d (map core.function old ++ core.function other ∷ []) inner) n (core.function f)) many
+      ∙ ap (λ xs. set xs number (core.function f)) (made ∙ ap (λ ys. with_lifted_functions d ys inner) (ap (map core.function) p ∙ map-append core.function old (other ∷ [])))
+      ∙ ap (λ n. set (with_lifted_functions d (map core.function old ++ core.function other ∷ []) inner) n (core.function f)) many
       ∙ replaced d (map core.function old) (core.function other) (core.function f) own inner (e ∙ ap (λ n. lifted_function d n own) many)
 
-  within_made : (old pushed done : List code-function.Function) (other : code-function.Function) (number : ℕ) → number ≡ length old → pushed ≡ old ++ other ∷ [] → map core.function done ≡ grows d (map core.function pushed) inner → number < length done
+  within_made : (old pushed done : List code-function.Function) (other : code-function.Function) (number : ℕ) → number ≡ length old → pushed ≡ old ++ other ∷ [] → map core.function done ≡ with_lifted_functions d (map core.function pushed) inner → number < length done
   within_made old pushed done other number n p made = omega (arith, n, ap length p, length-append old (other ∷ []), made_count d pushed done inner made)
 
 pub abstraction-set-requires : goal.abstraction-set-requires
 abstraction-set-requires t c =
-    let d : Program = of_names c.args.words.now in
+    let d : Program = program_of_names c.args.words.now in
     let s : Scope = c.args.scope.now in
     let body : Expr = expr c.args.body in
-    let done : map core.function c.under.new.made ≡ grows d (map core.function c.push.new.self) (in_expr d (within d c.args.params s) body) =
-    c.in_ok-body.ensures.made ∙ ap (λ bs. grows d (map core.function c.push.new.self) (in_expr d (within d bs s) body)) c.as_slice-4.ensures in
+    let done : map core.function c.under.new.made ≡ with_lifted_functions d (map core.function c.push.new.self) (in_expr d (within d c.args.params s) body) =
+    c.in_ok-body.ensures.made ∙ ap (λ bs. with_lifted_functions d (map core.function c.push.new.self) (in_expr d (within d bs s) body)) c.as_slice-4.ensures in
     within_made c.args.words.now s c.args.params body c.args.at c.args.made.now c.push.new.self c.under.new.made _ c.len-number.result c.len-number.ensures c.in_ok-push.ensures.ok done
 
 pub abstraction-returns-clause-made : goal.abstraction-returns-clause-made
 abstraction-returns-clause-made t c =
-    let d : Program = of_names c.args.words.now in
+    let d : Program = program_of_names c.args.words.now in
     let s : Scope = c.args.scope.now in
     let body : Expr = expr c.args.body in
     let pushed : length c.push.new.self ≡ suc c.len-number.result = ap length c.in_ok-push.ensures.ok ∙ length-append c.args.made.now _ ∙ omega (arith, c.len-number.ensures) in
-    let done : map core.function c.under.new.made ≡ grows d (map core.function c.push.new.self) (in_expr d (within d c.args.params s) body) =
-    c.in_ok-body.ensures.made ∙ ap (λ bs. grows d (map core.function c.push.new.self) (in_expr d (within d bs s) body)) c.as_slice-4.ensures in
+    let done : map core.function c.under.new.made ≡ with_lifted_functions d (map core.function c.push.new.self) (in_expr d (within d c.args.params s) body) =
+    c.in_ok-body.ensures.made ∙ ap (λ bs. with_lifted_functions d (map core.function c.push.new.self) (in_expr d (within d bs s) body)) c.as_slice-4.ensures in
     let names : c.as_slice-3.result.now ≡ free d s c.args.params body = c.as_slice-3.ensures ∙ c.in_ok-free.ensures ∙ ap (λ ps. free d s ps body) c.as_slice.ensures in
     let all : c.append.new.self ≡ parameters c.args.at (free d s c.args.params body) ++ c.args.params =
     c.in_ok-append.ensures.ok ∙ ap (λ ps. ps ++ c.args.params) (c.in_ok-all.ensures ∙ ap (parameters c.args.at) names) in
@@ -249,7 +249,7 @@ abstraction-returns-clause-made t c =
 
 pub abstraction-returns-clause-lifted : goal.abstraction-returns-clause-lifted
 abstraction-returns-clause-lifted t c =
-    let d : Program = of_names c.args.words.now in
+    let d : Program = program_of_names c.args.words.now in
     let s : Scope = c.args.scope.now in
     let body : Expr = expr c.args.body in
     let name : c.in_ok-name.name.0 ≡ lifted_name d (length c.args.made.now) = ap (λ n. n.0) c.in_ok-name.ensures ∙ ap (lifted_name d) c.len-number.ensures in
@@ -261,12 +261,12 @@ abstraction-returns-clause-lifted t c =
 
 pub expr-returns-in_ok-new-in-Let-clause-scope : goal.expr-returns-in_ok-new-in-Let-clause-scope
 expr-returns-in_ok-new-in-Let-clause-scope t c =
-    leaves (of_names c.args.words.now) c.as_slice-in-Let.result.now c.args.scope.now c.enter_all.new.scope c.expr.new.scope c.leave.new.self c.len-depth.result c.len-depth.ensures c.in_ok-enter_all-in-Let.ensures
+    leaves (program_of_names c.args.words.now) c.as_slice-in-Let.result.now c.args.scope.now c.enter_all.new.scope c.expr.new.scope c.leave.new.self c.len-depth.result c.len-depth.ensures c.in_ok-enter_all-in-Let.ensures
     (c.in_ok-inner-in-Let.ensures.scope ∙ c.in_ok-binds-in-Let.ensures.scope) c.leave.ensures
 
 pub expr-returns-in_ok-new-in-Let-clause-made : goal.expr-returns-in_ok-new-in-Let-clause-made
 expr-returns-in_ok-new-in-Let-clause-made t c =
-    let d : Program = of_names c.args.words.now in
+    let d : Program = program_of_names c.args.words.now in
     let s : Scope = c.args.scope.now in
     let start : List core.Function = map core.function c.args.made.now in
     let g = group_of (map member c.in-Let.group) in
@@ -275,14 +275,14 @@ expr-returns-in_ok-new-in-Let-clause-made t c =
     let entered : c.enter_all.new.scope ≡ inner =
     c.in_ok-enter_all-in-Let.ensures ∙ ap (λ bs. within d bs s) (c.as_slice-in-Let.ensures ∙ c.in_ok-binders-in-Let.ensures ∙ ap (λ g. binders_of (group_of (map member g))) c.as_slice.ensures) in
     c.in_ok-inner-in-Let.ensures.made
-    ∙ (λ i. grows d (c.in_ok-binds-in-Let.ensures.made i) (in_expr d (c.in_ok-binds-in-Let.ensures.scope i) (expr (c.into_inner.ensures i))))
-    ∙ (λ i. grows d (grows d start (in_group d (entered i) g)) (in_expr d (entered i) body))
+    ∙ (λ i. with_lifted_functions d (c.in_ok-binds-in-Let.ensures.made i) (in_expr d (c.in_ok-binds-in-Let.ensures.scope i) (expr (c.into_inner.ensures i))))
+    ∙ (λ i. with_lifted_functions d (with_lifted_functions d start (in_group d (entered i) g)) (in_expr d (entered i) body))
     ∙ sym (grows_joined d start (in_group d inner g) (in_expr d inner body))
-    ∙ ap (λ e. grows d start (in_expr d s e)) (sym (expr_of-Let c.in-Let.group c.in-Let.body) ∙ ap expr (sym c.in-Let.is))
+    ∙ ap (λ e. with_lifted_functions d start (in_expr d s e)) (sym (expr_of-Let c.in-Let.group c.in-Let.body) ∙ ap expr (sym c.in-Let.is))
 
 pub expr-returns-in_ok-new-in-Let-clause-lifted : goal.expr-returns-in_ok-new-in-Let-clause-lifted
 expr-returns-in_ok-new-in-Let-clause-lifted t c =
-    let d : Program = of_names c.args.words.now in
+    let d : Program = program_of_names c.args.words.now in
     let s : Scope = c.args.scope.now in
     let k : ℕ = length c.args.made.now in
     let g = group_of (map member c.in-Let.group) in
@@ -301,19 +301,19 @@ expr-returns-in_ok-new-in-Let-clause-lifted t c =
 
 pub expr-returns-in_ok-new-in-Case-clause-made : goal.expr-returns-in_ok-new-in-Case-clause-made
 expr-returns-in_ok-new-in-Case-clause-made t c =
-    let d : Program = of_names c.args.words.now in
+    let d : Program = program_of_names c.args.words.now in
     let s : Scope = c.args.scope.now in
     let start : List core.Function = map core.function c.args.made.now in
     let tested : Expr = expr c.in-Case.tested.value in
     let alts : Alts = alts_of (map alternative c.in-Case.alts) in
     c.in_ok-arms-in-Case.ensures.made
-    ∙ (λ i. grows d ((c.in_ok-value-in-Case.ensures.made ∙ ap (λ e. grows d start (in_expr d s (expr e))) c.into_inner-in-Case.ensures) i) (in_alts d (c.in_ok-value-in-Case.ensures.scope i) alts))
+    ∙ (λ i. with_lifted_functions d ((c.in_ok-value-in-Case.ensures.made ∙ ap (λ e. with_lifted_functions d start (in_expr d s (expr e))) c.into_inner-in-Case.ensures) i) (in_alts d (c.in_ok-value-in-Case.ensures.scope i) alts))
     ∙ sym (grows_joined d start (in_expr d s tested) (in_alts d s alts))
-    ∙ ap (λ e. grows d start (in_expr d s e)) (sym (expr_of-Case c.in-Case.tested c.in-Case.alts) ∙ ap expr (sym c.in-Case.is))
+    ∙ ap (λ e. with_lifted_functions d start (in_expr d s e)) (sym (expr_of-Case c.in-Case.tested c.in-Case.alts) ∙ ap expr (sym c.in-Case.is))
 
 pub expr-returns-in_ok-new-in-Case-clause-lifted : goal.expr-returns-in_ok-new-in-Case-clause-lifted
 expr-returns-in_ok-new-in-Case-clause-lifted t c =
-    let d : Program = of_names c.args.words.now in
+    let d : Program = program_of_names c.args.words.now in
     let s : Scope = c.args.scope.now in
     let k : ℕ = length c.args.made.now in
     let tested : Expr = expr c.in-Case.tested.value in

@@ -11,8 +11,8 @@ use Rattle.arity_check.specs.Scope.{Scope}
 use Rattle.lambda_lift.specs.Headers.{binders_of, bound_by, within}
 use Rattle.lambda_lift.specs.Free.{free}
 use Rattle.lambda_lift.specs.Abstractions.{Abstraction, in_term, in_terms, in_group, in_expr, in_alts}
-use Rattle.lambda_lift.specs.Gathered.{of_names}
-use Rattle.lambda_lift.specs.Broadest.{abstraction, in_app, earlier_where, is_too_broad, too_broad}
+use Rattle.lambda_lift.specs.Gathered.{program_of_names}
+use Rattle.lambda_lift.specs.Broadest.{abstraction, lambdas_in_application, earlier_place_if, exceeds_parameter_limit, too_broad}
 use Rattle.lambda_lift.proofs.Folding.{one_more, no_more, two}
 use Rattle.lambda_lift.proofs.Broadness.{broad_joined, broad_none, broad_one, thirteen}
 use Rattle.lambda_lift.proofs.Members.{member_joins, alternative_joins, in_joined, in_alts_joined}
@@ -25,9 +25,9 @@ member_in c s b bs = ap (in_group c s) (member_joins b (group_of (map member bs)
 alt_in : (c : Program) (s : Scope) (a : Alt) (as' : List Alt) → in_alts c s (alts_of (map alternative (a ∷ as'))) ≡ in_alts c s (alternative a NoAlts) ++ in_alts c s (alts_of (map alternative as'))
 alt_in c s a as' = ap (in_alts c s) (alternative_joins a (alts_of (map alternative as'))) ∙ in_alts_joined c s (alternative a NoAlts) (alts_of (map alternative as'))
 
-pub in_app-loop-arg-preserved : goal.in_app-loop-arg-preserved
-in_app-loop-arg-preserved t c =
-    let d : Program = of_names c.args.words.now in
+pub lambdas_in_application-loop-arg-preserved : goal.lambdas_in_application-loop-arg-preserved
+lambdas_in_application-loop-arg-preserved t c =
+    let d : Program = program_of_names c.args.words.now in
     let s : Scope = c.args.scope.now in
     let x : Atom = c.arg-item.result in
     let first : c.in_ok-first-2.first ≡ too_broad d c.loop-arg.first (in_term d s (term x)) =
@@ -40,26 +40,26 @@ in_app-loop-arg-preserved t c =
 
 pub in_body-returns-clause-scope : goal.in_body-returns-clause-scope
 in_body-returns-clause-scope t c =
-    leaves (of_names c.args.words.now) c.args.binders.now c.args.scope.now c.enter_all.new.scope c.in_expr.new.scope c.leave.new.self c.len-depth.result c.len-depth.ensures c.in_ok-enter_all.ensures c.in_ok-first.ensures.scope c.leave.ensures
+    leaves (program_of_names c.args.words.now) c.args.binders.now c.args.scope.now c.enter_all.new.scope c.in_expr.new.scope c.leave.new.self c.len-depth.result c.len-depth.ensures c.in_ok-enter_all.ensures c.in_ok-first.ensures.scope c.leave.ensures
 
 pub in_body-returns-clause-first : goal.in_body-returns-clause-first
 in_body-returns-clause-first t c =
-    c.in_ok-first.ensures.first ∙ ap (λ s. too_broad (of_names c.args.words.now) c.args.first (in_expr (of_names c.args.words.now) s (expr c.args.body.now))) c.in_ok-enter_all.ensures
+    c.in_ok-first.ensures.first ∙ ap (λ s. too_broad (program_of_names c.args.words.now) c.args.first (in_expr (program_of_names c.args.words.now) s (expr c.args.body.now))) c.in_ok-enter_all.ensures
 
-pub in_app-returns-clause-first : goal.in_app-returns-clause-first
-in_app-returns-clause-first t c =
-    let d : Program = of_names c.args.words.now in
+pub lambdas_in_application-returns-clause-first : goal.lambdas_in_application-returns-clause-first
+lambdas_in_application-returns-clause-first t c =
+    let d : Program = program_of_names c.args.words.now in
     let s : Scope = c.args.scope.now in
     let items : List Atom = c.args.app.now.args in
     let all : c.loop-arg.first ≡ too_broad d c.in_ok-first.first (in_terms d s (terms_of (map term items))) =
     no_more (too_broad d) (λ (as' : List Atom). in_terms d s (terms_of (map term as'))) (broad_none d) refl c.as_slice-arg-items.result.now c.loop-arg.arg-index (omega arith) c.loop-arg.first _ c.loop-arg.invariant.first
     ∙ ap (λ as'. too_broad d c.in_ok-first.first (in_terms d s (terms_of (map term as')))) c.as_slice-arg-items.ensures in
     two (too_broad d) (broad_joined d) (in_term d s (term c.args.app.now.head)) (in_terms d s (terms_of (map term items))) c.args.first c.in_ok-first.first c.loop-arg.first c.in_ok-first.ensures.first all
-    ∙ ap (λ a. too_broad d c.args.first (in_app d s a)) (sym (application_of c.args.app.now))
+    ∙ ap (λ a. too_broad d c.args.first (lambdas_in_application d s a)) (sym (application_of c.args.app.now))
 
 pub in_expr-loop-bind-preserved : goal.in_expr-loop-bind-preserved
 in_expr-loop-bind-preserved t c =
-    let d : Program = of_names c.args.words.now in
+    let d : Program = program_of_names c.args.words.now in
     let s : Scope = c.enter_all.new.scope in
     let x : Bind = c.bind-item.result in
     let first : c.in_ok-first-in-Let.first ≡ too_broad d c.loop-bind.first (in_group d s (member x NoBinds)) =
@@ -72,7 +72,7 @@ in_expr-loop-bind-preserved t c =
 
 pub in_expr-loop-alt-preserved : goal.in_expr-loop-alt-preserved
 in_expr-loop-alt-preserved t c =
-    let d : Program = of_names c.args.words.now in
+    let d : Program = program_of_names c.args.words.now in
     let s : Scope = c.args.scope.now in
     let x : Alt = c.alt-item.result in
     let first : c.in_ok-first-in-Case-2.first ≡ too_broad d c.loop-alt.first (in_alts d s (alternative x NoAlts)) =
@@ -85,18 +85,18 @@ in_expr-loop-alt-preserved t c =
 
 pub in_abstraction-returns-clause-first : goal.in_abstraction-returns-clause-first
 in_abstraction-returns-clause-first t c =
-    let d : Program = of_names c.args.words.now in
+    let d : Program = program_of_names c.args.words.now in
     let s : Scope = c.args.scope.now in
     let a : Abstraction = abstraction s c.args.params.now (expr c.args.body.now) c.args.at in
     let xs = in_expr d (within d c.args.params.now s) (expr c.args.body.now) in
     let many = length (free d s c.args.params.now (expr c.args.body.now)) in
-    let broken : c.has_too_many-is_broken.result ≡ is_too_broad d a =
+    let broken : c.has_too_many-is_broken.result ≡ exceeds_parameter_limit d a =
     c.has_too_many-is_broken.ensures ∙ (λ i. nat_lt 12 ((c.len.ensures ∙ ap length c.in_ok-free.ensures) i + length c.args.params.now)) ∙ thirteen (free d s c.args.params.now (expr c.args.body.now)) (length c.args.params.now) in
-    c.in_ok-next.ensures.first ∙ ap (λ f. too_broad d f xs) (c.earlier_where-here.ensures ∙ ap (λ b. earlier_where b c.args.at c.args.first) broken) ∙ sym (broad_one d c.args.first a xs)
+    c.in_ok-next.ensures.first ∙ ap (λ f. too_broad d f xs) (c.earlier_place_if-here.ensures ∙ ap (λ b. earlier_place_if b c.args.at c.args.first) broken) ∙ sym (broad_one d c.args.first a xs)
 
 pub in_alt-returns-clause-first : goal.in_alt-returns-clause-first
 in_alt-returns-clause-first t c =
-    let d : Program = of_names c.args.words.now in
+    let d : Program = program_of_names c.args.words.now in
     let s : Scope = c.args.scope.now in
     let a : Alt = c.args.alt.now in
     let same = c.as_slice.ensures ∙ c.in_ok-binders.ensures in
@@ -106,12 +106,12 @@ in_alt-returns-clause-first t c =
 
 pub in_expr-returns-in_ok-last-in-Let-clause-scope : goal.in_expr-returns-in_ok-last-in-Let-clause-scope
 in_expr-returns-in_ok-last-in-Let-clause-scope t c =
-    leaves (of_names c.args.words.now) c.as_slice-in-Let.result.now c.args.scope.now c.enter_all.new.scope c.in_expr.new.scope c.leave.new.self c.len-depth.result c.len-depth.ensures c.in_ok-enter_all-in-Let.ensures
+    leaves (program_of_names c.args.words.now) c.as_slice-in-Let.result.now c.args.scope.now c.enter_all.new.scope c.in_expr.new.scope c.leave.new.self c.len-depth.result c.len-depth.ensures c.in_ok-enter_all-in-Let.ensures
     (c.in_ok-last-in-Let.ensures.scope ∙ c.loop-bind.invariant.scope) c.leave.ensures
 
 pub in_expr-returns-in_ok-last-in-Let-clause-first : goal.in_expr-returns-in_ok-last-in-Let-clause-first
 in_expr-returns-in_ok-last-in-Let-clause-first t c =
-    let d : Program = of_names c.args.words.now in
+    let d : Program = program_of_names c.args.words.now in
     let s : Scope = c.args.scope.now in
     let old = c.args.first in
     let inner : Scope = c.enter_all.new.scope in
@@ -131,7 +131,7 @@ in_expr-returns-in_ok-last-in-Let-clause-first t c =
 
 pub in_expr-returns-after-loop-alt-clause-first : goal.in_expr-returns-after-loop-alt-clause-first
 in_expr-returns-after-loop-alt-clause-first t c =
-    let d : Program = of_names c.args.words.now in
+    let d : Program = program_of_names c.args.words.now in
     let s : Scope = c.args.scope.now in
     let old = c.args.first in
     let alts : List Alt = c.in-Case.alts in
@@ -148,12 +148,12 @@ in_leaf d s first a e = sym (ap (too_broad d first) e ∙ broad_none d first)
 
 pub in_atom-returns-in-Name-clause-first : goal.in_atom-returns-in-Name-clause-first
 in_atom-returns-in-Name-clause-first t c =
-    in_leaf (of_names c.args.words.now) c.args.scope.now c.args.first c.args.atom.now (ap (in_term (of_names c.args.words.now) c.args.scope.now) (ap term c.in-Name.is ∙ term_of-Name c.in-Name.field-0 c.in-Name.field-1))
+    in_leaf (program_of_names c.args.words.now) c.args.scope.now c.args.first c.args.atom.now (ap (in_term (program_of_names c.args.words.now) c.args.scope.now) (ap term c.in-Name.is ∙ term_of-Name c.in-Name.field-0 c.in-Name.field-1))
 
 pub in_atom-returns-in-Con-clause-first : goal.in_atom-returns-in-Con-clause-first
 in_atom-returns-in-Con-clause-first t c =
-    in_leaf (of_names c.args.words.now) c.args.scope.now c.args.first c.args.atom.now (ap (in_term (of_names c.args.words.now) c.args.scope.now) (ap term c.in-Con.is ∙ term_of-Con c.in-Con.field-0 c.in-Con.field-1))
+    in_leaf (program_of_names c.args.words.now) c.args.scope.now c.args.first c.args.atom.now (ap (in_term (program_of_names c.args.words.now) c.args.scope.now) (ap term c.in-Con.is ∙ term_of-Con c.in-Con.field-0 c.in-Con.field-1))
 
 pub in_atom-returns-in-Int-clause-first : goal.in_atom-returns-in-Int-clause-first
 in_atom-returns-in-Int-clause-first t c =
-    in_leaf (of_names c.args.words.now) c.args.scope.now c.args.first c.args.atom.now (ap (in_term (of_names c.args.words.now) c.args.scope.now) (ap term c.in-Int.is ∙ term_of-Int c.in-Int.field-0 c.in-Int.field-1))
+    in_leaf (program_of_names c.args.words.now) c.args.scope.now c.args.first c.args.atom.now (ap (in_term (program_of_names c.args.words.now) c.args.scope.now) (ap term c.in-Int.is ∙ term_of-Int c.in-Int.field-0 c.in-Int.field-1))

@@ -2,13 +2,13 @@ use Rattle.std.proofs.Common.{◌≡◌, ◌≤◌, [], length, map, sym, subst,
 use Rattle.std.proofs.lemmas.Result.{err_from_is_err_and}
 use Rattle.core_reader.specs.declared.dialect.Dialect.TheVariants.{Lambdas}
 use Rattle.core_reader.specs.Tree.{data_of}
-use Rattle.core_reader.specs.Different.{AreDifferent}
+use Rattle.core_reader.specs.Different.{AreDistinct}
 use Rattle.core_reader.specs.LexedOf.{texts_of}
 use Rattle.core_reader.proofs.Readability.{different_from}
 use Rattle.core_reader.proofs.Answers.{too_long}
 use Rattle.lambda_reader.specs.Tree.{Program}
 use Rattle.lambda_reader.specs.Code.{function}
-use Rattle.lambda_reader.specs.Programs.{IsText}
+use Rattle.lambda_reader.specs.Programs.{IsSourceText}
 use Rattle.lambda_reader.specs.Readable.{IsReadable}
 use Rattle.lambda_reader.specs.Reserved.{IsFirstReserved}
 use Rattle.lambda_reader.specs.Reserving.{first_reserved}
@@ -16,8 +16,8 @@ use Rattle.lambda_reader.specs.Declaring.{ReadsProgram}
 use Rattle.lambda_reader.proofs.Texts.{program_of, reserved, is_found, is_readable, is_refused}
 use Rattle.lambda_reader.proofs.reader.read_lambdas.Goals as goal
 
-pub returns-then-text-gt-MOST_BYTES-clause-refused : goal.returns-then-text-gt-MOST_BYTES-clause-refused
-returns-then-text-gt-MOST_BYTES-clause-refused c = too_long c.args.text.now (omega arith)
+pub returns-then-text-clause-refused : goal.returns-then-text-clause-refused
+returns-then-text-clause-refused c = too_long c.args.text.now (omega arith)
 
 pub returns-in_err-parts-clause-refused : goal.returns-in_err-parts-clause-refused
 returns-in_err-parts-clause-refused c =
@@ -32,7 +32,7 @@ returns-in_err-parts-clause-refused c =
 pub copied_names-requires : goal.copied_names-requires
 copied_names-requires c =
     let l = c.in_ok-lexed.ensures in
-    subst AreDifferent (sym l.named) (different_from Lambdas [] l.pieces tt)
+    subst AreDistinct (sym l.named) (different_from Lambdas [] l.pieces tt)
 
 pub returns-clause-found : goal.returns-clause-found
 returns-clause-found c =
@@ -44,7 +44,7 @@ returns-clause-found c =
     let parsed : ReadsProgram lexemes (Ok parts) = subst (λ w. ReadsProgram w (Ok parts)) rest_is c.in_ok-parts.ensures in
     let p : Program = record { names = c.in_ok-copied_names.field-0; constructors = map data_of c.from_vec.result; functions = map function c.from_vec-2.result } in
     let same : program_of names parts ≡ p = λ i. record { names = sym c.in_ok-copied_names.ensures i; constructors = map data_of (sym c.from_vec.ensures i); functions = map function (sym c.from_vec-2.ensures i) } in
-    subst (IsText c.args.text.now) same (is_found c.args.text.now lexemes names c.in_ok-lexed.ensures short parts parsed).is_text
+    subst (IsSourceText c.args.text.now) same (is_found c.args.text.now lexemes names c.in_ok-lexed.ensures short parts parsed).is_text
 
 pub returns-clause-readable : goal.returns-clause-readable
 returns-clause-readable c =

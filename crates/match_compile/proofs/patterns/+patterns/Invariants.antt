@@ -2,7 +2,7 @@ use Rattle.std.proofs.Common.{◌≡◌, ◌≤◌, length, ◌+◌, ◌*◌, ma
 use Rattle.core_reader.specs.AroundOf.{Outside}
 use Rattle.match_compile.specs.Source.{NoPats}
 use Rattle.match_compile.specs.SourceOf.{pat_of, pats_of}
-use Rattle.match_compile.specs.Reading.{Begun, Place, opens, Matching, run}
+use Rattle.match_compile.specs.Reading.{EquationStart, Place, opens, Matching, run}
 use Rattle.match_compile.proofs.patterns.+patterns.Given as goal
 
 abbrev pub decreases-patterns : goal.decreases-patterns
@@ -17,7 +17,7 @@ decreases-bracket l = 3 * length l.parser.now.rest.now
 abbrev pub invariant-patterns-loop-pats : goal.invariant-patterns-loop-pats
 invariant-patterns-loop-pats l =
     record {
-      reads : (b : Begun) (k : Place) → opens k ≡ l.fn.parser.depth → run (Outside (Matching b k NoPats)) l.fn.parser.rest.now ≡ run (Outside (Matching b k (pats_of (map pat_of l.pats.items)))) l.parser.rest.now;
+      reads : (b : EquationStart) (k : Place) → opens k ≡ l.fn.parser.depth → run (Outside (Matching b k NoPats)) l.fn.parser.rest.now ≡ run (Outside (Matching b k (pats_of (map pat_of l.pats.items)))) l.parser.rest.now;
       shorter : length l.parser.rest.now ≤ length l.fn.parser.rest.now;
       depth : l.parser.depth ≡ l.fn.parser.depth;
     }

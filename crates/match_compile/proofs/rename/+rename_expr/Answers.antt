@@ -8,7 +8,7 @@ use Rattle.core_reader.specs.Tree.{bind, expr, alternative, alts_of}
 use Rattle.core_reader.proofs.TreeOf.{expr_of-Let, expr_of-Case}
 use Rattle.arity_check.specs.Pieces.{binders_of, bound_by}
 use Rattle.arity_check.specs.Scope.{Scope}
-use Rattle.match_compile.specs.Renamed.{hidden, renamed_expr, renamed_alts}
+use Rattle.match_compile.specs.Renamed.{shadowing, renamed_expr, renamed_alts}
 use Rattle.match_compile.proofs.Renames.{Renews, renews_more, alts_renamed, let_renamed, case_renamed, leaves}
 use Rattle.match_compile.proofs.rename.+rename_expr.Goals as goal
 
@@ -30,14 +30,14 @@ renamed-loop-alt-preserved t c =
 pub renamed-returns-in_ok-new-in-Let-clause-scope : goal.renamed-returns-in_ok-new-in-Let-clause-scope
 renamed-returns-in_ok-new-in-Let-clause-scope t c =
     let s : Scope = c.args.scope.now in
-    let entered : c.hide_group.new.scope ≡ hidden (binders_of (map bind c.in-Let.group)) s = c.in_ok-hide_group-in-Let.ensures ∙ ap (λ g. hidden (binders_of (map bind g)) s) c.as_slice.ensures in
+    let entered : c.hide_group.new.scope ≡ shadowing (binders_of (map bind c.in-Let.group)) s = c.in_ok-hide_group-in-Let.ensures ∙ ap (λ g. shadowing (binders_of (map bind g)) s) c.as_slice.ensures in
     leaves (binders_of (map bind c.in-Let.group)) s c.hide_group.new.scope c.renamed.new.scope c.leave.new.self c.len-depth.result c.len-depth.ensures entered c.in_ok-body-in-Let.ensures.scope c.leave.ensures
 
 pub renamed-returns-in_ok-new-in-Let-clause-renamed : goal.renamed-returns-in_ok-new-in-Let-clause-renamed
 renamed-returns-in_ok-new-in-Let-clause-renamed t c =
     let s : Scope = c.args.scope.now in
     let inner : Scope = c.hide_group.new.scope in
-    let entered : inner ≡ hidden (binders_of (map bind c.in-Let.group)) s = c.in_ok-hide_group-in-Let.ensures ∙ ap (λ g. hidden (binders_of (map bind g)) s) c.as_slice.ensures in
+    let entered : inner ≡ shadowing (binders_of (map bind c.in-Let.group)) s = c.in_ok-hide_group-in-Let.ensures ∙ ap (λ g. shadowing (binders_of (map bind g)) s) c.as_slice.ensures in
     let body : expr c.in_ok-new-in-Let.field-0.value ≡ renamed_expr inner (expr c.in-Let.body.value) = ap expr c.in_ok-new-in-Let.ensures.ok ∙ c.in_ok-body-in-Let.ensures.renamed ∙ ap (λ e. renamed_expr inner (expr e)) c.into_inner.ensures in
     ap (λ g. expr (variant.Let g c.in_ok-new-in-Let.field-0)) c.group-in-Let.view_is
     ∙ expr_of-Let c.in_ok-group-in-Let.group c.in_ok-new-in-Let.field-0

@@ -4,13 +4,13 @@ use Rattle.std.specs.List.{insert as put_at}
 use Rattle.seq.proofs.Results.{ok_follows}
 use Rattle.seq.proofs.Order.{eq_self}
 use Rattle.core_reader.specs.Tree.{Expr, expr}
-use Rattle.match_compile.specs.declared.row.Way.{Way}
+use Rattle.match_compile.specs.declared.row.Pending.{Pending}
 use Rattle.match_compile.specs.declared.tree.Tree.TheVariants as code
 use Rattle.match_compile.specs.declared.tree.Branch.{Branch}
-use Rattle.match_compile.specs.declared.tree.Grown.{Grown}
-use Rattle.match_compile.specs.Trees.{fits, insert, most_chained}
-use Rattle.match_compile.specs.RowOf.{pending, rows_of, opened_at, opening}
-use Rattle.match_compile.specs.TreeOf.{tree_of, branches_of, left_of, outcome, branch_for}
+use Rattle.match_compile.specs.declared.tree.TreeAfterInsertion.{TreeAfterInsertion}
+use Rattle.match_compile.specs.Trees.{fits, insert, max_chained_cases}
+use Rattle.match_compile.specs.RowOf.{pending, rows_of, row_with_field_places, opening}
+use Rattle.match_compile.specs.TreeOf.{tree_of, branches_of, left_of, insertion_result, branch_for}
 use Rattle.match_compile.proofs.Comes.{less_one, at_tests, at_otherwise, makes_one, goes_to_one}
 use Rattle.match_compile.proofs.Grows.{got}
 use Rattle.match_compile.proofs.tree.+insert.Goals as goal
@@ -30,7 +30,7 @@ insert-returns-in_ok-new-in-Otherwise t c =
     ap (λ bs. ((tree_of (code.Otherwise c.in-Otherwise.place bs c.in_ok-new-in-Otherwise.field-0), g.free), left_of g.left)) c.branches.view_is
     ∙ at_otherwise c.args.room c.args.free (expr c.args.body) (rows_of c.args.way.now (expr c.args.body)) c.args.tree c.in-Otherwise.place c.in-Otherwise.branches c.in-Otherwise.other c.in_ok-new-in-Otherwise.field-0 room g
     c.in-Otherwise.is (m ∙ less_one c.args.room) c.in_ok-new-in-Otherwise.ensures.ok
-    (c.in_ok-grown-in-Otherwise.ensures ∙ ap (λ x. outcome (tree_of x, c.args.free) (expr c.args.body) (insert room (tree_of x) c.args.free (rows_of c.args.way.now (expr c.args.body)))) c.into_inner.ensures)
+    (c.in_ok-grown-in-Otherwise.ensures ∙ ap (λ x. insertion_result (tree_of x, c.args.free) (expr c.args.body) (insert room (tree_of x) c.args.free (rows_of c.args.way.now (expr c.args.body)))) c.into_inner.ensures)
 
 pub insert_branch-returns-in-None : goal.insert_branch-returns-in-None
 insert_branch-returns-in-None t c =
@@ -42,12 +42,12 @@ insert_branch-returns-in-None t c =
 
 pub insert_branch-returns-in_ok-insert-in-Some-branch_for : goal.insert_branch-returns-in_ok-insert-in-Some-branch_for
 insert_branch-returns-in_ok-insert-in-Some-branch_for t c =
-    let way : Way = c.args.way.now in
+    let way : Pending = c.args.way.now in
     let body : Expr = expr c.args.body in
     let bs : List Branch = c.args.branches in
     let k = c.in-Some-branch_for.k in
     let b : Branch = c.remove-branch.result in
-    let g : Grown = c.in_ok-grown-in-Some-branch_for.grown in
+    let g : TreeAfterInsertion = c.in_ok-grown-in-Some-branch_for.grown in
     let x : Branch = record { head = b.head; places = b.places; tree = g.tree } in
     let here : (c.in-Some.test.place == c.args.place) ≡ true = ap (λ q. c.in-Some.test.place == q) (sym c.if-test-place.false) ∙ eq_self c.in-Some.test.place in
     let fit : fits c.in-Some.test.head (branches_of bs) ≡ true = ap (λ bs. fits c.in-Some.test.head (branches_of bs)) (sym c.as_slice.ensures) ∙ sym c.fits.ensures ∙ c.if-not-fits.false in
@@ -55,7 +55,7 @@ insert_branch-returns-in_ok-insert-in-Some-branch_for t c =
     let within : k < length bs = subst (λ (bs : List Branch). k < length bs) c.as_slice-2.ensures c.in-Some-branch_for.ensures.within in
     let value : b ≡ get_or bs k b = c.remove-branch.ensures.value ∙ ap (λ ys. get_or ys k b) c.into_vec-branches.ensures in
     let made : c.from_vec.result ≡ put_at (remove bs k) k x = c.from_vec.ensures ∙ c.in_ok-insert-in-Some-branch_for.ensures.items ∙ ap (λ ys. put_at ys k x) (c.remove-branch.ensures.items ∙ ap (λ ys. remove ys k) c.into_vec-branches.ensures) in
-    let row : rows_of c.in_ok-opened-in-Some-branch_for.opened body ≡ opened_at (rows_of way body) b.places = ap (λ f. f body) (c.in_ok-opened-in-Some-branch_for.ensures ∙ ap (opening way) c.as_slice-in-Some-branch_for.ensures) in
+    let row : rows_of c.in_ok-opened-in-Some-branch_for.opened body ≡ row_with_field_places (rows_of way body) b.places = ap (λ f. f body) (c.in_ok-opened-in-Some-branch_for.ensures ∙ ap (opening way) c.as_slice-in-Some-branch_for.ensures) in
     ap (λ bs. ((branches_of bs, g.free), left_of g.left)) made
     ∙ goes_to_one body way.bound (pending way.jobs) c.args.place c.args.free bs c.in-Some.test (sym c.first.ensures ∙ c.in-Some.is) here fit k b x g number (got bs k b within value) refl refl refl
-    (c.in_ok-grown-in-Some-branch_for.ensures ∙ ap (λ r. outcome (tree_of b.tree, c.args.free) body (insert most_chained (tree_of b.tree) c.args.free r)) row)
+    (c.in_ok-grown-in-Some-branch_for.ensures ∙ ap (λ r. insertion_result (tree_of b.tree, c.args.free) body (insert max_chained_cases (tree_of b.tree) c.args.free r)) row)

@@ -1,4 +1,4 @@
-use Rattle.narrow_vectors.proofs.PassContract.{is_narrow, is_kept}
+use Rattle.narrow_vectors.proofs.Contract.{is_narrow, is_kept}
 use Rattle.narrow_vectors.proofs.pass.without_unread_words.Goals as goal
 
 pub returns-clause-shape : goal.returns-clause-shape

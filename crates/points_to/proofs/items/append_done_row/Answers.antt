@@ -10,7 +10,7 @@ use Rattle.points_to.proofs.Loops.{flat_next, flat_done}
 use Rattle.points_to.proofs.items.append_done_row.Goals as goal
 
 pub loop-block-preserved : goal.loop-block-preserved
-loop-block-preserved c = flat_next (λ b. done_items (tables_of c.args.system.now) (in_part c.args.row.now.part (block_words b))) _ _ _ _ _ _ c.loop-block-test.true c.loop-block.invariant c.in_ok-shift_done.ensures
+loop-block-preserved c = flat_next (λ b. done_items (tables_of c.args.system.now) (in_part c.args.row.now.part (block_words b))) _ _ _ _ _ _ c.loop-block-test.true c.loop-block.invariant c.in_ok-shift_evaluated.ensures
 
 pub returns : goal.returns
 returns c =

@@ -2,7 +2,7 @@ use Rattle.std.proofs.Common.{drop}
 use Rattle.flow_system.specs.Shown.{tables_of}
 use Rattle.points_to.specs.Asked.{vector_facts}
 use Rattle.points_to.specs.Known.{held}
-use Rattle.points_to.specs.Rounds.{AllHeld}
+use Rattle.points_to.specs.Rounds.{AllFactsKnown}
 use Rattle.points_to.proofs.FieldWords.{given}
 use Rattle.points_to.proofs.satisfied.later_stand_at.Given as goal
 
@@ -11,4 +11,4 @@ invariant-loop-x l =
     let p = tables_of l.system in
     let H = held l.facts in
     let X = given p H l.words l.t in
-    AllHeld H (vector_facts p X l.j (drop l.x-index l.xs)) → AllHeld H (vector_facts p X 0 l.xs)
+    AllFactsKnown H (vector_facts p X l.j (drop l.x-index l.xs)) → AllFactsKnown H (vector_facts p X 0 l.xs)

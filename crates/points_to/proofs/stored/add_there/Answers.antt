@@ -1,7 +1,7 @@
 use Rattle.std.proofs.Common.{◌≡◌, [], ◌∷◌, false, OnOk, ap, ◌∙◌, slice_set, subst}
 use Rattle.std.specs.Vec.{with_item}
-use Rattle.points_to.specs.Rows.{numbers_in, GetsAll}
-use Rattle.points_to.specs.Stored.{sets_at, Stores}
+use Rattle.points_to.specs.Rows.{numbers_in, GainsMembers}
+use Rattle.points_to.specs.Stored.{sets_at, PutsAtSite}
 use Rattle.points_to.proofs.SameVec.{same_item}
 use Rattle.points_to.proofs.Sets.{on_ok, if_ok}
 use Rattle.points_to.proofs.NumberedSets.{stores_at}
@@ -14,9 +14,9 @@ returns-clause-stores c =
     let n = c.args.n in
     let old = c.index_mut.result.now in
     let new = c.add_new.new.self in
-    on_ok c.add_new.result (GetsAll (numbers_in old) (numbers_in new) (n ∷ [])) (Stores (sets_at sets) (sets_at (slice_set sets s new)) s n)
+    on_ok c.add_new.result (GainsMembers (numbers_in old) (numbers_in new) (n ∷ [])) (PutsAtSite (sets_at sets) (sets_at (slice_set sets s new)) s n)
     (stores_at sets s n old new c.requires c.index_mut.ensures.value)
-    (subst (λ ns. OnOk c.add_new.result (GetsAll (numbers_in old) (numbers_in new) ns)) c.number_block.ensures c.add_new.ensures.gets)
+    (subst (λ ns. OnOk c.add_new.result (GainsMembers (numbers_in old) (numbers_in new) ns)) c.number_block.ensures c.add_new.ensures.gets)
 
 pub returns-clause-still : goal.returns-clause-still
 returns-clause-still c =

@@ -1,7 +1,7 @@
 use Rattle.std.proofs.Common.{◌≡◌, ◌++◌, Some, false, refl, sym, ap, ◌∙◌, subst}
 use Rattle.flow_system.specs.Shown.{tables_of, inclusions_of, sink_of}
 use Rattle.points_to.specs.Asked.{asked}
-use Rattle.points_to.specs.Known.{held, Grows}
+use Rattle.points_to.specs.Known.{held, GrowsByFacts}
 use Rattle.points_to.specs.Rows.{SameMembers, numbers_in}
 use Rattle.points_to.specs.Kept.{met_by, Steps, MetAtEnd}
 use Rattle.points_to.proofs.Sets.{if_on_ok}
@@ -18,10 +18,10 @@ returns-clause-steps c =
     let new = c.add_all.new.facts in
     let asks = asked p (held k.facts) (Some 1) X t in
     let all : c.asked.new.out ≡ asks = c.in_ok-asked.ensures ∙ ap (λ l. l ++ asks) c.new-facts.ensures in
-    if_on_ok c.add_all.result (Grows (held k.facts) (held new) c.asked.new.out) (λ added. added ≡ false → new ≡ k.facts)
+    if_on_ok c.add_all.result (GrowsByFacts (held k.facts) (held new) c.asked.new.out) (λ added. added ≡ false → new ≡ k.facts)
     (Steps p cs k record { facts = new; stored = k.stored })
     (λ added g same. fetch_steps p cs k (record { facts = new; stored = k.stored }) c.args.n c.args.w c.args.i t (numbers_in c.args.numbers.now) X added (c.requires.number ∙ ap Some c.requires.is) c.requires.elsewhere c.requires.sound c.in_ok-items.ensures refl
-    (subst (Grows (held k.facts) (held new)) all g) (λ e. ap (λ f. record { facts = f; stored = k.stored }) (same e)))
+    (subst (GrowsByFacts (held k.facts) (held new)) all g) (λ e. ap (λ f. record { facts = f; stored = k.stored }) (same e)))
     c.add_all.ensures.grown c.add_all.ensures.still
 
 pub returns-clause-met : goal.returns-clause-met
@@ -34,8 +34,8 @@ returns-clause-met c =
     let new = c.add_all.new.facts in
     let asks = asked p (held k.facts) (Some 1) X t in
     let all : c.asked.new.out ≡ asks = c.in_ok-asked.ensures ∙ ap (λ l. l ++ asks) c.new-facts.ensures in
-    if_on_ok c.add_all.result (Grows (held k.facts) (held new) c.asked.new.out) (λ added. added ≡ false → new ≡ k.facts)
+    if_on_ok c.add_all.result (GrowsByFacts (held k.facts) (held new) c.asked.new.out) (λ added. added ≡ false → new ≡ k.facts)
     (λ added. SameMembers (numbers_in c.args.numbers.now) (met_by p k c.args.w) → MetAtEnd p cs k _ added)
     (λ added g same exact. subst (λ i. MetAtEnd p cs k i added) (sym c.requires.is) (fetch_met p cs k (record { facts = new; stored = k.stored }) c.args.w c.args.i t (numbers_in c.args.numbers.now) X added c.requires.elsewhere exact c.in_ok-items.ensures
-    (subst (Grows (held k.facts) (held new)) all g) (λ e. ap (λ f. record { facts = f; stored = k.stored }) (same e))))
+    (subst (GrowsByFacts (held k.facts) (held new)) all g) (λ e. ap (λ f. record { facts = f; stored = k.stored }) (same e))))
     c.add_all.ensures.grown c.add_all.ensures.still

@@ -1,12 +1,12 @@
 use Rattle.std.proofs.Common.{◌≡◌, ◌-◌, ◌+◌, ◌*◌, ◌^◌, false, [], length, cond}
 use Rattle.flow_system.specs.Shown.{tables_of, inclusions_of}
 use Rattle.points_to.specs.Waiting.{waiting}
-use Rattle.points_to.specs.Worklist.{Stands}
+use Rattle.points_to.specs.Worklist.{WorklistInvariant}
 use Rattle.points_to.proofs.worklist.least_facts.Given as goal
 
 abbrev pub invariant-turns : goal.invariant-turns
 invariant-turns l = record {
-  stands : Stands (tables_of l.system) (inclusions_of l.system) l.list;
+  stands : WorklistInvariant (tables_of l.system) (inclusions_of l.system) l.list;
   done : l.more ≡ false → waiting l.list.pending ≡ [];
 }
 

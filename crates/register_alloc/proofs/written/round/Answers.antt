@@ -1,6 +1,6 @@
 use Rattle.std.proofs.Common.{◌≡◌, ◌+◌, suc, false, length, set, Some, slice_get, refl, subst, arith, sym}
 use Rattle.std.proofs.lemmas.Option.{slice_get_read}
-use Rattle.register_alloc.specs.Rounds.{mask_at, joined}
+use Rattle.register_alloc.specs.Rounds.{mask_at, joined_masks}
 use Rattle.register_alloc.proofs.Masks.{Round, round_begins, round_next}
 use Rattle.register_alloc.proofs.written.round.Goals as goal
 
@@ -16,9 +16,9 @@ loop-f-preserved c =
     (subst (λ b. Round c.args.calls.now c.args.masks.now.items c.grow-more.new.masks.items b (suc c.loop-f.f)) (sym c.either-grew.ensures)
     (round_next c.args.calls.now c.args.masks.now.items c.loop-f.masks.items c.grow-more.new.masks.items c.loop-f.grew c.grow-more.result c.loop-f.f c.index-calls-f.result
     there c.loop-f.invariant
-    (subst (λ gs. c.grow-more.new.masks.items ≡ set c.loop-f.masks.items c.loop-f.f (joined c.loop-f.masks.items (mask_at c.loop-f.masks.items c.loop-f.f) gs)) c.as_slice.ensures c.grow-more.ensures.set)
+    (subst (λ gs. c.grow-more.new.masks.items ≡ set c.loop-f.masks.items c.loop-f.f (joined_masks c.loop-f.masks.items (mask_at c.loop-f.masks.items c.loop-f.f) gs)) c.as_slice.ensures c.grow-more.ensures.set)
     c.grow-more.ensures.closer
-    (subst (λ gs. c.grow-more.result ≡ false → joined c.loop-f.masks.items (mask_at c.loop-f.masks.items c.loop-f.f) gs ≡ mask_at c.loop-f.masks.items c.loop-f.f) c.as_slice.ensures c.grow-more.ensures.same)))
+    (subst (λ gs. c.grow-more.result ≡ false → joined_masks c.loop-f.masks.items (mask_at c.loop-f.masks.items c.loop-f.f) gs ≡ mask_at c.loop-f.masks.items c.loop-f.f) c.as_slice.ensures c.grow-more.ensures.same)))
 
 pub returns-clause-grows : goal.returns-clause-grows
 returns-clause-grows c = c.loop-f.invariant.grows

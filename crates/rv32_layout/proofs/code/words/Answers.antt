@@ -3,7 +3,7 @@ use Rattle.std.proofs.lemmas.Option.{slice_get_read}
 use Rattle.rv32_items.specs.declared.Item.{Item}
 use Rattle.rv32_layout.specs.declared.form.Way.{Way}
 use Rattle.rv32_layout.specs.Forms.{width, instructions, CanGo}
-use Rattle.rv32_layout.specs.Places.{place, code, goal as goal_of, way_at, Encode, Puts}
+use Rattle.rv32_layout.specs.Places.{place, code, goal as goal_of, way_at, Encode, AppendsInstructions}
 use Rattle.rv32_layout.proofs.Counts.{place_none, code_none, place_le, place_behind, code_behind}
 use Rattle.rv32_layout.proofs.Table.{has_target, target_is}
 use Rattle.rv32_layout.proofs.code.words.Goals as goal
@@ -12,7 +12,7 @@ goes_by : (way way' : Way) (at at' to to' : ℕ) (x : Item) → way ≡ way' →
 goes_by way way' at at' to to' x ew ea et h =
     subst (λ v. CanGo v at to x) (sym ew) (subst (λ a. CanGo way' a to x) (sym ea) (subst (λ t. CanGo way' at' t x) (sym et) h))
 
-put_by : (ways : List Way) (items : List Item) (i : ℕ) (x : Item) → slice_get items i ≡ Some x → (way : Way) (at to : ℕ) (old new : List ℕ) → way ≡ way_at ways i → at ≡ place ways items i → to ≡ place ways items (goal_of items x) → Encode (code ways items i) old → Puts (instructions way at to x) old new → Encode (code ways items (i + 1)) new
+put_by : (ways : List Way) (items : List Item) (i : ℕ) (x : Item) → slice_get items i ≡ Some x → (way : Way) (at to : ℕ) (old new : List ℕ) → way ≡ way_at ways i → at ≡ place ways items i → to ≡ place ways items (goal_of items x) → Encode (code ways items i) old → AppendsInstructions (instructions way at to x) old new → Encode (code ways items (i + 1)) new
 put_by ways items i x here way at to old new ew ea et h puts =
     let same : code ways items i ++ instructions way at to x ≡ code ways items (i + 1) = (λ k. code ways items i ++ instructions (ew k) (ea k) (et k) x) ∙ sym (code_behind ways items i x here) in
     subst (λ is. Encode is new) same (puts (code ways items i) h)

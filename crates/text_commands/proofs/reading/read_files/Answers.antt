@@ -1,5 +1,5 @@
 use Rattle.std.proofs.Common.{map, string_bytes, rules}
-use Rattle.grin_io.specs.Changes.{of_shelf}
+use Rattle.grin_io.specs.Changes.{shelf_change}
 use Rattle.text_commands.specs.Reading.{IsUnread}
 use Rattle.text_commands.proofs.InTurn.{of_front, of_others, unread_later, both_read}
 use Rattle.text_commands.proofs.reading.read_files.Goals as goal
@@ -12,7 +12,7 @@ add_texts-requires-2 g c = of_others g.F.Shelf.permitted (map string_bytes c.arg
 
 pub returns-in_err-add_texts-2-clause-unread : goal.returns-in_err-add_texts-2-clause-unread
 returns-in_err-add_texts-2-clause-unread g c =
-    let unread : IsUnread (of_shelf g.F.Shelf.content g.F.Shelf.faults c.args.shelf.now c.add_texts-2.new.shelf) c.in_err-add_texts-2.field-0.0 =
+    let unread : IsUnread (shelf_change g.F.Shelf.content g.F.Shelf.faults c.args.shelf.now c.add_texts-2.new.shelf) c.in_err-add_texts-2.field-0.0 =
     unread_later g.F.Shelf.content g.F.Shelf.faults c.args.shelf.now c.add_texts.new.shelf c.add_texts-2.new.shelf c.args.most
     (map string_bytes c.args.files.now.plain.now) _ c.add_texts.new.texts c.in_err-add_texts-2.field-0.0
     c.in_ok-add_texts.ensures.read c.add_texts.ensures.later c.in_err-add_texts-2.ensures.unread in

@@ -7,7 +7,7 @@ use Rattle.text_commands.proofs.sides.sided.Goals as goal
 pub returns-in-Fault-clause-refused : goal.returns-in-Fault-clause-refused
 returns-in-Fault-clause-refused c =
     let h : IsRefusal c.args.text.now (refusal.Fault c.in-Fault.fault) = subst (IsRefusal c.args.text.now) c.in-Fault.is c.requires in
-    c.untyped.ensures.another h.1 c.args.text.now h.0
+    c.type_failure_status.ensures.another h.1 c.args.text.now h.0
 
 pub returns-in-Ok-clause-made : goal.returns-in-Ok-clause-made
 returns-in-Ok-clause-made c =

@@ -1,6 +1,6 @@
 use Rattle.std.proofs.Common.{◌≡◌, ◌<◌, true, false, [], ◌∷◌, ◌++◌, length, sym, subst}
 use Rattle.seq.proofs.Results.{ok_follows}
-use Rattle.unification.specs.Classes.{Advances, NoneFits}
+use Rattle.unification.specs.Classes.{MergingProgresses, IsUnsatisfiable}
 use Rattle.unification.proofs.Pairing.{below_last, one_class, are_roots, roots_under_way, turned_under_way, to_roots, from_roots, to_turned, from_turned, advances_by, none_by}
 use Rattle.unification.proofs.joining.join_pair.Goals as goal
 
@@ -37,7 +37,7 @@ returns-then-is_larger-clause-advances c =
     let p = c.args.pair in
     let a = c.class_of-a.result in
     let b = c.class_of-b.result in
-    ok_follows (λ t. t ≡ true → Advances terms old (todo ++ (b, a) ∷ []) new next) (λ t. t ≡ true → Advances terms old (todo ++ p ∷ []) new next) c.join_classes.result
+    ok_follows (λ t. t ≡ true → MergingProgresses terms old (todo ++ (b, a) ∷ []) new next) (λ t. t ≡ true → MergingProgresses terms old (todo ++ p ∷ []) new next) c.join_classes.result
     (λ t h e.
     advances_by terms old new (todo ++ p ∷ []) (todo ++ (b, a) ∷ []) next
     (from_turned terms old todo p a b c.requires.under_way c.class_of-a.ensures c.class_of-b.ensures)
@@ -52,7 +52,7 @@ returns-then-is_larger-clause-none c =
     let p = c.args.pair in
     let a = c.class_of-a.result in
     let b = c.class_of-b.result in
-    ok_follows (λ t. t ≡ false → NoneFits terms old (todo ++ (b, a) ∷ [])) (λ t. t ≡ false → NoneFits terms old (todo ++ p ∷ [])) c.join_classes.result
+    ok_follows (λ t. t ≡ false → IsUnsatisfiable terms old (todo ++ (b, a) ∷ [])) (λ t. t ≡ false → IsUnsatisfiable terms old (todo ++ p ∷ [])) c.join_classes.result
     (λ t h e.
     none_by terms old (todo ++ p ∷ []) (todo ++ (b, a) ∷ [])
     (to_turned terms old todo p a b c.requires.under_way c.class_of-a.ensures c.class_of-b.ensures) (h e))
@@ -76,7 +76,7 @@ returns-clause-advances c =
     let p = c.args.pair in
     let a = c.class_of-a.result in
     let b = c.class_of-b.result in
-    ok_follows (λ t. t ≡ true → Advances terms old (todo ++ (a, b) ∷ []) new next) (λ t. t ≡ true → Advances terms old (todo ++ p ∷ []) new next) c.join_classes-2.result
+    ok_follows (λ t. t ≡ true → MergingProgresses terms old (todo ++ (a, b) ∷ []) new next) (λ t. t ≡ true → MergingProgresses terms old (todo ++ p ∷ []) new next) c.join_classes-2.result
     (λ t h e.
     advances_by terms old new (todo ++ p ∷ []) (todo ++ (a, b) ∷ []) next
     (from_roots terms old todo p a b c.requires.under_way c.class_of-a.ensures c.class_of-b.ensures)
@@ -91,7 +91,7 @@ returns-clause-none c =
     let p = c.args.pair in
     let a = c.class_of-a.result in
     let b = c.class_of-b.result in
-    ok_follows (λ t. t ≡ false → NoneFits terms old (todo ++ (a, b) ∷ [])) (λ t. t ≡ false → NoneFits terms old (todo ++ p ∷ [])) c.join_classes-2.result
+    ok_follows (λ t. t ≡ false → IsUnsatisfiable terms old (todo ++ (a, b) ∷ [])) (λ t. t ≡ false → IsUnsatisfiable terms old (todo ++ p ∷ [])) c.join_classes-2.result
     (λ t h e.
     none_by terms old (todo ++ p ∷ []) (todo ++ (a, b) ∷ [])
     (to_roots terms old todo p a b c.requires.under_way c.class_of-a.ensures c.class_of-b.ensures) (h e))

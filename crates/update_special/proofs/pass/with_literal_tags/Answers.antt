@@ -1,4 +1,4 @@
-use Rattle.update_special.proofs.PassContract.{by_least}
+use Rattle.update_special.proofs.Contract.{by_least}
 use Rattle.update_special.proofs.pass.with_literal_tags.Goals as goal
 
 pub returns : goal.returns

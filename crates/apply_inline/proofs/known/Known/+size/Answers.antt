@@ -1,7 +1,7 @@
 use Rattle.std.proofs.Common.{ap, ◌∙◌, ◌≤◌, rules, length, take, subst}
 use Rattle.grin_syntax.specs.Tree.{program_of}
 use Rattle.points_to.specs.Found.{found}
-use Rattle.inlining.specs.Expanded.{capped}
+use Rattle.inlining.specs.Expanded.{saturated_at_64_bits}
 use Rattle.apply_inline.proofs.Sums.{StmtsSize, apply_sized, stmt_more, block_sized, alt_more, alts_sized}
 use Rattle.apply_inline.proofs.known.Known.+size.Goals as goal
 
@@ -27,4 +27,4 @@ block_size-returns t c =
 
 pub op_size-returns-in-Apply : goal.op_size-returns-in-Apply
 op_size-returns-in-Apply t c =
-    c.application_size.ensures ∙ ap capped (apply_sized (program_of c.args.self.now.program.now) (found c.args.self.now.flow.now) c.args.op.now c.in-Apply.v c.in-Apply.field-1 c.in-Apply.is)
+    c.application_size.ensures ∙ ap saturated_at_64_bits (apply_sized (program_of c.args.self.now.program.now) (found c.args.self.now.flow.now) c.args.op.now c.in-Apply.v c.in-Apply.field-1 c.in-Apply.is)

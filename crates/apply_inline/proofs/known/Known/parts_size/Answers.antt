@@ -4,7 +4,7 @@ use Rattle.grin_syntax.specs.Tree.{program_of}
 use Rattle.inlining.specs.Applications.{part_tags_of}
 use Rattle.points_to.specs.Found.{found}
 use Rattle.apply_inline.specs.Applied.{meets_part}
-use Rattle.inlining.specs.Expanded.{capped, parts_size}
+use Rattle.inlining.specs.Expanded.{saturated_at_64_bits, parts_size}
 use Rattle.apply_inline.proofs.Filtered.{parts_filtered}
 use Rattle.apply_inline.proofs.Placed.{map_all}
 use Rattle.apply_inline.proofs.Loops.{kept_yes, kept_no}
@@ -31,4 +31,4 @@ returns c =
     let ts = c.candidates-t-items.result.now in
     let e : filter (meets_part p A v) (map (λ t. t.0) (take c.loop-t.t-index ts)) ≡ part_tags_of p A v
     = ap (filter (meets_part p A v)) (map_all (λ t. t.0) ts c.loop-t.t-index c.loop-t-test.false) ∙ sym (parts_filtered p A v (map (λ t. t.0) ts) c.candidates-t-items.ensures) in
-    c.loop-t.invariant ∙ ap (λ l. capped (parts_size p A l)) e
+    c.loop-t.invariant ∙ ap (λ l. saturated_at_64_bits (parts_size p A l)) e

@@ -106,8 +106,8 @@ flat-returns-in_ok-vars-in-Con t c = λ p k.
 
 pub flat-returns-in-Name : goal.flat-returns-in-Name
 flat-returns-in-Name t c =
-    if_ok c.named.result (λ form h p k. flat_name p c.args.scope.now c.args.self.now c.named.new.self c.args.head.now c.in-Name.name c.in-Name.field-1 (terms c.args.args.now) c.stands_for-stands.result form c.in-Name.is
-    (c.stands_for-stands.ensures ∙ ap (λ k. meaning k c.args.scope.now c.in-Name.name.0) k ∙ meaning_means p c.args.scope.now c.in-Name.name.0) (h p k)) c.named.ensures
+    if_ok c.named.result (λ form h p k. flat_name p c.args.scope.now c.args.self.now c.named.new.self c.args.head.now c.in-Name.name c.in-Name.field-1 (terms c.args.args.now) c.meaning_of_name-stands.result form c.in-Name.is
+    (c.meaning_of_name-stands.ensures ∙ ap (λ k. meaning k c.args.scope.now c.in-Name.name.0) k ∙ meaning_means p c.args.scope.now c.in-Name.name.0) (h p k)) c.named.ensures
 
 pub flat-returns-else-is_empty-3 : goal.flat-returns-else-is_empty-3
 flat-returns-else-is_empty-3 t c =

@@ -1,4 +1,4 @@
-use Rattle.arity_raise.proofs.PassContract.{is_raised, is_kept}
+use Rattle.arity_raise.proofs.Contract.{is_raised, is_kept}
 use Rattle.arity_raise.proofs.pass.RaisePass.apply.Goals as goal
 
 pub returns-clause-shape : goal.returns-clause-shape

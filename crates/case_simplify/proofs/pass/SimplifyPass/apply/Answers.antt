@@ -1,4 +1,4 @@
-use Rattle.case_simplify.proofs.PassContract.{is_simplified, is_kept}
+use Rattle.case_simplify.proofs.Contract.{is_simplified, is_kept}
 use Rattle.case_simplify.proofs.pass.SimplifyPass.apply.Goals as goal
 
 pub returns-clause-shape : goal.returns-clause-shape

@@ -1,4 +1,4 @@
-use Rattle.copy_prop.proofs.PassContract.{is_copied, is_kept}
+use Rattle.copy_prop.proofs.Contract.{is_copied, is_kept}
 use Rattle.copy_prop.proofs.pass.CopiesPass.apply.Goals as goal
 
 pub returns-clause-shape : goal.returns-clause-shape

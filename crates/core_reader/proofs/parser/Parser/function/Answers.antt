@@ -5,7 +5,7 @@ use Rattle.core_reader.specs.Tree.{NoTerms}
 use Rattle.core_reader.specs.Tree as tree
 use Rattle.core_reader.specs.Machine.{Outermost, nests, Ended, InBody, Apply, front}
 use Rattle.core_reader.specs.AroundOf.{Outside, Within}
-use Rattle.core_reader.specs.Declaring.{defined, InFunction, Params, top, run}
+use Rattle.core_reader.specs.Declaring.{function_declaration, InFunction, Params, top, run}
 use Rattle.core_reader.specs.declared.token.Token.TheVariants as word
 use Rattle.core_reader.proofs.ReadingOf.{memory_fails}
 use Rattle.core_reader.proofs.Taking.{fails_from}
@@ -58,4 +58,4 @@ returns-clause-reads c = λ ds.
     let d : nests Outermost ≡ c.take.new.self.depth = omega arith in
     named ∙ params ds c.args.name c.args.at c.in_ok-params.params.items c.advance.new.self.rest.now c.names.new.self.rest.now c.in_ok-params.ensures.reads ∙ equals ∙ body_read k (tree.expr c.in_ok-body.body) c.take.new.self.rest.now ts4 (c.in_ok-body.ensures.reads Outermost d)
     ∙ takes (Within k (Ended Outermost (tree.expr c.in_ok-body.body))) _ ts4 (front ts4) word.Semicolon _ refl c.in_ok-take-2.ensures.takes.0 c.in_ok-take-2.ensures.takes.1 refl
-    ∙ ap (λ w. run at_most_200 (top (ds ++ defined c.args.name c.args.at w (tree.expr c.in_ok-body.body) ∷ [])) c.take-2.new.self.rest.now) (sym c.from_vec.ensures)
+    ∙ ap (λ w. run at_most_200 (top (ds ++ function_declaration c.args.name c.args.at w (tree.expr c.in_ok-body.body) ∷ [])) c.take-2.new.self.rest.now) (sym c.from_vec.ensures)

@@ -1,4 +1,4 @@
-use Rattle.fetch_passes.proofs.PassContract.{is_fetched, is_kept}
+use Rattle.fetch_passes.proofs.Contract.{is_fetched, is_kept}
 use Rattle.fetch_passes.proofs.pass.FetchesPass.apply.Goals as goal
 
 pub returns-clause-shape : goal.returns-clause-shape

@@ -1,4 +1,4 @@
-use Rattle.flat_blocks.proofs.PassContract.{is_flattened, is_kept}
+use Rattle.flat_blocks.proofs.Contract.{is_flattened, is_kept}
 use Rattle.flat_blocks.proofs.pass.FlattenPass.apply.Goals as goal
 
 pub returns-clause-shape : goal.returns-clause-shape

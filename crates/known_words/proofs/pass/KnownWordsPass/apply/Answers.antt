@@ -1,4 +1,4 @@
-use Rattle.known_words.proofs.PassContract.{is_known, is_kept}
+use Rattle.known_words.proofs.Contract.{is_known, is_kept}
 use Rattle.known_words.proofs.pass.KnownWordsPass.apply.Goals as goal
 
 pub returns-clause-shape : goal.returns-clause-shape

@@ -1,4 +1,4 @@
-use Rattle.known_words.proofs.PassContract.{is_told, told_kept}
+use Rattle.known_words.proofs.Contract.{is_told, told_kept}
 use Rattle.known_words.proofs.pass.ToldWordsPass.apply.Goals as goal
 
 pub returns-clause-shape : goal.returns-clause-shape

@@ -1,8 +1,8 @@
 use Rattle.std.proofs.Common.{◌≡◌, take}
-use Rattle.known_words.specs.Telling.{telling}
+use Rattle.known_words.specs.Telling.{known_solution}
 use Rattle.case_simplify.specs.Known.{facts_of}
 use Rattle.known_words.specs.Told.{known_words}
 use Rattle.known_words.proofs.told.Told.words.Given as goal
 
 abbrev pub invariant-words : goal.invariant-words
-invariant-words l = l.made ≡ known_words l.self.count (telling l.self) (facts_of l.facts) (take l.word-index l.words)
+invariant-words l = l.made ≡ known_words l.self.count (known_solution l.self) (facts_of l.facts) (take l.word-index l.words)

@@ -1,5 +1,5 @@
 use Rattle.std.proofs.Common.{rules, ◌≡◌, ◌≢◌, ◌≤◌, ◌<◌, ℕ, List, length, get_or, sym, ◌∙◌, arith}
-use Rattle.low_translate.specs.Groups.{Respects}
+use Rattle.low_translate.specs.Groups.{IsConstantOnGroups}
 use Rattle.low_translate.proofs.Parents.{at_any, ordered_still, firsts_still, respects_before, respects_here, respects_parent}
 use Rattle.low_translate.proofs.groups.Groups.first.Goals as goal
 
@@ -18,7 +18,7 @@ loop-at-preserved c =
     let oz : get_or ps y 0 ≤ y = c.loop-at.invariant.ordered y ky in
     let le : z ≤ at = omega (arith, ey, oy, ez, oz) in
     let d : y ≢ at = λ e. n (sym ey ∙ e) in
-    let back : (f : ℕ → ℕ) → Respects f _ → Respects f ps = λ f r. respects_before ps at z k f r (respects_parent ps at z k f y r d ky ey ez) in
+    let back : (f : ℕ → ℕ) → IsConstantOnGroups f _ → IsConstantOnGroups f ps = λ f r. respects_before ps at z k f r (respects_parent ps at z k f y r d ky ey ez) in
     record {
       many = search rules;
       known = omega (arith, le, c.loop-at.invariant.known);

@@ -4,7 +4,7 @@ use Rattle.core_reader.proofs.TreeOf.{expr_of-Case}
 use Rattle.arity_check.specs.Scope.{Scope}
 use Rattle.match_compile.specs.Translated.{Words, with_fields, otherwise, expr_of}
 use Rattle.match_compile.specs.TreeOf.{tree_of}
-use Rattle.match_compile.specs.EmissionOf.{rest_of, alone}
+use Rattle.match_compile.specs.EmissionOf.{alternatives_of_rest, alone}
 use Rattle.match_compile.proofs.TreesOf.{tree_of-Tests, tree_of-Otherwise}
 use Rattle.match_compile.proofs.Emitted.{case_is, one_more, then_others, leaves}
 use Rattle.match_compile.proofs.emission.Writer.+write.Goals as goal
@@ -15,7 +15,7 @@ alt-returns-clause-places t c =
     let at : ℕ = c.args.self.now.at in
     let params : ℕ = c.args.self.now.params in
     let s : Scope = c.args.places.now in
-    leaves w at params (rest_of w at c.args.onward.now) (tree_of c.args.branch.tree) c.args.branch.places s c.bind_fields.new.places c.expr.new.places c.leave.new.self c.len-depth.result
+    leaves w at params (alternatives_of_rest w at c.args.onward.now) (tree_of c.args.branch.tree) c.args.branch.places s c.bind_fields.new.places c.expr.new.places c.leave.new.self c.len-depth.result
     c.len-depth.ensures (c.in_ok-bind_fields.ensures ∙ ap (λ ps. with_fields w at params (tree_of c.args.branch.tree) ps s) c.as_slice.ensures) c.in_ok-body.ensures.places c.leave.ensures
 
 pub alts-loop-branch-preserved : goal.alts-loop-branch-preserved
@@ -24,7 +24,7 @@ alts-loop-branch-preserved t c =
     let at : ℕ = c.args.self.now.at in
     record {
       places = c.in_ok-alt.ensures.places ∙ c.loop-branch.invariant.places;
-      made = one_more w at c.args.self.now.params (rest_of w at c.args.onward.now) c.args.places.now c.loop-branch.places c.loop-branch.yielded c.in-Some.branch c.loop-branch.made c.push.new.self c.in_ok-alt.field-0
+      made = one_more w at c.args.self.now.params (alternatives_of_rest w at c.args.onward.now) c.args.places.now c.loop-branch.places c.loop-branch.yielded c.in-Some.branch c.loop-branch.made c.push.new.self c.in_ok-alt.field-0
           c.loop-branch.invariant.places c.loop-branch.invariant.made c.in_ok-alt.ensures.made c.in_ok-push.ensures.ok;
     }
 
@@ -33,10 +33,10 @@ expr-returns-in_ok-new-in-Tests-clause-made t c =
     let w : Words = c.args.self.now.words.now in
     let at : ℕ = c.args.self.now.at in
     let params : ℕ = c.args.self.now.params in
-    let rest : Alts = rest_of w at c.args.onward.now in
+    let rest : Alts = alternatives_of_rest w at c.args.onward.now in
     let s : Scope = c.args.places.now in
     expr_of-Case c.in_ok-new-in-Tests.field-0 c.append.new.self
-    ∙ case_is _ _ _ _ (ap expr c.in_ok-new-in-Tests.ensures.ok ∙ c.alone-tested.ensures ∙ ap (λ x. alone x.0 at) c.name_for.ensures)
+    ∙ case_is _ _ _ _ (ap expr c.in_ok-new-in-Tests.ensures.ok ∙ c.alone-tested.ensures ∙ ap (λ x. alone x.0 at) c.renamed_name.ensures)
     (then_others w at params rest s c.in-Tests.branches c.in_ok-alts-in-Tests.alts c.in_ok-call-in-Tests.field-0 c.append.new.self rest c.in_ok-alts-in-Tests.ensures.made c.in_ok-call-in-Tests.ensures c.in_ok-append-in-Tests.ensures.ok)
     ∙ sym (ap (expr_of w at params rest s) (ap tree_of c.in-Tests.is ∙ tree_of-Tests c.in-Tests.place c.in-Tests.branches))
 
@@ -45,11 +45,11 @@ expr-returns-in_ok-new-in-Otherwise-clause-made t c =
     let w : Words = c.args.self.now.words.now in
     let at : ℕ = c.args.self.now.at in
     let params : ℕ = c.args.self.now.params in
-    let rest : Alts = rest_of w at c.args.onward.now in
+    let rest : Alts = alternatives_of_rest w at c.args.onward.now in
     let s : Scope = c.args.places.now in
     let others : Alts = otherwise w at params (expr_of w at params rest s (tree_of c.in-Otherwise.other.value)) in
     expr_of-Case c.in_ok-new-in-Otherwise.field-0 c.push.new.self
-    ∙ case_is _ _ _ _ (ap expr c.in_ok-new-in-Otherwise.ensures.ok ∙ c.alone-tested-in-Otherwise.ensures ∙ ap (λ x. alone x.0 at) c.name_for-in-Otherwise.ensures)
+    ∙ case_is _ _ _ _ (ap expr c.in_ok-new-in-Otherwise.ensures.ok ∙ c.alone-tested-in-Otherwise.ensures ∙ ap (λ x. alone x.0 at) c.renamed_name-in-Otherwise.ensures)
     (then_others w at params rest s c.in-Otherwise.branches c.in_ok-alts-in-Otherwise.alts (c.otherwise.result ∷ []) c.push.new.self others c.in_ok-alts-in-Otherwise.ensures.made
     (c.otherwise.ensures ∙ ap (otherwise w at params) (c.in_ok-other-in-Otherwise.ensures.made ∙ (λ i. expr_of w at params rest (c.in_ok-alts-in-Otherwise.ensures.places i) (tree_of (c.into_inner.ensures i)))))
     c.in_ok-push-in-Otherwise.ensures.ok)

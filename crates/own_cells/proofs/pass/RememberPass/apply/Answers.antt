@@ -1,4 +1,4 @@
-use Rattle.own_cells.proofs.PassContract.{fetches_anew, is_kept}
+use Rattle.own_cells.proofs.Contract.{fetches_anew, is_kept}
 use Rattle.own_cells.proofs.pass.RememberPass.apply.Goals as goal
 
 pub returns-clause-shape : goal.returns-clause-shape

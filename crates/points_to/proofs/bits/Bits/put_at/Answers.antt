@@ -1,6 +1,6 @@
 use Rattle.std.proofs.Common.{sym, subst}
 use Rattle.std.specs.List.{flat_map}
-use Rattle.points_to.specs.Rows.{GetsAll}
+use Rattle.points_to.specs.Rows.{GainsMembers}
 use Rattle.points_to.specs.Bits.{Ascending, Finds, block_numbers}
 use Rattle.points_to.proofs.Blocks.{still_ascending}
 use Rattle.points_to.proofs.Numbers.{gets_bits, gets_block}
@@ -21,5 +21,5 @@ returns-in_ok-insert-in-Err-clause-ascending c =
 pub returns-in_ok-insert-in-Err-clause-gets : goal.returns-in_ok-insert-in-Err-clause-gets
 returns-in_ok-insert-in-Err-clause-gets c =
     let old = c.args.blocks.now.items in
-    subst (λ l. GetsAll (flat_map block_numbers old) (flat_map block_numbers l) (block_numbers c.args.block)) (sym c.in_ok-insert-in-Err.ensures.items)
+    subst (λ l. GainsMembers (flat_map block_numbers old) (flat_map block_numbers l) (block_numbers c.args.block)) (sym c.in_ok-insert-in-Err.ensures.items)
     (gets_block old c.in-Err.place c.args.block)

@@ -5,7 +5,7 @@ use Rattle.low_code.specs.Tree.{choose, prim, program_of, code_of, end_of, arm_o
 use Rattle.low_code.proofs.TreeOf.{end_of-Give, end_of-Tail, end_of-Fail}
 use Rattle.rv32_select.specs.Emit.{branch_items, match_items, compare_items}
 use Rattle.rv32_select.specs.IsSelected.{source}
-use Rattle.rv32_select.specs.Emitting.{Emitted, Rises, RisesWhere}
+use Rattle.rv32_select.specs.Emitting.{Emitted, TestsAscend, TestsAscendIfSearched}
 use Rattle.rv32_select.specs.Decides.{decides, tested}
 use Rattle.rv32_select.specs.Writable.{ArmsPlaced, BlocksPlaced}
 use Rattle.seq.specs.Lists.{sum_of}
@@ -80,23 +80,23 @@ arms-loop-arm-preserved t c = arm_added _ _ _ _ _ _ _ _ _ _ c.args.arms.now c.lo
 
 pub first_last-returns : goal.first_last-returns
 first_last-returns t c =
-    first_last_made (program_of c.args.self.now.low.now) c.args.self.now.places.now c.args.self.now.cells c.args.self.now.stack c.args.frame.words c.args.frame.saved c.args.frame.framed c.args.to.now c.args.way c.further.result c.args.first.now c.args.test c.args.arms.now (code_of c.args.otherwise.now) _ _ _ _ _ _ _ _ _ _ c.requires.test c.in_ok-label.ensures.0 c.in_ok-label.ensures.1 c.further.ensures
+    first_last_made (program_of c.args.self.now.low.now) c.args.self.now.places.now c.args.self.now.cells c.args.self.now.stack c.args.frame.words c.args.frame.saved c.args.frame.framed c.args.to.now c.args.way c.continued_by_jump.result c.args.first.now c.args.test c.args.arms.now (code_of c.args.otherwise.now) _ _ _ _ _ _ _ _ _ _ c.requires.test c.in_ok-label.ensures.0 c.in_ok-label.ensures.1 c.continued_by_jump.ensures
     (c.in_ok-match_to.ensures ∙ (λ i. c.in_ok-label.ensures.2 i ++ match_items c.in_ok-label.label (c.source.ensures.0 i) c.args.test.right)) c.in_ok-arms.ensures c.in_ok-put.ensures c.in_ok-block.ensures
 
 pub choose-first_last-requires : goal.choose-first_last-requires
 choose-first_last-requires t c =
     let all : c.args.arms.now ≡ c.in-Some.first.now ∷ c.in-Some.others.now = c.in-Some.ensures.cases.0 in
-    let one = single c.in-Some.first.now.tests c.as_slice.result.now _ c.as_slice.ensures (both_true _ _ (sym c.stands_last.ensures ∙ c.if-stands_last.true)) in
+    let one = single c.in-Some.first.now.tests c.as_slice.result.now _ c.as_slice.ensures (both_true _ _ (sym c.first_arm_goes_last.ensures ∙ c.if-first_arm_goes_last.true)) in
     let w = ap (λ ts. sum_of (map arm_weight ts)) all in
     (omega (arith, w), (c.requires.writable, (c.requires.frame, (c.requires.targets, (one, subst (λ ts. ArmsPlaced (program_of c.args.self.now.low.now) c.args.self.now.places.now (arms_before (map arm_of ts) (code_of c.args.otherwise.now))) all c.requires.placed)))))
 
-pub choose-returns-then-stands_last : goal.choose-returns-then-stands_last
-choose-returns-then-stands_last t c =
-    last_chosen (program_of c.args.self.now.low.now) c.args.self.now.places.now c.args.self.now.cells c.args.self.now.stack c.args.frame.words c.args.frame.saved c.args.frame.framed c.args.to.now c.args.way c.args.arms.now c.in-Some.others.now c.in-Some.first.now (code_of c.args.otherwise.now) c.stands_last.result _ _ _ _ c.in-Some.ensures.cases.0 c.stands_last.ensures c.if-stands_last.true c.in_ok-first_last-in-Some.ensures
+pub choose-returns-then-first_arm_goes_last : goal.choose-returns-then-first_arm_goes_last
+choose-returns-then-first_arm_goes_last t c =
+    last_chosen (program_of c.args.self.now.low.now) c.args.self.now.places.now c.args.self.now.cells c.args.self.now.stack c.args.frame.words c.args.frame.saved c.args.frame.framed c.args.to.now c.args.way c.args.arms.now c.in-Some.others.now c.in-Some.first.now (code_of c.args.otherwise.now) c.first_arm_goes_last.result _ _ _ _ c.in-Some.ensures.cases.0 c.first_arm_goes_last.ensures c.if-first_arm_goes_last.true c.in_ok-first_last-in-Some.ensures
 
 pub choose-returns-in_ok-arms-in-Some : goal.choose-returns-in_ok-arms-in-Some
 choose-returns-in_ok-arms-in-Some t c =
-    order_chosen (program_of c.args.self.now.low.now) c.args.self.now.places.now c.args.self.now.cells c.args.self.now.stack c.args.frame.words c.args.frame.saved c.args.frame.framed c.args.to.now c.args.way c.args.arms.now c.in-Some.others.now c.in-Some.first.now (code_of c.args.otherwise.now) c.stands_last.result _ _ _ _ c.in-Some.ensures.cases.0 c.stands_last.ensures c.if-stands_last.false c.in_ok-arms-in-Some.ensures
+    order_chosen (program_of c.args.self.now.low.now) c.args.self.now.places.now c.args.self.now.cells c.args.self.now.stack c.args.frame.words c.args.frame.saved c.args.frame.framed c.args.to.now c.args.way c.args.arms.now c.in-Some.others.now c.in-Some.first.now (code_of c.args.otherwise.now) c.first_arm_goes_last.result _ _ _ _ c.in-Some.ensures.cases.0 c.first_arm_goes_last.ensures c.if-first_arm_goes_last.false c.in_ok-arms-in-Some.ensures
 
 pub block-loop-stmt-init : goal.block-loop-stmt-init
 block-loop-stmt-init t c = within_none _ _ _ _ _ _ _ c.as_slice-stmt-items.result.now _ _ _ _ (c.len-left.ensures ∙ ap length (sym c.as_slice-stmt-items.ensures))
@@ -157,21 +157,21 @@ decided_last-arms-requires t c =
 
 pub decided_first-returns : goal.decided_first-returns
 decided_first-returns t c =
-    decided_first_made (program_of c.args.self.now.low.now) c.args.self.now.places.now c.args.self.now.cells c.args.self.now.stack c.args.frame.words c.args.frame.saved c.args.frame.framed c.args.to.now c.args.way c.further.result c.args.first.now c.args.others.now (code_of c.args.otherwise.now) c.args.comparison.operation (source (program_of c.args.self.now.low.now) c.args.self.now.places.now c.args.comparison.left) (source (program_of c.args.self.now.low.now) c.args.self.now.places.now c.args.comparison.right) c.tested-number.result _ _ _ _ _ _ _ _ _ _ c.in_ok-label.ensures.0 c.in_ok-label.ensures.1 c.further.ensures (c.tested-number.ensures ∙ ap tested c.as_slice.ensures)
+    decided_first_made (program_of c.args.self.now.low.now) c.args.self.now.places.now c.args.self.now.cells c.args.self.now.stack c.args.frame.words c.args.frame.saved c.args.frame.framed c.args.to.now c.args.way c.continued_by_jump.result c.args.first.now c.args.others.now (code_of c.args.otherwise.now) c.args.comparison.operation (source (program_of c.args.self.now.low.now) c.args.self.now.places.now c.args.comparison.left) (source (program_of c.args.self.now.low.now) c.args.self.now.places.now c.args.comparison.right) c.tested-number.result _ _ _ _ _ _ _ _ _ _ c.in_ok-label.ensures.0 c.in_ok-label.ensures.1 c.continued_by_jump.ensures (c.tested-number.ensures ∙ ap tested c.as_slice.ensures)
     (c.in_ok-branch.ensures ∙ (λ i. c.in_ok-label.ensures.2 i ++ branch_items (c.other_condition.ensures i) c.in_ok-label.label (c.source-left.ensures.0 i) (c.source-right.ensures.0 i))) c.in_ok-block.ensures c.in_ok-put.ensures c.in_ok-arms.ensures
 
 pub decided_last-returns : goal.decided_last-returns
 decided_last-returns t c =
-    decided_last_made (program_of c.args.self.now.low.now) c.args.self.now.places.now c.args.self.now.cells c.args.self.now.stack c.args.frame.words c.args.frame.saved c.args.frame.framed c.args.to.now c.args.way c.further.result c.args.first.now c.args.others.now (code_of c.args.otherwise.now) c.args.comparison.operation (source (program_of c.args.self.now.low.now) c.args.self.now.places.now c.args.comparison.left) (source (program_of c.args.self.now.low.now) c.args.self.now.places.now c.args.comparison.right) c.tested-number.result _ _ _ _ _ _ _ _ _ _ c.in_ok-label.ensures.0 c.in_ok-label.ensures.1 c.further.ensures (c.tested-number.ensures ∙ ap tested c.as_slice.ensures)
+    decided_last_made (program_of c.args.self.now.low.now) c.args.self.now.places.now c.args.self.now.cells c.args.self.now.stack c.args.frame.words c.args.frame.saved c.args.frame.framed c.args.to.now c.args.way c.continued_by_jump.result c.args.first.now c.args.others.now (code_of c.args.otherwise.now) c.args.comparison.operation (source (program_of c.args.self.now.low.now) c.args.self.now.places.now c.args.comparison.left) (source (program_of c.args.self.now.low.now) c.args.self.now.places.now c.args.comparison.right) c.tested-number.result _ _ _ _ _ _ _ _ _ _ c.in_ok-label.ensures.0 c.in_ok-label.ensures.1 c.continued_by_jump.ensures (c.tested-number.ensures ∙ ap tested c.as_slice.ensures)
     (c.in_ok-branch.ensures ∙ (λ i. c.in_ok-label.ensures.2 i ++ branch_items (c.condition.ensures i) c.in_ok-label.label (c.source-left.ensures.0 i) (c.source-right.ensures.0 i))) c.in_ok-arms.ensures c.in_ok-put.ensures c.in_ok-block.ensures
 
-pub decided_arms-returns-then-stands_last : goal.decided_arms-returns-then-stands_last
-decided_arms-returns-then-stands_last t c =
-    decided_last_chosen (program_of c.args.self.now.low.now) c.args.self.now.places.now c.args.self.now.cells c.args.self.now.stack c.args.frame.words c.args.frame.saved c.args.frame.framed c.args.to.now c.args.way c.args.first.now c.args.others.now (code_of c.args.otherwise.now) c.args.comparison.operation c.args.comparison.variable c.args.comparison.left c.args.comparison.right _ _ c.stands_last.result _ _ _ _ refl refl c.stands_last.ensures c.if-stands_last.true c.requires.decides c.in_ok-decided_last.ensures
+pub decided_arms-returns-then-first_arm_goes_last : goal.decided_arms-returns-then-first_arm_goes_last
+decided_arms-returns-then-first_arm_goes_last t c =
+    decided_last_chosen (program_of c.args.self.now.low.now) c.args.self.now.places.now c.args.self.now.cells c.args.self.now.stack c.args.frame.words c.args.frame.saved c.args.frame.framed c.args.to.now c.args.way c.args.first.now c.args.others.now (code_of c.args.otherwise.now) c.args.comparison.operation c.args.comparison.variable c.args.comparison.left c.args.comparison.right _ _ c.first_arm_goes_last.result _ _ _ _ refl refl c.first_arm_goes_last.ensures c.if-first_arm_goes_last.true c.requires.decides c.in_ok-decided_last.ensures
 
 pub decided_arms-returns : goal.decided_arms-returns
 decided_arms-returns t c =
-    decided_first_chosen (program_of c.args.self.now.low.now) c.args.self.now.places.now c.args.self.now.cells c.args.self.now.stack c.args.frame.words c.args.frame.saved c.args.frame.framed c.args.to.now c.args.way c.args.first.now c.args.others.now (code_of c.args.otherwise.now) c.args.comparison.operation c.args.comparison.variable c.args.comparison.left c.args.comparison.right _ _ c.stands_last.result _ _ _ _ refl refl c.stands_last.ensures c.if-stands_last.false c.requires.decides c.in_ok-decided_first.ensures
+    decided_first_chosen (program_of c.args.self.now.low.now) c.args.self.now.places.now c.args.self.now.cells c.args.self.now.stack c.args.frame.words c.args.frame.saved c.args.frame.framed c.args.to.now c.args.way c.args.first.now c.args.others.now (code_of c.args.otherwise.now) c.args.comparison.operation c.args.comparison.variable c.args.comparison.left c.args.comparison.right _ _ c.first_arm_goes_last.result _ _ _ _ refl refl c.first_arm_goes_last.ensures c.if-first_arm_goes_last.false c.requires.decides c.in_ok-decided_first.ensures
 
 pub decided-returns-in-Give : goal.decided-returns-in-Give
 decided-returns-in-Give t c = absurd (not_decided (program_of c.args.self.now.low.now) c.args.self.now.places.now c.args.self.now.cells c.args.self.now.stack c.args.frame.words c.args.frame.saved c.args.frame.framed c.args.comparison.operation c.args.comparison.variable (end_of c.args.end.now) _ refl (ap end_of c.in-Give.is ∙ end_of-Give _) c.requires.decides)
@@ -246,7 +246,7 @@ halves-returns t c =
 pub choice-halves-requires : goal.choice-halves-requires
 choice-halves-requires t c =
     let p = all_placed (program_of c.args.self.now.low.now) c.args.self.now.places.now c.args.arms.now (code_of c.args.otherwise.now) c.requires.placed in
-    let found : (1 ≤ length c.args.arms.now) × Rises c.in-Some.word 0 None c.args.arms.now = subst (λ r. RisesWhere r c.args.arms.now) c.in-Some.is c.sought.ensures in
+    let found : (1 ≤ length c.args.arms.now) × TestsAscend c.in-Some.word 0 None c.args.arms.now = subst (λ r. TestsAscendIfSearched r c.args.arms.now) c.in-Some.is c.searched_word.ensures in
     (omega arith, (c.requires.writable, (c.requires.frame, (c.requires.targets, (found.0, (word_placed (program_of c.args.self.now.low.now) c.args.self.now.places.now c.in-Some.word 0 None c.args.arms.now (code_of c.args.otherwise.now) found.0 found.1 c.requires.placed, (found.1, p.0)))))))
 
 pub choice-block-requires : goal.choice-block-requires
@@ -257,8 +257,8 @@ choice-block-requires t c =
 pub choice-returns : goal.choice-returns
 choice-returns t c =
     subst (λ old. Emitted (program_of c.args.self.now.low.now) c.args.self.now.places.now c.args.self.now.cells c.args.self.now.stack c.args.frame.words c.args.frame.saved c.args.frame.framed c.args.to.now c.args.way (choose (arms_before (map arm_of c.args.arms.now) (code_of c.args.otherwise.now))) old c.args.out.now.next c.block.new.out.code c.block.new.out.next) c.in_ok-miss.ensures.2
-    (choice_made (program_of c.args.self.now.low.now) c.args.self.now.places.now c.args.self.now.cells c.args.self.now.stack c.args.frame.words c.args.frame.saved c.args.frame.framed c.in-Some.word c.args.to.now c.args.way c.further.result c.args.arms.now (code_of c.args.otherwise.now) _ _ _ _ _ _ _ _ _
-    c.in_ok-miss.ensures.0 c.in_ok-miss.ensures.1 c.further.ensures c.in_ok-halves.ensures c.in_ok-put.ensures c.in_ok-block.ensures)
+    (choice_made (program_of c.args.self.now.low.now) c.args.self.now.places.now c.args.self.now.cells c.args.self.now.stack c.args.frame.words c.args.frame.saved c.args.frame.framed c.in-Some.word c.args.to.now c.args.way c.continued_by_jump.result c.args.arms.now (code_of c.args.otherwise.now) _ _ _ _ _ _ _ _ _
+    c.in_ok-miss.ensures.0 c.in_ok-miss.ensures.1 c.continued_by_jump.ensures c.in_ok-halves.ensures c.in_ok-put.ensures c.in_ok-block.ensures)
 
 pub stmt-returns-in_ok-put_byte-in-Put : goal.stmt-returns-in_ok-put_byte-in-Put
 stmt-returns-in_ok-put_byte-in-Put t c =

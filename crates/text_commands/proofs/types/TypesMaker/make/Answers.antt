@@ -18,4 +18,4 @@ returns-in-Ok-print-clause-made c =
     }
 
 pub returns-in-Err-clause-refused : goal.returns-in-Err-clause-refused
-returns-in-Err-clause-refused c = c.untyped.ensures.first c.args.text.now c.in-Err.ensures.refused
+returns-in-Err-clause-refused c = c.type_failure_status.ensures.first c.args.text.now c.in-Err.ensures.refused

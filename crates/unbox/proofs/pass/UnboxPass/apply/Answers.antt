@@ -1,4 +1,4 @@
-use Rattle.unbox.proofs.PassContract.{is_unboxed, is_kept}
+use Rattle.unbox.proofs.Contract.{is_unboxed, is_kept}
 use Rattle.unbox.proofs.pass.UnboxPass.apply.Goals as goal
 
 pub returns-clause-shape : goal.returns-clause-shape

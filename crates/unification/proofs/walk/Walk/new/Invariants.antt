@@ -1,5 +1,5 @@
 use Rattle.std.proofs.Common.{◌≡◌, ◌<◌, ℕ, length, Some, slice_get}
-use Rattle.unification.specs.declared.walk.Mark.TheVariants.{Unseen}
+use Rattle.unification.specs.declared.walk.VisitMark.TheVariants.{Unseen}
 use Rattle.unification.proofs.walk.Walk.new.Given as goal
 
 abbrev pub invariant-loop-i : goal.invariant-loop-i

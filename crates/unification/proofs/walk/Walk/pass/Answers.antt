@@ -1,6 +1,6 @@
 use Rattle.std.proofs.Common.{◌<◌, ◌+◌, length, refl, sym, subst, arith}
 use Rattle.std.specs.Vec.{with_item}
-use Rattle.unification.specs.declared.walk.Mark.TheVariants.{Unseen, Entered, Done}
+use Rattle.unification.specs.declared.walk.VisitMark.TheVariants.{Unseen, Entered, Done}
 use Rattle.unification.proofs.Walking.{mark_is, top_within, next_within, next_entered, next_within_itself, next_done}
 use Rattle.unification.proofs.walk.Walk.pass.Goals as goal
 

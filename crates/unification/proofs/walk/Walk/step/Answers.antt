@@ -1,5 +1,5 @@
 use Rattle.std.proofs.Common.{◌<◌, length, arith}
-use Rattle.unification.specs.declared.walk.Mark.TheVariants.{Unseen, Entered, Done}
+use Rattle.unification.specs.declared.walk.VisitMark.TheVariants.{Unseen, Entered, Done}
 use Rattle.unification.proofs.Walking.{mark_is, top_within, top_seen, top_not_done}
 use Rattle.unification.proofs.walk.Walk.step.Goals as goal
 

@@ -1,4 +1,4 @@
-use Rattle.update_special.proofs.PassContract.{is_updated, is_kept}
+use Rattle.update_special.proofs.Contract.{is_updated, is_kept}
 use Rattle.update_special.proofs.pass.UpdatesPass.apply.Goals as goal
 
 pub returns-clause-shape : goal.returns-clause-shape

@@ -1,4 +1,4 @@
-use Rattle.vectorise.proofs.PassContract.{is_widened, is_kept}
+use Rattle.vectorise.proofs.Contract.{is_widened, is_kept}
 use Rattle.vectorise.proofs.pass.VectorisePass.apply.Goals as goal
 
 pub returns-clause-shape : goal.returns-clause-shape

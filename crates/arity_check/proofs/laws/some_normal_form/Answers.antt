@@ -1,5 +1,0 @@
-use Rattle.arity_check.proofs.Exists.{some_normal_form}
-use Rattle.arity_check.proofs.laws.some_normal_form.Goals as goal
-
-pub returns : goal.returns
-returns c = some_normal_form

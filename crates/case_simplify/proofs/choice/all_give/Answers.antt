@@ -1,9 +1,0 @@
-use Rattle.std.proofs.Common.{rules}
-use Rattle.case_simplify.proofs.Loops.{all_next, all_stops}
-use Rattle.case_simplify.proofs.choice.all_give.Goals as goal
-
-pub returns-then-not-gives_val : goal.returns-then-not-gives_val
-returns-then-not-gives_val c = all_stops c.args.u.now c.args.alts.now c.alts.alt-index c.alt-item.result _ c.alts-test.true c.alt-item.is c.gives_val.ensures (search rules) c.alts.invariant
-
-pub alts-preserved : goal.alts-preserved
-alts-preserved c = all_next c.args.u.now c.args.alts.now c.alts.alt-index c.alt-item.result _ c.alts-test.true c.alt-item.is c.gives_val.ensures (search rules) c.alts.invariant

@@ -1,5 +1,0 @@
-use Rattle.command_line.proofs.Said.{parts_are_said}
-use Rattle.command_line.proofs.laws.parts_are_said.Goals as goal
-
-pub returns : goal.returns
-returns c = parts_are_said

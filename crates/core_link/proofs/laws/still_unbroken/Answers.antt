@@ -1,5 +1,0 @@
-use Rattle.core_link.proofs.Still.{still_unbroken}
-use Rattle.core_link.proofs.laws.still_unbroken.Goals as goal
-
-pub returns : goal.returns
-returns c = still_unbroken

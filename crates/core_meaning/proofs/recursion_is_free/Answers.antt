@@ -1,5 +1,0 @@
-use Rattle.core_meaning.proofs.Enough.{recursion_is_free as shown}
-use Rattle.core_meaning.proofs.recursion_is_free.Goals as goal
-
-pub returns : goal.returns
-returns c = shown

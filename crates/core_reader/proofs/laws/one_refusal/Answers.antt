@@ -1,5 +1,0 @@
-use Rattle.core_reader.proofs.OnlyOne.{one_refusal}
-use Rattle.core_reader.proofs.laws.one_refusal.Goals as goal
-
-pub returns : goal.returns
-returns c = one_refusal

@@ -1,6 +1,0 @@
-use Rattle.std.proofs.Common.{take}
-use Rattle.fetch_passes.proofs.Ends.{AllWords}
-use Rattle.fetch_passes.proofs.ending.all_words.Given as goal
-
-abbrev pub invariant-loop-at : goal.invariant-loop-at
-invariant-loop-at l = AllWords l.cell (take l.at l.vars) l.initial.made l.made

@@ -1,5 +1,0 @@
-use Rattle.flow_system.proofs.Starting.{formed_is_started}
-use Rattle.flow_system.proofs.formed_programs_are_started.Goals as goal
-
-pub returns : goal.returns
-returns c = formed_is_started

@@ -1,5 +1,0 @@
-use Rattle.grin_compile.proofs.Selected.{selection_carries}
-use Rattle.grin_compile.proofs.laws.selection_carries.Goals as goal
-
-pub returns : goal.returns
-returns c = selection_carries

@@ -1,5 +1,0 @@
-use Rattle.grin_meaning.proofs.Kept.{keeps_again}
-use Rattle.grin_meaning.proofs.passes.keeping_composes.Goals as goal
-
-pub returns : goal.returns
-returns c = keeps_again

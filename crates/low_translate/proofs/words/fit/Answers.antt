@@ -1,5 +1,0 @@
-use Rattle.low_translate.proofs.Items.{fitted_next}
-use Rattle.low_translate.proofs.words.fit.Goals as goal
-
-pub loop-i-preserved : goal.loop-i-preserved
-loop-i-preserved c = fitted_next c.loop-i.i c.args.words.now _ _ _ c.loop-i.invariant c.nth.ensures c.in_ok-push.ensures.ok

@@ -1,5 +1,0 @@
-use Rattle.match_compile.proofs.Kept.{known_stays}
-use Rattle.match_compile.proofs.laws.known_stays.Goals as goal
-
-pub returns : goal.returns
-returns c = known_stays

@@ -1,5 +1,0 @@
-use Rattle.match_compile.proofs.Meant.{means_its_equations}
-use Rattle.match_compile.proofs.laws.means_its_equations.Goals as goal
-
-pub returns : goal.returns
-returns c = means_its_equations

@@ -1,5 +1,0 @@
-use Rattle.match_compile.proofs.Decided.{trees_stand}
-use Rattle.match_compile.proofs.laws.trees_stand.Goals as goal
-
-pub returns : goal.returns
-returns c = trees_stand

@@ -1,9 +1,0 @@
-use Rattle.std.proofs.Common.{◌≡◌, ◌++◌, take}
-use Rattle.std.specs.List.{flat_map}
-use Rattle.flow_system.specs.declared.fact.Part.TheVariants.{Word as word}
-use Rattle.points_to.specs.Known.{held}
-use Rattle.points_to.specs.Held.{picked, cell_items}
-use Rattle.points_to.proofs.first.first_at_all.Given as goal
-
-abbrev pub invariant-loop-word : goal.invariant-loop-word
-invariant-loop-word l = l.out ≡ l.initial.out ++ flat_map (λ w. picked (word 0) (cell_items (held l.facts) w)) (take l.word-index l.words)

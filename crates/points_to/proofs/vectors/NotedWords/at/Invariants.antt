@@ -1,4 +1,0 @@
-use Rattle.points_to.proofs.vectors.NotedWords.at.Given as goal
-
-abbrev pub decreases-chain : goal.decreases-chain
-decreases-chain l = l.place

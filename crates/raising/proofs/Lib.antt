@@ -1,0 +1,17 @@
+pub mod Arguments
+pub mod Bodies
+pub mod Caller
+pub mod Choices
+pub mod Counts
+pub mod Entry
+pub mod Facts
+pub mod Frozen
+pub mod Kept
+pub mod Leaves
+pub mod Parameters
+pub mod Piece
+pub mod Related
+pub mod Simulated
+pub mod Scoped
+pub mod Gives
+pub mod Formed

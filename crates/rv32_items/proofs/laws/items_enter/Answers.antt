@@ -1,5 +1,0 @@
-use Rattle.rv32_items.proofs.Enters.{items_enter}
-use Rattle.rv32_items.proofs.laws.items_enter.Goals as goal
-
-pub returns : goal.returns
-returns c = items_enter

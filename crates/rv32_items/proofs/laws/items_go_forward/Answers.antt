@@ -1,5 +1,0 @@
-use Rattle.rv32_items.proofs.Forward.{items_go_forward}
-use Rattle.rv32_items.proofs.laws.items_go_forward.Goals as goal
-
-pub returns : goal.returns
-returns c = items_go_forward

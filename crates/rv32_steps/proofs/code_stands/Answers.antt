@@ -1,5 +1,0 @@
-use Rattle.rv32_steps.proofs.Fetch.{code_stands}
-use Rattle.rv32_steps.proofs.code_stands.Goals as goal
-
-pub returns : goal.returns
-returns c = code_stands

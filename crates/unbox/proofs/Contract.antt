@@ -1,0 +1,41 @@
+-- That the pass meets its contract: what it makes is what the law of unboxing speaks of, by the least
+-- solution.
+use Rattle.std.proofs.Common.{◌≡◌, sym, subst}
+use Rattle.grin_syntax.specs.Tree.{Program}
+use Rattle.grin_meaning.specs.Keeps.{Keeps}
+use Rattle.flow_system.specs.Tables.{tables}
+use Rattle.flow_system.specs.System.{system}
+use Rattle.flow_system.specs.Solution.{Solution, IsLeast}
+use Rattle.pass_ground.specs.Vectors.{IsVectorForm}
+use Rattle.unboxing.specs.Ends.{Procedures}
+use Rattle.unboxing.specs.Members.{IsGreatestClosedSet}
+use Rattle.unboxing.specs.Unboxing.{unboxed}
+use Rattle.unboxing.specs.Unboxed.{Unboxed, MadeByLeastSolution}
+use Rattle.unboxing.specs.Laws.{UnboxedKeeps}
+use Rattle.unboxing.proofs.Kept.{unboxing_law}
+
+module _ (g : Program) (A : Solution) (M : Procedures) (of : IsVectorForm g) (least : IsLeast (tables g) (system g) A) (are : IsGreatestClosedSet A g M) where
+  kept : UnboxedKeeps g (unboxed M g) M
+  kept = unboxing_law g A M of least.solves are.closed
+
+  whole : Unboxed g (unboxed M g)
+  whole = record {
+    stays = kept.stays;
+    solution = A;
+    least = least;
+    members = M;
+    are_members = are;
+    one_word = kept.one_word;
+    same_updates = kept.same_updates;
+  }
+
+pub is_unboxed : (g h : Program) → IsVectorForm g → MadeByLeastSolution g h → Unboxed g h
+is_unboxed g h of m =
+    subst (Unboxed g) (sym m.made) (whole g m.solution m.members of m.least m.are_members)
+
+pub is_kept : (g h : Program) → IsVectorForm g → MadeByLeastSolution g h → Keeps g h
+is_kept g h of m =
+    subst (Keeps g) (sym m.made) (kept g m.solution m.members of m.least m.are_members).keeps
+
+pub by_least : {g h : Program} {A : Solution} {M : Procedures} → IsLeast (tables g) (system g) A → IsGreatestClosedSet A g M → h ≡ unboxed M g → MadeByLeastSolution g h
+by_least {A = A} {M = M} least are e = record { solution = A; least = least; members = M; are_members = are; made = e }

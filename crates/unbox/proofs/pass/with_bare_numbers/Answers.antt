@@ -1,5 +1,0 @@
-use Rattle.unbox.proofs.PassContract.{by_least}
-use Rattle.unbox.proofs.pass.with_bare_numbers.Goals as goal
-
-pub returns : goal.returns
-returns c = by_least c.in_ok-flow.ensures c.in_ok-members.ensures c.in_ok-h.ensures

@@ -1,0 +1,5 @@
+pub mod Ends
+pub mod Laws
+pub mod Members
+pub mod Unboxed
+pub mod Unboxing
