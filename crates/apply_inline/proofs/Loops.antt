@@ -24,7 +24,7 @@ use Rattle.grin_syntax.specs.declared.program.Shape.{Shape}
 use Rattle.grin_syntax.specs.declared.program.Shape.TheVariants.{Else}
 use Rattle.grin_syntax.specs.declared.program.Word.{Word}
 use Rattle.grin_syntax.specs.declared.program.Val.{Val}
-use Rattle.grin_syntax.specs.Tree.{Code, Act, end, bind, apply, case, nested, fail, Arms, no_arm, arm, act_of, before_of, arm_of, code_of, all_before, arms_of, Procedure, Program, act_step, stmt_step, alt_step, block_step}
+use Rattle.grin_syntax.specs.Tree.{Code, Act, end, bind, leaf, apply, case, nested, fail, Arms, no_arm, arm, act_of, before_of, arm_of, code_of, all_before, arms_of, Procedure, Program, act_step, stmt_step, alt_step, block_step}
 use Rattle.grin_syntax.proofs.TreeOf.{code_of-parts, arm_of-parts, act_of-Case, before_of-Store, before_of-Bind}
 use Rattle.grin_syntax.proofs.Pieces.{all_before_push}
 use Rattle.flow_system.specs.Solution.{Solution}
@@ -43,21 +43,21 @@ arms_of_before (a ∷ as') = ap (arm a.0 a.1) (arms_of_before as')
 
 -- no block in it, and no application
 abbrev IsPlain : Act → Type 0
-IsPlain (apply v w) = ⊥
+IsPlain (leaf (apply v w)) = ⊥
 IsPlain (case v as') = ⊥
 IsPlain (nested b) = ⊥
 IsPlain _ = Unit {0}
 
 plain_applies : (p : Program) (A : Solution) (x : ℕ) (o : Act) → IsPlain o → o ≡ apply_act p A x o
 unfolding apply_act
-plain_applies p A x (apply v w) h = absurd h
+plain_applies p A x (leaf (apply v w)) h = absurd h
 plain_applies p A x (case v as') h = absurd h
 plain_applies p A x (nested b) h = absurd h
 plain_applies p A x o h = refl
 
 plain_room : (p : Program) (A : Solution) (x : ℕ) (o : Act) → IsPlain o → x ≡ x + apply_act_room p A o
 unfolding apply_act_room
-plain_room p A x (apply v w) h = absurd h
+plain_room p A x (leaf (apply v w)) h = absurd h
 plain_room p A x (case v as') h = absurd h
 plain_room p A x (nested b) h = absurd h
 plain_room p A x o h = omega arith
@@ -218,13 +218,13 @@ module _ (p : Program) (A : Solution) where
       none (t ∷ ts) e = cc
 
   pub application_fails : (a : Word) (x : ℕ) (v : Val) (alts : List Alt) (last : Alt) → ((last : Arms) → arms_before (map arm_of alts) last ≡ apply_arms p A a x (part_tags_of p A v) last)
-      → is_nonempty (others_of p A v) ≡ true → last.pattern ≡ Else → code_of last.body ≡ end fail → act_of (Case v (alts ++ last ∷ [])) ≡ case v (apply_arms p A a x (part_tags_of p A v) (else_fail p A (others_of p A v)))
+      → is_nonempty (others_of p A v) ≡ true → last.pattern ≡ Else → code_of last.body ≡ end (leaf fail) → act_of (Case v (alts ++ last ∷ [])) ≡ case v (apply_arms p A a x (part_tags_of p A v) (else_fail p A (others_of p A v)))
   application_fails a x v alts last h e s b =
       act_of-Case v (alts ++ last ∷ []) ∙ ap (case v) (arms_of_before (map arm_of (alts ++ last ∷ [])) ∙ ap (λ l. arms_before l no_arm) (map_push arm_of alts last) ∙ arms_before-push (map arm_of alts) (arm_of last) no_arm
-      ∙ ap (λ q. arms_before (map arm_of alts) (arm q.0 q.1 no_arm)) (arm_of-parts last) ∙ (λ i. arms_before (map arm_of alts) (arm (s i) (b i) no_arm)) ∙ h (arm Else (end fail) no_arm)
+      ∙ ap (λ q. arms_before (map arm_of alts) (arm q.0 q.1 no_arm)) (arm_of-parts last) ∙ (λ i. arms_before (map arm_of alts) (arm (s i) (b i) no_arm)) ∙ h (arm Else (end (leaf fail)) no_arm)
       ∙ ap (apply_arms p A a x (part_tags_of p A v)) (sym (some (others_of p A v) e)))
     where
-      some : (ts : List ℕ) → is_nonempty ts ≡ true → else_fail p A ts ≡ arm Else (end fail) no_arm
+      some : (ts : List ℕ) → is_nonempty ts ≡ true → else_fail p A ts ≡ arm Else (end (leaf fail)) no_arm
       some [] e = cc
       some (t ∷ ts) e = refl
 

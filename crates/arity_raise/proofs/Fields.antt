@@ -9,7 +9,7 @@ use Rattle.grin_syntax.specs.declared.program.Target.TheVariants as to
 use Rattle.grin_syntax.specs.declared.program.Stmt.{Stmt}
 use Rattle.grin_syntax.specs.declared.program.Stmt.TheVariants.{Bind}
 use Rattle.grin_syntax.specs.declared.program.Op.TheVariants.{FetchWord}
-use Rattle.grin_syntax.specs.Tree.{Code, bind, fetch_word, before_of, all_before}
+use Rattle.grin_syntax.specs.Tree.{Code, bind, leaf, fetch_word, before_of, all_before}
 use Rattle.grin_syntax.specs.Fresh.{variable, variables}
 use Rattle.grin_syntax.proofs.TreeOf.{before_of-Bind, act_of-FetchWord}
 use Rattle.grin_syntax.proofs.Pieces.{all_before_push}
@@ -21,7 +21,7 @@ use Rattle.arity_raise.specs.Decision.{decision_at}
 -- ---- one field
 
 pub field_pushed : (ss ss' : List Stmt) (x : VarId) (n : ℕ) (a : W.Word) (i : ℕ) (c : Code) → ss' ≡ ss ++ Bind (to.One x) (FetchWord a i) ∷ [] → x ≡ variable n
-    → all_before (map before_of ss') c ≡ all_before (map before_of ss) (bind (to.One (variable n)) (fetch_word a i) c)
+    → all_before (map before_of ss') c ≡ all_before (map before_of ss) (bind (to.One (variable n)) (leaf (fetch_word a i)) c)
 field_pushed ss ss' x n a i c e v =
     ap (λ l. all_before (map before_of l) c) e ∙ all_before_push ss (Bind (to.One x) (FetchWord a i)) c
     ∙ ap (λ f. all_before (map before_of ss) (f c)) (before_of-Bind (to.One x) (FetchWord a i))
@@ -29,17 +29,17 @@ field_pushed ss ss' x n a i c e v =
 
 -- ---- the fields of a cell
 
-fetches_push : (k n j y i m : ℕ) (a : W.Word) (c : Code) → y ≡ n + k → i ≡ suc (j + k) → m ≡ k + 1 → field_fetches a n j m c ≡ field_fetches a n j k (bind (to.One (variable y)) (fetch_word a i) c)
+fetches_push : (k n j y i m : ℕ) (a : W.Word) (c : Code) → y ≡ n + k → i ≡ suc (j + k) → m ≡ k + 1 → field_fetches a n j m c ≡ field_fetches a n j k (bind (to.One (variable y)) (leaf (fetch_word a i)) c)
 fetches_push zero n j y i m a c e f g =
     let y' : n ≡ y = omega arith in
     let i' : suc j ≡ i = omega arith in
     let m' : m ≡ 1 = omega arith in
-    ap (λ m. field_fetches a n j m c) m' ∙ (λ t. bind (to.One (variable (y' t))) (fetch_word a (i' t)) c)
+    ap (λ m. field_fetches a n j m c) m' ∙ (λ t. bind (to.One (variable (y' t))) (leaf (fetch_word a (i' t))) c)
 fetches_push (suc k) n j y i m a c e f g =
     let y' : y ≡ suc n + k = omega arith in
     let i' : i ≡ suc (suc j + k) = omega arith in
     let m' : m ≡ suc (k + 1) = omega arith in
-    ap (λ m. field_fetches a n j m c) m' ∙ ap (bind (to.One (variable n)) (fetch_word a (suc j))) (fetches_push k (suc n) (suc j) y i (k + 1) a c y' i' refl)
+    ap (λ m. field_fetches a n j m c) m' ∙ ap (bind (to.One (variable n)) (leaf (fetch_word a (suc j)))) (fetches_push k (suc n) (suc j) y i (k + 1) a c y' i' refl)
 
 -- so many fields of a cell, from the variable x on
 pub record FieldsSoFar (a : W.Word) (x y k : ℕ) (old new : List Stmt) (given args : List W.Word) : Type 0 where
@@ -51,14 +51,14 @@ pub no_fields : (a : W.Word) (x : ℕ) (old : List Stmt) (given : List W.Word) �
 no_fields a x old given = record { stmts = λ c. refl; words = sym (append-nil given); next = omega arith }
 
 pub one_field_more : (a : W.Word) (x y z k i : ℕ) (old new newer : List Stmt) (given args more : List W.Word) → FieldsSoFar a x y k old new given args → i ≡ k + 1
-    → ((c : Code) → all_before (map before_of newer) c ≡ all_before (map before_of new) (bind (to.One (variable y)) (fetch_word a i) c)) → more ≡ args ++ Var (variable y) ∷ [] → z ≡ suc y
+    → ((c : Code) → all_before (map before_of newer) c ≡ all_before (map before_of new) (bind (to.One (variable y)) (leaf (fetch_word a i)) c)) → more ≡ args ++ Var (variable y) ∷ [] → z ≡ suc y
     → FieldsSoFar a x z (k + 1) old newer given more
 one_field_more a x y z k i old new newer given args more u i' h e f =
     let n : y ≡ x + k = u.next in
     let s : i ≡ suc (0 + k) = omega arith in
     let word : map Var (variables x k) ++ Var (variable y) ∷ [] ≡ map Var (variables x (k + 1)) = sym (map_push Var (variables x k) (variable y)) ∙ ap (map Var) (variables_push k x y (k + 1) n refl) in
     record {
-      stmts = λ c. h c ∙ u.stmts (bind (to.One (variable y)) (fetch_word a i) c) ∙ ap (all_before (map before_of old)) (sym (fetches_push k x 0 y i (k + 1) a c n s refl));
+      stmts = λ c. h c ∙ u.stmts (bind (to.One (variable y)) (leaf (fetch_word a i)) c) ∙ ap (all_before (map before_of old)) (sym (fetches_push k x 0 y i (k + 1) a c n s refl));
       words = e ∙ ap (λ l. l ++ Var (variable y) ∷ []) u.words ∙ append_assoc given (map Var (variables x k)) (Var (variable y) ∷ []) ∙ ap (λ l. given ++ l) word;
       next = omega arith;
     }

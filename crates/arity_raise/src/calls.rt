@@ -4,7 +4,7 @@
 ghost use Rattle.std.specs.Prelude.{◌≡◌, ◌++◌, [], ◌∷◌, ◌+◌, suc, map, IfOk, OnOk};
 ghost use Rattle.grin_syntax.specs.declared.program.Word.TheVariants.{Var};
 ghost use Rattle.grin_syntax.specs.declared.program.Target.TheVariants.{One};
-ghost use Rattle.grin_syntax.specs.Tree.{Code, bind, fetch_word, before_of, all_before};
+ghost use Rattle.grin_syntax.specs.Tree.{Code, bind, leaf, fetch_word, before_of, all_before};
 ghost use Rattle.grin_syntax.specs.Fresh.{variable, variables};
 ghost use Rattle.raising.specs.Raising.{field_fetches, argument_for, arguments_for, fetches_for, new_variables_of, new_variables_for};
 
@@ -25,7 +25,7 @@ fn put_field(
 ) -> Result<(), AllocError>
     ensures stmts { OnOk result ((c : Code) → all_before (map before_of made.new) c
         ≡ all_before (map before_of made.old)
-        (bind (One (variable fresh.old.next)) (fetch_word cell at) c)) }
+        (bind (One (variable fresh.old.next)) (leaf (fetch_word cell at)) c)) }
     ensures args { OnOk result (args.new ≡ args.old ++ Var (variable fresh.old.next) ∷ []) }
     ensures next { OnOk result (fresh.new.next ≡ suc fresh.old.next) }
 {

@@ -4,13 +4,13 @@ use Rattle.seq.proofs.Lists.{none_is_some, some_is}
 use Rattle.grin_syntax.specs.declared.program.TagId.{TagId}
 use Rattle.grin_syntax.specs.declared.program.Shape.{Shape}
 use Rattle.grin_syntax.specs.declared.program.Val.{Val}
-use Rattle.grin_syntax.specs.Tree.{Code, end, Act, case, fail, Arms, no_arm, arm, as_act}
+use Rattle.grin_syntax.specs.Tree.{Code, end, Act, case, leaf, fail, Arms, no_arm, arm, as_act}
 use Rattle.case_simplify.specs.Known.{Known, Tag, Number, Facts, known_first_word, known_second_word}
 use Rattle.case_simplify.specs.Choice.{Verdict, Takes, Passes, Open, verdict, by_verdict, selected_block, selected_block_by_tag}
 use Rattle.case_simplify.specs.Simple.{returns_scrutinee, first_act, block_or_case, simple_case}
 
 module _ (HasAct : Act → Type 0) (HasCode : Code → Type 0) (HasArms : Arms → Type 0)
-    (as_block : (b : Code) → HasCode b → HasAct (as_act b)) (failing : HasCode (end fail)) (split : (s : Shape) (b : Code) (as' : Arms) → HasArms (arm s b as') → HasCode b × HasArms as') where
+    (as_block : (b : Code) → HasCode b → HasAct (as_act b)) (failing : HasCode (end (leaf fail))) (split : (s : Shape) (b : Code) (as' : Arms) → HasArms (arm s b as') → HasCode b × HasArms as') where
   taken_has : (t : TagId) (second : Option Known) (as' : Arms) → HasArms as' → (b : Code) → selected_block t second as' ≡ Some b → HasCode b
   taken_has t second no_arm h b e = subst HasCode (some_is e) failing
   taken_has t second (arm s c as') h b e = go (taken_has t second as' (split s c as' h).1 b) (verdict t second s) e
@@ -21,7 +21,7 @@ module _ (HasAct : Act → Type 0) (HasCode : Code → Type 0) (HasArms : Arms �
       go later Open e = none_is_some e
 
   first_has : (as' : Arms) → HasArms as' → HasAct (first_act as')
-  first_has no_arm h = as_block (end fail) failing
+  first_has no_arm h = as_block (end (leaf fail)) failing
   first_has (arm s b as') h = as_block b (split s b as' h).0
 
   block_has : (v : Val) (as' : Arms) → HasArms as' → HasAct (case v as') → (o : Option Code) → ((b : Code) → o ≡ Some b → HasCode b) → HasAct (block_or_case v as' o)

@@ -12,7 +12,7 @@ use Rattle.grin_syntax.specs.declared.program.Word as W
 use Rattle.grin_syntax.specs.declared.program.Word.TheVariants.{Lit, Var, Global, TagWord}
 use Rattle.grin_syntax.specs.declared.program.Val as V
 use Rattle.grin_syntax.specs.declared.program.Val.TheVariants.{NodeVar, Node, Vector, One}
-use Rattle.grin_syntax.specs.Tree.{Code, end, store, bind, Act, unit, fetch, fetch_word, update, eval, apply, call, prim, read, write, case, nested, fail, Arms, no_arm, arm, Procedure, as_act}
+use Rattle.grin_syntax.specs.Tree.{Code, end, store, bind, Act, leaf, unit, fetch, fetch_word, update, eval, apply, call, prim, read, write, case, nested, fail, Arms, no_arm, arm, Procedure, as_act}
 use Rattle.grin_syntax.specs.Formed.{AllOf}
 use Rattle.grin_meaning.specs.Values.{and_then}
 use Rattle.grin_meaning.specs.Checks.{is_some_and}
@@ -191,17 +191,7 @@ mutual
   act_simple : (o : Act) (facts : Facts) → SimpleAct facts (simple_act facts o)
   act_simple (case v as') facts = case_shape facts v (simple_arms facts v as') (arms_simple v as' facts)
   act_simple (nested b) facts = code_simple b facts
-  act_simple (unit v) facts = tt
-  act_simple (fetch a) facts = tt
-  act_simple (fetch_word a i) facts = tt
-  act_simple (update a v) facts = tt
-  act_simple (eval a) facts = tt
-  act_simple (apply v a) facts = tt
-  act_simple (call f ws) facts = tt
-  act_simple (prim f a b) facts = tt
-  act_simple read facts = tt
-  act_simple (write a) facts = tt
-  act_simple fail facts = tt
+  act_simple (leaf l) facts = tt
 
   code_simple : (b : Code) (facts : Facts) → SimpleCode facts (simple_code facts b)
   code_simple (end o) facts = act_simple o facts

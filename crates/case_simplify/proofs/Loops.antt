@@ -13,7 +13,7 @@ use Rattle.grin_syntax.specs.declared.program.Block.{Block}
 use Rattle.grin_syntax.specs.declared.program.Target.{Target}
 use Rattle.grin_syntax.specs.declared.program.Op.{Op}
 use Rattle.grin_syntax.specs.declared.program.Op.TheVariants.{Case}
-use Rattle.grin_syntax.specs.Tree.{Code, end, bind, Act, nested, fail, Arms, arm, act_of, before_of, arm_of, code_of, all_before, arms_of, as_act}
+use Rattle.grin_syntax.specs.Tree.{Code, end, bind, Act, nested, leaf, fail, Arms, arm, act_of, before_of, arm_of, code_of, all_before, arms_of, as_act}
 use Rattle.grin_syntax.proofs.TreeOf.{before_of-Store, before_of-Bind, arm_of-parts, code_of-parts, act_of-Case}
 use Rattle.grin_syntax.proofs.Pieces.{all_before_push}
 use Rattle.grin_meaning.specs.Checks.{is_some_and}
@@ -91,7 +91,7 @@ pub taken_open : (t : TagId) (second : Option Known) (alts : List Alt) (i : ℕ)
     → selected_block t second (arms_of (map arm_of alts)) ≡ selected_block t second (rest_of alts i) → None ≡ selected_block t second (arms_of (map arm_of alts))
 taken_open t second alts i a v lt at e p h = sym (h ∙ taken_at t second alts i a lt at ∙ ap (λ q. by_verdict q (code_of a.body) (selected_block t second (rest_of alts (suc i)))) (sym e ∙ p))
 
-pub taken_ends : (t : TagId) (second : Option Known) (alts : List Alt) (i : ℕ) → length alts ≤ i → selected_block t second (arms_of (map arm_of alts)) ≡ selected_block t second (rest_of alts i) → Some (end fail) ≡ selected_block t second (arms_of (map arm_of alts))
+pub taken_ends : (t : TagId) (second : Option Known) (alts : List Alt) (i : ℕ) → length alts ≤ i → selected_block t second (arms_of (map arm_of alts)) ≡ selected_block t second (rest_of alts i) → Some (end (leaf fail)) ≡ selected_block t second (arms_of (map arm_of alts))
 taken_ends t second alts i le h = sym (h ∙ ap (λ l. selected_block t second (arms_of (map arm_of l))) (drop_past alts i le))
 
 all_at : (u : Val) (alts : List Alt) (i : ℕ) (a : Alt) → i < length alts → a ≡ get_or alts i a → all_arms_return u (rest_of alts i) ≡ returns_val u (code_of a.body) && all_arms_return u (rest_of alts (suc i))

@@ -11,7 +11,7 @@ use Rattle.grin_syntax.specs.declared.program.Word as W
 use Rattle.grin_syntax.specs.declared.program.Word.TheVariants.{Lit, Var, Global, TagWord}
 use Rattle.grin_syntax.specs.declared.program.Val as V
 use Rattle.grin_syntax.specs.declared.program.Val.TheVariants.{NodeVar, Node, Vector, One}
-use Rattle.grin_syntax.specs.Tree.{Act, unit, fetch, fetch_word, update, eval, apply, call, prim, read, write, case, nested, fail, Program}
+use Rattle.grin_syntax.specs.Tree.{Act, leaf, unit, fetch, fetch_word, update, eval, apply, call, prim, read, write, case, nested, fail, Program}
 use Rattle.grin_syntax.specs.Binders.{numbers_of, target_vars}
 use Rattle.grin_syntax.specs.Formed.{AllOf, Scope, InScope, with_word_variables, with_target, WordFormed, ValFormed}
 use Rattle.case_simplify.specs.Known.{Known, Facts, note, told, first_word, second_word, note_word, note_known, note_copies, words_in, word_vars, known_after, facts_in_alternative}
@@ -111,16 +111,16 @@ vars_inside (to.One x) scope = all_inside (x.0 ∷ scope.words) (x ∷ []) (λ y
 vars_inside (to.Vector xs) scope = all_inside (numbers_of xs ++ scope.words) xs (λ y i. scope_left (numbers_of xs) scope.words y i)
 
 pub after_inside : (g : Program) (facts : Facts) (t : Target) (o : Act) (scope : Scope) → Inside facts scope → Inside (known_after t o facts) (with_target t scope)
-after_inside g facts t (unit v) scope i = copies_inside g (with_target t scope) (word_vars t) (words_in v) facts (vars_inside t scope) (inside_target facts t scope i)
-after_inside g facts t (fetch a) scope i = inside_target facts t scope i
-after_inside g facts t (fetch_word a n) scope i = inside_target facts t scope i
-after_inside g facts t (update a v) scope i = inside_target facts t scope i
-after_inside g facts t (eval a) scope i = inside_target facts t scope i
-after_inside g facts t (apply v a) scope i = inside_target facts t scope i
-after_inside g facts t (call f ws) scope i = inside_target facts t scope i
-after_inside g facts t (prim f a b) scope i = inside_target facts t scope i
-after_inside g facts t read scope i = inside_target facts t scope i
-after_inside g facts t (write a) scope i = inside_target facts t scope i
+after_inside g facts t (leaf (unit v)) scope i = copies_inside g (with_target t scope) (word_vars t) (words_in v) facts (vars_inside t scope) (inside_target facts t scope i)
+after_inside g facts t (leaf (fetch a)) scope i = inside_target facts t scope i
+after_inside g facts t (leaf (fetch_word a n)) scope i = inside_target facts t scope i
+after_inside g facts t (leaf (update a v)) scope i = inside_target facts t scope i
+after_inside g facts t (leaf (eval a)) scope i = inside_target facts t scope i
+after_inside g facts t (leaf (apply v a)) scope i = inside_target facts t scope i
+after_inside g facts t (leaf (call f ws)) scope i = inside_target facts t scope i
+after_inside g facts t (leaf (prim f a b)) scope i = inside_target facts t scope i
+after_inside g facts t (leaf read) scope i = inside_target facts t scope i
+after_inside g facts t (leaf (write a)) scope i = inside_target facts t scope i
 after_inside g facts t (case v as') scope i = inside_target facts t scope i
 after_inside g facts t (nested b) scope i = inside_target facts t scope i
-after_inside g facts t fail scope i = inside_target facts t scope i
+after_inside g facts t (leaf fail) scope i = inside_target facts t scope i

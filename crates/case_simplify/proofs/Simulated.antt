@@ -6,7 +6,7 @@ use Rattle.grin_syntax.specs.declared.program.Cell.{Cell}
 use Rattle.grin_syntax.specs.declared.program.Target.{Target}
 use Rattle.grin_syntax.specs.declared.program.Target.TheVariants as to
 use Rattle.grin_syntax.specs.declared.program.Val.{Val}
-use Rattle.grin_syntax.specs.Tree.{Code, end, store, bind, Act, unit, fetch, fetch_word, update, eval, apply, call, prim, read, write, case, nested, fail, Arms, no_arm, arm, Procedure, Program}
+use Rattle.grin_syntax.specs.Tree.{Code, end, store, bind, Act, Leaf, leaf, unit, fetch, fetch_word, update, eval, apply, call, prim, read, write, case, nested, fail, Arms, no_arm, arm, Procedure, Program}
 use Rattle.grin_syntax.specs.Binders.{numbers_of, target_vars, shape_vars, cell_vars, act_vars, code_vars, arms_vars, procs_vars}
 use Rattle.grin_syntax.specs.Formed.{AllOf, Scope, with_word_variables, with_target, params_scope, ValFormed, ActFormed, CodeFormed, ArmsFormed, ProcedureFormed, Formed}
 use Rattle.grin_meaning.specs.Values.{Datum, Value, Env, HeapCell, and_then, Binding, with_vars, one_each, only_word, value_of, bindings_of}
@@ -22,7 +22,7 @@ use Rattle.grin_meaning.proofs.Back.{CallsBack}
 use Rattle.grin_meaning.proofs.Beside.{no_deeper, Beside, Likewise, Seen}
 use Rattle.grin_meaning.proofs.Rules.{Here, Setting, CallsFollow, ActFollows, CodeFollows, BindsToo, Stored, StoresToo, act_more, nested_follows, end_follows, store_follows, bind_follows}
 use Rattle.grin_meaning.proofs.Procedures.{BodyFollows, BodiesFollow, no_more, one_more, run_follows}
-use Rattle.grin_meaning.proofs.Plain.{Has, IsLeaf, IsPlain, vars_have, having, leaf_follows, cells_have, all_fill_too, same_is}
+use Rattle.grin_meaning.proofs.Plain.{Has, IsPlain, vars_have, having, leaf_follows, cells_have, all_fill_too, same_is}
 use Rattle.grin_meaning.proofs.KeptBy.{likewise_kept, looking_kept}
 use Rattle.grin_meaning.proofs.Bodies.{AnyState, every_any}
 use Rattle.case_simplify.specs.Known.{Known, Facts, nothing_known, note_copies, words_in, word_vars, known_after, facts_in_alternative}
@@ -66,17 +66,17 @@ module _ (g : Program) (vectorised : IsVectorised g) (procs : List Procedure) wh
       blocks : (o : Act) → cond (has_block o) (is_given g v) true ≡ true → cond (has_block (simple_act facts o)) (is_given g v) true ≡ true
       blocks (case u as') h = true_or (has_block (simple_act facts (case u as'))) (is_given g v) h
       blocks (nested b) h = h
-      blocks (unit u) h = refl
-      blocks (fetch a) h = refl
-      blocks (fetch_word a i) h = refl
-      blocks (update a u) h = refl
-      blocks (eval a) h = refl
-      blocks (apply u a) h = refl
-      blocks (call f ws) h = refl
-      blocks (prim f a b) h = refl
-      blocks read h = refl
-      blocks (write a) h = refl
-      blocks fail h = refl
+      blocks (leaf (unit u)) h = refl
+      blocks (leaf (fetch a)) h = refl
+      blocks (leaf (fetch_word a i)) h = refl
+      blocks (leaf (update a u)) h = refl
+      blocks (leaf (eval a)) h = refl
+      blocks (leaf (apply u a)) h = refl
+      blocks (leaf (call f ws)) h = refl
+      blocks (leaf (prim f a b)) h = refl
+      blocks (leaf read) h = refl
+      blocks (leaf (write a)) h = refl
+      blocks (leaf fail) h = refl
 
   module _ (c c' : Calls) (cb : CallsBack AnyState c) (cf : CallsFollow (looked g procs) c c') where
     abbrev st : Setting
@@ -104,8 +104,8 @@ module _ (g : Program) (vectorised : IsVectorised g) (procs : List Procedure) wh
     same_cells : {w : _} (b : Beside no_deeper w) → b.cells ≡ w.cells
     same_cells b = same_is b.heaps
 
-    leaf : (facts : Facts) (o : Act) → IsLeaf o → ActFollows st (Knowing g facts) Same o o
-    leaf facts o l = act_more st o o (λ c e e' r. r.0) (λ v v' u. u) (leaf_follows st pl (having Any) o l (any_act o))
+    leaf_goes : (facts : Facts) (l : Leaf) → ActFollows st (Knowing g facts) Same (leaf l) (leaf l)
+    leaf_goes facts l = act_more st (leaf l) (leaf l) (λ c e e' r. r.0) (λ v v' u. u) (leaf_follows st pl (having Any) l (any_act (leaf l)))
 
     -- new variables are bound alike, and what was known still is
     knowing_on : (facts : Facts) (cells cells' : List HeapCell) (bs : List Binding) (env env' : Env) → ((y : ℕ) (k : Known) → facts y ≡ Some k → times y (keys bs) ≡ 0) → Knowing g facts cells env env' → Knowing g facts cells' (with_vars bs env) (with_vars bs env')
@@ -127,9 +127,9 @@ module _ (g : Program) (vectorised : IsVectorised g) (procs : List Procedure) wh
         ap (λ o. and_then o only_word) (r y z.0 tt z.1) ∙ z.2
 
     -- the variables that are given the words of a unit hold what is known of them
-    unit_binds : (facts : Facts) (scope : Scope) (t : Target) (o : Act) (u : Val) → Inside facts scope → Once scope (target_vars t) → NoNodeTarget t → ValFormed g scope u → ((v : Value) → is_bound_well g t o v ≡ true → is_bound_well g t (unit u) v ≡ true)
+    unit_binds : (facts : Facts) (scope : Scope) (t : Target) (o : Act) (u : Val) → Inside facts scope → Once scope (target_vars t) → NoNodeTarget t → ValFormed g scope u → ((v : Value) → is_bound_well g t o v ≡ true → is_bound_well g t (leaf (unit u)) v ≡ true)
         → (cells cells' : List HeapCell) (env env' : Env) (bs : List Binding) {v v' : Value} → Same v v' → Knowing g facts cells env env' → value_of g env' u ≡ Some v' → is_bound_well g t o v ≡ true → bindings_of g t v ≡ Some bs
-        → BindsToo st (Knowing g (note_copies (word_vars t) (words_in u) facts)) t (unit u) env env' cells' v' bs
+        → BindsToo st (Knowing g (note_copies (word_vars t) (words_in u) facts)) t (leaf (unit u)) env env' cells' v' bs
     unit_binds facts scope t o u inside once none formed well cells cells' env env' bs (same {a = v}) r given seen e = record {
       seen = λ _. well v seen;
       bs' = bs;
@@ -149,20 +149,20 @@ module _ (g : Program) (vectorised : IsVectorised g) (procs : List Procedure) wh
     bind_goes : (facts : Facts) (scope : Scope) (t : Target) (o o' : Act) (b b' : Code) → Inside facts scope → Once scope (target_vars t) → NoNodeTarget t → ActFormed g scope o' → ((v : Value) → is_bound_well g t o v ≡ true → is_bound_well g t o' v ≡ true)
         → ActFollows st (Knowing g facts) Same o o' → CodeFollows st (Knowing g (known_after t o' facts)) Same b b' → CodeFollows st (Knowing g facts) Same (bind t o b) (bind t o' b')
     unfolding ActFormed
-    bind_goes facts scope t o (unit u) b b' inside once none formed well f k = bind_unit st {R = Knowing g facts} {R' = Knowing g (known_after t (unit u) facts)} t o u b b' f k
+    bind_goes facts scope t o (leaf (unit u)) b b' inside once none formed well f k = bind_unit st {R = Knowing g facts} {R' = Knowing g (known_after t (leaf (unit u)) facts)} t o u b b' f k
         (λ x v v' cells bs e given seen binds. unit_binds facts scope t o u inside once none formed well x.w.cells cells x.env x.env' bs e x.related given (seen refl) binds)
-    bind_goes facts scope t o (fetch a) b b' inside once none formed well f k = bind_plainly facts scope t o (fetch a) b b' inside once well f k
-    bind_goes facts scope t o (fetch_word a n) b b' inside once none formed well f k = bind_plainly facts scope t o (fetch_word a n) b b' inside once well f k
-    bind_goes facts scope t o (update a v) b b' inside once none formed well f k = bind_plainly facts scope t o (update a v) b b' inside once well f k
-    bind_goes facts scope t o (eval a) b b' inside once none formed well f k = bind_plainly facts scope t o (eval a) b b' inside once well f k
-    bind_goes facts scope t o (apply v a) b b' inside once none formed well f k = bind_plainly facts scope t o (apply v a) b b' inside once well f k
-    bind_goes facts scope t o (call p ws) b b' inside once none formed well f k = bind_plainly facts scope t o (call p ws) b b' inside once well f k
-    bind_goes facts scope t o (prim p a d) b b' inside once none formed well f k = bind_plainly facts scope t o (prim p a d) b b' inside once well f k
-    bind_goes facts scope t o read b b' inside once none formed well f k = bind_plainly facts scope t o read b b' inside once well f k
-    bind_goes facts scope t o (write a) b b' inside once none formed well f k = bind_plainly facts scope t o (write a) b b' inside once well f k
+    bind_goes facts scope t o (leaf (fetch a)) b b' inside once none formed well f k = bind_plainly facts scope t o (leaf (fetch a)) b b' inside once well f k
+    bind_goes facts scope t o (leaf (fetch_word a n)) b b' inside once none formed well f k = bind_plainly facts scope t o (leaf (fetch_word a n)) b b' inside once well f k
+    bind_goes facts scope t o (leaf (update a v)) b b' inside once none formed well f k = bind_plainly facts scope t o (leaf (update a v)) b b' inside once well f k
+    bind_goes facts scope t o (leaf (eval a)) b b' inside once none formed well f k = bind_plainly facts scope t o (leaf (eval a)) b b' inside once well f k
+    bind_goes facts scope t o (leaf (apply v a)) b b' inside once none formed well f k = bind_plainly facts scope t o (leaf (apply v a)) b b' inside once well f k
+    bind_goes facts scope t o (leaf (call p ws)) b b' inside once none formed well f k = bind_plainly facts scope t o (leaf (call p ws)) b b' inside once well f k
+    bind_goes facts scope t o (leaf (prim p a d)) b b' inside once none formed well f k = bind_plainly facts scope t o (leaf (prim p a d)) b b' inside once well f k
+    bind_goes facts scope t o (leaf read) b b' inside once none formed well f k = bind_plainly facts scope t o (leaf read) b b' inside once well f k
+    bind_goes facts scope t o (leaf (write a)) b b' inside once none formed well f k = bind_plainly facts scope t o (leaf (write a)) b b' inside once well f k
     bind_goes facts scope t o (case v as') b b' inside once none formed well f k = bind_plainly facts scope t o (case v as') b b' inside once well f k
     bind_goes facts scope t o (nested d) b b' inside once none formed well f k = bind_plainly facts scope t o (nested d) b b' inside once well f k
-    bind_goes facts scope t o fail b b' inside once none formed well f k = bind_plainly facts scope t o fail b b' inside once well f k
+    bind_goes facts scope t o (leaf fail) b b' inside once none formed well f k = bind_plainly facts scope t o (leaf fail) b b' inside once well f k
 
     stores_too : (facts : Facts) (scope : Scope) (cs : List Cell) → Inside facts scope → Once scope (cell_vars cs) → (x : Here (looked g procs) (Knowing g facts)) (y : Stored st (Knowing g facts) cs x) → StoresToo st (Knowing g facts) (Knowing g facts) cs cs x y.hs
     stores_too facts scope cs inside once x y =
@@ -186,17 +186,7 @@ module _ (g : Program) (vectorised : IsVectorised g) (procs : List Procedure) wh
           (arms_go v as' facts scope (record { inside_arms = q.inside_act; formed_val = q.formed_act.0; formed_arms = q.formed_act.1; vector_arms = q.vector_act.2; once_arms = q.once_act }))
       act_goes (nested b) facts scope q = nested_follows st b (simple_code facts b)
           (code_goes b facts scope (record { inside_code = q.inside_act; formed_code = q.formed_act; vector_code = q.vector_act.1; once_code = q.once_act }))
-      act_goes (unit v) facts scope q = leaf facts (unit v) tt
-      act_goes (fetch a) facts scope q = leaf facts (fetch a) tt
-      act_goes (fetch_word a i) facts scope q = leaf facts (fetch_word a i) tt
-      act_goes (update a v) facts scope q = leaf facts (update a v) tt
-      act_goes (eval a) facts scope q = leaf facts (eval a) tt
-      act_goes (apply v a) facts scope q = leaf facts (apply v a) tt
-      act_goes (call f ws) facts scope q = leaf facts (call f ws) tt
-      act_goes (prim f a b) facts scope q = leaf facts (prim f a b) tt
-      act_goes read facts scope q = leaf facts read tt
-      act_goes (write a) facts scope q = leaf facts (write a) tt
-      act_goes fail facts scope q = leaf facts fail tt
+      act_goes (leaf l) facts scope q = leaf_goes facts l
 
       code_goes : (b : Code) (facts : Facts) (scope : Scope) → GoodCode facts scope b → CodeFollows st (Knowing g facts) Same b (simple_code facts b)
       code_goes (end o) facts scope q = end_follows st o (simple_act facts o)

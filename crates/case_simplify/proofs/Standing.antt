@@ -2,7 +2,7 @@
 use Rattle.std.proofs.Common.{◌≡◌, ℕ, ◌+◌, ◌≤◌, List, [], ◌∷◌, ◌++◌, map, length, refl, ap, subst, arith}
 use Rattle.grin_syntax.specs.declared.program.Shape.{Shape}
 use Rattle.grin_syntax.specs.declared.program.Val.{Val}
-use Rattle.grin_syntax.specs.Tree.{Code, end, store, bind, Act, unit, fetch, fetch_word, update, eval, apply, call, prim, read, write, case, nested, fail, Arms, no_arm, arm, Procedure, Program, as_act}
+use Rattle.grin_syntax.specs.Tree.{Code, end, store, bind, Act, leaf, unit, fetch, fetch_word, update, eval, apply, call, prim, read, write, case, nested, fail, Arms, no_arm, arm, Procedure, Program, as_act}
 use Rattle.grin_syntax.specs.Binders.{numbers_of, target_vars, shape_vars, cell_vars, act_vars, code_vars, arms_vars, procs_vars, act_sites, code_sites, arms_sites, procs_sites}
 use Rattle.grin_syntax.specs.Formed.{AllOf, Scope, with_word_variables, with_target, params_scope, ActFormed, CodeFormed, ArmsFormed, ProcedureFormed}
 use Rattle.grin_syntax.specs.SameOutside.{names_of}
@@ -36,7 +36,7 @@ module _ (y : ℕ) where
   vars_block n (store cs b) h = h
   vars_block n (bind t o b) h = h
 
-  vars_fail : (n : ℕ) → times y (code_vars (end fail)) ≤ n
+  vars_fail : (n : ℕ) → times y (code_vars (end (leaf fail))) ≤ n
   unfolding act_vars
   vars_fail n = omega arith
 
@@ -54,17 +54,7 @@ module _ (y : ℕ) where
         let n : ℕ = times y (arms_vars as') in
         case_has (λ o. times y (act_vars o) ≤ n) (λ b. times y (code_vars b) ≤ n) (λ bs. times y (arms_vars bs) ≤ n) (vars_block n) (vars_fail n) (vars_split n) facts v (simple_arms facts v as') (arms_vars_fewer v as' facts) (arms_vars_fewer v as' facts)
     act_vars_fewer (nested b) facts = code_vars_fewer b facts
-    act_vars_fewer (unit v) facts = omega arith
-    act_vars_fewer (fetch a) facts = omega arith
-    act_vars_fewer (fetch_word a i) facts = omega arith
-    act_vars_fewer (update a v) facts = omega arith
-    act_vars_fewer (eval a) facts = omega arith
-    act_vars_fewer (apply v a) facts = omega arith
-    act_vars_fewer (call f ws) facts = omega arith
-    act_vars_fewer (prim f a b) facts = omega arith
-    act_vars_fewer read facts = omega arith
-    act_vars_fewer (write a) facts = omega arith
-    act_vars_fewer fail facts = omega arith
+    act_vars_fewer (leaf l) facts = omega arith
 
     code_vars_fewer : (b : Code) (facts : Facts) → times y (code_vars (simple_code facts b)) ≤ times y (code_vars b)
     code_vars_fewer (end o) facts = act_vars_fewer o facts
@@ -88,7 +78,7 @@ module _ (y : ℕ) where
   sites_block n (store cs b) h = h
   sites_block n (bind t o b) h = h
 
-  sites_fail : (n : ℕ) → times y (code_sites (end fail)) ≤ n
+  sites_fail : (n : ℕ) → times y (code_sites (end (leaf fail))) ≤ n
   unfolding act_sites
   sites_fail n = omega arith
 
@@ -104,17 +94,7 @@ module _ (y : ℕ) where
         let n : ℕ = times y (arms_sites as') in
         case_has (λ o. times y (act_sites o) ≤ n) (λ b. times y (code_sites b) ≤ n) (λ bs. times y (arms_sites bs) ≤ n) (sites_block n) (sites_fail n) (sites_split n) facts v (simple_arms facts v as') (arms_sites_fewer v as' facts) (arms_sites_fewer v as' facts)
     act_sites_fewer (nested b) facts = code_sites_fewer b facts
-    act_sites_fewer (unit v) facts = omega arith
-    act_sites_fewer (fetch a) facts = omega arith
-    act_sites_fewer (fetch_word a i) facts = omega arith
-    act_sites_fewer (update a v) facts = omega arith
-    act_sites_fewer (eval a) facts = omega arith
-    act_sites_fewer (apply v a) facts = omega arith
-    act_sites_fewer (call f ws) facts = omega arith
-    act_sites_fewer (prim f a b) facts = omega arith
-    act_sites_fewer read facts = omega arith
-    act_sites_fewer (write a) facts = omega arith
-    act_sites_fewer fail facts = omega arith
+    act_sites_fewer (leaf l) facts = omega arith
 
     code_sites_fewer : (b : Code) (facts : Facts) → times y (code_sites (simple_code facts b)) ≤ times y (code_sites b)
     code_sites_fewer (end o) facts = act_sites_fewer o facts
@@ -132,14 +112,14 @@ module _ (y : ℕ) where
 -- ---- each operation
 
 module _ (K : PieceKind)
-    (of_nested : (b : Code) → K.operation (nested b)) (of_case : (v : Val) (as' : Arms) → K.operation (case v as')) (of_fail : K.operation fail) where
+    (of_nested : (b : Code) → K.operation (nested b)) (of_case : (v : Val) (as' : Arms) → K.operation (case v as')) (of_fail : K.operation (leaf fail)) where
   each_block : (b : Code) → EachCode K b → EachAct K (as_act b)
   unfolding EachAct
   each_block (end o) h = h
   each_block (store cs b) h = (of_nested (store cs b), h)
   each_block (bind t o b) h = (of_nested (bind t o b), h)
 
-  each_fail : EachCode K (end fail)
+  each_fail : EachCode K (end (leaf fail))
   unfolding EachAct
   each_fail = of_fail
 
@@ -155,17 +135,7 @@ module _ (K : PieceKind)
         let k : EachArms K (simple_arms facts v as') = arms_each v as' facts h.2 in
         case_has (EachAct K) (EachCode K) (EachArms K) each_block each_fail each_split facts v (simple_arms facts v as') k (of_case v (simple_arms facts v as'), h.1, k)
     act_each (nested b) facts h = (of_nested (simple_code facts b), code_each b facts h.1)
-    act_each (unit v) facts h = h
-    act_each (fetch a) facts h = h
-    act_each (fetch_word a i) facts h = h
-    act_each (update a v) facts h = h
-    act_each (eval a) facts h = h
-    act_each (apply v a) facts h = h
-    act_each (call f ws) facts h = h
-    act_each (prim f a b) facts h = h
-    act_each read facts h = h
-    act_each (write a) facts h = h
-    act_each fail facts h = h
+    act_each (leaf l) facts h = h
 
     code_each : (b : Code) (facts : Facts) → EachCode K b → EachCode K (simple_code facts b)
     code_each (end o) facts h = act_each o facts h
@@ -189,7 +159,7 @@ module _ (node_width most : ℕ) where
   narrow_block (store cs b) h = h
   narrow_block (bind t o b) h = h
 
-  narrow_fail : NarrowCode node_width most (end fail)
+  narrow_fail : NarrowCode node_width most (end (leaf fail))
   unfolding NarrowAct
   narrow_fail = tt
 
@@ -203,17 +173,7 @@ module _ (node_width most : ℕ) where
     act_narrow : (o : Act) (facts : Facts) → NarrowAct node_width most o → NarrowAct node_width most (simple_act facts o)
     act_narrow (case v as') facts h = case_has (NarrowAct node_width most) (NarrowCode node_width most) (NarrowArms node_width most) narrow_block narrow_fail narrow_split facts v (simple_arms facts v as') (arms_narrow v as' facts h) (arms_narrow v as' facts h)
     act_narrow (nested b) facts h = code_narrow b facts h
-    act_narrow (unit v) facts h = h
-    act_narrow (fetch a) facts h = h
-    act_narrow (fetch_word a i) facts h = h
-    act_narrow (update a v) facts h = h
-    act_narrow (eval a) facts h = h
-    act_narrow (apply v a) facts h = h
-    act_narrow (call f ws) facts h = h
-    act_narrow (prim f a b) facts h = h
-    act_narrow read facts h = h
-    act_narrow (write a) facts h = h
-    act_narrow fail facts h = h
+    act_narrow (leaf l) facts h = h
 
     code_narrow : (b : Code) (facts : Facts) → NarrowCode node_width most b → NarrowCode node_width most (simple_code facts b)
     code_narrow (end o) facts h = act_narrow o facts h
@@ -257,7 +217,7 @@ module _ (p : Program) (procs : List Procedure) (same_count : length procs ≡ l
   formed_block scope (store cs b) h = h
   formed_block scope (bind t o b) h = h
 
-  formed_fail : (scope : Scope) → CodeFormed after scope (end fail)
+  formed_fail : (scope : Scope) → CodeFormed after scope (end (leaf fail))
   unfolding ActFormed
   formed_fail scope = tt
 
@@ -275,17 +235,17 @@ module _ (p : Program) (procs : List Procedure) (same_count : length procs ≡ l
         case_has (ActFormed after scope) (CodeFormed after scope) (λ bs. ArmsFormed after scope bs × VectorArms bs) (formed_block scope) (formed_fail scope) (formed_split scope) facts v (simple_arms facts v as')
         (k, arms_each vectorised_kind (λ b. tt) (λ v as'. tt) tt v as' facts n.2) (h.0, k)
     act_formed (nested b) facts scope n h = code_formed b facts scope n.1 h
-    act_formed (unit v) facts scope n h = h
-    act_formed (fetch a) facts scope n h = h
-    act_formed (fetch_word a i) facts scope n h = h
-    act_formed (update a v) facts scope n h = h
-    act_formed (eval a) facts scope n h = h
-    act_formed (apply v a) facts scope n h = h
-    act_formed (call f ws) facts scope n h = (known_again p procs same_count f h.0, h.1)
-    act_formed (prim f a b) facts scope n h = h
-    act_formed read facts scope n h = h
-    act_formed (write a) facts scope n h = h
-    act_formed fail facts scope n h = h
+    act_formed (leaf (unit v)) facts scope n h = h
+    act_formed (leaf (fetch a)) facts scope n h = h
+    act_formed (leaf (fetch_word a i)) facts scope n h = h
+    act_formed (leaf (update a v)) facts scope n h = h
+    act_formed (leaf (eval a)) facts scope n h = h
+    act_formed (leaf (apply v a)) facts scope n h = h
+    act_formed (leaf (call f ws)) facts scope n h = (known_again p procs same_count f h.0, h.1)
+    act_formed (leaf (prim f a b)) facts scope n h = h
+    act_formed (leaf read) facts scope n h = h
+    act_formed (leaf (write a)) facts scope n h = h
+    act_formed (leaf fail) facts scope n h = h
 
     code_formed : (b : Code) (facts : Facts) (scope : Scope) → VectorCode b → CodeFormed p scope b → CodeFormed after scope (simple_code facts b)
     code_formed (end o) facts scope n h = act_formed o facts scope n h

@@ -9,7 +9,7 @@ use Rattle.grin_syntax.specs.declared.program.Word as W
 use Rattle.grin_syntax.specs.declared.program.Word.TheVariants.{Lit, Var, Global, TagWord}
 use Rattle.grin_syntax.specs.declared.program.Val as V
 use Rattle.grin_syntax.specs.declared.program.Val.TheVariants.{NodeVar, Node as NodeVal, Vector, One}
-use Rattle.grin_syntax.specs.Tree.{Code, end, store, bind, Act, unit, fetch, fetch_word, update, eval, apply, call, prim, read, write, case, nested, fail, Arms, no_arm, arm, Procedure, Program, as_act}
+use Rattle.grin_syntax.specs.Tree.{Code, end, store, bind, Act, leaf, unit, fetch, fetch_word, update, eval, apply, call, prim, read, write, case, nested, fail, Arms, no_arm, arm, Procedure, Program, as_act}
 use Rattle.grin_syntax.specs.Binders.{shape_vars}
 use Rattle.grin_meaning.specs.Values.{Value, Env, HeapCell, Binding, with_vars, fits, fit_of, value_of}
 use Rattle.grin_meaning.specs.Run.{Calls, act_by}
@@ -82,20 +82,20 @@ same_val_is (One a) (NodeVar y) h = true_not_false (sym h)
 same_val_is (One a) (NodeVal u us) h = true_not_false (sym h)
 same_val_is (One a) (Vector us) h = true_not_false (sym h)
 
-pub value_given_is : (b : Code) (u : V.Val) → returned_value b ≡ Some u → b ≡ end (unit u)
-value_given_is (end (unit w)) u e = ap (λ x. end (unit x)) (some_is e)
-value_given_is (end (fetch a)) u e = none_is_some e
-value_given_is (end (fetch_word a i)) u e = none_is_some e
-value_given_is (end (update a v)) u e = none_is_some e
-value_given_is (end (eval a)) u e = none_is_some e
-value_given_is (end (apply v a)) u e = none_is_some e
-value_given_is (end (call f ws)) u e = none_is_some e
-value_given_is (end (prim f a b)) u e = none_is_some e
-value_given_is (end read) u e = none_is_some e
-value_given_is (end (write a)) u e = none_is_some e
+pub value_given_is : (b : Code) (u : V.Val) → returned_value b ≡ Some u → b ≡ end (leaf (unit u))
+value_given_is (end (leaf (unit w))) u e = ap (λ x. end (leaf (unit x))) (some_is e)
+value_given_is (end (leaf (fetch a))) u e = none_is_some e
+value_given_is (end (leaf (fetch_word a i))) u e = none_is_some e
+value_given_is (end (leaf (update a v))) u e = none_is_some e
+value_given_is (end (leaf (eval a))) u e = none_is_some e
+value_given_is (end (leaf (apply v a))) u e = none_is_some e
+value_given_is (end (leaf (call f ws))) u e = none_is_some e
+value_given_is (end (leaf (prim f a b))) u e = none_is_some e
+value_given_is (end (leaf read)) u e = none_is_some e
+value_given_is (end (leaf (write a))) u e = none_is_some e
 value_given_is (end (case v as')) u e = none_is_some e
 value_given_is (end (nested b)) u e = none_is_some e
-value_given_is (end fail) u e = none_is_some e
+value_given_is (end (leaf fail)) u e = none_is_some e
 value_given_is (store cs b) u e = none_is_some e
 value_given_is (bind t o b) u e = none_is_some e
 
@@ -103,10 +103,10 @@ pub some_true : {A : Type 0} (o : Option A) (f : A → Bool) → is_some_and o f
 some_true None f h = true_not_false (sym h)
 some_true (Some a) f h = (a, refl, h)
 
-pub gives_val_is : (u : V.Val) (b : Code) → returns_val u b ≡ true → b ≡ end (unit u)
+pub gives_val_is : (u : V.Val) (b : Code) → returns_val u b ≡ true → b ≡ end (leaf (unit u))
 gives_val_is u b h =
     let z : (w : V.Val) × (returned_value b ≡ Some w) × (same_val u w ≡ true) = some_true (returned_value b) (same_val u) h in
-    value_given_is b z.0 z.1 ∙ ap (λ x. end (unit x)) (sym (same_val_is u z.0 z.2))
+    value_given_is b z.0 z.1 ∙ ap (λ x. end (leaf (unit x))) (sym (same_val_is u z.0 z.2))
 
 -- ---- both programs
 
@@ -181,13 +181,13 @@ module _ (g : Program) (procs : List Procedure) (c c' : Calls) (cb : CallsBack A
       go later Open r e = none_is_some e
 
   -- a case that becomes a unit
-  gives_one : (facts : Facts) (v u : V.Val) (as' : Arms) → ArmsGo facts v as' → all_arms_return u (simple_arms facts v as') ≡ true → ArmsBecome it (OnOne facts v) Same as' (end (unit u))
+  gives_one : (facts : Facts) (v u : V.Val) (as' : Arms) → ArmsGo facts v as' → all_arms_return u (simple_arms facts v as') ≡ true → ArmsBecome it (OnOne facts v) Same as' (end (leaf (unit u)))
   unfolding simple_act
-  gives_one facts v u no_arm q e = none_taken it (end (unit u))
+  gives_one facts v u no_arm q e = none_taken it (end (leaf (unit u)))
   gives_one facts v u (arm s b as') q e =
       let n : Code = simple_code (facts_in_alternative v s facts) b in
-      let here : n ≡ end (unit u) = gives_val_is u n (and_left (returns_val u n) (all_arms_return u (simple_arms facts v as')) e) in
-      arm_taken it {U = OnOne facts v} {U' = OnOne facts v} {R' = Knowing g (facts_in_alternative v s facts)} s b as' (end (unit u)) (subst (CodeFollows it (Knowing g (facts_in_alternative v s facts)) Same b) here q.1)
+      let here : n ≡ end (leaf (unit u)) = gives_val_is u n (and_left (returns_val u n) (all_arms_return u (simple_arms facts v as')) e) in
+      arm_taken it {U = OnOne facts v} {U' = OnOne facts v} {R' = Knowing g (facts_in_alternative v s facts)} s b as' (end (leaf (unit u))) (subst (CodeFollows it (Knowing g (facts_in_alternative v s facts)) Same b) here q.1)
       (gives_one facts v u as' q.2 (and_right (returns_val u n) (all_arms_return u (simple_arms facts v as')) e))
       (λ y x bs f known. fits_knowing facts v s y x.w.cells x.env x.env' bs q.0 x.related f)
       (λ y x f. x.related)
@@ -201,7 +201,7 @@ module _ (g : Program) (procs : List Procedure) (c c' : Calls) (cb : CallsBack A
   becomes : (facts : Facts) (v : V.Val) (as' : Arms) (b : Code) → ArmsBecome it (OnOne facts v) Same as' b → ActFollows it (Knowing g facts) Same (case v as') (as_act b)
   becomes facts v as' b f = as_act_follows (case v as') b (case_becomes it {R = Knowing g facts} {U = OnOne facts v} v as' b f (λ x y e. (x.related, e)))
 
-  first_is : (v : V.Val) (as' : Arms) → returns_scrutinee v as' ≡ true → (u : V.Val) × (first_act as' ≡ as_act (end (unit u))) × (all_arms_return u as' ≡ true)
+  first_is : (v : V.Val) (as' : Arms) → returns_scrutinee v as' ≡ true → (u : V.Val) × (first_act as' ≡ as_act (end (leaf (unit u)))) × (all_arms_return u as' ≡ true)
   first_is v no_arm h = true_not_false (sym h)
   first_is v (arm s b as') h =
       let z : (u : V.Val) × (returned_value b ≡ Some u) × ((is_prefix_val u v && all_arms_return u (arm s b as')) ≡ true) = some_true (returned_value b) (λ u. is_prefix_val u v && all_arms_return u (arm s b as')) h in
@@ -212,8 +212,8 @@ module _ (g : Program) (procs : List Procedure) (c c' : Calls) (cb : CallsBack A
     where
       go : (b : Bool) → returns_scrutinee v (simple_arms facts v as') ≡ b → ActFollows it (Knowing g facts) Same (case v as') (cond b (first_act (simple_arms facts v as')) (case v (simple_arms facts v as')))
       go true e =
-          let z : (u : V.Val) × (first_act (simple_arms facts v as') ≡ as_act (end (unit u))) × (all_arms_return u (simple_arms facts v as') ≡ true) = first_is v (simple_arms facts v as') e in
-          subst (ActFollows it (Knowing g facts) Same (case v as')) (sym z.1) (becomes facts v as' (end (unit z.0)) (gives_one facts v z.0 as' q z.2))
+          let z : (u : V.Val) × (first_act (simple_arms facts v as') ≡ as_act (end (leaf (unit u)))) × (all_arms_return u (simple_arms facts v as') ≡ true) = first_is v (simple_arms facts v as') e in
+          subst (ActFollows it (Knowing g facts) Same (case v as')) (sym z.1) (becomes facts v as' (end (leaf (unit z.0))) (gives_one facts v z.0 as' q z.2))
       go false e = case_same facts v as' q
 
   pub case_goes : (facts : Facts) (v : V.Val) (as' : Arms) → ArmsGo facts v as' → ActFollows it (Knowing g facts) Same (case v as') (simple_case facts v (simple_arms facts v as'))

@@ -4,7 +4,7 @@ use Rattle.grin_syntax.specs.declared.program.TagId.{TagId}
 use Rattle.grin_syntax.specs.declared.program.Val as V
 use Rattle.grin_syntax.specs.declared.program.Shape.{Shape}
 use Rattle.grin_syntax.specs.declared.program.Shape.TheVariants as shape
-use Rattle.grin_syntax.specs.Tree.{Code, end, fail, Arms, no_arm, arm}
+use Rattle.grin_syntax.specs.Tree.{Code, end, leaf, fail, Arms, no_arm, arm}
 use Rattle.numbers.specs.Numbers.{same_number}
 pub use Rattle.case_simplify.specs.declared.choice.Verdict.{Verdict}
 pub use Rattle.case_simplify.specs.declared.choice.Verdict.TheVariants.{Takes, Passes, Open}
@@ -29,7 +29,7 @@ by_verdict Open b later = None
 -- The block of the alternative that is taken. It is None where an integer pattern leaves that
 -- open; a case of which no alternative is taken never runs.
 abbrev pub selected_block : TagId → Option Known → Arms → Option Code
-selected_block t second no_arm = Some (end fail)
+selected_block t second no_arm = Some (end (leaf fail))
 selected_block t second (arm s b as') =
     by_verdict (verdict t second s) b (selected_block t second as')
 

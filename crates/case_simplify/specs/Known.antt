@@ -10,7 +10,7 @@ use Rattle.grin_syntax.specs.declared.program.Target.TheVariants as to
 use Rattle.grin_syntax.specs.declared.program.Shape.{Shape}
 use Rattle.grin_syntax.specs.declared.program.Shape.TheVariants as shape
 use Rattle.grin_syntax.specs.Tags.{tag_id}
-use Rattle.grin_syntax.specs.Tree.{Act, unit}
+use Rattle.grin_syntax.specs.Tree.{Act, leaf, unit}
 use Rattle.grin_meaning.specs.Values.{and_then}
 pub use Rattle.case_simplify.specs.declared.known.Known.{Known}
 pub use Rattle.case_simplify.specs.declared.known.Known.TheVariants.{Tag, Number}
@@ -95,7 +95,7 @@ word_vars (to.Vector xs) = xs
 -- What is known after a statement: of the words that a unit gives, and so of the variables that are
 -- given them.
 abbrev pub known_after : Target → Act → Facts → Facts
-known_after t (unit v) facts = note_copies (word_vars t) (words_in v) facts
+known_after t (leaf (unit v)) facts = note_copies (word_vars t) (words_in v) facts
 known_after t _ facts = facts
 
 -- ---- cases

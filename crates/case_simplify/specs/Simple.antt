@@ -6,7 +6,7 @@ use Rattle.grin_syntax.specs.declared.program.Word.TheVariants.{Lit, Var, Global
 use Rattle.grin_syntax.specs.declared.program.Val as V
 use Rattle.grin_syntax.specs.declared.program.Val.TheVariants.{NodeVar, Node, Vector, One}
 use Rattle.grin_syntax.specs.declared.program.Shape.{Shape}
-use Rattle.grin_syntax.specs.Tree.{Code, end, store, bind, Act, unit, fetch, fetch_word, update, eval, apply, call, prim, read, write, case, nested, fail, Arms, no_arm, arm, Program, as_act}
+use Rattle.grin_syntax.specs.Tree.{Code, end, store, bind, Act, leaf, unit, fetch, fetch_word, update, eval, apply, call, prim, read, write, case, nested, fail, Arms, no_arm, arm, Program, as_act}
 use Rattle.grin_meaning.specs.Checks.{is_some_and}
 use Rattle.grin_meaning.specs.Rewritten.{rewritten}
 use Rattle.numbers.specs.Numbers.{same_number}
@@ -45,7 +45,7 @@ is_prefix_val u v = same_val u v
 
 -- the value that a block only gives
 abbrev pub returned_value : Code → Option V.Val
-returned_value (end (unit u)) = Some u
+returned_value (end (leaf (unit u))) = Some u
 returned_value _ = None
 
 abbrev pub returns_val : V.Val → Code → Bool
@@ -64,7 +64,7 @@ returns_scrutinee v (arm s b as') =
 -- ---- the pass
 
 abbrev pub first_act : Arms → Act
-first_act no_arm = fail
+first_act no_arm = leaf fail
 first_act (arm s b as') = as_act b
 
 abbrev pub unit_or_case : V.Val → Arms → Act
@@ -80,19 +80,9 @@ simple_case facts v as' = block_or_case v as' (selected_block_for_value facts v 
 
 unfoldable mutual
   pub simple_act : Facts → Act → Act
-  simple_act facts (unit v) = unit v
-  simple_act facts (fetch a) = fetch a
-  simple_act facts (fetch_word a i) = fetch_word a i
-  simple_act facts (update a v) = update a v
-  simple_act facts (eval a) = eval a
-  simple_act facts (apply v a) = apply v a
-  simple_act facts (call f ws) = call f ws
-  simple_act facts (prim p a b) = prim p a b
-  simple_act facts read = read
-  simple_act facts (write a) = write a
+  simple_act facts (leaf l) = leaf l
   simple_act facts (case v as') = simple_case facts v (simple_arms facts v as')
   simple_act facts (nested b) = nested (simple_code facts b)
-  simple_act facts fail = fail
 
   pub simple_code : Facts → Code → Code
   simple_code facts (end o) = end (simple_act facts o)

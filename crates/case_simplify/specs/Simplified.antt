@@ -5,7 +5,7 @@ use Rattle.grin_syntax.specs.declared.program.TagId.{TagId}
 use Rattle.grin_syntax.specs.declared.program.Word as W
 use Rattle.grin_syntax.specs.declared.program.Val as V
 use Rattle.grin_syntax.specs.declared.program.Val.TheVariants.{Vector}
-use Rattle.grin_syntax.specs.Tree.{Code, end, store, bind, Act, unit, case, nested, Arms, no_arm, arm, Program}
+use Rattle.grin_syntax.specs.Tree.{Code, end, store, bind, Act, leaf, unit, case, nested, Arms, no_arm, arm, Program}
 use Rattle.grin_syntax.specs.Formed.{AllOf}
 use Rattle.pass_ground.specs.Vectors.{StaysVectorForm}
 use Rattle.case_simplify.specs.Known.{Known, Tag, Facts, nothing_known, known_first_word, known_second_word, known_after, facts_in_alternative}
@@ -38,7 +38,7 @@ IsPrefixOf u v = u ≡ v
 
 abbrev pub EachArmReturns : V.Val → Arms → Type 0
 EachArmReturns u no_arm = Unit {0}
-EachArmReturns u (arm s b as') = (b ≡ end (unit u)) × EachArmReturns u as'
+EachArmReturns u (arm s b as') = (b ≡ end (leaf (unit u))) × EachArmReturns u as'
 
 -- there is an alternative, and each one gives back v or the same first words of it
 abbrev pub IsIdentity : V.Val → Arms → Type 0

@@ -9,7 +9,7 @@ use Rattle.grin_syntax.specs.declared.program.Target.TheVariants as to
 use Rattle.grin_syntax.specs.declared.program.Word as W
 use Rattle.grin_syntax.specs.declared.program.Word.TheVariants.{Lit, Var, Global, TagWord}
 use Rattle.grin_syntax.specs.declared.program.Val.TheVariants.{NodeVar, Node, Vector, One}
-use Rattle.grin_syntax.specs.Tree.{Code, end, store, bind, Act, unit, fetch, fetch_word, update, eval, apply, call, prim, read, write, case, nested, fail, Arms, no_arm, arm, Program}
+use Rattle.grin_syntax.specs.Tree.{Code, end, store, bind, Act, leaf, unit, fetch, fetch_word, update, eval, apply, call, prim, read, write, case, nested, fail, Arms, no_arm, arm, Program}
 use Rattle.grin_syntax.specs.Binders.{target_vars, shape_vars, cell_vars, act_vars, code_vars, arms_vars}
 use Rattle.grin_syntax.specs.Formed.{Scope, InScope, with_word_variables, with_target, WordFormed}
 use Rattle.grin_meaning.specs.Ready.{NoNodeTarget}
@@ -62,17 +62,7 @@ mutual
   pub act_keeps : (o : Act) (k : Table) (y : ℕ) → times y (act_vars o) ≡ 0 → entry (noted_act o k) y ≡ entry k y
   act_keeps (case v as') k y h = arms_keep as' k y h
   act_keeps (nested b) k y h = code_keeps b k y h
-  act_keeps (unit v) k y h = refl
-  act_keeps (fetch a) k y h = refl
-  act_keeps (fetch_word a i) k y h = refl
-  act_keeps (update a v) k y h = refl
-  act_keeps (eval a) k y h = refl
-  act_keeps (apply v a) k y h = refl
-  act_keeps (call f ws) k y h = refl
-  act_keeps (prim p a b) k y h = refl
-  act_keeps read k y h = refl
-  act_keeps (write a) k y h = refl
-  act_keeps fail k y h = refl
+  act_keeps (leaf l) k y h = refl
 
   pub code_keeps : (b : Code) (k : Table) (y : ℕ) → times y (code_vars b) ≡ 0 → entry (noted_code b k) y ≡ entry k y
   code_keeps (end o) k y h = act_keeps o k y h

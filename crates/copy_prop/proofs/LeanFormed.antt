@@ -12,7 +12,7 @@ use Rattle.grin_syntax.specs.declared.program.Word as W
 use Rattle.grin_syntax.specs.declared.program.Word.TheVariants.{Lit, Var, Global, TagWord}
 use Rattle.grin_syntax.specs.declared.program.Val as V
 use Rattle.grin_syntax.specs.declared.program.Val.TheVariants.{NodeVar, Node, Vector, One}
-use Rattle.grin_syntax.specs.Tree.{Code, end, store, bind, Act, unit, fetch, fetch_word, update, eval, apply, call, prim, read, write, case, nested, fail, Arms, no_arm, arm, Procedure, Program}
+use Rattle.grin_syntax.specs.Tree.{Code, end, store, bind, Act, leaf, unit, fetch, fetch_word, update, eval, apply, call, prim, read, write, case, nested, fail, Arms, no_arm, arm, Procedure, Program}
 use Rattle.grin_syntax.specs.Binders.{numbers_of, target_vars, shape_vars, cell_vars, act_vars, code_vars, arms_vars, procs_vars, act_sites, code_sites, arms_sites, procs_sites}
 use Rattle.grin_syntax.specs.Formed.{AllOf, Scope, InScope, with_word_variables, with_target, params_scope, WordFormed, ValFormed, CellFormed, ActFormed, CodeFormed, ArmsFormed, ProcedureFormed, Formed}
 use Rattle.grin_syntax.specs.SameOutside.{names_of, DifferOnlyInBodies}
@@ -45,17 +45,7 @@ module _ (K : PieceKind) (op_stays : (o : Act) → K.operation o → K.operation
     act_each : (o : Act) → EachAct K o → EachAct K (without_idle_act o)
     act_each (case v as') h = (op_stays (case v as') h.0, h.1, arms_each as' h.2)
     act_each (nested b) h = (op_stays (nested b) h.0, code_each b h.1)
-    act_each (unit v) h = h
-    act_each (update a v) h = h
-    act_each (apply v a) h = h
-    act_each (fetch a) h = h
-    act_each (fetch_word a i) h = h
-    act_each (eval a) h = h
-    act_each (call f ws) h = h
-    act_each (prim p a b) h = h
-    act_each read h = h
-    act_each (write a) h = h
-    act_each fail h = h
+    act_each (leaf l) h = h
 
     code_each : (b : Code) → EachCode K b → EachCode K (without_idle_code b)
     code_each (end o) h = act_each o h
@@ -72,35 +62,35 @@ module _ (K : PieceKind) (op_stays : (o : Act) → K.operation o → K.operation
 
 pub inlined_stays : (o : Act) → Inlined o → Inlined (without_idle_act o)
 unfolding without_idle_act
-inlined_stays (eval a) h = h
-inlined_stays (apply v a) h = h
-inlined_stays (unit v) h = tt
-inlined_stays (fetch a) h = tt
-inlined_stays (fetch_word a i) h = tt
-inlined_stays (update a v) h = tt
-inlined_stays (call f ws) h = tt
-inlined_stays (prim p a b) h = tt
-inlined_stays read h = tt
-inlined_stays (write a) h = tt
+inlined_stays (leaf (eval a)) h = h
+inlined_stays (leaf (apply v a)) h = h
+inlined_stays (leaf (unit v)) h = tt
+inlined_stays (leaf (fetch a)) h = tt
+inlined_stays (leaf (fetch_word a i)) h = tt
+inlined_stays (leaf (update a v)) h = tt
+inlined_stays (leaf (call f ws)) h = tt
+inlined_stays (leaf (prim p a b)) h = tt
+inlined_stays (leaf read) h = tt
+inlined_stays (leaf (write a)) h = tt
 inlined_stays (case v as') h = tt
 inlined_stays (nested b) h = tt
-inlined_stays fail h = tt
+inlined_stays (leaf fail) h = tt
 
 pub by_words_stays : (o : Act) → IsNotNodeFetch o → IsNotNodeFetch (without_idle_act o)
 unfolding without_idle_act
-by_words_stays (fetch a) h = h
-by_words_stays (unit v) h = tt
-by_words_stays (fetch_word a i) h = tt
-by_words_stays (update a v) h = tt
-by_words_stays (eval a) h = tt
-by_words_stays (apply v a) h = tt
-by_words_stays (call f ws) h = tt
-by_words_stays (prim p a b) h = tt
-by_words_stays read h = tt
-by_words_stays (write a) h = tt
+by_words_stays (leaf (fetch a)) h = h
+by_words_stays (leaf (unit v)) h = tt
+by_words_stays (leaf (fetch_word a i)) h = tt
+by_words_stays (leaf (update a v)) h = tt
+by_words_stays (leaf (eval a)) h = tt
+by_words_stays (leaf (apply v a)) h = tt
+by_words_stays (leaf (call f ws)) h = tt
+by_words_stays (leaf (prim p a b)) h = tt
+by_words_stays (leaf read) h = tt
+by_words_stays (leaf (write a)) h = tt
 by_words_stays (case v as') h = tt
 by_words_stays (nested b) h = tt
-by_words_stays fail h = tt
+by_words_stays (leaf fail) h = tt
 
 module _ (w most : ℕ) where
   bind_narrow : (t : Target) (o' : Act) (c : Code) (q : Bool) → NarrowCode w most c → NarrowCode w most (unless q (bind t o') c)
@@ -114,17 +104,7 @@ module _ (w most : ℕ) where
     act_narrow : (o : Act) → NarrowAct w most o → NarrowAct w most (without_idle_act o)
     act_narrow (case v as') h = arms_narrow as' h
     act_narrow (nested b) h = code_narrow b h
-    act_narrow (unit v) h = h
-    act_narrow (fetch a) h = h
-    act_narrow (fetch_word a i) h = h
-    act_narrow (update a v) h = h
-    act_narrow (eval a) h = h
-    act_narrow (apply v a) h = h
-    act_narrow (call f ws) h = h
-    act_narrow (prim p a b) h = h
-    act_narrow read h = h
-    act_narrow (write a) h = h
-    act_narrow fail h = h
+    act_narrow (leaf l) h = h
 
     code_narrow : (b : Code) → NarrowCode w most b → NarrowCode w most (without_idle_code b)
     code_narrow (end o) h = act_narrow o h
@@ -184,19 +164,19 @@ module _ (x : ℕ) where
     unfolding used_in_act ActOk
 
     act_absent : (o : Act) → ActOk Other o → is_among x (used_in_act o) ≡ false
-    act_absent (unit v) h = val_absent v h
-    act_absent (fetch a) h = word_absent a h
-    act_absent (fetch_word a i) h = word_absent a h
-    act_absent (update a v) h = absent_both x (used_in_word a) (used_in_val v) (word_absent a h.0) (val_absent v h.1)
-    act_absent (eval a) h = word_absent a h
-    act_absent (apply v a) h = absent_both x (used_in_val v) (used_in_word a) (val_absent v h.0) (word_absent a h.1)
-    act_absent (call f ws) h = words_absent ws h
-    act_absent (prim p a b) h = absent_both x (used_in_word a) (used_in_word b) (word_absent a h.0) (word_absent b h.1)
-    act_absent read h = refl
-    act_absent (write a) h = word_absent a h
+    act_absent (leaf (unit v)) h = val_absent v h
+    act_absent (leaf (fetch a)) h = word_absent a h
+    act_absent (leaf (fetch_word a i)) h = word_absent a h
+    act_absent (leaf (update a v)) h = absent_both x (used_in_word a) (used_in_val v) (word_absent a h.0) (val_absent v h.1)
+    act_absent (leaf (eval a)) h = word_absent a h
+    act_absent (leaf (apply v a)) h = absent_both x (used_in_val v) (used_in_word a) (val_absent v h.0) (word_absent a h.1)
+    act_absent (leaf (call f ws)) h = words_absent ws h
+    act_absent (leaf (prim p a b)) h = absent_both x (used_in_word a) (used_in_word b) (word_absent a h.0) (word_absent b h.1)
+    act_absent (leaf read) h = refl
+    act_absent (leaf (write a)) h = word_absent a h
     act_absent (case v as') h = absent_both x (used_in_val v) (used_in_arms as') (val_absent v h.0) (arms_absent as' h.1)
     act_absent (nested b) h = code_absent b h
-    act_absent fail h = refl
+    act_absent (leaf fail) h = refl
 
     pub code_absent : (b : Code) → CodeOk Other b → is_among x (used_in_code b) ≡ false
     code_absent (end o) h = act_absent o h
@@ -213,35 +193,25 @@ none_used b (x ∷ xs) h = λ i. not (code_absent x b h.0 i) && none_used b xs h
 
 was_copy : (t : Target) (o : Act) → IsCopy t (without_idle_act o) → IsCopy t o
 unfolding without_idle_act
-was_copy t (unit v) h = h
-was_copy t (fetch a) h = h
-was_copy t (fetch_word a i) h = h
-was_copy t (update a v) h = h
-was_copy t (eval a) h = h
-was_copy t (apply v a) h = h
-was_copy t (call f ws) h = h
-was_copy t (prim p a b) h = h
-was_copy t read h = h
-was_copy t (write a) h = h
+was_copy t (leaf l) h = h
 was_copy t (case v as') h = h
 was_copy t (nested b) h = h
-was_copy t fail h = h
 
 was_still : (o : Act) → HasNoEffect (without_idle_act o) → has_no_effect o ≡ true
 unfolding without_idle_act
-was_still (unit v) h = refl
-was_still (fetch a) h = refl
-was_still (fetch_word a i) h = refl
-was_still (prim p a b) h = refl
-was_still (update a v) h = absurd h
-was_still (eval a) h = absurd h
-was_still (apply v a) h = absurd h
-was_still (call f ws) h = absurd h
-was_still read h = absurd h
-was_still (write a) h = absurd h
+was_still (leaf (unit v)) h = refl
+was_still (leaf (fetch a)) h = refl
+was_still (leaf (fetch_word a i)) h = refl
+was_still (leaf (prim p a b)) h = refl
+was_still (leaf (update a v)) h = absurd h
+was_still (leaf (eval a)) h = absurd h
+was_still (leaf (apply v a)) h = absurd h
+was_still (leaf (call f ws)) h = absurd h
+was_still (leaf read) h = absurd h
+was_still (leaf (write a)) h = absurd h
 was_still (case v as') h = absurd h
 was_still (nested b) h = absurd h
-was_still fail h = absurd h
+was_still (leaf fail) h = absurd h
 
 bind_needed : (t : Target) (o : Act) (c : Code) (q : Bool) → is_idle t o (used_in_code c) ≡ q → (IsCopy t o → ⊥) → BoundAct IsNeeded (without_idle_act o) → BoundCode IsNeeded c → BoundCode IsNeeded (unless q (bind t (without_idle_act o)) c)
 unfolding BoundAct
@@ -261,17 +231,7 @@ mutual
   act_needed : (o : Act) → BoundAct NoCopy o → BoundAct IsNeeded (without_idle_act o)
   act_needed (case v as') h = arms_needed as' h
   act_needed (nested b) h = code_needed b h
-  act_needed (unit v) h = tt
-  act_needed (fetch a) h = tt
-  act_needed (fetch_word a i) h = tt
-  act_needed (update a v) h = tt
-  act_needed (eval a) h = tt
-  act_needed (apply v a) h = tt
-  act_needed (call f ws) h = tt
-  act_needed (prim p a b) h = tt
-  act_needed read h = tt
-  act_needed (write a) h = tt
-  act_needed fail h = tt
+  act_needed (leaf l) h = tt
 
   code_needed : (b : Code) → BoundCode NoCopy b → BoundCode IsNeeded (without_idle_code b)
   code_needed (end o) h = act_needed o h
@@ -299,17 +259,7 @@ mutual
   act_counts : (y : ℕ) (o : Act) → times y (act_vars (without_idle_act o)) ≤ times y (act_vars o)
   act_counts y (case v as') = arms_counts y as'
   act_counts y (nested b) = code_counts y b
-  act_counts y (unit v) = omega arith
-  act_counts y (fetch a) = omega arith
-  act_counts y (fetch_word a i) = omega arith
-  act_counts y (update a v) = omega arith
-  act_counts y (eval a) = omega arith
-  act_counts y (apply v a) = omega arith
-  act_counts y (call f ws) = omega arith
-  act_counts y (prim p a b) = omega arith
-  act_counts y read = omega arith
-  act_counts y (write a) = omega arith
-  act_counts y fail = omega arith
+  act_counts y (leaf l) = omega arith
 
   code_counts : (y : ℕ) (b : Code) → times y (code_vars (without_idle_code b)) ≤ times y (code_vars b)
   code_counts y (end o) = act_counts y o
@@ -328,19 +278,9 @@ procs_counts y (q ∷ qs) = times_fewer y (numbers_of q.params ++ code_vars (wit
 
 still_sites : (o : Act) → has_no_effect o ≡ true → act_sites o ≡ []
 unfolding act_sites
-still_sites (unit v) h = refl
-still_sites (fetch a) h = refl
-still_sites (fetch_word a i) h = refl
-still_sites (prim p a b) h = refl
-still_sites (update a v) h = refl
-still_sites (eval a) h = refl
-still_sites (apply v a) h = refl
-still_sites (call f ws) h = refl
-still_sites read h = refl
-still_sites (write a) h = refl
+still_sites (leaf l) h = refl
 still_sites (case v as') h = cc
 still_sites (nested b) h = cc
-still_sites fail h = refl
 
 bind_sites : (t : Target) (o o' : Act) (b c : Code) (used : List ℕ) (q : Bool) → is_idle t o used ≡ q → act_sites o' ≡ act_sites o → code_sites c ≡ code_sites b → code_sites (unless q (bind t o') c) ≡ code_sites (bind t o b)
 unfolding act_sites
@@ -353,17 +293,7 @@ mutual
   act_sites_stay : (o : Act) → act_sites (without_idle_act o) ≡ act_sites o
   act_sites_stay (case v as') = arms_sites_stay as'
   act_sites_stay (nested b) = code_sites_stay b
-  act_sites_stay (unit v) = refl
-  act_sites_stay (fetch a) = refl
-  act_sites_stay (fetch_word a i) = refl
-  act_sites_stay (update a v) = refl
-  act_sites_stay (eval a) = refl
-  act_sites_stay (apply v a) = refl
-  act_sites_stay (call f ws) = refl
-  act_sites_stay (prim p a b) = refl
-  act_sites_stay read = refl
-  act_sites_stay (write a) = refl
-  act_sites_stay fail = refl
+  act_sites_stay (leaf l) = refl
 
   code_sites_stay : (b : Code) → code_sites (without_idle_code b) ≡ code_sites b
   code_sites_stay (end o) = act_sites_stay o
@@ -457,17 +387,17 @@ module _ (g : Program) (procs : List Procedure) (same_count : length procs ≡ l
     act_formed : (o : Act) (scope : Scope) (scope' : List ℕ) → Covers (Carried scope scope') (used_in_act (without_idle_act o)) → ActFormed g scope o → EachAct vectorised_kind o → ActFormed there (as_scope scope') (without_idle_act o)
     act_formed (case v as') scope scope' c f n = (val_formed scope scope' v n.1 (covers_left (Carried scope scope') (used_in_val v) (used_in_arms (without_idle_arms as')) c) f.0, arms_formed as' scope scope' (covers_right (Carried scope scope') (used_in_val v) (used_in_arms (without_idle_arms as')) c) f.1 n.2)
     act_formed (nested b) scope scope' c f n = code_formed b scope scope' c f n.1
-    act_formed (unit v) scope scope' c f n = val_formed scope scope' v n.1 c f
-    act_formed (fetch a) scope scope' c f n = word_formed scope scope' a c f
-    act_formed (fetch_word a i) scope scope' c f n = word_formed scope scope' a c f
-    act_formed (update a v) scope scope' c f n = (word_formed scope scope' a (covers_left (Carried scope scope') (used_in_word a) (used_in_val v) c) f.0, val_formed scope scope' v n.1 (covers_right (Carried scope scope') (used_in_word a) (used_in_val v) c) f.1)
-    act_formed (eval a) scope scope' c f n = word_formed scope scope' a c f
-    act_formed (apply v a) scope scope' c f n = (val_formed scope scope' v n.1 (covers_left (Carried scope scope') (used_in_val v) (used_in_word a) c) f.0, word_formed scope scope' a (covers_right (Carried scope scope') (used_in_val v) (used_in_word a) c) f.1)
-    act_formed (call p ws) scope scope' c f n = (known_again g procs same_count p f.0, words_formed scope scope' ws c f.1)
-    act_formed (prim p a b) scope scope' c f n = (word_formed scope scope' a (covers_left (Carried scope scope') (used_in_word a) (used_in_word b) c) f.0, word_formed scope scope' b (covers_right (Carried scope scope') (used_in_word a) (used_in_word b) c) f.1)
-    act_formed read scope scope' c f n = tt
-    act_formed (write a) scope scope' c f n = word_formed scope scope' a c f
-    act_formed fail scope scope' c f n = tt
+    act_formed (leaf (unit v)) scope scope' c f n = val_formed scope scope' v n.1 c f
+    act_formed (leaf (fetch a)) scope scope' c f n = word_formed scope scope' a c f
+    act_formed (leaf (fetch_word a i)) scope scope' c f n = word_formed scope scope' a c f
+    act_formed (leaf (update a v)) scope scope' c f n = (word_formed scope scope' a (covers_left (Carried scope scope') (used_in_word a) (used_in_val v) c) f.0, val_formed scope scope' v n.1 (covers_right (Carried scope scope') (used_in_word a) (used_in_val v) c) f.1)
+    act_formed (leaf (eval a)) scope scope' c f n = word_formed scope scope' a c f
+    act_formed (leaf (apply v a)) scope scope' c f n = (val_formed scope scope' v n.1 (covers_left (Carried scope scope') (used_in_val v) (used_in_word a) c) f.0, word_formed scope scope' a (covers_right (Carried scope scope') (used_in_val v) (used_in_word a) c) f.1)
+    act_formed (leaf (call p ws)) scope scope' c f n = (known_again g procs same_count p f.0, words_formed scope scope' ws c f.1)
+    act_formed (leaf (prim p a b)) scope scope' c f n = (word_formed scope scope' a (covers_left (Carried scope scope') (used_in_word a) (used_in_word b) c) f.0, word_formed scope scope' b (covers_right (Carried scope scope') (used_in_word a) (used_in_word b) c) f.1)
+    act_formed (leaf read) scope scope' c f n = tt
+    act_formed (leaf (write a)) scope scope' c f n = word_formed scope scope' a c f
+    act_formed (leaf fail) scope scope' c f n = tt
 
     code_formed : (b : Code) (scope : Scope) (scope' : List ℕ) → Covers (Carried scope scope') (used_in_code (without_idle_code b)) → CodeFormed g scope b → EachCode vectorised_kind b → CodeFormed there (as_scope scope') (without_idle_code b)
     code_formed (end o) scope scope' c f n = act_formed o scope scope' c f n

@@ -7,7 +7,7 @@ use Rattle.grin_syntax.specs.declared.program.Word as W
 use Rattle.grin_syntax.specs.declared.program.Word.TheVariants.{Lit, Var, Global, TagWord}
 use Rattle.grin_syntax.specs.declared.program.Val as V
 use Rattle.grin_syntax.specs.declared.program.Val.TheVariants.{NodeVar, Node, Vector, One}
-use Rattle.grin_syntax.specs.Tree.{Code, end, store, bind, Act, unit, fetch, fetch_word, update, eval, apply, call, prim, read, write, case, nested, fail, Arms, no_arm, arm, Procedure, Program}
+use Rattle.grin_syntax.specs.Tree.{Code, end, store, bind, Act, leaf, unit, fetch, fetch_word, update, eval, apply, call, prim, read, write, case, nested, fail, Arms, no_arm, arm, Procedure, Program}
 use Rattle.grin_syntax.specs.Binders.{target_vars}
 use Rattle.grin_meaning.specs.Values.{Datum, Value, Binding, with_vars, one_each}
 use Rattle.grin_meaning.specs.Run.{Calls}
@@ -69,51 +69,31 @@ module _ (Ok : ℕ → Type 0) where
 -- ---- operations stay what they are
 
 still_is : (o : Act) → has_no_effect o ≡ true → HasNoEffect o
-still_is (unit v) h = tt
-still_is (fetch a) h = tt
-still_is (fetch_word a i) h = tt
-still_is (prim p a b) h = tt
-still_is (update a v) h = cc
-still_is (eval a) h = cc
-still_is (apply v a) h = cc
-still_is (call f ws) h = cc
-still_is read h = cc
-still_is (write a) h = cc
+still_is (leaf (unit v)) h = tt
+still_is (leaf (fetch a)) h = tt
+still_is (leaf (fetch_word a i)) h = tt
+still_is (leaf (prim p a b)) h = tt
+still_is (leaf (update a v)) h = cc
+still_is (leaf (eval a)) h = cc
+still_is (leaf (apply v a)) h = cc
+still_is (leaf (call f ws)) h = cc
+still_is (leaf read) h = cc
+still_is (leaf (write a)) h = cc
 still_is (case v as') h = cc
 still_is (nested b) h = cc
-still_is fail h = cc
+still_is (leaf fail) h = cc
 
 pub still_has_block : (o : Act) → has_block (without_idle_act o) ≡ has_block o
 unfolding without_idle_act
-still_has_block (unit v) = refl
-still_has_block (fetch a) = refl
-still_has_block (fetch_word a i) = refl
-still_has_block (prim p a b) = refl
-still_has_block (update a v) = refl
-still_has_block (eval a) = refl
-still_has_block (apply v a) = refl
-still_has_block (call f ws) = refl
-still_has_block read = refl
-still_has_block (write a) = refl
+still_has_block (leaf l) = refl
 still_has_block (case v as') = refl
 still_has_block (nested b) = refl
-still_has_block fail = refl
 
 pub still_fetch : (o : Act) → is_fetch (without_idle_act o) ≡ is_fetch o
 unfolding without_idle_act
-still_fetch (unit v) = refl
-still_fetch (fetch a) = refl
-still_fetch (fetch_word a i) = refl
-still_fetch (prim p a b) = refl
-still_fetch (update a v) = refl
-still_fetch (eval a) = refl
-still_fetch (apply v a) = refl
-still_fetch (call f ws) = refl
-still_fetch read = refl
-still_fetch (write a) = refl
+still_fetch (leaf l) = refl
 still_fetch (case v as') = refl
 still_fetch (nested b) = refl
-still_fetch fail = refl
 
 pub bound_well : (g : Program) (t : Target) (o o' : Act) (v : Value) → has_block o' ≡ has_block o → is_fetch o' ≡ is_fetch o → is_bound_well g t o' v ≡ is_bound_well g t o v
 bound_well g t o o' v h k = λ i. cond (h i) (is_given g v) true && cond (is_node_target t && not (k i)) (not_delayed g v) true
@@ -162,17 +142,17 @@ module _ (g : Program) where
       act_goes : (o : Act) (Ok : ℕ → Type 0) → Covers Ok (used_in_act (without_idle_act o)) → Acts Ok o (without_idle_act o)
       act_goes (case v as') Ok cov = case_same it plain (having Ok) v as' (without_idle_arms as') (val_covered Ok v (covers_left Ok (used_in_val v) (used_in_arms (without_idle_arms as')) cov)) (arms_goes as' Ok (covers_right Ok (used_in_val v) (used_in_arms (without_idle_arms as')) cov))
       act_goes (nested b) Ok cov = nested_follows it b (without_idle_code b) (code_goes b Ok cov)
-      act_goes (unit v) Ok cov = leaf_follows it plain (having Ok) (unit v) tt (val_covered Ok v cov)
-      act_goes (fetch a) Ok cov = leaf_follows it plain (having Ok) (fetch a) tt (word_covered Ok a cov)
-      act_goes (fetch_word a i) Ok cov = leaf_follows it plain (having Ok) (fetch_word a i) tt (word_covered Ok a cov)
-      act_goes (update a v) Ok cov = leaf_follows it plain (having Ok) (update a v) tt (word_covered Ok a (covers_left Ok (used_in_word a) (used_in_val v) cov), val_covered Ok v (covers_right Ok (used_in_word a) (used_in_val v) cov))
-      act_goes (eval a) Ok cov = leaf_follows it plain (having Ok) (eval a) tt (word_covered Ok a cov)
-      act_goes (apply v a) Ok cov = leaf_follows it plain (having Ok) (apply v a) tt (val_covered Ok v (covers_left Ok (used_in_val v) (used_in_word a) cov), word_covered Ok a (covers_right Ok (used_in_val v) (used_in_word a) cov))
-      act_goes (call f ws) Ok cov = leaf_follows it plain (having Ok) (call f ws) tt (words_covered Ok ws cov)
-      act_goes (prim p a b) Ok cov = leaf_follows it plain (having Ok) (prim p a b) tt (word_covered Ok a (covers_left Ok (used_in_word a) (used_in_word b) cov), word_covered Ok b (covers_right Ok (used_in_word a) (used_in_word b) cov))
-      act_goes read Ok cov = leaf_follows it plain (having Ok) read tt tt
-      act_goes (write a) Ok cov = leaf_follows it plain (having Ok) (write a) tt (word_covered Ok a cov)
-      act_goes fail Ok cov = leaf_follows it plain (having Ok) fail tt tt
+      act_goes (leaf (unit v)) Ok cov = leaf_follows it plain (having Ok) (unit v) (val_covered Ok v cov)
+      act_goes (leaf (fetch a)) Ok cov = leaf_follows it plain (having Ok) (fetch a) (word_covered Ok a cov)
+      act_goes (leaf (fetch_word a i)) Ok cov = leaf_follows it plain (having Ok) (fetch_word a i) (word_covered Ok a cov)
+      act_goes (leaf (update a v)) Ok cov = leaf_follows it plain (having Ok) (update a v) (word_covered Ok a (covers_left Ok (used_in_word a) (used_in_val v) cov), val_covered Ok v (covers_right Ok (used_in_word a) (used_in_val v) cov))
+      act_goes (leaf (eval a)) Ok cov = leaf_follows it plain (having Ok) (eval a) (word_covered Ok a cov)
+      act_goes (leaf (apply v a)) Ok cov = leaf_follows it plain (having Ok) (apply v a) (val_covered Ok v (covers_left Ok (used_in_val v) (used_in_word a) cov), word_covered Ok a (covers_right Ok (used_in_val v) (used_in_word a) cov))
+      act_goes (leaf (call f ws)) Ok cov = leaf_follows it plain (having Ok) (call f ws) (words_covered Ok ws cov)
+      act_goes (leaf (prim p a b)) Ok cov = leaf_follows it plain (having Ok) (prim p a b) (word_covered Ok a (covers_left Ok (used_in_word a) (used_in_word b) cov), word_covered Ok b (covers_right Ok (used_in_word a) (used_in_word b) cov))
+      act_goes (leaf read) Ok cov = leaf_follows it plain (having Ok) read tt
+      act_goes (leaf (write a)) Ok cov = leaf_follows it plain (having Ok) (write a) (word_covered Ok a cov)
+      act_goes (leaf fail) Ok cov = leaf_follows it plain (having Ok) fail tt
 
       code_goes : (b : Code) (Ok : ℕ → Type 0) → Covers Ok (used_in_code (without_idle_code b)) → Codes Ok b (without_idle_code b)
       code_goes (end o) Ok cov = end_follows it o (without_idle_act o) (act_goes o Ok cov)

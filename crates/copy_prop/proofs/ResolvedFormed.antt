@@ -7,7 +7,7 @@ use Rattle.grin_syntax.specs.declared.program.Target.TheVariants as to
 use Rattle.grin_syntax.specs.declared.program.Word as W
 use Rattle.grin_syntax.specs.declared.program.Val as V
 use Rattle.grin_syntax.specs.declared.program.Val.TheVariants.{NodeVar, Node, Vector, One}
-use Rattle.grin_syntax.specs.Tree.{Code, end, store, bind, Act, unit, fetch, fetch_word, update, eval, apply, call, prim, read, write, case, nested, fail, Arms, no_arm, arm, Procedure, Program}
+use Rattle.grin_syntax.specs.Tree.{Code, end, store, bind, Act, leaf, unit, fetch, fetch_word, update, eval, apply, call, prim, read, write, case, nested, fail, Arms, no_arm, arm, Procedure, Program}
 use Rattle.grin_syntax.specs.Binders.{numbers_of, target_vars, shape_vars, cell_vars, act_vars, code_vars, arms_vars, procs_vars, act_sites, code_sites, arms_sites, procs_sites}
 use Rattle.grin_syntax.specs.Formed.{AllOf, Scope, with_word_variables, with_target, params_scope, WordFormed, ValFormed, CellFormed, ActFormed, CodeFormed, ArmsFormed, ProcedureFormed, Formed}
 use Rattle.grin_syntax.specs.SameOutside.{names_of, DifferOnlyInBodies}
@@ -41,17 +41,17 @@ module _ (K : PieceKind)
     act_each : (k : Table) (o : Act) → EachAct K o → EachAct K (resolved_act k o)
     act_each k (case v as') h = (op_stays k (case v as') h.0, val_stays k v h.1, arms_each k as' h.2)
     act_each k (nested b) h = (op_stays k (nested b) h.0, code_each k b h.1)
-    act_each k (unit v) h = (op_stays k (unit v) h.0, val_stays k v h.1)
-    act_each k (update a v) h = (op_stays k (update a v) h.0, val_stays k v h.1)
-    act_each k (apply v a) h = (op_stays k (apply v a) h.0, val_stays k v h.1)
-    act_each k (fetch a) h = op_stays k (fetch a) h
-    act_each k (fetch_word a i) h = op_stays k (fetch_word a i) h
-    act_each k (eval a) h = op_stays k (eval a) h
-    act_each k (call f ws) h = op_stays k (call f ws) h
-    act_each k (prim p a b) h = op_stays k (prim p a b) h
-    act_each k read h = op_stays k read h
-    act_each k (write a) h = op_stays k (write a) h
-    act_each k fail h = op_stays k fail h
+    act_each k (leaf (unit v)) h = (op_stays k (leaf (unit v)) h.0, val_stays k v h.1)
+    act_each k (leaf (update a v)) h = (op_stays k (leaf (update a v)) h.0, val_stays k v h.1)
+    act_each k (leaf (apply v a)) h = (op_stays k (leaf (apply v a)) h.0, val_stays k v h.1)
+    act_each k (leaf (fetch a)) h = op_stays k (leaf (fetch a)) h
+    act_each k (leaf (fetch_word a i)) h = op_stays k (leaf (fetch_word a i)) h
+    act_each k (leaf (eval a)) h = op_stays k (leaf (eval a)) h
+    act_each k (leaf (call f ws)) h = op_stays k (leaf (call f ws)) h
+    act_each k (leaf (prim p a b)) h = op_stays k (leaf (prim p a b)) h
+    act_each k (leaf read) h = op_stays k (leaf read) h
+    act_each k (leaf (write a)) h = op_stays k (leaf (write a)) h
+    act_each k (leaf fail) h = op_stays k (leaf fail) h
 
     pub code_each : (k : Table) (b : Code) → EachCode K b → EachCode K (resolved_code k b)
     code_each k (end o) h = act_each k o h
@@ -68,35 +68,35 @@ module _ (K : PieceKind)
 
 pub inlined_stays : (k : Table) (o : Act) → Inlined o → Inlined (resolved_act k o)
 unfolding resolved_act
-inlined_stays k (eval a) h = h
-inlined_stays k (apply v a) h = h
-inlined_stays k (unit v) h = tt
-inlined_stays k (fetch a) h = tt
-inlined_stays k (fetch_word a i) h = tt
-inlined_stays k (update a v) h = tt
-inlined_stays k (call f ws) h = tt
-inlined_stays k (prim p a b) h = tt
-inlined_stays k read h = tt
-inlined_stays k (write a) h = tt
+inlined_stays k (leaf (eval a)) h = h
+inlined_stays k (leaf (apply v a)) h = h
+inlined_stays k (leaf (unit v)) h = tt
+inlined_stays k (leaf (fetch a)) h = tt
+inlined_stays k (leaf (fetch_word a i)) h = tt
+inlined_stays k (leaf (update a v)) h = tt
+inlined_stays k (leaf (call f ws)) h = tt
+inlined_stays k (leaf (prim p a b)) h = tt
+inlined_stays k (leaf read) h = tt
+inlined_stays k (leaf (write a)) h = tt
 inlined_stays k (case v as') h = tt
 inlined_stays k (nested b) h = tt
-inlined_stays k fail h = tt
+inlined_stays k (leaf fail) h = tt
 
 pub by_words_stays : (k : Table) (o : Act) → IsNotNodeFetch o → IsNotNodeFetch (resolved_act k o)
 unfolding resolved_act
-by_words_stays k (fetch a) h = h
-by_words_stays k (unit v) h = tt
-by_words_stays k (fetch_word a i) h = tt
-by_words_stays k (update a v) h = tt
-by_words_stays k (eval a) h = tt
-by_words_stays k (apply v a) h = tt
-by_words_stays k (call f ws) h = tt
-by_words_stays k (prim p a b) h = tt
-by_words_stays k read h = tt
-by_words_stays k (write a) h = tt
+by_words_stays k (leaf (fetch a)) h = h
+by_words_stays k (leaf (unit v)) h = tt
+by_words_stays k (leaf (fetch_word a i)) h = tt
+by_words_stays k (leaf (update a v)) h = tt
+by_words_stays k (leaf (eval a)) h = tt
+by_words_stays k (leaf (apply v a)) h = tt
+by_words_stays k (leaf (call f ws)) h = tt
+by_words_stays k (leaf (prim p a b)) h = tt
+by_words_stays k (leaf read) h = tt
+by_words_stays k (leaf (write a)) h = tt
 by_words_stays k (case v as') h = tt
 by_words_stays k (nested b) h = tt
-by_words_stays k fail h = tt
+by_words_stays k (leaf fail) h = tt
 
 pub no_node_var_stays : (k : Table) (v : V.Val) → NoNodeVar v → NoNodeVar (as_val k v)
 no_node_var_stays k (NodeVar x) h = h
@@ -122,19 +122,19 @@ module _ (w most : ℕ) where
     unfolding resolved_act NarrowAct
 
     act_narrow : (k : Table) (o : Act) → NarrowAct w most o → NarrowAct w most (resolved_act k o)
-    act_narrow k (unit v) h = subst (λ n. n ≤ most) (sym (width_stays k w v)) h
-    act_narrow k (fetch a) h = h
+    act_narrow k (leaf (unit v)) h = subst (λ n. n ≤ most) (sym (width_stays k w v)) h
+    act_narrow k (leaf (fetch a)) h = h
     act_narrow k (case v as') h = arms_narrow k as' h
     act_narrow k (nested b) h = code_narrow k b h
-    act_narrow k (fetch_word a i) h = tt
-    act_narrow k (update a v) h = tt
-    act_narrow k (eval a) h = tt
-    act_narrow k (apply v a) h = tt
-    act_narrow k (call f ws) h = tt
-    act_narrow k (prim p a b) h = tt
-    act_narrow k read h = tt
-    act_narrow k (write a) h = tt
-    act_narrow k fail h = tt
+    act_narrow k (leaf (fetch_word a i)) h = tt
+    act_narrow k (leaf (update a v)) h = tt
+    act_narrow k (leaf (eval a)) h = tt
+    act_narrow k (leaf (apply v a)) h = tt
+    act_narrow k (leaf (call f ws)) h = tt
+    act_narrow k (leaf (prim p a b)) h = tt
+    act_narrow k (leaf read) h = tt
+    act_narrow k (leaf (write a)) h = tt
+    act_narrow k (leaf fail) h = tt
 
     code_narrow : (k : Table) (b : Code) → NarrowCode w most b → NarrowCode w most (resolved_code k b)
     code_narrow k (end o) h = act_narrow k o h
@@ -172,19 +172,19 @@ was_taken k (to.Vector xs) (One a) h = h
 
 was_copy : (k : Table) (t : Target) (o : Act) → IsCopy t (resolved_act k o) → IsCopy t o
 unfolding resolved_act
-was_copy k t (unit v) h = was_taken k t v h
-was_copy k t (fetch a) h = h
-was_copy k t (fetch_word a i) h = h
-was_copy k t (update a v) h = h
-was_copy k t (eval a) h = h
-was_copy k t (apply v a) h = h
-was_copy k t (call f ws) h = h
-was_copy k t (prim p a b) h = h
-was_copy k t read h = h
-was_copy k t (write a) h = h
+was_copy k t (leaf (unit v)) h = was_taken k t v h
+was_copy k t (leaf (fetch a)) h = h
+was_copy k t (leaf (fetch_word a i)) h = h
+was_copy k t (leaf (update a v)) h = h
+was_copy k t (leaf (eval a)) h = h
+was_copy k t (leaf (apply v a)) h = h
+was_copy k t (leaf (call f ws)) h = h
+was_copy k t (leaf (prim p a b)) h = h
+was_copy k t (leaf read) h = h
+was_copy k t (leaf (write a)) h = h
 was_copy k t (case v as') h = h
 was_copy k t (nested b) h = h
-was_copy k t fail h = h
+was_copy k t (leaf fail) h = h
 
 bind_free : (k : Table) (t : Target) (o : Act) (c : Code) (q : Option (List Alias)) → copies_of t o ≡ q → BoundAct NoCopy (resolved_act k o) → BoundCode NoCopy c → BoundCode NoCopy (unless_copy q (bind t (resolved_act k o)) c)
 unfolding BoundAct
@@ -197,17 +197,7 @@ mutual
   act_free : (k : Table) (o : Act) → BoundAct NoCopy (resolved_act k o)
   act_free k (case v as') = arms_free k as'
   act_free k (nested b) = code_free k b
-  act_free k (unit v) = tt
-  act_free k (fetch a) = tt
-  act_free k (fetch_word a i) = tt
-  act_free k (update a v) = tt
-  act_free k (eval a) = tt
-  act_free k (apply v a) = tt
-  act_free k (call f ws) = tt
-  act_free k (prim p a b) = tt
-  act_free k read = tt
-  act_free k (write a) = tt
-  act_free k fail = tt
+  act_free k (leaf l) = tt
 
   code_free : (k : Table) (b : Code) → BoundCode NoCopy (resolved_code k b)
   code_free k (end o) = act_free k o
@@ -243,17 +233,7 @@ mutual
   act_counts : (y : ℕ) (k : Table) (o : Act) → times y (act_vars (resolved_act k o)) ≤ times y (act_vars o)
   act_counts y k (case v as') = arms_counts y k as'
   act_counts y k (nested b) = code_counts y k b
-  act_counts y k (unit v) = omega arith
-  act_counts y k (fetch a) = omega arith
-  act_counts y k (fetch_word a i) = omega arith
-  act_counts y k (update a v) = omega arith
-  act_counts y k (eval a) = omega arith
-  act_counts y k (apply v a) = omega arith
-  act_counts y k (call f ws) = omega arith
-  act_counts y k (prim p a b) = omega arith
-  act_counts y k read = omega arith
-  act_counts y k (write a) = omega arith
-  act_counts y k fail = omega arith
+  act_counts y k (leaf l) = omega arith
 
   code_counts : (y : ℕ) (k : Table) (b : Code) → times y (code_vars (resolved_code k b)) ≤ times y (code_vars b)
   code_counts y k (end o) = act_counts y k o
@@ -281,17 +261,7 @@ mutual
   act_sites_stay : (k : Table) (o : Act) → act_sites (resolved_act k o) ≡ act_sites o
   act_sites_stay k (case v as') = arms_sites_stay k as'
   act_sites_stay k (nested b) = code_sites_stay k b
-  act_sites_stay k (unit v) = refl
-  act_sites_stay k (fetch a) = refl
-  act_sites_stay k (fetch_word a i) = refl
-  act_sites_stay k (update a v) = refl
-  act_sites_stay k (eval a) = refl
-  act_sites_stay k (apply v a) = refl
-  act_sites_stay k (call f ws) = refl
-  act_sites_stay k (prim p a b) = refl
-  act_sites_stay k read = refl
-  act_sites_stay k (write a) = refl
-  act_sites_stay k fail = refl
+  act_sites_stay k (leaf l) = refl
 
   code_sites_stay : (k : Table) (b : Code) → code_sites (resolved_code k b) ≡ code_sites b
   code_sites_stay k (end o) = act_sites_stay k o
@@ -357,10 +327,10 @@ module _ (g : Program) (procs : List Procedure) (same_count : length procs ≡ l
         (subst (λ s. CodeFormed g s b) (target_scope t scope nt) fb)),
   )
   bind_formed k scope scope' t o b held nt fo fb f kk (Some as') e =
-      let z : (v : V.Val) × (o ≡ unit v) × (copies_of_val t v ≡ Some as') = copy_is t o as' e in
+      let z : (v : V.Val) × (o ≡ leaf (unit v)) × (copies_of_val t v ≡ Some as') = copy_is t o as' e in
       at z.0 z.2 o z.1 held fo
     where
-      at : (v : V.Val) → copies_of_val t v ≡ Some as' → (o : Act) → o ≡ unit v → Held g k scope scope' (target_vars t ++ (act_vars o ++ code_vars b)) → ActFormed g scope o → CodeFormed there (as_scope scope') (resolved_code (put_all as' (noted_act o k)) b)
+      at : (v : V.Val) → copies_of_val t v ≡ Some as' → (o : Act) → o ≡ leaf (unit v) → Held g k scope scope' (target_vars t ++ (act_vars o ++ code_vars b)) → ActFormed g scope o → CodeFormed there (as_scope scope') (resolved_code (put_all as' (noted_act o k)) b)
       at v e o q = subst (λ o. Held g k scope scope' (target_vars t ++ (act_vars o ++ code_vars b)) → ActFormed g scope o → CodeFormed there (as_scope scope') (resolved_code (put_all as' (noted_act o k)) b)) (sym q)
           (λ h f. kk (put_all as' k) (with_word_variables (target_vars t) scope) scope' (held_after g k scope scope' t v as' (code_vars b) e f h) (subst (λ s. CodeFormed g s b) (target_scope t scope nt) fb))
 
@@ -370,17 +340,17 @@ module _ (g : Program) (procs : List Procedure) (same_count : length procs ≡ l
     act_formed : (o : Act) (k : Table) (scope : Scope) (scope' : List ℕ) → Held g k scope scope' (act_vars o) → ActFormed g scope o → EachAct vectorised_kind o → ActFormed there (as_scope scope') (resolved_act k o)
     act_formed (case v as') k scope scope' held f n = (val_formed k scope scope' (arms_vars as') held v n.1 f.0, arms_formed as' k scope scope' held f.1 n.2)
     act_formed (nested b) k scope scope' held f n = code_formed b k scope scope' held f n.1
-    act_formed (unit v) k scope scope' held f n = val_formed k scope scope' [] held v n.1 f
-    act_formed (fetch a) k scope scope' held f n = word_held g k scope scope' [] held a f
-    act_formed (fetch_word a i) k scope scope' held f n = word_held g k scope scope' [] held a f
-    act_formed (update a v) k scope scope' held f n = (word_held g k scope scope' [] held a f.0, val_formed k scope scope' [] held v n.1 f.1)
-    act_formed (eval a) k scope scope' held f n = word_held g k scope scope' [] held a f
-    act_formed (apply v a) k scope scope' held f n = (val_formed k scope scope' [] held v n.1 f.0, word_held g k scope scope' [] held a f.1)
-    act_formed (call p ws) k scope scope' held f n = (known_again g procs same_count p f.0, words_formed k scope scope' [] held ws f.1)
-    act_formed (prim p a b) k scope scope' held f n = (word_held g k scope scope' [] held a f.0, word_held g k scope scope' [] held b f.1)
-    act_formed read k scope scope' held f n = tt
-    act_formed (write a) k scope scope' held f n = word_held g k scope scope' [] held a f
-    act_formed fail k scope scope' held f n = tt
+    act_formed (leaf (unit v)) k scope scope' held f n = val_formed k scope scope' [] held v n.1 f
+    act_formed (leaf (fetch a)) k scope scope' held f n = word_held g k scope scope' [] held a f
+    act_formed (leaf (fetch_word a i)) k scope scope' held f n = word_held g k scope scope' [] held a f
+    act_formed (leaf (update a v)) k scope scope' held f n = (word_held g k scope scope' [] held a f.0, val_formed k scope scope' [] held v n.1 f.1)
+    act_formed (leaf (eval a)) k scope scope' held f n = word_held g k scope scope' [] held a f
+    act_formed (leaf (apply v a)) k scope scope' held f n = (val_formed k scope scope' [] held v n.1 f.0, word_held g k scope scope' [] held a f.1)
+    act_formed (leaf (call p ws)) k scope scope' held f n = (known_again g procs same_count p f.0, words_formed k scope scope' [] held ws f.1)
+    act_formed (leaf (prim p a b)) k scope scope' held f n = (word_held g k scope scope' [] held a f.0, word_held g k scope scope' [] held b f.1)
+    act_formed (leaf read) k scope scope' held f n = tt
+    act_formed (leaf (write a)) k scope scope' held f n = word_held g k scope scope' [] held a f
+    act_formed (leaf fail) k scope scope' held f n = tt
 
     pub code_formed : (b : Code) (k : Table) (scope : Scope) (scope' : List ℕ) → Held g k scope scope' (code_vars b) → CodeFormed g scope b → EachCode vectorised_kind b → CodeFormed there (as_scope scope') (resolved_code k b)
     code_formed (end o) k scope scope' held f n = act_formed o k scope scope' held f n

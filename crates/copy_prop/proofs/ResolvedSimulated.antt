@@ -9,7 +9,7 @@ use Rattle.grin_syntax.specs.declared.program.Target.TheVariants as to
 use Rattle.grin_syntax.specs.declared.program.Word as W
 use Rattle.grin_syntax.specs.declared.program.Val as V
 use Rattle.grin_syntax.specs.declared.program.Val.TheVariants.{One}
-use Rattle.grin_syntax.specs.Tree.{Code, end, store, bind, Act, unit, fetch, fetch_word, update, eval, apply, call, prim, read, write, case, nested, fail, Arms, no_arm, arm, Procedure, Program}
+use Rattle.grin_syntax.specs.Tree.{Code, end, store, bind, Act, leaf, unit, fetch, fetch_word, update, eval, apply, call, prim, read, write, case, nested, fail, Arms, no_arm, arm, Procedure, Program}
 use Rattle.grin_syntax.specs.Binders.{numbers_of, target_vars, shape_vars, cell_vars, act_vars, code_vars, arms_vars, procs_vars}
 use Rattle.grin_syntax.specs.Formed.{AllOf, Scope, InScope, with_word_variables, with_target, params_scope, WordFormed, ValFormed, CellFormed, ActFormed, CodeFormed, ArmsFormed, ProcedureFormed, Formed}
 use Rattle.grin_meaning.specs.Values.{Datum, cell, Value, words, Env, HeapCell, World, missing, gives, stops, need, and_then, Binding, with_vars, one_each, fits, fit_of, word_of, value_of, bindings_of}
@@ -43,35 +43,25 @@ use Rattle.grin_meaning.proofs.Paired.{nothing}
 
 same_block : (k : Table) (o : Act) → has_block (resolved_act k o) ≡ has_block o
 unfolding resolved_act
-same_block k (unit v) = refl
-same_block k (fetch a) = refl
-same_block k (fetch_word a i) = refl
-same_block k (prim p a b) = refl
-same_block k (update a v) = refl
-same_block k (eval a) = refl
-same_block k (apply v a) = refl
-same_block k (call f ws) = refl
-same_block k read = refl
-same_block k (write a) = refl
+same_block k (leaf l) = refl
 same_block k (case v as') = refl
 same_block k (nested b) = refl
-same_block k fail = refl
 
 same_fetch : (k : Table) (o : Act) → is_fetch (resolved_act k o) ≡ is_fetch o
 unfolding resolved_act
-same_fetch k (unit v) = refl
-same_fetch k (fetch a) = refl
-same_fetch k (fetch_word a i) = refl
-same_fetch k (prim p a b) = refl
-same_fetch k (update a v) = refl
-same_fetch k (eval a) = refl
-same_fetch k (apply v a) = refl
-same_fetch k (call f ws) = refl
-same_fetch k read = refl
-same_fetch k (write a) = refl
+same_fetch k (leaf (unit v)) = refl
+same_fetch k (leaf (fetch a)) = refl
+same_fetch k (leaf (fetch_word a i)) = refl
+same_fetch k (leaf (prim p a b)) = refl
+same_fetch k (leaf (update a v)) = refl
+same_fetch k (leaf (eval a)) = refl
+same_fetch k (leaf (apply v a)) = refl
+same_fetch k (leaf (call f ws)) = refl
+same_fetch k (leaf read) = refl
+same_fetch k (leaf (write a)) = refl
 same_fetch k (case v as') = refl
 same_fetch k (nested b) = refl
-same_fetch k fail = refl
+same_fetch k (leaf fail) = refl
 
 places_stay : (k : Table) (n : ℕ) (cs : List Cell) → places n (as_cells k cs) ≡ places n cs
 places_stay k n [] = refl
@@ -110,7 +100,7 @@ module _ (g : Program) where
   pub held_after : (k : Table) (scope : Scope) (scope' : List ℕ) (t : Target) (v : V.Val) (as' : List Alias) (ys : List ℕ) → copies_of_val t v ≡ Some as' → ValFormed g scope v → Held g k scope scope' (target_vars t ++ ys)
       → Held g (put_all as' k) (with_word_variables (target_vars t) scope) scope' ys
   held_after k scope scope' t v as' ys e f h =
-      let q : alias_vars as' ≡ target_vars t = copy_vars t (unit v) as' e in
+      let q : alias_vars as' ≡ target_vars t = copy_vars t (leaf (unit v)) as' e in
       subst (λ xs. Held g (put_all as' k) (with_word_variables xs scope) scope' ys) q (held_copies g as' k scope scope' ys (val_words g scope t v as' e f) (subst (λ xs. Held g k scope scope' (xs ++ ys)) (sym q) h))
 
 -- ---- procedures
@@ -177,7 +167,7 @@ module _ (g : Program) (formed : Formed g) (inlined : IsInlined g) (vectorised :
         there = ap (λ cells. slice_get cells i) (same_is x.b.heaps) ∙ q;
       }
 
-      update_goes : (a : W.Word) (v : V.Val) → WordFormed g scope a → NoNodeVar v → ValFormed g scope v → ActFollows it (R k scope) Same (update a v) (update (as_word k a) (as_val k v))
+      update_goes : (a : W.Word) (v : V.Val) → WordFormed g scope a → NoNodeVar v → ValFormed g scope v → ActFollows it (R k scope) Same (leaf (update a v)) (leaf (update (as_word k a) (as_val k v)))
       update_goes a v fa n fv = update_follows it a (as_word k a) v (as_val k v) same (λ x i y e q. (
         cell_too x a fa i y e q,
         λ m made seen. record {
@@ -188,7 +178,7 @@ module _ (g : Program) (formed : Formed g) (inlined : IsInlined g) (vectorised :
         },
       ))
 
-      unit_goes : (v : V.Val) → NoNodeVar v → ValFormed g scope v → ActFollows it (R k scope) Same (unit v) (unit (as_val k v))
+      unit_goes : (v : V.Val) → NoNodeVar v → ValFormed g scope v → ActFollows it (R k scope) Same (leaf (unit v)) (leaf (unit (as_val k v)))
       unit_goes v n f = unit_follows it v (as_val k v) (λ x y e seen. (
         λ l. fills_via g k x.env' v n ∙ fills_too g (InScope scope.words) x.env (via g k x.env') x.related v (val_ok g scope v n f) y e ∙ seen l,
         y,
@@ -233,7 +223,7 @@ module _ (g : Program) (formed : Formed g) (inlined : IsInlined g) (vectorised :
         }
 
     -- a unit gives its value
-    unit_gave : (env : Env) (d : ℕ) (v : V.Val) (w w' : World) (u : Value) → act_by g c true env d (unit v) w ≡ gives u w' → value_of g env v ≡ Some u
+    unit_gave : (env : Env) (d : ℕ) (v : V.Val) (w w' : World) (u : Value) → act_by g c true env d (leaf (unit v)) w ≡ gives u w' → value_of g env v ≡ Some u
     unfolding act_by
     unit_gave env d v w w' u e = go (value_of g env v) refl e
       where
@@ -249,10 +239,10 @@ module _ (g : Program) (formed : Formed g) (inlined : IsInlined g) (vectorised :
             looked false h = cc
 
     copies_go : (k : Table) (scope : Scope) (t : Target) (v : V.Val) (as' : List Alias) (b b' : Code) → copies_of_val t v ≡ Some as' → ValFormed g scope v → ((y : ℕ) → times y scope.words + times y (target_vars t) ≤ 1)
-        → CodeFollows it (R (put_all as' k) (with_word_variables (target_vars t) scope)) Same b b' → CodeFollows it (R k scope) Same (bind t (unit v) b) b'
-    copies_go k scope t v as' b b' e f once kk = left_follows it t (unit v) b b' tt kk (λ x u bs gave seen binds known.
-        subst (λ xs. St g (put_all as' k) (with_word_variables xs scope) (with_vars bs x.env) x.env') (copy_vars t (unit v) as' e)
-        (copies_hold g as' bs k scope x.env x.env' (val_words g scope t v as' e f) (λ y. subst (λ xs. times y scope.words + times y xs ≤ 1) (sym (copy_vars t (unit v) as' e)) (once y))
+        → CodeFollows it (R (put_all as' k) (with_word_variables (target_vars t) scope)) Same b b' → CodeFollows it (R k scope) Same (bind t (leaf (unit v)) b) b'
+    copies_go k scope t v as' b b' e f once kk = left_follows it t (leaf (unit v)) b b' tt kk (λ x u bs gave seen binds known.
+        subst (λ xs. St g (put_all as' k) (with_word_variables xs scope) (with_vars bs x.env) x.env') (copy_vars t (leaf (unit v)) as' e)
+        (copies_hold g as' bs k scope x.env x.env' (val_words g scope t v as' e f) (λ y. subst (λ xs. times y scope.words + times y xs ≤ 1) (sym (copy_vars t (leaf (unit v)) as' e)) (once y))
         (copy_given g x.env t v as' u bs e (unit_gave x.env (suc x.d) v x.w x.w u gave) binds) x.related))
 
     bind_goes : (k : Table) (scope : Scope) (scope' : List ℕ) (t : Target) (o : Act) (b : Code) → Held g k scope scope' (target_vars t ++ (act_vars o ++ code_vars b)) → NoNodeTarget t → ActFormed g scope o → CodeFormed g (with_target t scope) b
@@ -265,10 +255,10 @@ module _ (g : Program) (formed : Formed g) (inlined : IsInlined g) (vectorised :
         (kk (noted_act o k) (with_word_variables (target_vars t) scope) (target_vars t ++ scope') (held_more g (noted_act o k) scope scope' (target_vars t) (code_vars b) (held_bound g k scope scope' (target_vars t) o (code_vars b) held))
         (subst (λ s. CodeFormed g s b) (target_scope t scope nt) fb))
     bind_goes k scope scope' t o b held nt fo fb f kk (Some as') e =
-        let z : (v : V.Val) × (o ≡ unit v) × (copies_of_val t v ≡ Some as') = copy_is t o as' e in
+        let z : (v : V.Val) × (o ≡ leaf (unit v)) × (copies_of_val t v ≡ Some as') = copy_is t o as' e in
         at z.0 z.2 o z.1 held fo
       where
-        at : (v : V.Val) → copies_of_val t v ≡ Some as' → (o : Act) → o ≡ unit v → Held g k scope scope' (target_vars t ++ (act_vars o ++ code_vars b)) → ActFormed g scope o → CodeFollows it (R k scope) Same (bind t o b) (resolved_code (put_all as' (noted_act o k)) b)
+        at : (v : V.Val) → copies_of_val t v ≡ Some as' → (o : Act) → o ≡ leaf (unit v) → Held g k scope scope' (target_vars t ++ (act_vars o ++ code_vars b)) → ActFormed g scope o → CodeFollows it (R k scope) Same (bind t o b) (resolved_code (put_all as' (noted_act o k)) b)
         at v e o q = subst (λ o. Held g k scope scope' (target_vars t ++ (act_vars o ++ code_vars b)) → ActFormed g scope o → CodeFollows it (R k scope) Same (bind t o b) (resolved_code (put_all as' (noted_act o k)) b)) (sym q) (λ h f.
             copies_go k scope t v as' b (resolved_code (put_all as' k) b) e f (once_in h)
             (kk (put_all as' k) (with_word_variables (target_vars t) scope) scope' (held_after g k scope scope' t v as' (code_vars b) e f h) (subst (λ s. CodeFormed g s b) (target_scope t scope nt) fb)))
@@ -298,17 +288,17 @@ module _ (g : Program) (formed : Formed g) (inlined : IsInlined g) (vectorised :
       act_goes (case v as') k scope scope' held f i n = case_follows it {U = On (R k scope)} v (as_val k v) as' (resolved_arms k as') (arms_goes as' k scope scope' held f.1 i.2 n.2)
           (λ x y e. (y, value_via g k x.env' v n.1 ∙ value_has g (InScope scope.words) x.env (via g k x.env') x.related v (val_ok g scope v n.1 f.0) y e, (same, x.related)))
       act_goes (nested b) k scope scope' held f i n = nested_follows it b (resolved_code k b) (code_goes b k scope scope' held f i.1 n.1)
-      act_goes (unit v) k scope scope' held f i n = unit_goes k scope v n.1 f
-      act_goes (fetch a) k scope scope' held f i n = fetch_follows it a (as_word k a) (λ x j y e q. (cell_too k scope x a f j y e q, same))
-      act_goes (fetch_word a w) k scope scope' held f i n = fetch_word_follows it a (as_word k a) w w (λ x j y e q. (cell_too k scope x a f j y e q, same))
-      act_goes (update a v) k scope scope' held f i n = update_goes k scope a v f.0 n.1 f.1
-      act_goes (eval a) k scope scope' held f i n = absurd i
-      act_goes (apply v a) k scope scope' held f i n = absurd i.0
-      act_goes (call p ws) k scope scope' held f i n = call_follows it p ws (as_words k ws) (λ x xs e. (xs, words_via g k x.env' ws ∙ words_have g (InScope scope.words) x.env (via g k x.env') x.related ws (words_ok g scope ws f.1) xs e, same))
-      act_goes (prim p a b) k scope scope' held f i n = prim_follows it p a b (as_word k a) (as_word k b) (λ x. word_too k scope a f.0 x.env x.env' x.related) (λ x. word_too k scope b f.1 x.env x.env' x.related) (λ j. same)
-      act_goes read k scope scope' held f i n = read_follows it (λ j. same)
-      act_goes (write a) k scope scope' held f i n = write_follows it a (as_word k a) (λ x. word_too k scope a f x.env x.env' x.related) same
-      act_goes fail k scope scope' held f i n = fail_follows it
+      act_goes (leaf (unit v)) k scope scope' held f i n = unit_goes k scope v n.1 f
+      act_goes (leaf (fetch a)) k scope scope' held f i n = fetch_follows it a (as_word k a) (λ x j y e q. (cell_too k scope x a f j y e q, same))
+      act_goes (leaf (fetch_word a w)) k scope scope' held f i n = fetch_word_follows it a (as_word k a) w w (λ x j y e q. (cell_too k scope x a f j y e q, same))
+      act_goes (leaf (update a v)) k scope scope' held f i n = update_goes k scope a v f.0 n.1 f.1
+      act_goes (leaf (eval a)) k scope scope' held f i n = absurd i
+      act_goes (leaf (apply v a)) k scope scope' held f i n = absurd i.0
+      act_goes (leaf (call p ws)) k scope scope' held f i n = call_follows it p ws (as_words k ws) (λ x xs e. (xs, words_via g k x.env' ws ∙ words_have g (InScope scope.words) x.env (via g k x.env') x.related ws (words_ok g scope ws f.1) xs e, same))
+      act_goes (leaf (prim p a b)) k scope scope' held f i n = prim_follows it p a b (as_word k a) (as_word k b) (λ x. word_too k scope a f.0 x.env x.env' x.related) (λ x. word_too k scope b f.1 x.env x.env' x.related) (λ j. same)
+      act_goes (leaf read) k scope scope' held f i n = read_follows it (λ j. same)
+      act_goes (leaf (write a)) k scope scope' held f i n = write_follows it a (as_word k a) (λ x. word_too k scope a f x.env x.env' x.related) same
+      act_goes (leaf fail) k scope scope' held f i n = fail_follows it
 
       code_goes : (b : Code) (k : Table) (scope : Scope) (scope' : List ℕ) → Held g k scope scope' (code_vars b) → CodeFormed g scope b → EachCode inlined_kind b → EachCode vectorised_kind b → CodeFollows it (R k scope) Same b (resolved_code k b)
       code_goes (end o) k scope scope' held f i n = end_follows it o (resolved_act k o) (act_goes o k scope scope' held f i n)

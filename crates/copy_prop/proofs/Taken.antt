@@ -10,7 +10,7 @@ use Rattle.grin_syntax.specs.declared.program.Word as W
 use Rattle.grin_syntax.specs.declared.program.Word.TheVariants.{Lit, Var, Global, TagWord}
 use Rattle.grin_syntax.specs.declared.program.Val as V
 use Rattle.grin_syntax.specs.declared.program.Val.TheVariants.{NodeVar, Node, Vector, One}
-use Rattle.grin_syntax.specs.Tree.{Act, unit, fetch, fetch_word, update, eval, apply, call, prim, read, write, case, nested, fail, Program}
+use Rattle.grin_syntax.specs.Tree.{Act, leaf, unit, fetch, fetch_word, update, eval, apply, call, prim, read, write, case, nested, fail, Program}
 use Rattle.grin_syntax.specs.Binders.{numbers_of, target_vars}
 use Rattle.grin_syntax.specs.Formed.{AllOf, Scope, WordFormed, ValFormed}
 use Rattle.grin_meaning.specs.Values as value
@@ -101,34 +101,34 @@ taken_found (to.Vector xs) (Node t ws) e h = paired_there xs (zeros_after (lengt
 taken_found (to.Vector xs) (NodeVar y) e h = h
 
 pub copy_found : (t : Target) (o : Act) → copies_of t o ≡ None → IsCopy t o → ⊥
-copy_found t (unit v) e h = taken_found t v e h
-copy_found t (fetch a) e h = h
-copy_found t (fetch_word a i) e h = h
-copy_found t (update a v) e h = h
-copy_found t (eval a) e h = h
-copy_found t (apply v a) e h = h
-copy_found t (call f ws) e h = h
-copy_found t (prim p a b) e h = h
-copy_found t read e h = h
-copy_found t (write a) e h = h
+copy_found t (leaf (unit v)) e h = taken_found t v e h
+copy_found t (leaf (fetch a)) e h = h
+copy_found t (leaf (fetch_word a i)) e h = h
+copy_found t (leaf (update a v)) e h = h
+copy_found t (leaf (eval a)) e h = h
+copy_found t (leaf (apply v a)) e h = h
+copy_found t (leaf (call f ws)) e h = h
+copy_found t (leaf (prim p a b)) e h = h
+copy_found t (leaf read) e h = h
+copy_found t (leaf (write a)) e h = h
 copy_found t (case v as') e h = h
 copy_found t (nested b) e h = h
-copy_found t fail e h = h
+copy_found t (leaf fail) e h = h
 
-pub copy_is : (t : Target) (o : Act) (as' : List Alias) → copies_of t o ≡ Some as' → (v : V.Val) × (o ≡ unit v) × (copies_of_val t v ≡ Some as')
-copy_is t (unit v) as' e = (v, refl, e)
-copy_is t (fetch a) as' e = none_is_some e
-copy_is t (fetch_word a i) as' e = none_is_some e
-copy_is t (update a v) as' e = none_is_some e
-copy_is t (eval a) as' e = none_is_some e
-copy_is t (apply v a) as' e = none_is_some e
-copy_is t (call f ws) as' e = none_is_some e
-copy_is t (prim p a b) as' e = none_is_some e
-copy_is t read as' e = none_is_some e
-copy_is t (write a) as' e = none_is_some e
+pub copy_is : (t : Target) (o : Act) (as' : List Alias) → copies_of t o ≡ Some as' → (v : V.Val) × (o ≡ leaf (unit v)) × (copies_of_val t v ≡ Some as')
+copy_is t (leaf (unit v)) as' e = (v, refl, e)
+copy_is t (leaf (fetch a)) as' e = none_is_some e
+copy_is t (leaf (fetch_word a i)) as' e = none_is_some e
+copy_is t (leaf (update a v)) as' e = none_is_some e
+copy_is t (leaf (eval a)) as' e = none_is_some e
+copy_is t (leaf (apply v a)) as' e = none_is_some e
+copy_is t (leaf (call f ws)) as' e = none_is_some e
+copy_is t (leaf (prim p a b)) as' e = none_is_some e
+copy_is t (leaf read) as' e = none_is_some e
+copy_is t (leaf (write a)) as' e = none_is_some e
 copy_is t (case v bs) as' e = none_is_some e
 copy_is t (nested b) as' e = none_is_some e
-copy_is t fail as' e = none_is_some e
+copy_is t (leaf fail) as' e = none_is_some e
 
 -- ---- the variables
 
@@ -157,7 +157,7 @@ val_vars (to.Vector xs) (Node t ws) as' e = paired_vars xs (zeros_after (length 
 val_vars (to.Vector xs) (NodeVar y) as' e = none_is_some e
 
 pub copy_vars : (t : Target) (o : Act) (as' : List Alias) → copies_of t o ≡ Some as' → alias_vars as' ≡ target_vars t
-copy_vars t o as' e = let z : (v : V.Val) × (o ≡ unit v) × (copies_of_val t v ≡ Some as') = copy_is t o as' e in val_vars t z.0 as' z.2
+copy_vars t o as' e = let z : (v : V.Val) × (o ≡ leaf (unit v)) × (copies_of_val t v ≡ Some as') = copy_is t o as' e in val_vars t z.0 as' z.2
 
 -- ---- the words
 

@@ -5,7 +5,7 @@ use Rattle.grin_syntax.specs.declared.program.Val.TheVariants.{Node, Vector, One
 use Rattle.grin_syntax.specs.declared.program.Target.{Target}
 use Rattle.grin_syntax.specs.declared.program.Target.TheVariants as to
 use Rattle.grin_syntax.specs.Binders.{target_vars}
-use Rattle.grin_syntax.specs.Tree.{Code, end, store, bind, Act, unit, case, nested, Arms, no_arm, arm, Program}
+use Rattle.grin_syntax.specs.Tree.{Code, end, store, bind, Act, leaf, unit, case, nested, Arms, no_arm, arm, Program}
 use Rattle.grin_syntax.specs.Formed.{AllOf}
 use Rattle.grin_meaning.specs.Names.{CodeOk}
 use Rattle.pass_ground.specs.Vectors.{StaysVectorForm}
@@ -23,7 +23,7 @@ IsTaken _ _ = ⊥
 
 -- each variable is given a word, and nothing else is done
 abbrev pub IsCopy : Target → Act → Type 0
-IsCopy t (unit v) = IsTaken t v
+IsCopy t (leaf (unit v)) = IsTaken t v
 IsCopy t _ = ⊥
 
 -- no word, node or vector of a block names x

@@ -7,7 +7,7 @@ use Rattle.grin_syntax.specs.declared.program.Val as V
 use Rattle.grin_syntax.specs.declared.program.Val.TheVariants.{NodeVar, Node, Vector, One}
 use Rattle.grin_syntax.specs.declared.program.Target.{Target}
 use Rattle.grin_syntax.specs.declared.program.Target.TheVariants as to
-use Rattle.grin_syntax.specs.Tree.{Act, unit}
+use Rattle.grin_syntax.specs.Tree.{Act, leaf, unit}
 use Rattle.grin_meaning.specs.Values.{and_then}
 pub use Rattle.copy_prop.specs.declared.copies.Alias.{Alias}
 
@@ -48,5 +48,5 @@ copies_of_val (to.Node x) v = None
 
 -- what a statement copies, where it is a copy
 abbrev pub copies_of : Target → Act → Option (List Alias)
-copies_of t (unit v) = copies_of_val t v
+copies_of t (leaf (unit v)) = copies_of_val t v
 copies_of t _ = None

@@ -7,7 +7,7 @@ use Rattle.grin_syntax.specs.declared.program.Val.TheVariants.{NodeVar, Node, Ve
 use Rattle.grin_syntax.specs.declared.program.Target.{Target}
 use Rattle.grin_syntax.specs.declared.program.Cell.{Cell}
 use Rattle.grin_syntax.specs.Binders.{target_vars}
-use Rattle.grin_syntax.specs.Tree.{Code, end, store, bind, Act, unit, fetch, fetch_word, update, eval, apply, call, prim, read, write, case, nested, fail, Arms, no_arm, arm, Program}
+use Rattle.grin_syntax.specs.Tree.{Code, end, store, bind, Act, leaf, unit, fetch, fetch_word, update, eval, apply, call, prim, read, write, case, nested, fail, Arms, no_arm, arm, Program}
 use Rattle.grin_meaning.specs.Rewritten.{rewritten}
 use Rattle.seq.specs.Lists.{is_among}
 
@@ -33,19 +33,19 @@ used_in_cells (c ∷ cs) = used_in_val c.val ++ used_in_cells cs
 
 -- an operation, without the blocks inside it
 abbrev pub used_beside_blocks : Act → List ℕ
-used_beside_blocks (unit v) = used_in_val v
-used_beside_blocks (fetch a) = used_in_word a
-used_beside_blocks (fetch_word a i) = used_in_word a
-used_beside_blocks (update a v) = used_in_word a ++ used_in_val v
-used_beside_blocks (eval a) = used_in_word a
-used_beside_blocks (apply v a) = used_in_val v ++ used_in_word a
-used_beside_blocks (call f ws) = used_in_words ws
-used_beside_blocks (prim p a b) = used_in_word a ++ used_in_word b
-used_beside_blocks read = []
-used_beside_blocks (write a) = used_in_word a
+used_beside_blocks (leaf (unit v)) = used_in_val v
+used_beside_blocks (leaf (fetch a)) = used_in_word a
+used_beside_blocks (leaf (fetch_word a i)) = used_in_word a
+used_beside_blocks (leaf (update a v)) = used_in_word a ++ used_in_val v
+used_beside_blocks (leaf (eval a)) = used_in_word a
+used_beside_blocks (leaf (apply v a)) = used_in_val v ++ used_in_word a
+used_beside_blocks (leaf (call f ws)) = used_in_words ws
+used_beside_blocks (leaf (prim p a b)) = used_in_word a ++ used_in_word b
+used_beside_blocks (leaf read) = []
+used_beside_blocks (leaf (write a)) = used_in_word a
 used_beside_blocks (case v as') = used_in_val v
 used_beside_blocks (nested b) = []
-used_beside_blocks fail = []
+used_beside_blocks (leaf fail) = []
 
 unfoldable mutual
   pub used_in_act : Act → List ℕ
@@ -70,10 +70,10 @@ are_disjoint (x ∷ xs) ys = not (is_among x ys) && are_disjoint xs ys
 
 -- an operation that changes nothing: a unit, a fetch or a primitive
 abbrev pub has_no_effect : Act → Bool
-has_no_effect (unit v) = true
-has_no_effect (fetch a) = true
-has_no_effect (fetch_word a i) = true
-has_no_effect (prim p a b) = true
+has_no_effect (leaf (unit v)) = true
+has_no_effect (leaf (fetch a)) = true
+has_no_effect (leaf (fetch_word a i)) = true
+has_no_effect (leaf (prim p a b)) = true
 has_no_effect _ = false
 
 -- before a block that uses these variables

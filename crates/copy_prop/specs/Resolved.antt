@@ -8,7 +8,7 @@ use Rattle.grin_syntax.specs.declared.program.Val as V
 use Rattle.grin_syntax.specs.declared.program.Val.TheVariants.{NodeVar, Node, Vector, One}
 use Rattle.grin_syntax.specs.declared.program.Stmt.{Stmt}
 use Rattle.grin_syntax.specs.declared.program.Cell.{Cell}
-use Rattle.grin_syntax.specs.Tree.{Code, end, store, bind, Act, unit, fetch, fetch_word, update, eval, apply, call, prim, read, write, case, nested, fail, Arms, no_arm, arm, Procedure, Program, before_of}
+use Rattle.grin_syntax.specs.Tree.{Code, end, store, bind, Act, Leaf, leaf, unit, fetch, fetch_word, update, eval, apply, call, prim, read, write, case, nested, fail, Arms, no_arm, arm, Procedure, Program, before_of}
 use Rattle.grin_meaning.specs.Values.{and_then}
 use Rattle.copy_prop.specs.Copies.{Alias, copies_of}
 
@@ -86,21 +86,25 @@ unfoldable mutual
   noted_arms no_arm k = k
   noted_arms (arm s b as') k = noted_arms as' (noted_code b k)
 
+-- an operation without a block
+abbrev pub resolved_leaf : Table → Leaf → Leaf
+resolved_leaf k (unit v) = unit (as_val k v)
+resolved_leaf k (fetch a) = fetch (as_word k a)
+resolved_leaf k (fetch_word a i) = fetch_word (as_word k a) i
+resolved_leaf k (update a v) = update (as_word k a) (as_val k v)
+resolved_leaf k (eval a) = eval (as_word k a)
+resolved_leaf k (apply v a) = apply (as_val k v) (as_word k a)
+resolved_leaf k (call f ws) = call f (as_words k ws)
+resolved_leaf k (prim p a b) = prim p (as_word k a) (as_word k b)
+resolved_leaf k read = read
+resolved_leaf k (write a) = write (as_word k a)
+resolved_leaf k fail = fail
+
 unfoldable mutual
   pub resolved_act : Table → Act → Act
-  resolved_act k (unit v) = unit (as_val k v)
-  resolved_act k (fetch a) = fetch (as_word k a)
-  resolved_act k (fetch_word a i) = fetch_word (as_word k a) i
-  resolved_act k (update a v) = update (as_word k a) (as_val k v)
-  resolved_act k (eval a) = eval (as_word k a)
-  resolved_act k (apply v a) = apply (as_val k v) (as_word k a)
-  resolved_act k (call f ws) = call f (as_words k ws)
-  resolved_act k (prim p a b) = prim p (as_word k a) (as_word k b)
-  resolved_act k read = read
-  resolved_act k (write a) = write (as_word k a)
+  resolved_act k (leaf o) = leaf (resolved_leaf k o)
   resolved_act k (case v as') = case (as_val k v) (resolved_arms k as')
   resolved_act k (nested b) = nested (resolved_code k b)
-  resolved_act k fail = fail
 
   pub resolved_code : Table → Code → Code
   resolved_code k (end o) = end (resolved_act k o)

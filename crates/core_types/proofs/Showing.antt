@@ -7,10 +7,10 @@ use Rattle.std.proofs.lemmas.List.Sums.{fold-append, prefix_len-le-length}
 use Rattle.core_types.specs.declared.sides.Ty.{Ty}
 use Rattle.core_types.specs.Typing.{Named}
 use Rattle.core_types.specs.Sides.{types_from, type_of}
-use Rattle.core_types.specs.Shown.{VariableMark, with_mark, with_marks, same_mark, is_compound}
+use Rattle.core_types.specs.Shown.{VariableMark, with_mark_if_new, with_marks, same_mark, is_compound}
 
 pub more_marks : (ms ns os : List VariableMark) → with_marks ms (ns ++ os) ≡ with_marks (with_marks ms ns) os
-more_marks ms ns os = fold-append with_mark ms ns os
+more_marks ms ns os = fold-append with_mark_if_new ms ns os
 
 -- what stands nowhere has the length as its place
 pub stands_nowhere : (m : VariableMark) (ms : List VariableMark) → None ≡ (if nat_lt (position_or_len (same_mark m) ms) (length ms) then Some (position_or_len (same_mark m) ms) else None) → length ms ≡ position_or_len (same_mark m) ms

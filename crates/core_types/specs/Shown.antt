@@ -38,11 +38,11 @@ abbrev pub same_mark : VariableMark → VariableMark → Bool
 same_mark a b = (a.0 == b.0 && a.1 == b.1) && a.2 == b.2
 
 -- a new variable is put at the end
-abbrev pub with_mark : List VariableMark → VariableMark → List VariableMark
-with_mark ms m = if list_any (same_mark m) ms then ms else ms ++ m ∷ []
+abbrev pub with_mark_if_new : List VariableMark → VariableMark → List VariableMark
+with_mark_if_new ms m = if list_any (same_mark m) ms then ms else ms ++ m ∷ []
 
 abbrev pub with_marks : List VariableMark → List VariableMark → List VariableMark
-with_marks ms ns = fold with_mark ms ns
+with_marks ms ns = fold with_mark_if_new ms ns
 
 -- ---- texts
 

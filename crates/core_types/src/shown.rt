@@ -3,7 +3,7 @@
 ghost use Rattle.std.specs.Prelude.{◌≡◌, ◌++◌, map, slice_get, OnOk, IfOk};
 ghost use Rattle.std.specs.List.{position_or_len};
 ghost use Rattle.seq.specs.Lists.{or_empty};
-ghost use Rattle.core_types.specs.Shown.{with_mark, with_marks, marks, marks_all, same_mark, is_arrow, is_compound, text_if, variable_text, type_text, args_text, shown_sides};
+ghost use Rattle.core_types.specs.Shown.{with_mark_if_new, with_marks, marks, marks_all, same_mark, is_arrow, is_compound, text_if, variable_text, type_text, args_text, shown_sides};
 ghost use Rattle.core_types.specs.Sides.{type_of, types_from};
 
 use crate::sides::Ty;
@@ -33,7 +33,7 @@ fn signature_mark(function: NameId, variable: NameId) -> VariableMark
 
 /// Puts a variable at the end where it is new.
 fn enter_mark(seen: &mut IndexSet<VariableMark>, mark: VariableMark) -> Result<(), AllocError>
-    ensures { OnOk result (seen.new.keys ≡ with_mark seen.old.keys mark) }
+    ensures { OnOk result (seen.new.keys ≡ with_mark_if_new seen.old.keys mark) }
 {
     seen.insert(mark)?;
     Ok(())

@@ -3,7 +3,7 @@ use Rattle.std.proofs.Common.{◌≡◌, ℕ, Bool, true, false, not, []}
 use Rattle.std.specs.Prelude.{◌⊎◌}
 use Rattle.grin_syntax.specs.declared.program.Cell.{Cell}
 use Rattle.grin_syntax.specs.declared.program.Word.{Word}
-use Rattle.grin_syntax.specs.Tree.{Code, end, store, bind, Act, unit, fetch, fetch_word, update, eval, apply, case, nested, Arms, no_arm, arm, Program}
+use Rattle.grin_syntax.specs.Tree.{Code, end, store, bind, Act, leaf, unit, fetch, fetch_word, update, eval, apply, case, nested, Arms, no_arm, arm, Program}
 use Rattle.grin_syntax.specs.Binders.{target_vars, shape_vars}
 use Rattle.grin_syntax.specs.Formed.{AllOf}
 use Rattle.grin_meaning.specs.Ready.{NoNodeVar}
@@ -34,12 +34,12 @@ module _ (A : Solution) (g : Program) (stays : ℕ → Bool) where
 
     unfoldable mutual
       pub ActFine : Act → Type 0
-      ActFine (unit v) = NoNodeVar v
-      ActFine (fetch a) = ⊥
-      ActFine (fetch_word a i) = WordStays a
-      ActFine (update a v) = UpdateFine a × NoNodeVar v
-      ActFine (eval a) = ⊥
-      ActFine (apply v a) = ⊥
+      ActFine (leaf (unit v)) = NoNodeVar v
+      ActFine (leaf (fetch a)) = ⊥
+      ActFine (leaf (fetch_word a i)) = WordStays a
+      ActFine (leaf (update a v)) = UpdateFine a × NoNodeVar v
+      ActFine (leaf (eval a)) = ⊥
+      ActFine (leaf (apply v a)) = ⊥
       ActFine (case v as') = NoNodeVar v × ArmsFine as'
       ActFine (nested b) = CodeFine b
       ActFine _ = Unit {0}

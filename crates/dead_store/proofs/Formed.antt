@@ -11,7 +11,7 @@ use Rattle.grin_syntax.specs.declared.program.Val.{Val}
 use Rattle.grin_syntax.specs.declared.program.Val.TheVariants.{NodeVar, Node, Vector, One}
 use Rattle.grin_syntax.specs.declared.program.Word.{Word}
 use Rattle.grin_syntax.specs.declared.program.Word.TheVariants.{Lit, Var, Global, TagWord}
-use Rattle.grin_syntax.specs.Tree.{Code, end, store, bind, Act, unit, fetch, fetch_word, update, eval, apply, call, prim, read, write, case, nested, fail, Arms, no_arm, arm, Procedure, Program}
+use Rattle.grin_syntax.specs.Tree.{Code, end, store, bind, Act, leaf, unit, fetch, fetch_word, update, eval, apply, call, prim, read, write, case, nested, fail, Arms, no_arm, arm, Procedure, Program}
 use Rattle.grin_syntax.specs.Binders.{numbers_of, target_vars, shape_vars, cell_vars, act_vars, code_vars, arms_vars, procs_vars, act_sites, code_sites, arms_sites, procs_sites, program_sites}
 use Rattle.grin_syntax.specs.Formed.{AllOf, Scope, InScope, with_word_variables, with_target, params_scope, WordFormed, ValFormed, CellFormed, Formed, ActFormed, CodeFormed, ArmsFormed, ProcedureFormed}
 use Rattle.grin_syntax.specs.SameOutside.{DifferOnlyInBodies}
@@ -64,17 +64,17 @@ module _ (stays gone : ℕ → Bool) where
       act_vars_fewer : (o : Act) → times y (act_vars (without_act stays gone o)) ≤ times y (act_vars o)
       act_vars_fewer (case v as') = arms_vars_fewer as'
       act_vars_fewer (nested b) = code_vars_fewer b
-      act_vars_fewer (unit v) = omega arith
-      act_vars_fewer (fetch a) = omega arith
-      act_vars_fewer (fetch_word a i) = omega arith
-      act_vars_fewer (update a v) = either (λ o. times y (act_vars o) ≤ 0) (is_one_of gone a) (unit (Vector [])) (update (without_word gone a) (without_val gone v)) (omega arith) (omega arith)
-      act_vars_fewer (eval a) = omega arith
-      act_vars_fewer (apply v a) = omega arith
-      act_vars_fewer (call f ws) = omega arith
-      act_vars_fewer (prim f a b) = omega arith
-      act_vars_fewer read = omega arith
-      act_vars_fewer (write a) = omega arith
-      act_vars_fewer fail = omega arith
+      act_vars_fewer (leaf (unit v)) = omega arith
+      act_vars_fewer (leaf (fetch a)) = omega arith
+      act_vars_fewer (leaf (fetch_word a i)) = omega arith
+      act_vars_fewer (leaf (update a v)) = either (λ o. times y (act_vars o) ≤ 0) (is_one_of gone a) (leaf (unit (Vector []))) (leaf (update (without_word gone a) (without_val gone v))) (omega arith) (omega arith)
+      act_vars_fewer (leaf (eval a)) = omega arith
+      act_vars_fewer (leaf (apply v a)) = omega arith
+      act_vars_fewer (leaf (call f ws)) = omega arith
+      act_vars_fewer (leaf (prim f a b)) = omega arith
+      act_vars_fewer (leaf read) = omega arith
+      act_vars_fewer (leaf (write a)) = omega arith
+      act_vars_fewer (leaf fail) = omega arith
 
       code_vars_fewer : (b : Code) → times y (code_vars (without_code stays gone b)) ≤ times y (code_vars b)
       code_vars_fewer (end o) = act_vars_fewer o
@@ -96,17 +96,17 @@ module _ (stays gone : ℕ → Bool) where
       act_sites_fewer : (o : Act) → times y (act_sites (without_act stays gone o)) ≤ times y (act_sites o)
       act_sites_fewer (case v as') = arms_sites_fewer as'
       act_sites_fewer (nested b) = code_sites_fewer b
-      act_sites_fewer (unit v) = omega arith
-      act_sites_fewer (fetch a) = omega arith
-      act_sites_fewer (fetch_word a i) = omega arith
-      act_sites_fewer (update a v) = either (λ o. times y (act_sites o) ≤ 0) (is_one_of gone a) (unit (Vector [])) (update (without_word gone a) (without_val gone v)) (omega arith) (omega arith)
-      act_sites_fewer (eval a) = omega arith
-      act_sites_fewer (apply v a) = omega arith
-      act_sites_fewer (call f ws) = omega arith
-      act_sites_fewer (prim f a b) = omega arith
-      act_sites_fewer read = omega arith
-      act_sites_fewer (write a) = omega arith
-      act_sites_fewer fail = omega arith
+      act_sites_fewer (leaf (unit v)) = omega arith
+      act_sites_fewer (leaf (fetch a)) = omega arith
+      act_sites_fewer (leaf (fetch_word a i)) = omega arith
+      act_sites_fewer (leaf (update a v)) = either (λ o. times y (act_sites o) ≤ 0) (is_one_of gone a) (leaf (unit (Vector []))) (leaf (update (without_word gone a) (without_val gone v))) (omega arith) (omega arith)
+      act_sites_fewer (leaf (eval a)) = omega arith
+      act_sites_fewer (leaf (apply v a)) = omega arith
+      act_sites_fewer (leaf (call f ws)) = omega arith
+      act_sites_fewer (leaf (prim f a b)) = omega arith
+      act_sites_fewer (leaf read) = omega arith
+      act_sites_fewer (leaf (write a)) = omega arith
+      act_sites_fewer (leaf fail) = omega arith
 
       code_sites_fewer : (b : Code) → times y (code_sites (without_code stays gone b)) ≤ times y (code_sites b)
       code_sites_fewer (end o) = act_sites_fewer o
@@ -225,19 +225,19 @@ module _ (stays gone : ℕ → Bool) where
         unfolding without_act ActFormed ActFine
 
         act_formed : (scope scope' : Scope) → Fits scope scope' → (o : Act) → ActFine A g stays gone stored o → ActFormed p scope o → ActFormed after scope' (without_act stays gone o)
-        act_formed scope scope' w (unit v) ok h = val_formed scope scope' w v h
-        act_formed scope scope' w (fetch a) ok h = absurd ok
-        act_formed scope scope' w (fetch_word a i) ok h = word_formed scope scope' w a h
-        act_formed scope scope' w (update a v) ok h = either (ActFormed after scope') (is_one_of gone a) (unit (Vector [])) (update (without_word gone a) (without_val gone v)) tt (word_formed scope scope' w a h.0, val_formed scope scope' w v h.1)
-        act_formed scope scope' w (eval a) ok h = absurd ok
-        act_formed scope scope' w (apply v a) ok h = absurd ok
-        act_formed scope scope' w (call f ws) ok h = (known_again p procs same_count f h.0, words_formed scope scope' w ws h.1)
-        act_formed scope scope' w (prim f a b) ok h = (word_formed scope scope' w a h.0, word_formed scope scope' w b h.1)
-        act_formed scope scope' w read ok h = tt
-        act_formed scope scope' w (write a) ok h = word_formed scope scope' w a h
+        act_formed scope scope' w (leaf (unit v)) ok h = val_formed scope scope' w v h
+        act_formed scope scope' w (leaf (fetch a)) ok h = absurd ok
+        act_formed scope scope' w (leaf (fetch_word a i)) ok h = word_formed scope scope' w a h
+        act_formed scope scope' w (leaf (update a v)) ok h = either (ActFormed after scope') (is_one_of gone a) (leaf (unit (Vector []))) (leaf (update (without_word gone a) (without_val gone v))) tt (word_formed scope scope' w a h.0, val_formed scope scope' w v h.1)
+        act_formed scope scope' w (leaf (eval a)) ok h = absurd ok
+        act_formed scope scope' w (leaf (apply v a)) ok h = absurd ok
+        act_formed scope scope' w (leaf (call f ws)) ok h = (known_again p procs same_count f h.0, words_formed scope scope' w ws h.1)
+        act_formed scope scope' w (leaf (prim f a b)) ok h = (word_formed scope scope' w a h.0, word_formed scope scope' w b h.1)
+        act_formed scope scope' w (leaf read) ok h = tt
+        act_formed scope scope' w (leaf (write a)) ok h = word_formed scope scope' w a h
         act_formed scope scope' w (case v as') ok h = (val_formed scope scope' w v h.0, arms_formed scope scope' w as' ok.1 h.1)
         act_formed scope scope' w (nested b) ok h = code_formed scope scope' w b ok h
-        act_formed scope scope' w fail ok h = tt
+        act_formed scope scope' w (leaf fail) ok h = tt
 
         code_formed : (scope scope' : Scope) → Fits scope scope' → (b : Code) → CodeFine A g stays gone stored b → CodeFormed p scope b → CodeFormed after scope' (without_code stays gone b)
         code_formed scope scope' w (end o) ok h = act_formed scope scope' w o ok h

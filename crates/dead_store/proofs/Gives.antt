@@ -7,7 +7,7 @@ use Rattle.grin_syntax.specs.declared.program.Val.{Val}
 use Rattle.grin_syntax.specs.declared.program.Val.TheVariants.{NodeVar, Node, Vector, One}
 use Rattle.grin_syntax.specs.declared.program.Word.{Word}
 use Rattle.grin_syntax.specs.declared.program.Word.TheVariants.{Lit, Var, Global, TagWord}
-use Rattle.grin_syntax.specs.Tree.{Code, end, store, bind, Act, unit, fetch, fetch_word, update, eval, apply, call, prim, read, write, case, nested, fail, Arms, no_arm, arm, Procedure}
+use Rattle.grin_syntax.specs.Tree.{Code, end, store, bind, Act, leaf, unit, fetch, fetch_word, update, eval, apply, call, prim, read, write, case, nested, fail, Arms, no_arm, arm, Procedure}
 use Rattle.grin_syntax.specs.Formed.{AllOf}
 use Rattle.grin_syntax.specs.SameOutside.{names_of}
 use Rattle.grin_meaning.specs.Ready.{EachAct, EachCode, EachArms, NoNodeVar, NarrowAct, NarrowCode, NarrowArms, val_width, PieceKind, EveryBodyIsOfKind, inlined_kind, without_node_fetches, vectorised_kind, narrow_kind}
@@ -26,7 +26,7 @@ either P false x y h k = k
 module _ (stays gone : ℕ → Bool) where
   -- an update, or nothing in its place
   abbrev updated : Word → Val → Bool → Act
-  updated a v b = cond b (unit (Vector [])) (update (without_word gone a) (without_val gone v))
+  updated a v b = cond b (leaf (unit (Vector []))) (leaf (update (without_word gone a) (without_val gone v)))
 
   -- ---- what is asked of each operation and each value stays so
 
@@ -60,17 +60,17 @@ module _ (stays gone : ℕ → Bool) where
       act_each : (o : Act) → EachAct K o → EachAct K (without_act stays gone o)
       act_each (case v as') h = (s.operations (case v as') h.0, s.values v h.1, arms_each as' h.2)
       act_each (nested b) h = (s.operations (nested b) h.0, code_each b h.1)
-      act_each (unit v) h = (s.operations (unit v) h.0, s.values v h.1)
-      act_each (update a v) h = update_each a v (is_one_of gone a) (s.operations (update a v) h.0) (s.values v h.1)
-      act_each (apply v a) h = (s.operations (apply v a) h.0, s.values v h.1)
-      act_each (fetch a) h = s.operations (fetch a) h
-      act_each (fetch_word a i) h = s.operations (fetch_word a i) h
-      act_each (eval a) h = s.operations (eval a) h
-      act_each (call f ws) h = s.operations (call f ws) h
-      act_each (prim f a b) h = s.operations (prim f a b) h
-      act_each read h = s.operations read h
-      act_each (write a) h = s.operations (write a) h
-      act_each fail h = s.operations fail h
+      act_each (leaf (unit v)) h = (s.operations (leaf (unit v)) h.0, s.values v h.1)
+      act_each (leaf (update a v)) h = update_each a v (is_one_of gone a) (s.operations (leaf (update a v)) h.0) (s.values v h.1)
+      act_each (leaf (apply v a)) h = (s.operations (leaf (apply v a)) h.0, s.values v h.1)
+      act_each (leaf (fetch a)) h = s.operations (leaf (fetch a)) h
+      act_each (leaf (fetch_word a i)) h = s.operations (leaf (fetch_word a i)) h
+      act_each (leaf (eval a)) h = s.operations (leaf (eval a)) h
+      act_each (leaf (call f ws)) h = s.operations (leaf (call f ws)) h
+      act_each (leaf (prim f a b)) h = s.operations (leaf (prim f a b)) h
+      act_each (leaf read) h = s.operations (leaf read) h
+      act_each (leaf (write a)) h = s.operations (leaf (write a)) h
+      act_each (leaf fail) h = s.operations (leaf fail) h
 
       code_each : (b : Code) → EachCode K b → EachCode K (without_code stays gone b)
       code_each (end o) h = act_each o h
@@ -90,38 +90,38 @@ module _ (stays gone : ℕ → Bool) where
   inlined_stays = record { operations = go; values = λ v h. h; nothing = tt }
     where
       go : (o : Act) → inlined_kind.operation o → inlined_kind.operation (without_act stays gone o)
-      go (unit v) h = tt
-      go (fetch a) h = tt
-      go (fetch_word a i) h = tt
-      go (update a v) h = either inlined_kind.operation (is_one_of gone a) (unit (Vector [])) (update (without_word gone a) (without_val gone v)) tt tt
-      go (eval a) h = h
-      go (apply v a) h = h
-      go (call f ws) h = tt
-      go (prim f a b) h = tt
-      go read h = tt
-      go (write a) h = tt
+      go (leaf (unit v)) h = tt
+      go (leaf (fetch a)) h = tt
+      go (leaf (fetch_word a i)) h = tt
+      go (leaf (update a v)) h = either inlined_kind.operation (is_one_of gone a) (leaf (unit (Vector []))) (leaf (update (without_word gone a) (without_val gone v))) tt tt
+      go (leaf (eval a)) h = h
+      go (leaf (apply v a)) h = h
+      go (leaf (call f ws)) h = tt
+      go (leaf (prim f a b)) h = tt
+      go (leaf read) h = tt
+      go (leaf (write a)) h = tt
       go (case v as') h = tt
       go (nested b) h = tt
-      go fail h = tt
+      go (leaf fail) h = tt
 
   words_stay : Stays without_node_fetches
   unfolding without_act
   words_stay = record { operations = go; values = λ v h. h; nothing = tt }
     where
       go : (o : Act) → without_node_fetches.operation o → without_node_fetches.operation (without_act stays gone o)
-      go (unit v) h = tt
-      go (fetch a) h = h
-      go (fetch_word a i) h = tt
-      go (update a v) h = either without_node_fetches.operation (is_one_of gone a) (unit (Vector [])) (update (without_word gone a) (without_val gone v)) tt tt
-      go (eval a) h = tt
-      go (apply v a) h = tt
-      go (call f ws) h = tt
-      go (prim f a b) h = tt
-      go read h = tt
-      go (write a) h = tt
+      go (leaf (unit v)) h = tt
+      go (leaf (fetch a)) h = h
+      go (leaf (fetch_word a i)) h = tt
+      go (leaf (update a v)) h = either without_node_fetches.operation (is_one_of gone a) (leaf (unit (Vector []))) (leaf (update (without_word gone a) (without_val gone v))) tt tt
+      go (leaf (eval a)) h = tt
+      go (leaf (apply v a)) h = tt
+      go (leaf (call f ws)) h = tt
+      go (leaf (prim f a b)) h = tt
+      go (leaf read) h = tt
+      go (leaf (write a)) h = tt
       go (case v as') h = tt
       go (nested b) h = tt
-      go fail h = tt
+      go (leaf fail) h = tt
 
   no_node_var : (v : Val) → NoNodeVar v → NoNodeVar (without_val gone v)
   no_node_var (NodeVar x) h = h
@@ -159,19 +159,19 @@ module _ (stays gone : ℕ → Bool) where
       unfolding without_act NarrowAct
 
       act_gives : (o : Act) → NarrowAct k most o → NarrowAct k most (without_act stays gone o)
-      act_gives (unit v) h = subst (λ n. n ≤ most) (sym (width_stays k v)) h
-      act_gives (fetch a) h = h
-      act_gives (fetch_word a i) h = tt
-      act_gives (update a v) h = either (NarrowAct k most) (is_one_of gone a) (unit (Vector [])) (update (without_word gone a) (without_val gone v)) (omega arith) tt
-      act_gives (eval a) h = tt
-      act_gives (apply v a) h = tt
-      act_gives (call f ws) h = tt
-      act_gives (prim f a b) h = tt
-      act_gives read h = tt
-      act_gives (write a) h = tt
+      act_gives (leaf (unit v)) h = subst (λ n. n ≤ most) (sym (width_stays k v)) h
+      act_gives (leaf (fetch a)) h = h
+      act_gives (leaf (fetch_word a i)) h = tt
+      act_gives (leaf (update a v)) h = either (NarrowAct k most) (is_one_of gone a) (leaf (unit (Vector []))) (leaf (update (without_word gone a) (without_val gone v))) (omega arith) tt
+      act_gives (leaf (eval a)) h = tt
+      act_gives (leaf (apply v a)) h = tt
+      act_gives (leaf (call f ws)) h = tt
+      act_gives (leaf (prim f a b)) h = tt
+      act_gives (leaf read) h = tt
+      act_gives (leaf (write a)) h = tt
       act_gives (case v as') h = arms_give as' h
       act_gives (nested b) h = code_gives b h
-      act_gives fail h = tt
+      act_gives (leaf fail) h = tt
 
       code_gives : (b : Code) → NarrowCode k most b → NarrowCode k most (without_code stays gone b)
       code_gives (end o) h = act_gives o h
@@ -225,19 +225,19 @@ module _ (stays gone : ℕ → Bool) where
     unfolding without_act act_update_sum
 
     act_counts : (o : Act) → act_update_sum count (without_act stays gone o) ≤ act_update_sum count o
-    act_counts (update a v) = either (λ o. act_update_sum count o ≤ count v) (is_one_of gone a) (unit (Vector [])) (update (without_word gone a) (without_val gone v)) (omega arith) (val_counts v)
+    act_counts (leaf (update a v)) = either (λ o. act_update_sum count o ≤ count v) (is_one_of gone a) (leaf (unit (Vector []))) (leaf (update (without_word gone a) (without_val gone v))) (omega arith) (val_counts v)
     act_counts (case v as') = arms_count as'
     act_counts (nested b) = code_counts b
-    act_counts (unit v) = omega arith
-    act_counts (fetch a) = omega arith
-    act_counts (fetch_word a i) = omega arith
-    act_counts (eval a) = omega arith
-    act_counts (apply v a) = omega arith
-    act_counts (call f ws) = omega arith
-    act_counts (prim f a b) = omega arith
-    act_counts read = omega arith
-    act_counts (write a) = omega arith
-    act_counts fail = omega arith
+    act_counts (leaf (unit v)) = omega arith
+    act_counts (leaf (fetch a)) = omega arith
+    act_counts (leaf (fetch_word a i)) = omega arith
+    act_counts (leaf (eval a)) = omega arith
+    act_counts (leaf (apply v a)) = omega arith
+    act_counts (leaf (call f ws)) = omega arith
+    act_counts (leaf (prim f a b)) = omega arith
+    act_counts (leaf read) = omega arith
+    act_counts (leaf (write a)) = omega arith
+    act_counts (leaf fail) = omega arith
 
     code_counts : (b : Code) → code_update_sum count (without_code stays gone b) ≤ code_update_sum count b
     code_counts (end o) = act_counts o
@@ -288,22 +288,22 @@ module _ (stays gone : ℕ → Bool) where
     unfolding without_act act_weight
 
     act_lighter : (o : Act) → act_weight (without_act stays gone o) ≤ act_weight o
-    act_lighter (unit v) = let e : val_weight (without_val gone v) ≡ val_weight v = weight_stays v in omega (arith, e)
-    act_lighter (fetch a) = omega arith
-    act_lighter (fetch_word a i) = omega arith
-    act_lighter (update a v) = let e : val_weight (without_val gone v) ≡ val_weight v = weight_stays v in either (λ o. act_weight o ≤ 17 + val_weight v) (is_one_of gone a) (unit (Vector [])) (update (without_word gone a) (without_val gone v)) (omega arith) (omega (arith, e))
-    act_lighter (eval a) = omega arith
-    act_lighter (apply v a) = let e : val_weight (without_val gone v) ≡ val_weight v = weight_stays v in omega (arith, e)
-    act_lighter (call f ws) = let e : length (map (without_word gone) ws) ≡ length ws = length-map ws (without_word gone) in omega (arith, e)
-    act_lighter (prim f a b) = omega arith
-    act_lighter read = omega arith
-    act_lighter (write a) = omega arith
+    act_lighter (leaf (unit v)) = let e : val_weight (without_val gone v) ≡ val_weight v = weight_stays v in omega (arith, e)
+    act_lighter (leaf (fetch a)) = omega arith
+    act_lighter (leaf (fetch_word a i)) = omega arith
+    act_lighter (leaf (update a v)) = let e : val_weight (without_val gone v) ≡ val_weight v = weight_stays v in either (λ o. act_weight o ≤ 17 + val_weight v) (is_one_of gone a) (leaf (unit (Vector []))) (leaf (update (without_word gone a) (without_val gone v))) (omega arith) (omega (arith, e))
+    act_lighter (leaf (eval a)) = omega arith
+    act_lighter (leaf (apply v a)) = let e : val_weight (without_val gone v) ≡ val_weight v = weight_stays v in omega (arith, e)
+    act_lighter (leaf (call f ws)) = let e : length (map (without_word gone) ws) ≡ length ws = length-map ws (without_word gone) in omega (arith, e)
+    act_lighter (leaf (prim f a b)) = omega arith
+    act_lighter (leaf read) = omega arith
+    act_lighter (leaf (write a)) = omega arith
     act_lighter (case v as') =
         let e : val_weight (without_val gone v) ≡ val_weight v = weight_stays v in
         let l : arms_weight (without_arms stays gone as') ≤ arms_weight as' = arms_lighter as' in
         omega (arith, e, l)
     act_lighter (nested b) = let l : code_weight (without_code stays gone b) ≤ code_weight b = code_lighter b in omega (arith, l)
-    act_lighter fail = omega arith
+    act_lighter (leaf fail) = omega arith
 
     code_lighter : (b : Code) → code_weight (without_code stays gone b) ≤ code_weight b
     code_lighter (end o) = act_lighter o
@@ -341,19 +341,19 @@ module _ (stays gone : ℕ → Bool) where
     unfolding without_act act_calls
 
     act_calls_fewer : (o : Act) → act_calls (without_act stays gone o) ≤ act_calls o
-    act_calls_fewer (unit v) = omega arith
-    act_calls_fewer (fetch a) = omega arith
-    act_calls_fewer (fetch_word a i) = omega arith
-    act_calls_fewer (update a v) = either (λ o. act_calls o ≤ 0) (is_one_of gone a) (unit (Vector [])) (update (without_word gone a) (without_val gone v)) (omega arith) (omega arith)
-    act_calls_fewer (eval a) = omega arith
-    act_calls_fewer (apply v a) = omega arith
-    act_calls_fewer (call f ws) = omega arith
-    act_calls_fewer (prim f a b) = omega arith
-    act_calls_fewer read = omega arith
-    act_calls_fewer (write a) = omega arith
+    act_calls_fewer (leaf (unit v)) = omega arith
+    act_calls_fewer (leaf (fetch a)) = omega arith
+    act_calls_fewer (leaf (fetch_word a i)) = omega arith
+    act_calls_fewer (leaf (update a v)) = either (λ o. act_calls o ≤ 0) (is_one_of gone a) (leaf (unit (Vector []))) (leaf (update (without_word gone a) (without_val gone v))) (omega arith) (omega arith)
+    act_calls_fewer (leaf (eval a)) = omega arith
+    act_calls_fewer (leaf (apply v a)) = omega arith
+    act_calls_fewer (leaf (call f ws)) = omega arith
+    act_calls_fewer (leaf (prim f a b)) = omega arith
+    act_calls_fewer (leaf read) = omega arith
+    act_calls_fewer (leaf (write a)) = omega arith
     act_calls_fewer (case v as') = arms_calls_fewer as'
     act_calls_fewer (nested b) = code_calls_fewer b
-    act_calls_fewer fail = omega arith
+    act_calls_fewer (leaf fail) = omega arith
 
     code_calls_fewer : (b : Code) → code_calls (without_code stays gone b) ≤ code_calls b
     code_calls_fewer (end o) = act_calls_fewer o
@@ -393,19 +393,19 @@ module _ (stays gone : ℕ → Bool) where
 
   node_words_stay : (o : Act) → (node_words (without_act stays gone o) ≡ node_words o) × (end_words (without_act stays gone o) ≡ end_words o)
   unfolding without_act
-  node_words_stay (unit v) = (refl, refl)
-  node_words_stay (fetch a) = (refl, refl)
-  node_words_stay (fetch_word a i) = (refl, refl)
-  node_words_stay (update a v) = either (λ o. (node_words o ≡ 0) × (end_words o ≡ 1)) (is_one_of gone a) (unit (Vector [])) (update (without_word gone a) (without_val gone v)) (refl, refl) (refl, refl)
-  node_words_stay (eval a) = (refl, refl)
-  node_words_stay (apply v a) = (refl, refl)
-  node_words_stay (call f ws) = (refl, refl)
-  node_words_stay (prim f a b) = (refl, refl)
-  node_words_stay read = (refl, refl)
-  node_words_stay (write a) = (refl, refl)
+  node_words_stay (leaf (unit v)) = (refl, refl)
+  node_words_stay (leaf (fetch a)) = (refl, refl)
+  node_words_stay (leaf (fetch_word a i)) = (refl, refl)
+  node_words_stay (leaf (update a v)) = either (λ o. (node_words o ≡ 0) × (end_words o ≡ 1)) (is_one_of gone a) (leaf (unit (Vector []))) (leaf (update (without_word gone a) (without_val gone v))) (refl, refl) (refl, refl)
+  node_words_stay (leaf (eval a)) = (refl, refl)
+  node_words_stay (leaf (apply v a)) = (refl, refl)
+  node_words_stay (leaf (call f ws)) = (refl, refl)
+  node_words_stay (leaf (prim f a b)) = (refl, refl)
+  node_words_stay (leaf read) = (refl, refl)
+  node_words_stay (leaf (write a)) = (refl, refl)
   node_words_stay (case v as') = (refl, refl)
   node_words_stay (nested b) = (refl, refl)
-  node_words_stay fail = (refl, refl)
+  node_words_stay (leaf fail) = (refl, refl)
 
   mutual
     unfolding without_act inner_words
@@ -413,17 +413,17 @@ module _ (stays gone : ℕ → Bool) where
     act_fewer : (o : Act) → inner_words (without_act stays gone o) ≤ inner_words o
     act_fewer (case v as') = arms_fewer as'
     act_fewer (nested b) = code_fewer b
-    act_fewer (unit v) = omega arith
-    act_fewer (fetch a) = omega arith
-    act_fewer (fetch_word a i) = omega arith
-    act_fewer (update a v) = either (λ o. inner_words o ≤ 0) (is_one_of gone a) (unit (Vector [])) (update (without_word gone a) (without_val gone v)) (omega arith) (omega arith)
-    act_fewer (eval a) = omega arith
-    act_fewer (apply v a) = omega arith
-    act_fewer (call f ws) = omega arith
-    act_fewer (prim f a b) = omega arith
-    act_fewer read = omega arith
-    act_fewer (write a) = omega arith
-    act_fewer fail = omega arith
+    act_fewer (leaf (unit v)) = omega arith
+    act_fewer (leaf (fetch a)) = omega arith
+    act_fewer (leaf (fetch_word a i)) = omega arith
+    act_fewer (leaf (update a v)) = either (λ o. inner_words o ≤ 0) (is_one_of gone a) (leaf (unit (Vector []))) (leaf (update (without_word gone a) (without_val gone v))) (omega arith) (omega arith)
+    act_fewer (leaf (eval a)) = omega arith
+    act_fewer (leaf (apply v a)) = omega arith
+    act_fewer (leaf (call f ws)) = omega arith
+    act_fewer (leaf (prim f a b)) = omega arith
+    act_fewer (leaf read) = omega arith
+    act_fewer (leaf (write a)) = omega arith
+    act_fewer (leaf fail) = omega arith
 
     code_fewer : (b : Code) → code_words (without_code stays gone b) ≤ code_words b
     code_fewer (end o) =
@@ -482,17 +482,17 @@ module _ (stays gone : ℕ → Bool) where
     act_sites_stay : (o : Act) → AllOf StaysAt (act_sites (without_act stays gone o))
     act_sites_stay (case v as') = arms_sites_stay as'
     act_sites_stay (nested b) = code_sites_stay b
-    act_sites_stay (unit v) = tt
-    act_sites_stay (fetch a) = tt
-    act_sites_stay (fetch_word a i) = tt
-    act_sites_stay (update a v) = either (λ o. AllOf StaysAt (act_sites o)) (is_one_of gone a) (unit (Vector [])) (update (without_word gone a) (without_val gone v)) tt tt
-    act_sites_stay (eval a) = tt
-    act_sites_stay (apply v a) = tt
-    act_sites_stay (call f ws) = tt
-    act_sites_stay (prim f a b) = tt
-    act_sites_stay read = tt
-    act_sites_stay (write a) = tt
-    act_sites_stay fail = tt
+    act_sites_stay (leaf (unit v)) = tt
+    act_sites_stay (leaf (fetch a)) = tt
+    act_sites_stay (leaf (fetch_word a i)) = tt
+    act_sites_stay (leaf (update a v)) = either (λ o. AllOf StaysAt (act_sites o)) (is_one_of gone a) (leaf (unit (Vector []))) (leaf (update (without_word gone a) (without_val gone v))) tt tt
+    act_sites_stay (leaf (eval a)) = tt
+    act_sites_stay (leaf (apply v a)) = tt
+    act_sites_stay (leaf (call f ws)) = tt
+    act_sites_stay (leaf (prim f a b)) = tt
+    act_sites_stay (leaf read) = tt
+    act_sites_stay (leaf (write a)) = tt
+    act_sites_stay (leaf fail) = tt
 
     code_sites_stay : (b : Code) → AllOf StaysAt (code_sites (without_code stays gone b))
     code_sites_stay (end o) = act_sites_stay o

@@ -1,7 +1,7 @@
 -- The sites of the heap of each state of a run are the first ones of the heap at its end.
 use Rattle.std.proofs.Common.{◌≡◌, ℕ, zero, suc, Bool, true, false, cond, List, [], ◌∷◌, ◌++◌, length, Option, Some, None, slice_get, slice_set, refl}
 use Rattle.seq.proofs.Lists.{all_get}
-use Rattle.grin_syntax.specs.Tree.{Code, end, store, bind, Act, unit, fetch, fetch_word, update, eval, apply, call, prim, read, write, case, nested, fail, Arms, no_arm, arm, Program}
+use Rattle.grin_syntax.specs.Tree.{Code, end, store, bind, Act, leaf, unit, fetch, fetch_word, update, eval, apply, call, prim, read, write, case, nested, fail, Arms, no_arm, arm, Program}
 use Rattle.grin_meaning.specs.Values.{Datum, number, words, Value, Env, HeapCell, State, World, Answer, gives, stops, missing, then_do, need, and_then, Binding, with_vars, one_each, MatchOutcome, fits, fits_not, unclear, fit_of, word_of, words_of, value_of, node_of, bindings_of}
 use Rattle.grin_meaning.specs.Run.{Calls, act_by, code_by, arms_by, calls_by, run_by, require_if_checked, require_value_if_checked, choose, byte_or_end, after_read, spend, spent, with_state_seen, places, cells_of, with_cells, with_node, place_of, number_of, apply_arithmetic, global_cells, start_words, start_world}
 use Rattle.grin_meaning.specs.Checks.{is_given}
@@ -82,20 +82,20 @@ module _ (g : Program) where
       unfolding act_by EachAct
 
       act_grows : (env : Env) (d : ℕ) (o : Act) (w : World) → EachAct inlined_kind o → Grows w (act_by g c looks env d o w)
-      act_grows env d (unit v) w l = need_grows (value_of g env v) w _ (λ y e. looking_grows looks _ w _ (still w))
-      act_grows env d (fetch a) w l = need_grows (and_then (word_of g env a) place_of) w _ (λ i e. need_grows (slice_get w.cells i) w _ (λ y q. still w))
-      act_grows env d (fetch_word a k) w l = need_grows (and_then (word_of g env a) place_of) w _ (λ i e. need_grows (slice_get w.cells i) w _ (λ y q. still w))
-      act_grows env d (update a v) w l = need_grows (and_then (word_of g env a) place_of) w _ (λ i e. need_grows (slice_get w.cells i) w _ (λ y q.
+      act_grows env d (leaf (unit v)) w l = need_grows (value_of g env v) w _ (λ y e. looking_grows looks _ w _ (still w))
+      act_grows env d (leaf (fetch a)) w l = need_grows (and_then (word_of g env a) place_of) w _ (λ i e. need_grows (slice_get w.cells i) w _ (λ y q. still w))
+      act_grows env d (leaf (fetch_word a k)) w l = need_grows (and_then (word_of g env a) place_of) w _ (λ i e. need_grows (slice_get w.cells i) w _ (λ y q. still w))
+      act_grows env d (leaf (update a v)) w l = need_grows (and_then (word_of g env a) place_of) w _ (λ i e. need_grows (slice_get w.cells i) w _ (λ y q.
           need_grows (node_of g env v) w _ (λ n r. looking_grows looks _ w _ (put_grows w i y n q))))
-      act_grows env d (eval a) w l = absurd l
-      act_grows env d (apply v a) w l = absurd l.0
-      act_grows env d (call f ws) w l = need_grows (words_of g env ws) w _ (λ xs e. cm.by f.0 xs d w)
-      act_grows env d (prim f a b) w l = need_grows (word_of g env a) w _ (λ x e. need_grows (word_of g env b) w _ (λ y q. need_grows (apply_arithmetic f x y) w _ (λ v r. still w)))
-      act_grows env d read w l = read_grows w.input w
-      act_grows env d (write a) w l = need_grows (and_then (word_of g env a) number_of) w _ (λ k e. record { cells = begins_self w.cells; seen = λ all. all })
+      act_grows env d (leaf (eval a)) w l = absurd l
+      act_grows env d (leaf (apply v a)) w l = absurd l.0
+      act_grows env d (leaf (call f ws)) w l = need_grows (words_of g env ws) w _ (λ xs e. cm.by f.0 xs d w)
+      act_grows env d (leaf (prim f a b)) w l = need_grows (word_of g env a) w _ (λ x e. need_grows (word_of g env b) w _ (λ y q. need_grows (apply_arithmetic f x y) w _ (λ v r. still w)))
+      act_grows env d (leaf read) w l = read_grows w.input w
+      act_grows env d (leaf (write a)) w l = need_grows (and_then (word_of g env a) number_of) w _ (λ k e. record { cells = begins_self w.cells; seen = λ all. all })
       act_grows env d (case v as') w l = need_grows (value_of g env v) w _ (λ y e. arms_grow env d y as' w l.2)
       act_grows env d (nested b) w l = code_grows env d b w l.1
-      act_grows env d fail w l = still w
+      act_grows env d (leaf fail) w l = still w
 
       code_grows : (env : Env) (d : ℕ) (b : Code) (w : World) → EachCode inlined_kind b → Grows w (code_by g c looks env d b w)
       code_grows env d (end o) w l = act_grows env d o w l

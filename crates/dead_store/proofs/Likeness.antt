@@ -12,7 +12,7 @@ use Rattle.grin_syntax.specs.declared.program.Target.TheVariants as to
 use Rattle.grin_syntax.specs.declared.program.Val.{Val}
 use Rattle.grin_syntax.specs.declared.program.Val.TheVariants.{Vector}
 use Rattle.grin_syntax.specs.declared.program.Word.{Word}
-use Rattle.grin_syntax.specs.Tree.{Code, end, store, bind, Act, unit, fetch, fetch_word, update, eval, apply, call, prim, read, write, case, nested, fail, Arms, no_arm, arm, Procedure, Program}
+use Rattle.grin_syntax.specs.Tree.{Code, end, store, bind, Act, leaf, unit, fetch, fetch_word, update, eval, apply, call, prim, read, write, case, nested, fail, Arms, no_arm, arm, Procedure, Program}
 use Rattle.grin_syntax.specs.Binders.{target_vars, shape_vars}
 use Rattle.grin_syntax.specs.Formed.{AllOf}
 use Rattle.grin_meaning.specs.Values.{Datum, number, tag, cell, Node, Value, node, words, bindings_of, Env, HeapCell, World, gives, need, and_then, Binding, with_vars, fits, fits_not, number_fit, node_fit, int_fit, fit_of, word_of, as_node}
@@ -81,35 +81,35 @@ no_variables P g shape.Else v bs h e = let none : [] ≡ bs = cc in subst (λ l.
 
 block_stays : (stays gone : ℕ → Bool) (o : Act) → has_block (without_act stays gone o) ≡ has_block o
 unfolding without_act
-block_stays stays gone (unit v) = refl
-block_stays stays gone (fetch a) = refl
-block_stays stays gone (fetch_word a i) = refl
-block_stays stays gone (update a v) = either (λ o. has_block o ≡ false) (is_one_of gone a) (unit (Vector [])) (update (without_word gone a) (without_val gone v)) refl refl
-block_stays stays gone (eval a) = refl
-block_stays stays gone (apply v a) = refl
-block_stays stays gone (call p ws) = refl
-block_stays stays gone (prim p a b) = refl
-block_stays stays gone read = refl
-block_stays stays gone (write a) = refl
+block_stays stays gone (leaf (unit v)) = refl
+block_stays stays gone (leaf (fetch a)) = refl
+block_stays stays gone (leaf (fetch_word a i)) = refl
+block_stays stays gone (leaf (update a v)) = either (λ o. has_block o ≡ false) (is_one_of gone a) (leaf (unit (Vector []))) (leaf (update (without_word gone a) (without_val gone v))) refl refl
+block_stays stays gone (leaf (eval a)) = refl
+block_stays stays gone (leaf (apply v a)) = refl
+block_stays stays gone (leaf (call p ws)) = refl
+block_stays stays gone (leaf (prim p a b)) = refl
+block_stays stays gone (leaf read) = refl
+block_stays stays gone (leaf (write a)) = refl
 block_stays stays gone (case v as') = refl
 block_stays stays gone (nested b) = refl
-block_stays stays gone fail = refl
+block_stays stays gone (leaf fail) = refl
 
 fetch_stays : (stays gone : ℕ → Bool) (o : Act) → is_fetch (without_act stays gone o) ≡ is_fetch o
 unfolding without_act
-fetch_stays stays gone (unit v) = refl
-fetch_stays stays gone (fetch a) = refl
-fetch_stays stays gone (fetch_word a i) = refl
-fetch_stays stays gone (update a v) = either (λ o. is_fetch o ≡ false) (is_one_of gone a) (unit (Vector [])) (update (without_word gone a) (without_val gone v)) refl refl
-fetch_stays stays gone (eval a) = refl
-fetch_stays stays gone (apply v a) = refl
-fetch_stays stays gone (call p ws) = refl
-fetch_stays stays gone (prim p a b) = refl
-fetch_stays stays gone read = refl
-fetch_stays stays gone (write a) = refl
+fetch_stays stays gone (leaf (unit v)) = refl
+fetch_stays stays gone (leaf (fetch a)) = refl
+fetch_stays stays gone (leaf (fetch_word a i)) = refl
+fetch_stays stays gone (leaf (update a v)) = either (λ o. is_fetch o ≡ false) (is_one_of gone a) (leaf (unit (Vector []))) (leaf (update (without_word gone a) (without_val gone v))) refl refl
+fetch_stays stays gone (leaf (eval a)) = refl
+fetch_stays stays gone (leaf (apply v a)) = refl
+fetch_stays stays gone (leaf (call p ws)) = refl
+fetch_stays stays gone (leaf (prim p a b)) = refl
+fetch_stays stays gone (leaf read) = refl
+fetch_stays stays gone (leaf (write a)) = refl
 fetch_stays stays gone (case v as') = refl
 fetch_stays stays gone (nested b) = refl
-fetch_stays stays gone fail = refl
+fetch_stays stays gone (leaf fail) = refl
 
 fine_vars : (stays gone : ℕ → Bool) (F : List HeapCell) (cs : List Cell) → AllOf (λ c. (gone c.var.0 ≡ not (stays c.site.0)) × NoNodeVar c.val) cs → AllOf (VarFine stays gone F) cs × AllOf (λ c. NoNodeVar c.val) cs
 fine_vars stays gone F [] h = (tt, tt)
@@ -194,7 +194,7 @@ module _ (g : Program) (A : Solution) (stays gone : ℕ → Bool) (F : List Heap
 
     -- ---- operations without blocks
 
-    unit_like : (v : Val) → NoNodeVar v → ActLike (unit v) (unit (without_val gone v))
+    unit_like : (v : Val) → NoNodeVar v → ActLike (leaf (unit v)) (leaf (unit (without_val gone v)))
     unit_like v ok = unit_follows it v (without_val gone v) (λ x y e seen. (
       λ l. fills_too stays gone F g procs globals x.env x.env' x.related.0 v y e (seen l),
       value_to stays F y,
@@ -202,14 +202,14 @@ module _ (g : Program) (A : Solution) (stays gone : ℕ → Bool) (F : List Heap
       same,
     ))
 
-    fetch_like : (a : Word) (k : ℕ) → WordStays A g stays a → ActLike (fetch_word a k) (fetch_word (without_word gone a) k)
+    fetch_like : (a : Word) (k : ℕ) → WordStays A g stays a → ActLike (leaf (fetch_word a k)) (leaf (fetch_word (without_word gone a) k))
     fetch_like a k ok = fetch_word_follows it a (without_word gone a) k k (λ x i y e q. (
       cell_at x a i y (its_site_stays x a ok i y e q) e q,
       subst (λ d. Same (words (f stays F (node_word y.node k) ∷ [])) (words (d ∷ []))) (sym (word_renamed stays F y.node k)) same,
     ))
 
     -- an update of a cell that stays
-    update_kept : (a : Word) (v : Val) → UpdateFine A g stays gone stored a → is_one_of gone a ≡ false → NoNodeVar v → ActLike (update a v) (update (without_word gone a) (without_val gone v))
+    update_kept : (a : Word) (v : Val) → UpdateFine A g stays gone stored a → is_one_of gone a ≡ false → NoNodeVar v → ActLike (leaf (update a v)) (leaf (update (without_word gone a) (without_val gone v)))
     update_kept a v ok there okv = update_follows it a (without_word gone a) v (without_val gone v) same (λ x i y e q.
         let s : stays y.site ≡ true = ⊎_elim (λ o. sym (stays_get stays x.w.cells F i y x.known.1 q) ∙ own_stays stays gone F stored g x.env a i x.related.1 e o there) (λ w. its_site_stays x a w i y e q) ok in (
           cell_at x a i y s e q,
@@ -222,18 +222,18 @@ module _ (g : Program) (A : Solution) (stays gone : ℕ → Bool) (F : List Heap
         ))
 
     -- and of one that leaves
-    update_goes : (a : Word) (v : Val) → is_one_of gone a ≡ true → DoneAlone it R V (update a v)
+    update_goes : (a : Word) (v : Val) → is_one_of gone a ≡ true → DoneAlone it R V (leaf (update a v))
     update_goes a v goes = update_alone it {R = R} {V = V} a v same (λ x i y e q n.
         x.b.heaps ∙ sym (left_set stays (f stays F) x.w.cells i y n q (sym (stays_get stays x.w.cells F i y x.known.1 q) ∙ gone_leaves stays gone F g x.env x.env' a i x.related.0 e goes)))
 
-    update_like : (a : Word) (v : Val) → UpdateFine A g stays gone stored a → NoNodeVar v → ActLike (update a v) (cond (is_one_of gone a) (unit (Vector [])) (update (without_word gone a) (without_val gone v)))
+    update_like : (a : Word) (v : Val) → UpdateFine A g stays gone stored a → NoNodeVar v → ActLike (leaf (update a v)) (cond (is_one_of gone a) (leaf (unit (Vector []))) (leaf (update (without_word gone a) (without_val gone v))))
     update_like a v ok okv = go (is_one_of gone a) refl
       where
-        go : (b : Bool) → is_one_of gone a ≡ b → ActLike (update a v) (cond b (unit (Vector [])) (update (without_word gone a) (without_val gone v)))
-        go true e = unit_left it {R = R} {V = V} (update a v) (update_goes a v e)
+        go : (b : Bool) → is_one_of gone a ≡ b → ActLike (leaf (update a v)) (cond b (leaf (unit (Vector []))) (leaf (update (without_word gone a) (without_val gone v))))
+        go true e = unit_left it {R = R} {V = V} (leaf (update a v)) (update_goes a v e)
         go false e = update_kept a v ok e okv
 
-    call_like : (p : ProcId) (ws : List Word) → ActLike (call p ws) (call p (map (without_word gone) ws))
+    call_like : (p : ProcId) (ws : List Word) → ActLike (leaf (call p ws)) (leaf (call p (map (without_word gone) ws)))
     call_like p ws = call_follows it p ws (map (without_word gone) ws) (λ x xs e. (map (f stays F) xs, words_too stays gone F g procs globals x.env x.env' x.related.0 ws xs e, same))
 
     numbers_like : (p : PrimOp) (y z : Datum) (w : World) (b : Beside compared w) → Sim plan.P compared V (need (apply_arithmetic p y z) w (λ v. gives v w)) (need (apply_arithmetic p (f stays F y) (f stays F z)) (beside b) (λ v. gives v (beside b)))
@@ -243,7 +243,7 @@ module _ (g : Program) (A : Solution) (stays gone : ℕ → Bool) (F : List Heap
     numbers_like p (tag t) z w b = λ _. free
     numbers_like p (cell a) z w b = λ _. free
 
-    prim_like : (p : PrimOp) (a b : Word) → ActLike (prim p a b) (prim p (without_word gone a) (without_word gone b))
+    prim_like : (p : PrimOp) (a b : Word) → ActLike (leaf (prim p a b)) (leaf (prim p (without_word gone a) (without_word gone b)))
     unfolding act_by
     prim_like p a b = record {
       by = λ x. need_sim plan.P compared V (word_of g x.env a) (word_of after x.env' (without_word gone a)) x.w (beside x.b) _ _ (λ y e. (
@@ -264,7 +264,7 @@ module _ (g : Program) (A : Solution) (stays gone : ℕ → Bool) (F : List Heap
         go None q e = none_is_some e
         go (Some d) q e = ap (λ o. and_then o number_of) (word_too stays gone F g procs globals x.env x.env' x.related.0 a d q) ∙ number_renamed stays F d k e
 
-    write_like : (a : Word) → ActLike (write a) (write (without_word gone a))
+    write_like : (a : Word) → ActLike (leaf (write a)) (leaf (write (without_word gone a)))
     unfolding act_by
     write_like a = record {
       by = λ x. need_sim plan.P compared V (and_then (word_of g x.env a) number_of) (and_then (word_of after x.env' (without_word gone a)) number_of) x.w (beside x.b) _ _ (λ k e. (
@@ -345,20 +345,20 @@ module _ (g : Program) (A : Solution) (stays gone : ℕ → Bool) (F : List Heap
 
     -- a statement that leaves
     bind_goes : (o : Act) (b b' : Code) → updates_gone gone o ≡ true → CodeLike b b' → CodeLike (bind to.Nothing o b) b'
-    bind_goes (update a v) b b' e k = bind_left it {R = R} {R' = R} {U = V} {V = V} to.Nothing (update a v) b b' (update_goes a v e) k
+    bind_goes (leaf (update a v)) b b' e k = bind_left it {R = R} {R' = R} {U = V} {V = V} to.Nothing (leaf (update a v)) b b' (update_goes a v e) k
         (λ x cells w bs q. subst (λ bs. R cells (with_vars bs x.env) x.env') (binds_nothing w bs q) x.related)
-    bind_goes (unit v) b b' e k = false_not_true e
-    bind_goes (fetch a) b b' e k = false_not_true e
-    bind_goes (fetch_word a i) b b' e k = false_not_true e
-    bind_goes (eval a) b b' e k = false_not_true e
-    bind_goes (apply v a) b b' e k = false_not_true e
-    bind_goes (call p ws) b b' e k = false_not_true e
-    bind_goes (prim p a d) b b' e k = false_not_true e
-    bind_goes read b b' e k = false_not_true e
-    bind_goes (write a) b b' e k = false_not_true e
+    bind_goes (leaf (unit v)) b b' e k = false_not_true e
+    bind_goes (leaf (fetch a)) b b' e k = false_not_true e
+    bind_goes (leaf (fetch_word a i)) b b' e k = false_not_true e
+    bind_goes (leaf (eval a)) b b' e k = false_not_true e
+    bind_goes (leaf (apply v a)) b b' e k = false_not_true e
+    bind_goes (leaf (call p ws)) b b' e k = false_not_true e
+    bind_goes (leaf (prim p a d)) b b' e k = false_not_true e
+    bind_goes (leaf read) b b' e k = false_not_true e
+    bind_goes (leaf (write a)) b b' e k = false_not_true e
     bind_goes (case v as') b b' e k = false_not_true e
     bind_goes (nested d) b b' e k = false_not_true e
-    bind_goes fail b b' e k = false_not_true e
+    bind_goes (leaf fail) b b' e k = false_not_true e
 
     bind_like : (t : Target) (o o' : Act) (b b' : Code) → has_block o' ≡ has_block o → is_fetch o' ≡ is_fetch o → AllOf (IsThere A g stays gone stored) (target_vars t) × AllOf (IsOther A g stays gone stored) (target_vars t)
         → ActLike o o' → CodeLike b b' → CodeLike (bind t o b) (cond (leaves gone t o) b' (bind t o' b'))
@@ -401,19 +401,19 @@ module _ (g : Program) (A : Solution) (stays gone : ℕ → Bool) (F : List Heap
       unfolding without_act ActFine
 
       act_like : (o : Act) → ActFine A g stays gone stored o → ActLike o (without_act stays gone o)
-      act_like (unit v) ok = unit_like v ok
-      act_like (fetch a) ok = absurd ok
-      act_like (fetch_word a i) ok = fetch_like a i ok
-      act_like (update a v) ok = update_like a v ok.0 ok.1
-      act_like (eval a) ok = absurd ok
-      act_like (apply v a) ok = absurd ok
-      act_like (call p ws) ok = call_like p ws
-      act_like (prim p a b) ok = prim_like p a b
-      act_like read ok = read_follows it {R = R} {V = V} (λ k. same)
-      act_like (write a) ok = write_like a
+      act_like (leaf (unit v)) ok = unit_like v ok
+      act_like (leaf (fetch a)) ok = absurd ok
+      act_like (leaf (fetch_word a i)) ok = fetch_like a i ok
+      act_like (leaf (update a v)) ok = update_like a v ok.0 ok.1
+      act_like (leaf (eval a)) ok = absurd ok
+      act_like (leaf (apply v a)) ok = absurd ok
+      act_like (leaf (call p ws)) ok = call_like p ws
+      act_like (leaf (prim p a b)) ok = prim_like p a b
+      act_like (leaf read) ok = read_follows it {R = R} {V = V} (λ k. same)
+      act_like (leaf (write a)) ok = write_like a
       act_like (case v as') ok = case_like v as' (without_arms stays gone as') ok.0 (arms_like as' ok.1)
       act_like (nested b) ok = nested_follows it {R = R} {V = V} b (without_code stays gone b) (code_like b ok)
-      act_like fail ok = fail_follows it {R = R} {V = V}
+      act_like (leaf fail) ok = fail_follows it {R = R} {V = V}
 
       pub code_like : (b : Code) → CodeFine A g stays gone stored b → CodeLike b (without_code stays gone b)
       code_like (end o) ok = end_follows it {R = R} {V = V} o (without_act stays gone o) (act_like o ok)

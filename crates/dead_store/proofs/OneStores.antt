@@ -6,7 +6,7 @@ use Rattle.grin_syntax.specs.declared.program.Target.{Target}
 use Rattle.grin_syntax.specs.declared.program.Val.{Val}
 use Rattle.grin_syntax.specs.declared.program.Val.TheVariants.{Vector}
 use Rattle.grin_syntax.specs.declared.program.Word.{Word}
-use Rattle.grin_syntax.specs.Tree.{Code, store, bind, Act, unit, update}
+use Rattle.grin_syntax.specs.Tree.{Code, store, bind, Act, leaf, unit, update}
 use Rattle.grin_meaning.specs.Values.{Node, Value, words, Env, HeapCell, World, missing, Answer, gives, with_vars, Binding, node_of, bindings_of}
 use Rattle.grin_meaning.specs.Run.{act_by, code_by, require_if_checked, with_state_seen, places, cells_of, with_cells}
 use Rattle.grin_meaning.specs.Checks.{fills, all_fill, is_bound_well}
@@ -62,7 +62,7 @@ module _ (s : Setting) where
 
   pub update_alone : {R : Relation} {V : Value → Value → Type 0} (a : Word) (v : Val) → V (words []) (words [])
       → ((x : Here plan R) (i : ℕ) (y : HeapCell) → place_in s x.env a ≡ Some i → slice_get x.w.cells i ≡ Some y → (n : Node) → K.Heaps (slice_set x.w.cells i (record { site = y.site; node = n })) x.b.cells)
-      → DoneAlone R V (update a v)
+      → DoneAlone R V (leaf (update a v))
   unfolding act_by
   update_alone {R} {V} a v none heaps = record {
     by = λ x. need_first P K V (place_in s x.env a) x.w _ _ (λ i e. need_first P K V (slice_get x.w.cells i) x.w _ _ (λ y q. need_first P K V (node_of g x.env v) x.w _ _ (λ n m.
@@ -70,7 +70,7 @@ module _ (s : Setting) where
   }
 
   -- in its place the second gives no words
-  pub unit_left : {R : Relation} {V : Value → Value → Type 0} (o : Act) → DoneAlone R V o → ActFollows s R V o (unit (Vector []))
+  pub unit_left : {R : Relation} {V : Value → Value → Type 0} (o : Act) → DoneAlone R V o → ActFollows s R V o (leaf (unit (Vector [])))
   unfolding act_by
   unit_left {R} {V} o f = record { by = λ x. subst (Sim P K V (act_by g c looks x.env x.d o x.w)) (given x.env' (beside x.b) looks) (f.by x) }
     where

@@ -2,7 +2,7 @@
 use Rattle.std.proofs.Common.{◌≡◌, ℕ, ◌+◌, ◌≤◌, Bool, true, false, cond, not, nat_eq, List, [], ◌∷◌, ◌++◌, refl, sym, ap, ◌∙◌, inl, inr, ⊎_elim, arith}
 use Rattle.grin_syntax.specs.declared.program.Cell.{Cell}
 use Rattle.grin_syntax.specs.declared.program.Word.{Word}
-use Rattle.grin_syntax.specs.Tree.{Code, end, store, bind, Act, unit, fetch, fetch_word, update, eval, apply, call, prim, read, write, case, nested, fail, Arms, no_arm, arm, Procedure, Program}
+use Rattle.grin_syntax.specs.Tree.{Code, end, store, bind, Act, leaf, unit, fetch, fetch_word, update, eval, apply, call, prim, read, write, case, nested, fail, Arms, no_arm, arm, Procedure, Program}
 use Rattle.grin_syntax.specs.Binders.{numbers_of, target_vars, shape_vars, cell_vars, act_vars, code_vars, arms_vars, procs_vars}
 use Rattle.grin_syntax.specs.Formed.{AllOf}
 use Rattle.grin_meaning.specs.Ready.{EachAct, EachCode, EachArms, EveryBodyIsOfKind, inlined_kind, without_node_fetches, vectorised_kind, NoNodeVar}
@@ -48,17 +48,17 @@ module _ (stays : ℕ → Bool) (y : ℕ) where
     pub act_fewer : (o : Act) → times y (act_left stays o) ≤ times y (act_vars o)
     act_fewer (case v as') = arms_fewer as'
     act_fewer (nested b) = code_fewer b
-    act_fewer (unit v) = omega arith
-    act_fewer (fetch a) = omega arith
-    act_fewer (fetch_word a i) = omega arith
-    act_fewer (update a v) = omega arith
-    act_fewer (eval a) = omega arith
-    act_fewer (apply v a) = omega arith
-    act_fewer (call f ws) = omega arith
-    act_fewer (prim f a b) = omega arith
-    act_fewer read = omega arith
-    act_fewer (write a) = omega arith
-    act_fewer fail = omega arith
+    act_fewer (leaf (unit v)) = omega arith
+    act_fewer (leaf (fetch a)) = omega arith
+    act_fewer (leaf (fetch_word a i)) = omega arith
+    act_fewer (leaf (update a v)) = omega arith
+    act_fewer (leaf (eval a)) = omega arith
+    act_fewer (leaf (apply v a)) = omega arith
+    act_fewer (leaf (call f ws)) = omega arith
+    act_fewer (leaf (prim f a b)) = omega arith
+    act_fewer (leaf read) = omega arith
+    act_fewer (leaf (write a)) = omega arith
+    act_fewer (leaf fail) = omega arith
 
     pub code_fewer : (b : Code) → times y (code_left stays b) ≤ times y (code_vars b)
     code_fewer (end o) = act_fewer o
@@ -185,19 +185,19 @@ module _ (A : Solution) (g : Program) (stays gone stored : ℕ → Bool) where
     unfolding act_reads act_left act_vars EachAct ActFine
 
     act_fine : (o : Act) → EachAct inlined_kind o → EachAct without_node_fetches o → EachAct vectorised_kind o → Read (act_reads stored o) → Parts (act_vars o) (act_left stays o) (act_left none o) → ActFine A g stays gone stored o
-    act_fine (unit v) i w n r p = n.1
-    act_fine (fetch a) i w n r p = w
-    act_fine (fetch_word a k) i w n r p = r.0
-    act_fine (update a v) i w n r p = (update_fine a r, n.1)
-    act_fine (eval a) i w n r p = i
-    act_fine (apply v a) i w n r p = i.0
-    act_fine (call f ws) i w n r p = tt
-    act_fine (prim f a b) i w n r p = tt
-    act_fine read i w n r p = tt
-    act_fine (write a) i w n r p = tt
+    act_fine (leaf (unit v)) i w n r p = n.1
+    act_fine (leaf (fetch a)) i w n r p = w
+    act_fine (leaf (fetch_word a k)) i w n r p = r.0
+    act_fine (leaf (update a v)) i w n r p = (update_fine a r, n.1)
+    act_fine (leaf (eval a)) i w n r p = i
+    act_fine (leaf (apply v a)) i w n r p = i.0
+    act_fine (leaf (call f ws)) i w n r p = tt
+    act_fine (leaf (prim f a b)) i w n r p = tt
+    act_fine (leaf read) i w n r p = tt
+    act_fine (leaf (write a)) i w n r p = tt
     act_fine (case v as') i w n r p = (n.1, arms_fine as' i.2 w.2 n.2 r p)
     act_fine (nested b) i w n r p = code_fine b i.1 w.1 n.1 r p
-    act_fine fail i w n r p = tt
+    act_fine (leaf fail) i w n r p = tt
 
     code_fine : (b : Code) → EachCode inlined_kind b → EachCode without_node_fetches b → EachCode vectorised_kind b → Read (code_reads stored b) → Parts (code_vars b) (code_left stays b) (code_left none b) → CodeFine A g stays gone stored b
     code_fine (end o) i w n r p = act_fine o i w n r p

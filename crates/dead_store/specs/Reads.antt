@@ -3,7 +3,7 @@
 use Rattle.std.specs.Prelude.{ℕ, Bool, false, cond, List, [], ◌∷◌, ◌++◌}
 use Rattle.grin_syntax.specs.declared.program.Word as W
 use Rattle.grin_syntax.specs.declared.program.Word.TheVariants.{Lit, Var, Global, TagWord}
-use Rattle.grin_syntax.specs.Tree.{Code, end, store, bind, Act, fetch, fetch_word, update, case, nested, Arms, no_arm, arm, Procedure}
+use Rattle.grin_syntax.specs.Tree.{Code, end, store, bind, Act, leaf, fetch, fetch_word, update, case, nested, Arms, no_arm, arm, Procedure}
 
 -- the word is one of these variables
 abbrev pub is_one_of : (ℕ → Bool) → W.Word → Bool
@@ -19,9 +19,9 @@ module _ (stored : ℕ → Bool) where
 
   unfoldable mutual
     pub act_reads : Act → List W.Word
-    act_reads (fetch a) = a ∷ []
-    act_reads (fetch_word a i) = a ∷ []
-    act_reads (update a v) = update_reads a
+    act_reads (leaf (fetch a)) = a ∷ []
+    act_reads (leaf (fetch_word a i)) = a ∷ []
+    act_reads (leaf (update a v)) = update_reads a
     act_reads (case v as') = arms_reads as'
     act_reads (nested b) = code_reads b
     act_reads _ = []

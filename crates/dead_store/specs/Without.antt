@@ -8,7 +8,7 @@ use Rattle.grin_syntax.specs.declared.program.Cell.{Cell}
 use Rattle.grin_syntax.specs.declared.program.Shape.{Shape}
 use Rattle.grin_syntax.specs.declared.program.Target.{Target}
 use Rattle.grin_syntax.specs.declared.program.Target.TheVariants as to
-use Rattle.grin_syntax.specs.Tree.{Code, end, store, bind, Act, unit, fetch, fetch_word, update, eval, apply, call, prim, read, write, case, nested, fail, Arms, no_arm, arm, Procedure, Program}
+use Rattle.grin_syntax.specs.Tree.{Code, end, store, bind, Act, leaf, unit, fetch, fetch_word, update, eval, apply, call, prim, read, write, case, nested, fail, Arms, no_arm, arm, Procedure, Program}
 use Rattle.grin_meaning.specs.Rewritten.{rewritten_procedure}
 use Rattle.seq.specs.Lists.{is_among}
 use Rattle.dead_store.specs.Reads.{is_one_of}
@@ -32,7 +32,7 @@ module _ (gone : ℕ → Bool) where
 
   -- an update of a cell that is gone
   abbrev pub updates_gone : Act → Bool
-  updates_gone (update a v) = is_one_of gone a
+  updates_gone (leaf (update a v)) = is_one_of gone a
   updates_gone _ = false
 
   -- as a statement, it leaves its block
@@ -80,21 +80,21 @@ module _ (stays : ℕ → Bool) where
 
     unfoldable mutual
       pub without_act : Act → Act
-      without_act (unit v) = unit (without_val gone v)
-      without_act (fetch a) = fetch (without_word gone a)
-      without_act (fetch_word a i) = fetch_word (without_word gone a) i
-      without_act (update a v) =
-          cond (is_one_of gone a) (unit (Vector []))
-          (update (without_word gone a) (without_val gone v))
-      without_act (eval a) = eval (without_word gone a)
-      without_act (apply v a) = apply (without_val gone v) (without_word gone a)
-      without_act (call f ws) = call f (map (without_word gone) ws)
-      without_act (prim p a b) = prim p (without_word gone a) (without_word gone b)
-      without_act read = read
-      without_act (write a) = write (without_word gone a)
+      without_act (leaf (unit v)) = leaf (unit (without_val gone v))
+      without_act (leaf (fetch a)) = leaf (fetch (without_word gone a))
+      without_act (leaf (fetch_word a i)) = leaf (fetch_word (without_word gone a) i)
+      without_act (leaf (update a v)) =
+          cond (is_one_of gone a) (leaf (unit (Vector [])))
+          (leaf (update (without_word gone a) (without_val gone v)))
+      without_act (leaf (eval a)) = leaf (eval (without_word gone a))
+      without_act (leaf (apply v a)) = leaf (apply (without_val gone v) (without_word gone a))
+      without_act (leaf (call f ws)) = leaf (call f (map (without_word gone) ws))
+      without_act (leaf (prim p a b)) = leaf (prim p (without_word gone a) (without_word gone b))
+      without_act (leaf read) = leaf read
+      without_act (leaf (write a)) = leaf (write (without_word gone a))
       without_act (case v as') = case (without_val gone v) (without_arms as')
       without_act (nested b) = nested (without_code b)
-      without_act fail = fail
+      without_act (leaf fail) = leaf fail
 
       pub without_code : Code → Code
       without_code (end o) = end (without_act o)

@@ -2,7 +2,7 @@
 #![tactic(auto, using(grin_syntax::proofs::TreeOf::tree_of), unfolding(crate::specs::Without::without_act))]
 
 ghost use Rattle.std.specs.Prelude.{◌≡◌, ◌++◌, [], ◌∷◌, map, IfOk, OnOk};
-ghost use Rattle.grin_syntax.specs.Tree.{Code, update, act_of, before_of, arm_of, code_of, all_before};
+ghost use Rattle.grin_syntax.specs.Tree.{Code, leaf, update, act_of, before_of, arm_of, code_of, all_before};
 ghost use Rattle.dead_store.specs.Holding.{set_holds};
 ghost use Rattle.dead_store.specs.Without.{without_word, without_val, kept_cell, updates_gone, leaves, kept_cells, store_if_any, without_act, without_code, without_arm};
 
@@ -109,7 +109,7 @@ impl DeadCellRemover<'_> {
     // An update, but where the cell is gone.
     fn update(&self, alloc: Global, word: Word, val: Val) -> Result<Op, AllocError>
         ensures { IfOk result (λ o. act_of o ≡ without_act (set_holds self.now.sites.now.keys)
-            (set_holds self.now.gone.now.keys) (update word val)) }
+            (set_holds self.now.gone.now.keys) (leaf (update word val))) }
     {
         if is_one_of(self.gone, word) {
             return Ok(Op::Unit(Val::Vector(Seq::new(alloc))));

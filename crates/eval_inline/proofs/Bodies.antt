@@ -10,7 +10,7 @@ use Rattle.grin_syntax.specs.declared.program.Word.TheVariants.{Var}
 use Rattle.grin_syntax.specs.declared.program.Val.TheVariants.{NodeVar}
 use Rattle.grin_syntax.specs.declared.program.Target.TheVariants.{Nothing, Node as NodeTarget}
 use Rattle.grin_syntax.specs.declared.program.Shape.TheVariants.{Node as NodeShape}
-use Rattle.grin_syntax.specs.Tree.{Code, end, bind, unit, update, call, fail, Arms, arm, Program}
+use Rattle.grin_syntax.specs.Tree.{Code, end, bind, leaf, unit, update, call, fail, Arms, arm, Program}
 use Rattle.grin_syntax.specs.Tags.{tag_id}
 use Rattle.grin_syntax.specs.Fresh.{variable, variables}
 use Rattle.grin_meaning.specs.Run.{is_fun_kind}
@@ -24,17 +24,17 @@ known_tag ts items t i e at lt = slice_get_read ts (length ts) t i refl lt (at �
 module _ (p : Program) (A : Solution) (a : Word) (node x : ℕ) (i : Tag) where
   -- a delayed call
   pub fun_body : (f : ProcId) (fields passed : List VarId) (given : VarId) (body : Code) → i.kind ≡ kind.Fun → i.proc ≡ Some f → fields ≡ variables x i.fields → passed ≡ fields → given ≡ variable (x + i.fields)
-      → body ≡ bind (NodeTarget given) (call f (map Var passed)) (bind Nothing (update a (NodeVar given)) (end (unit (NodeVar given)))) → body ≡ eval_body p A a node x i
+      → body ≡ bind (NodeTarget given) (leaf (call f (map Var passed))) (bind Nothing (leaf (update a (NodeVar given))) (end (leaf (unit (NodeVar given))))) → body ≡ eval_body p A a node x i
   fun_body f fields passed given body k q d m r h =
-      h ∙ (λ j. bind (NodeTarget (r j)) (call f (map Var ((m ∙ d) j))) (bind Nothing (update a (NodeVar (r j))) (end (unit (NodeVar (r j))))))
-      ∙ sym (λ j. cond (is_fun_kind (k j)) (call_body p A a x i.fields (q j)) (end (unit (NodeVar (variable node)))))
+      h ∙ (λ j. bind (NodeTarget (r j)) (leaf (call f (map Var ((m ∙ d) j)))) (bind Nothing (leaf (update a (NodeVar (r j)))) (end (leaf (unit (NodeVar (r j)))))))
+      ∙ sym (λ j. cond (is_fun_kind (k j)) (call_body p A a x i.fields (q j)) (end (leaf (unit (NodeVar (variable node))))))
 
-  pub no_call_body : (body : Code) → i.kind ≡ kind.Fun → i.proc ≡ None → body ≡ end fail → body ≡ eval_body p A a node x i
-  no_call_body body k q h = h ∙ sym (λ j. cond (is_fun_kind (k j)) (call_body p A a x i.fields (q j)) (end (unit (NodeVar (variable node)))))
+  pub no_call_body : (body : Code) → i.kind ≡ kind.Fun → i.proc ≡ None → body ≡ end (leaf fail) → body ≡ eval_body p A a node x i
+  no_call_body body k q h = h ∙ sym (λ j. cond (is_fun_kind (k j)) (call_body p A a x i.fields (q j)) (end (leaf (unit (NodeVar (variable node))))))
 
   -- every other node
-  pub given_body : (body : Code) → is_fun_kind i.kind ≡ false → body ≡ end (unit (NodeVar (variable node))) → body ≡ eval_body p A a node x i
-  given_body body k h = h ∙ sym (ap (λ b. cond b (call_body p A a x i.fields i.proc) (end (unit (NodeVar (variable node))))) k)
+  pub given_body : (body : Code) → is_fun_kind i.kind ≡ false → body ≡ end (leaf (unit (NodeVar (variable node)))) → body ≡ eval_body p A a node x i
+  given_body body k h = h ∙ sym (ap (λ b. cond b (call_body p A a x i.fields i.proc) (end (leaf (unit (NodeVar (variable node)))))) k)
 
   pub alternative_is : (t : ℕ) (fields : List VarId) (body : Code) (rest : Arms) → slice_get p.tags t ≡ Some i → fields ≡ variables x i.fields → body ≡ eval_body p A a node x i
       → arm (NodeShape (tag_id t) fields) body rest ≡ eval_arm p A a node x t (slice_get p.tags t) rest

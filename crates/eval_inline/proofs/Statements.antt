@@ -20,7 +20,7 @@ use Rattle.grin_syntax.specs.declared.program.Val.{Val}
 use Rattle.grin_syntax.specs.declared.program.Val.TheVariants.{NodeVar}
 use Rattle.grin_syntax.specs.declared.program.VarId.{VarId}
 use Rattle.grin_syntax.specs.declared.program.Word.{Word}
-use Rattle.grin_syntax.specs.Tree.{Code, end, bind, Act, fetch, eval, case, nested, Arms, no_arm, arm, Procedure, Program, procedure_of, act_of, before_of, arm_of, code_of, all_before, arms_of, act_step, stmt_step, alt_step, block_step}
+use Rattle.grin_syntax.specs.Tree.{Code, end, bind, Act, leaf, fetch, eval, case, nested, Arms, no_arm, arm, Procedure, Program, procedure_of, act_of, before_of, arm_of, code_of, all_before, arms_of, act_step, stmt_step, alt_step, block_step}
 use Rattle.grin_syntax.proofs.TreeOf.{before_of-Store, before_of-Bind, code_of-parts, act_of-Eval, act_of-Case, act_of-Nested}
 use Rattle.grin_syntax.specs.Fresh.{variable}
 use Rattle.grin_syntax.proofs.Pieces.{all_arms, all_arms_none, all_arms_push, all_before_push}
@@ -30,7 +30,7 @@ use Rattle.inlining.specs.InPlace.{Follows}
 
 -- no block in it, and no evaluation
 abbrev pub IsPlain : Act → Type 0
-IsPlain (eval a) = ⊥
+IsPlain (leaf (eval a)) = ⊥
 IsPlain (case v as') = ⊥
 IsPlain (nested b) = ⊥
 IsPlain _ = Unit {0}
@@ -105,14 +105,14 @@ module _ (p : Program) (A : Solution) where
 
   pub plain_stays : (x : ℕ) (ss : List Stmt) (o : Act) → IsPlain o → Follows p A x o ss ss o
   unfolding eval_act
-  plain_stays x ss (eval a) h = absurd h
+  plain_stays x ss (leaf (eval a)) h = absurd h
   plain_stays x ss (case v as') h = absurd h
   plain_stays x ss (nested b) h = absurd h
   plain_stays x ss o h = record { bound = λ t b. refl; ended = refl }
 
   pub plain_room : (x : ℕ) (o : Act) → IsPlain o → x ≡ x + act_room p A o
   unfolding act_room
-  plain_room x (eval a) h = absurd h
+  plain_room x (leaf (eval a)) h = absurd h
   plain_room x (case v as') h = absurd h
   plain_room x (nested b) h = absurd h
   plain_room x o h = omega arith
@@ -134,18 +134,18 @@ module _ (p : Program) (A : Solution) where
     ended = ap (λ k. all_before (map before_of ss) (end (case v k))) e;
   }
 
-  pub eval_follows : (x : ℕ) (ss after : List Stmt) (a : Word) (o : Act) (fetched : Op) (node : VarId) (y : ℕ) → node ≡ variable x → y ≡ suc x → act_of fetched ≡ fetch a → after ≡ ss ++ Bind (NodeTarget node) fetched ∷ []
-      → o ≡ case (NodeVar node) (eval_arms p A a node.0 y (tags_of p A a)) → Follows p A x (eval a) ss after o
+  pub eval_follows : (x : ℕ) (ss after : List Stmt) (a : Word) (o : Act) (fetched : Op) (node : VarId) (y : ℕ) → node ≡ variable x → y ≡ suc x → act_of fetched ≡ leaf (fetch a) → after ≡ ss ++ Bind (NodeTarget node) fetched ∷ []
+      → o ≡ case (NodeVar node) (eval_arms p A a node.0 y (tags_of p A a)) → Follows p A x (leaf (eval a)) ss after o
   unfolding eval_act
   eval_follows x ss after a o fetched node y n s f e h = record {
-    bound = λ t b. step (bind t o b) ∙ (λ i. all_before (map before_of ss) (bind (NodeTarget (n i)) (fetch a) (bind t (made i) b)));
-    ended = step (end o) ∙ (λ i. all_before (map before_of ss) (bind (NodeTarget (n i)) (fetch a) (end (made i))));
+    bound = λ t b. step (bind t o b) ∙ (λ i. all_before (map before_of ss) (bind (NodeTarget (n i)) (leaf (fetch a)) (bind t (made i) b)));
+    ended = step (end o) ∙ (λ i. all_before (map before_of ss) (bind (NodeTarget (n i)) (leaf (fetch a)) (end (made i))));
   }
     where
       made : o ≡ case (NodeVar (variable x)) (eval_arms p A a x (suc x) (tags_of p A a))
       made = h ∙ (λ i. case (NodeVar (n i)) (eval_arms p A a (n i).0 (s i) (tags_of p A a)))
 
-      step : (c : Code) → all_before (map before_of after) c ≡ all_before (map before_of ss) (bind (NodeTarget node) (fetch a) c)
+      step : (c : Code) → all_before (map before_of after) c ≡ all_before (map before_of ss) (bind (NodeTarget node) (leaf (fetch a)) c)
       step c = ap (λ l. all_before (map before_of l) c) e ∙ all_before_push ss (Bind (NodeTarget node) fetched) c ∙ ap (λ g. all_before (map before_of ss) (g c)) (before_of-Bind (NodeTarget node) fetched)
           ∙ ap (λ k. all_before (map before_of ss) (bind (NodeTarget node) k c)) f
 

@@ -5,7 +5,7 @@ ghost use Rattle.std.specs.Prelude.{◌≡◌, ◌<◌, ◌+◌, suc, length, ma
 ghost use Rattle.grin_syntax.specs.declared.program.Word.TheVariants.{Var};
 ghost use Rattle.grin_syntax.specs.declared.program.Val.TheVariants.{NodeVar};
 ghost use Rattle.grin_syntax.specs.declared.program.Target.TheVariants.{Nothing, Node as NodeTarget};
-ghost use Rattle.grin_syntax.specs.Tree.{Code, Arms, arm, end, bind, case, call, update, unit, act_of, before_of, arm_of, arms_of, code_of, all_before};
+ghost use Rattle.grin_syntax.specs.Tree.{Code, Arms, arm, end, bind, case, leaf, call, update, unit, act_of, before_of, arm_of, arms_of, code_of, all_before};
 ghost use Rattle.inlining.specs.Evaluations.{tags_of, eval_arm, eval_arms, arms_room, fields_at, eval_code, eval_all, code_room, act_room, all_room};
 ghost use Rattle.eval_inline.specs.Known.{program, solution};
 ghost use Rattle.inlining.specs.InPlace.{Follows};
@@ -218,8 +218,8 @@ fn updating(
     given: VarId,
 ) -> Result<Block, AllocError>
     ensures { IfOk result (λ b. code_of b
-        ≡ bind (NodeTarget given) (call f (map Var fields.now))
-        (bind Nothing (update word (NodeVar given)) (end (unit (NodeVar given))))) }
+        ≡ bind (NodeTarget given) (leaf (call f (map Var fields.now)))
+        (bind Nothing (leaf (update word (NodeVar given))) (end (leaf (unit (NodeVar given)))))) }
 {
     let mut stmts = Seq::new(alloc);
     let words = as_words(alloc, fields)?;

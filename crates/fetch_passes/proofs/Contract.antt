@@ -4,7 +4,7 @@ use Rattle.std.specs.Prelude.{pos}
 use Rattle.grin_syntax.specs.declared.program.Word.TheVariants.{Lit}
 use Rattle.grin_syntax.specs.declared.program.Val.{Val}
 use Rattle.grin_syntax.specs.declared.program.Val.TheVariants.{NodeVar, Node, Vector, One}
-use Rattle.grin_syntax.specs.Tree.{Act, fetch, eval, apply, Procedure, Program}
+use Rattle.grin_syntax.specs.Tree.{Act, leaf, fetch, eval, apply, Procedure, Program}
 use Rattle.grin_syntax.specs.Formed.{Formed, argument_words}
 use Rattle.grin_syntax.specs.Fresh.{past_procs}
 use Rattle.grin_syntax.proofs.Scopes.{same_sites, formed_with}
@@ -27,13 +27,13 @@ use Rattle.fetch_passes.proofs.Kept.{split_count, split_kept}
 
 inlined_stays : (g : Program) (o : Act) (ks : Names) (a : _) (ps : _) (n : ℕ) → is_fetch o ≡ false → Inlined o → Inlined (split_act g.tags ks a ps n o)
 unfolding split_act
-inlined_stays g (eval w) ks a ps n e h = h
-inlined_stays g (apply v w) ks a ps n e h = h
+inlined_stays g (leaf (eval w)) ks a ps n e h = h
+inlined_stays g (leaf (apply v w)) ks a ps n e h = h
 inlined_stays g o ks a ps n e h = tt
 
 by_words_stays : (g : Program) (o : Act) (ks : Names) (a : _) (ps : _) (n : ℕ) → is_fetch o ≡ false → IsNotNodeFetch (split_act g.tags ks a ps n o)
 unfolding split_act
-by_words_stays g (fetch w) ks a ps n e = cc
+by_words_stays g (leaf (fetch w)) ks a ps n e = cc
 by_words_stays g o ks a ps n e = tt
 
 no_node_val : (ks : Names) (v : Val) → NoNodeVar v → NoNodeVar (as_val ks v)

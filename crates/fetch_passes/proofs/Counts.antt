@@ -6,7 +6,7 @@ use Rattle.grin_syntax.specs.declared.program.Cell.{Cell}
 use Rattle.grin_syntax.specs.declared.program.Word as W
 use Rattle.grin_syntax.specs.declared.program.Word.TheVariants.{Lit}
 use Rattle.grin_syntax.specs.declared.program.Target.TheVariants as to
-use Rattle.grin_syntax.specs.Tree.{Code, end, store, bind, Act, fetch, case, nested, Arms, no_arm, arm, Procedure}
+use Rattle.grin_syntax.specs.Tree.{Code, end, store, bind, Act, leaf, fetch, case, nested, Arms, no_arm, arm, Procedure}
 use Rattle.grin_syntax.specs.Binders.{numbers_of, target_vars, shape_vars, cell_vars, act_vars, code_vars, arms_vars, procs_vars}
 use Rattle.grin_syntax.specs.Fresh.{variable, variables, past_procs}
 use Rattle.grin_syntax.proofs.Counted.{fresh, fresh_below, fresh_once, fresh_next, fresh_split}
@@ -96,7 +96,7 @@ module _ (ts : List Tag) (u : ℕ) where
     act_counts o ks a ps n = omega arith
 
     code_counts : (b : Code) (ks : Names) (a : W.Word) (ps : List DeferredField) (n : ℕ) → times u (code_vars (split_code ts ks a ps n b)) ≤ times u (code_vars b) + fresh u n (made_code ts ps b)
-    code_counts (end (fetch c)) ks a ps n = subst (λ k. times u (code_vars (whole_node ts n (as_word ks c))) ≤ 0 + fresh u n k) (let e : suc (most_fields ts) ≡ suc (most_fields ts) + 0 = omega arith in e) (let h : times u (code_vars (whole_node ts n (as_word ks c))) ≤ fresh u n (suc (most_fields ts)) = whole_counts n (as_word ks c) in omega (arith, h))
+    code_counts (end (leaf (fetch c))) ks a ps n = subst (λ k. times u (code_vars (whole_node ts n (as_word ks c))) ≤ 0 + fresh u n k) (let e : suc (most_fields ts) ≡ suc (most_fields ts) + 0 = omega arith in e) (let h : times u (code_vars (whole_node ts n (as_word ks c))) ≤ fresh u n (suc (most_fields ts)) = whole_counts n (as_word ks c) in omega (arith, h))
     code_counts (end o) ks a ps n = subst (λ k. times u (act_vars (split_act ts ks a ps n o)) ≤ times u (act_vars o) + fresh u n k) (let e : made_act ts ps o ≡ 0 + made_act ts ps o = omega arith in e) (act_counts o ks a ps n)
     code_counts (store cs b) ks a ps n =
         let h : times u (code_vars (split_code ts ks a [] n b)) ≤ times u (code_vars b) + fresh u n (made_code ts [] b) = code_counts b ks a [] n in
@@ -104,13 +104,13 @@ module _ (ts : List Tag) (u : ℕ) where
         let e : times u (cell_vars (as_cells ks cs) ++ code_vars (split_code ts ks a [] n b)) ≡ times u (cell_vars (as_cells ks cs)) + times u (code_vars (split_code ts ks a [] n b)) = times_append u (cell_vars (as_cells ks cs)) (code_vars (split_code ts ks a [] n b)) in
         let f : times u (cell_vars cs ++ code_vars b) ≡ times u (cell_vars cs) + times u (code_vars b) = times_append u (cell_vars cs) (code_vars b) in
         omega (arith, h, k, e, f)
-    code_counts (bind (to.Vector (x ∷ xs)) (fetch c) b) ks a ps n =
-        node_count n (made_code ts (deferred_fields_after (fetch c) (to.Vector (x ∷ xs)) b ps) b) x xs b (as_word ks c) (split_code ts (names_after (fetch c) (to.Vector (x ∷ xs)) b ks) (cell_after ks (fetch c) (to.Vector (x ∷ xs)) b a) (deferred_fields_after (fetch c) (to.Vector (x ∷ xs)) b ps) (n + 0) b)
-        (code_counts b (names_after (fetch c) (to.Vector (x ∷ xs)) b ks) (cell_after ks (fetch c) (to.Vector (x ∷ xs)) b a) (deferred_fields_after (fetch c) (to.Vector (x ∷ xs)) b ps) (n + 0))
-    code_counts (bind (to.Vector []) (fetch c) b) ks a ps n = from_zero n (made_code ts ps b) (code_vars (split_code ts ks a ps (n + 0) b)) (code_vars b) (code_counts b ks a ps (n + 0))
-    code_counts (bind to.Nothing (fetch c) b) ks a ps n = from_zero n (made_code ts ps b) (code_vars (split_code ts ks a ps (n + 0) b)) (code_vars b) (code_counts b ks a ps (n + 0))
-    code_counts (bind (to.One y) (fetch c) b) ks a ps n = from_zero n (made_code ts ps b) (y.0 ∷ code_vars (split_code ts ks a ps (n + 0) b)) (y.0 ∷ code_vars b) (same_first (n + 0) (y.0 ∷ []) (code_vars (split_code ts ks a ps (n + 0) b)) (code_vars b) (made_code ts ps b) (code_counts b ks a ps (n + 0)))
-    code_counts (bind (to.Node y) (fetch c) b) ks a ps n = from_zero n (made_code ts ps b) (y.0 ∷ code_vars (split_code ts ks a ps (n + 0) b)) (y.0 ∷ code_vars b) (same_first (n + 0) (y.0 ∷ []) (code_vars (split_code ts ks a ps (n + 0) b)) (code_vars b) (made_code ts ps b) (code_counts b ks a ps (n + 0)))
+    code_counts (bind (to.Vector (x ∷ xs)) (leaf (fetch c)) b) ks a ps n =
+        node_count n (made_code ts (deferred_fields_after (leaf (fetch c)) (to.Vector (x ∷ xs)) b ps) b) x xs b (as_word ks c) (split_code ts (names_after (leaf (fetch c)) (to.Vector (x ∷ xs)) b ks) (cell_after ks (leaf (fetch c)) (to.Vector (x ∷ xs)) b a) (deferred_fields_after (leaf (fetch c)) (to.Vector (x ∷ xs)) b ps) (n + 0) b)
+        (code_counts b (names_after (leaf (fetch c)) (to.Vector (x ∷ xs)) b ks) (cell_after ks (leaf (fetch c)) (to.Vector (x ∷ xs)) b a) (deferred_fields_after (leaf (fetch c)) (to.Vector (x ∷ xs)) b ps) (n + 0))
+    code_counts (bind (to.Vector []) (leaf (fetch c)) b) ks a ps n = from_zero n (made_code ts ps b) (code_vars (split_code ts ks a ps (n + 0) b)) (code_vars b) (code_counts b ks a ps (n + 0))
+    code_counts (bind to.Nothing (leaf (fetch c)) b) ks a ps n = from_zero n (made_code ts ps b) (code_vars (split_code ts ks a ps (n + 0) b)) (code_vars b) (code_counts b ks a ps (n + 0))
+    code_counts (bind (to.One y) (leaf (fetch c)) b) ks a ps n = from_zero n (made_code ts ps b) (y.0 ∷ code_vars (split_code ts ks a ps (n + 0) b)) (y.0 ∷ code_vars b) (same_first (n + 0) (y.0 ∷ []) (code_vars (split_code ts ks a ps (n + 0) b)) (code_vars b) (made_code ts ps b) (code_counts b ks a ps (n + 0)))
+    code_counts (bind (to.Node y) (leaf (fetch c)) b) ks a ps n = from_zero n (made_code ts ps b) (y.0 ∷ code_vars (split_code ts ks a ps (n + 0) b)) (y.0 ∷ code_vars b) (same_first (n + 0) (y.0 ∷ []) (code_vars (split_code ts ks a ps (n + 0) b)) (code_vars b) (made_code ts ps b) (code_counts b ks a ps (n + 0)))
     code_counts (bind t o b) ks a ps n = same_first n (target_vars t) (act_vars (split_act ts ks a ps n o) ++ code_vars (split_code ts (names_after o t b ks) (cell_after ks o t b a) (deferred_fields_after o t b ps) (n + made_act ts ps o) b)) (act_vars o ++ code_vars b) (made_act ts ps o + made_code ts (deferred_fields_after o t b ps) b)
         (one_more n (act_vars (split_act ts ks a ps n o)) (act_vars o) (code_vars (split_code ts (names_after o t b ks) (cell_after ks o t b a) (deferred_fields_after o t b ps) (n + made_act ts ps o) b)) (code_vars b) (made_act ts ps o) (made_code ts (deferred_fields_after o t b ps) b) (act_counts o ks a ps n) (code_counts b (names_after o t b ks) (cell_after ks o t b a) (deferred_fields_after o t b ps) (n + made_act ts ps o)))
 

@@ -4,7 +4,7 @@ use Rattle.grin_syntax.specs.declared.program.VarId.{VarId}
 use Rattle.grin_syntax.specs.declared.program.Target.TheVariants as to
 use Rattle.grin_syntax.specs.declared.program.Word as W
 use Rattle.grin_syntax.specs.declared.program.Word.TheVariants.{Var}
-use Rattle.grin_syntax.specs.Tree.{Code, bind, fetch, fetch_word, Procedure, Program}
+use Rattle.grin_syntax.specs.Tree.{Code, bind, leaf, fetch, fetch_word, Procedure, Program}
 use Rattle.grin_syntax.specs.Binders.{numbers_of}
 use Rattle.grin_syntax.specs.Formed.{AllOf, InScope}
 use Rattle.grin_syntax.specs.Fresh.{variable}
@@ -46,15 +46,15 @@ gave g env a w v x w' (Some i) q e = go (slice_get w.cells i) refl e
     go None r k = cc
     go (Some y) r k = record { i = i; y = y; place = q; there = r; value = (let h : v y ≡ x = cc in sym h); world = (let h : w ≡ w' = cc in sym h) }
 
-pub fetch_gave : (g : Program) (c : Calls) (env : Env) (d : ℕ) (a : W.Word) (w w' : World) (x : Value) → act_by g c true env d (fetch a) w ≡ gives x w' → Fetches g env a w (λ y. node y.node) x w'
+pub fetch_gave : (g : Program) (c : Calls) (env : Env) (d : ℕ) (a : W.Word) (w w' : World) (x : Value) → act_by g c true env d (leaf (fetch a)) w ≡ gives x w' → Fetches g env a w (λ y. node y.node) x w'
 unfolding act_by
 fetch_gave g c env d a w w' x e = gave g env a w (λ y. node y.node) x w' (and_then (word_of g env a) place_of) refl e
 
-pub fetch_word_gave : (g : Program) (c : Calls) (env : Env) (d : ℕ) (a : W.Word) (k : ℕ) (w w' : World) (x : Value) → act_by g c true env d (fetch_word a k) w ≡ gives x w' → Fetches g env a w (λ y. words (node_word y.node k ∷ [])) x w'
+pub fetch_word_gave : (g : Program) (c : Calls) (env : Env) (d : ℕ) (a : W.Word) (k : ℕ) (w w' : World) (x : Value) → act_by g c true env d (leaf (fetch_word a k)) w ≡ gives x w' → Fetches g env a w (λ y. words (node_word y.node k ∷ [])) x w'
 unfolding act_by
 fetch_word_gave g c env d a k w w' x e = gave g env a w (λ y. words (node_word y.node k ∷ [])) x w' (and_then (word_of g env a) place_of) refl e
 
-pub fetches : (g : Program) (c : Calls) (env : Env) (d : ℕ) (a : W.Word) (k : ℕ) (w : World) (i : ℕ) (y : HeapCell) → and_then (word_of g env a) place_of ≡ Some i → slice_get w.cells i ≡ Some y → act_by g c true env d (fetch_word a k) w ≡ gives (words (node_word y.node k ∷ [])) w
+pub fetches : (g : Program) (c : Calls) (env : Env) (d : ℕ) (a : W.Word) (k : ℕ) (w : World) (i : ℕ) (y : HeapCell) → and_then (word_of g env a) place_of ≡ Some i → slice_get w.cells i ≡ Some y → act_by g c true env d (leaf (fetch_word a k)) w ≡ gives (words (node_word y.node k ∷ [])) w
 unfolding act_by
 fetches g c env d a k w i y p t = ap (λ o. need o w (λ i. need (slice_get w.cells i) w (λ y. gives (words (node_word y.node k ∷ [])) w))) p ∙ ap (λ o. need o w (λ y. gives (words (node_word y.node k ∷ [])) w)) t
 
@@ -71,8 +71,8 @@ module _ (g : Program) (procs : List Procedure) (c c' : Calls) (cb : CallsBack (
 
   -- the second fetches a word alone
   pub right_word : {R R' : Relation} (x : VarId) (a : W.Word) (p : DeferredField) (b b' : Code) → CodeFollows it R' Same b b'
-      → ((cells : List HeapCell) (env env' : Env) → R cells env env' → (w : Waits g a cells env env' p) × R' cells env (plus x.0 (node_word w.y.node p.place) env')) → CodeFollows it R Same b (bind (to.One x) (fetch_word a p.place) b')
-  right_word {R} {R'} x a p b b' f r = right_follows it {R = R} {R' = R'} {V = Same} (to.One x) (fetch_word a p.place) b b' f (λ h.
+      → ((cells : List HeapCell) (env env' : Env) → R cells env env' → (w : Waits g a cells env env' p) × R' cells env (plus x.0 (node_word w.y.node p.place) env')) → CodeFollows it R Same b (bind (to.One x) (leaf (fetch_word a p.place)) b')
+  right_word {R} {R'} x a p b b' f r = right_follows it {R = R} {R' = R'} {V = Same} (to.One x) (leaf (fetch_word a p.place)) b b' f (λ h.
       let z : (w : Waits g a h.w.cells h.env h.env' p) × R' h.w.cells h.env (plus x.0 (node_word w.y.node p.place) h.env') = r h.w.cells h.env h.env' h.related in
       record {
         v' = words (node_word z.0.y.node p.place ∷ []);
@@ -98,7 +98,7 @@ module _ (g : Program) (procs : List Procedure) (c c' : Calls) (cb : CallsBack (
 
       -- the second fetches the next word
       pub kept_follows : (x : VarId) (k : ℕ) (lacks : List ℕ) (ws : List DeferredField) (b b' : Code) → x.0 < base → as_word ks (Var x) ≡ Var x → ((y : ℕ) → word_is y a ≡ true → y ≢ x.0) → ((y : ℕ) → word_is y a2 ≡ true → y ≢ x.0)
-          → CodeFollows it (Mid lacks ws) Same b b' → CodeFollows it (Mid (x.0 ∷ lacks) (record { var = x; place = k } ∷ ws)) Same b (bind (to.One x) (fetch_word a k) b')
+          → CodeFollows it (Mid lacks ws) Same b b' → CodeFollows it (Mid (x.0 ∷ lacks) (record { var = x; place = k } ∷ ws)) Same b (bind (to.One x) (leaf (fetch_word a k)) b')
       kept_follows x k lacks ws b b' lt own f f2 h = right_word {R = Mid (x.0 ∷ lacks) (record { var = x; place = k } ∷ ws)} {R' = Mid lacks ws} x a (record { var = x; place = k }) b b' h (λ cells env env' r. (
         r.1.0,
         (near_kept g base n zs ks sound low x k lacks a2 a ps cells env env' r.1.0 lt own f2 r.0, waits_on x (node_word r.1.0.y.node k) a cells env env' f ws r.1.1),

@@ -5,7 +5,7 @@ use Rattle.grin_syntax.specs.declared.program.Tag.{Tag}
 use Rattle.grin_syntax.specs.declared.program.Word as W
 use Rattle.grin_syntax.specs.declared.program.Word.TheVariants.{Lit}
 use Rattle.grin_syntax.specs.declared.program.Target.TheVariants as to
-use Rattle.grin_syntax.specs.Tree.{Code, end, store, bind, Act, fetch, fetch_word, case, nested, Arms, no_arm, arm, Procedure}
+use Rattle.grin_syntax.specs.Tree.{Code, end, store, bind, Act, leaf, fetch, fetch_word, case, nested, Arms, no_arm, arm, Procedure}
 use Rattle.grin_syntax.specs.Formed.{AllOf}
 use Rattle.grin_syntax.specs.Fresh.{variable}
 use Rattle.grin_meaning.specs.Ready.{EachAct, EachCode, EachArms, EveryBodyIsOfKind}
@@ -97,15 +97,15 @@ module _ (ts : List Tag) where
   -- a block that is split doesn't begin with words
   no_words : (b : Code) (ks : Names) (a : W.Word) (ps : List DeferredField) (n : ℕ) → EachCode no_word_fetch_kind b → after_word_fetches (split_code ts ks a ps n b) ≡ split_code ts ks a ps n b
   unfolding split_act EachAct made_act
-  no_words (end (fetch c)) ks a ps n k = refl
+  no_words (end (leaf (fetch c))) ks a ps n k = refl
   no_words (end o) ks a ps n k = refl
   no_words (store cs b) ks a ps n k = refl
-  no_words (bind (to.Vector (v ∷ vs)) (fetch c) b) ks a ps n k = refl
-  no_words (bind (to.Vector []) (fetch c) b) ks a ps n k = refl
-  no_words (bind to.Nothing (fetch c) b) ks a ps n k = refl
-  no_words (bind (to.One u) (fetch c) b) ks a ps n k = refl
-  no_words (bind (to.Node u) (fetch c) b) ks a ps n k = refl
-  no_words (bind t (fetch_word c i) b) ks a ps n k = absurd k.1
+  no_words (bind (to.Vector (v ∷ vs)) (leaf (fetch c)) b) ks a ps n k = refl
+  no_words (bind (to.Vector []) (leaf (fetch c)) b) ks a ps n k = refl
+  no_words (bind to.Nothing (leaf (fetch c)) b) ks a ps n k = refl
+  no_words (bind (to.One u) (leaf (fetch c)) b) ks a ps n k = refl
+  no_words (bind (to.Node u) (leaf (fetch c)) b) ks a ps n k = refl
+  no_words (bind t (leaf (fetch_word c i)) b) ks a ps n k = absurd k.1
   no_words (bind t o b) ks a ps n k = refl
 
   mutual
@@ -117,10 +117,10 @@ module _ (ts : List Tag) where
     act_fetch o ks a ps n l k = tt
 
     code_fetch : (b : Code) (ks : Names) (a : W.Word) (ps : List DeferredField) (n : ℕ) → Late ps → EachCode no_word_fetch_kind b → CodesFetch ps b (split_code ts ks a ps n b)
-    code_fetch (end (fetch c)) ks a ps n l k = tt
+    code_fetch (end (leaf (fetch c))) ks a ps n l k = tt
     code_fetch (end o) ks a ps n l k = act_fetch o ks a ps n l k
     code_fetch (store cs b) ks a ps n l k = code_fetch b ks a [] n tt k.1
-    code_fetch (bind (to.Vector (v ∷ vs)) (fetch c) b) ks a ps n l k = (
+    code_fetch (bind (to.Vector (v ∷ vs)) (leaf (fetch c)) b) ks a ps n l k = (
       tt,
       outside_fetched v.0 b (as_word ks c) 0 vs (split_code ts (with_hidden (deferred_fields_of v.0 b 1 vs) ks) (cond (owns v.0 b) (as_word ks c) a) (cond (owns v.0 b) (deferred_fields_of v.0 b 1 vs) ps) (n + 0) b),
       subst (CodesFetch (cond (owns v.0 b) (deferred_fields_of v.0 b 1 vs) ps) b) (sym (past_kept v.0 b (as_word ks c) 0 vs (split_code ts (with_hidden (deferred_fields_of v.0 b 1 vs) ks) (cond (owns v.0 b) (as_word ks c) a) (cond (owns v.0 b) (deferred_fields_of v.0 b 1 vs) ps) (n + 0) b)
@@ -131,11 +131,11 @@ module _ (ts : List Tag) where
         go : (o : Bool) → Late (cond o (deferred_fields_of v.0 b 1 vs) ps)
         go true = waits_late v.0 b 0 vs
         go false = l
-    code_fetch (bind (to.Vector []) (fetch c) b) ks a ps n l k = (tt, tt, subst (CodesFetch ps b) (sym (no_words b ks a ps (n + 0) k.2)) (code_fetch b ks a ps (n + 0) l k.2))
-    code_fetch (bind to.Nothing (fetch c) b) ks a ps n l k = (tt, tt, subst (CodesFetch ps b) (sym (no_words b ks a ps (n + 0) k.2)) (code_fetch b ks a ps (n + 0) l k.2))
-    code_fetch (bind (to.One u) (fetch c) b) ks a ps n l k = (tt, tt, subst (CodesFetch ps b) (sym (no_words b ks a ps (n + 0) k.2)) (code_fetch b ks a ps (n + 0) l k.2))
-    code_fetch (bind (to.Node u) (fetch c) b) ks a ps n l k = (tt, tt, subst (CodesFetch ps b) (sym (no_words b ks a ps (n + 0) k.2)) (code_fetch b ks a ps (n + 0) l k.2))
-    code_fetch (bind t (fetch_word c i) b) ks a ps n l k = absurd k.1
+    code_fetch (bind (to.Vector []) (leaf (fetch c)) b) ks a ps n l k = (tt, tt, subst (CodesFetch ps b) (sym (no_words b ks a ps (n + 0) k.2)) (code_fetch b ks a ps (n + 0) l k.2))
+    code_fetch (bind to.Nothing (leaf (fetch c)) b) ks a ps n l k = (tt, tt, subst (CodesFetch ps b) (sym (no_words b ks a ps (n + 0) k.2)) (code_fetch b ks a ps (n + 0) l k.2))
+    code_fetch (bind (to.One u) (leaf (fetch c)) b) ks a ps n l k = (tt, tt, subst (CodesFetch ps b) (sym (no_words b ks a ps (n + 0) k.2)) (code_fetch b ks a ps (n + 0) l k.2))
+    code_fetch (bind (to.Node u) (leaf (fetch c)) b) ks a ps n l k = (tt, tt, subst (CodesFetch ps b) (sym (no_words b ks a ps (n + 0) k.2)) (code_fetch b ks a ps (n + 0) l k.2))
+    code_fetch (bind t (leaf (fetch_word c i)) b) ks a ps n l k = absurd k.1
     code_fetch (bind t o b) ks a ps n l k = (act_fetch o ks a ps n l k.1, tt, subst (CodesFetch [] b) (sym (no_words b ks a [] (n + made_act ts ps o) k.2)) (code_fetch b ks a [] (n + made_act ts ps o) tt k.2))
 
     arms_fetch : (as' : Arms) (ks : Names) (a : W.Word) (ps : List DeferredField) (n : ℕ) → Late ps → EachArms no_word_fetch_kind as' → ArmsFetch ps as' (split_arms ts ks a ps n as')

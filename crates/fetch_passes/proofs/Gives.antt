@@ -11,7 +11,7 @@ use Rattle.grin_syntax.specs.declared.program.Val as V
 use Rattle.grin_syntax.specs.declared.program.Val.TheVariants.{NodeVar, Node, Vector, One}
 use Rattle.grin_syntax.specs.declared.program.Target as T
 use Rattle.grin_syntax.specs.declared.program.Target.TheVariants as to
-use Rattle.grin_syntax.specs.Tree.{Code, end, store, bind, Act, unit, fetch, fetch_word, update, apply, case, nested, Arms, no_arm, arm, Procedure}
+use Rattle.grin_syntax.specs.Tree.{Code, end, store, bind, Act, leaf, unit, fetch, fetch_word, update, apply, case, nested, Arms, no_arm, arm, Procedure}
 use Rattle.grin_syntax.specs.Binders.{shape_vars, act_sites, code_sites, arms_sites, procs_sites}
 use Rattle.grin_syntax.specs.Formed.{AllOf}
 use Rattle.grin_syntax.specs.SameOutside.{names_of}
@@ -28,7 +28,7 @@ use Rattle.fetch_passes.specs.Split.{fetched_if, word_fetches, front, front_name
 
 module _ (ts : List Tag) (K K' : PieceKind)
     (keep : (o : Act) (ks : Names) (a : W.Word) (ps : List DeferredField) (n : ℕ) → is_fetch o ≡ false → K.operation o → K'.operation (split_act ts ks a ps n o))
-    (word : (a : W.Word) (i : ℕ) → K'.operation (fetch_word a i)) (whole : (v : V.Val) (as' : Arms) → K'.operation (case v as')) (given : (v : V.Val) → K'.operation (unit v))
+    (word : (a : W.Word) (i : ℕ) → K'.operation (leaf (fetch_word a i))) (whole : (v : V.Val) (as' : Arms) → K'.operation (case v as')) (given : (v : V.Val) → K'.operation (leaf (unit v)))
     (target : (t : T.Target) → K.target t → K'.target t) (one : (x : VarId) → K'.target (to.One x)) (val : (ks : Names) (v : V.Val) → K.value v → K'.value (as_val ks v)) (made : (t : TagId) (ws : List W.Word) → K'.value (Node t ws)) (vector : (ws : List W.Word) → K'.value (Vector ws))
     (shape : (xs : List ℕ) → K.pattern xs → K'.pattern xs) (no_shape : K'.pattern []) where
   abbrev Code' : Code → Type 0
@@ -71,21 +71,21 @@ module _ (ts : List Tag) (K K' : PieceKind)
     each_act : (o : Act) (ks : Names) (a : W.Word) (ps : List DeferredField) (n : ℕ) → is_fetch o ≡ false → EachAct K o → EachAct K' (split_act ts ks a ps n o)
     each_act (case v as') ks a ps n e h = (keep (case v as') ks a ps n e h.0, val ks v h.1, each_arms as' ks a ps n h.2)
     each_act (nested b) ks a ps n e h = (keep (nested b) ks a ps n e h.0, each_code b ks a [] n h.1)
-    each_act (unit v) ks a ps n e h = (keep (unit v) ks a ps n e h.0, val ks v h.1)
-    each_act (update w v) ks a ps n e h = (keep (update w v) ks a ps n e h.0, val ks v h.1)
-    each_act (apply v w) ks a ps n e h = (keep (apply v w) ks a ps n e h.0, val ks v h.1)
-    each_act (fetch c) ks a ps n e h = cc
+    each_act (leaf (unit v)) ks a ps n e h = (keep (leaf (unit v)) ks a ps n e h.0, val ks v h.1)
+    each_act (leaf (update w v)) ks a ps n e h = (keep (leaf (update w v)) ks a ps n e h.0, val ks v h.1)
+    each_act (leaf (apply v w)) ks a ps n e h = (keep (leaf (apply v w)) ks a ps n e h.0, val ks v h.1)
+    each_act (leaf (fetch c)) ks a ps n e h = cc
     each_act o ks a ps n e h = keep o ks a ps n e h
 
     pub each_code : (b : Code) (ks : Names) (a : W.Word) (ps : List DeferredField) (n : ℕ) → EachCode K b → Code' (split_code ts ks a ps n b)
-    each_code (end (fetch c)) ks a ps n h = each_whole n _
+    each_code (end (leaf (fetch c))) ks a ps n h = each_whole n _
     each_code (end o) ks a ps n h = each_act o ks a ps n refl h
     each_code (store cs b) ks a ps n h = (each_cells ks cs h.0, each_code b ks a [] n h.1)
-    each_code (bind (to.Vector (x ∷ xs)) (fetch c) b) ks a ps n h = (one x, word _ 0, each_words x.0 b _ 1 xs _ (each_code b _ _ _ (n + 0) h.2))
-    each_code (bind (to.Vector []) (fetch c) b) ks a ps n h = (target (to.Vector []) h.0, word _ 0, each_code b _ _ _ (n + 0) h.2)
-    each_code (bind to.Nothing (fetch c) b) ks a ps n h = (target to.Nothing h.0, word _ 0, each_code b _ _ _ (n + 0) h.2)
-    each_code (bind (to.One y) (fetch c) b) ks a ps n h = (target (to.One y) h.0, word _ 0, each_code b _ _ _ (n + 0) h.2)
-    each_code (bind (to.Node y) (fetch c) b) ks a ps n h = (target (to.Node y) h.0, word _ 0, each_code b _ _ _ (n + 0) h.2)
+    each_code (bind (to.Vector (x ∷ xs)) (leaf (fetch c)) b) ks a ps n h = (one x, word _ 0, each_words x.0 b _ 1 xs _ (each_code b _ _ _ (n + 0) h.2))
+    each_code (bind (to.Vector []) (leaf (fetch c)) b) ks a ps n h = (target (to.Vector []) h.0, word _ 0, each_code b _ _ _ (n + 0) h.2)
+    each_code (bind to.Nothing (leaf (fetch c)) b) ks a ps n h = (target to.Nothing h.0, word _ 0, each_code b _ _ _ (n + 0) h.2)
+    each_code (bind (to.One y) (leaf (fetch c)) b) ks a ps n h = (target (to.One y) h.0, word _ 0, each_code b _ _ _ (n + 0) h.2)
+    each_code (bind (to.Node y) (leaf (fetch c)) b) ks a ps n h = (target (to.Node y) h.0, word _ 0, each_code b _ _ _ (n + 0) h.2)
     each_code (bind t o b) ks a ps n h = (target t h.0, each_act o ks a ps n refl h.1, each_code b _ _ _ (n + made_act ts ps o) h.2)
 
     each_arms : (as' : Arms) (ks : Names) (a : W.Word) (ps : List DeferredField) (n : ℕ) → EachArms K as' → EachArms K' (split_arms ts ks a ps n as')
@@ -138,19 +138,19 @@ module _ (ts : List Tag) (width most : ℕ) where
     narrow_act : (o : Act) (ks : Names) (a : W.Word) (ps : List DeferredField) (n : ℕ) → NarrowAct width most o → NarrowAct width most (split_act ts ks a ps n o)
     narrow_act (case v as') ks a ps n h = narrow_arms as' ks a ps n h
     narrow_act (nested b) ks a ps n h = narrow_code b ks a [] n h
-    narrow_act (unit v) ks a ps n h = narrow_val ks v h
-    narrow_act (fetch c) ks a ps n h = h
+    narrow_act (leaf (unit v)) ks a ps n h = narrow_val ks v h
+    narrow_act (leaf (fetch c)) ks a ps n h = h
     narrow_act o ks a ps n h = tt
 
     pub narrow_code : (b : Code) (ks : Names) (a : W.Word) (ps : List DeferredField) (n : ℕ) → NarrowCode width most b → NarrowCode width most (split_code ts ks a ps n b)
-    narrow_code (end (fetch c)) ks a ps n h = narrow_whole n _ h
+    narrow_code (end (leaf (fetch c))) ks a ps n h = narrow_whole n _ h
     narrow_code (end o) ks a ps n h = narrow_act o ks a ps n h
     narrow_code (store cs b) ks a ps n h = narrow_code b ks a [] n h
-    narrow_code (bind (to.Vector (x ∷ xs)) (fetch c) b) ks a ps n h = narrow_words x.0 b _ 1 xs _ (narrow_code b _ _ _ (n + 0) h)
-    narrow_code (bind (to.Vector []) (fetch c) b) ks a ps n h = narrow_code b _ _ _ (n + 0) h
-    narrow_code (bind to.Nothing (fetch c) b) ks a ps n h = narrow_code b _ _ _ (n + 0) h
-    narrow_code (bind (to.One y) (fetch c) b) ks a ps n h = narrow_code b _ _ _ (n + 0) h
-    narrow_code (bind (to.Node y) (fetch c) b) ks a ps n h = narrow_code b _ _ _ (n + 0) h
+    narrow_code (bind (to.Vector (x ∷ xs)) (leaf (fetch c)) b) ks a ps n h = narrow_words x.0 b _ 1 xs _ (narrow_code b _ _ _ (n + 0) h)
+    narrow_code (bind (to.Vector []) (leaf (fetch c)) b) ks a ps n h = narrow_code b _ _ _ (n + 0) h
+    narrow_code (bind to.Nothing (leaf (fetch c)) b) ks a ps n h = narrow_code b _ _ _ (n + 0) h
+    narrow_code (bind (to.One y) (leaf (fetch c)) b) ks a ps n h = narrow_code b _ _ _ (n + 0) h
+    narrow_code (bind (to.Node y) (leaf (fetch c)) b) ks a ps n h = narrow_code b _ _ _ (n + 0) h
     narrow_code (bind t o b) ks a ps n h = narrow_code b _ _ _ (n + made_act ts ps o) h
 
     narrow_arms : (as' : Arms) (ks : Names) (a : W.Word) (ps : List DeferredField) (n : ℕ) → NarrowArms width most as' → NarrowArms width most (split_arms ts ks a ps n as')
@@ -204,14 +204,14 @@ module _ (ts : List Tag) where
     sites_act o ks a ps n = refl
 
     sites_code : (b : Code) (ks : Names) (a : W.Word) (ps : List DeferredField) (n : ℕ) → code_sites (split_code ts ks a ps n b) ≡ code_sites b
-    sites_code (end (fetch c)) ks a ps n = sites_whole n _
+    sites_code (end (leaf (fetch c))) ks a ps n = sites_whole n _
     sites_code (end o) ks a ps n = sites_act o ks a ps n
     sites_code (store cs b) ks a ps n = λ i. sites_cells ks cs i ++ sites_code b ks a [] n i
-    sites_code (bind (to.Vector (x ∷ xs)) (fetch c) b) ks a ps n = sites_words x.0 b _ 1 xs _ ∙ sites_code b _ _ _ (n + 0)
-    sites_code (bind (to.Vector []) (fetch c) b) ks a ps n = sites_code b _ _ _ (n + 0)
-    sites_code (bind to.Nothing (fetch c) b) ks a ps n = sites_code b _ _ _ (n + 0)
-    sites_code (bind (to.One y) (fetch c) b) ks a ps n = sites_code b _ _ _ (n + 0)
-    sites_code (bind (to.Node y) (fetch c) b) ks a ps n = sites_code b _ _ _ (n + 0)
+    sites_code (bind (to.Vector (x ∷ xs)) (leaf (fetch c)) b) ks a ps n = sites_words x.0 b _ 1 xs _ ∙ sites_code b _ _ _ (n + 0)
+    sites_code (bind (to.Vector []) (leaf (fetch c)) b) ks a ps n = sites_code b _ _ _ (n + 0)
+    sites_code (bind to.Nothing (leaf (fetch c)) b) ks a ps n = sites_code b _ _ _ (n + 0)
+    sites_code (bind (to.One y) (leaf (fetch c)) b) ks a ps n = sites_code b _ _ _ (n + 0)
+    sites_code (bind (to.Node y) (leaf (fetch c)) b) ks a ps n = sites_code b _ _ _ (n + 0)
     sites_code (bind t o b) ks a ps n = λ i. sites_act o ks a ps n i ++ sites_code b (names_after o t b ks) (cell_after ks o t b a) (deferred_fields_after o t b ps) (n + made_act ts ps o) i
 
     sites_arms : (as' : Arms) (ks : Names) (a : W.Word) (ps : List DeferredField) (n : ℕ) → arms_sites (split_arms ts ks a ps n as') ≡ arms_sites as'

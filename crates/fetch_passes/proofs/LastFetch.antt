@@ -10,7 +10,7 @@ use Rattle.grin_syntax.specs.declared.program.Shape.TheVariants as shape
 use Rattle.grin_syntax.specs.declared.program.Val.TheVariants.{Node as NodeVal, Vector}
 use Rattle.grin_syntax.specs.declared.program.Word as W
 use Rattle.grin_syntax.specs.declared.program.Word.TheVariants.{Var}
-use Rattle.grin_syntax.specs.Tree.{Code, end, unit, fetch, fetch_word, case, Procedure, Program}
+use Rattle.grin_syntax.specs.Tree.{Code, end, leaf, unit, fetch, fetch_word, case, Procedure, Program}
 use Rattle.grin_syntax.specs.Tags.{tag_id}
 use Rattle.grin_syntax.specs.Fresh.{variable, variables}
 use Rattle.grin_meaning.specs.Values.{Datum, Node, Value, node, words, Env, HeapCell, World, gives, need, and_then, only_word, with_vars, MatchOutcome, fits, fits_not, unclear, node_fit, made_node, as_node, fit_of, word_of, words_of, value_of}
@@ -80,7 +80,7 @@ module _ (g : Program) where
         λ i. and_then (first i) (λ b. and_then (words_known env' y n (suc j) m (suc z) (omega (arith, e)) (λ k l. f k (omega (arith, l))) i) (λ bs. Some (b ∷ bs)))
 
     -- the first has not yet fetched
-    peek : {R : Relation} (n : ℕ) (b' : Code) → ((x : Here (plan_of g procs) R) (i : ℕ) → and_then (word_of g x.env d) place_of ≡ Some i → and_then (word_of g x.env' a) place_of ≡ Some i) → CodeFollows st (Known n 0) Same (end (fetch d)) b' → CodeFollows st R Same (end (fetch d)) b'
+    peek : {R : Relation} (n : ℕ) (b' : Code) → ((x : Here (plan_of g procs) R) (i : ℕ) → and_then (word_of g x.env d) place_of ≡ Some i → and_then (word_of g x.env' a) place_of ≡ Some i) → CodeFollows st (Known n 0) Same (end (leaf (fetch d))) b' → CodeFollows st R Same (end (leaf (fetch d))) b'
     unfolding act_by
     peek {R} n b' place f = record {
       by = λ x. need_first (FullState g) no_deeper Same (and_then (word_of g x.env d) place_of) x.w _ _ (λ i e. need_first (FullState g) no_deeper Same (slice_get x.w.cells i) x.w _ _ (λ y r.
@@ -88,13 +88,13 @@ module _ (g : Program) where
           (f.by (record { env = x.env; env' = x.env'; d = x.d; d' = x.d'; w = x.w; b = x.b; related = record { i = i; y = y; first = e; there = r; second = place x i e; have = λ k l. absurd (omega (arith, l)) }; known = x.known; nest = x.nest }))));
     }
       where
-        there : (x : Here (plan_of g procs) R) (i : ℕ) (y : HeapCell) → and_then (word_of g x.env d) place_of ≡ Some i → slice_get x.w.cells i ≡ Some y → code_by g c true x.env x.d (end (fetch d)) x.w ≡ gives (node y.node) x.w
+        there : (x : Here (plan_of g procs) R) (i : ℕ) (y : HeapCell) → and_then (word_of g x.env d) place_of ≡ Some i → slice_get x.w.cells i ≡ Some y → code_by g c true x.env x.d (end (leaf (fetch d))) x.w ≡ gives (node y.node) x.w
         there x i y e r = ap (λ o. need o x.w (λ i. need (slice_get x.w.cells i) x.w (λ y. gives (node y.node) x.w))) e ∙ ap (λ o. need o x.w (λ y. gives (node y.node) x.w)) r
 
     -- the second fetches the words
     words_follow : (n m j z : ℕ) → z ≡ n + j → ((env' : Env) (x : ℕ) (e : Datum) → n ≤ x → word_of g (plus x e env') a ≡ word_of g env' a) → (b b' : Code) → CodeFollows st (Known n (j + m)) Same b b' → CodeFollows st (Known n j) Same b (fetch_all_words a j (variables z m) b')
     words_follow n zero j z e kept b b' f = subst (λ k. CodeFollows st (Known n k) Same b b') (let q : j + 0 ≡ j = omega arith in q) f
-    words_follow n (suc m) j z e kept b b' f = right_follows st {R = Known n j} {R' = Known n (suc j)} {V = Same} (to.One (variable z)) (fetch_word a j) b (fetch_all_words a (suc j) (variables (suc z) m) b')
+    words_follow n (suc m) j z e kept b b' f = right_follows st {R = Known n j} {R' = Known n (suc j)} {V = Same} (to.One (variable z)) (leaf (fetch_word a j)) b (fetch_all_words a (suc j) (variables (suc z) m) b')
         (words_follow n m (suc j) (suc z) (omega (arith, e)) kept b b' (subst (λ k. CodeFollows st (Known n k) Same b b') (let q : j + suc m ≡ suc j + m = omega arith in q) f))
         (λ x.
         let y : HeapCell = x.related.y in
@@ -176,13 +176,13 @@ module _ (g : Program) where
           let s : u ≡ t = cc in
           let q : i ≡ y.tag = omega (arith, e) in
           let z : fit_of h (shape.Node (tag_id i) []) v' ≡ fits [] = ap (λ o. fit_at o) vector_is ∙ ap (λ b. cond b (fits []) fits_not) (ap (nat_eq y.tag) q ∙ eq_self y.tag) in
-          ap (λ o. choose o w (λ bs. code_by h c' true (with_vars bs env') d' (end (unit (NodeVal (tag_id i) (map Var (take u.fields xs))))) (with_state_seen (with_vars bs env') w)) (arms_by h c' true env' d' v' (node_arms xs (suc i) ts) w)) z
+          ap (λ o. choose o w (λ bs. code_by h c' true (with_vars bs env') d' (end (leaf (unit (NodeVal (tag_id i) (map Var (take u.fields xs)))))) (with_state_seen (with_vars bs env') w)) (arms_by h c' true env' d' v' (node_arms xs (suc i) ts) w)) z
           ∙ ap (λ o. need o (with_state_seen env' w) (λ x. gives x (with_state_seen env' w))) (made i q u (ap (λ t. t.fields) s ∙ f))
         where
           fit_at : Option Node → MatchOutcome
           fit_at o = elim o [ None ↦ unclear | Some m ↦ cond (nat_eq m.tag i) (fits []) fits_not ]
       arms_give (u ∷ ts) i (suc k) t d' w e r f =
-          ap (λ o. choose o w (λ bs. code_by h c' true (with_vars bs env') d' (end (unit (NodeVal (tag_id i) (map Var (take u.fields xs))))) (with_state_seen (with_vars bs env') w)) (arms_by h c' true env' d' v' (node_arms xs (suc i) ts) w))
+          ap (λ o. choose o w (λ bs. code_by h c' true (with_vars bs env') d' (end (leaf (unit (NodeVal (tag_id i) (map Var (take u.fields xs)))))) (with_state_seen (with_vars bs env') w)) (arms_by h c' true env' d' v' (node_arms xs (suc i) ts) w))
           (ap (λ o. node_fit i [] o) vector_is ∙ ap (λ b. cond b (fits []) fits_not) (eq_false y.tag i (λ q. omega (arith, q, e))))
           ∙ arms_give ts (suc i) k t d' w (omega (arith, e)) r f
 
@@ -191,17 +191,17 @@ module _ (g : Program) where
     tag_there y None q e = cc
     tag_there y (Some t) q e = (t, q, (let s : t.fields ≡ length y.fields = cc in s))
 
-    case_gives : (n : ℕ) → ActFollows st (Known n (suc (most_fields g.tags))) Same (fetch d) (case (Vector (map Var (variables n (suc (most_fields g.tags))))) (node_arms (variables (suc n) (most_fields g.tags)) 0 g.tags))
+    case_gives : (n : ℕ) → ActFollows st (Known n (suc (most_fields g.tags))) Same (leaf (fetch d)) (case (Vector (map Var (variables n (suc (most_fields g.tags))))) (node_arms (variables (suc n) (most_fields g.tags)) 0 g.tags))
     unfolding act_by
     case_gives n = record { by = λ x. go x x.related }
       where
         go : (x : Here (plan_of g procs) (Known n (suc (most_fields g.tags)))) → Known n (suc (most_fields g.tags)) x.w.cells x.env x.env'
-            → Sim (FullState g) no_deeper Same (act_by g c true x.env x.d (fetch d) x.w) (act_by h c' true x.env' x.d' (case (Vector (map Var (variables n (suc (most_fields g.tags))))) (node_arms (variables (suc n) (most_fields g.tags)) 0 g.tags)) (beside x.b))
+            → Sim (FullState g) no_deeper Same (act_by g c true x.env x.d (leaf (fetch d)) x.w) (act_by h c' true x.env' x.d' (case (Vector (map Var (variables n (suc (most_fields g.tags))))) (node_arms (variables (suc n) (most_fields g.tags)) 0 g.tags)) (beside x.b))
         go x r =
             let y : HeapCell = r.y in
             let full : FullNode g y.node = all_get (FullCell g) x.w.cells r.i y x.known.cells r.there in
             let t : (t : Tag) × (slice_get g.tags y.node.tag ≡ Some t) × (t.fields ≡ length y.node.fields) = tag_there y.node (slice_get g.tags y.node.tag) refl full in
-            let first : act_by g c true x.env x.d (fetch d) x.w ≡ gives (node y.node) x.w
+            let first : act_by g c true x.env x.d (leaf (fetch d)) x.w ≡ gives (node y.node) x.w
             = ap (λ o. need o x.w (λ i. need (slice_get x.w.cells i) x.w (λ y. gives (node y.node) x.w))) r.first ∙ ap (λ o. need o x.w (λ y. gives (node y.node) x.w)) r.there in
             let second : act_by h c' true x.env' x.d' (case (Vector (map Var (variables n (suc (most_fields g.tags))))) (node_arms (variables (suc n) (most_fields g.tags)) 0 g.tags)) (beside x.b) ≡ gives (node y.node) (with_state_seen x.env' (beside x.b))
             = ap (λ o. need (and_then o (λ ds. Some (words ds))) (beside x.b) (λ v. arms_by h c' true x.env' x.d' v (node_arms (variables (suc n) (most_fields g.tags)) 0 g.tags) (beside x.b))) (all_there n x.env' y.node full r.have)
@@ -211,8 +211,8 @@ module _ (g : Program) where
             (λ _. gives_too (record { cells = x.b.cells; seen = x.b.seen ++ record { env = x.env'; heap = x.b.cells } ∷ []; depth = x.b.depth; heaps = x.b.heaps; deep = x.b.deep }) same))
 
     pub ending_follows : {R : Relation} (n : ℕ) → ((x : Here (plan_of g procs) R) (i : ℕ) → and_then (word_of g x.env d) place_of ≡ Some i → and_then (word_of g x.env' a) place_of ≡ Some i)
-        → ((env' : Env) (x : ℕ) (e : Datum) → n ≤ x → word_of g (plus x e env') a ≡ word_of g env' a) → CodeFollows st R Same (end (fetch d)) (whole_node g.tags n a)
+        → ((env' : Env) (x : ℕ) (e : Datum) → n ≤ x → word_of g (plus x e env') a ≡ word_of g env' a) → CodeFollows st R Same (end (leaf (fetch d))) (whole_node g.tags n a)
     ending_follows {R} n place kept = peek {R = R} n (whole_node g.tags n a) place
-        (words_follow n (suc (most_fields g.tags)) 0 n (omega arith) kept (end (fetch d)) (end (case (Vector (map Var (variables n (suc (most_fields g.tags))))) (node_arms (variables (suc n) (most_fields g.tags)) 0 g.tags)))
-        (subst (λ k. CodeFollows st (Known n k) Same (end (fetch d)) (end (case (Vector (map Var (variables n (suc (most_fields g.tags))))) (node_arms (variables (suc n) (most_fields g.tags)) 0 g.tags)))) (let q : suc (most_fields g.tags) ≡ 0 + suc (most_fields g.tags) = omega arith in q)
-        (end_follows st (fetch d) (case (Vector (map Var (variables n (suc (most_fields g.tags))))) (node_arms (variables (suc n) (most_fields g.tags)) 0 g.tags)) (case_gives n))))
+        (words_follow n (suc (most_fields g.tags)) 0 n (omega arith) kept (end (leaf (fetch d))) (end (case (Vector (map Var (variables n (suc (most_fields g.tags))))) (node_arms (variables (suc n) (most_fields g.tags)) 0 g.tags)))
+        (subst (λ k. CodeFollows st (Known n k) Same (end (leaf (fetch d))) (end (case (Vector (map Var (variables n (suc (most_fields g.tags))))) (node_arms (variables (suc n) (most_fields g.tags)) 0 g.tags)))) (let q : suc (most_fields g.tags) ≡ 0 + suc (most_fields g.tags) = omega arith in q)
+        (end_follows st (leaf (fetch d)) (case (Vector (map Var (variables n (suc (most_fields g.tags))))) (node_arms (variables (suc n) (most_fields g.tags)) 0 g.tags)) (case_gives n))))

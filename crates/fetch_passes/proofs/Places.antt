@@ -9,7 +9,7 @@ use Rattle.grin_syntax.specs.declared.program.Word as W
 use Rattle.grin_syntax.specs.declared.program.Word.TheVariants.{Lit, Global, TagWord, Var}
 use Rattle.grin_syntax.specs.declared.program.Val as V
 use Rattle.grin_syntax.specs.declared.program.Val.TheVariants.{NodeVar, Node, Vector, One}
-use Rattle.grin_syntax.specs.Tree.{Code, end, store, bind, Act, unit, fetch, fetch_word, update, eval, apply, call, prim, read, write, case, nested, fail, Arms, no_arm, arm}
+use Rattle.grin_syntax.specs.Tree.{Code, end, store, bind, Act, leaf, unit, fetch, fetch_word, update, eval, apply, call, prim, read, write, case, nested, fail, Arms, no_arm, arm}
 use Rattle.pass_ground.specs.Uses.{word_is, words_use, val_uses, cells_use, act_uses, code_uses, arms_use, act_mentions}
 use Rattle.variable_uses.specs.Uses.{IsUsedWithin}
 use Rattle.variable_uses.specs.Stands.{ListSegmentAt}
@@ -50,19 +50,19 @@ module _ (x : ℕ) where
     unfolding act_trace act_mentions
 
     pub act_among : (o : Act) → is_among x (act_trace o).used ≡ act_uses x o
-    act_among (unit v) = val_among v
-    act_among (fetch a) = word_among a
-    act_among (fetch_word a i) = word_among a
-    act_among (update a v) = among_append x (word_used a) (val_used v) ∙ (λ i. word_among a i || val_among v i)
-    act_among (eval a) = word_among a
-    act_among (apply v a) = among_append x (val_used v) (word_used a) ∙ (λ i. val_among v i || word_among a i)
-    act_among (call f ws) = words_among ws
-    act_among (prim f a b) = among_append x (word_used a) (word_used b) ∙ (λ i. word_among a i || word_among b i)
-    act_among read = refl
-    act_among (write a) = word_among a
+    act_among (leaf (unit v)) = val_among v
+    act_among (leaf (fetch a)) = word_among a
+    act_among (leaf (fetch_word a i)) = word_among a
+    act_among (leaf (update a v)) = among_append x (word_used a) (val_used v) ∙ (λ i. word_among a i || val_among v i)
+    act_among (leaf (eval a)) = word_among a
+    act_among (leaf (apply v a)) = among_append x (val_used v) (word_used a) ∙ (λ i. val_among v i || word_among a i)
+    act_among (leaf (call f ws)) = words_among ws
+    act_among (leaf (prim f a b)) = among_append x (word_used a) (word_used b) ∙ (λ i. word_among a i || word_among b i)
+    act_among (leaf read) = refl
+    act_among (leaf (write a)) = word_among a
     act_among (case v as') = among_append x (val_used v) (arms_trace as').used ∙ (λ i. val_among v i || arms_among as' i)
     act_among (nested b) = code_among b
-    act_among fail = refl
+    act_among (leaf fail) = refl
 
     pub code_among : (b : Code) → is_among x (code_trace b).used ≡ code_uses x b
     code_among (end o) = act_among o

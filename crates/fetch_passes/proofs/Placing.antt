@@ -10,7 +10,7 @@ use Rattle.grin_syntax.specs.declared.program.Word.TheVariants.{Lit, Var, Global
 use Rattle.grin_syntax.specs.declared.program.Val as V
 use Rattle.grin_syntax.specs.declared.program.Val.TheVariants.{NodeVar, Node, Vector, One}
 use Rattle.grin_syntax.specs.declared.program.Target.TheVariants as to
-use Rattle.grin_syntax.specs.Tree.{Code, end, store, bind, Act, fetch, fetch_word, case, nested, Arms, no_arm, arm, Procedure}
+use Rattle.grin_syntax.specs.Tree.{Code, end, store, bind, Act, leaf, fetch, fetch_word, case, nested, Arms, no_arm, arm, Procedure}
 use Rattle.grin_syntax.specs.Binders.{numbers_of, target_vars, shape_vars, cell_vars, act_vars, code_vars, arms_vars, procs_vars}
 use Rattle.grin_syntax.specs.Formed.{AllOf, InScope}
 use Rattle.grin_syntax.specs.Fresh.{variable, variables, past_code, past_procs}
@@ -136,17 +136,17 @@ module _ (ts : List Tag) where
 
   owns_stays : (b : Code) (ks : Names) (a : W.Word) (ps : List DeferredField) (n : ℕ) (t : VarId) → Alone ks t → times t.0 (code_vars b) ≡ 0 → t.0 < n → EachCode vectorised_kind b → EachCode no_word_fetch_kind b → owns t.0 (split_code ts ks a ps n b) ≡ owns t.0 b
   unfolding split_act owns code_vars EachAct made_act
-  owns_stays (end (fetch c)) ks a ps n t x h lt e k = owns_all t.0 (as_word ks c) 1 (variables (suc n) (most_fields ts)) _ ∙ eq_false n t.0 (λ q. omega (arith, q, lt))
+  owns_stays (end (leaf (fetch c))) ks a ps n t x h lt e k = owns_all t.0 (as_word ks c) 1 (variables (suc n) (most_fields ts)) _ ∙ eq_false n t.0 (λ q. omega (arith, q, lt))
   owns_stays (end o) ks a ps n t x h lt e k = owned_stays o ks a ps n t x
   owns_stays (store cs b) ks a ps n t x h lt e k = refl
-  owns_stays (bind (to.Vector (v ∷ vs)) (fetch c) b) ks a ps n t x h lt e k =
+  owns_stays (bind (to.Vector (v ∷ vs)) (leaf (fetch c)) b) ks a ps n t x h lt e k =
       let q : (times t.0 (numbers_of (v ∷ vs)) ≡ 0) × (times t.0 (code_vars b) ≡ 0) = not_here t.0 (numbers_of (v ∷ vs)) ([] ++ code_vars b) h in
       owns_words t.0 v.0 b (as_word ks c) 1 vs _ ∙ owns_stays b (with_hidden (deferred_fields_of v.0 b 1 vs) ks) _ _ (n + 0) t (hiding_alone (deferred_fields_of v.0 b 1 vs) ks t (not_waiting v.0 b 1 vs t.0 (omega (arith, q.0))) x) q.1 (omega (arith, lt)) e.2 k.2
-  owns_stays (bind (to.Vector []) (fetch c) b) ks a ps n t x h lt e k = owns_stays b ks a ps (n + 0) t x h (omega (arith, lt)) e.2 k.2
-  owns_stays (bind to.Nothing (fetch c) b) ks a ps n t x h lt e k = owns_stays b ks a ps (n + 0) t x h (omega (arith, lt)) e.2 k.2
-  owns_stays (bind (to.One u) (fetch c) b) ks a ps n t x h lt e k = owns_stays b ks a ps (n + 0) t x (not_here t.0 (u.0 ∷ []) (code_vars b) h).1 (omega (arith, lt)) e.2 k.2
-  owns_stays (bind (to.Node u) (fetch c) b) ks a ps n t x h lt e k = absurd e.0
-  owns_stays (bind u (fetch_word c i) b) ks a ps n t x h lt e k = absurd k.1
+  owns_stays (bind (to.Vector []) (leaf (fetch c)) b) ks a ps n t x h lt e k = owns_stays b ks a ps (n + 0) t x h (omega (arith, lt)) e.2 k.2
+  owns_stays (bind to.Nothing (leaf (fetch c)) b) ks a ps n t x h lt e k = owns_stays b ks a ps (n + 0) t x h (omega (arith, lt)) e.2 k.2
+  owns_stays (bind (to.One u) (leaf (fetch c)) b) ks a ps n t x h lt e k = owns_stays b ks a ps (n + 0) t x (not_here t.0 (u.0 ∷ []) (code_vars b) h).1 (omega (arith, lt)) e.2 k.2
+  owns_stays (bind (to.Node u) (leaf (fetch c)) b) ks a ps n t x h lt e k = absurd e.0
+  owns_stays (bind u (leaf (fetch_word c i)) b) ks a ps n t x h lt e k = absurd k.1
   owns_stays (bind u o b) ks a ps n t x h lt e k = owned_stays o ks a ps n t x
 
   act_outside_stays : (o : Act) (ks : Names) (a : W.Word) (ps : List DeferredField) (n : ℕ) (t z y : VarId) → Alone ks t → as_word ks (Var z) ≡ Var y → is_waiting ps z.0 ≡ false → times z.0 (act_vars o) ≡ 0 → EachAct vectorised_kind o → act_outside t.0 z.0 o ≡ true → act_outside t.0 y.0 (split_act ts ks a ps n o) ≡ true
@@ -162,10 +162,10 @@ module _ (ts : List Tag) where
   outside_stays : (b : Code) (ks : Names) (a : W.Word) (ps : List DeferredField) (n : ℕ) (t z y : VarId) → Alone ks t → as_word ks (Var z) ≡ Var y → is_waiting ps z.0 ≡ false → times t.0 (code_vars b) ≡ 0 → times z.0 (code_vars b) ≡ 0 → EachCode vectorised_kind b → EachCode no_word_fetch_kind b
       → outside t.0 z.0 b ≡ true → outside t.0 y.0 (split_code ts ks a ps n b) ≡ true
   unfolding split_act outside act_mentions code_vars EachAct made_act
-  outside_stays (end (fetch c)) ks a ps n t z y x is w h v0 e k u = or_left (word_is y.0 (as_word ks c)) _ (word_used ks z y is c u)
+  outside_stays (end (leaf (fetch c))) ks a ps n t z y x is w h v0 e k u = or_left (word_is y.0 (as_word ks c)) _ (word_used ks z y is c u)
   outside_stays (end o) ks a ps n t z y x is w h v0 e k u = act_outside_stays o ks a ps n t z y x is w v0 e u
   outside_stays (store cs b) ks a ps n t z y x is w h v0 e k u = code_used ts (store cs b) ks a ps n z y is w v0 e u
-  outside_stays (bind (to.Vector (v ∷ vs)) (fetch c) b) ks a ps n t z y x is w h v0 e k u =
+  outside_stays (bind (to.Vector (v ∷ vs)) (leaf (fetch c)) b) ks a ps n t z y x is w h v0 e k u =
       let q : (times t.0 (numbers_of (v ∷ vs)) ≡ 0) × (times t.0 (code_vars b) ≡ 0) = not_here t.0 (numbers_of (v ∷ vs)) ([] ++ code_vars b) h in
       let r : (times z.0 (numbers_of (v ∷ vs)) ≡ 0) × (times z.0 (code_vars b) ≡ 0) = not_here z.0 (numbers_of (v ∷ vs)) ([] ++ code_vars b) v0 in
       let none : is_waiting (deferred_fields_of v.0 b 1 vs) z.0 ≡ false = not_waiting v.0 b 1 vs z.0 (omega (arith, r.0)) in
@@ -176,12 +176,12 @@ module _ (ts : List Tag) where
       go : is_waiting (deferred_fields_of v.0 b 1 vs) z.0 ≡ false → (o : Bool) → is_waiting (cond o (deferred_fields_of v.0 b 1 vs) ps) z.0 ≡ false
       go none true = none
       go none false = w
-  outside_stays (bind (to.Vector []) (fetch c) b) ks a ps n t z y x is w h v0 e k u = both_or (word_is z.0 c) (outside t.0 z.0 b) (word_is y.0 (as_word ks c)) (outside t.0 y.0 (split_code ts ks a ps (n + 0) b)) (word_used ks z y is c) (λ j. outside_stays b ks a ps (n + 0) t z y x is w h v0 e.2 k.2 j) u
-  outside_stays (bind to.Nothing (fetch c) b) ks a ps n t z y x is w h v0 e k u = both_or (word_is z.0 c) (outside t.0 z.0 b) (word_is y.0 (as_word ks c)) (outside t.0 y.0 (split_code ts ks a ps (n + 0) b)) (word_used ks z y is c) (λ j. outside_stays b ks a ps (n + 0) t z y x is w h v0 e.2 k.2 j) u
-  outside_stays (bind (to.One v) (fetch c) b) ks a ps n t z y x is w h v0 e k u = both_or (word_is z.0 c) (outside t.0 z.0 b) (word_is y.0 (as_word ks c)) (outside t.0 y.0 (split_code ts ks a ps (n + 0) b)) (word_used ks z y is c)
+  outside_stays (bind (to.Vector []) (leaf (fetch c)) b) ks a ps n t z y x is w h v0 e k u = both_or (word_is z.0 c) (outside t.0 z.0 b) (word_is y.0 (as_word ks c)) (outside t.0 y.0 (split_code ts ks a ps (n + 0) b)) (word_used ks z y is c) (λ j. outside_stays b ks a ps (n + 0) t z y x is w h v0 e.2 k.2 j) u
+  outside_stays (bind to.Nothing (leaf (fetch c)) b) ks a ps n t z y x is w h v0 e k u = both_or (word_is z.0 c) (outside t.0 z.0 b) (word_is y.0 (as_word ks c)) (outside t.0 y.0 (split_code ts ks a ps (n + 0) b)) (word_used ks z y is c) (λ j. outside_stays b ks a ps (n + 0) t z y x is w h v0 e.2 k.2 j) u
+  outside_stays (bind (to.One v) (leaf (fetch c)) b) ks a ps n t z y x is w h v0 e k u = both_or (word_is z.0 c) (outside t.0 z.0 b) (word_is y.0 (as_word ks c)) (outside t.0 y.0 (split_code ts ks a ps (n + 0) b)) (word_used ks z y is c)
       (λ j. outside_stays b ks a ps (n + 0) t z y x is w (not_here t.0 (v.0 ∷ []) (code_vars b) h).1 (not_here z.0 (v.0 ∷ []) (code_vars b) v0).1 e.2 k.2 j) u
-  outside_stays (bind (to.Node v) (fetch c) b) ks a ps n t z y x is w h v0 e k u = absurd e.0
-  outside_stays (bind v (fetch_word c i) b) ks a ps n t z y x is w h v0 e k u = absurd k.1
+  outside_stays (bind (to.Node v) (leaf (fetch c)) b) ks a ps n t z y x is w h v0 e k u = absurd e.0
+  outside_stays (bind v (leaf (fetch_word c i)) b) ks a ps n t z y x is w h v0 e k u = absurd k.1
   outside_stays (bind v o b) ks a ps n t z y x is w h v0 e k u = both_or (act_outside t.0 z.0 o) (code_uses z.0 b) (act_outside t.0 y.0 (split_act ts ks a ps n o)) (code_uses y.0 (split_code ts ks a [] (n + made_act ts ps o) b))
       (act_outside_stays o ks a ps n t z y x is w (not_here z.0 (act_vars o) (code_vars b) (not_here z.0 (target_vars v) (act_vars o ++ code_vars b) v0).1).0 e.1)
       (code_used ts b ks a [] (n + made_act ts ps o) z y is refl (not_here z.0 (act_vars o) (code_vars b) (not_here z.0 (target_vars v) (act_vars o ++ code_vars b) v0).1).1 e.2) u
@@ -279,7 +279,7 @@ module _ (first : ℕ) where
       go false q r k = k is (λ j le. f j (omega (arith, le))) r
 
   node_placed : (v : VarId) (vs : List VarId) (b : Code) (a : W.Word) (c : Code) (here next : Position) → v.0 < first → ((x : VarId) → InScope (numbers_of vs) x.0 → outside v.0 x.0 b ≡ true → outside v.0 x.0 c ≡ true)
-      → CodePlaced first (after_tag (tagged a v.0 (kept v.0 b 1 vs []))) (cond (owns v.0 c) (at_front (tagged a v.0 (kept v.0 b 1 vs []))) next) c → CodePlaced first here next (bind (to.One v) (fetch_word a 0) (word_fetches v.0 b a 1 vs c))
+      → CodePlaced first (after_tag (tagged a v.0 (kept v.0 b 1 vs []))) (cond (owns v.0 c) (at_front (tagged a v.0 (kept v.0 b 1 vs []))) next) c → CodePlaced first here next (bind (to.One v) (leaf (fetch_word a 0)) (word_fetches v.0 b a 1 vs c))
   unfolding CodePlaced
   node_placed v vs b a c here next lt g h = (
     inl lt,
@@ -288,7 +288,7 @@ module _ (first : ℕ) where
   )
 
   -- at the front of an alternative
-  front_word : (x : VarId) (a : W.Word) (t k : ℕ) (is : List ℕ) (c : Code) → 1 ≤ k → times k is ≡ 0 → CodePlaced first (at_front (tagged a t (k ∷ is))) elsewhere c → CodePlaced first (at_front (tagged a t is)) elsewhere (bind (to.One x) (fetch_word a k) c)
+  front_word : (x : VarId) (a : W.Word) (t k : ℕ) (is : List ℕ) (c : Code) → 1 ≤ k → times k is ≡ 0 → CodePlaced first (at_front (tagged a t (k ∷ is))) elsewhere c → CodePlaced first (at_front (tagged a t is)) elsewhere (bind (to.One x) (leaf (fetch_word a k)) c)
   unfolding CodePlaced
   front_word x a t zero is c le h r = absurd (omega (arith, le))
   front_word x a t (suc k) is c le h r = ((refl, h), tt, r)
@@ -467,20 +467,20 @@ module _ (ts : List Tag) (base : ℕ) where
     act_placed o zs ks a ps n next x w e k = tt
 
     code_placed : (b : Code) (zs : List ℕ) (ks : Names) (a : W.Word) (ps : List DeferredField) (n : ℕ) (here next : Position) → Walk base zs ks ps n (code_vars b) → Waits next a ps → Owned ps zs b → EachCode vectorised_kind b → EachCode no_word_fetch_kind b → CodePlaced base here next (split_code ts ks a ps n b)
-    code_placed (end (fetch c)) zs ks a ps n here next x w o e k = whole_placed base ts n (as_word ks c) here next x.from
-    code_placed (end (fetch_word c i)) zs ks a ps n here next x w o e k = absurd k
+    code_placed (end (leaf (fetch c))) zs ks a ps n here next x w o e k = whole_placed base ts n (as_word ks c) here next x.from
+    code_placed (end (leaf (fetch_word c i))) zs ks a ps n here next x w o e k = absurd k
     code_placed (end o') zs ks a ps n here next x w o e k = (tt, act_placed o' zs ks a ps n next x w e k)
     code_placed (store cs b) zs ks a ps n here next x w o e k = code_placed b zs ks a [] n elsewhere elsewhere (walk_none base zs ks ps n (code_vars b) (walk_right base zs ks ps n (cell_vars cs) (code_vars b) x)) (inl refl) (inl refl) e.1 k.1
-    code_placed (bind (to.Vector (v ∷ vs)) (fetch c) b) zs ks a ps n here next x w o e k =
+    code_placed (bind (to.Vector (v ∷ vs)) (leaf (fetch c)) b) zs ks a ps n here next x w o e k =
         node_placed base v vs b (as_word ks c) (split_code ts (with_hidden (deferred_fields_of v.0 b 1 vs) ks) (cond (owns v.0 b) (as_word ks c) a) (cond (owns v.0 b) (deferred_fields_of v.0 b 1 vs) ps) (n + 0) b) here next (v_low base v vs b zs ks ps n x)
         (kept_outside base v vs b zs ks ps n x ts (cond (owns v.0 b) (as_word ks c) a) e.2 k.2)
         (code_placed b (numbers_of (v ∷ vs) ++ zs) (with_hidden (deferred_fields_of v.0 b 1 vs) ks) (cond (owns v.0 b) (as_word ks c) a) (cond (owns v.0 b) (deferred_fields_of v.0 b 1 vs) ps) (n + 0) _ _ (walk_node base v vs b zs ks ps n x)
         (subst (λ s. Waits (cond s (at_front (tagged (as_word ks c) v.0 (kept v.0 b 1 vs []))) next) (cond (owns v.0 b) (as_word ks c) a) (cond (owns v.0 b) (deferred_fields_of v.0 b 1 vs) ps))
         (sym (owns_stays ts b (with_hidden (deferred_fields_of v.0 b 1 vs) ks) (cond (owns v.0 b) (as_word ks c) a) (cond (owns v.0 b) (deferred_fields_of v.0 b 1 vs) ps) (n + 0) v (v_alone base v vs b zs ks ps n x) (v_new base v vs b zs ks ps n x).2 (let l : v.0 < base = v_low base v vs b zs ks ps n x in omega (arith, l, x.from)) e.2 k.2))
         (waits_node base v vs b zs ks ps n x next a (as_word ks c) w)) (owned_node base v vs b zs ks ps n x o) e.2 k.2)
-    code_placed (bind (to.Vector []) (fetch c) b) zs ks a ps n here next x w o e k = (tt, tt, code_placed b zs ks a ps (n + 0) elsewhere next (walk_on base zs ks ps n (n + 0) (code_vars b) (omega arith) x) w o e.2 k.2)
-    code_placed (bind to.Nothing (fetch c) b) zs ks a ps n here next x w o e k = (tt, tt, code_placed b zs ks a ps (n + 0) elsewhere next (walk_on base zs ks ps n (n + 0) (code_vars b) (omega arith) x) w o e.2 k.2)
-    code_placed (bind (to.One u) (fetch c) b) zs ks a ps n here next x w o e k =
+    code_placed (bind (to.Vector []) (leaf (fetch c)) b) zs ks a ps n here next x w o e k = (tt, tt, code_placed b zs ks a ps (n + 0) elsewhere next (walk_on base zs ks ps n (n + 0) (code_vars b) (omega arith) x) w o e.2 k.2)
+    code_placed (bind to.Nothing (leaf (fetch c)) b) zs ks a ps n here next x w o e k = (tt, tt, code_placed b zs ks a ps (n + 0) elsewhere next (walk_on base zs ks ps n (n + 0) (code_vars b) (omega arith) x) w o e.2 k.2)
+    code_placed (bind (to.One u) (leaf (fetch c)) b) zs ks a ps n here next x w o e k =
         let new : (times u.0 zs ≡ 0) × (times u.0 (code_vars b) ≡ 0) = (let q : times u.0 zs + times u.0 (u.0 ∷ code_vars b) ≤ 1 = x.once u.0 in let i : counts (nat_eq u.0 u.0) ≡ 1 = one_at u.0 in (omega (arith, q, i), omega (arith, q, i))) in
         let lt : u.0 < base = x.low u.0 (let i : counts (nat_eq u.0 u.0) ≡ 1 = one_at u.0 in omega (arith, i)) in (
           inl lt,
@@ -488,8 +488,8 @@ module _ (ts : List Tag) (base : ℕ) where
           code_placed b zs ks a ps (n + 0) _ _ (walk_on base zs ks ps n (n + 0) (code_vars b) (omega arith) (walk_right base zs ks ps n (u.0 ∷ []) (code_vars b) x))
               (one_waits u.0 zs ps a b _ next _ (owns_stays ts b ks a ps (n + 0) u (alone_new base n zs ks u x.sound new.0 lt) new.1 (omega (arith, lt, x.from)) e.2 k.2) new.0 o w) o e.2 k.2,
         )
-    code_placed (bind (to.Node u) (fetch c) b) zs ks a ps n here next x w o e k = absurd e.0
-    code_placed (bind t (fetch_word c i) b) zs ks a ps n here next x w o e k = absurd k.1
+    code_placed (bind (to.Node u) (leaf (fetch c)) b) zs ks a ps n here next x w o e k = absurd e.0
+    code_placed (bind t (leaf (fetch_word c i)) b) zs ks a ps n here next x w o e k = absurd k.1
     code_placed (bind t o' b) zs ks a ps n here next x w o e k =
         let y : Walk base zs ks ps n (act_vars o' ++ code_vars b) = walk_right base zs ks ps n (target_vars t) (act_vars o' ++ code_vars b) x in (
           tt,

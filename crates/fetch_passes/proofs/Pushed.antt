@@ -9,7 +9,7 @@ use Rattle.grin_syntax.specs.declared.program.Stmt.{Stmt}
 use Rattle.grin_syntax.specs.declared.program.Stmt.TheVariants.{Store, Bind}
 use Rattle.grin_syntax.specs.declared.program.Op.{Op}
 use Rattle.grin_syntax.specs.declared.program.Op.TheVariants.{FetchWord}
-use Rattle.grin_syntax.specs.Tree.{Code, Act, store, bind, fetch_word, act_of, before_of, all_before}
+use Rattle.grin_syntax.specs.Tree.{Code, Act, store, bind, leaf, fetch_word, act_of, before_of, all_before}
 use Rattle.grin_syntax.proofs.TreeOf.{before_of-Store, before_of-Bind, act_of-FetchWord}
 use Rattle.grin_syntax.proofs.Pieces.{all_before_push}
 use Rattle.fetch_passes.specs.Split.{fetched_if}
@@ -21,4 +21,4 @@ pub store_pushed : (ss ss' : List Stmt) (cs : List Cell) (c : Code) → ss' ≡ 
 store_pushed ss ss' cs c e = ap (λ l. all_before (map before_of l) c) e ∙ all_before_push ss (Store cs) c ∙ ap (λ f. all_before (map before_of ss) (f c)) (before_of-Store cs)
 
 pub fetch_pushed : (wanted : Bool) (x : VarId) (a : Word) (i : ℕ) (ss ss' : List Stmt) (c : Code) → wanted ≡ true → ss' ≡ ss ++ Bind (to.One x) (FetchWord a i) ∷ [] → all_before (map before_of ss') c ≡ all_before (map before_of ss) (fetched_if wanted x a i c)
-fetch_pushed wanted x a i ss ss' c w e = bind_pushed ss ss' (to.One x) (FetchWord a i) (fetch_word a i) c e (act_of-FetchWord a i) ∙ ap (λ b. all_before (map before_of ss) (fetched_if b x a i c)) (sym w)
+fetch_pushed wanted x a i ss ss' c w e = bind_pushed ss ss' (to.One x) (FetchWord a i) (leaf (fetch_word a i)) c e (act_of-FetchWord a i) ∙ ap (λ b. all_before (map before_of ss) (fetched_if b x a i c)) (sym w)

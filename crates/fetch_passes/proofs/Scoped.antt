@@ -10,7 +10,7 @@ use Rattle.grin_syntax.specs.declared.program.Val as V
 use Rattle.grin_syntax.specs.declared.program.Val.TheVariants.{NodeVar, Node, Vector, One}
 use Rattle.grin_syntax.specs.declared.program.Target as T
 use Rattle.grin_syntax.specs.declared.program.Target.TheVariants as to
-use Rattle.grin_syntax.specs.Tree.{Code, end, store, bind, Act, unit, fetch, fetch_word, update, eval, apply, call, prim, read, write, case, nested, fail, Arms, no_arm, arm, Procedure, Program}
+use Rattle.grin_syntax.specs.Tree.{Code, end, store, bind, Act, leaf, unit, fetch, fetch_word, update, eval, apply, call, prim, read, write, case, nested, fail, Arms, no_arm, arm, Procedure, Program}
 use Rattle.grin_syntax.specs.Binders.{numbers_of, target_vars, cell_vars}
 use Rattle.grin_syntax.specs.Formed.{AllOf, Scope, InScope, with_word_variables, with_target, params_scope, WordFormed, ValFormed, CellFormed, ActFormed, CodeFormed, ArmsFormed, ProcedureFormed}
 use Rattle.grin_syntax.specs.Fresh.{variable, variables}
@@ -285,20 +285,20 @@ module _ (g : Program) (procs : List Procedure) (same_count : length procs ≡ l
     act_formed : (o : Act) (scope : Scope) (ws : List ℕ) (ks : Names) (a : W.Word) (ps : List DeferredField) (n : ℕ) → Fits scope.words ws ks a → EachAct vectorised_kind o → ActFormed g scope o → ActFormed after (In ws) (split_act g.tags ks a ps n o)
     act_formed (case v as') scope ws ks a ps n x e h = (val_formed scope ws ks a x v e.1 h.0, arms_formed as' scope ws ks a ps n x e.2 h.1)
     act_formed (nested b) scope ws ks a ps n x e h = code_formed b scope ws ks a [] n x e.1 h
-    act_formed (unit v) scope ws ks a ps n x e h = val_formed scope ws ks a x v e.1 h
-    act_formed (fetch c) scope ws ks a ps n x e h = word_formed scope ws ks a x c h
-    act_formed (fetch_word c i) scope ws ks a ps n x e h = word_formed scope ws ks a x c h
-    act_formed (update c v) scope ws ks a ps n x e h = (word_formed scope ws ks a x c h.0, val_formed scope ws ks a x v e.1 h.1)
-    act_formed (eval c) scope ws ks a ps n x e h = word_formed scope ws ks a x c h
-    act_formed (apply v c) scope ws ks a ps n x e h = (val_formed scope ws ks a x v e.1 h.0, word_formed scope ws ks a x c h.1)
-    act_formed (call f us) scope ws ks a ps n x e h = (known_again g procs same_count f h.0, words_formed scope ws ks a x us h.1)
-    act_formed (prim f c d) scope ws ks a ps n x e h = (word_formed scope ws ks a x c h.0, word_formed scope ws ks a x d h.1)
-    act_formed read scope ws ks a ps n x e h = tt
-    act_formed (write c) scope ws ks a ps n x e h = word_formed scope ws ks a x c h
-    act_formed fail scope ws ks a ps n x e h = tt
+    act_formed (leaf (unit v)) scope ws ks a ps n x e h = val_formed scope ws ks a x v e.1 h
+    act_formed (leaf (fetch c)) scope ws ks a ps n x e h = word_formed scope ws ks a x c h
+    act_formed (leaf (fetch_word c i)) scope ws ks a ps n x e h = word_formed scope ws ks a x c h
+    act_formed (leaf (update c v)) scope ws ks a ps n x e h = (word_formed scope ws ks a x c h.0, val_formed scope ws ks a x v e.1 h.1)
+    act_formed (leaf (eval c)) scope ws ks a ps n x e h = word_formed scope ws ks a x c h
+    act_formed (leaf (apply v c)) scope ws ks a ps n x e h = (val_formed scope ws ks a x v e.1 h.0, word_formed scope ws ks a x c h.1)
+    act_formed (leaf (call f us)) scope ws ks a ps n x e h = (known_again g procs same_count f h.0, words_formed scope ws ks a x us h.1)
+    act_formed (leaf (prim f c d)) scope ws ks a ps n x e h = (word_formed scope ws ks a x c h.0, word_formed scope ws ks a x d h.1)
+    act_formed (leaf read) scope ws ks a ps n x e h = tt
+    act_formed (leaf (write c)) scope ws ks a ps n x e h = word_formed scope ws ks a x c h
+    act_formed (leaf fail) scope ws ks a ps n x e h = tt
 
     pub code_formed : (b : Code) (scope : Scope) (ws : List ℕ) (ks : Names) (a : W.Word) (ps : List DeferredField) (n : ℕ) → Fits scope.words ws ks a → EachCode vectorised_kind b → CodeFormed g scope b → CodeFormed after (In ws) (split_code g.tags ks a ps n b)
-    code_formed (end (fetch c)) scope ws ks a ps n x e h = whole_formed n (as_word ks c) ws (word_formed scope ws ks a x c h)
+    code_formed (end (leaf (fetch c))) scope ws ks a ps n x e h = whole_formed n (as_word ks c) ws (word_formed scope ws ks a x c h)
     code_formed (end o) scope ws ks a ps n x e h = act_formed o scope ws ks a ps n x e h
     code_formed (store cs b) scope ws ks a ps n x e h =
         let y : Fits (cell_vars cs ++ scope.words) (cell_vars cs ++ ws) ks a = fits_both (cell_vars cs) scope.words ws ks a x in
@@ -306,15 +306,15 @@ module _ (g : Program) (procs : List Procedure) (same_count : length procs ≡ l
           subst (λ l. AllOf (CellFormed after (In l)) (as_cells ks cs)) s (cells_formed (with_word_variables (cell_vars cs) scope) (cell_vars cs ++ ws) ks a y cs e.0 h.0),
           subst (λ l. CodeFormed after (In l) (split_code g.tags ks a [] n b)) s (code_formed b (with_word_variables (cell_vars cs) scope) (cell_vars cs ++ ws) ks a [] n y e.1 h.1),
         )
-    code_formed (bind (to.Vector (v ∷ vs)) (fetch c) b) scope ws ks a ps n x e h = (
+    code_formed (bind (to.Vector (v ∷ vs)) (leaf (fetch c)) b) scope ws ks a ps n x e h = (
       word_formed scope ws ks a x c h.0,
       words_formed_too v.0 b (as_word ks c) 1 vs (v.0 ∷ ws) _ (word_more ws (v.0 ∷ ws) (as_word ks c) (in_more (v.0 ∷ []) ws) (word_formed scope ws ks a x c h.0))
           (code_formed b (with_word_variables (numbers_of (v ∷ vs)) scope) (kept_words v.0 b vs (v.0 ∷ ws)) _ _ _ (n + 0) (fits_node scope.words ws ks a (as_word ks c) v vs b x (word_formed scope ws ks a x c h.0)) e.2 h.1),
     )
-    code_formed (bind (to.Vector []) (fetch c) b) scope ws ks a ps n x e h = (word_formed scope ws ks a x c h.0, code_formed b scope ws ks a ps (n + 0) x e.2 h.1)
-    code_formed (bind to.Nothing (fetch c) b) scope ws ks a ps n x e h = (word_formed scope ws ks a x c h.0, code_formed b scope ws ks a ps (n + 0) x e.2 h.1)
-    code_formed (bind (to.One y) (fetch c) b) scope ws ks a ps n x e h = (word_formed scope ws ks a x c h.0, code_formed b (with_word_variables (y.0 ∷ []) scope) (y.0 ∷ ws) ks a ps (n + 0) (fits_both (y.0 ∷ []) scope.words ws ks a x) e.2 h.1)
-    code_formed (bind (to.Node y) (fetch c) b) scope ws ks a ps n x e h = absurd e.0
+    code_formed (bind (to.Vector []) (leaf (fetch c)) b) scope ws ks a ps n x e h = (word_formed scope ws ks a x c h.0, code_formed b scope ws ks a ps (n + 0) x e.2 h.1)
+    code_formed (bind to.Nothing (leaf (fetch c)) b) scope ws ks a ps n x e h = (word_formed scope ws ks a x c h.0, code_formed b scope ws ks a ps (n + 0) x e.2 h.1)
+    code_formed (bind (to.One y) (leaf (fetch c)) b) scope ws ks a ps n x e h = (word_formed scope ws ks a x c h.0, code_formed b (with_word_variables (y.0 ∷ []) scope) (y.0 ∷ ws) ks a ps (n + 0) (fits_both (y.0 ∷ []) scope.words ws ks a x) e.2 h.1)
+    code_formed (bind (to.Node y) (leaf (fetch c)) b) scope ws ks a ps n x e h = absurd e.0
     code_formed (bind t o b) scope ws ks a ps n x e h = (
       act_formed o scope ws ks a ps n x e.1 h.0,
       subst (λ s. CodeFormed after s (split_code g.tags (names_after o t b ks) (cell_after ks o t b a) (deferred_fields_after o t b ps) (n + made_act g.tags ps o) b)) (sym (target_in t ws e.0))

@@ -10,7 +10,7 @@ use Rattle.grin_syntax.specs.declared.program.Shape.{Shape}
 use Rattle.grin_syntax.specs.declared.program.Val as V
 use Rattle.grin_syntax.specs.declared.program.Word as W
 use Rattle.grin_syntax.specs.declared.program.Word.TheVariants.{Lit, Var, Global, TagWord}
-use Rattle.grin_syntax.specs.Tree.{Code, end, store, bind, Act, unit, fetch, fetch_word, update, eval, apply, call, prim, read, write, case, nested, fail, Arms, no_arm, arm, Procedure, Program}
+use Rattle.grin_syntax.specs.Tree.{Code, end, store, bind, Act, leaf, unit, fetch, fetch_word, update, eval, apply, call, prim, read, write, case, nested, fail, Arms, no_arm, arm, Procedure, Program}
 use Rattle.grin_syntax.specs.Binders.{numbers_of, target_vars, shape_vars, cell_vars, act_vars, code_vars, arms_vars}
 use Rattle.grin_syntax.specs.Formed.{AllOf, Scope, InScope, with_word_variables, with_target, WordFormed, ValFormed, CellFormed, ActFormed, CodeFormed, ArmsFormed}
 use Rattle.grin_meaning.specs.Values.{Datum, tag, cell, Node, Value, node, words, Env, HeapCell, and_then, padded, Binding, with_vars, fits, word_of, value_of, bindings_of}
@@ -210,15 +210,15 @@ module _ (g : Program) (base : ℕ) (procs : List Procedure) (same_count : lengt
 
     -- a fetch of a word
     passed_bind : (t : Target) (d : W.Word) (i : ℕ) (b b' : Code) (scope : Scope) (ks : Names) (a : W.Word) (ps : List DeferredField) (n : ℕ) → Ctx scope.words ks a ps n → NoNodeTarget t → ((y : ℕ) → InScope (target_vars t) y → times y scope.words ≡ 0 × y < base)
-        → ActFollows st (NearR scope.words ks a ps) Same (fetch_word d i) (fetch_word (as_word ks d) i) → CodeFollows st (NearR (with_target t scope).words ks a ps) Same b b'
-        → CodeFollows st (NearR scope.words ks a ps) Same (bind t (fetch_word d i) b) (bind t (fetch_word (as_word ks d) i) b')
-    passed_bind t d i b b' scope ks a ps n x nt new f k = bind_follows st {R = NearR scope.words ks a ps} {R' = NearR (with_target t scope).words ks a ps} {U = Same} {V = Same} t t (fetch_word d i) (fetch_word (as_word ks d) i) b b' f k
+        → ActFollows st (NearR scope.words ks a ps) Same (leaf (fetch_word d i)) (leaf (fetch_word (as_word ks d) i)) → CodeFollows st (NearR (with_target t scope).words ks a ps) Same b b'
+        → CodeFollows st (NearR scope.words ks a ps) Same (bind t (leaf (fetch_word d i)) b) (bind t (leaf (fetch_word (as_word ks d) i)) b')
+    passed_bind t d i b b' scope ks a ps n x nt new f k = bind_follows st {R = NearR scope.words ks a ps} {R' = NearR (with_target t scope).words ks a ps} {U = Same} {V = Same} t t (leaf (fetch_word d i)) (leaf (fetch_word (as_word ks d) i)) b b' f k
         (λ h y. on h.w.cells y.w.cells (let z : Fetches g h.env d h.w _ y.v y.w = fetch_word_gave g c h.env (suc h.d) d i h.w y.w y.v y.gave in ap (λ w. w.cells) z.world) h.env h.env' y.bs y.values (y.seen refl) y.binds h.related)
       where
-        on : (cells cells2 : List HeapCell) → cells2 ≡ cells → (env env' : Env) {v v' : Value} (bs : List Binding) → Same v v' → is_bound_well g t (fetch_word d i) v ≡ true → bindings_of g t v ≡ Some bs → Near g scope.words ks [] a ps cells env env'
-            → BindsToo st (NearR (with_target t scope).words ks a ps) t (fetch_word (as_word ks d) i) env env' cells2 v' bs
+        on : (cells cells2 : List HeapCell) → cells2 ≡ cells → (env env' : Env) {v v' : Value} (bs : List Binding) → Same v v' → is_bound_well g t (leaf (fetch_word d i)) v ≡ true → bindings_of g t v ≡ Some bs → Near g scope.words ks [] a ps cells env env'
+            → BindsToo st (NearR (with_target t scope).words ks a ps) t (leaf (fetch_word (as_word ks d) i)) env env' cells2 v' bs
         on cells cells2 w env env' bs (same {a = v}) l e r = record {
-          seen = λ _. bound_too g t (fetch_word d i) (fetch_word (as_word ks d) i) v nt refl l;
+          seen = λ _. bound_too g t (leaf (fetch_word d i)) (leaf (fetch_word (as_word ks d) i)) v nt refl l;
           bs' = bs;
           binds = e;
           related = subst (λ zs. Near g zs ks [] a ps cells2 (with_vars bs env) (with_vars bs env')) (sym (target_words t scope nt))
@@ -226,8 +226,8 @@ module _ (g : Program) (base : ℕ) (procs : List Procedure) (same_count : lengt
         }
 
     -- a fetch of a node whose target takes none
-    never_bind : {R : Relation} (t : Target) (d : W.Word) (b b' : Code) → ((m : Node) (bs : List Binding) → bindings_of g t (node m) ≡ Some bs → ⊥) → CodeFollows st R Same (bind t (fetch d) b) b'
-    never_bind {R} t d b b' none = left_follows st {R = R} {R' = λ cells env env'. ⊥} {V = Same} t (fetch d) b b' tt (record { by = λ h. absurd h.related })
+    never_bind : {R : Relation} (t : Target) (d : W.Word) (b b' : Code) → ((m : Node) (bs : List Binding) → bindings_of g t (node m) ≡ Some bs → ⊥) → CodeFollows st R Same (bind t (leaf (fetch d)) b) b'
+    never_bind {R} t d b b' none = left_follows st {R = R} {R' = λ cells env env'. ⊥} {V = Same} t (leaf (fetch d)) b b' tt (record { by = λ h. absurd h.related })
         (λ h v bs e l q at. (let z : Fetches g h.env d h.w (λ y. node y.node) v h.w = fetch_gave g c h.env (suc h.d) d h.w h.w v e in none z.y.node bs (ap (bindings_of g t) (sym z.value) ∙ q)))
 
     places_stay : (ks : Names) (i : ℕ) (cs : List Cell) → places i (as_cells ks cs) ≡ places i cs
@@ -270,7 +270,7 @@ module _ (g : Program) (base : ℕ) (procs : List Procedure) (same_count : lengt
       word_too : (h : Here (plan_of g procs) R) (d : W.Word) → WordFormed g scope d → Clear ks (λ z. word_is z d) → (m : Datum) → word_of g h.env d ≡ Some m → word_of g h.env' (as_word ks d) ≡ Some m
       word_too h d f clear m e = word_goes g scope ks base n x.sound a ps h.w.cells h.env h.env' h.related d f clear m e
 
-      units : (v : V.Val) → ValFormed g scope v → NoNodeVar v → Clear ks (λ z. val_uses z v) → ActFollows st R Same (unit v) (unit (as_val ks v))
+      units : (v : V.Val) → ValFormed g scope v → NoNodeVar v → Clear ks (λ z. val_uses z v) → ActFollows st R Same (leaf (unit v)) (leaf (unit (as_val ks v)))
       units v f m clear = unit_follows st v (as_val ks v) (λ h y e seen. (
         λ l. fills_go g scope ks base n x.sound a ps h.w.cells h.env h.env' h.related v f m clear y e ∙ seen l,
         y,
@@ -278,10 +278,10 @@ module _ (g : Program) (base : ℕ) (procs : List Procedure) (same_count : lengt
         same,
       ))
 
-      word_fetched : (d : W.Word) (k : ℕ) → WordFormed g scope d → Clear ks (λ z. word_is z d) → ActFollows st R Same (fetch_word d k) (fetch_word (as_word ks d) k)
+      word_fetched : (d : W.Word) (k : ℕ) → WordFormed g scope d → Clear ks (λ z. word_is z d) → ActFollows st R Same (leaf (fetch_word d k)) (leaf (fetch_word (as_word ks d) k))
       word_fetched d k f clear = fetch_word_follows st d (as_word ks d) k k (λ h i y e q. (cell_too h d f clear i y e q, same))
 
-      updates : (d : W.Word) (v : V.Val) → WordFormed g scope d → ValFormed g scope v → NoNodeVar v → Clear ks (λ z. word_is z d) → Clear ks (λ z. val_uses z v) → ActFollows st R Same (update d v) (update (as_word ks d) (as_val ks v))
+      updates : (d : W.Word) (v : V.Val) → WordFormed g scope d → ValFormed g scope v → NoNodeVar v → Clear ks (λ z. word_is z d) → Clear ks (λ z. val_uses z v) → ActFollows st R Same (leaf (update d v)) (leaf (update (as_word ks d) (as_val ks v)))
       updates d v f fv m clear cv = update_follows st d (as_word ks d) v (as_val ks v) same (λ h i y e q. (
         cell_too h d f clear i y e q,
         λ k made seen. record {
@@ -292,7 +292,7 @@ module _ (g : Program) (base : ℕ) (procs : List Procedure) (same_count : lengt
         },
       ))
 
-      calls : (f : _) (ws : List W.Word) → AllOf (WordFormed g scope) ws → Clear ks (λ z. words_use z ws) → ActFollows st R Same (call f ws) (call f (as_words ks ws))
+      calls : (f : _) (ws : List W.Word) → AllOf (WordFormed g scope) ws → Clear ks (λ z. words_use z ws) → ActFollows st R Same (leaf (call f ws)) (leaf (call f (as_words ks ws)))
       calls f ws fw clear = call_follows st f ws (as_words ks ws) (λ h xs e. (xs, words_go g scope ks base n x.sound a ps h.w.cells h.env h.env' h.related ws fw clear xs e, same))
 
       -- the value of a case, with the same alternative
@@ -317,7 +317,7 @@ module _ (g : Program) (base : ℕ) (procs : List Procedure) (same_count : lengt
     -- ---- a fetch of a whole node
 
     module _ (scope : Scope) (ks : Names) (a : W.Word) (ps : List DeferredField) (n : ℕ) (x : Ctx scope.words ks a ps n) (t : ℕ) (v : VarId) (vs : List VarId) (d : W.Word) (b : Code)
-        (q : PieceCode scope (bind (to.Vector (v ∷ vs)) (fetch d) b)) (w : Window scope.words ks ps t (λ z. code_uses z (bind (to.Vector (v ∷ vs)) (fetch d) b)) (λ z. outside t z (bind (to.Vector (v ∷ vs)) (fetch d) b))) where
+        (q : PieceCode scope (bind (to.Vector (v ∷ vs)) (leaf (fetch d)) b)) (w : Window scope.words ks ps t (λ z. code_uses z (bind (to.Vector (v ∷ vs)) (leaf (fetch d)) b)) (λ z. outside t z (bind (to.Vector (v ∷ vs)) (leaf (fetch d)) b))) where
       abbrev ws : List DeferredField
       ws = deferred_fields_of v.0 b 1 vs
 
@@ -355,7 +355,7 @@ module _ (g : Program) (base : ℕ) (procs : List Procedure) (same_count : lengt
       waits_on z i = neither_right (word_is z d) (outside t z b) (w.waits z i)
 
       fresh : (y : ℕ) → InScope ys y → times y scope.words ≡ 0 × y < base
-      fresh = target_new (to.Vector (v ∷ vs)) (fetch d) b scope q
+      fresh = target_new (to.Vector (v ∷ vs)) (leaf (fetch d)) b scope q
 
       low2 : (y : ℕ) → InScope zs y → y < base
       low2 = low_more ys scope.words (λ y i. (fresh y i).1) x.low
@@ -507,8 +507,8 @@ module _ (g : Program) (base : ℕ) (procs : List Procedure) (same_count : lengt
           go {env} {env'} {cells} true all old = waits_some (Waits g (as_word ks d) cells env env') v.0 b 1 vs numbered (λ i x xs. refl) all.1
           go false all old = old
 
-      node_bind : (b' : Code) → CodeFollows st (NearR zs ks2 a2 ps2) Same b b' → CodeFollows st (NearR scope.words ks a ps) Same (bind (to.Vector (v ∷ vs)) (fetch d) b) (bind (to.One v) (fetch_word (as_word ks d) 0) (word_fetches v.0 b (as_word ks d) 1 vs b'))
-      node_bind b' f = left_follows st {R = NearR scope.words ks a ps} {R' = λ cells env env'. Near g zs ks2 ys a2 ps2 cells env env' × AllOf (Waits g (as_word ks d) cells env env') (numbered 0 (v ∷ vs))} {V = Same} (to.Vector (v ∷ vs)) (fetch d) b (bind (to.One v) (fetch_word (as_word ks d) 0) (word_fetches v.0 b (as_word ks d) 1 vs b')) tt
+      node_bind : (b' : Code) → CodeFollows st (NearR zs ks2 a2 ps2) Same b b' → CodeFollows st (NearR scope.words ks a ps) Same (bind (to.Vector (v ∷ vs)) (leaf (fetch d)) b) (bind (to.One v) (leaf (fetch_word (as_word ks d) 0)) (word_fetches v.0 b (as_word ks d) 1 vs b'))
+      node_bind b' f = left_follows st {R = NearR scope.words ks a ps} {R' = λ cells env env'. Near g zs ks2 ys a2 ps2 cells env env' × AllOf (Waits g (as_word ks d) cells env env') (numbered 0 (v ∷ vs))} {V = Same} (to.Vector (v ∷ vs)) (leaf (fetch d)) b (bind (to.One v) (leaf (fetch_word (as_word ks d) 0)) (word_fetches v.0 b (as_word ks d) 1 vs b')) tt
           (kept_follows g procs c c' cb cf base n zs low2 ks2 sound2 (as_word ks d) a2 ps2 v 0 (numbers_of vs) (numbered 1 vs) b (word_fetches v.0 b (as_word ks d) 1 vs b') (fresh v.0 first_in).1 (stays_new v first_in tag_stays)
           (λ y e. first_not y (apart (as_word ks d) held_word y e)) (λ y e. first_not y (apart a2 held2 y e))
           (words_follow g procs c c' cb cf base n zs low2 ks2 sound2 (as_word ks d) a2 ps2 v.0 b vs 1 b b' (λ y i. (fresh y.0 (rest_in y.0 i)).1)
@@ -610,11 +610,11 @@ module _ (g : Program) (base : ℕ) (procs : List Procedure) (same_count : lengt
     unfolding act_vars
     store_below cs b scope q = q.below
 
-    passed_clear : (u : Target) (d : W.Word) (i : ℕ) (b : Code) (scope : Scope) (ks : Names) (ps : List DeferredField) (t : ℕ) → CodeWindow scope ks ps t (bind u (fetch_word d i) b) → Clear ks (λ z. word_is z d)
+    passed_clear : (u : Target) (d : W.Word) (i : ℕ) (b : Code) (scope : Scope) (ks : Names) (ps : List DeferredField) (t : ℕ) → CodeWindow scope ks ps t (bind u (leaf (fetch_word d i)) b) → Clear ks (λ z. word_is z d)
     unfolding act_mentions outside
     passed_clear u d i b scope ks ps t w = by_waiting ks ps (λ z. word_is z d) (λ z e j. neither_left (word_is z.0 d) (code_uses z.0 b) (w.hidden z e j)) (λ z j. neither_left (word_is z d) (outside t z b) (w.waits z j))
 
-    passed_window : (u : Target) (d : W.Word) (i : ℕ) (b : Code) (scope : Scope) (ks : Names) (ps : List DeferredField) (t : ℕ) → NoNodeTarget u → CodeWindow scope ks ps t (bind u (fetch_word d i) b) → CodeWindow (with_target u scope) ks ps t b
+    passed_window : (u : Target) (d : W.Word) (i : ℕ) (b : Code) (scope : Scope) (ks : Names) (ps : List DeferredField) (t : ℕ) → NoNodeTarget u → CodeWindow scope ks ps t (bind u (leaf (fetch_word d i)) b) → CodeWindow (with_target u scope) ks ps t b
     unfolding act_mentions outside
     passed_window u d i b scope ks ps t nt w = record {
       hidden = λ z e j. neither_right (word_is z.0 d) (code_uses z.0 b) (w.hidden z e j);
@@ -641,7 +641,7 @@ module _ (g : Program) (base : ℕ) (procs : List Procedure) (same_count : lengt
         go i f false j = neither_left (code_uses z.0 b) (arms_use z.0 as') (w z i j)
 
     -- a fetch that ends a block
-    ending : (scope : Scope) (ks : Names) (a : W.Word) (ps : List DeferredField) (n : ℕ) → Ctx scope.words ks a ps n → (d : W.Word) → WordFormed g scope d → Clear ks (λ z. word_is z d) → CodeFollows st (NearR scope.words ks a ps) Same (end (fetch d)) (whole_node g.tags n (as_word ks d))
+    ending : (scope : Scope) (ks : Names) (a : W.Word) (ps : List DeferredField) (n : ℕ) → Ctx scope.words ks a ps n → (d : W.Word) → WordFormed g scope d → Clear ks (λ z. word_is z d) → CodeFollows st (NearR scope.words ks a ps) Same (end (leaf (fetch d))) (whole_node g.tags n (as_word ks d))
     ending scope ks a ps n x d f clear = ending_follows g procs c c' cb cf d (as_word ks d) {R = NearR scope.words ks a ps} n
         (λ h i e. then_has (word_of g h.env d) (word_of g h.env' (as_word ks d)) place_of place_of i (word_goes g scope ks base n x.sound a ps h.w.cells h.env h.env' h.related d f clear) (λ d q. q) e)
         (λ env' y e le. word_kept g env' (plus y e env') (as_word ks d) (λ z k. plus_out y e env' z (other y le z (held_as base n scope.words ks d x.sound (in_scope d f) z k))))
@@ -670,24 +670,24 @@ module _ (g : Program) (base : ℕ) (procs : List Procedure) (same_count : lengt
       act_goes (nested b) scope ks a ps n t x q w = nested_follows st b (split_code g.tags ks a [] n b)
           (code_more st {R = NearR scope.words ks a []} {R' = NearR scope.words ks a ps} b (split_code g.tags ks a [] n b) (λ cells env env' r. near_heap g scope.words ks [] a a ps cells cells env env' r) (λ v v' u. u)
           (code_goes b scope ks a [] n 0 (ctx_none scope.words ks a ps n x) (in_nested b scope q) (none_waits scope.words ks 0 (λ z. code_uses z b) (λ z. outside 0 z b) (plain_clear (nested b) scope ks ps t (λ z. refl) w))))
-      act_goes (unit v) scope ks a ps n t x q w = units scope ks a ps n x v q.formed q.bare.1 (plain_clear (unit v) scope ks ps t (λ z. refl) w)
-      act_goes (fetch d) scope ks a ps n t x q w = fetch_follows st d (as_word ks d) (λ h i y e r. (cell_too scope ks a ps n x h d q.formed (plain_clear (fetch d) scope ks ps t (λ z. refl) w) i y e r, same))
-      act_goes (fetch_word d k) scope ks a ps n t x q w = word_fetched scope ks a ps n x d k q.formed (plain_clear (fetch_word d k) scope ks ps t (λ z. refl) w)
-      act_goes (update d v) scope ks a ps n t x q w =
-          let f : Clear ks (λ z. word_is z d || val_uses z v) = plain_clear (update d v) scope ks ps t (λ z. refl) w in
+      act_goes (leaf (unit v)) scope ks a ps n t x q w = units scope ks a ps n x v q.formed q.bare.1 (plain_clear (leaf (unit v)) scope ks ps t (λ z. refl) w)
+      act_goes (leaf (fetch d)) scope ks a ps n t x q w = fetch_follows st d (as_word ks d) (λ h i y e r. (cell_too scope ks a ps n x h d q.formed (plain_clear (leaf (fetch d)) scope ks ps t (λ z. refl) w) i y e r, same))
+      act_goes (leaf (fetch_word d k)) scope ks a ps n t x q w = word_fetched scope ks a ps n x d k q.formed (plain_clear (leaf (fetch_word d k)) scope ks ps t (λ z. refl) w)
+      act_goes (leaf (update d v)) scope ks a ps n t x q w =
+          let f : Clear ks (λ z. word_is z d || val_uses z v) = plain_clear (leaf (update d v)) scope ks ps t (λ z. refl) w in
           updates scope ks a ps n x d v q.formed.0 q.formed.1 q.bare.1 (clear_left ks (λ z. word_is z d) (λ z. val_uses z v) f) (clear_right ks (λ z. word_is z d) (λ z. val_uses z v) f)
-      act_goes (eval d) scope ks a ps n t x q w = absurd q.inlined
-      act_goes (apply v d) scope ks a ps n t x q w = absurd q.inlined.0
-      act_goes (call f ws) scope ks a ps n t x q w = calls scope ks a ps n x f ws q.formed.1 (plain_clear (call f ws) scope ks ps t (λ z. refl) w)
-      act_goes (prim f d e) scope ks a ps n t x q w =
-          let k : Clear ks (λ z. word_is z d || word_is z e) = plain_clear (prim f d e) scope ks ps t (λ z. refl) w in
+      act_goes (leaf (eval d)) scope ks a ps n t x q w = absurd q.inlined
+      act_goes (leaf (apply v d)) scope ks a ps n t x q w = absurd q.inlined.0
+      act_goes (leaf (call f ws)) scope ks a ps n t x q w = calls scope ks a ps n x f ws q.formed.1 (plain_clear (leaf (call f ws)) scope ks ps t (λ z. refl) w)
+      act_goes (leaf (prim f d e)) scope ks a ps n t x q w =
+          let k : Clear ks (λ z. word_is z d || word_is z e) = plain_clear (leaf (prim f d e)) scope ks ps t (λ z. refl) w in
           prim_follows st f d e (as_word ks d) (as_word ks e) (λ h. word_too scope ks a ps n x h d q.formed.0 (clear_left ks (λ z. word_is z d) (λ z. word_is z e) k)) (λ h. word_too scope ks a ps n x h e q.formed.1 (clear_right ks (λ z. word_is z d) (λ z. word_is z e) k)) (λ i. same)
-      act_goes read scope ks a ps n t x q w = read_follows st (λ i. same)
-      act_goes (write d) scope ks a ps n t x q w = write_follows st d (as_word ks d) (λ h. word_too scope ks a ps n x h d q.formed (plain_clear (write d) scope ks ps t (λ z. refl) w)) same
-      act_goes fail scope ks a ps n t x q w = fail_follows st
+      act_goes (leaf read) scope ks a ps n t x q w = read_follows st (λ i. same)
+      act_goes (leaf (write d)) scope ks a ps n t x q w = write_follows st d (as_word ks d) (λ h. word_too scope ks a ps n x h d q.formed (plain_clear (leaf (write d)) scope ks ps t (λ z. refl) w)) same
+      act_goes (leaf fail) scope ks a ps n t x q w = fail_follows st
 
       pub code_goes : (b : Code) (scope : Scope) (ks : Names) (a : W.Word) (ps : List DeferredField) (n t : ℕ) → Ctx scope.words ks a ps n → PieceCode scope b → CodeWindow scope ks ps t b → CodeFollows st (NearR scope.words ks a ps) Same b (split_code g.tags ks a ps n b)
-      code_goes (end (fetch d)) scope ks a ps n t x q w = ending scope ks a ps n x d q.formed (plain_clear (fetch d) scope ks ps t (λ z. refl) (end_window (fetch d) scope ks ps t w))
+      code_goes (end (leaf (fetch d))) scope ks a ps n t x q w = ending scope ks a ps n x d q.formed (plain_clear (leaf (fetch d)) scope ks ps t (λ z. refl) (end_window (leaf (fetch d)) scope ks ps t w))
       code_goes (end o) scope ks a ps n t x q w = end_follows st o (split_act g.tags ks a ps n o) (act_goes o scope ks a ps n t x (at_end o scope q) (end_window o scope ks ps t w))
       code_goes (store cs b) scope ks a ps n t x q w =
           let f : Clear ks (λ z. cells_use z cs) × Clear ks (λ z. code_uses z b) = store_clear cs b scope ks ps t w in
@@ -696,18 +696,18 @@ module _ (g : Program) (base : ℕ) (procs : List Procedure) (same_count : lengt
           (code_goes b (with_word_variables (cell_vars cs) scope) ks a [] n 0
           (ctx_on scope.words (cell_vars cs ++ scope.words) ks a [] n n (omega arith) (in_more (cell_vars cs) scope.words) (low_more (cell_vars cs) scope.words (λ y i. (new y i).1) x.low) (ctx_none scope.words ks a ps n x))
           (in_store cs b scope q) (none_waits (cell_vars cs ++ scope.words) ks 0 (λ z. code_uses z b) (λ z. outside 0 z b) f.1))
-      code_goes (bind (to.Vector (v ∷ vs)) (fetch d) b) scope ks a ps n t x q w =
+      code_goes (bind (to.Vector (v ∷ vs)) (leaf (fetch d)) b) scope ks a ps n t x q w =
           node_bind scope ks a ps n x t v vs d b q w (split_code g.tags (with_hidden (deferred_fields_of v.0 b 1 vs) ks) (cond (owns v.0 b) (as_word ks d) a) (cond (owns v.0 b) (deferred_fields_of v.0 b 1 vs) ps) (n + 0) b)
           (code_goes b (with_target (to.Vector (v ∷ vs)) scope) (with_hidden (deferred_fields_of v.0 b 1 vs) ks) (cond (owns v.0 b) (as_word ks d) a) (cond (owns v.0 b) (deferred_fields_of v.0 b 1 vs) ps) (n + 0) (cond (owns v.0 b) v.0 t)
-          (ctx2 scope ks a ps n x t v vs d b q w (n + 0) (omega arith)) (after_target (to.Vector (v ∷ vs)) (fetch d) b scope q) (window2 scope ks a ps n x t v vs d b q w))
-      code_goes (bind (to.Vector []) (fetch d) b) scope ks a ps n t x q w = never_bind (to.Vector []) d b _ (λ m bs e. cc)
-      code_goes (bind to.Nothing (fetch d) b) scope ks a ps n t x q w = never_bind to.Nothing d b _ (λ m bs e. cc)
-      code_goes (bind (to.One y) (fetch d) b) scope ks a ps n t x q w = never_bind (to.One y) d b _ (λ m bs e. cc)
-      code_goes (bind (to.Node y) (fetch d) b) scope ks a ps n t x q w = absurd q.bare.0
-      code_goes (bind u (fetch_word d i) b) scope ks a ps n t x q w =
-          passed_bind u d i b (split_code g.tags ks a ps (n + 0) b) scope ks a ps n x q.bare.0 (target_new u (fetch_word d i) b scope q)
+          (ctx2 scope ks a ps n x t v vs d b q w (n + 0) (omega arith)) (after_target (to.Vector (v ∷ vs)) (leaf (fetch d)) b scope q) (window2 scope ks a ps n x t v vs d b q w))
+      code_goes (bind (to.Vector []) (leaf (fetch d)) b) scope ks a ps n t x q w = never_bind (to.Vector []) d b _ (λ m bs e. cc)
+      code_goes (bind to.Nothing (leaf (fetch d)) b) scope ks a ps n t x q w = never_bind to.Nothing d b _ (λ m bs e. cc)
+      code_goes (bind (to.One y) (leaf (fetch d)) b) scope ks a ps n t x q w = never_bind (to.One y) d b _ (λ m bs e. cc)
+      code_goes (bind (to.Node y) (leaf (fetch d)) b) scope ks a ps n t x q w = absurd q.bare.0
+      code_goes (bind u (leaf (fetch_word d i)) b) scope ks a ps n t x q w =
+          passed_bind u d i b (split_code g.tags ks a ps (n + 0) b) scope ks a ps n x q.bare.0 (target_new u (leaf (fetch_word d i)) b scope q)
           (word_fetched scope ks a ps n x d i q.formed.0 (passed_clear u d i b scope ks ps t w))
-          (code_goes b (with_target u scope) ks a ps (n + 0) t (ctx_after u scope ks a ps n (n + 0) (omega arith) q.bare.0 (λ y j. (target_new u (fetch_word d i) b scope q y j).1) x) (after_target u (fetch_word d i) b scope q) (passed_window u d i b scope ks ps t q.bare.0 w))
+          (code_goes b (with_target u scope) ks a ps (n + 0) t (ctx_after u scope ks a ps n (n + 0) (omega arith) q.bare.0 (λ y j. (target_new u (leaf (fetch_word d i)) b scope q y j).1) x) (after_target u (leaf (fetch_word d i)) b scope q) (passed_window u d i b scope ks ps t q.bare.0 w))
       code_goes (bind u o b) scope ks a ps n t x q w =
           plain_bind u o (split_act g.tags ks a ps n o) b (split_code g.tags ks a [] (n + made_act g.tags ps o) b) scope ks a ps n x q.bare.0 (target_new u o b scope q) refl
           (act_goes o scope ks a ps n t x (first_act u o b scope q) (act_window u o b scope ks ps t refl w))

@@ -16,7 +16,7 @@ use Rattle.grin_syntax.specs.declared.program.Stmt.{Stmt}
 use Rattle.grin_syntax.specs.declared.program.Stmt.TheVariants.{Store, Bind}
 use Rattle.grin_syntax.specs.declared.program.Block.{Block}
 use Rattle.grin_syntax.specs.declared.program.Proc.{Proc}
-use Rattle.grin_syntax.specs.Tree.{Code, end, Act, fetch, case, Arms, no_arm, arm, Procedure, act_of, before_of, arm_of, code_of, all_before, procedure_of}
+use Rattle.grin_syntax.specs.Tree.{Code, end, Act, leaf, fetch, case, Arms, no_arm, arm, Procedure, act_of, before_of, arm_of, code_of, all_before, procedure_of}
 use Rattle.grin_syntax.proofs.TreeOf.{before_of-Store, before_of-Bind, code_of-parts, act_of-Case}
 use Rattle.grin_syntax.proofs.Pieces.{all_arms, all_arms_none, all_arms_push}
 use Rattle.fetch_passes.specs.Names.{Names, DeferredField, as_val, as_cells}
@@ -30,39 +30,39 @@ module _ (ts : List Tag) where
 
   names_kind : (ks : Names) (a : W.Word) (ps : List DeferredField) (n : ℕ) (o : Act) (t : Target) (b : Code) (js : Names) → names_after (split_act ts ks a ps n o) t b js ≡ names_after o t b js
   unfolding split_act
-  names_kind ks a ps n (fetch c) (to.Vector (x ∷ xs)) b js = refl
-  names_kind ks a ps n (fetch c) (to.Vector []) b js = refl
-  names_kind ks a ps n (fetch c) (to.One x) b js = refl
-  names_kind ks a ps n (fetch c) (to.Node x) b js = refl
-  names_kind ks a ps n (fetch c) to.Nothing b js = refl
+  names_kind ks a ps n (leaf (fetch c)) (to.Vector (x ∷ xs)) b js = refl
+  names_kind ks a ps n (leaf (fetch c)) (to.Vector []) b js = refl
+  names_kind ks a ps n (leaf (fetch c)) (to.One x) b js = refl
+  names_kind ks a ps n (leaf (fetch c)) (to.Node x) b js = refl
+  names_kind ks a ps n (leaf (fetch c)) to.Nothing b js = refl
   names_kind ks a ps n o t b js = refl
 
   waits_kind : (ks : Names) (a : W.Word) (ps : List DeferredField) (n : ℕ) (o : Act) (t : Target) (b : Code) (qs : List DeferredField) → deferred_fields_after (split_act ts ks a ps n o) t b qs ≡ deferred_fields_after o t b qs
   unfolding split_act
-  waits_kind ks a ps n (fetch c) (to.Vector (x ∷ xs)) b qs = refl
-  waits_kind ks a ps n (fetch c) (to.Vector []) b qs = refl
-  waits_kind ks a ps n (fetch c) (to.One x) b qs = refl
-  waits_kind ks a ps n (fetch c) (to.Node x) b qs = refl
-  waits_kind ks a ps n (fetch c) to.Nothing b qs = refl
+  waits_kind ks a ps n (leaf (fetch c)) (to.Vector (x ∷ xs)) b qs = refl
+  waits_kind ks a ps n (leaf (fetch c)) (to.Vector []) b qs = refl
+  waits_kind ks a ps n (leaf (fetch c)) (to.One x) b qs = refl
+  waits_kind ks a ps n (leaf (fetch c)) (to.Node x) b qs = refl
+  waits_kind ks a ps n (leaf (fetch c)) to.Nothing b qs = refl
   waits_kind ks a ps n o t b qs = refl
 
   cell_kind : (ks : Names) (a : W.Word) (ps : List DeferredField) (n : ℕ) (o : Act) (t : Target) (b : Code) → cell_from (split_act ts ks a ps n o) t b a ≡ cell_after ks o t b a
   unfolding split_act
-  cell_kind ks a ps n (fetch c) (to.Vector (x ∷ xs)) b = refl
-  cell_kind ks a ps n (fetch c) (to.Vector []) b = refl
-  cell_kind ks a ps n (fetch c) (to.One x) b = refl
-  cell_kind ks a ps n (fetch c) (to.Node x) b = refl
-  cell_kind ks a ps n (fetch c) to.Nothing b = refl
+  cell_kind ks a ps n (leaf (fetch c)) (to.Vector (x ∷ xs)) b = refl
+  cell_kind ks a ps n (leaf (fetch c)) (to.Vector []) b = refl
+  cell_kind ks a ps n (leaf (fetch c)) (to.One x) b = refl
+  cell_kind ks a ps n (leaf (fetch c)) (to.Node x) b = refl
+  cell_kind ks a ps n (leaf (fetch c)) to.Nothing b = refl
   cell_kind ks a ps n o t b = refl
 
   end_kind : (ks : Names) (a : W.Word) (ps : List DeferredField) (n : ℕ) (o : Act) → end_with ts (n + made_act ts ps o) (split_act ts ks a ps n o) ≡ end_with ts n (split_act ts ks a ps n o)
   unfolding split_act made_act
-  end_kind ks a ps n (fetch c) = ap (λ k. end_with ts k (split_act ts ks a ps n (fetch c))) (let e : n + 0 ≡ n = omega arith in e)
+  end_kind ks a ps n (leaf (fetch c)) = ap (λ k. end_with ts k (split_act ts ks a ps n (leaf (fetch c)))) (let e : n + 0 ≡ n = omega arith in e)
   end_kind ks a ps n o = refl
 
   made_kind : (ks : Names) (a : W.Word) (ps : List DeferredField) (n : ℕ) (o : Act) → new_variables_of_end ts (split_act ts ks a ps n o) ≡ new_variables_of_end ts o
   unfolding split_act
-  made_kind ks a ps n (fetch c) = refl
+  made_kind ks a ps n (leaf (fetch c)) = refl
   made_kind ks a ps n o = refl
 
   -- ---- statements

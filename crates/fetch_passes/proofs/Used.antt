@@ -10,7 +10,7 @@ use Rattle.grin_syntax.specs.declared.program.Word.TheVariants.{Lit, Var, Global
 use Rattle.grin_syntax.specs.declared.program.Val as V
 use Rattle.grin_syntax.specs.declared.program.Val.TheVariants.{NodeVar, Node, Vector, One}
 use Rattle.grin_syntax.specs.declared.program.Target.TheVariants as to
-use Rattle.grin_syntax.specs.Tree.{Code, end, store, bind, Act, unit, fetch, fetch_word, update, eval, apply, call, prim, read, write, case, nested, fail, Arms, no_arm, arm, Procedure}
+use Rattle.grin_syntax.specs.Tree.{Code, end, store, bind, Act, leaf, unit, fetch, fetch_word, update, eval, apply, call, prim, read, write, case, nested, fail, Arms, no_arm, arm, Procedure}
 use Rattle.grin_syntax.specs.Binders.{numbers_of, target_vars, shape_vars, cell_vars, act_vars, code_vars, arms_vars, procs_vars}
 use Rattle.grin_syntax.specs.Formed.{AllOf, InScope}
 use Rattle.grin_syntax.specs.Fresh.{variable, variables}
@@ -173,31 +173,31 @@ module _ (ts : List Tag) where
     pub act_used : (o : Act) (ks : Names) (a : W.Word) (ps : List DeferredField) (n : ℕ) (z y : VarId) → as_word ks (Var z) ≡ Var y → is_waiting ps z.0 ≡ false → times z.0 (act_vars o) ≡ 0 → EachAct vectorised_kind o → act_uses z.0 o ≡ true → act_uses y.0 (split_act ts ks a ps n o) ≡ true
     act_used (case v as') ks a ps n z y e w v0 x h = both_or (val_uses z.0 v) (arms_use z.0 as') (val_uses y.0 (as_val ks v)) (arms_use y.0 (split_arms ts ks a ps n as')) (val_used ks z y e v x.1) (arms_used as' ks a ps n z y e w v0 x.2) h
     act_used (nested b) ks a ps n z y e w v0 x h = code_used b ks a [] n z y e refl v0 x.1 h
-    act_used (unit v) ks a ps n z y e w v0 x h = val_used ks z y e v x.1 h
-    act_used (fetch c) ks a ps n z y e w v0 x h = word_used ks z y e c h
-    act_used (fetch_word c i) ks a ps n z y e w v0 x h = word_used ks z y e c h
-    act_used (update c v) ks a ps n z y e w v0 x h = both_or (word_is z.0 c) (val_uses z.0 v) (word_is y.0 (as_word ks c)) (val_uses y.0 (as_val ks v)) (word_used ks z y e c) (val_used ks z y e v x.1) h
-    act_used (eval c) ks a ps n z y e w v0 x h = word_used ks z y e c h
-    act_used (apply v c) ks a ps n z y e w v0 x h = both_or (val_uses z.0 v) (word_is z.0 c) (val_uses y.0 (as_val ks v)) (word_is y.0 (as_word ks c)) (val_used ks z y e v x.1) (word_used ks z y e c) h
-    act_used (call f ws) ks a ps n z y e w v0 x h = words_used ks z y e ws h
-    act_used (prim f c d) ks a ps n z y e w v0 x h = both_or (word_is z.0 c) (word_is z.0 d) (word_is y.0 (as_word ks c)) (word_is y.0 (as_word ks d)) (word_used ks z y e c) (word_used ks z y e d) h
-    act_used read ks a ps n z y e w v0 x h = cc
-    act_used (write c) ks a ps n z y e w v0 x h = word_used ks z y e c h
-    act_used fail ks a ps n z y e w v0 x h = cc
+    act_used (leaf (unit v)) ks a ps n z y e w v0 x h = val_used ks z y e v x.1 h
+    act_used (leaf (fetch c)) ks a ps n z y e w v0 x h = word_used ks z y e c h
+    act_used (leaf (fetch_word c i)) ks a ps n z y e w v0 x h = word_used ks z y e c h
+    act_used (leaf (update c v)) ks a ps n z y e w v0 x h = both_or (word_is z.0 c) (val_uses z.0 v) (word_is y.0 (as_word ks c)) (val_uses y.0 (as_val ks v)) (word_used ks z y e c) (val_used ks z y e v x.1) h
+    act_used (leaf (eval c)) ks a ps n z y e w v0 x h = word_used ks z y e c h
+    act_used (leaf (apply v c)) ks a ps n z y e w v0 x h = both_or (val_uses z.0 v) (word_is z.0 c) (val_uses y.0 (as_val ks v)) (word_is y.0 (as_word ks c)) (val_used ks z y e v x.1) (word_used ks z y e c) h
+    act_used (leaf (call f ws)) ks a ps n z y e w v0 x h = words_used ks z y e ws h
+    act_used (leaf (prim f c d)) ks a ps n z y e w v0 x h = both_or (word_is z.0 c) (word_is z.0 d) (word_is y.0 (as_word ks c)) (word_is y.0 (as_word ks d)) (word_used ks z y e c) (word_used ks z y e d) h
+    act_used (leaf read) ks a ps n z y e w v0 x h = cc
+    act_used (leaf (write c)) ks a ps n z y e w v0 x h = word_used ks z y e c h
+    act_used (leaf fail) ks a ps n z y e w v0 x h = cc
 
     pub code_used : (b : Code) (ks : Names) (a : W.Word) (ps : List DeferredField) (n : ℕ) (z y : VarId) → as_word ks (Var z) ≡ Var y → is_waiting ps z.0 ≡ false → times z.0 (code_vars b) ≡ 0 → EachCode vectorised_kind b → code_uses z.0 b ≡ true → code_uses y.0 (split_code ts ks a ps n b) ≡ true
-    code_used (end (fetch c)) ks a ps n z y e w v0 x h = or_left (word_is y.0 (as_word ks c)) _ (word_used ks z y e c h)
+    code_used (end (leaf (fetch c))) ks a ps n z y e w v0 x h = or_left (word_is y.0 (as_word ks c)) _ (word_used ks z y e c h)
     code_used (end o) ks a ps n z y e w v0 x h = act_used o ks a ps n z y e w v0 x h
     code_used (store cs b) ks a ps n z y e w v0 x h = both_or (cells_use z.0 cs) (code_uses z.0 b) (cells_use y.0 (as_cells ks cs)) (code_uses y.0 (split_code ts ks a [] n b)) (cells_used ks z y e cs x.0)
         (code_used b ks a [] n z y e refl (not_here z.0 (cell_vars cs) (code_vars b) v0).1 x.1) h
-    code_used (bind (to.Vector (v ∷ vs)) (fetch c) b) ks a ps n z y e w v0 x h =
+    code_used (bind (to.Vector (v ∷ vs)) (leaf (fetch c)) b) ks a ps n z y e w v0 x h =
         node_used v vs c b ks a ps n z y e w (not_here z.0 (numbers_of (v ∷ vs)) ([] ++ code_vars b) v0).0 h
         (λ f g. code_used b (with_hidden (deferred_fields_of v.0 b 1 vs) ks) _ (cond (owns v.0 b) (deferred_fields_of v.0 b 1 vs) ps) (n + 0) z y f g (not_here z.0 (numbers_of (v ∷ vs)) ([] ++ code_vars b) v0).1 x.2)
-    code_used (bind (to.Vector []) (fetch c) b) ks a ps n z y e w v0 x h = both_or (word_is z.0 c) (code_uses z.0 b) (word_is y.0 (as_word ks c)) (code_uses y.0 (split_code ts ks a ps (n + 0) b)) (word_used ks z y e c) (code_used b ks a ps (n + 0) z y e w v0 x.2) h
-    code_used (bind to.Nothing (fetch c) b) ks a ps n z y e w v0 x h = both_or (word_is z.0 c) (code_uses z.0 b) (word_is y.0 (as_word ks c)) (code_uses y.0 (split_code ts ks a ps (n + 0) b)) (word_used ks z y e c) (code_used b ks a ps (n + 0) z y e w v0 x.2) h
-    code_used (bind (to.One u) (fetch c) b) ks a ps n z y e w v0 x h = both_or (word_is z.0 c) (code_uses z.0 b) (word_is y.0 (as_word ks c)) (code_uses y.0 (split_code ts ks a ps (n + 0) b)) (word_used ks z y e c) (code_used b ks a ps (n + 0) z y e w (not_here z.0 (u.0 ∷ []) (code_vars b) v0).1 x.2) h
-    code_used (bind (to.Node u) (fetch c) b) ks a ps n z y e w v0 x h = absurd x.0
-    code_used (bind t (fetch_word c i) b) ks a ps n z y e w v0 x h = both_or (word_is z.0 c) (code_uses z.0 b) (word_is y.0 (as_word ks c)) (code_uses y.0 (split_code ts ks a ps (n + 0) b)) (word_used ks z y e c) (code_used b ks a ps (n + 0) z y e w (not_here z.0 (target_vars t) (code_vars b) v0).1 x.2) h
+    code_used (bind (to.Vector []) (leaf (fetch c)) b) ks a ps n z y e w v0 x h = both_or (word_is z.0 c) (code_uses z.0 b) (word_is y.0 (as_word ks c)) (code_uses y.0 (split_code ts ks a ps (n + 0) b)) (word_used ks z y e c) (code_used b ks a ps (n + 0) z y e w v0 x.2) h
+    code_used (bind to.Nothing (leaf (fetch c)) b) ks a ps n z y e w v0 x h = both_or (word_is z.0 c) (code_uses z.0 b) (word_is y.0 (as_word ks c)) (code_uses y.0 (split_code ts ks a ps (n + 0) b)) (word_used ks z y e c) (code_used b ks a ps (n + 0) z y e w v0 x.2) h
+    code_used (bind (to.One u) (leaf (fetch c)) b) ks a ps n z y e w v0 x h = both_or (word_is z.0 c) (code_uses z.0 b) (word_is y.0 (as_word ks c)) (code_uses y.0 (split_code ts ks a ps (n + 0) b)) (word_used ks z y e c) (code_used b ks a ps (n + 0) z y e w (not_here z.0 (u.0 ∷ []) (code_vars b) v0).1 x.2) h
+    code_used (bind (to.Node u) (leaf (fetch c)) b) ks a ps n z y e w v0 x h = absurd x.0
+    code_used (bind t (leaf (fetch_word c i)) b) ks a ps n z y e w v0 x h = both_or (word_is z.0 c) (code_uses z.0 b) (word_is y.0 (as_word ks c)) (code_uses y.0 (split_code ts ks a ps (n + 0) b)) (word_used ks z y e c) (code_used b ks a ps (n + 0) z y e w (not_here z.0 (target_vars t) (code_vars b) v0).1 x.2) h
     code_used (bind t o b) ks a ps n z y e w v0 x h = both_or (act_uses z.0 o) (code_uses z.0 b) (act_uses y.0 (split_act ts ks a ps n o)) (code_uses y.0 (split_code ts ks a [] (n + made_act ts ps o) b))
         (act_used o ks a ps n z y e w (not_here z.0 (act_vars o) (code_vars b) (not_here z.0 (target_vars t) (act_vars o ++ code_vars b) v0).1).0 x.1)
         (code_used b ks a [] (n + made_act ts ps o) z y e refl (not_here z.0 (act_vars o) (code_vars b) (not_here z.0 (target_vars t) (act_vars o ++ code_vars b) v0).1).1 x.2) h
@@ -223,7 +223,7 @@ module _ (ts : List Tag) where
   no_wait : (zs : List ℕ) (ks : Names) (ps : List DeferredField) → Known zs ks ps → Known zs ks []
   no_wait zs ks ps x = record { others = x.others; inside = λ z e. cc; distinct = tt }
 
-  word_ok : (i : ℕ) (a : W.Word) (x : VarId) (c : Code) → code_uses x.0 c ≡ true → WordUsed (fetch_word a i) (to.One x) c
+  word_ok : (i : ℕ) (a : W.Word) (x : VarId) (c : Code) → code_uses x.0 c ≡ true → WordUsed (leaf (fetch_word a i)) (to.One x) c
   word_ok zero a x c h = tt
   word_ok (suc i) a x c h = h
 
@@ -362,21 +362,21 @@ module _ (ts : List Tag) where
     act_fetches o zs ks a ps n x once e h = tt
 
     code_fetches : (b : Code) (zs : List ℕ) (ks : Names) (a : W.Word) (ps : List DeferredField) (n : ℕ) → Known zs ks ps → ((y : ℕ) → times y zs + times y (code_vars b) ≤ 1) → EachCode vectorised_kind b → EachCode no_word_fetch_kind b → CodeFetchesUsed (split_code ts ks a ps n b)
-    code_fetches (end (fetch c)) zs ks a ps n x once e h = whole_ok n (as_word ks c)
+    code_fetches (end (leaf (fetch c))) zs ks a ps n x once e h = whole_ok n (as_word ks c)
     code_fetches (end o) zs ks a ps n x once e h = act_fetches o zs ks a ps n x once e h
     code_fetches (store cs b) zs ks a ps n x once e h = code_fetches b zs ks a [] n (no_wait zs ks ps x) (once_after zs (cell_vars cs) (code_vars b) once) e.1 h.1
-    code_fetches (bind (to.Vector (v ∷ vs)) (fetch c) b) zs ks a ps n x once e h = (
+    code_fetches (bind (to.Vector (v ∷ vs)) (leaf (fetch c)) b) zs ks a ps n x once e h = (
       tt,
       tt,
       words_ok v.0 b (as_word ks c) 1 vs (split_code ts (with_hidden (deferred_fields_of v.0 b 1 vs) ks) (cond (owns v.0 b) (as_word ks c) a) (cond (owns v.0 b) (deferred_fields_of v.0 b 1 vs) ps) (n + 0) b)
           (kept_used v vs b zs ks ps x once (cond (owns v.0 b) (as_word ks c) a) (n + 0) e.2)
           (code_fetches b (numbers_of (v ∷ vs) ++ zs) (with_hidden (deferred_fields_of v.0 b 1 vs) ks) (cond (owns v.0 b) (as_word ks c) a) (cond (owns v.0 b) (deferred_fields_of v.0 b 1 vs) ps) (n + 0) (known_after v vs b zs ks ps x once) (later_once v vs b zs ks ps x once) e.2 h.2),
     )
-    code_fetches (bind (to.Vector []) (fetch c) b) zs ks a ps n x once e h = (tt, tt, code_fetches b zs ks a ps (n + 0) x once e.2 h.2)
-    code_fetches (bind to.Nothing (fetch c) b) zs ks a ps n x once e h = (tt, tt, code_fetches b zs ks a ps (n + 0) x once e.2 h.2)
-    code_fetches (bind (to.One u) (fetch c) b) zs ks a ps n x once e h = (tt, tt, code_fetches b zs ks a ps (n + 0) x (once_after zs (u.0 ∷ []) (code_vars b) once) e.2 h.2)
-    code_fetches (bind (to.Node u) (fetch c) b) zs ks a ps n x once e h = absurd e.0
-    code_fetches (bind t (fetch_word c i) b) zs ks a ps n x once e h = absurd h.1
+    code_fetches (bind (to.Vector []) (leaf (fetch c)) b) zs ks a ps n x once e h = (tt, tt, code_fetches b zs ks a ps (n + 0) x once e.2 h.2)
+    code_fetches (bind to.Nothing (leaf (fetch c)) b) zs ks a ps n x once e h = (tt, tt, code_fetches b zs ks a ps (n + 0) x once e.2 h.2)
+    code_fetches (bind (to.One u) (leaf (fetch c)) b) zs ks a ps n x once e h = (tt, tt, code_fetches b zs ks a ps (n + 0) x (once_after zs (u.0 ∷ []) (code_vars b) once) e.2 h.2)
+    code_fetches (bind (to.Node u) (leaf (fetch c)) b) zs ks a ps n x once e h = absurd e.0
+    code_fetches (bind t (leaf (fetch_word c i)) b) zs ks a ps n x once e h = absurd h.1
     code_fetches (bind t o b) zs ks a ps n x once e h = (
       tt,
       act_fetches o zs ks a ps n x (once_before zs (act_vars o) (code_vars b) (once_after zs (target_vars t) (act_vars o ++ code_vars b) once)) e.1 h.1,

@@ -6,7 +6,7 @@ use Rattle.grin_syntax.specs.declared.program.Word as W
 use Rattle.grin_syntax.specs.declared.program.Word.TheVariants.{Lit, Var, Global, TagWord}
 use Rattle.grin_syntax.specs.declared.program.Val as V
 use Rattle.grin_syntax.specs.declared.program.Val.TheVariants.{NodeVar, Node, Vector, One}
-use Rattle.grin_syntax.specs.Tree.{Code, end, store, bind, Act, unit, fetch, fetch_word, update, eval, apply, call, prim, read, write, case, nested, fail}
+use Rattle.grin_syntax.specs.Tree.{Code, end, store, bind, Act, leaf, unit, fetch, fetch_word, update, eval, apply, call, prim, read, write, case, nested, fail}
 use Rattle.grin_syntax.specs.Binders.{numbers_of}
 use Rattle.grin_syntax.specs.Formed.{AllOf, InScope}
 use Rattle.grin_syntax.specs.Fresh.{variable}
@@ -108,18 +108,8 @@ both_begin t u (One a) h k = cc
 
 both_own_act : (t u : ℕ) (o : Act) → is_case_on_tag t o ≡ true → is_case_on_tag u o ≡ true → t ≡ u
 both_own_act t u (case v as') h k = both_begin t u v h k
-both_own_act t u (unit v) h k = cc
-both_own_act t u (fetch a) h k = cc
-both_own_act t u (fetch_word a i) h k = cc
-both_own_act t u (update a v) h k = cc
-both_own_act t u (eval a) h k = cc
-both_own_act t u (apply v a) h k = cc
-both_own_act t u (call f ws) h k = cc
-both_own_act t u (prim f a b) h k = cc
-both_own_act t u read h k = cc
-both_own_act t u (write a) h k = cc
+both_own_act t u (leaf l) h k = cc
 both_own_act t u (nested b) h k = cc
-both_own_act t u fail h k = cc
 
 -- one case comes next
 pub both_own : (t u : ℕ) (b : Code) → owns t b ≡ true → owns u b ≡ true → t ≡ u

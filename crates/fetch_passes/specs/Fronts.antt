@@ -3,7 +3,7 @@ use Rattle.std.specs.Prelude.{ℕ, suc, ◌≡◌, ◌⊎◌, true, List, [], �
 use Rattle.grin_syntax.specs.declared.program.VarId.{VarId}
 use Rattle.grin_syntax.specs.declared.program.Target.{Target}
 use Rattle.grin_syntax.specs.declared.program.Target.TheVariants as to
-use Rattle.grin_syntax.specs.Tree.{Code, end, store, bind, Act, fetch, fetch_word, case, nested, Arms, no_arm, arm, Procedure, Program}
+use Rattle.grin_syntax.specs.Tree.{Code, end, store, bind, Act, leaf, fetch, fetch_word, case, nested, Arms, no_arm, arm, Procedure, Program}
 use Rattle.grin_syntax.specs.Formed.{AllOf}
 use Rattle.pass_ground.specs.Uses.{code_uses}
 use Rattle.fetch_passes.specs.Windows.{outside}
@@ -12,12 +12,12 @@ use Rattle.fetch_passes.specs.Waits.{deferred_fields_after}
 
 -- word i is among the words that are fetched first in a block
 abbrev pub IsFetchedFirst : ℕ → Code → Type 0
-IsFetchedFirst i (bind t (fetch_word a (suc j)) b) = (i ≡ suc j) ⊎ IsFetchedFirst i b
+IsFetchedFirst i (bind t (leaf (fetch_word a (suc j))) b) = (i ≡ suc j) ⊎ IsFetchedFirst i b
 IsFetchedFirst i b = ⊥
 
 -- the block past those
 abbrev pub after_word_fetches : Code → Code
-after_word_fetches (bind t (fetch_word a (suc i)) b) = after_word_fetches b
+after_word_fetches (bind t (leaf (fetch_word a (suc i))) b) = after_word_fetches b
 after_word_fetches b = b
 
 -- ---- a node with the tag t and these words from the i-th on, where the block b follows
@@ -32,7 +32,7 @@ OutsideUsesFetchedFirst t b i (x ∷ xs) c =
 
 -- of the node that it fetches, in what follows the tag
 abbrev pub NodeWordsFetchedFirst : Act → Target → (b c : Code) → Type 0
-NodeWordsFetchedFirst (fetch a) (to.Vector (x ∷ xs)) b c = OutsideUsesFetchedFirst x.0 b 1 xs c
+NodeWordsFetchedFirst (leaf (fetch a)) (to.Vector (x ∷ xs)) b c = OutsideUsesFetchedFirst x.0 b 1 xs c
 NodeWordsFetchedFirst o t b c = Unit {0}
 
 -- of what waits, an alternative b fetches first, in c, what it uses
@@ -50,7 +50,7 @@ unfoldable mutual
   ActsFetch ps o o' = Unit {0}
 
   pub CodesFetch : List DeferredField → Code → Code → Type 0
-  CodesFetch ps (end (fetch a)) c = Unit {0}
+  CodesFetch ps (end (leaf (fetch a))) c = Unit {0}
   CodesFetch ps (end o) (end o') = ActsFetch ps o o'
   CodesFetch ps (store cs b) (store ds c) = CodesFetch [] b c
   CodesFetch ps (bind t o b) (bind u o' c) =

@@ -7,7 +7,7 @@ use Rattle.grin_syntax.specs.declared.program.Word.TheVariants.{Var}
 use Rattle.grin_syntax.specs.declared.program.Val as V
 use Rattle.grin_syntax.specs.declared.program.Val.TheVariants.{NodeVar, Node, Vector, One}
 use Rattle.grin_syntax.specs.declared.program.Cell.{Cell}
-use Rattle.grin_syntax.specs.Tree.{Code, end, store, bind, Act, unit, fetch, fetch_word, update, eval, apply, call, prim, read, write, case, nested, fail, Arms, no_arm, arm}
+use Rattle.grin_syntax.specs.Tree.{Code, end, store, bind, Act, leaf, unit, fetch, fetch_word, update, eval, apply, call, prim, read, write, case, nested, fail, Arms, no_arm, arm}
 use Rattle.variable_uses.specs.Stands.{ListSegmentAt}
 pub use Rattle.fetch_passes.specs.declared.notes.Size.{Size}
 pub use Rattle.fetch_passes.specs.declared.notes.Place.{Place}
@@ -57,19 +57,19 @@ cells_used (c ∷ cs) = val_used c.val ++ cells_used cs
 unfoldable mutual
   -- an operation, without its own size
   pub act_trace : Act → Trace
-  act_trace (unit v) = only (val_used v)
-  act_trace (fetch a) = only (word_used a)
-  act_trace (fetch_word a i) = only (word_used a)
-  act_trace (update a v) = only (word_used a ++ val_used v)
-  act_trace (eval a) = only (word_used a)
-  act_trace (apply v a) = only (val_used v ++ word_used a)
-  act_trace (call f ws) = only (words_used ws)
-  act_trace (prim f a b) = only (word_used a ++ word_used b)
-  act_trace read = nothing
-  act_trace (write a) = only (word_used a)
+  act_trace (leaf (unit v)) = only (val_used v)
+  act_trace (leaf (fetch a)) = only (word_used a)
+  act_trace (leaf (fetch_word a i)) = only (word_used a)
+  act_trace (leaf (update a v)) = only (word_used a ++ val_used v)
+  act_trace (leaf (eval a)) = only (word_used a)
+  act_trace (leaf (apply v a)) = only (val_used v ++ word_used a)
+  act_trace (leaf (call f ws)) = only (words_used ws)
+  act_trace (leaf (prim f a b)) = only (word_used a ++ word_used b)
+  act_trace (leaf read) = nothing
+  act_trace (leaf (write a)) = only (word_used a)
   act_trace (case v as') = joined_traces (with_own_size (only (val_used v))) (arms_trace as')
   act_trace (nested b) = code_trace b
-  act_trace fail = nothing
+  act_trace (leaf fail) = nothing
 
   -- the operations of a block and its stores, each with its size
   pub code_trace : Code → Trace

@@ -2,14 +2,14 @@
 use Rattle.std.specs.Prelude.{suc, ◌≡◌, true}
 use Rattle.grin_syntax.specs.declared.program.Target.{Target}
 use Rattle.grin_syntax.specs.declared.program.Target.TheVariants as to
-use Rattle.grin_syntax.specs.Tree.{Code, end, store, bind, Act, fetch_word, case, nested, Arms, no_arm, arm, Program}
+use Rattle.grin_syntax.specs.Tree.{Code, end, store, bind, Act, leaf, fetch_word, case, nested, Arms, no_arm, arm, Program}
 use Rattle.grin_syntax.specs.Formed.{AllOf}
 use Rattle.grin_meaning.specs.Ready.{PieceKind, any_kind, EveryBodyIsOfKind}
 use Rattle.pass_ground.specs.Uses.{code_uses}
 
 -- no fetch of a word
 abbrev pub IsNoWordFetch : Act → Type 0
-IsNoWordFetch (fetch_word a i) = ⊥
+IsNoWordFetch (leaf (fetch_word a i)) = ⊥
 IsNoWordFetch _ = Unit {0}
 
 abbrev pub no_word_fetch_kind : PieceKind
@@ -20,7 +20,7 @@ HasNoWordFetches g = EveryBodyIsOfKind no_word_fetch_kind g.procs
 
 -- a word after the tag that is fetched is used in the block that follows
 abbrev pub WordUsed : Act → Target → Code → Type 0
-WordUsed (fetch_word a (suc i)) (to.One x) b = code_uses x.0 b ≡ true
+WordUsed (leaf (fetch_word a (suc i))) (to.One x) b = code_uses x.0 b ≡ true
 WordUsed _ t b = Unit {0}
 
 unfoldable mutual

@@ -6,7 +6,7 @@ use Rattle.grin_syntax.specs.declared.program.Val.TheVariants.{Node}
 use Rattle.grin_syntax.specs.declared.program.Shape.TheVariants as shape
 use Rattle.grin_syntax.specs.declared.program.Target.{Target}
 use Rattle.grin_syntax.specs.declared.program.Target.TheVariants as to
-use Rattle.grin_syntax.specs.Tree.{Code, end, store, bind, Act, unit, fetch, fetch_word, case, nested, Arms, no_arm, arm, Program}
+use Rattle.grin_syntax.specs.Tree.{Code, end, store, bind, Act, leaf, unit, fetch, fetch_word, case, nested, Arms, no_arm, arm, Program}
 use Rattle.grin_syntax.specs.Formed.{AllOf}
 use Rattle.grin_syntax.specs.Fresh.{past_procs}
 use Rattle.fetch_passes.specs.Windows.{begins_with, owns, outside}
@@ -36,12 +36,12 @@ pub data Position : Type 0 where
 -- each alternative gives a node with the tag of its pattern
 abbrev pub ArmsReturnNodes : Arms → Type 0
 ArmsReturnNodes no_arm = Unit {0}
-ArmsReturnNodes (arm (shape.Node t xs) (end (unit (Node u ws))) as') = (t ≡ u) × ArmsReturnNodes as'
+ArmsReturnNodes (arm (shape.Node t xs) (end (leaf (unit (Node u ws)))) as') = (t ≡ u) × ArmsReturnNodes as'
 ArmsReturnNodes (arm s b as') = ⊥
 
 -- the block gives the node of the tag t by its words, as in place of a fetch that ends a block
 abbrev pub ReturnsNodeByWords : (t : ℕ) → Code → Type 0
-ReturnsNodeByWords t (bind u (fetch_word a i) b) = ReturnsNodeByWords t b
+ReturnsNodeByWords t (bind u (leaf (fetch_word a i)) b) = ReturnsNodeByWords t b
 ReturnsNodeByWords t (end (case v as')) = (begins_with t v ≡ true) × ArmsReturnNodes as'
 ReturnsNodeByWords t b = ⊥
 
@@ -58,9 +58,9 @@ after_word elsewhere i = elsewhere
 
 -- the position
 abbrev pub position_after : Act → Target → Position → Position
-position_after (fetch_word a zero) (to.One t) here = after_tag (fetched_tag_only a t)
-position_after (fetch_word a zero) t here = elsewhere
-position_after (fetch_word a (suc i)) t here = after_word here (suc i)
+position_after (leaf (fetch_word a zero)) (to.One t) here = after_tag (fetched_tag_only a t)
+position_after (leaf (fetch_word a zero)) t here = elsewhere
+position_after (leaf (fetch_word a (suc i))) t here = after_word here (suc i)
 position_after o t here = elsewhere
 
 abbrev pub front_with : Position → ℕ → Code → Position → Position
@@ -69,11 +69,11 @@ front_with _ i b front = front
 
 -- that at which the alternatives of the case that comes next begin, fetches aside
 abbrev pub front_after : Act → Target → Position → Code → Position → Position
-front_after (fetch_word a zero) (to.One t) here b front =
+front_after (leaf (fetch_word a zero)) (to.One t) here b front =
     cond (owns t.0 b) (at_front (fetched_tag_only a t)) front
-front_after (fetch_word a zero) t here b front = front
-front_after (fetch_word a (suc i)) t here b front = front_with here (suc i) b front
-front_after (fetch a) t here b front = front
+front_after (leaf (fetch_word a zero)) t here b front = front
+front_after (leaf (fetch_word a (suc i))) t here b front = front_with here (suc i) b front
+front_after (leaf (fetch a)) t here b front = front
 front_after o t here b front = elsewhere
 
 -- ---- the fetches of a piece
@@ -89,9 +89,9 @@ module _ (first : ℕ) where
 
   -- a tag goes to a variable before the first new one, but for that of a fetch that ended a block
   abbrev pub FetchPlaced : Act → Target → Position → Code → Type 0
-  FetchPlaced (fetch_word a zero) (to.One t) here b = (t.0 < first) ⊎ ReturnsNodeByWords t.0 b
-  FetchPlaced (fetch_word a (suc i)) (to.One x) here b = WordPlaced here a (suc i) x b
-  FetchPlaced (fetch_word a (suc i)) t here b = ⊥
+  FetchPlaced (leaf (fetch_word a zero)) (to.One t) here b = (t.0 < first) ⊎ ReturnsNodeByWords t.0 b
+  FetchPlaced (leaf (fetch_word a (suc i))) (to.One x) here b = WordPlaced here a (suc i) x b
+  FetchPlaced (leaf (fetch_word a (suc i))) t here b = ⊥
   FetchPlaced o t here b = Unit {0}
 
   -- In a piece at one position, where the alternatives of the case that comes next begin at the

@@ -5,7 +5,7 @@ use Rattle.grin_syntax.specs.declared.program.Val as V
 use Rattle.grin_syntax.specs.declared.program.Val.TheVariants.{Vector}
 use Rattle.grin_syntax.specs.declared.program.Shape.{Shape}
 use Rattle.grin_syntax.specs.declared.program.Shape.TheVariants.{Int}
-use Rattle.grin_syntax.specs.Tree.{Code, end, store, bind, Act, fetch, fetch_word, case, Arms, no_arm, arm}
+use Rattle.grin_syntax.specs.Tree.{Code, end, store, bind, Act, leaf, fetch, fetch_word, case, Arms, no_arm, arm}
 use Rattle.pass_ground.specs.Uses.{word_is, val_uses, act_uses, code_uses}
 
 -- a vector whose first word is the variable t
@@ -33,8 +33,8 @@ is_case_on_tag t (case v as') = begins_with t v
 is_case_on_tag t _ = false
 
 abbrev pub is_passed : Act → Bool
-is_passed (fetch a) = true
-is_passed (fetch_word a i) = true
+is_passed (leaf (fetch a)) = true
+is_passed (leaf (fetch_word a i)) = true
 is_passed _ = false
 
 -- the case on the vector of t comes next, fetches aside

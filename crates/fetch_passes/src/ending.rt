@@ -7,7 +7,7 @@ ghost use Rattle.grin_syntax.specs.declared.program.Target.TheVariants.{One};
 ghost use Rattle.grin_syntax.specs.declared.program.Val.TheVariants as val;
 ghost use Rattle.grin_syntax.specs.declared.program.Shape.TheVariants as shape;
 ghost use Rattle.grin_syntax.specs.Tags.{tag_id};
-ghost use Rattle.grin_syntax.specs.Tree.{Code, end, bind, unit, fetch_word, act_of, before_of, arms_of, arm_of, all_before};
+ghost use Rattle.grin_syntax.specs.Tree.{Code, end, bind, leaf, unit, fetch_word, act_of, before_of, arms_of, arm_of, all_before};
 ghost use Rattle.grin_syntax.specs.Fresh.{variables};
 ghost use Rattle.grin_meaning.specs.Ready.{most_fields};
 ghost use Rattle.fetch_passes.specs.Split.{fetch_all_words, node_arms, whole_node, end_with, new_variables_of_end};
@@ -40,7 +40,7 @@ fn as_words(alloc: Global, vars: &[VarId]) -> Result<Seq<Word>, AllocError>
 
 fn word_fetch(cell: Word, var: VarId, at: usize, made: &mut Seq<Stmt>) -> Result<(), AllocError>
     ensures { OnOk result ((c : Code) → all_before (map before_of made.new) c
-        ≡ all_before (map before_of made.old) (bind (One var) (fetch_word cell at) c)) }
+        ≡ all_before (map before_of made.old) (bind (One var) (leaf (fetch_word cell at)) c)) }
 {
     let Ok(place) = u32::try_from(at) else {
         return Err(AllocError);
@@ -73,7 +73,7 @@ fn node_alt(alloc: Global, at: usize, tag: &Tag, vars: &[VarId]) -> Result<Alt, 
         ≡ (
           shape.Node (tag_id at) [],
           end
-              (unit (val.Node (tag_id at) (map Var (take tag.now.fields vars.now)))),
+              (leaf (unit (val.Node (tag_id at) (map Var (take tag.now.fields vars.now))))),
         )) }
 {
     let Ok(number) = u32::try_from(at) else {

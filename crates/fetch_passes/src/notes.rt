@@ -8,7 +8,7 @@ ghost use Rattle.fetch_passes.specs.Notes.{Here, with_own_size, act_trace, code_
 ghost use Rattle.fetch_passes.specs.Asked.{SpanCoversBlock, Follows};
 ghost use Rattle.grin_syntax.specs.declared.program.Val.{Val};
 
-use crate::scan::{Scan, number};
+use crate::scan::{Scan, as_u32};
 use grin_syntax::{Block, VarId};
 use std::alloc::{AllocError, Global};
 use std::marker::Model;
@@ -82,7 +82,7 @@ impl Notes {
         let mut scan = Scan::new(alloc);
         scan.inner(body)?;
         let Scan { used, sizes } = scan;
-        number(used.len())?;
+        as_u32(used.len())?;
         let uses = Uses::new(alloc, used.as_slice())?;
         Ok(Notes { used, sizes, uses })
     }

@@ -18,7 +18,7 @@ pub(crate) struct Scan {
 }
 
 /// A number of 32 bits; past those there is none, which counts as want of memory.
-pub(crate) fn number(many: usize) -> Result<u32, AllocError>
+pub(crate) fn as_u32(many: usize) -> Result<u32, AllocError>
     ensures { IfOk result (λ n. n ≡ many) }
 {
     match u32::try_from(many) {
@@ -114,8 +114,8 @@ impl Scan {
             → self.old.sizes.items ≡ s.sizes ++ record { uses = 0; pieces = 0 } ∷ t.sizes
             → self.new.sizes.items ≡ s.sizes ++ (with_own_size t).sizes) }
     {
-        let uses = number(less(self.used.len(), at))?;
-        let pieces = number(less(less(self.sizes.len(), piece), 1))?;
+        let uses = as_u32(less(self.used.len(), at))?;
+        let pieces = as_u32(less(less(self.sizes.len(), piece), 1))?;
         if piece < self.sizes.len() {
             self.sizes[piece] = Size { uses, pieces };
         }

@@ -2,7 +2,7 @@
 #![tactic(auto, using(grin_syntax::proofs::TreeOf::tree_of), unfolding(crate::specs::Split::split_act, crate::specs::Split::made_act))]
 
 ghost use Rattle.std.specs.Prelude.{◌≡◌, ◌+◌, [], ◌∷◌, cond, length, map, IfOk, OnOk};
-ghost use Rattle.grin_syntax.specs.Tree.{Code, end, bind, fetch, fetch_word, act_of, before_of, code_of, all_before};
+ghost use Rattle.grin_syntax.specs.Tree.{Code, end, bind, leaf, fetch, fetch_word, act_of, before_of, code_of, all_before};
 ghost use Rattle.grin_syntax.specs.declared.program.Target.TheVariants.{Vector};
 ghost use Rattle.fetch_passes.specs.Waits.{deferred_fields_after};
 ghost use Rattle.fetch_passes.specs.Notes.{with_own_size, act_trace, code_trace, Here};
@@ -57,7 +57,7 @@ fn fetch_word(
     made: &mut Seq<Stmt>,
 ) -> Result<(), AllocError>
     ensures { OnOk result ((c : Code) → all_before (map before_of made.new) c
-        ≡ all_before (map before_of made.old) (bind target.now (fetch_word cell place) c)) }
+        ≡ all_before (map before_of made.old) (bind target.now (leaf (fetch_word cell place)) c)) }
 {
     made.push(Stmt::Bind(copy_target(alloc, target)?, Op::FetchWord(cell, place)))?;
     Ok(())
@@ -92,16 +92,16 @@ fn fetch_vector(
     requires { SpanCoversBlock notes.now span (all_before (map before_of rest.now) (end (act_of last.now))) }
     ensures stmts { OnOk result ((c : Code) → all_before (map before_of made.new) c
         ≡ all_before (map before_of made.old)
-        (bound (fetch cell) (Vector (tag ∷ vars.now))
+        (bound (leaf (fetch cell)) (Vector (tag ∷ vars.now))
         (all_before (map before_of rest.now) (end (act_of last.now))) c)) }
     ensures names { OnOk result (now.new.names
-        ≡ names_after (fetch cell) (Vector (tag ∷ vars.now))
+        ≡ names_after (leaf (fetch cell)) (Vector (tag ∷ vars.now))
         (all_before (map before_of rest.now) (end (act_of last.now))) now.old.names) }
     ensures cell { OnOk result (now.new.cell
-        ≡ cell_from (fetch cell) (Vector (tag ∷ vars.now))
+        ≡ cell_from (leaf (fetch cell)) (Vector (tag ∷ vars.now))
         (all_before (map before_of rest.now) (end (act_of last.now))) now.old.cell) }
     ensures waits { OnOk result (now.new.waits
-        ≡ deferred_fields_after (fetch cell) (Vector (tag ∷ vars.now))
+        ≡ deferred_fields_after (leaf (fetch cell)) (Vector (tag ∷ vars.now))
         (all_before (map before_of rest.now) (end (act_of last.now))) now.old.waits) }
 {
     made.push(Stmt::Bind(Target::One(tag), Op::FetchWord(cell, 0)))?;

@@ -6,7 +6,7 @@ use Rattle.std.specs.Option.{option_map}
 use Rattle.seq.specs.Lists.{times}
 use Rattle.seq.proofs.Counted.{times_append}
 use Rattle.grin_syntax.specs.declared.program.Target.{Target}
-use Rattle.grin_syntax.specs.Tree.{Code, end, store, bind, Act, unit, fetch, fetch_word, update, eval, apply, call, prim, read, write, case, nested, fail, Arms, no_arm, arm, Procedure, Program}
+use Rattle.grin_syntax.specs.Tree.{Code, end, store, bind, Act, leaf, unit, fetch, fetch_word, update, eval, apply, call, prim, read, write, case, nested, fail, Arms, no_arm, arm, Procedure, Program}
 use Rattle.grin_syntax.specs.Binders.{numbers_of, target_vars, shape_vars, cell_vars, act_vars, code_vars, arms_vars, procs_vars, act_sites, code_sites, arms_sites, procs_sites}
 use Rattle.grin_syntax.specs.Formed.{AllOf, Scope, with_word_variables, with_target, params_scope, ActFormed, CodeFormed, ArmsFormed, ProcedureFormed, Formed}
 use Rattle.grin_syntax.specs.SameOutside.{DifferOnlyInBodies}
@@ -44,17 +44,7 @@ module _ (y : ℕ) where
     act_same : (o : Act) → times y (code_vars (flat_act o)) ≡ times y (act_vars o)
     act_same (case v as') = arms_same as'
     act_same (nested b) = code_same b
-    act_same (unit v) = refl
-    act_same (fetch a) = refl
-    act_same (fetch_word a i) = refl
-    act_same (update a v) = refl
-    act_same (eval a) = refl
-    act_same (apply v a) = refl
-    act_same (call f ws) = refl
-    act_same (prim p a b) = refl
-    act_same read = refl
-    act_same (write a) = refl
-    act_same fail = refl
+    act_same (leaf l) = refl
 
     code_same : (b : Code) → times y (code_vars (flat_code b)) ≡ times y (code_vars b)
     code_same (end o) = act_same o
@@ -111,17 +101,7 @@ mutual
   act_sites_stay : (o : Act) → code_sites (flat_act o) ≡ act_sites o
   act_sites_stay (case v as') = arms_sites_stay as'
   act_sites_stay (nested b) = code_sites_stay b
-  act_sites_stay (unit v) = refl
-  act_sites_stay (fetch a) = refl
-  act_sites_stay (fetch_word a i) = refl
-  act_sites_stay (update a v) = refl
-  act_sites_stay (eval a) = refl
-  act_sites_stay (apply v a) = refl
-  act_sites_stay (call f ws) = refl
-  act_sites_stay (prim p a b) = refl
-  act_sites_stay read = refl
-  act_sites_stay (write a) = refl
-  act_sites_stay fail = refl
+  act_sites_stay (leaf l) = refl
 
   code_sites_stay : (b : Code) → code_sites (flat_code b) ≡ code_sites b
   code_sites_stay (end o) = act_sites_stay o
@@ -162,17 +142,17 @@ module _ (p : Program) (procs : List Procedure) (same_count : length procs ≡ l
     act_formed : (o : Act) (scope : Scope) → ActFormed p scope o → Wherever scope (flat_act o)
     act_formed (case v as') scope h s w = (val_stays p procs same_count scope s w v h.0, arms_formed as' scope h.1 s w)
     act_formed (nested b) scope h s w = code_formed b scope h s w
-    act_formed (unit v) scope h s w = val_stays p procs same_count scope s w v h
-    act_formed (fetch a) scope h s w = word_stays p procs same_count scope s w a h
-    act_formed (fetch_word a i) scope h s w = word_stays p procs same_count scope s w a h
-    act_formed (update a v) scope h s w = (word_stays p procs same_count scope s w a h.0, val_stays p procs same_count scope s w v h.1)
-    act_formed (eval a) scope h s w = word_stays p procs same_count scope s w a h
-    act_formed (apply v a) scope h s w = (val_stays p procs same_count scope s w v h.0, word_stays p procs same_count scope s w a h.1)
-    act_formed (call f ws) scope h s w = (known_again p procs same_count f h.0, words_stay p procs same_count scope s w ws h.1)
-    act_formed (prim f a b) scope h s w = (word_stays p procs same_count scope s w a h.0, word_stays p procs same_count scope s w b h.1)
-    act_formed read scope h s w = tt
-    act_formed (write a) scope h s w = word_stays p procs same_count scope s w a h
-    act_formed fail scope h s w = tt
+    act_formed (leaf (unit v)) scope h s w = val_stays p procs same_count scope s w v h
+    act_formed (leaf (fetch a)) scope h s w = word_stays p procs same_count scope s w a h
+    act_formed (leaf (fetch_word a i)) scope h s w = word_stays p procs same_count scope s w a h
+    act_formed (leaf (update a v)) scope h s w = (word_stays p procs same_count scope s w a h.0, val_stays p procs same_count scope s w v h.1)
+    act_formed (leaf (eval a)) scope h s w = word_stays p procs same_count scope s w a h
+    act_formed (leaf (apply v a)) scope h s w = (val_stays p procs same_count scope s w v h.0, word_stays p procs same_count scope s w a h.1)
+    act_formed (leaf (call f ws)) scope h s w = (known_again p procs same_count f h.0, words_stay p procs same_count scope s w ws h.1)
+    act_formed (leaf (prim f a b)) scope h s w = (word_stays p procs same_count scope s w a h.0, word_stays p procs same_count scope s w b h.1)
+    act_formed (leaf read) scope h s w = tt
+    act_formed (leaf (write a)) scope h s w = word_stays p procs same_count scope s w a h
+    act_formed (leaf fail) scope h s w = tt
 
     code_formed : (b : Code) (scope : Scope) → CodeFormed p scope b → Wherever scope (flat_code b)
     code_formed (end o) scope h s w = act_formed o scope h s w

@@ -3,7 +3,7 @@ use Rattle.std.proofs.Common.{◌≡◌, ℕ, ◌+◌, ◌≤◌, List, [], ◌�
 use Rattle.grin_syntax.specs.declared.program.Cell.{Cell}
 use Rattle.grin_syntax.specs.declared.program.Target.{Target}
 use Rattle.grin_syntax.specs.declared.program.Val.{Val}
-use Rattle.grin_syntax.specs.Tree.{Code, end, store, bind, Act, unit, fetch, fetch_word, update, eval, apply, call, prim, read, write, case, nested, fail, Arms, no_arm, arm, Procedure}
+use Rattle.grin_syntax.specs.Tree.{Code, end, store, bind, Act, leaf, unit, fetch, fetch_word, update, eval, apply, call, prim, read, write, case, nested, fail, Arms, no_arm, arm, Procedure}
 use Rattle.grin_syntax.specs.Formed.{AllOf}
 use Rattle.grin_syntax.specs.SameOutside.{names_of}
 use Rattle.grin_meaning.specs.Ready.{EachAct, EachCode, EachArms, NarrowAct, NarrowCode, NarrowArms, PieceKind, EveryBodyIsOfKind}
@@ -32,17 +32,7 @@ module _ (K : PieceKind) where
       act_each : (o : Act) → EachAct K o → EachCode K (flat_act o)
       act_each (case v as') h = (cases v as' (flat_arms as') h.0, h.1, arms_each as' h.2)
       act_each (nested b) h = code_each b h.1
-      act_each (unit v) h = h
-      act_each (fetch a) h = h
-      act_each (fetch_word a i) h = h
-      act_each (update a v) h = h
-      act_each (eval a) h = h
-      act_each (apply v a) h = h
-      act_each (call f ws) h = h
-      act_each (prim p a b) h = h
-      act_each read h = h
-      act_each (write a) h = h
-      act_each fail h = h
+      act_each (leaf l) h = h
 
       code_each : (b : Code) → EachCode K b → EachCode K (flat_code b)
       code_each (end o) h = act_each o h
@@ -69,17 +59,17 @@ mutual
   act_flat : (o : Act) → EachCode without_nested_blocks (flat_act o)
   act_flat (case v as') = (tt, tt, arms_flat as')
   act_flat (nested b) = code_flat b
-  act_flat (unit v) = (tt, tt)
-  act_flat (fetch a) = tt
-  act_flat (fetch_word a i) = tt
-  act_flat (update a v) = (tt, tt)
-  act_flat (eval a) = tt
-  act_flat (apply v a) = (tt, tt)
-  act_flat (call f ws) = tt
-  act_flat (prim p a b) = tt
-  act_flat read = tt
-  act_flat (write a) = tt
-  act_flat fail = tt
+  act_flat (leaf (unit v)) = (tt, tt)
+  act_flat (leaf (fetch a)) = tt
+  act_flat (leaf (fetch_word a i)) = tt
+  act_flat (leaf (update a v)) = (tt, tt)
+  act_flat (leaf (eval a)) = tt
+  act_flat (leaf (apply v a)) = (tt, tt)
+  act_flat (leaf (call f ws)) = tt
+  act_flat (leaf (prim p a b)) = tt
+  act_flat (leaf read) = tt
+  act_flat (leaf (write a)) = tt
+  act_flat (leaf fail) = tt
 
   code_flat : (b : Code) → EachCode without_nested_blocks (flat_code b)
   code_flat (end o) = act_flat o
@@ -109,17 +99,7 @@ module _ (w most : ℕ) where
     act_narrow : (o : Act) → NarrowAct w most o → NarrowCode w most (flat_act o)
     act_narrow (case v as') h = arms_narrow as' h
     act_narrow (nested b) h = code_narrow b h
-    act_narrow (unit v) h = h
-    act_narrow (fetch a) h = h
-    act_narrow (fetch_word a i) h = h
-    act_narrow (update a v) h = h
-    act_narrow (eval a) h = h
-    act_narrow (apply v a) h = h
-    act_narrow (call f ws) h = h
-    act_narrow (prim p a b) h = h
-    act_narrow read h = h
-    act_narrow (write a) h = h
-    act_narrow fail h = h
+    act_narrow (leaf l) h = h
 
     code_narrow : (b : Code) → NarrowCode w most b → NarrowCode w most (flat_code b)
     code_narrow (end o) h = act_narrow o h
@@ -157,17 +137,7 @@ module _ (count : Val → ℕ) where
     act_sums : (o : Act) → code_update_sum count (flat_act o) ≡ act_update_sum count o
     act_sums (case v as') = arms_sums as'
     act_sums (nested b) = code_sums b
-    act_sums (unit v) = refl
-    act_sums (fetch a) = refl
-    act_sums (fetch_word a i) = refl
-    act_sums (update a v) = refl
-    act_sums (eval a) = refl
-    act_sums (apply v a) = refl
-    act_sums (call f ws) = refl
-    act_sums (prim p a b) = refl
-    act_sums read = refl
-    act_sums (write a) = refl
-    act_sums fail = refl
+    act_sums (leaf l) = refl
 
     code_sums : (b : Code) → code_update_sum count (flat_code b) ≡ code_update_sum count b
     code_sums (end o) = act_sums o

@@ -8,7 +8,7 @@ use Rattle.grin_syntax.specs.declared.program.Word as W
 use Rattle.grin_syntax.specs.declared.program.Word.TheVariants.{Lit, Var, Global, TagWord}
 use Rattle.grin_syntax.specs.declared.program.Val as V
 use Rattle.grin_syntax.specs.declared.program.Val.TheVariants.{NodeVar, Node, Vector, One}
-use Rattle.grin_syntax.specs.Tree.{Code, end, store, bind, Act, unit, fetch, fetch_word, update, eval, apply, call, prim, read, write, case, nested, fail, Arms, no_arm, arm, Procedure, Program}
+use Rattle.grin_syntax.specs.Tree.{Code, end, store, bind, Act, Leaf, leaf, unit, fetch, fetch_word, update, eval, apply, call, prim, read, write, case, nested, fail, Arms, no_arm, arm, Procedure, Program}
 use Rattle.grin_syntax.specs.Binders.{numbers_of, target_vars, shape_vars, cell_vars, act_vars, code_vars, arms_vars, procs_vars}
 use Rattle.grin_syntax.specs.Formed.{AllOf, Scope, InScope, with_word_variables, with_target, params_scope, WordFormed, ValFormed, CellFormed, ActFormed, CodeFormed, ArmsFormed, ProcedureFormed, Formed}
 use Rattle.grin_meaning.specs.Values.{Datum, Value, Binding, with_vars, one_each}
@@ -25,7 +25,7 @@ use Rattle.grin_meaning.proofs.Back.{CallsBack}
 use Rattle.grin_meaning.proofs.Beside.{no_deeper, Likewise, Seen}
 use Rattle.grin_meaning.proofs.Rules.{Setting, CallsFollow, ActFollows, CodeFollows, ArmsFollow, end_follows}
 use Rattle.grin_meaning.proofs.Procedures.{BodiesFollow, no_more, one_more, run_follows}
-use Rattle.grin_meaning.proofs.Plain.{Has, IsLeaf, IsPlain, On, having, leaf_follows, case_same, no_arm_same, arm_same}
+use Rattle.grin_meaning.proofs.Plain.{Has, IsPlain, On, having, leaf_follows, case_same, no_arm_same, arm_same}
 use Rattle.grin_meaning.proofs.Bodies.{AnyState, every_any}
 use Rattle.grin_meaning.proofs.KeptBy.{likewise_kept, looking_kept}
 use Rattle.grin_meaning.proofs.Paired.{nothing}
@@ -121,8 +121,8 @@ module _ (g : Program) where
       binds_inside = λ t b k none apart r. splices_bind g procs c c' cb cf ws t o o' b k apart (well t) f r;
     }
 
-    leaf : (ws : List ℕ) (o : Act) → IsLeaf o → ActOk (InScope ws) o → ActGoes ws o (end o)
-    leaf ws o l ok = stays_act ws o o (λ t v h. h) (leaf_follows st plain (having (InScope ws)) o l ok)
+    leaf_goes : (ws : List ℕ) (l : Leaf) → ActOk (InScope ws) (leaf l) → ActGoes ws (leaf l) (end (leaf l))
+    leaf_goes ws l ok = stays_act ws (leaf l) (leaf l) (λ t v h. h) (leaf_follows st plain (having (InScope ws)) l ok)
 
     -- a nested block
     nested_goes : (ws : List ℕ) (b b' : Code) → CodeGoes ws b b' → ActGoes ws (nested b) b'
@@ -140,17 +140,17 @@ module _ (g : Program) where
       act_goes (case v as') scope a f n = stays_act scope.words (case v as') (case v (flat_arms as')) (λ t v h. h)
           (case_same st plain (having (InScope scope.words)) v as' (flat_arms as') (val_ok g scope v n.1 f.0) (arms_go as' scope a f.1 n.2))
       act_goes (nested b) scope a f n = nested_goes scope.words b (flat_code b) (code_goes b scope a f n.1)
-      act_goes (unit v) scope a f n = leaf scope.words (unit v) tt (val_ok g scope v n.1 f)
-      act_goes (fetch w) scope a f n = leaf scope.words (fetch w) tt (word_ok g scope w f)
-      act_goes (fetch_word w i) scope a f n = leaf scope.words (fetch_word w i) tt (word_ok g scope w f)
-      act_goes (update w v) scope a f n = leaf scope.words (update w v) tt (word_ok g scope w f.0, val_ok g scope v n.1 f.1)
-      act_goes (eval w) scope a f n = leaf scope.words (eval w) tt (word_ok g scope w f)
-      act_goes (apply v w) scope a f n = leaf scope.words (apply v w) tt (val_ok g scope v n.1 f.0, word_ok g scope w f.1)
-      act_goes (call p ws) scope a f n = leaf scope.words (call p ws) tt (words_ok g scope ws f.1)
-      act_goes (prim p w u) scope a f n = leaf scope.words (prim p w u) tt (word_ok g scope w f.0, word_ok g scope u f.1)
-      act_goes read scope a f n = leaf scope.words read tt tt
-      act_goes (write w) scope a f n = leaf scope.words (write w) tt (word_ok g scope w f)
-      act_goes fail scope a f n = leaf scope.words fail tt tt
+      act_goes (leaf (unit v)) scope a f n = leaf_goes scope.words (unit v) (val_ok g scope v n.1 f)
+      act_goes (leaf (fetch w)) scope a f n = leaf_goes scope.words (fetch w) (word_ok g scope w f)
+      act_goes (leaf (fetch_word w i)) scope a f n = leaf_goes scope.words (fetch_word w i) (word_ok g scope w f)
+      act_goes (leaf (update w v)) scope a f n = leaf_goes scope.words (update w v) (word_ok g scope w f.0, val_ok g scope v n.1 f.1)
+      act_goes (leaf (eval w)) scope a f n = leaf_goes scope.words (eval w) (word_ok g scope w f)
+      act_goes (leaf (apply v w)) scope a f n = leaf_goes scope.words (apply v w) (val_ok g scope v n.1 f.0, word_ok g scope w f.1)
+      act_goes (leaf (call p ws)) scope a f n = leaf_goes scope.words (call p ws) (words_ok g scope ws f.1)
+      act_goes (leaf (prim p w u)) scope a f n = leaf_goes scope.words (prim p w u) (word_ok g scope w f.0, word_ok g scope u f.1)
+      act_goes (leaf read) scope a f n = leaf_goes scope.words read tt
+      act_goes (leaf (write w)) scope a f n = leaf_goes scope.words (write w) (word_ok g scope w f)
+      act_goes (leaf fail) scope a f n = leaf_goes scope.words fail tt
 
       code_goes : (b : Code) (scope : Scope) → Apart scope.words (code_vars b) → CodeFormed g scope b → EachCode vectorised_kind b → CodeGoes scope.words b (flat_code b)
       code_goes (end o) scope a f n = let x = act_goes o scope a f n in record { alone = x.ends; within = x.inside }

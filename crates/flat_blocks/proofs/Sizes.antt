@@ -1,7 +1,7 @@
 -- A program without nested blocks is no larger.
 use Rattle.std.proofs.Common.{◌≡◌, ℕ, ◌+◌, ◌≤◌, List, [], ◌∷◌, map, length, refl, ◌∙◌, arith}
 use Rattle.grin_syntax.specs.declared.program.Target.{Target}
-use Rattle.grin_syntax.specs.Tree.{Code, end, store, bind, Act, unit, fetch, fetch_word, update, eval, apply, call, prim, read, write, case, nested, fail, Arms, no_arm, arm, Procedure}
+use Rattle.grin_syntax.specs.Tree.{Code, end, store, bind, Act, leaf, unit, fetch, fetch_word, update, eval, apply, call, prim, read, write, case, nested, fail, Arms, no_arm, arm, Procedure}
 use Rattle.grin_syntax.specs.Formed.{AllOf}
 use Rattle.grin_meaning.specs.Slim.{target_weight, act_weight, code_weight, arms_weight, procs_weight, act_calls, code_calls, arms_calls, procs_calls, node_words, end_words, inner_words, code_words, arms_words, procedure_words}
 use Rattle.grin_meaning.specs.Spliced.{spliced}
@@ -22,17 +22,7 @@ mutual
   act_lighter : (o : Act) → code_weight (flat_act o) ≤ act_weight o
   act_lighter (case v as') = let l : arms_weight (flat_arms as') ≤ arms_weight as' = arms_lighter as' in omega (arith, l)
   act_lighter (nested b) = let l : code_weight (flat_code b) ≤ code_weight b = code_lighter b in omega (arith, l)
-  act_lighter (unit v) = omega arith
-  act_lighter (fetch a) = omega arith
-  act_lighter (fetch_word a i) = omega arith
-  act_lighter (update a v) = omega arith
-  act_lighter (eval a) = omega arith
-  act_lighter (apply v a) = omega arith
-  act_lighter (call f ws) = omega arith
-  act_lighter (prim p a b) = omega arith
-  act_lighter read = omega arith
-  act_lighter (write a) = omega arith
-  act_lighter fail = omega arith
+  act_lighter (leaf l) = omega arith
 
   code_lighter : (b : Code) → code_weight (flat_code b) ≤ code_weight b
   code_lighter (end o) = act_lighter o
@@ -71,17 +61,7 @@ mutual
   act_calls_stay : (o : Act) → code_calls (flat_act o) ≡ act_calls o
   act_calls_stay (case v as') = arms_calls_stay as'
   act_calls_stay (nested b) = code_calls_stay b
-  act_calls_stay (unit v) = refl
-  act_calls_stay (fetch a) = refl
-  act_calls_stay (fetch_word a i) = refl
-  act_calls_stay (update a v) = refl
-  act_calls_stay (eval a) = refl
-  act_calls_stay (apply v a) = refl
-  act_calls_stay (call f ws) = refl
-  act_calls_stay (prim p a b) = refl
-  act_calls_stay read = refl
-  act_calls_stay (write a) = refl
-  act_calls_stay fail = refl
+  act_calls_stay (leaf l) = refl
 
   code_calls_stay : (b : Code) → code_calls (flat_code b) ≡ code_calls b
   code_calls_stay (end o) = act_calls_stay o
@@ -113,17 +93,17 @@ words_splice (bind u o c) t k = let e : code_words (spliced c t k) ≡ inside_wo
 node_end : (o : Act) → node_words o ≤ end_words o
 node_end (case v as') = omega arith
 node_end (nested b) = omega arith
-node_end (unit v) = omega arith
-node_end (fetch a) = omega arith
-node_end (fetch_word a i) = omega arith
-node_end (update a v) = omega arith
-node_end (eval a) = omega arith
-node_end (apply v a) = omega arith
-node_end (call f ws) = omega arith
-node_end (prim p a b) = omega arith
-node_end read = omega arith
-node_end (write a) = omega arith
-node_end fail = omega arith
+node_end (leaf (unit v)) = omega arith
+node_end (leaf (fetch a)) = omega arith
+node_end (leaf (fetch_word a i)) = omega arith
+node_end (leaf (update a v)) = omega arith
+node_end (leaf (eval a)) = omega arith
+node_end (leaf (apply v a)) = omega arith
+node_end (leaf (call f ws)) = omega arith
+node_end (leaf (prim p a b)) = omega arith
+node_end (leaf read) = omega arith
+node_end (leaf (write a)) = omega arith
+node_end (leaf fail) = omega arith
 
 inside_fewer : (c : Code) → inside_words c ≤ code_words c
 unfolding inner_words
@@ -137,17 +117,7 @@ mutual
   act_words : (o : Act) → code_words (flat_act o) ≤ end_words o + inner_words o
   act_words (case v as') = let l : arms_words (flat_arms as') ≤ arms_words as' = arms_fewer as' in omega (arith, l)
   act_words (nested b) = let l : code_words (flat_code b) ≤ code_words b = code_fewer b in omega (arith, l)
-  act_words (unit v) = omega arith
-  act_words (fetch a) = omega arith
-  act_words (fetch_word a i) = omega arith
-  act_words (update a v) = omega arith
-  act_words (eval a) = omega arith
-  act_words (apply v a) = omega arith
-  act_words (call f ws) = omega arith
-  act_words (prim p a b) = omega arith
-  act_words read = omega arith
-  act_words (write a) = omega arith
-  act_words fail = omega arith
+  act_words (leaf l) = omega arith
 
   bound_words : (o : Act) → inside_words (flat_act o) ≤ node_words o + inner_words o
   bound_words (case v as') = let l : arms_words (flat_arms as') ≤ arms_words as' = arms_fewer as' in omega (arith, l)
@@ -155,17 +125,7 @@ mutual
       let l : code_words (flat_code b) ≤ code_words b = code_fewer b in
       let k : inside_words (flat_code b) ≤ code_words (flat_code b) = inside_fewer (flat_code b) in
       omega (arith, k, l)
-  bound_words (unit v) = omega arith
-  bound_words (fetch a) = omega arith
-  bound_words (fetch_word a i) = omega arith
-  bound_words (update a v) = omega arith
-  bound_words (eval a) = omega arith
-  bound_words (apply v a) = omega arith
-  bound_words (call f ws) = omega arith
-  bound_words (prim p a b) = omega arith
-  bound_words read = omega arith
-  bound_words (write a) = omega arith
-  bound_words fail = omega arith
+  bound_words (leaf l) = omega arith
 
   code_fewer : (b : Code) → code_words (flat_code b) ≤ code_words b
   code_fewer (end o) = act_words o

@@ -1,6 +1,6 @@
 -- A program without nested blocks: their statements stand where they stood.
 use Rattle.grin_syntax.specs.declared.program.Shape.{Shape}
-use Rattle.grin_syntax.specs.Tree.{Code, end, store, bind, Act, unit, fetch, fetch_word, update, eval, apply, call, prim, read, write, case, nested, fail, Arms, no_arm, arm, Program}
+use Rattle.grin_syntax.specs.Tree.{Code, end, store, bind, Act, leaf, unit, fetch, fetch_word, update, eval, apply, call, prim, read, write, case, nested, fail, Arms, no_arm, arm, Program}
 use Rattle.grin_meaning.specs.Rewritten.{rewritten}
 use Rattle.grin_meaning.specs.Spliced.{spliced}
 
@@ -9,17 +9,7 @@ unfoldable mutual
   pub flat_act : Act → Code
   flat_act (nested b) = flat_code b
   flat_act (case v as') = end (case v (flat_arms as'))
-  flat_act (unit v) = end (unit v)
-  flat_act (fetch a) = end (fetch a)
-  flat_act (fetch_word a i) = end (fetch_word a i)
-  flat_act (update a v) = end (update a v)
-  flat_act (eval a) = end (eval a)
-  flat_act (apply v a) = end (apply v a)
-  flat_act (call f ws) = end (call f ws)
-  flat_act (prim p a b) = end (prim p a b)
-  flat_act read = end read
-  flat_act (write a) = end (write a)
-  flat_act fail = end fail
+  flat_act (leaf l) = end (leaf l)
 
   pub flat_code : Code → Code
   flat_code (end o) = flat_act o

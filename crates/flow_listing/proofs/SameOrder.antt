@@ -8,7 +8,7 @@ use Rattle.grin_syntax.specs.declared.program.Target.TheVariants as to
 use Rattle.grin_syntax.specs.declared.program.Shape.{Shape}
 use Rattle.grin_syntax.specs.declared.program.Shape.TheVariants as shape
 use Rattle.grin_syntax.specs.declared.program.Cell.{Cell}
-use Rattle.grin_syntax.specs.Tree.{Code, end, store, bind, Act, unit, fetch, fetch_word, update, eval, apply, call, prim, read, write, case, nested, fail, Arms, no_arm, arm, Procedure, Program}
+use Rattle.grin_syntax.specs.Tree.{Code, end, store, bind, Act, leaf, unit, fetch, fetch_word, update, eval, apply, call, prim, read, write, case, nested, fail, Arms, no_arm, arm, Procedure, Program}
 use Rattle.grin_syntax.specs.Binders.{numbers_of, target_vars, shape_vars, cell_vars, act_vars, code_vars, arms_vars, procedure_vars, procs_vars}
 use Rattle.grin_syntax.specs.Formed.{Formed}
 use Rattle.grin_syntax.specs.Listing.{place, var_text, number_text}
@@ -53,19 +53,19 @@ mutual
   unfolding act_binders act_vars
 
   act_same : (o : Act) → vars_of (act_binders o) ≡ act_vars o
-  act_same (unit v) = refl
-  act_same (fetch w) = refl
-  act_same (fetch_word w i) = refl
-  act_same (update w v) = refl
-  act_same (eval w) = refl
-  act_same (apply v w) = refl
-  act_same (call f ws) = refl
-  act_same (prim o a b) = refl
-  act_same read = refl
-  act_same (write w) = refl
+  act_same (leaf (unit v)) = refl
+  act_same (leaf (fetch w)) = refl
+  act_same (leaf (fetch_word w i)) = refl
+  act_same (leaf (update w v)) = refl
+  act_same (leaf (eval w)) = refl
+  act_same (leaf (apply v w)) = refl
+  act_same (leaf (call f ws)) = refl
+  act_same (leaf (prim o a b)) = refl
+  act_same (leaf read) = refl
+  act_same (leaf (write w)) = refl
   act_same (case v as') = arms_same as'
   act_same (nested b) = code_same b
-  act_same fail = refl
+  act_same (leaf fail) = refl
 
   code_same : (c : Code) → vars_of (code_binders c) ≡ code_vars c
   code_same (end o) = act_same o

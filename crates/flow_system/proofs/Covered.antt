@@ -16,7 +16,7 @@ use Rattle.grin_syntax.specs.declared.program.Word.{Word}
 use Rattle.grin_syntax.specs.declared.program.Word.TheVariants.{Global}
 use Rattle.grin_syntax.specs.declared.program.Val.{Val}
 use Rattle.grin_syntax.specs.declared.program.Val.TheVariants.{Vector as VectorVal, Node as NodeVal}
-use Rattle.grin_syntax.specs.Tree.{Code, end, store, bind, Act, unit, fetch, fetch_word, update, eval, apply, call, prim, read, write, case, nested, fail, Arms, no_arm, arm, Procedure, Program}
+use Rattle.grin_syntax.specs.Tree.{Code, end, store, bind, Act, leaf, unit, fetch, fetch_word, update, eval, apply, call, prim, read, write, case, nested, fail, Arms, no_arm, arm, Procedure, Program}
 use Rattle.grin_meaning.specs.Values.{Datum, number, tag as tag', cell, Node, Value, node, words, Env, HeapCell, World, Answer, gives, stops, then_do, need, and_then, Binding, with_vars, one_each, MatchOutcome, fits, fits_not, unclear, fit_of, fits_if, fields_fit, node_fit, number_fit, int_fit, fields_of, made_node, as_node, word_of, words_of, value_of, node_of, bindings_of}
 use Rattle.grin_meaning.specs.Run.{Calls, act, code, arms, calls, run, choose, spend, spent, with_state_seen, places, cells_of, with_cells, with_node, place_of, number_of, apply_arithmetic, byte_or_end, after_read, node_word, eval_cell, eval_tag, updated, apply_part, is_fun_kind, is_part_kind, is_evaluated, is_some_and, part_from, start_words, start_world, global_cells, nth_or_zero}
 use Rattle.grin_meaning.specs.Keeps.{world_of}
@@ -319,40 +319,40 @@ module _ (p : Program) (A : Solution) where
       unfolding act act_flows act_evals
 
       act_goes : (k : FlowSink) (o : Act) (env : Env) (d : ℕ) (w : World) → Good w → EnvLies p w.cells A env → AllMet (tables p) A (act_flows p k o) → (IsTrue (act_evals o) → IsTrue (has_eval p)) → Goes (At_sink k) w (act p c env d o w)
-      act_goes k (unit v) env d w g el m ev = need_goes (GivenIn p w.cells A g.globals_there env el v) (At_sink k) w (value_of p env v) _ g (value_lies p w.cells A g.globals_there env el v)
+      act_goes k (leaf (unit v)) env d w g el m ev = need_goes (GivenIn p w.cells A g.globals_there env el v) (At_sink k) w (value_of p env v) _ g (value_lies p w.cells A g.globals_there env el v)
           (λ x l. (extends_self w.cells, g, lands p w.cells A (width (value v)) (ValueGives (tables p) A v) k x m.0 l.0 l.1))
-      act_goes k (fetch a) env d w g el m ev = need_goes _ (At_sink k) w (and_then (word_of p env a) place_of) _ g (place_lies p w.cells A g.globals_there env el a) (λ i pl. need_is (At_sink k) w (slice_get w.cells i) _ g
+      act_goes k (leaf (fetch a)) env d w g el m ev = need_goes _ (At_sink k) w (and_then (word_of p env a) place_of) _ g (place_lies p w.cells A g.globals_there env el a) (λ i pl. need_is (At_sink k) w (slice_get w.cells i) _ g
           (λ x q. (
             extends_self w.cells,
             g,
             lands p w.cells A (Some 1) (Gives (tables p) A (nodes_at a)) k (node x.node) m.0
                 (node_mono p w.cells (At A (site x.site)) (Gives (tables p) A (nodes_at a)) x.node (λ y. (x.site, at_cell a env w i x pl q, y)) (λ i' u y. (x.site, at_cell a env w i x pl q, y)) (here w i x g q).0) tt,
           )))
-      act_goes k (fetch_word a j) env d w g el m ev = need_goes _ (At_sink k) w (and_then (word_of p env a) place_of) _ g (place_lies p w.cells A g.globals_there env el a) (λ i pl. need_is (At_sink k) w (slice_get w.cells i) _ g
+      act_goes k (leaf (fetch_word a j)) env d w g el m ev = need_goes _ (At_sink k) w (and_then (word_of p env a) place_of) _ g (place_lies p w.cells A g.globals_there env el a) (λ i pl. need_is (At_sink k) w (slice_get w.cells i) _ g
           (λ x q. (extends_self w.cells, g, lands p w.cells A (Some 1) (Gives (tables p) A (word_at a j)) k (words (node_word x.node j ∷ [])) m.0 (fetched a j w.cells x.site x.node (at_cell a env w i x pl q) (here w i x g q).0, tt) (omega arith))))
-      act_goes k (update a v) env d w g el m ev = need_goes _ (At_sink k) w (and_then (word_of p env a) place_of) _ g (place_lies p w.cells A g.globals_there env el a) (λ i pl. need_is (At_sink k) w (slice_get w.cells i) _ g
+      act_goes k (leaf (update a v)) env d w g el m ev = need_goes _ (At_sink k) w (and_then (word_of p env a) place_of) _ g (place_lies p w.cells A g.globals_there env el a) (λ i pl. need_is (At_sink k) w (slice_get w.cells i) _ g
           (λ x q. need_goes (NodeIn p w.cells (AsNodes (tables p) (width (value v)) (ValueGives (tables p) A v))) (At_sink k) w (node_of p env v) _ g (node_lies p w.cells A g.globals_there env el v)
           (λ n l. (set_extends w.cells i x n q, set_good w i x n g q (node_mono p w.cells (AsNodes (tables p) (width (value v)) (ValueGives (tables p) A v)) (At A (site x.site)) n (m.0 x.site (at_cell a env w i x pl q) tags (tag n.tag)) (λ i'. m.0 x.site (at_cell a env w i x pl q) (field n.tag i')) l), nothing_lands p _ A k))))
-      act_goes k (eval a) env d w g el m ev = eval_goes a k env d w g el m.0 (ev refl)
-      act_goes k (apply v a) env d w g el m ev = need_goes (NodeIn p w.cells (AsNodes (tables p) (width (value v)) (ValueGives (tables p) A v))) (At_sink k) w (node_of p env v) _ g (node_lies p w.cells A g.globals_there env el v)
+      act_goes k (leaf (eval a)) env d w g el m ev = eval_goes a k env d w g el m.0 (ev refl)
+      act_goes k (leaf (apply v a)) env d w g el m ev = need_goes (NodeIn p w.cells (AsNodes (tables p) (width (value v)) (ValueGives (tables p) A v))) (At_sink k) w (node_of p env v) _ g (node_lies p w.cells A g.globals_there env el v)
           (λ n l. need_goes (DatumIn w.cells (StandsFor (tables p) A a)) (At_sink k) w (word_of p env a) _ g (word_lies p w.cells A g.globals_there env el a)
           (λ x y. need_is (At_sink k) w (slice_get p.tags n.tag) _ g (λ t e. cond_goes (At_sink k) w (is_part_kind t.kind) _ _
           (λ e'. need_is (At_sink k) w t.proc _ g (λ f e''. part_goes v a k d n x w g m.0 m.1.0 l y f t e e' e'' t.missing refl))
           (λ _. g))))
-      act_goes k (call f ws) env d w g el m ev = need_goes (WordsLie p w.cells A g.globals_there env el ws) (At_sink k) w (words_of p env ws) _ g (words_lie p w.cells A g.globals_there env el ws)
+      act_goes k (leaf (call f ws)) env d w g el m ev = need_goes (WordsLie p w.cells A g.globals_there env el ws) (At_sink k) w (words_of p env ws) _ g (words_lie p w.cells A g.globals_there env el ws)
           (λ xs l. goes_map (Returns f.0) (At_sink k) w (c f.0 xs d w)
           (cg.by f.0 xs d w g (parameters_lie p w.cells A (Some (length ws)) (ValueGives (tables p) A (VectorVal ws)) f.0 xs m.0 (all_mono w.cells (WordAmong (tables p) A ws) (λ j. ValueGives (tables p) A (VectorVal ws) (word j)) (λ j u. of_words) 0 xs l.0)))
           (λ v w' b. lands p w'.cells A None (At A (result f.0)) k v m.1.0 b (any v)))
-      act_goes k (prim f a b) env d w g el m ev = need_goes (DatumIn w.cells (StandsFor (tables p) A a)) (At_sink k) w (word_of p env a) _ g (word_lies p w.cells A g.globals_there env el a)
+      act_goes k (leaf (prim f a b)) env d w g el m ev = need_goes (DatumIn w.cells (StandsFor (tables p) A a)) (At_sink k) w (word_of p env a) _ g (word_lies p w.cells A g.globals_there env el a)
           (λ x _. need_goes (DatumIn w.cells (StandsFor (tables p) A b)) (At_sink k) w (word_of p env b) _ g (word_lies p w.cells A g.globals_there env el b)
           (λ y _. need_goes _ (At_sink k) w (apply_arithmetic f x y) _ g (calculated f x y w.cells)
           (λ v l. (extends_self w.cells, g, lands p w.cells A (Some 1) (Gives (tables p) A a_number) k v m.0 l.0 l.1))))
-      act_goes k read env d w g el m ev = reading_goes k w.input w g m.0
-      act_goes k (write a) env d w g el m ev = need_is (At_sink k) w (and_then (word_of p env a) number_of) _ g (λ i _. (extends_self w.cells, record { cells_good = g.cells_good; globals_there = g.globals_there; seen_good = g.seen_good }, nothing_lands p _ A k))
+      act_goes k (leaf read) env d w g el m ev = reading_goes k w.input w g m.0
+      act_goes k (leaf (write a)) env d w g el m ev = need_is (At_sink k) w (and_then (word_of p env a) number_of) _ g (λ i _. (extends_self w.cells, record { cells_good = g.cells_good; globals_there = g.globals_there; seen_good = g.seen_good }, nothing_lands p _ A k))
       act_goes k (case v as') env d w g el m ev = need_goes (GivenIn p w.cells A g.globals_there env el v) (At_sink k) w (value_of p env v) _ g (value_lies p w.cells A g.globals_there env el v)
           (λ x l. arms_go k v as' env d x w g el l.0 l.1 m ev)
       act_goes k (nested b) env d w g el m ev = code_goes k b env d w g el m ev
-      act_goes k fail env d w g el m ev = g
+      act_goes k (leaf fail) env d w g el m ev = g
 
       code_goes : (k : FlowSink) (b : Code) (env : Env) (d : ℕ) (w : World) → Good w → EnvLies p w.cells A env → AllMet (tables p) A (code_flows p k b) → (IsTrue (code_evals b) → IsTrue (has_eval p)) → Goes (At_sink k) w (code p c env d b w)
       code_goes k (end o) env d w g el m ev = act_goes k o env d w g el m ev

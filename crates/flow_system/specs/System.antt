@@ -8,14 +8,14 @@ use Rattle.grin_syntax.specs.declared.program.Shape.{Shape}
 use Rattle.grin_syntax.specs.declared.program.Shape.TheVariants.{Node as NodeShape, Int, Else}
 use Rattle.grin_syntax.specs.declared.program.Cell.{Cell}
 use Rattle.grin_syntax.specs.declared.program.GlobalCell.{GlobalCell}
-use Rattle.grin_syntax.specs.Tree.{Code, end, store, bind, Act, unit, fetch, fetch_word, update, eval, apply, call, prim, read, write, case, nested, fail, Arms, no_arm, arm, Procedure, Program}
+use Rattle.grin_syntax.specs.Tree.{Code, end, store, bind, Act, leaf, unit, fetch, fetch_word, update, eval, apply, call, prim, read, write, case, nested, fail, Arms, no_arm, arm, Procedure, Program}
 use Rattle.flow_system.specs.Tables.{tables, params_of}
 use Rattle.flow_system.specs.Inclusions.{result, value, a_cell, a_number, held, nodes_at, word_at, evaluated, extended, arguments, FlowSink, to, into_site, into_result, cells_at, Inclusion, flows, forces, applies}
 
 -- whether a program has an eval
 unfoldable mutual
   pub act_evals : Act → Bool
-  act_evals (eval a) = true
+  act_evals (leaf (eval a)) = true
   act_evals (case v as') = arms_eval as'
   act_evals (nested b) = code_evals b
   act_evals _ = false
@@ -55,21 +55,21 @@ module _ (p : Program) where
   unfoldable mutual
     -- an operation whose value goes to k
     pub act_flows : FlowSink → Act → List Inclusion
-    act_flows k (unit v) = flows (value v) k ∷ []
-    act_flows k (fetch a) = flows (nodes_at a) k ∷ []
-    act_flows k (fetch_word a i) = flows (word_at a i) k ∷ []
-    act_flows k (update a v) = flows (value v) (cells_at a) ∷ []
-    act_flows k (eval a) = flows (evaluated (nodes_at a)) k ∷ []
-    act_flows k (apply v a) = flows (extended v a) k ∷ applies v a k ∷ []
-    act_flows k (call f as') =
+    act_flows k (leaf (unit v)) = flows (value v) k ∷ []
+    act_flows k (leaf (fetch a)) = flows (nodes_at a) k ∷ []
+    act_flows k (leaf (fetch_word a i)) = flows (word_at a i) k ∷ []
+    act_flows k (leaf (update a v)) = flows (value v) (cells_at a) ∷ []
+    act_flows k (leaf (eval a)) = flows (evaluated (nodes_at a)) k ∷ []
+    act_flows k (leaf (apply v a)) = flows (extended v a) k ∷ applies v a k ∷ []
+    act_flows k (leaf (call f as')) =
         flows (value (VectorVal as')) (to (params_of (tables p) f.0))
         ∷ flows (held (result f.0)) k ∷ []
-    act_flows k (prim f a b) = flows a_number k ∷ []
-    act_flows k read = flows a_number k ∷ []
-    act_flows k (write a) = []
+    act_flows k (leaf (prim f a b)) = flows a_number k ∷ []
+    act_flows k (leaf read) = flows a_number k ∷ []
+    act_flows k (leaf (write a)) = []
     act_flows k (case v as') = arms_flow k v as'
     act_flows k (nested b) = code_flows k b
-    act_flows k fail = []
+    act_flows k (leaf fail) = []
 
     pub code_flows : FlowSink → Code → List Inclusion
     code_flows k (end o) = act_flows k o

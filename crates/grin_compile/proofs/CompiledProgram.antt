@@ -1,12 +1,14 @@
 -- A compiled program, from its stages and the layers below the last of them.
-use Rattle.std.proofs.Common.{◌≡◌, ℕ, ◌+◌, ◌*◌, ◌≤◌, ◌<◌, List, length, refl, sym, ap, subst, arith}
+use Rattle.std.proofs.Common.{◌≡◌, ℕ, ◌+◌, ◌*◌, ◌≤◌, ◌<◌, List, ◌∷◌, length, map, refl, sym, ap, subst, arith}
 use Rattle.seq.proofs.Order.{more_times}
 use Rattle.arity_check.specs.Accepted.{IsValid}
 use Rattle.arity_check.specs.Program as core
 use Rattle.elf32.specs.File.{SizesFitLayout}
 use Rattle.grin_syntax.specs.Tree as grin
+use Rattle.grin_syntax.specs.Formed.{AllOf, Formed}
 use Rattle.grin_meaning.specs.Ready.{most_fields}
 use Rattle.grin_translate.specs.Same.{ValidTranslationPreservesRuns}
+use Rattle.stage_names.specs.declared.PassName.TheVariants.{Translate, Eval, Apply}
 use Rattle.low_code.specs.Tree as low
 use Rattle.low_code.specs.Told.{meaning_of_low, entered_by_low}
 use Rattle.register_alloc.specs.Assignment.{words_at}
@@ -15,7 +17,7 @@ use Rattle.grin_compile.specs.declared.layers.Layers.{Layers}
 use Rattle.grin_compile.specs.declared.layers.Lowered.{Lowered}
 use Rattle.grin_compile.specs.Code.{image_start_state, IsCodeFor}
 use Rattle.grin_compile.specs.declared.compilation.Compiled.{Compiled}
-use Rattle.grin_compile.specs.Compilation.{later, IsCompilation}
+use Rattle.grin_compile.specs.Compilation.{after, later, IsCompilation}
 use Rattle.grin_compile.specs.Limits.{HeapIsExceeded, FramesAreExceeded, heap_bytes, whole_words, SizesAreInRange}
 use Rattle.grin_compile.specs.Made.{Made, IsImageOf}
 use Rattle.grin_compile.specs.Parts.{HasLast, HasStages, lowered_stage, AreSizes, HasLayers, HasImage}
@@ -23,6 +25,7 @@ use Rattle.grin_compile.specs.Built.{IsBuilt}
 use Rattle.grin_compile.specs.Layers.{AreLayers}
 use Rattle.grin_compile.specs.Lowerable.{IsLowerable}
 use Rattle.grin_compile.specs.Stages.{passes, AreStages}
+use Rattle.grin_compile.proofs.Passed.{by_places, as_many}
 use Rattle.grin_compile.proofs.Frames.{few_frame_words}
 use Rattle.grin_compile.proofs.FromLayers.{image, never_missing}
 use Rattle.grin_compile.proofs.Layered.{low_code_is_carried}
@@ -114,11 +117,18 @@ module _ (does : ValidTranslationPreservesRuns) (p : core.Program) (valid : IsVa
     names = has.layers.names;
   }
 
+-- the stages that are kept, by their names
+stages_are_later : (p : core.Program) (c : Compiled) → HasStages p c.stages → map grin.program_of c.stages.later.items ≡ later c
+stages_are_later p c stages =
+    let hs = map grin.program_of c.stages.later.items in
+    sym (by_places hs (grin.program_of c.stages.applied) (as_many p passes _ hs stages.later.stages))
+
 pub compilation : ValidTranslationPreservesRuns → (p : core.Program) → IsValid p → (cells stack : ℕ) → (c : Compiled) → HasStages p c.stages
     → HasImage (lowered_stage c.stages) cells stack (lowered c) → IsCompilation p cells stack c
 compilation does p valid cells stack c stages has =
     let g = lowered_stage c.stages in
-    let chosen = stages.later in
+    let is = stages_are_later p c stages in
+    let chosen = subst (λ hs. HasLast p (grin.program_of c.stages.applied) hs g) is stages.later in
     record {
       translated = stages.translated;
       evaluated = stages.evaluated;
@@ -128,7 +138,7 @@ compilation does p valid cells stack c stages has =
       stages = subst (λ h. AreStages p passes h (later c)) (sym chosen.applied) chosen.stages;
       g = g;
       last = chosen.last;
-      formed_stages = stages.formed;
+      formed_stages = subst (λ hs. AllOf Formed (after c Translate ∷ after c Eval ∷ after c Apply ∷ hs)) is stages.formed;
       formed = has.layers.formed;
       items = has.layers.items;
       layers = has.layers.made;

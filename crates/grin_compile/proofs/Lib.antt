@@ -8,6 +8,7 @@ pub mod Frames
 pub mod Sizes
 pub mod FromLayers
 pub mod Narrow
+pub mod Passed
 pub mod Stepped
 pub mod Staged
 pub mod Ended

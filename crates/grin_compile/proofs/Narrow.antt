@@ -7,7 +7,7 @@ use Rattle.grin_syntax.specs.declared.program.Target.TheVariants as to
 use Rattle.grin_syntax.specs.declared.program.Tag.{Tag}
 use Rattle.grin_syntax.specs.declared.program.TagKind.{TagKind}
 use Rattle.grin_syntax.specs.declared.program.TagKind.TheVariants as kind
-use Rattle.grin_syntax.specs.Tree.{Code, end, store, bind, Act, unit, fetch, fetch_word, update, eval, apply, call, prim, read, write, case, nested, fail, Arms, no_arm, arm, Procedure, Program}
+use Rattle.grin_syntax.specs.Tree.{Code, end, store, bind, Act, leaf, unit, fetch, fetch_word, update, eval, apply, call, prim, read, write, case, nested, fail, Arms, no_arm, arm, Procedure, Program}
 use Rattle.grin_meaning.specs.Checks.{is_fetch}
 use Rattle.grin_meaning.specs.Ready.{EachAct, EachCode, EachArms, most_fields, value_fields, most_value_fields, Ready, EveryBodyIsOfKind, narrow_kind}
 use Rattle.vectorise.specs.Whole.{NoVectorTarget, UsesWholeNodes, whole_node_kind}
@@ -31,42 +31,42 @@ module _ (most most_value : ℕ) (few : most ≤ 13) (few_value : most_value ≤
     unfolding EachAct ActWidths
 
     act_narrow : (o o' : Act) → EachAct whole_node_kind o → ActWidths most most_value o o' → EachAct (narrow_kind 14) o'
-    act_narrow o (unit v') e w = (tt, tt)
-    act_narrow o (fetch a') e w = tt
-    act_narrow o (fetch_word a' k') e w = tt
-    act_narrow o (update a' v') e w = (tt, tt)
-    act_narrow o (eval a') e w = tt
-    act_narrow o (apply v' a') e w = (tt, tt)
-    act_narrow o (call f' ws') e w = tt
-    act_narrow o (prim f' a' b') e w = tt
-    act_narrow o read e w = tt
-    act_narrow o (write a') e w = tt
-    act_narrow o fail e w = tt
+    act_narrow o (leaf (unit v')) e w = (tt, tt)
+    act_narrow o (leaf (fetch a')) e w = tt
+    act_narrow o (leaf (fetch_word a' k')) e w = tt
+    act_narrow o (leaf (update a' v')) e w = (tt, tt)
+    act_narrow o (leaf (eval a')) e w = tt
+    act_narrow o (leaf (apply v' a')) e w = (tt, tt)
+    act_narrow o (leaf (call f' ws')) e w = tt
+    act_narrow o (leaf (prim f' a' b')) e w = tt
+    act_narrow o (leaf read) e w = tt
+    act_narrow o (leaf (write a')) e w = tt
+    act_narrow o (leaf fail) e w = tt
     act_narrow (case v as') (case v' bs') e w = (tt, tt, arms_narrow as' bs' e.2 w)
-    act_narrow (unit v) (case v' bs') e w = absurd w
-    act_narrow (fetch a) (case v' bs') e w = absurd w
-    act_narrow (fetch_word a k) (case v' bs') e w = absurd w
-    act_narrow (update a v) (case v' bs') e w = absurd w
-    act_narrow (eval a) (case v' bs') e w = absurd w
-    act_narrow (apply v a) (case v' bs') e w = absurd w
-    act_narrow (call f ws) (case v' bs') e w = absurd w
-    act_narrow (prim f a b) (case v' bs') e w = absurd w
-    act_narrow read (case v' bs') e w = absurd w
-    act_narrow (write a) (case v' bs') e w = absurd w
-    act_narrow fail (case v' bs') e w = absurd w
+    act_narrow (leaf (unit v)) (case v' bs') e w = absurd w
+    act_narrow (leaf (fetch a)) (case v' bs') e w = absurd w
+    act_narrow (leaf (fetch_word a k)) (case v' bs') e w = absurd w
+    act_narrow (leaf (update a v)) (case v' bs') e w = absurd w
+    act_narrow (leaf (eval a)) (case v' bs') e w = absurd w
+    act_narrow (leaf (apply v a)) (case v' bs') e w = absurd w
+    act_narrow (leaf (call f ws)) (case v' bs') e w = absurd w
+    act_narrow (leaf (prim f a b)) (case v' bs') e w = absurd w
+    act_narrow (leaf read) (case v' bs') e w = absurd w
+    act_narrow (leaf (write a)) (case v' bs') e w = absurd w
+    act_narrow (leaf fail) (case v' bs') e w = absurd w
     act_narrow (nested b) (case v' bs') e w = absurd w
     act_narrow (nested b) (nested b') e w = (tt, code_narrow b b' e.1 w)
-    act_narrow (unit v) (nested b'') e w = absurd w
-    act_narrow (fetch a) (nested b'') e w = absurd w
-    act_narrow (fetch_word a k) (nested b'') e w = absurd w
-    act_narrow (update a v) (nested b'') e w = absurd w
-    act_narrow (eval a) (nested b'') e w = absurd w
-    act_narrow (apply v a) (nested b'') e w = absurd w
-    act_narrow (call f ws) (nested b'') e w = absurd w
-    act_narrow (prim f a b) (nested b'') e w = absurd w
-    act_narrow read (nested b'') e w = absurd w
-    act_narrow (write a) (nested b'') e w = absurd w
-    act_narrow fail (nested b'') e w = absurd w
+    act_narrow (leaf (unit v)) (nested b'') e w = absurd w
+    act_narrow (leaf (fetch a)) (nested b'') e w = absurd w
+    act_narrow (leaf (fetch_word a k)) (nested b'') e w = absurd w
+    act_narrow (leaf (update a v)) (nested b'') e w = absurd w
+    act_narrow (leaf (eval a)) (nested b'') e w = absurd w
+    act_narrow (leaf (apply v a)) (nested b'') e w = absurd w
+    act_narrow (leaf (call f ws)) (nested b'') e w = absurd w
+    act_narrow (leaf (prim f a b)) (nested b'') e w = absurd w
+    act_narrow (leaf read) (nested b'') e w = absurd w
+    act_narrow (leaf (write a)) (nested b'') e w = absurd w
+    act_narrow (leaf fail) (nested b'') e w = absurd w
     act_narrow (case v as') (nested b'') e w = absurd w
 
     code_narrow : (b b' : Code) → EachCode whole_node_kind b → CodeWidths most most_value b b' → EachCode (narrow_kind 14) b'

@@ -3,7 +3,7 @@ use Rattle.std.proofs.Common.{◌≡◌, ℕ, zero, suc, ◌+◌, ◌*◌, ◌�
 use Rattle.std.specs.Prelude.{◌==◌, if◌then◌else◌}
 use Rattle.std.proofs.lemmas.List.{length-map, length-append}
 use Rattle.arity_check.specs.Program as core
-use Rattle.grin_syntax.specs.Tree.{Code, end, store, bind, Act, unit, fetch, fetch_word, update, eval, apply, call, prim, read, write, case, nested, fail, Procedure, Program}
+use Rattle.grin_syntax.specs.Tree.{Code, end, store, bind, Act, leaf, unit, fetch, fetch_word, update, eval, apply, call, prim, read, write, case, nested, fail, Procedure, Program}
 use Rattle.grin_syntax.specs.SameOutside.{names_of, DifferOnlyInBodies}
 use Rattle.grin_meaning.specs.Slim.{Slim}
 use Rattle.grin_syntax.specs.Fresh.{past_procs}
@@ -61,19 +61,19 @@ few_globals p (g ∷ gs) f =
 
 some_act : (o : Act) → 1 ≤ act_size o
 unfolding act_size
-some_act (unit v) = omega arith
-some_act (fetch a) = omega arith
-some_act (fetch_word a i) = omega arith
-some_act (update a v) = omega arith
-some_act (eval a) = omega arith
-some_act (apply v a) = omega arith
-some_act (call f ws) = omega arith
-some_act (prim f a b) = omega arith
-some_act read = omega arith
-some_act (write a) = omega arith
+some_act (leaf (unit v)) = omega arith
+some_act (leaf (fetch a)) = omega arith
+some_act (leaf (fetch_word a i)) = omega arith
+some_act (leaf (update a v)) = omega arith
+some_act (leaf (eval a)) = omega arith
+some_act (leaf (apply v a)) = omega arith
+some_act (leaf (call f ws)) = omega arith
+some_act (leaf (prim f a b)) = omega arith
+some_act (leaf read) = omega arith
+some_act (leaf (write a)) = omega arith
 some_act (case v as') = omega arith
 some_act (nested b) = omega arith
-some_act fail = omega arith
+some_act (leaf fail) = omega arith
 
 some_code : (b : Code) → 1 ≤ code_size b
 unfolding code_size

@@ -1,5 +1,5 @@
 -- The stages of a program, and the last of them, of which code can be made.
-use Rattle.std.proofs.Common.{◌≡◌, ℕ, ◌≤◌, List, length, refl, sym, ap, ◌∙◌, subst, arith}
+use Rattle.std.proofs.Common.{◌≡◌, ℕ, ◌≤◌, List, [], ◌∷◌, length, Some, slice_get, refl, sym, ap, ◌∙◌, subst, arith}
 use Rattle.arity_check.specs.Accepted.{IsValid}
 use Rattle.arity_check.specs.Program as core
 use Rattle.grin_syntax.specs.Tree.{Program}
@@ -88,11 +88,15 @@ module _ (one : ExpandedSizeIsUnique) (p : core.Program) (fits : Fits p) (a : Pr
   abbrev Beside : (size largest : ℕ) → Program → Type 0
   Beside n m g = Slim n m g
 
-  -- the first stage is slim
-  pub vectors_are_slim : VectorisedIsSlim → (h : Program) → pass_relation Vectorise a h → Keeps (tr p) h → SlimBeside s h
+  vectors_are_slim : VectorisedIsSlim → (h : Program) → pass_relation Vectorise a h → Keeps (tr p) h → SlimBeside s h
   vectors_are_slim slim h shape keeps =
       subst (λ n. Slim n s.largest h) (sym program_is)
       (subst (λ m. Slim (inlined_size A (tr p)) m h) (sym largest_is) (slim p h (by_pass {k = Vectorise} stage shape keeps) A by.least))
+
+  -- the first stage is slim
+  pub first_is_slim : VectorisedIsSlim → (hs : List Program) → AreStages p passes a hs → (g : Program) → slice_get hs 0 ≡ Some g → SlimBeside s g
+  first_is_slim slim [] are g there = absurd are
+  first_is_slim slim (h ∷ hs) are g there = let e : h ≡ g = cc in subst (SlimBeside s) e (vectors_are_slim slim h are.1.0 are.0)
 
   -- the last slim one of the stages can be lowered
   module _ (taken : VectoriseTakesInlined) (valid : IsValid p) (hs : List Program) (are : AreStages p passes a hs) (g : Program) (last : IsLastStageWith (SlimBeside s) hs g) where

@@ -1,5 +1,5 @@
 -- What a compiled program holds.
-use Rattle.std.specs.Prelude.{◌≡◌, ◌*◌, ◌≤◌, ℕ, List, ◌∷◌, map, length}
+use Rattle.std.specs.Prelude.{◌≡◌, ◌-◌, ◌*◌, ◌≤◌, ℕ, List, ◌∷◌, map, length}
 use Rattle.arity_check.specs.Program as core
 use Rattle.grin_syntax.specs.Tree as grin
 use Rattle.grin_syntax.specs.Tree.{program_of}
@@ -9,7 +9,8 @@ use Rattle.flow_system.specs.Solution.{Solution}
 use Rattle.inlining.specs.Applications.{inlined}
 use Rattle.grin_translate.specs.Translation.{tr}
 use Rattle.stage_names.specs.declared.PassName.{PassName}
-use Rattle.stage_names.specs.declared.PassName.TheVariants.{Translate, Eval, Apply}
+use Rattle.stage_names.specs.declared.PassName.TheVariants.{Translate, Eval, Apply, Vectorise}
+use Rattle.grin_opt.specs.Staying.{place}
 use Rattle.grin_stages.specs.Stage.{IsLeastOfTranslation, IsStage}
 use Rattle.low_code.specs.Tree as low
 use Rattle.low_code.specs.Formed as low_formed
@@ -22,7 +23,7 @@ use Rattle.grin_compile.specs.declared.compilation.Compiled.{Compiled}
 use Rattle.grin_compile.specs.Limits.{HeapIsExceeded, FramesAreExceeded, frame_bound, heap_bytes}
 use Rattle.grin_compile.specs.Code.{image_start_state, IsCodeFor}
 use Rattle.grin_compile.specs.Layers.{AreLayers}
-use Rattle.grin_compile.specs.Passed.{program_after_pass}
+use Rattle.grin_compile.specs.Passed.{later_stage}
 use Rattle.grin_compile.specs.Stages.{passes, AreStages, IsLastSlim}
 use Rattle.grin_compile.specs.Made.{IsImageOf}
 
@@ -31,7 +32,7 @@ abbrev pub after : Compiled → PassName → grin.Program
 after c Translate = program_of c.stages.translated
 after c Eval = program_of c.stages.evaluated
 after c Apply = program_of c.stages.applied
-after c k = program_after_pass c.stages.later k
+after c k = later_stage c.stages (place k - place Vectorise)
 
 -- the stages after the inlining
 abbrev pub later : Compiled → List grin.Program

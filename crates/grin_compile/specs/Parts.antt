@@ -1,5 +1,5 @@
 -- What the functions of the crate have made of a program.
-use Rattle.std.specs.Prelude.{◌≡◌, ◌≤◌, ◌<◌, ◌%◌, ℕ, List, ◌∷◌, length}
+use Rattle.std.specs.Prelude.{◌≡◌, ◌≤◌, ◌<◌, ◌%◌, ℕ, List, ◌∷◌, length, map}
 use Rattle.arity_check.specs.Program as core
 use Rattle.elf32.specs.File.{file_of, program}
 use Rattle.elf32.specs.Rules.{Loads}
@@ -24,18 +24,18 @@ use Rattle.grin_compile.specs.declared.layers.Lowered.{Lowered}
 use Rattle.grin_compile.specs.Layers.{AreLayers}
 use Rattle.grin_compile.specs.Limits.{SizesAreInRange, heap_bytes}
 use Rattle.grin_compile.specs.Lowerable.{IsLowerable}
-use Rattle.grin_compile.specs.Passed.{program_after_pass, programs_of}
+use Rattle.grin_compile.specs.Passed.{later_stage}
 use Rattle.grin_compile.specs.Stages.{passes, AreStages, IsLastSlim}
 use Rattle.limits.specs.Limits.{largest_program, most_code}
 
 -- the program of which code is made
 abbrev pub lowered_stage : Stages → grin.Program
-lowered_stage s = program_after_pass s.later s.last
+lowered_stage s = later_stage s s.last
 
 -- the programs of all stages, in their order
 abbrev pub all_programs : Stages → List grin.Program
 all_programs s =
-    program_of s.translated ∷ program_of s.evaluated ∷ program_of s.applied ∷ programs_of s.later
+    program_of s.translated ∷ program_of s.evaluated ∷ program_of s.applied ∷ map program_of s.later.items
 
 -- the stages after a, which is a program as it is inlined and is not too large, and the last slim
 -- one of them, which can be lowered
@@ -53,7 +53,7 @@ pub record HasLast (p : core.Program) (a : grin.Program) (hs : List grin.Program
 pub record HasStages (p : core.Program) (s : Stages) : Type 0 where
   pub translated : IsStage p Translate (program_of s.translated)
   pub evaluated : IsStage p Eval (program_of s.evaluated)
-  pub later : HasLast p (program_of s.applied) (programs_of s.later) (lowered_stage s)
+  pub later : HasLast p (program_of s.applied) (map program_of s.later.items) (lowered_stage s)
   pub formed : AllOf Formed (all_programs s)
 
 -- the cells and the bytes of stack, in whole words

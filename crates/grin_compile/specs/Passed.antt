@@ -1,13 +1,16 @@
 -- What the passes after the inlining make of a program.
-use Rattle.std.specs.Prelude.{List, [], ◌∷◌}
+use Rattle.std.specs.Prelude.{◌≡◌, ℕ, ◌-◌, List, [], ◌∷◌, length, get_or, map}
 use Rattle.grin_syntax.specs.Tree.{Program, program_of}
 use Rattle.grin_meaning.specs.Slim.{Slim}
 use Rattle.grin_measure.specs.declared.measure.Sizes.{Sizes}
 use Rattle.stage_names.specs.declared.PassName.{PassName}
-use Rattle.stage_names.specs.declared.PassName.TheVariants.{Simplify, Fetch, Copy, Update, Unbox, Raise, Flat, Known, Cells, Dead}
-use Rattle.grin_opt.specs.Schedule.{IsPassResult}
-use Rattle.grin_compile.specs.declared.later.Later.{Later}
-use Rattle.grin_compile.specs.declared.later.Last.{Last}
+use Rattle.grin_opt.specs.Schedule.{IsPass, before, IsPassResult}
+use Rattle.grin_compile.specs.declared.stages.Stages.{Stages}
+
+-- each of these passes takes the stage of the one before, and the first one this stage
+abbrev pub FollowStage : PassName → List PassName → Type 0
+FollowStage b [] = Unit {0}
+FollowStage b (k ∷ ks) = IsPass k × ((before k ≡ b) × FollowStage k ks)
 
 -- what passes make of g, one after another
 abbrev pub AreResultsOfPasses : List PassName → Program → List Program → Type 0
@@ -15,31 +18,13 @@ AreResultsOfPasses [] g [] = Unit {0}
 AreResultsOfPasses (k ∷ ks) g (h ∷ hs) = IsPassResult k g h × AreResultsOfPasses ks h hs
 AreResultsOfPasses _ g _ = ⊥
 
--- the program after a pass; before the first one there is none, and this is the first one's
-abbrev pub program_after_pass : Later → PassName → Program
-program_after_pass l Simplify = program_of l.simplified
-program_after_pass l Fetch = program_of l.fetched
-program_after_pass l Copy = program_of l.copied
-program_after_pass l Update = program_of l.updated
-program_after_pass l Unbox = program_of l.unboxed
-program_after_pass l Raise = program_of l.raised
-program_after_pass l Flat = program_of l.flat
-program_after_pass l Known = program_of l.known
-program_after_pass l Cells = program_of l.own
-program_after_pass l Dead = program_of l.dead
-program_after_pass l _ = program_of l.vectorised
+-- the last of these programs after g, or g itself where there is none
+abbrev pub last_program : Program → List Program → Program
+last_program g hs = get_or hs (length hs - 1) g
 
-abbrev pub programs_of : Later → List Program
-programs_of l = program_of l.vectorised ∷ program_of l.simplified ∷ program_of l.fetched
-    ∷ program_of l.copied ∷ program_of l.updated ∷ program_of l.unboxed ∷ program_of l.raised
-    ∷ program_of l.flat ∷ program_of l.known ∷ program_of l.own ∷ program_of l.dead ∷ []
-
--- the passes after raising, and their programs
-abbrev pub last_passes : List PassName
-last_passes = Flat ∷ Known ∷ Cells ∷ Dead ∷ []
-
-abbrev pub last_programs : Last → List Program
-last_programs l = program_of l.flat ∷ program_of l.known ∷ program_of l.own ∷ program_of l.dead ∷ []
+-- the program at a place after the inlining, and the inlined program where there is none
+abbrev pub later_stage : Stages → ℕ → Program
+later_stage s i = get_or (map program_of s.later.items) i (program_of s.applied)
 
 -- slim beside a program of these sizes
 abbrev pub SlimBeside : Sizes → Program → Type 0

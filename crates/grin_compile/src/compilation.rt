@@ -10,6 +10,7 @@ ghost use Rattle.grin_compile.specs.Limits.{SizesAreInRange, whole_words};
 ghost use Rattle.grin_compile.specs.Made.{Made};
 ghost use Rattle.grin_compile.specs.Compilation.{after, IsCompilation};
 
+use crate::later::place_after_inlining;
 use crate::layers::image_below;
 use crate::stages::{Stages, all_stages};
 use arity_check::normal::Checked;
@@ -53,7 +54,7 @@ impl Compiled {
             PassName::Translate => &self.stages.translated,
             PassName::Eval => &self.stages.evaluated,
             PassName::Apply => &self.stages.applied,
-            _ => self.stages.later.after(pass),
+            _ => self.stages.later_stage(place_after_inlining(pass)),
         }
     }
 
@@ -101,7 +102,7 @@ pub fn compile(alloc: Global, p: &Checked, options: Options) -> Result<Compiled,
     // A law: the translation does what the program means.
     translation_refines();
     let stages = all_stages(alloc, p)?;
-    let lowered = image_below(alloc, stages.lowered_stage(), options)?;
+    let lowered = image_below(alloc, stages.later_stage(stages.last), options)?;
     let layers = lowered.layers;
     Ok(Compiled {
         stages,

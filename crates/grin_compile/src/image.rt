@@ -10,6 +10,7 @@ ghost use Rattle.grin_compile.specs.Compilation.{IsCompilation};
 ghost use Rattle.grin_compile.specs.Built.{IsBuilt};
 
 use crate::compilation::{Compiled, Options, compile};
+use crate::later::LAST_PASS;
 use crate::layers::image_below;
 use arity_check::normal::Checked;
 use grin_measure::{is_slim, sizes_of};
@@ -38,7 +39,7 @@ pub struct Built {
 }
 
 /// What of a compiled program an image is made of. All else of it is dropped here and nowhere else,
-/// since each place where all its stages are dropped takes minutes to prove.
+/// since the proof of a place where all its stages are dropped goes over each part of them.
 fn kept(compiled: Compiled) -> Built
     ensures { (p : core.Program) (cells stack : ℕ) → IsCompilation p cells stack compiled
         → IsBuilt p cells stack result }
@@ -81,7 +82,7 @@ pub fn build(alloc: Global, p: &Checked, options: Options) -> Result<Built, Comp
     expanded_size_is_unique();
     let applied = stage(alloc, p, PassName::Apply)?;
     let sizes = sizes_of(&applied);
-    let last = optimise(alloc, applied, PassName::Dead)?;
+    let last = optimise(alloc, applied, LAST_PASS)?;
     if !is_slim(&last, sizes) {
         return build_of_slim(alloc, p, options);
     }

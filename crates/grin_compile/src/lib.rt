@@ -10,6 +10,5 @@ mod stages;
 
 pub use compilation::{Compiled, Options, compile};
 pub use image::{Built, build};
-pub use later::Later;
 pub use layers::{Layers, layers_below};
 pub use stages::Stages;

@@ -17,7 +17,7 @@ use Rattle.text_commands.specs.declared.status.Status.{Status}
 use Rattle.text_commands.specs.declared.status.Status.TheVariants.{Done, Refused, NoAlternative, HeapFull, StackFull, StepLimit, OutOfMemory, ReadFault, WriteFault}
 use Rattle.grin_driver.specs.Execution.{OfGiven, Stops, Execution, status_of}
 use Rattle.grin_driver.specs.Outcome.{status_of_exit}
-use Rattle.grin_driver.specs.Generating.{IsDefaultImageOf, EndedWithCost, IsOutput, WritesTooMuch, IsUndone, seen_of, status_by}
+use Rattle.grin_driver.specs.Generating.{IsDefaultImageOf, EndsWithStatus, IsOutput, WritesTooMuch, IsUndone, seen_of, status_by}
 use Rattle.grin_driver.proofs.Outcomes.{loadable, carried, paced, finish_at, finish_by, finishes}
 use Rattle.grin_driver.proofs.Stores.{Stores, Holds, puts_hold, broke_is_long}
 
@@ -68,7 +68,7 @@ module _ (text file : List ℕ) (from : IsDefaultImageOf text file) (rest : List
         (steps_per_unit from.program from.made.solution) reaches stop
         (stops.stands [] begun_with).0
 
-    ended : (status : Status) → status_by (finish_by stop) ≡ Some status → EndedWithCost from status
+    ended : (status : Status) → status_by (finish_by stop) ≡ Some status → EndsWithStatus from status
     ended status is = record {
       image = image;
       loads = loads;

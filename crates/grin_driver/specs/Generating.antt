@@ -36,7 +36,7 @@ IsDefaultImageOf text file = IsImageOf text default_cells default_stack file
 
 -- the run of the image wrote at most 4,096 bytes, its end has this status, and so many units of the
 -- program tell what is seen
-pub record EndedWithCost {text file : List ℕ} (from : IsDefaultImageOf text file)
+pub record EndsWithStatus {text file : List ℕ} (from : IsDefaultImageOf text file)
     (status : Status) : Type 0 where
   pub image : Image
   pub loads : Loads file image
@@ -78,7 +78,7 @@ summary_of {text} from out =
 -- the program of the image is done, and within the units that end it it tells these bytes
 pub record IsOutput {text file : List ℕ} (from : IsDefaultImageOf text file)
     (out : List ℕ) : Type 0 where
-  pub ended : EndedWithCost from Done
+  pub ended : EndsWithStatus from Done
   pub is_output : out ≡ (core_program_meaning from.program [] ended.units).out
 
 -- these bytes are the summary of the text, of which an image is made whose program is done
@@ -100,10 +100,10 @@ HoldsOfImage text Holds = (file : List ℕ) × ((from : IsDefaultImageOf text fi
 abbrev pub IsUndone : {text file : List ℕ} → IsDefaultImageOf text file → Status → Type 0
 IsUndone from (Refused rule number) = (rule ≡ 50) × (number ≡ 4096) × WritesTooMuch from
 IsUndone from OutOfMemory = Unit {0}
-IsUndone from NoAlternative = EndedWithCost from NoAlternative
-IsUndone from HeapFull = EndedWithCost from HeapFull
-IsUndone from StackFull = EndedWithCost from StackFull
-IsUndone from StepLimit = EndedWithCost from StepLimit
+IsUndone from NoAlternative = EndsWithStatus from NoAlternative
+IsUndone from HeapFull = EndsWithStatus from HeapFull
+IsUndone from StackFull = EndsWithStatus from StackFull
+IsUndone from StepLimit = EndsWithStatus from StepLimit
 IsUndone from _ = ⊥
 
 -- which rule refuses the text: one of those that refuse a run, or rule 50, at the bytes that the

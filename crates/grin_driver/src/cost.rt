@@ -5,7 +5,7 @@ ghost use Rattle.std.specs.Option.{option_map};
 ghost use Rattle.grin_io.specs.Changes.{sink_change};
 ghost use Rattle.grin_driver.specs.Costs.{IsCostOf, exec_cost, cost_line, cells_before, LineIsPrinted, LinesArePrinted, StatusAndCostArePrinted};
 
-use crate::standing::place;
+use crate::standing::no_alternative_line;
 use grin_compile::Built;
 use grin_io::Sink;
 use limits::HEAP_START;
@@ -82,7 +82,7 @@ impl Cost {
             status counts result }
     {
         let counts = counts?;
-        let place = place(&built.starts, &built.names, status, counts.link);
+        let place = no_alternative_line(&built.starts, &built.names, status, counts.link);
         Some(Cost {
             instructions: counts.instructions,
             cells: Some(cells_before(counts.next_cell, built.width, cells)),

@@ -55,7 +55,12 @@ fn named_at(starts: &[u32], names: &[Text], at: u32) -> Option<Note>
 
 /// The line for a run that ended so, with this in x5, which is 4 behind its last step in the code
 /// of procedures where it found no alternative.
-pub(crate) fn place(starts: &[u32], names: &[Text], status: Status, x5: u32) -> Option<Note>
+pub(crate) fn no_alternative_line(
+    starts: &[u32],
+    names: &[Text],
+    status: Status,
+    x5: u32,
+) -> Option<Note>
     requires { length starts.now ≡ length names.now }
     ensures { IsPlaceLine starts.now names.now status (x5 - 4) result }
 {

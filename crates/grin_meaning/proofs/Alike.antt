@@ -9,7 +9,7 @@ use Rattle.grin_syntax.specs.declared.program.Val.{Val}
 use Rattle.grin_syntax.specs.declared.program.Val.TheVariants.{NodeVar, Node as Node', Vector, One}
 use Rattle.grin_syntax.specs.declared.program.Word.{Word}
 use Rattle.grin_syntax.specs.declared.program.Word.TheVariants.{Lit, Var, Global, TagWord}
-use Rattle.grin_syntax.specs.Tree.{Code, end, store, bind, Act, unit, fetch, fetch_word, update, eval, apply, call, prim, read, write, case, nested, fail, Arms, no_arm, arm, Procedure, Program}
+use Rattle.grin_syntax.specs.Tree.{Code, end, store, bind, Act, Leaf, leaf, unit, fetch, fetch_word, update, eval, apply, call, prim, read, write, case, nested, fail, Arms, no_arm, arm, Procedure, Program}
 use Rattle.grin_meaning.specs.Values.{Datum, number, gives, Node, Value, node, words, Env, State, World, Answer, then_do, need, and_then, Binding, with_vars, MatchOutcome, fits, fits_not, unclear, fit_of, as_node, made_node, word_of, words_of, value_of, node_of, only_word, bindings_of}
 use Rattle.grin_meaning.specs.Run.{Calls, act, code, arms, choose, byte_or_end, after_read, with_state_seen, places, cells_of, with_cells, place_of, number_of, apply_arithmetic, eval_cell, updated, apply_part, is_fun_kind, is_part_kind, is_evaluated, part_from}
 use Rattle.grin_meaning.specs.Follows.{DepthComparison, other, Same, same, free, gives_too, stops_too}
@@ -17,7 +17,6 @@ use Rattle.grin_meaning.specs.Names.{WordOk, WordsOk, ValOk, CellsOk, ActOk}
 use Rattle.grin_meaning.proofs.Back.{Back, need_back, CallsBack, code_back, updated_back, every_front}
 use Rattle.grin_meaning.proofs.Related as related
 use Rattle.grin_meaning.proofs.Related.{CallsFollow, Setting, ActFollows, CodeFollows, ArmsFollow}
-use Rattle.grin_meaning.proofs.Plain.{IsLeaf}
 
 -- the second environment has what the first has for the variables that matter
 abbrev pub Agree : (ℕ → Type 0) → Env → Env → Type 0
@@ -117,25 +116,25 @@ module _ (s : Plain) where
       → Sim P K (code g c env d b (with_state_seen env w)) (code after c' env' d' b' (with_state_seen env' (other w ss e)))
   enter b b' f = related.enter (setting s) (Agree Ok) Same b b' f
 
-  pub unit_follows : (v : Val) → ValOk Ok v → ActLike (unit v) (unit v)
+  pub unit_follows : (v : Val) → ValOk Ok v → ActLike (leaf (unit v)) (leaf (unit v))
   unfolding act
   unit_follows v h = record { by = λ env env' d d' w ss e ag dd de at. rw (value_same g Ok env env' ag v h) (need_sim P K (value_of g env v) w (other w ss e) _ _ (λ x _. gives_too ss e same de)) }
 
-  pub fetch_follows : (a : Word) → WordOk Ok a → ActLike (fetch a) (fetch a)
+  pub fetch_follows : (a : Word) → WordOk Ok a → ActLike (leaf (fetch a)) (leaf (fetch a))
   unfolding act
   fetch_follows a h = record {
     by = λ env env' d d' w ss e ag dd de at. rw (word_same g Ok env env' ag a h)
         (need_sim P K (and_then (word_of g env a) place_of) w (other w ss e) _ _ (λ i. need_sim P K (slice_get w.cells i) w (other w ss e) _ _ (λ x _. gives_too ss e same de)));
   }
 
-  pub fetch_word_follows : (a : Word) (k : ℕ) → WordOk Ok a → ActLike (fetch_word a k) (fetch_word a k)
+  pub fetch_word_follows : (a : Word) (k : ℕ) → WordOk Ok a → ActLike (leaf (fetch_word a k)) (leaf (fetch_word a k))
   unfolding act
   fetch_word_follows a k h = record {
     by = λ env env' d d' w ss e ag dd de at. rw (word_same g Ok env env' ag a h)
         (need_sim P K (and_then (word_of g env a) place_of) w (other w ss e) _ _ (λ i. need_sim P K (slice_get w.cells i) w (other w ss e) _ _ (λ x _. gives_too ss e same de)));
   }
 
-  pub update_follows : (a : Word) (v : Val) → WordOk Ok a → ValOk Ok v → ActLike (update a v) (update a v)
+  pub update_follows : (a : Word) (v : Val) → WordOk Ok a → ValOk Ok v → ActLike (leaf (update a v)) (leaf (update a v))
   unfolding act
   update_follows a v h k = record {
     by = λ env env' d d' w ss e ag dd de at. rw (word_same g Ok env env' ag a h, node_same g Ok env env' ag v k)
@@ -147,14 +146,14 @@ module _ (s : Plain) where
   updated_sim a v w ss e de = need_sim P K (as_node g v) w (other w ss e) _ _ (λ n. need_sim P K (slice_get w.cells a) w (other w ss e) _ _ (λ x.
       cond_sim P K (is_evaluated g n) _ _ _ _ (λ _. gives_too ss e same de) (λ _. free)))
 
-  pub call_follows : (f : ProcId) (ws : List Word) → WordsOk Ok ws → ActLike (call f ws) (call f ws)
+  pub call_follows : (f : ProcId) (ws : List Word) → WordsOk Ok ws → ActLike (leaf (call f ws)) (leaf (call f ws))
   unfolding act
   call_follows f ws h = record {
     by = λ env env' d d' w ss e ag dd de at. rw (words_same g Ok env env' ag ws h)
         (need_sim P K (words_of g env ws) w (other w ss e) _ _ (λ xs. cf.by f.0 xs xs d d' w ss e same dd de));
   }
 
-  pub prim_follows : (f : PrimOp) (a b : Word) → WordOk Ok a → WordOk Ok b → ActLike (prim f a b) (prim f a b)
+  pub prim_follows : (f : PrimOp) (a b : Word) → WordOk Ok a → WordOk Ok b → ActLike (leaf (prim f a b)) (leaf (prim f a b))
   unfolding act
   prim_follows f a b h k = record {
     by = λ env env' d d' w ss e ag dd de at. rw (word_same g Ok env env' ag a h, word_same g Ok env env' ag b k)
@@ -167,18 +166,18 @@ module _ (s : Plain) where
   read_sim [] w ss e de = λ _. gives_too ss e same de
   read_sim (k ∷ rest) w ss e de = λ _. gives_too ss e same de
 
-  pub read_follows : ActLike read read
+  pub read_follows : ActLike (leaf read) (leaf read)
   unfolding act
   read_follows = record { by = λ env env' d d' w ss e ag dd de at. read_sim w.input w ss e de }
 
-  pub write_follows : (a : Word) → WordOk Ok a → ActLike (write a) (write a)
+  pub write_follows : (a : Word) → WordOk Ok a → ActLike (leaf (write a)) (leaf (write a))
   unfolding act
   write_follows a h = record {
     by = λ env env' d d' w ss e ag dd de at. rw (word_same g Ok env env' ag a h)
         (need_sim P K (and_then (word_of g env a) number_of) w (other w ss e) _ _ (λ k _. gives_too ss e same de));
   }
 
-  pub fail_follows : ActLike fail fail
+  pub fail_follows : ActLike (leaf fail) (leaf fail)
   unfolding act
   fail_follows = record { by = λ env env' d d' w ss e ag dd de at _. stops_too ss e de }
 
@@ -187,7 +186,7 @@ module _ (s : Plain) where
   part_sim d d' n x f (suc zero) w ss e dd de = cf.by f (n.fields ++ x ∷ []) (n.fields ++ x ∷ []) d d' w ss e same dd de
   part_sim d d' n x f (suc (suc r)) w ss e dd de = need_sim P K (part_from 0 g.tags f (suc r)) w (other w ss e) _ _ (λ t. need_sim P K (made_node g t (n.fields ++ x ∷ [])) w (other w ss e) _ _ (λ m _. gives_too ss e same de))
 
-  pub apply_follows : (v : Val) (a : Word) → ValOk Ok v → WordOk Ok a → ActLike (apply v a) (apply v a)
+  pub apply_follows : (v : Val) (a : Word) → ValOk Ok v → WordOk Ok a → ActLike (leaf (apply v a)) (leaf (apply v a))
   unfolding act
   apply_follows v a h k = record {
     by = λ env env' d d' w ss e ag dd de at. rw (node_same g Ok env env' ag v h, word_same g Ok env env' ag a k)
@@ -202,7 +201,7 @@ module _ (s : Plain) where
       (need_sim P K t.proc w (other w ss e) _ _ (λ f. then_sim P K (c f.0 x.node.fields (suc d) w) _ _ _ (updated_back P g c cb a) (cf.by f.0 x.node.fields x.node.fields (suc d) (suc d') w ss e same (K.up dd) de) (updated_sim a)))
       (λ _. gives_too ss e same de)))
 
-  pub eval_follows : (a : Word) → WordOk Ok a → ActLike (eval a) (eval a)
+  pub eval_follows : (a : Word) → WordOk Ok a → ActLike (leaf (eval a)) (leaf (eval a))
   unfolding act
   eval_follows a h = record {
     by = λ env env' d d' w ss e ag dd de at. rw (word_same g Ok env env' ag a h)
@@ -258,18 +257,16 @@ module _ (s : Plain) where
           (λ bs. enter b b' f (with_vars bs env) (with_vars bs env') d d' w ss e (vars_agree Ok bs env env' ag) dd de)
           (k.by env env' d d' v v w ss e same ag dd de at)
 
-  pub leaf_follows : (o : Act) → IsLeaf o → ActOk Ok o → ActLike o o
+  pub leaf_follows : (l : Leaf) → ActOk Ok (leaf l) → ActLike (leaf l) (leaf l)
   unfolding ActOk
-  leaf_follows (unit v) l h = unit_follows v h
-  leaf_follows (fetch a) l h = fetch_follows a h
-  leaf_follows (fetch_word a i) l h = fetch_word_follows a i h
-  leaf_follows (update a v) l h = update_follows a v h.0 h.1
-  leaf_follows (eval a) l h = eval_follows a h
-  leaf_follows (apply v a) l h = apply_follows v a h.0 h.1
-  leaf_follows (call f ws) l h = call_follows f ws h
-  leaf_follows (prim f a b) l h = prim_follows f a b h.0 h.1
-  leaf_follows read l h = read_follows
-  leaf_follows (write a) l h = write_follows a h
-  leaf_follows (case v as') l h = absurd l
-  leaf_follows (nested b) l h = absurd l
-  leaf_follows fail l h = fail_follows
+  leaf_follows (unit v) h = unit_follows v h
+  leaf_follows (fetch a) h = fetch_follows a h
+  leaf_follows (fetch_word a i) h = fetch_word_follows a i h
+  leaf_follows (update a v) h = update_follows a v h.0 h.1
+  leaf_follows (eval a) h = eval_follows a h
+  leaf_follows (apply v a) h = apply_follows v a h.0 h.1
+  leaf_follows (call f ws) h = call_follows f ws h
+  leaf_follows (prim f a b) h = prim_follows f a b h.0 h.1
+  leaf_follows read h = read_follows
+  leaf_follows (write a) h = write_follows a h
+  leaf_follows fail h = fail_follows

@@ -1,6 +1,6 @@
 -- The states that a run has passed through stay.
 use Rattle.std.proofs.Common.{ℕ, zero, suc, List, [], ◌∷◌, ◌++◌, length, Bool, true, false, cond, Option, Some, None, slice_get}
-use Rattle.grin_syntax.specs.Tree.{Code, end, store, bind, Act, unit, fetch, fetch_word, update, eval, apply, call, prim, read, write, case, nested, fail, Arms, no_arm, arm, Program}
+use Rattle.grin_syntax.specs.Tree.{Code, end, store, bind, Act, leaf, unit, fetch, fetch_word, update, eval, apply, call, prim, read, write, case, nested, fail, Arms, no_arm, arm, Program}
 use Rattle.grin_meaning.specs.Values.{Datum, number, words, Node, Value, Env, State, World, Answer, gives, stops, then_do, need, and_then, Binding, with_vars, one_each, MatchOutcome, fits, fits_not, unclear, fit_of, as_node, made_node, word_of, words_of, value_of, node_of, bindings_of}
 use Rattle.grin_meaning.specs.Run.{Calls, act_by, code_by, arms_by, code, calls, calls_by, require_if_checked, require_value_if_checked, choose, byte_or_end, after_read, spend, spent, with_state_seen, places, cells_of, with_cells, place_of, number_of, apply_arithmetic, eval_cell, updated, apply_node, apply_part, is_fun_kind, is_part_kind, is_evaluated, part_from}
 use Rattle.grin_meaning.specs.Keeps.{world_of}
@@ -79,19 +79,19 @@ module _ (P : State → Type 0) where
         unfolding act_by
 
         pub act_back : (env : Env) (d : ℕ) (o : Act) (w : World) → Back w (act_by p c looks env d o w)
-        act_back env d (unit v) w = need_back (value_of p env v) w _ (λ x. looking_back looks _ w _ (λ e. e))
-        act_back env d (fetch a) w = need_back (and_then (word_of p env a) place_of) w _ (λ i. need_back (slice_get w.cells i) w _ (λ x e. e))
-        act_back env d (fetch_word a k) w = need_back (and_then (word_of p env a) place_of) w _ (λ i. need_back (slice_get w.cells i) w _ (λ x e. e))
-        act_back env d (update a v) w = need_back (and_then (word_of p env a) place_of) w _ (λ i. need_back (slice_get w.cells i) w _ (λ x. need_back (node_of p env v) w _ (λ n. looking_back looks _ w _ (λ e. e))))
-        act_back env d (eval a) w = need_back (and_then (word_of p env a) place_of) w _ (λ i. eval_back d i w)
-        act_back env d (apply v a) w = need_back (node_of p env v) w _ (λ n. need_back (word_of p env a) w _ (λ x. apply_back d n x w))
-        act_back env d (call f ws) w = need_back (words_of p env ws) w _ (λ xs. cb.by f.0 xs d w)
-        act_back env d (prim f a b) w = need_back (word_of p env a) w _ (λ x. need_back (word_of p env b) w _ (λ y. need_back (apply_arithmetic f x y) w _ (λ v e. e)))
-        act_back env d read w = read_back w.input w
-        act_back env d (write a) w = need_back (and_then (word_of p env a) number_of) w _ (λ k e. e)
+        act_back env d (leaf (unit v)) w = need_back (value_of p env v) w _ (λ x. looking_back looks _ w _ (λ e. e))
+        act_back env d (leaf (fetch a)) w = need_back (and_then (word_of p env a) place_of) w _ (λ i. need_back (slice_get w.cells i) w _ (λ x e. e))
+        act_back env d (leaf (fetch_word a k)) w = need_back (and_then (word_of p env a) place_of) w _ (λ i. need_back (slice_get w.cells i) w _ (λ x e. e))
+        act_back env d (leaf (update a v)) w = need_back (and_then (word_of p env a) place_of) w _ (λ i. need_back (slice_get w.cells i) w _ (λ x. need_back (node_of p env v) w _ (λ n. looking_back looks _ w _ (λ e. e))))
+        act_back env d (leaf (eval a)) w = need_back (and_then (word_of p env a) place_of) w _ (λ i. eval_back d i w)
+        act_back env d (leaf (apply v a)) w = need_back (node_of p env v) w _ (λ n. need_back (word_of p env a) w _ (λ x. apply_back d n x w))
+        act_back env d (leaf (call f ws)) w = need_back (words_of p env ws) w _ (λ xs. cb.by f.0 xs d w)
+        act_back env d (leaf (prim f a b)) w = need_back (word_of p env a) w _ (λ x. need_back (word_of p env b) w _ (λ y. need_back (apply_arithmetic f x y) w _ (λ v e. e)))
+        act_back env d (leaf read) w = read_back w.input w
+        act_back env d (leaf (write a)) w = need_back (and_then (word_of p env a) number_of) w _ (λ k e. e)
         act_back env d (case v as') w = need_back (value_of p env v) w _ (λ x. arms_back env d x as' w)
         act_back env d (nested b) w = code_by_back env d b w
-        act_back env d fail w = λ e. e
+        act_back env d (leaf fail) w = λ e. e
 
         pub code_by_back : (env : Env) (d : ℕ) (b : Code) (w : World) → Back w (code_by p c looks env d b w)
         code_by_back env d (end o) w = act_back env d o w

@@ -12,7 +12,7 @@ use Rattle.grin_syntax.specs.declared.program.Shape.{Shape}
 use Rattle.grin_syntax.specs.declared.program.Shape.TheVariants.{Node as NodeShape, Int, Else}
 use Rattle.grin_syntax.specs.declared.program.Val as V
 use Rattle.grin_syntax.specs.declared.program.Val.TheVariants.{NodeVar, Node as NodeVal, Vector as VectorVal, One as OneVal}
-use Rattle.grin_syntax.specs.Tree.{Code, end, store, bind, Act, unit, fetch, fetch_word, update, eval, apply, call, prim, read, write, case, nested, fail, Arms, no_arm, arm, Program}
+use Rattle.grin_syntax.specs.Tree.{Code, end, store, bind, Act, leaf, unit, fetch, fetch_word, update, eval, apply, call, prim, read, write, case, nested, fail, Arms, no_arm, arm, Program}
 use Rattle.grin_syntax.specs.Formed.{AllOf, GlobalFormed, Formed}
 use Rattle.grin_meaning.specs.Values.{Datum, number, tag, cell, Node, Value, node, words, Env, HeapCell, State, World, missing, Answer, gives, stops, then_do, need, and_then, Binding, with_vars, one_each, padded, MatchOutcome, fits, fits_not, unclear, fields_fit, number_fit, fit_of, fields_of, made_node, as_node, word_of, words_of, value_of, node_of, bindings_of}
 use Rattle.grin_meaning.specs.Run.{Calls, act_by, code_by, arms_by, calls_by, run_by, require_if_checked, require_value_if_checked, choose, byte_or_end, after_read, spend, spent, with_state_seen, places, place_of, number_of, apply_arithmetic, cells_of, with_cells, with_node, eval_cell, updated, apply_node, apply_part, is_fun_kind, is_part_kind, is_evaluated, part_from, start_words, start_world}
@@ -254,20 +254,20 @@ module _ (p : Program) where
         unfolding act_by
 
         act_full : (env : Env) (d : ℕ) (o : Act) (w : World) → EnvFull env → WorldFull w → AnswerFull (act_by p c looks env d o w)
-        act_full env d (unit v) w e f = need_full (FullValue p) (value_of p env v) w _ f (value_full env e v) (λ x h. looking_full looks (fills p env v) w _ f (h, f))
-        act_full env d (fetch a) w e f = need_any (and_then (word_of p env a) place_of) w _ f (λ i. need_full (FullCell p) (slice_get w.cells i) w _ f (if_get (FullCell p) w.cells i f.cells) (λ x h. (h, f)))
-        act_full env d (fetch_word a k) w e f = need_any (and_then (word_of p env a) place_of) w _ f (λ i. need_any (slice_get w.cells i) w _ f (λ x. (tt, f)))
-        act_full env d (update a v) w e f = need_any (and_then (word_of p env a) place_of) w _ f (λ i. need_any (slice_get w.cells i) w _ f (λ x. need_full (FullNode p) (node_of p env v) w _ f (node_full env e v) (λ n h.
+        act_full env d (leaf (unit v)) w e f = need_full (FullValue p) (value_of p env v) w _ f (value_full env e v) (λ x h. looking_full looks (fills p env v) w _ f (h, f))
+        act_full env d (leaf (fetch a)) w e f = need_any (and_then (word_of p env a) place_of) w _ f (λ i. need_full (FullCell p) (slice_get w.cells i) w _ f (if_get (FullCell p) w.cells i f.cells) (λ x h. (h, f)))
+        act_full env d (leaf (fetch_word a k)) w e f = need_any (and_then (word_of p env a) place_of) w _ f (λ i. need_any (slice_get w.cells i) w _ f (λ x. (tt, f)))
+        act_full env d (leaf (update a v)) w e f = need_any (and_then (word_of p env a) place_of) w _ f (λ i. need_any (slice_get w.cells i) w _ f (λ x. need_full (FullNode p) (node_of p env v) w _ f (node_full env e v) (λ n h.
             looking_full looks (fills p env v) w _ f (tt, with_node_full i n x w h f))))
-        act_full env d (eval a) w e f = need_any (and_then (word_of p env a) place_of) w _ f (λ i. eval_full d i w f)
-        act_full env d (apply v a) w e f = need_any (node_of p env v) w _ f (λ n. need_any (word_of p env a) w _ f (λ x. apply_full d n x w f))
-        act_full env d (call q ws) w e f = need_any (words_of p env ws) w _ f (λ xs. cf.by q.0 xs d w f)
-        act_full env d (prim q a b) w e f = need_any (word_of p env a) w _ f (λ x. need_any (word_of p env b) w _ f (λ y. need_full (FullValue p) (apply_arithmetic q x y) w _ f (on_numbers_full q x y) (λ v h. (h, f))))
-        act_full env d read w e f = read_full w.input w f
-        act_full env d (write a) w e f = need_any (and_then (word_of p env a) number_of) w _ f (λ k. (tt, record { cells = f.cells; seen = f.seen }))
+        act_full env d (leaf (eval a)) w e f = need_any (and_then (word_of p env a) place_of) w _ f (λ i. eval_full d i w f)
+        act_full env d (leaf (apply v a)) w e f = need_any (node_of p env v) w _ f (λ n. need_any (word_of p env a) w _ f (λ x. apply_full d n x w f))
+        act_full env d (leaf (call q ws)) w e f = need_any (words_of p env ws) w _ f (λ xs. cf.by q.0 xs d w f)
+        act_full env d (leaf (prim q a b)) w e f = need_any (word_of p env a) w _ f (λ x. need_any (word_of p env b) w _ f (λ y. need_full (FullValue p) (apply_arithmetic q x y) w _ f (on_numbers_full q x y) (λ v h. (h, f))))
+        act_full env d (leaf read) w e f = read_full w.input w f
+        act_full env d (leaf (write a)) w e f = need_any (and_then (word_of p env a) number_of) w _ f (λ k. (tt, record { cells = f.cells; seen = f.seen }))
         act_full env d (case v as') w e f = need_any (value_of p env v) w _ f (λ x. arms_full env d x as' w e f)
         act_full env d (nested b) w e f = code_full env d b w e f
-        act_full env d fail w e f = f
+        act_full env d (leaf fail) w e f = f
 
         code_full : (env : Env) (d : ℕ) (b : Code) (w : World) → EnvFull env → WorldFull w → AnswerFull (code_by p c looks env d b w)
         code_full env d (end o) w e f = act_full env d o w e f

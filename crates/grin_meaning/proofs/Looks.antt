@@ -4,7 +4,7 @@ use Rattle.seq.proofs.Lists.{all_get}
 use Rattle.seq.proofs.Truth.{true_not_false, and_from}
 use Rattle.grin_syntax.specs.declared.program.Target.{Target}
 use Rattle.grin_syntax.specs.declared.program.Target.TheVariants as to
-use Rattle.grin_syntax.specs.Tree.{Code, end, store, bind, Act, unit, fetch, fetch_word, update, eval, apply, call, prim, read, write, case, nested, fail, Arms, no_arm, arm, Procedure, Program}
+use Rattle.grin_syntax.specs.Tree.{Code, end, store, bind, Act, leaf, unit, fetch, fetch_word, update, eval, apply, call, prim, read, write, case, nested, fail, Arms, no_arm, arm, Procedure, Program}
 use Rattle.grin_meaning.specs.Values.{Datum, Value, Env, World, missing, Answer, gives, stops, then_do, need, and_then, Binding, with_vars, one_each, MatchOutcome, fits, fits_not, unclear, fit_of, word_of, words_of, value_of, node_of, bindings_of}
 use Rattle.grin_meaning.specs.Checks.{has_block, is_fetch, is_node_target, is_given, not_delayed, is_bound_well}
 use Rattle.grin_meaning.specs.Run.{act, act_by, code, code_by, arms, arms_by, calls, calls_by, run, run_by, require_if_checked, require_value_if_checked, choose, spend, spent, with_state_seen, places, place_of, cells_of, with_cells, start_words, start_world}
@@ -54,7 +54,7 @@ module _ (g : Program) where
   blocks _ h = true_not_false (sym h)
 
   pub not_fetch : (o : Act) → not (is_fetch o) ≡ true → NotFetch g o
-  not_fetch (fetch a) h = true_not_false (sym h)
+  not_fetch (leaf (fetch a)) h = true_not_false (sym h)
   not_fetch _ h = tt
 
 module _ (g : Program) (i : List ℕ) (n : ℕ) (inlined : IsInlined g) (well : RunsWell g i n) where
@@ -75,20 +75,20 @@ module _ (g : Program) (i : List ℕ) (n : ℕ) (inlined : IsInlined g) (well : 
       unfolding act EachAct
 
       act_seen : (env : Env) (d : ℕ) (o : Act) (w : World) → EachAct inlined_kind o → Does g i n m env d o w → act_by g (calls_by g true m) true env d o w ≡ act g (calls g m) env d o w
-      act_seen env d (unit v) w k r = need_same (value_of g env v) w _ _ (λ x _. looking_same _ w _ _ (fills-so g env v (well.units m d env v w r)) refl)
-      act_seen env d (fetch a) w k r = refl
-      act_seen env d (fetch_word a x) w k r = refl
-      act_seen env d (update a v) w k r = need_same (and_then (word_of g env a) place_of) w _ _ (λ x _. need_same (slice_get w.cells x) w _ _ (λ c _. need_same (node_of g env v) w _ _ (λ y _.
+      act_seen env d (leaf (unit v)) w k r = need_same (value_of g env v) w _ _ (λ x _. looking_same _ w _ _ (fills-so g env v (well.units m d env v w r)) refl)
+      act_seen env d (leaf (fetch a)) w k r = refl
+      act_seen env d (leaf (fetch_word a x)) w k r = refl
+      act_seen env d (leaf (update a v)) w k r = need_same (and_then (word_of g env a) place_of) w _ _ (λ x _. need_same (slice_get w.cells x) w _ _ (λ c _. need_same (node_of g env v) w _ _ (λ y _.
           looking_same _ w _ _ (fills-so g env v (well.updates m d env a v w r)) refl)))
-      act_seen env d (eval a) w k r = absurd k
-      act_seen env d (apply v a) w k r = absurd k.0
-      act_seen env d (call f ws) w k r = need_same (words_of g env ws) w _ _ (λ xs e. seen.by f.0 xs d w (by_call r e))
-      act_seen env d (prim f a b) w k r = refl
-      act_seen env d read w k r = refl
-      act_seen env d (write a) w k r = refl
+      act_seen env d (leaf (eval a)) w k r = absurd k
+      act_seen env d (leaf (apply v a)) w k r = absurd k.0
+      act_seen env d (leaf (call f ws)) w k r = need_same (words_of g env ws) w _ _ (λ xs e. seen.by f.0 xs d w (by_call r e))
+      act_seen env d (leaf (prim f a b)) w k r = refl
+      act_seen env d (leaf read) w k r = refl
+      act_seen env d (leaf (write a)) w k r = refl
       act_seen env d (case v as') w k r = need_same (value_of g env v) w _ _ (λ x e. arms_seen env d x as' w k.2 (of_case r e))
       act_seen env d (nested b) w k r = code_seen env d b w k.1 (within r)
-      act_seen env d fail w k r = refl
+      act_seen env d (leaf fail) w k r = refl
 
       code_seen : (env : Env) (d : ℕ) (b : Code) (w : World) → EachCode inlined_kind b → Runs g i n m env d b w → code_by g (calls_by g true m) true env d b w ≡ code g (calls g m) env d b w
       code_seen env d (end o) w k r = act_seen env d o w k (last r)

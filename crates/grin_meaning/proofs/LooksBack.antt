@@ -8,7 +8,7 @@ use Rattle.grin_syntax.specs.declared.program.Target.{Target}
 use Rattle.grin_syntax.specs.declared.program.Target.TheVariants as to
 use Rattle.grin_syntax.specs.declared.program.Val.{Val}
 use Rattle.grin_syntax.specs.declared.program.Word.{Word}
-use Rattle.grin_syntax.specs.Tree.{Code, end, store, bind, Act, unit, fetch, fetch_word, update, eval, apply, call, prim, read, write, case, nested, fail, Arms, no_arm, arm, Procedure, Program}
+use Rattle.grin_syntax.specs.Tree.{Code, end, store, bind, Act, leaf, unit, fetch, fetch_word, update, eval, apply, call, prim, read, write, case, nested, fail, Arms, no_arm, arm, Procedure, Program}
 use Rattle.grin_meaning.specs.Values.{Datum, words, Node, Value, Env, HeapCell, World, missing, Answer, gives, stops, then_do, need, and_then, Binding, with_vars, one_each, MatchOutcome, fits, fits_not, unclear, fit_of, word_of, words_of, value_of, node_of, bindings_of}
 use Rattle.grin_meaning.specs.Checks.{is_given, fills, all_fill, has_block, is_fetch, is_bound_well}
 use Rattle.grin_meaning.specs.Run.{Calls, act, act_by, code, code_by, arms, arms_by, calls, calls_by, run, run_by, require_if_checked, require_value_if_checked, choose, spend, spent, with_state_seen, places, place_of, cells_of, with_cells, with_node, eval_cell, apply_node, apply_part, is_fun_kind, is_part_kind, start_words, start_world}
@@ -86,20 +86,20 @@ module _ (g : Program) where
       unfolding act
 
       act_agrees : (env : Env) (d : ℕ) (o : Act) (w : World) → Agrees (act_by g c true env d o w) (act g c' env d o w)
-      act_agrees env d (unit v) w = need_agrees (value_of g env v) w _ _ (λ x. looking_agrees (fills g env v) w _ _ (λ _. refl))
-      act_agrees env d (fetch a) w = λ _. refl
-      act_agrees env d (fetch_word a k) w = λ _. refl
-      act_agrees env d (update a v) w = need_agrees (and_then (word_of g env a) place_of) w _ _ (λ i. need_agrees (slice_get w.cells i) w _ _ (λ x. need_agrees (node_of g env v) w _ _ (λ n.
+      act_agrees env d (leaf (unit v)) w = need_agrees (value_of g env v) w _ _ (λ x. looking_agrees (fills g env v) w _ _ (λ _. refl))
+      act_agrees env d (leaf (fetch a)) w = λ _. refl
+      act_agrees env d (leaf (fetch_word a k)) w = λ _. refl
+      act_agrees env d (leaf (update a v)) w = need_agrees (and_then (word_of g env a) place_of) w _ _ (λ i. need_agrees (slice_get w.cells i) w _ _ (λ x. need_agrees (node_of g env v) w _ _ (λ n.
           looking_agrees (fills g env v) w _ _ (λ _. refl))))
-      act_agrees env d (eval a) w = need_agrees (and_then (word_of g env a) place_of) w _ _ (λ i. eval_agrees d i w)
-      act_agrees env d (apply v a) w = need_agrees (node_of g env v) w _ _ (λ n. need_agrees (word_of g env a) w _ _ (λ x. apply_agrees d n x w))
-      act_agrees env d (call f ws) w = need_agrees (words_of g env ws) w _ _ (λ xs. ca.by f.0 xs d w)
-      act_agrees env d (prim f a b) w = λ _. refl
-      act_agrees env d read w = λ _. refl
-      act_agrees env d (write a) w = λ _. refl
+      act_agrees env d (leaf (eval a)) w = need_agrees (and_then (word_of g env a) place_of) w _ _ (λ i. eval_agrees d i w)
+      act_agrees env d (leaf (apply v a)) w = need_agrees (node_of g env v) w _ _ (λ n. need_agrees (word_of g env a) w _ _ (λ x. apply_agrees d n x w))
+      act_agrees env d (leaf (call f ws)) w = need_agrees (words_of g env ws) w _ _ (λ xs. ca.by f.0 xs d w)
+      act_agrees env d (leaf (prim f a b)) w = λ _. refl
+      act_agrees env d (leaf read) w = λ _. refl
+      act_agrees env d (leaf (write a)) w = λ _. refl
       act_agrees env d (case v as') w = need_agrees (value_of g env v) w _ _ (λ x. arms_agree env d x as' w)
       act_agrees env d (nested b) w = code_agrees env d b w
-      act_agrees env d fail w = λ _. refl
+      act_agrees env d (leaf fail) w = λ _. refl
 
       code_agrees : (env : Env) (d : ℕ) (b : Code) (w : World) → Agrees (code_by g c true env d b w) (code g c' env d b w)
       code_agrees env d (end o) w = act_agrees env d o w
@@ -206,7 +206,7 @@ module _ (g : Program) (i : List ℕ) (n : ℕ) (never : Goes (run_by g true i n
   unfolding run_by
   starts = never
 
-  on_call : (m d : ℕ) (env : Env) (f : ProcId) (ws : List Word) (w : World) (xs : List Datum) → words_of g env ws ≡ Some xs → Goes (act_by g (L m) true env d (call f ws) w) → Goes (L m f.0 xs d w)
+  on_call : (m d : ℕ) (env : Env) (f : ProcId) (ws : List Word) (w : World) (xs : List Datum) → words_of g env ws ≡ Some xs → Goes (act_by g (L m) true env d (leaf (call f ws)) w) → Goes (L m f.0 xs d w)
   unfolding act
   on_call m d env f ws w xs e go = subst Goes (ap (λ o. need o w (λ xs. L m f.0 xs d w)) e) go
 
@@ -287,17 +287,17 @@ module _ (g : Program) (i : List ℕ) (n : ℕ) (never : Goes (run_by g true i n
   has_block-so _ h = absurd h
 
   is_fetch-not : (o : Act) → NotFetch g o → not (is_fetch o) ≡ true
-  is_fetch-not (fetch a) h = absurd h
+  is_fetch-not (leaf (fetch a)) h = absurd h
   is_fetch-not _ h = refl
 
   looked_at : (m d : ℕ) (env : Env) (t : Target) (o : Act) (b : Code) (w w' : World) (v : Value) → Runs g i n m env d (bind t o b) w → act g (calls g m) env (suc d) o w ≡ gives v w' → is_bound_well g t o v ≡ true
   looked_at m d env t o b w w' v r e = looked (is_bound_well g t o v) w' _ (bound_value m d env t o b w w' v e (runs_goes r))
 
-  unit_looked : (m d : ℕ) (env : Env) (v : Val) (w : World) → Goes (act_by g (L m) true env d (unit v) w) → fills g env v ≡ true
+  unit_looked : (m d : ℕ) (env : Env) (v : Val) (w : World) → Goes (act_by g (L m) true env d (leaf (unit v)) w) → fills g env v ≡ true
   unfolding act
   unit_looked m d env v w go = need_looked (value_of g env v) w (fills g env v) (λ x. gives x w) go
 
-  update_looked : (m d : ℕ) (env : Env) (a : Word) (v : Val) (w : World) → Goes (act_by g (L m) true env d (update a v) w) → fills g env v ≡ true
+  update_looked : (m d : ℕ) (env : Env) (a : Word) (v : Val) (w : World) → Goes (act_by g (L m) true env d (leaf (update a v)) w) → fills g env v ≡ true
   unfolding act
   update_looked m d env a v w go = need_went (and_then (word_of g env a) place_of) w _ _ (λ x. need_went (slice_get w.cells x) w _ _ (λ c. need_looked (node_of g env v) w (fills g env v) (λ y. gives (words []) (with_node x y c w)))) go
 

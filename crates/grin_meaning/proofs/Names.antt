@@ -5,7 +5,7 @@ use Rattle.grin_syntax.specs.declared.program.Val.{Val}
 use Rattle.grin_syntax.specs.declared.program.Val.TheVariants.{NodeVar, Node, Vector, One}
 use Rattle.grin_syntax.specs.declared.program.Word.{Word}
 use Rattle.grin_syntax.specs.declared.program.Word.TheVariants.{Var}
-use Rattle.grin_syntax.specs.Tree.{Code, end, store, bind, Act, unit, fetch, fetch_word, update, eval, apply, call, prim, read, write, case, nested, fail, Arms, no_arm, arm, Procedure}
+use Rattle.grin_syntax.specs.Tree.{Code, end, store, bind, Act, leaf, unit, fetch, fetch_word, update, eval, apply, call, prim, read, write, case, nested, fail, Arms, no_arm, arm, Procedure}
 use Rattle.grin_meaning.specs.Names.{WordOk, WordsOk, ValOk, CellsOk, ActOk, CodeOk, ArmsOk, ProcsOk}
 
 abbrev pub Any : ℕ → Type 0
@@ -33,19 +33,19 @@ mutual
   unfolding ActOk
 
   pub any_act : (o : Act) → ActOk Any o
-  any_act (unit v) = any_val v
-  any_act (fetch a) = any_word a
-  any_act (fetch_word a i) = any_word a
-  any_act (update a v) = (any_word a, any_val v)
-  any_act (eval a) = any_word a
-  any_act (apply v a) = (any_val v, any_word a)
-  any_act (call f ws) = any_words ws
-  any_act (prim f a b) = (any_word a, any_word b)
-  any_act read = tt
-  any_act (write a) = any_word a
+  any_act (leaf (unit v)) = any_val v
+  any_act (leaf (fetch a)) = any_word a
+  any_act (leaf (fetch_word a i)) = any_word a
+  any_act (leaf (update a v)) = (any_word a, any_val v)
+  any_act (leaf (eval a)) = any_word a
+  any_act (leaf (apply v a)) = (any_val v, any_word a)
+  any_act (leaf (call f ws)) = any_words ws
+  any_act (leaf (prim f a b)) = (any_word a, any_word b)
+  any_act (leaf read) = tt
+  any_act (leaf (write a)) = any_word a
   any_act (case v as') = (any_val v, any_arms as')
   any_act (nested b) = any_code b
-  any_act fail = tt
+  any_act (leaf fail) = tt
 
   pub any_code : (b : Code) → CodeOk Any b
   any_code (end o) = any_act o

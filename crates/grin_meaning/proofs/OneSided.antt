@@ -4,7 +4,7 @@ use Rattle.seq.proofs.Truth.{false_not_true}
 use Rattle.grin_syntax.specs.declared.program.Shape.{Shape}
 use Rattle.grin_syntax.specs.declared.program.Target.{Target}
 use Rattle.grin_syntax.specs.declared.program.Val.{Val}
-use Rattle.grin_syntax.specs.Tree.{Code, bind, Act, unit, fetch, fetch_word, update, eval, apply, call, prim, read, write, case, nested, fail, Arms, no_arm, arm}
+use Rattle.grin_syntax.specs.Tree.{Code, bind, Act, leaf, unit, fetch, fetch_word, update, eval, apply, call, prim, read, write, case, nested, fail, Arms, no_arm, arm}
 use Rattle.grin_meaning.specs.Values.{Value, Env, HeapCell, World, missing, Answer, gives, stops, then_do, need, and_then, Binding, with_vars, MatchOutcome, fits, fits_not, unclear, fit_of, word_of, value_of, bindings_of}
 use Rattle.grin_meaning.specs.Run.{act_by, code_by, arms_by, require_if_checked, choose, with_state_seen, place_of, apply_arithmetic}
 use Rattle.grin_meaning.specs.Checks.{is_bound_well}
@@ -31,19 +31,19 @@ module _ (s : Setting) where
 
   still : (env : Env) (d : ℕ) (o : Act) (w : World) → HasNoEffect o → Still w (act_by g c looks env d o w)
   unfolding act_by
-  still env d (unit v) w l = need_still (value_of g env v) w _ (λ y. looking_still looks _ w _ (there y))
-  still env d (fetch a) w l = need_still (and_then (word_of g env a) place_of) w _ (λ i. need_still (slice_get w.cells i) w _ (λ y. there _))
-  still env d (fetch_word a k) w l = need_still (and_then (word_of g env a) place_of) w _ (λ i. need_still (slice_get w.cells i) w _ (λ y. there _))
-  still env d (prim q a b) w l = need_still (word_of g env a) w _ (λ x. need_still (word_of g env b) w _ (λ y. need_still (apply_arithmetic q x y) w _ there))
-  still env d (update a v) w l = absurd l
-  still env d (eval a) w l = absurd l
-  still env d (apply v a) w l = absurd l
-  still env d (call f ws) w l = absurd l
-  still env d read w l = absurd l
-  still env d (write a) w l = absurd l
+  still env d (leaf (unit v)) w l = need_still (value_of g env v) w _ (λ y. looking_still looks _ w _ (there y))
+  still env d (leaf (fetch a)) w l = need_still (and_then (word_of g env a) place_of) w _ (λ i. need_still (slice_get w.cells i) w _ (λ y. there _))
+  still env d (leaf (fetch_word a k)) w l = need_still (and_then (word_of g env a) place_of) w _ (λ i. need_still (slice_get w.cells i) w _ (λ y. there _))
+  still env d (leaf (prim q a b)) w l = need_still (word_of g env a) w _ (λ x. need_still (word_of g env b) w _ (λ y. need_still (apply_arithmetic q x y) w _ there))
+  still env d (leaf (update a v)) w l = absurd l
+  still env d (leaf (eval a)) w l = absurd l
+  still env d (leaf (apply v a)) w l = absurd l
+  still env d (leaf (call f ws)) w l = absurd l
+  still env d (leaf read) w l = absurd l
+  still env d (leaf (write a)) w l = absurd l
   still env d (case v as') w l = absurd l
   still env d (nested b) w l = absurd l
-  still env d fail w l = absurd l
+  still env d (leaf fail) w l = absurd l
 
   looked_first : {A : Type 0} (V : Value → Value → Type 0) (looks b : Bool) (o : Option A) (w : World) (k : A → Answer) (a' : Answer) → ((a : A) → o ≡ Some a → Seen looks b → Sim P K V (k a) a') → Sim P K V (require_if_checked looks b w (need o w k)) a'
   looked_first V false b o w k a' f = need_first P K V o w k a' (λ a e. f a e (λ l. false_not_true l))

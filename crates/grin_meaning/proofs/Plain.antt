@@ -8,7 +8,7 @@ use Rattle.grin_syntax.specs.declared.program.Val.{Val}
 use Rattle.grin_syntax.specs.declared.program.Val.TheVariants.{NodeVar, Node as Node', Vector, One}
 use Rattle.grin_syntax.specs.declared.program.Word.{Word}
 use Rattle.grin_syntax.specs.declared.program.Word.TheVariants.{Lit, Var, Global, TagWord}
-use Rattle.grin_syntax.specs.Tree.{Code, store, bind, Act, unit, fetch, fetch_word, update, eval, apply, call, prim, read, write, case, nested, fail, Arms, no_arm, arm, Program}
+use Rattle.grin_syntax.specs.Tree.{Code, store, bind, Act, Leaf, leaf, unit, fetch, fetch_word, update, eval, apply, call, prim, read, write, case, fail, Arms, no_arm, arm, Program}
 use Rattle.grin_meaning.specs.Values.{Datum, Node, Value, words, Env, HeapCell, World, and_then, Binding, with_vars, fits, fit_of, word_of, words_of, value_of, node_of, made_node, as_node, only_word, bindings_of}
 use Rattle.grin_meaning.specs.Checks.{is_none_or, is_filled, fills, all_fill, is_bound_well}
 use Rattle.grin_meaning.specs.Run.{act_by, places, cells_of, place_of, updated, apply_part, is_fun_kind, is_part_kind, is_evaluated, part_from}
@@ -97,12 +97,6 @@ module _ (g : Program) (Ok : ℕ → Type 0) (env env' : Env) (has : Has Ok env 
 
 -- ---- operations
 
--- an operation that has no block
-abbrev pub IsLeaf : Act → Type 0
-IsLeaf (case v as') = ⊥
-IsLeaf (nested b) = ⊥
-IsLeaf _ = Unit {0}
-
 pub same_is : {A : Type 0} {a b : A} → Same a b → b ≡ a
 same_is same = refl
 
@@ -148,16 +142,16 @@ module _ (s : Setting) (pl : IsPlain s.plan) (rd : Reading) where
     there = ap (λ c. slice_get c i) (cells_same x.b) ∙ q;
   }
 
-  pub unit_same : (v : Val) → ValOk Ok v → ActFollows s R Same (unit v) (unit v)
+  pub unit_same : (v : Val) → ValOk Ok v → ActFollows s R Same (leaf (unit v)) (leaf (unit v))
   unit_same v ok = unit_follows s v v (λ x y e seen. (λ l. fills_too g Ok x.env x.env' (has x) v ok y e ∙ seen l, y, value_has g Ok x.env x.env' (has x) v ok y e, same))
 
-  pub fetch_same : (a : Word) → WordOk Ok a → ActFollows s R Same (fetch a) (fetch a)
+  pub fetch_same : (a : Word) → WordOk Ok a → ActFollows s R Same (leaf (fetch a)) (leaf (fetch a))
   fetch_same a ok = fetch_follows s a a (λ x i y e q. (cell_too x a ok i y e q, same))
 
-  pub fetch_word_same : (a : Word) (k : ℕ) → WordOk Ok a → ActFollows s R Same (fetch_word a k) (fetch_word a k)
+  pub fetch_word_same : (a : Word) (k : ℕ) → WordOk Ok a → ActFollows s R Same (leaf (fetch_word a k)) (leaf (fetch_word a k))
   fetch_word_same a k ok = fetch_word_follows s a a k k (λ x i y e q. (cell_too x a ok i y e q, same))
 
-  pub update_same : (a : Word) (v : Val) → WordOk Ok a → ValOk Ok v → ActFollows s R Same (update a v) (update a v)
+  pub update_same : (a : Word) (v : Val) → WordOk Ok a → ValOk Ok v → ActFollows s R Same (leaf (update a v)) (leaf (update a v))
   update_same a v ok okv = update_follows s a a v v same (λ x i y e q. (
     cell_too x a ok i y e q,
     λ n m seen. record {
@@ -168,8 +162,8 @@ module _ (s : Setting) (pl : IsPlain s.plan) (rd : Reading) where
     },
   ))
 
-  pub call_same : (f : ProcId) (ws : List Word) → WordsOk Ok ws → ActFollows s R Same (call f ws) (call f ws)
-  call_same f ws ok = act_more s (call f ws) (call f ws) (λ c env env' r. r) (pl.results f.0) (call_follows s f ws ws (λ x xs e. (xs, words_have g Ok x.env x.env' (has x) ws ok xs e, pl.args f.0 xs)))
+  pub call_same : (f : ProcId) (ws : List Word) → WordsOk Ok ws → ActFollows s R Same (leaf (call f ws)) (leaf (call f ws))
+  call_same f ws ok = act_more s (leaf (call f ws)) (leaf (call f ws)) (λ c env env' r. r) (pl.results f.0) (call_follows s f ws ws (λ x xs e. (xs, words_have g Ok x.env x.env' (has x) ws ok xs e, pl.args f.0 xs)))
 
   updated_same : (i : ℕ) {v v' : Value} → Same v v' → (w : World) (b : Beside K w) → Sim P K Same (updated g c i v w) (updated g c' i v' (beside b))
   updated_same i (same {a = v}) w b = need_both P K Same (as_node g v) w (beside b) _ _ (λ n _. need_sim P K Same (slice_get w.cells i) (slice_get b.cells i) w (beside b) _ _ (λ y q. (
@@ -185,7 +179,7 @@ module _ (s : Setting) (pl : IsPlain s.plan) (rd : Reading) where
         }) same) (λ _. free),
   )))
 
-  pub eval_same : (a : Word) → WordOk Ok a → ActFollows s R Same (eval a) (eval a)
+  pub eval_same : (a : Word) → WordOk Ok a → ActFollows s R Same (leaf (eval a)) (leaf (eval a))
   unfolding act_by
   eval_same a ok = record {
     by = λ x. cell_sim s {V = Same} a a x _ _ (λ i y e q. (
@@ -202,7 +196,7 @@ module _ (s : Setting) (pl : IsPlain s.plan) (rd : Reading) where
   part_same d d' n y f (suc zero) w b nest = sim_more P K (Result f) Same _ _ (pl.results f) (cf.by f (n.fields ++ y ∷ []) (n.fields ++ y ∷ []) d d' w b (pl.args f _) nest)
   part_same d d' n y f (suc (suc r)) w b nest = need_both P K Same (part_from 0 g.tags f (suc r)) w (beside b) _ _ (λ t _. need_both P K Same (made_node g t (n.fields ++ y ∷ [])) w (beside b) _ _ (λ m _ _. gives_too b same))
 
-  pub apply_same : (v : Val) (a : Word) → ValOk Ok v → WordOk Ok a → ActFollows s R Same (apply v a) (apply v a)
+  pub apply_same : (v : Val) (a : Word) → ValOk Ok v → WordOk Ok a → ActFollows s R Same (leaf (apply v a)) (leaf (apply v a))
   unfolding act_by
   apply_same v a okv ok = record {
     by = λ x. need_sim P K Same (node_of g x.env v) (node_of g x.env' v) x.w (beside x.b) _ _ (λ n e. (
@@ -218,21 +212,19 @@ module _ (s : Setting) (pl : IsPlain s.plan) (rd : Reading) where
   }
 
   -- an operation without a block follows itself
-  pub leaf_follows : (o : Act) → IsLeaf o → ActOk Ok o → ActFollows s R Same o o
+  pub leaf_follows : (l : Leaf) → ActOk Ok (leaf l) → ActFollows s R Same (leaf l) (leaf l)
   unfolding ActOk
-  leaf_follows (unit v) l ok = unit_same v ok
-  leaf_follows (fetch a) l ok = fetch_same a ok
-  leaf_follows (fetch_word a k) l ok = fetch_word_same a k ok
-  leaf_follows (update a v) l ok = update_same a v ok.0 ok.1
-  leaf_follows (eval a) l ok = eval_same a ok
-  leaf_follows (apply v a) l ok = apply_same v a ok.0 ok.1
-  leaf_follows (call f ws) l ok = call_same f ws ok
-  leaf_follows (prim q a b) l ok = prim_follows s q a b a b (λ x. word_has g Ok x.env x.env' (has x) a ok.0) (λ x. word_has g Ok x.env x.env' (has x) b ok.1) (λ k. same)
-  leaf_follows read l ok = read_follows s (λ k. same)
-  leaf_follows (write a) l ok = write_follows s a a (λ x. word_has g Ok x.env x.env' (has x) a ok) same
-  leaf_follows (case v as') l ok = absurd l
-  leaf_follows (nested b) l ok = absurd l
-  leaf_follows fail l ok = fail_follows s
+  leaf_follows (unit v) ok = unit_same v ok
+  leaf_follows (fetch a) ok = fetch_same a ok
+  leaf_follows (fetch_word a k) ok = fetch_word_same a k ok
+  leaf_follows (update a v) ok = update_same a v ok.0 ok.1
+  leaf_follows (eval a) ok = eval_same a ok
+  leaf_follows (apply v a) ok = apply_same v a ok.0 ok.1
+  leaf_follows (call f ws) ok = call_same f ws ok
+  leaf_follows (prim q a b) ok = prim_follows s q a b a b (λ x. word_has g Ok x.env x.env' (has x) a ok.0) (λ x. word_has g Ok x.env x.env' (has x) b ok.1) (λ k. same)
+  leaf_follows read ok = read_follows s (λ k. same)
+  leaf_follows (write a) ok = write_follows s a a (λ x. word_has g Ok x.env x.env' (has x) a ok) same
+  leaf_follows fail ok = fail_follows s
 
   -- ---- blocks
 

@@ -8,12 +8,12 @@ use Rattle.grin_syntax.specs.declared.program.PrimOp.{PrimOp}
 use Rattle.grin_syntax.specs.declared.program.ProcId.{ProcId}
 use Rattle.grin_syntax.specs.declared.program.Val.{Val}
 use Rattle.grin_syntax.specs.declared.program.Word.{Word}
-use Rattle.grin_syntax.specs.Tree.{Code, end, store, bind, Act, unit, fetch, fetch_word, update, call, prim, read, write, case, nested, fail, Arms, no_arm, arm, Procedure, Program}
+use Rattle.grin_syntax.specs.Tree.{Code, end, store, bind, Act, leaf, unit, fetch, fetch_word, update, call, prim, read, write, case, nested, fail, Arms, no_arm, arm, Procedure, Program}
 use Rattle.grin_meaning.specs.Values.{Datum, number, tag, cell, Node, Value, node, words, Env, HeapCell, State, World, Answer, gives, need, and_then, Binding, with_vars, MatchOutcome, fits, fits_not, unclear, fit_of, word_of, words_of, value_of, node_of, bindings_of}
 use Rattle.grin_meaning.specs.Run.{Calls, act_by, code_by, arms_by, require_if_checked, choose, byte_or_end, after_read, node_word, with_state_seen, places, cells_of, with_cells, place_of, number_of, apply_arithmetic}
 use Rattle.grin_meaning.specs.Checks.{fills, all_fill, is_bound_well}
 use Rattle.grin_meaning.proofs.Back.{Back, need_back, looking_back, CallsBack, code_by_back, every_front, every_last}
-use Rattle.grin_meaning.proofs.Beside.{Compared, Beside, beside, Likewise, free, gives_too, stops_too, Seen, Sim, sim_more, need_is, need_first, need_sim, need_both, then_sim, looked_need_sim, need_looked_sim}
+use Rattle.grin_meaning.proofs.Beside.{Compared, Beside, beside, Likewise, free, gives_too, stops_too, Seen, Sim, sim_more, need_is, need_first, need_sim, then_sim, looked_need_sim, need_looked_sim}
 
 -- how the variables of two programs are related, beside the first one's heap
 abbrev pub Relation : Type 1
@@ -225,7 +225,7 @@ module _ (s : Setting) where
   place_in env a = and_then (word_of g env a) place_of
 
   pub unit_follows : {R : Relation} {V : Value → Value → Type 0} (v v' : Val)
-      → ((x : Here plan R) (y : Value) → value_of g x.env v ≡ Some y → Seen looks (fills g x.env v) → Seen looks (fills h x.env' v') × (y' : Value) × (value_of h x.env' v' ≡ Some y') × V y y') → ActFollows R V (unit v) (unit v')
+      → ((x : Here plan R) (y : Value) → value_of g x.env v ≡ Some y → Seen looks (fills g x.env v) → Seen looks (fills h x.env' v') × (y' : Value) × (value_of h x.env' v' ≡ Some y') × V y y') → ActFollows R V (leaf (unit v)) (leaf (unit v'))
   unfolding act_by
   unit_follows {R} {V} v v' u = record {
     by = λ x. need_looked_sim P K V looks (fills g x.env v) (fills h x.env' v') (value_of g x.env v) (value_of h x.env' v') x.w (beside x.b) _ _ (λ y e seen all.
@@ -247,7 +247,7 @@ module _ (s : Setting) where
       subst (Sim P K V (k i y)) (need_is (slice_get x.b.cells z.0.i') z.0.y' (beside x.b) (k' z.0.i') z.0.there ∙ need_is (place_in x.env' a') z.0.i' (beside x.b) (λ i. need (slice_get x.b.cells i) (beside x.b) (k' i)) z.0.place) z.1))
 
   pub fetch_follows : {R : Relation} {V : Value → Value → Type 0} (a a' : Word)
-      → ((x : Here plan R) (i : ℕ) (y : HeapCell) → place_in x.env a ≡ Some i → slice_get x.w.cells i ≡ Some y → (z : CellToo a' x.env' x.b.cells) × V (node y.node) (node z.y'.node)) → ActFollows R V (fetch a) (fetch a')
+      → ((x : Here plan R) (i : ℕ) (y : HeapCell) → place_in x.env a ≡ Some i → slice_get x.w.cells i ≡ Some y → (z : CellToo a' x.env' x.b.cells) × V (node y.node) (node z.y'.node)) → ActFollows R V (leaf (fetch a)) (leaf (fetch a'))
   unfolding act_by
   fetch_follows {R} {V} a a' f = record {
     by = λ x. cell_sim {V = V} a a' x _ _ (λ i y e q. let z : (z : CellToo a' x.env' x.b.cells) × V (node y.node) (node z.y'.node) = f x i y e q in (z.0, λ _. gives_too x.b z.1));
@@ -255,7 +255,7 @@ module _ (s : Setting) where
 
   pub fetch_word_follows : {R : Relation} {V : Value → Value → Type 0} (a a' : Word) (k k' : ℕ)
       → ((x : Here plan R) (i : ℕ) (y : HeapCell) → place_in x.env a ≡ Some i → slice_get x.w.cells i ≡ Some y → (z : CellToo a' x.env' x.b.cells) × V (words (node_word y.node k ∷ [])) (words (node_word z.y'.node k' ∷ [])))
-      → ActFollows R V (fetch_word a k) (fetch_word a' k')
+      → ActFollows R V (leaf (fetch_word a k)) (leaf (fetch_word a' k'))
   unfolding act_by
   fetch_word_follows {R} {V} a a' k k' f = record {
     by = λ x. cell_sim {V = V} a a' x _ _ (λ i y e q. let z : (z : CellToo a' x.env' x.b.cells) × V (words (node_word y.node k ∷ [])) (words (node_word z.y'.node k' ∷ [])) = f x i y e q in (z.0, λ _. gives_too x.b z.1));
@@ -271,7 +271,7 @@ module _ (s : Setting) where
   pub update_follows : {R : Relation} {V : Value → Value → Type 0} (a a' : Word) (v v' : Val) → V (words []) (words [])
       → ((x : Here plan R) (i : ℕ) (y : HeapCell) → place_in x.env a ≡ Some i → slice_get x.w.cells i ≡ Some y
       → (z : CellToo a' x.env' x.b.cells) × ((n : Node) → node_of g x.env v ≡ Some n → Seen looks (fills g x.env v) → NodeToo v' x.env' x.w.cells x.b.cells i z.i' y z.y' n))
-      → ActFollows R V (update a v) (update a' v')
+      → ActFollows R V (leaf (update a v)) (leaf (update a' v'))
   unfolding act_by
   update_follows {R} {V} a a' v v' none f = record {
     by = λ x. cell_sim {V = V} a a' x _ _ (λ i y e q.
@@ -284,7 +284,7 @@ module _ (s : Setting) where
   }
 
   pub call_follows : {R : Relation} (f : ProcId) (ws ws' : List Word) → ((x : Here plan R) (xs : List Datum) → words_of g x.env ws ≡ Some xs → (xs' : List Datum) × (words_of h x.env' ws' ≡ Some xs') × Args f.0 xs xs')
-      → ActFollows R (Result f.0) (call f ws) (call f ws')
+      → ActFollows R (Result f.0) (leaf (call f ws)) (leaf (call f ws'))
   unfolding act_by
   call_follows f ws ws' k = record {
     by = λ x. need_sim P K (Result f.0) (words_of g x.env ws) (words_of h x.env' ws') x.w (beside x.b) _ _ (λ xs e.
@@ -306,7 +306,7 @@ module _ (s : Setting) where
   numbers_sim q (tag t) z w b r = λ _. free
   numbers_sim q (cell a) z w b r = λ _. free
 
-  pub prim_follows : {R : Relation} {V : Value → Value → Type 0} (q : PrimOp) (a b a' b' : Word) → WordToo R a a' → WordToo R b b' → Numbers V → ActFollows R V (prim q a b) (prim q a' b')
+  pub prim_follows : {R : Relation} {V : Value → Value → Type 0} (q : PrimOp) (a b a' b' : Word) → WordToo R a a' → WordToo R b b' → Numbers V → ActFollows R V (leaf (prim q a b)) (leaf (prim q a' b'))
   unfolding act_by
   prim_follows {R} {V} q a b a' b' f k r = record {
     by = λ x. need_sim P K V (word_of g x.env a) (word_of h x.env' a') x.w (beside x.b) _ _ (λ y e. (y, f x y e, need_sim P K V (word_of g x.env b) (word_of h x.env' b') x.w (beside x.b) _ _ (λ z e'. (z, k x z e', numbers_sim {V = V} q y z x.w x.b r))));
@@ -316,11 +316,11 @@ module _ (s : Setting) where
   read_sim [] w b r = λ _. gives_too b (r _)
   read_sim (k ∷ rest) w b r = λ _. gives_too (record { cells = b.cells; seen = b.seen; depth = b.depth; heaps = b.heaps; deep = b.deep }) (r _)
 
-  pub read_follows : {R : Relation} {V : Value → Value → Type 0} → Numbers V → ActFollows R V read read
+  pub read_follows : {R : Relation} {V : Value → Value → Type 0} → Numbers V → ActFollows R V (leaf read) (leaf read)
   unfolding act_by
   read_follows {R} {V} r = record { by = λ x. read_sim {V = V} x.w.input x.w x.b r }
 
-  pub write_follows : {R : Relation} {V : Value → Value → Type 0} (a a' : Word) → WordToo R a a' → V (words []) (words []) → ActFollows R V (write a) (write a')
+  pub write_follows : {R : Relation} {V : Value → Value → Type 0} (a a' : Word) → WordToo R a a' → V (words []) (words []) → ActFollows R V (leaf (write a)) (leaf (write a'))
   unfolding act_by
   write_follows {R} {V} a a' f none = record {
     by = λ x. need_sim P K V (and_then (word_of g x.env a) number_of) (and_then (word_of h x.env' a') number_of) x.w (beside x.b) _ _ (λ k e. (
@@ -334,6 +334,6 @@ module _ (s : Setting) where
       number_too x k None q e = cc
       number_too x k (Some d) q e = ap (λ o. and_then o number_of) (f x d q) ∙ e
 
-  pub fail_follows : {R : Relation} {V : Value → Value → Type 0} → ActFollows R V fail fail
+  pub fail_follows : {R : Relation} {V : Value → Value → Type 0} → ActFollows R V (leaf fail) (leaf fail)
   unfolding act_by
   fail_follows = record { by = λ x _. stops_too x.b }

@@ -3,8 +3,6 @@ use Rattle.grin_syntax.specs.declared.program.Target.TheVariants as to
 use Rattle.grin_syntax.specs.Formed.{InScope, Scope, with_word_variables, with_target}
 use Rattle.std.proofs.Common.{[], List, arith, refl, suc, zero, ℕ, ◌<◌, ◌≡◌, ◌≤◌, ◌++◌, ◌+◌, Bool, cond, false, true, ◌∷◌}
 use Rattle.seq.specs.Lists.{times, is_among}
-use Rattle.grin_meaning.specs.Values.{words}
-use Rattle.grin_syntax.specs.declared.program.Val.TheVariants.{Node, One, Vector}
 use Rattle.grin_syntax.specs.declared.program.Target.{Target}
 use Rattle.grin_syntax.specs.Binders.{numbers_of, target_vars}
 use Rattle.seq.proofs.Counted.{times_append}

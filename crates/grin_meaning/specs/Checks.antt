@@ -6,7 +6,7 @@ use Rattle.grin_syntax.specs.declared.program.Target.{Target}
 use Rattle.grin_syntax.specs.declared.program.Target.TheVariants as to
 use Rattle.grin_syntax.specs.declared.program.Cell.{Cell}
 use Rattle.grin_syntax.specs.Tags.{is_fun_kind}
-use Rattle.grin_syntax.specs.Tree.{Act, fetch, case, nested, Program}
+use Rattle.grin_syntax.specs.Tree.{Act, leaf, fetch, case, nested, Program}
 use Rattle.numbers.specs.Numbers.{same_number}
 use Rattle.grin_meaning.specs.Values as value
 use Rattle.grin_meaning.specs.Values.{Datum, number, tag, Value, Env, words_of, fields_of, as_node}
@@ -48,7 +48,7 @@ has_block (nested b) = true
 has_block _ = false
 
 abbrev pub is_fetch : Act → Bool
-is_fetch (fetch w) = true
+is_fetch (leaf (fetch w)) = true
 is_fetch _ = false
 
 abbrev pub is_node_target : Target → Bool

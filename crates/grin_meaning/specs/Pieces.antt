@@ -8,7 +8,7 @@ use Rattle.grin_syntax.specs.declared.program.Val as V
 use Rattle.grin_syntax.specs.declared.program.Val.TheVariants.{NodeVar, Node, Vector, One}
 use Rattle.grin_syntax.specs.declared.program.Target as T
 use Rattle.grin_syntax.specs.declared.program.Target.TheVariants as to
-use Rattle.grin_syntax.specs.Tree.{Code, end, store, bind, Act, unit, fetch, update, eval, apply, case, nested, Arms, no_arm, arm, Procedure, Program, fetch_word, prim}
+use Rattle.grin_syntax.specs.Tree.{Code, end, store, bind, Act, leaf, unit, fetch, update, eval, apply, case, nested, Arms, no_arm, arm, Procedure, Program, fetch_word, prim}
 use Rattle.grin_syntax.specs.Binders.{shape_vars, target_vars}
 use Rattle.grin_syntax.specs.Formed.{AllOf}
 
@@ -34,9 +34,9 @@ module _ (K : PieceKind) where
     pub EachAct : Act → Type 0
     EachAct (case v as') = K.operation (case v as') × K.value v × EachArms as'
     EachAct (nested b) = K.operation (nested b) × EachCode b
-    EachAct (unit v) = K.operation (unit v) × K.value v
-    EachAct (update w v) = K.operation (update w v) × K.value v
-    EachAct (apply v w) = K.operation (apply v w) × K.value v
+    EachAct (leaf (unit v)) = K.operation (leaf (unit v)) × K.value v
+    EachAct (leaf (update w v)) = K.operation (leaf (update w v)) × K.value v
+    EachAct (leaf (apply v w)) = K.operation (leaf (apply v w)) × K.value v
     EachAct o = K.operation o
 
     pub EachCode : Code → Type 0
@@ -54,8 +54,8 @@ EveryBodyIsOfKind K = AllOf (λ q. EachCode K q.body)
 
 -- no eval and no apply
 abbrev pub Inlined : Act → Type 0
-Inlined (eval w) = ⊥
-Inlined (apply v w) = ⊥
+Inlined (leaf (eval w)) = ⊥
+Inlined (leaf (apply v w)) = ⊥
 Inlined _ = Unit {0}
 
 abbrev pub inlined_kind : PieceKind
@@ -63,7 +63,7 @@ inlined_kind = record any_kind { operation = Inlined }
 
 -- no fetch of a whole node
 abbrev pub IsNotNodeFetch : Act → Type 0
-IsNotNodeFetch (fetch w) = ⊥
+IsNotNodeFetch (leaf (fetch w)) = ⊥
 IsNotNodeFetch _ = Unit {0}
 
 abbrev pub without_node_fetches : PieceKind
@@ -125,8 +125,8 @@ val_width node_width (One w) = 1
 unfoldable mutual
   -- each end of a piece gives at most so many words
   pub NarrowAct : ℕ → ℕ → Act → Type 0
-  NarrowAct node_width most (unit v) = val_width node_width v ≤ most
-  NarrowAct node_width most (fetch w) = node_width ≤ most
+  NarrowAct node_width most (leaf (unit v)) = val_width node_width v ≤ most
+  NarrowAct node_width most (leaf (fetch w)) = node_width ≤ most
   NarrowAct node_width most (case v as') = NarrowArms node_width most as'
   NarrowAct node_width most (nested b) = NarrowCode node_width most b
   NarrowAct node_width most _ = Unit {0}
@@ -143,8 +143,8 @@ unfoldable mutual
 
 -- an operation that changes nothing and gives what it has read or reckoned
 abbrev pub HasNoEffect : Act → Type 0
-HasNoEffect (unit v) = Unit {0}
-HasNoEffect (fetch a) = Unit {0}
-HasNoEffect (fetch_word a k) = Unit {0}
-HasNoEffect (prim q a b) = Unit {0}
+HasNoEffect (leaf (unit v)) = Unit {0}
+HasNoEffect (leaf (fetch a)) = Unit {0}
+HasNoEffect (leaf (fetch_word a k)) = Unit {0}
+HasNoEffect (leaf (prim q a b)) = Unit {0}
 HasNoEffect _ = ⊥

@@ -8,7 +8,7 @@ use Rattle.grin_syntax.specs.declared.program.Shape.{Shape}
 use Rattle.grin_syntax.specs.declared.program.Target.{Target}
 use Rattle.grin_syntax.specs.declared.program.Val.{Val}
 use Rattle.grin_syntax.specs.declared.program.Word.{Word}
-use Rattle.grin_syntax.specs.Tree.{Code, end, store, bind, Act, call, case, nested, Arms, arm, Procedure, Program}
+use Rattle.grin_syntax.specs.Tree.{Code, end, store, bind, Act, leaf, call, case, nested, Arms, arm, Procedure, Program}
 use Rattle.grin_meaning.specs.Values.{Datum, Value, Env, HeapCell, World, gives, Binding, with_vars, one_each, fits, fits_not, fit_of, words_of, value_of, bindings_of}
 use Rattle.grin_meaning.specs.Run.{act, calls, with_state_seen, places, cells_of, with_cells, spent, start_words, start_world}
 
@@ -18,7 +18,7 @@ module _ (p : Program) (i : List ℕ) (n : ℕ) where
     pub data Called : ℕ → ℕ → List Datum → ℕ → World → Type 0 where
       begins : Called n p.start.0 (start_words p.argument) 0 (start_world p i n)
       by_call : {m : ℕ} {env : Env} {d : ℕ} {f : ProcId} {ws : List Word}
-          {w : World} {xs : List Datum} → Does m env d (call f ws) w
+          {w : World} {xs : List Datum} → Does m env d (leaf (call f ws)) w
           → words_of p env ws ≡ Some xs → Called m f.0 xs d w
 
     pub data Runs : ℕ → Env → ℕ → Code → World → Type 0 where

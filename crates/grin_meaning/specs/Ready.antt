@@ -10,7 +10,7 @@ use Rattle.grin_syntax.specs.declared.program.Val.TheVariants.{Vector}
 use Rattle.grin_syntax.specs.declared.program.Target as T
 use Rattle.grin_syntax.specs.declared.program.Target.TheVariants as to
 use Rattle.grin_syntax.specs.declared.program.Cell.{Cell}
-use Rattle.grin_syntax.specs.Tree.{Code, store, bind, Act, unit, fetch, update, case, nested, Program}
+use Rattle.grin_syntax.specs.Tree.{Code, store, bind, Act, leaf, unit, fetch, update, case, nested, Program}
 use Rattle.grin_syntax.specs.Formed.{AllOf}
 use Rattle.grin_meaning.specs.Values as value
 use Rattle.grin_meaning.specs.Values.{Datum, number, tag, Value, Env, World, missing, gives, with_vars, fields_of, as_node, words_of}
@@ -59,7 +59,7 @@ module _ (g : Program) where
   HasBlock _ = ⊥
 
   abbrev pub NotFetch : Act → Type 0
-  NotFetch (fetch w) = ⊥
+  NotFetch (leaf (fetch w)) = ⊥
   NotFetch _ = Unit {0}
 
   -- in the run on input i with n units
@@ -76,9 +76,9 @@ module _ (g : Program) where
         → act g (calls g m) env (suc d) o w ≡ gives v w' → Given v
     -- the vectors that units, updates and stores take
     pub units : (m d : ℕ) (env : Env) (v : V.Val) (w : World)
-        → Does g i n m env d (unit v) w → ValFilled env v
+        → Does g i n m env d (leaf (unit v)) w → ValFilled env v
     pub updates : (m d : ℕ) (env : Env) (a : W.Word) (v : V.Val) (w : World)
-        → Does g i n m env d (update a v) w → ValFilled env v
+        → Does g i n m env d (leaf (update a v)) w → ValFilled env v
     pub stores : (m d : ℕ) (env : Env) (cs : List Cell) (b : Code) (w : World)
         → Runs g i n m env d (store cs b) w
         → AllOf (λ c. ValFilled (with_vars (places (length w.cells) cs) env) c.val) cs

@@ -7,7 +7,7 @@ use Rattle.grin_syntax.specs.declared.program.Cell.{Cell}
 pub use Rattle.grin_syntax.specs.Tags.{is_part_kind, is_fun_kind, is_proc, is_part, part_from}
 pub use Rattle.grin_meaning.specs.Checks.{is_some_and}
 use Rattle.grin_meaning.specs.Checks.{is_given, fills, all_fill, is_bound_well}
-use Rattle.grin_syntax.specs.Tree.{Code, end, store, bind, Act, unit, fetch, fetch_word, update, eval, apply, call, prim, read, write, case, nested, fail, Arms, no_arm, arm, Program}
+use Rattle.grin_syntax.specs.Tree.{Code, end, store, bind, Act, leaf, unit, fetch, fetch_word, update, eval, apply, call, prim, read, write, case, nested, fail, Arms, no_arm, arm, Program}
 use Rattle.numbers.specs.Numbers.{sum, difference, product, quotient, remainder, equal, less, low_byte}
 use Rattle.grin_meaning.specs.Values.{Datum, number, tag, cell, Node, Value, node, words, Env, HeapCell, World, no_alternative, out_of_units, missing, Answer, gives, stops, then_do, need, and_then, each, Binding, with_vars, one_each, fit_of, MatchOutcome, fits, fits_not, unclear, as_node, made_node, word_of, words_of, value_of, node_of, bindings_of}
 
@@ -146,29 +146,29 @@ module _ (p : Program) where
       unfoldable mutual
         -- an operation at nesting d
         pub act_by : Env → ℕ → Act → World → Answer
-        act_by env d (unit v) w = need (value_of p env v) w (λ x.
+        act_by env d (leaf (unit v)) w = need (value_of p env v) w (λ x.
             require_if_checked looks (fills p env v) w (gives x w))
-        act_by env d (fetch a) w = need (and_then (word_of p env a) place_of) w (λ i.
+        act_by env d (leaf (fetch a)) w = need (and_then (word_of p env a) place_of) w (λ i.
             need (slice_get w.cells i) w (λ c. gives (node c.node) w))
-        act_by env d (fetch_word a k) w = need (and_then (word_of p env a) place_of) w (λ i.
+        act_by env d (leaf (fetch_word a k)) w = need (and_then (word_of p env a) place_of) w (λ i.
             need (slice_get w.cells i) w (λ c. gives (words (node_word c.node k ∷ [])) w))
-        act_by env d (update a v) w = need (and_then (word_of p env a) place_of) w (λ i.
+        act_by env d (leaf (update a v)) w = need (and_then (word_of p env a) place_of) w (λ i.
             need (slice_get w.cells i) w (λ c. need (node_of p env v) w (λ n.
             require_if_checked looks (fills p env v) w (gives (words []) (with_node i n c w)))))
-        act_by env d (eval a) w =
+        act_by env d (leaf (eval a)) w =
             need (and_then (word_of p env a) place_of) w (λ i. eval_cell d i w)
-        act_by env d (apply v a) w =
+        act_by env d (leaf (apply v a)) w =
             need (node_of p env v) w (λ n. need (word_of p env a) w (λ x. apply_node d n x w))
-        act_by env d (call f as') w = need (words_of p env as') w (λ xs. calls f.0 xs d w)
-        act_by env d (prim f a b) w = need (word_of p env a) w (λ x. need (word_of p env b) w (λ y.
+        act_by env d (leaf (call f as')) w = need (words_of p env as') w (λ xs. calls f.0 xs d w)
+        act_by env d (leaf (prim f a b)) w = need (word_of p env a) w (λ x. need (word_of p env b) w (λ y.
             need (apply_arithmetic f x y) w (λ v. gives v w)))
-        act_by env d read w =
+        act_by env d (leaf read) w =
             gives (words (number (byte_or_end w.input) ∷ [])) (after_read w.input w)
-        act_by env d (write a) w =
+        act_by env d (leaf (write a)) w =
             need (and_then (word_of p env a) number_of) w (λ k. gives (words []) (written k w))
         act_by env d (case v as') w = need (value_of p env v) w (λ x. arms_by env d x as' w)
         act_by env d (nested b) w = code_by env d b w
-        act_by env d fail w = stops no_alternative w
+        act_by env d (leaf fail) w = stops no_alternative w
 
         -- a block at nesting d: what a statement binds is evaluated one level deeper
         pub code_by : Env → ℕ → Code → World → Answer

@@ -7,7 +7,7 @@ use Rattle.grin_syntax.specs.declared.program.Val.TheVariants.{NodeVar, Node, Ve
 use Rattle.grin_syntax.specs.declared.program.Target as T
 use Rattle.grin_syntax.specs.declared.program.Target.TheVariants as to
 use Rattle.grin_syntax.specs.declared.program.Cell.{Cell}
-use Rattle.grin_syntax.specs.Tree.{Code, end, store, bind, Act, unit, fetch, fetch_word, update, eval, apply, call, prim, read, write, case, nested, fail, Arms, no_arm, arm, Procedure, Program}
+use Rattle.grin_syntax.specs.Tree.{Code, end, store, bind, Act, leaf, unit, fetch, fetch_word, update, eval, apply, call, prim, read, write, case, nested, fail, Arms, no_arm, arm, Procedure, Program}
 use Rattle.grin_syntax.specs.Binders.{shape_vars}
 use Rattle.grin_syntax.specs.Formed.{AllOf}
 
@@ -32,19 +32,19 @@ cells_weight (c ∷ cs) = 17 + val_weight c.val + cells_weight cs
 unfoldable mutual
   -- 16 for an operation and 1 for each of its words, 8 more where it writes or reads a byte
   pub act_weight : Act → ℕ
-  act_weight (unit v) = 16 + val_weight v
-  act_weight (fetch w) = 17
-  act_weight (fetch_word w i) = 17
-  act_weight (update w v) = 17 + val_weight v
-  act_weight (eval w) = 17
-  act_weight (apply v w) = 17 + val_weight v
-  act_weight (call f ws) = 16 + length ws
-  act_weight (prim o a b) = 18
-  act_weight read = 24
-  act_weight (write w) = 25
+  act_weight (leaf (unit v)) = 16 + val_weight v
+  act_weight (leaf (fetch w)) = 17
+  act_weight (leaf (fetch_word w i)) = 17
+  act_weight (leaf (update w v)) = 17 + val_weight v
+  act_weight (leaf (eval w)) = 17
+  act_weight (leaf (apply v w)) = 17 + val_weight v
+  act_weight (leaf (call f ws)) = 16 + length ws
+  act_weight (leaf (prim o a b)) = 18
+  act_weight (leaf read) = 24
+  act_weight (leaf (write w)) = 25
   act_weight (case v as') = 16 + val_weight v + arms_weight as'
   act_weight (nested b) = 16 + code_weight b
-  act_weight fail = 16
+  act_weight (leaf fail) = 16
 
   pub code_weight : Code → ℕ
   code_weight (end o) = act_weight o
@@ -63,7 +63,7 @@ procs_weight (q ∷ qs) = length q.params + code_weight q.body + procs_weight qs
 
 unfoldable mutual
   pub act_calls : Act → ℕ
-  act_calls (call f ws) = 1
+  act_calls (leaf (call f ws)) = 1
   act_calls (case v as') = arms_calls as'
   act_calls (nested b) = code_calls b
   act_calls _ = 0
@@ -85,14 +85,14 @@ procs_calls (q ∷ qs) = code_calls q.body + procs_calls qs
 
 -- a node for a call and for a fetch of a whole node, wherever they stand
 abbrev pub node_words : Act → ℕ
-node_words (call f ws) = 14
-node_words (fetch w) = 14
+node_words (leaf (call f ws)) = 14
+node_words (leaf (fetch w)) = 14
 node_words _ = 0
 
 -- and one for every other operation that ends a block
 abbrev pub end_words : Act → ℕ
-end_words (call f ws) = 14
-end_words (fetch w) = 14
+end_words (leaf (call f ws)) = 14
+end_words (leaf (fetch w)) = 14
 end_words _ = 1
 
 unfoldable mutual

@@ -8,7 +8,7 @@ use Rattle.grin_syntax.specs.declared.program.Target.{Target}
 use Rattle.grin_syntax.specs.declared.program.Shape.{Shape}
 use Rattle.grin_syntax.specs.declared.program.Shape.TheVariants as shape
 use Rattle.grin_syntax.specs.declared.program.Cell.{Cell}
-use Rattle.grin_syntax.specs.Tree.{Code, end, store, bind, Act, unit, fetch, fetch_word, update, eval, apply, call, prim, read, write, case, nested, fail, Arms, no_arm, arm}
+use Rattle.grin_syntax.specs.Tree.{Code, end, store, bind, Act, leaf, unit, fetch, fetch_word, update, eval, apply, call, prim, read, write, case, nested, fail, Arms, no_arm, arm}
 use Rattle.grin_syntax.specs.Binders.{shape_vars}
 use Rattle.grin_meaning.specs.Slim.{val_weight, target_weight, cells_weight, act_weight, code_weight, arms_weight, act_calls, code_calls, arms_calls, node_words, end_words, inner_words, code_words, arms_words}
 use Rattle.inlining.specs.Size.{val_size, target_size, shape_size, cells_size, act_size, code_size, arms_size}
@@ -65,43 +65,43 @@ act_sum : (o : Act) (w n s w' c' v' s' : ℕ) → act_weight o ≡ w + w' → ac
 unfolding of_act
 act_sum o w n s w' c' v' s' e f g h = sums_are w n 0 s w' c' v' s' (act_weight o) (act_calls o) (inner_words o) (act_size o) e f g h
 
-pub of_act-unit : (v : Val) → of_act (unit v) ≡ sum (counts 16 0 0 1) (of_val v)
+pub of_act-unit : (v : Val) → of_act (leaf (unit v)) ≡ sum (counts 16 0 0 1) (of_val v)
 unfolding of_act of_code of_arms act_weight act_calls inner_words act_size
-of_act-unit v = act_sum (unit v) 16 0 1 (val_weight v) 0 0 (val_size v) (omega arith) (omega arith) (omega arith) (omega arith)
+of_act-unit v = act_sum (leaf (unit v)) 16 0 1 (val_weight v) 0 0 (val_size v) (omega arith) (omega arith) (omega arith) (omega arith)
 
-pub of_act-fetch : (a : Word) → of_act (fetch a) ≡ counts 17 0 0 2
+pub of_act-fetch : (a : Word) → of_act (leaf (fetch a)) ≡ counts 17 0 0 2
 unfolding of_act of_code of_arms act_weight act_calls inner_words act_size
 of_act-fetch a = refl
 
-pub of_act-fetch_word : (a : Word) (k : ℕ) → of_act (fetch_word a k) ≡ counts 17 0 0 2
+pub of_act-fetch_word : (a : Word) (k : ℕ) → of_act (leaf (fetch_word a k)) ≡ counts 17 0 0 2
 unfolding of_act of_code of_arms act_weight act_calls inner_words act_size
 of_act-fetch_word a k = refl
 
-pub of_act-update : (a : Word) (v : Val) → of_act (update a v) ≡ sum (counts 17 0 0 2) (of_val v)
+pub of_act-update : (a : Word) (v : Val) → of_act (leaf (update a v)) ≡ sum (counts 17 0 0 2) (of_val v)
 unfolding of_act of_code of_arms act_weight act_calls inner_words act_size
-of_act-update a v = act_sum (update a v) 17 0 2 (val_weight v) 0 0 (val_size v) (omega arith) (omega arith) (omega arith) (omega arith)
+of_act-update a v = act_sum (leaf (update a v)) 17 0 2 (val_weight v) 0 0 (val_size v) (omega arith) (omega arith) (omega arith) (omega arith)
 
-pub of_act-eval : (a : Word) → of_act (eval a) ≡ counts 17 0 0 2
+pub of_act-eval : (a : Word) → of_act (leaf (eval a)) ≡ counts 17 0 0 2
 unfolding of_act of_code of_arms act_weight act_calls inner_words act_size
 of_act-eval a = refl
 
-pub of_act-apply : (v : Val) (a : Word) → of_act (apply v a) ≡ sum (counts 17 0 0 2) (of_val v)
+pub of_act-apply : (v : Val) (a : Word) → of_act (leaf (apply v a)) ≡ sum (counts 17 0 0 2) (of_val v)
 unfolding of_act of_code of_arms act_weight act_calls inner_words act_size
-of_act-apply v a = act_sum (apply v a) 17 0 2 (val_weight v) 0 0 (val_size v) (omega arith) (omega arith) (omega arith) (omega arith)
+of_act-apply v a = act_sum (leaf (apply v a)) 17 0 2 (val_weight v) 0 0 (val_size v) (omega arith) (omega arith) (omega arith) (omega arith)
 
-pub of_act-call : (f : ProcId) (ws : List Word) → of_act (call f ws) ≡ counts (16 + length ws) 1 0 (1 + length ws)
+pub of_act-call : (f : ProcId) (ws : List Word) → of_act (leaf (call f ws)) ≡ counts (16 + length ws) 1 0 (1 + length ws)
 unfolding of_act of_code of_arms act_weight act_calls inner_words act_size
 of_act-call f ws = refl
 
-pub of_act-prim : (p : PrimOp) (a b : Word) → of_act (prim p a b) ≡ counts 18 0 0 3
+pub of_act-prim : (p : PrimOp) (a b : Word) → of_act (leaf (prim p a b)) ≡ counts 18 0 0 3
 unfolding of_act of_code of_arms act_weight act_calls inner_words act_size
 of_act-prim p a b = refl
 
-pub of_act-read : of_act read ≡ counts 24 0 0 1
+pub of_act-read : of_act (leaf read) ≡ counts 24 0 0 1
 unfolding of_act of_code of_arms act_weight act_calls inner_words act_size
 of_act-read = refl
 
-pub of_act-write : (a : Word) → of_act (write a) ≡ counts 25 0 0 2
+pub of_act-write : (a : Word) → of_act (leaf (write a)) ≡ counts 25 0 0 2
 unfolding of_act of_code of_arms act_weight act_calls inner_words act_size
 of_act-write a = refl
 
@@ -115,7 +115,7 @@ pub of_act-nested : (b : Code) → of_act (nested b) ≡ sum (counts 16 0 0 1) (
 unfolding of_act of_code of_arms act_weight act_calls inner_words act_size
 of_act-nested b = act_sum (nested b) 16 0 1 (code_weight b) (code_calls b) (code_words b) (code_size b) (omega arith) (omega arith) (omega arith) (omega arith)
 
-pub of_act-fail : of_act fail ≡ counts 16 0 0 1
+pub of_act-fail : of_act (leaf fail) ≡ counts 16 0 0 1
 unfolding of_act of_code of_arms act_weight act_calls inner_words act_size
 of_act-fail = refl
 

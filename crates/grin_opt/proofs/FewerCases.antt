@@ -2,7 +2,7 @@
 use Rattle.std.proofs.Common.{◌≡◌, ℕ, ◌≤◌, List, [], ◌∷◌, map, sym, subst, arith}
 use Rattle.grin_syntax.specs.declared.program.Shape.{Shape}
 use Rattle.grin_syntax.specs.declared.program.Val.{Val}
-use Rattle.grin_syntax.specs.Tree.{Code, end, store, bind, Act, unit, fetch, fetch_word, update, eval, apply, call, prim, read, write, case, nested, fail, Arms, no_arm, arm, Procedure, Program, as_act}
+use Rattle.grin_syntax.specs.Tree.{Code, end, store, bind, Act, leaf, unit, fetch, fetch_word, update, eval, apply, call, prim, read, write, case, nested, fail, Arms, no_arm, arm, Procedure, Program, as_act}
 use Rattle.pass_ground.specs.OpenUpdates.{tag_variable, act_update_sum, code_update_sum, arms_update_sum, procs_update_sum, one_if_some, updates_with_variable_tag}
 use Rattle.pass_ground.specs.Vectors.{IsVectorForm}
 use Rattle.case_simplify.specs.Known.{Facts, nothing_known, known_after, facts_in_alternative}
@@ -20,7 +20,7 @@ module _ (count : Val → ℕ) where
   sum_block n (store cs b) h = h
   sum_block n (bind t o b) h = h
 
-  sum_fail : (n : ℕ) → code_update_sum count (end fail) ≤ n
+  sum_fail : (n : ℕ) → code_update_sum count (end (leaf fail)) ≤ n
   unfolding act_update_sum
   sum_fail n = omega arith
 
@@ -36,17 +36,7 @@ module _ (count : Val → ℕ) where
         let n : ℕ = arms_update_sum count as' in
         case_has (λ o. act_update_sum count o ≤ n) (λ b. code_update_sum count b ≤ n) (λ bs. arms_update_sum count bs ≤ n) (sum_block n) (sum_fail n) (sum_split n) facts v (simple_arms facts v as') (arms_fewer v as' facts) (arms_fewer v as' facts)
     act_fewer (nested b) facts = code_fewer b facts
-    act_fewer (unit v) facts = omega arith
-    act_fewer (fetch a) facts = omega arith
-    act_fewer (fetch_word a i) facts = omega arith
-    act_fewer (update a v) facts = omega arith
-    act_fewer (eval a) facts = omega arith
-    act_fewer (apply v a) facts = omega arith
-    act_fewer (call f ws) facts = omega arith
-    act_fewer (prim f a b) facts = omega arith
-    act_fewer read facts = omega arith
-    act_fewer (write a) facts = omega arith
-    act_fewer fail facts = omega arith
+    act_fewer (leaf l) facts = omega arith
 
     code_fewer : (b : Code) (facts : Facts) → code_update_sum count (simple_code facts b) ≤ code_update_sum count b
     code_fewer (end o) facts = act_fewer o facts

@@ -5,7 +5,7 @@ use Rattle.grin_syntax.specs.declared.program.Target.{Target}
 use Rattle.grin_syntax.specs.declared.program.Word.TheVariants.{Lit, Var, Global, TagWord}
 use Rattle.grin_syntax.specs.declared.program.Val.{Val}
 use Rattle.grin_syntax.specs.declared.program.Val.TheVariants.{NodeVar, Node, Vector, One}
-use Rattle.grin_syntax.specs.Tree.{Code, end, store, bind, Act, unit, fetch, fetch_word, update, eval, apply, call, prim, read, write, case, nested, fail, Arms, no_arm, arm, Procedure, Program}
+use Rattle.grin_syntax.specs.Tree.{Code, end, store, bind, Act, leaf, unit, fetch, fetch_word, update, eval, apply, call, prim, read, write, case, nested, fail, Arms, no_arm, arm, Procedure, Program}
 use Rattle.grin_meaning.specs.Rewritten.{rewritten_procedure}
 use Rattle.pass_ground.specs.OpenUpdates.{tag_variable, act_update_sum, code_update_sum, arms_update_sum, procs_update_sum, one_if_some, updates_with_variable_tag}
 use Rattle.pass_ground.specs.Vectors.{IsVectorForm}
@@ -52,17 +52,17 @@ mutual
   resolved_act_fewer : (k : Table) (o : Act) → act_update_sum opens (resolved_act k o) ≤ act_update_sum opens o
   resolved_act_fewer k (case v as') = resolved_arms_fewer k as'
   resolved_act_fewer k (nested b) = resolved_code_fewer k b
-  resolved_act_fewer k (update a v) = fewer_open k v
-  resolved_act_fewer k (unit v) = omega arith
-  resolved_act_fewer k (fetch a) = omega arith
-  resolved_act_fewer k (fetch_word a i) = omega arith
-  resolved_act_fewer k (eval a) = omega arith
-  resolved_act_fewer k (apply v a) = omega arith
-  resolved_act_fewer k (call f ws) = omega arith
-  resolved_act_fewer k (prim p a b) = omega arith
-  resolved_act_fewer k read = omega arith
-  resolved_act_fewer k (write a) = omega arith
-  resolved_act_fewer k fail = omega arith
+  resolved_act_fewer k (leaf (update a v)) = fewer_open k v
+  resolved_act_fewer k (leaf (unit v)) = omega arith
+  resolved_act_fewer k (leaf (fetch a)) = omega arith
+  resolved_act_fewer k (leaf (fetch_word a i)) = omega arith
+  resolved_act_fewer k (leaf (eval a)) = omega arith
+  resolved_act_fewer k (leaf (apply v a)) = omega arith
+  resolved_act_fewer k (leaf (call f ws)) = omega arith
+  resolved_act_fewer k (leaf (prim p a b)) = omega arith
+  resolved_act_fewer k (leaf read) = omega arith
+  resolved_act_fewer k (leaf (write a)) = omega arith
+  resolved_act_fewer k (leaf fail) = omega arith
 
   resolved_code_fewer : (k : Table) (b : Code) → code_update_sum opens (resolved_code k b) ≤ code_update_sum opens b
   resolved_code_fewer k (end o) = resolved_act_fewer k o
@@ -92,17 +92,7 @@ mutual
   lean_act_fewer : (o : Act) → act_update_sum opens (without_idle_act o) ≤ act_update_sum opens o
   lean_act_fewer (case v as') = lean_arms_fewer as'
   lean_act_fewer (nested b) = lean_code_fewer b
-  lean_act_fewer (update a v) = omega arith
-  lean_act_fewer (unit v) = omega arith
-  lean_act_fewer (fetch a) = omega arith
-  lean_act_fewer (fetch_word a i) = omega arith
-  lean_act_fewer (eval a) = omega arith
-  lean_act_fewer (apply v a) = omega arith
-  lean_act_fewer (call f ws) = omega arith
-  lean_act_fewer (prim p a b) = omega arith
-  lean_act_fewer read = omega arith
-  lean_act_fewer (write a) = omega arith
-  lean_act_fewer fail = omega arith
+  lean_act_fewer (leaf l) = omega arith
 
   lean_code_fewer : (b : Code) → code_update_sum opens (without_idle_code b) ≤ code_update_sum opens b
   lean_code_fewer (end o) = lean_act_fewer o

@@ -2,7 +2,7 @@
 use Rattle.std.proofs.Common.{◌≡◌, ℕ, ◌+◌, List, [], ◌∷◌, ◌++◌, ap, ◌∙◌, sym, arith}
 use Rattle.grin_syntax.specs.declared.program.Val.{Val}
 use Rattle.grin_syntax.specs.declared.program.Word.{Word}
-use Rattle.grin_syntax.specs.Tree.{Code, end, store, bind, Act, unit, fetch, fetch_word, update, eval, apply, call, prim, read, write, case, nested, fail, Arms, no_arm, arm, Procedure, Program}
+use Rattle.grin_syntax.specs.Tree.{Code, end, store, bind, Act, leaf, unit, fetch, fetch_word, update, eval, apply, call, prim, read, write, case, nested, fail, Arms, no_arm, arm, Procedure, Program}
 use Rattle.pass_ground.specs.OpenUpdates.{tag_variable, act_update_sum, code_update_sum, arms_update_sum, procs_update_sum, one_if_some, updates_with_variable_tag}
 use Rattle.unboxing.specs.Unboxed.{act_updates, code_updates, arms_updates, updates_of}
 
@@ -19,19 +19,19 @@ module _ (count : Val → ℕ) where
     unfolding act_update_sum act_updates
 
     act_counted : (o : Act) → act_update_sum count o ≡ counted (act_updates o)
-    act_counted (unit v) = omega arith
-    act_counted (fetch a) = omega arith
-    act_counted (fetch_word a i) = omega arith
-    act_counted (update a v) = omega arith
-    act_counted (eval a) = omega arith
-    act_counted (apply v a) = omega arith
-    act_counted (call f ws) = omega arith
-    act_counted (prim p a b) = omega arith
-    act_counted read = omega arith
-    act_counted (write a) = omega arith
+    act_counted (leaf (unit v)) = omega arith
+    act_counted (leaf (fetch a)) = omega arith
+    act_counted (leaf (fetch_word a i)) = omega arith
+    act_counted (leaf (update a v)) = omega arith
+    act_counted (leaf (eval a)) = omega arith
+    act_counted (leaf (apply v a)) = omega arith
+    act_counted (leaf (call f ws)) = omega arith
+    act_counted (leaf (prim p a b)) = omega arith
+    act_counted (leaf read) = omega arith
+    act_counted (leaf (write a)) = omega arith
     act_counted (case v as') = arms_counted as'
     act_counted (nested b) = code_counted b
-    act_counted fail = omega arith
+    act_counted (leaf fail) = omega arith
 
     code_counted : (b : Code) → code_update_sum count b ≡ counted (code_updates b)
     code_counted (end o) = act_counted o

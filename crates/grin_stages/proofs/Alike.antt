@@ -11,7 +11,7 @@ use Rattle.grin_syntax.specs.declared.program.Val as V
 use Rattle.grin_syntax.specs.declared.program.Val.TheVariants.{NodeVar, Node as NodeVal, Vector as VectorVal, One as OneVal}
 use Rattle.grin_syntax.specs.declared.program.Target.{Target}
 use Rattle.grin_syntax.specs.declared.program.Target.TheVariants.{Node as NodeTarget}
-use Rattle.grin_syntax.specs.Tree.{Code, end, store, bind, Act, unit, fetch, fetch_word, update, eval, apply, call, prim, read, write, case, nested, fail, Arms, no_arm, arm, Procedure, Program}
+use Rattle.grin_syntax.specs.Tree.{Code, end, store, bind, Act, leaf, unit, fetch, fetch_word, update, eval, apply, call, prim, read, write, case, nested, fail, Arms, no_arm, arm, Procedure, Program}
 use Rattle.grin_syntax.specs.Fresh.{variable, variables, past_procs}
 use Rattle.grin_meaning.specs.Run.{is_some_and, part_from}
 use Rattle.flow_system.specs.Tables.{tables}
@@ -105,19 +105,19 @@ module _ (p : Program) (A B : Solution) (same : (q : Place) (part : Part) (u : A
     unfolding act_room
 
     act_room_same : (o : Act) → act_room p A o ≡ act_room p B o
-    act_room_same (eval a) = rw (tags_same a, arms_room_same (tags_of p B a)) refl
+    act_room_same (leaf (eval a)) = rw (tags_same a, arms_room_same (tags_of p B a)) refl
     act_room_same (case v as') = all_room_same as'
     act_room_same (nested b) = code_room_same b
-    act_room_same (unit v) = refl
-    act_room_same (fetch a) = refl
-    act_room_same (fetch_word a i) = refl
-    act_room_same (update a v) = refl
-    act_room_same (apply v a) = refl
-    act_room_same (call f ws) = refl
-    act_room_same (prim f a b) = refl
-    act_room_same read = refl
-    act_room_same (write a) = refl
-    act_room_same fail = refl
+    act_room_same (leaf (unit v)) = refl
+    act_room_same (leaf (fetch a)) = refl
+    act_room_same (leaf (fetch_word a i)) = refl
+    act_room_same (leaf (update a v)) = refl
+    act_room_same (leaf (apply v a)) = refl
+    act_room_same (leaf (call f ws)) = refl
+    act_room_same (leaf (prim f a b)) = refl
+    act_room_same (leaf read) = refl
+    act_room_same (leaf (write a)) = refl
+    act_room_same (leaf fail) = refl
 
     code_room_same : (b : Code) → code_room p A b ≡ code_room p B b
     code_room_same (end o) = act_room_same o
@@ -146,34 +146,34 @@ module _ (p : Program) (A B : Solution) (same : (q : Place) (part : Part) (u : A
   evaluation_same x a = ap (λ as'. case (NodeVar (variable x)) as') (ap (eval_arms p A a x (suc x)) (tags_same a) ∙ eval_arms_same a x (suc x) (tags_of p B a))
 
   eval_bound_same : (x : ℕ) (t : Target) (o : Act) (b : Code) → eval_bound p A x t o b ≡ eval_bound p B x t o b
-  eval_bound_same x t (eval a) b = ap (λ o. bind (NodeTarget (variable x)) (fetch a) (bind t o b)) (evaluation_same x a)
+  eval_bound_same x t (leaf (eval a)) b = ap (λ o. bind (NodeTarget (variable x)) (leaf (fetch a)) (bind t o b)) (evaluation_same x a)
   eval_bound_same x t (case v as') b = refl
   eval_bound_same x t (nested c) b = refl
-  eval_bound_same x t (unit v) b = refl
-  eval_bound_same x t (fetch a) b = refl
-  eval_bound_same x t (fetch_word a i) b = refl
-  eval_bound_same x t (update a v) b = refl
-  eval_bound_same x t (apply v a) b = refl
-  eval_bound_same x t (call f ws) b = refl
-  eval_bound_same x t (prim f a c) b = refl
-  eval_bound_same x t read b = refl
-  eval_bound_same x t (write a) b = refl
-  eval_bound_same x t fail b = refl
+  eval_bound_same x t (leaf (unit v)) b = refl
+  eval_bound_same x t (leaf (fetch a)) b = refl
+  eval_bound_same x t (leaf (fetch_word a i)) b = refl
+  eval_bound_same x t (leaf (update a v)) b = refl
+  eval_bound_same x t (leaf (apply v a)) b = refl
+  eval_bound_same x t (leaf (call f ws)) b = refl
+  eval_bound_same x t (leaf (prim f a c)) b = refl
+  eval_bound_same x t (leaf read) b = refl
+  eval_bound_same x t (leaf (write a)) b = refl
+  eval_bound_same x t (leaf fail) b = refl
 
   eval_ended_same : (x : ℕ) (o : Act) → eval_ended p A x o ≡ eval_ended p B x o
-  eval_ended_same x (eval a) = ap (λ o. bind (NodeTarget (variable x)) (fetch a) (end o)) (evaluation_same x a)
+  eval_ended_same x (leaf (eval a)) = ap (λ o. bind (NodeTarget (variable x)) (leaf (fetch a)) (end o)) (evaluation_same x a)
   eval_ended_same x (case v as') = refl
   eval_ended_same x (nested c) = refl
-  eval_ended_same x (unit v) = refl
-  eval_ended_same x (fetch a) = refl
-  eval_ended_same x (fetch_word a i) = refl
-  eval_ended_same x (update a v) = refl
-  eval_ended_same x (apply v a) = refl
-  eval_ended_same x (call f ws) = refl
-  eval_ended_same x (prim f a c) = refl
-  eval_ended_same x read = refl
-  eval_ended_same x (write a) = refl
-  eval_ended_same x fail = refl
+  eval_ended_same x (leaf (unit v)) = refl
+  eval_ended_same x (leaf (fetch a)) = refl
+  eval_ended_same x (leaf (fetch_word a i)) = refl
+  eval_ended_same x (leaf (update a v)) = refl
+  eval_ended_same x (leaf (apply v a)) = refl
+  eval_ended_same x (leaf (call f ws)) = refl
+  eval_ended_same x (leaf (prim f a c)) = refl
+  eval_ended_same x (leaf read) = refl
+  eval_ended_same x (leaf (write a)) = refl
+  eval_ended_same x (leaf fail) = refl
 
   mutual
     unfolding eval_act
@@ -181,17 +181,17 @@ module _ (p : Program) (A B : Solution) (same : (q : Place) (part : Part) (u : A
     eval_act_same : (x : ℕ) (o : Act) → eval_act p A x o ≡ eval_act p B x o
     eval_act_same x (case v as') = ap (case v) (eval_all_same x as')
     eval_act_same x (nested b) = ap nested (eval_code_same x b)
-    eval_act_same x (eval a) = refl
-    eval_act_same x (unit v) = refl
-    eval_act_same x (fetch a) = refl
-    eval_act_same x (fetch_word a i) = refl
-    eval_act_same x (update a v) = refl
-    eval_act_same x (apply v a) = refl
-    eval_act_same x (call f ws) = refl
-    eval_act_same x (prim f a b) = refl
-    eval_act_same x read = refl
-    eval_act_same x (write a) = refl
-    eval_act_same x fail = refl
+    eval_act_same x (leaf (eval a)) = refl
+    eval_act_same x (leaf (unit v)) = refl
+    eval_act_same x (leaf (fetch a)) = refl
+    eval_act_same x (leaf (fetch_word a i)) = refl
+    eval_act_same x (leaf (update a v)) = refl
+    eval_act_same x (leaf (apply v a)) = refl
+    eval_act_same x (leaf (call f ws)) = refl
+    eval_act_same x (leaf (prim f a b)) = refl
+    eval_act_same x (leaf read) = refl
+    eval_act_same x (leaf (write a)) = refl
+    eval_act_same x (leaf fail) = refl
 
     eval_code_same : (x : ℕ) (b : Code) → eval_code p A x b ≡ eval_code p B x b
     eval_code_same x (end o) = ap (eval_ended p A x) (eval_act_same x o) ∙ eval_ended_same x (eval_act p B x o)
@@ -238,19 +238,19 @@ module _ (p : Program) (A B : Solution) (same : (q : Place) (part : Part) (u : A
     unfolding apply_act_room
 
     apply_act_room_same : (o : Act) → apply_act_room p A o ≡ apply_act_room p B o
-    apply_act_room_same (apply v a) = ap (parts_room p A) (parts_same v) ∙ parts_room_same (part_tags_of p B v)
+    apply_act_room_same (leaf (apply v a)) = ap (parts_room p A) (parts_same v) ∙ parts_room_same (part_tags_of p B v)
     apply_act_room_same (case v as') = apply_arms_room_same as'
     apply_act_room_same (nested b) = apply_code_room_same b
-    apply_act_room_same (eval a) = refl
-    apply_act_room_same (unit v) = refl
-    apply_act_room_same (fetch a) = refl
-    apply_act_room_same (fetch_word a i) = refl
-    apply_act_room_same (update a v) = refl
-    apply_act_room_same (call f ws) = refl
-    apply_act_room_same (prim f a b) = refl
-    apply_act_room_same read = refl
-    apply_act_room_same (write a) = refl
-    apply_act_room_same fail = refl
+    apply_act_room_same (leaf (eval a)) = refl
+    apply_act_room_same (leaf (unit v)) = refl
+    apply_act_room_same (leaf (fetch a)) = refl
+    apply_act_room_same (leaf (fetch_word a i)) = refl
+    apply_act_room_same (leaf (update a v)) = refl
+    apply_act_room_same (leaf (call f ws)) = refl
+    apply_act_room_same (leaf (prim f a b)) = refl
+    apply_act_room_same (leaf read) = refl
+    apply_act_room_same (leaf (write a)) = refl
+    apply_act_room_same (leaf fail) = refl
 
     apply_code_room_same : (b : Code) → apply_code_room p A b ≡ apply_code_room p B b
     apply_code_room_same (end o) = apply_act_room_same o
@@ -292,19 +292,19 @@ module _ (p : Program) (A B : Solution) (same : (q : Place) (part : Part) (u : A
     unfolding apply_act
 
     apply_act_same : (x : ℕ) (o : Act) → apply_act p A x o ≡ apply_act p B x o
-    apply_act_same x (apply v a) = ap (case v) ((λ i. apply_arms p A a x (parts_same v i) (else_fail p A (others_same v i))) ∙ (ap (apply_arms p A a x (part_tags_of p B v)) (else_same (others_of p B v)) ∙ apply_arms_same a x (part_tags_of p B v) (else_fail p B (others_of p B v))))
+    apply_act_same x (leaf (apply v a)) = ap (case v) ((λ i. apply_arms p A a x (parts_same v i) (else_fail p A (others_same v i))) ∙ (ap (apply_arms p A a x (part_tags_of p B v)) (else_same (others_of p B v)) ∙ apply_arms_same a x (part_tags_of p B v) (else_fail p B (others_of p B v))))
     apply_act_same x (case v as') = ap (case v) (apply_all_same x as')
     apply_act_same x (nested b) = ap nested (apply_code_same x b)
-    apply_act_same x (eval a) = refl
-    apply_act_same x (unit v) = refl
-    apply_act_same x (fetch a) = refl
-    apply_act_same x (fetch_word a i) = refl
-    apply_act_same x (update a v) = refl
-    apply_act_same x (call f ws) = refl
-    apply_act_same x (prim f a b) = refl
-    apply_act_same x read = refl
-    apply_act_same x (write a) = refl
-    apply_act_same x fail = refl
+    apply_act_same x (leaf (eval a)) = refl
+    apply_act_same x (leaf (unit v)) = refl
+    apply_act_same x (leaf (fetch a)) = refl
+    apply_act_same x (leaf (fetch_word a i)) = refl
+    apply_act_same x (leaf (update a v)) = refl
+    apply_act_same x (leaf (call f ws)) = refl
+    apply_act_same x (leaf (prim f a b)) = refl
+    apply_act_same x (leaf read) = refl
+    apply_act_same x (leaf (write a)) = refl
+    apply_act_same x (leaf fail) = refl
 
     apply_code_same : (x : ℕ) (b : Code) → apply_code p A x b ≡ apply_code p B x b
     apply_code_same x (end o) = ap end (apply_act_same x o)

@@ -16,45 +16,45 @@ use Rattle.grin_syntax.specs.declared.program.Alt.{Alt}
 use Rattle.grin_syntax.specs.declared.program.Block.{Block}
 use Rattle.grin_syntax.specs.declared.program.Op.TheOpen as open'
 use Rattle.grin_syntax.specs.declared.program.Op.TheFolds.{fold-roll-Op, fold-roll-Stmt, fold_out-Alt, fold_out-Block}
-use Rattle.grin_syntax.specs.Tree.{Code, end, store, bind, Act, unit, fetch, fetch_word, update, eval, apply, call, prim, read, write, case, nested, fail, act_of, before_of, arm_of, code_of, arms_of, all_before, act_step, stmt_step, alt_step, block_step}
+use Rattle.grin_syntax.specs.Tree.{Code, end, store, bind, Act, leaf, unit, fetch, fetch_word, update, eval, apply, call, prim, read, write, case, nested, fail, act_of, before_of, arm_of, code_of, arms_of, all_before, act_step, stmt_step, alt_step, block_step}
 
-pub act_of-Unit : (v : Val) → act_of (Unit v) ≡ unit v
+pub act_of-Unit : (v : Val) → act_of (Unit v) ≡ leaf (unit v)
 unfolding act_of arm_of code_of
 act_of-Unit v = ap act_of (sym (rolls-Unit v)) ∙ fold-roll-Op Act (Code → Code) (Shape × Code) Code act_step stmt_step alt_step block_step (open'.Unit v)
 
-pub act_of-Fetch : (w : Word) → act_of (Fetch w) ≡ fetch w
+pub act_of-Fetch : (w : Word) → act_of (Fetch w) ≡ leaf (fetch w)
 unfolding act_of arm_of code_of
 act_of-Fetch w = ap act_of (sym (rolls-Fetch w)) ∙ fold-roll-Op Act (Code → Code) (Shape × Code) Code act_step stmt_step alt_step block_step (open'.Fetch w)
 
-pub act_of-FetchWord : (w : Word) (i : ℕ) → act_of (FetchWord w i) ≡ fetch_word w i
+pub act_of-FetchWord : (w : Word) (i : ℕ) → act_of (FetchWord w i) ≡ leaf (fetch_word w i)
 unfolding act_of arm_of code_of
 act_of-FetchWord w i = ap act_of (sym (rolls-FetchWord w i)) ∙ fold-roll-Op Act (Code → Code) (Shape × Code) Code act_step stmt_step alt_step block_step (open'.FetchWord w i)
 
-pub act_of-Update : (w : Word) (v : Val) → act_of (Update w v) ≡ update w v
+pub act_of-Update : (w : Word) (v : Val) → act_of (Update w v) ≡ leaf (update w v)
 unfolding act_of arm_of code_of
 act_of-Update w v = ap act_of (sym (rolls-Update w v)) ∙ fold-roll-Op Act (Code → Code) (Shape × Code) Code act_step stmt_step alt_step block_step (open'.Update w v)
 
-pub act_of-Eval : (w : Word) → act_of (Eval w) ≡ eval w
+pub act_of-Eval : (w : Word) → act_of (Eval w) ≡ leaf (eval w)
 unfolding act_of arm_of code_of
 act_of-Eval w = ap act_of (sym (rolls-Eval w)) ∙ fold-roll-Op Act (Code → Code) (Shape × Code) Code act_step stmt_step alt_step block_step (open'.Eval w)
 
-pub act_of-Apply : (v : Val) (w : Word) → act_of (Apply v w) ≡ apply v w
+pub act_of-Apply : (v : Val) (w : Word) → act_of (Apply v w) ≡ leaf (apply v w)
 unfolding act_of arm_of code_of
 act_of-Apply v w = ap act_of (sym (rolls-Apply v w)) ∙ fold-roll-Op Act (Code → Code) (Shape × Code) Code act_step stmt_step alt_step block_step (open'.Apply v w)
 
-pub act_of-Call : (f : ProcId) (ws : List Word) → act_of (Call f ws) ≡ call f ws
+pub act_of-Call : (f : ProcId) (ws : List Word) → act_of (Call f ws) ≡ leaf (call f ws)
 unfolding act_of arm_of code_of
 act_of-Call f ws = ap act_of (sym (rolls-Call f ws)) ∙ fold-roll-Op Act (Code → Code) (Shape × Code) Code act_step stmt_step alt_step block_step (open'.Call f ws)
 
-pub act_of-Prim : (p : PrimOp) (a b : Word) → act_of (Prim p a b) ≡ prim p a b
+pub act_of-Prim : (p : PrimOp) (a b : Word) → act_of (Prim p a b) ≡ leaf (prim p a b)
 unfolding act_of arm_of code_of
 act_of-Prim p a b = ap act_of (sym (rolls-Prim p a b)) ∙ fold-roll-Op Act (Code → Code) (Shape × Code) Code act_step stmt_step alt_step block_step (open'.Prim p a b)
 
-pub act_of-Read : act_of Read ≡ read
+pub act_of-Read : act_of Read ≡ leaf read
 unfolding act_of arm_of code_of
 act_of-Read = ap act_of (sym rolls-Read) ∙ fold-roll-Op Act (Code → Code) (Shape × Code) Code act_step stmt_step alt_step block_step open'.Read
 
-pub act_of-Write : (w : Word) → act_of (Write w) ≡ write w
+pub act_of-Write : (w : Word) → act_of (Write w) ≡ leaf (write w)
 unfolding act_of arm_of code_of
 act_of-Write w = ap act_of (sym (rolls-Write w)) ∙ fold-roll-Op Act (Code → Code) (Shape × Code) Code act_step stmt_step alt_step block_step (open'.Write w)
 
@@ -66,7 +66,7 @@ pub act_of-Nested : (b : Box Block Global) → act_of (Nested b) ≡ nested (cod
 unfolding act_of arm_of code_of
 act_of-Nested b = ap act_of (sym (rolls-Nested b)) ∙ fold-roll-Op Act (Code → Code) (Shape × Code) Code act_step stmt_step alt_step block_step (open'.Nested b)
 
-pub act_of-Fail : act_of Fail ≡ fail
+pub act_of-Fail : act_of Fail ≡ leaf fail
 unfolding act_of arm_of code_of
 act_of-Fail = ap act_of (sym rolls-Fail) ∙ fold-roll-Op Act (Code → Code) (Shape × Code) Code act_step stmt_step alt_step block_step open'.Fail
 

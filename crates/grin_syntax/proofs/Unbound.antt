@@ -6,7 +6,7 @@ use Rattle.grin_syntax.specs.declared.program.Target.TheVariants as to
 use Rattle.grin_syntax.specs.declared.program.Shape.{Shape}
 use Rattle.grin_syntax.specs.declared.program.Shape.TheVariants as shape
 use Rattle.grin_syntax.specs.declared.program.Cell.{Cell}
-use Rattle.grin_syntax.specs.Tree.{Code, end, store, bind, Act, unit, fetch, fetch_word, update, eval, apply, call, prim, read, write, case, nested, fail, Arms, no_arm, arm, Procedure}
+use Rattle.grin_syntax.specs.Tree.{Code, end, store, bind, Act, leaf, unit, fetch, fetch_word, update, eval, apply, call, prim, read, write, case, nested, fail, Arms, no_arm, arm, Procedure}
 use Rattle.grin_syntax.specs.Binders.{numbers_of, target_vars, shape_vars, cell_vars, act_vars, code_vars, arms_vars, procs_vars}
 use Rattle.grin_syntax.specs.Fresh.{past_vars, past_target, past_shape, past_cells, past_act, past_code, past_arms, past_procs}
 use Rattle.seq.specs.Lists.{times}
@@ -47,17 +47,7 @@ module _ (x : ℕ) where
     pub past_act_none : (o : Act) → past_act o ≤ x → times x (act_vars o) ≡ 0
     past_act_none (case v as') h = past_arms_none as' h
     past_act_none (nested b) h = past_code_none b h
-    past_act_none (unit v) h = refl
-    past_act_none (fetch a) h = refl
-    past_act_none (fetch_word a i) h = refl
-    past_act_none (update a v) h = refl
-    past_act_none (eval a) h = refl
-    past_act_none (apply v a) h = refl
-    past_act_none (call f ws) h = refl
-    past_act_none (prim f a b) h = refl
-    past_act_none read h = refl
-    past_act_none (write a) h = refl
-    past_act_none fail h = refl
+    past_act_none (leaf l) h = refl
 
     pub past_code_none : (b : Code) → past_code b ≤ x → times x (code_vars b) ≡ 0
     past_code_none (end o) h = past_act_none o h

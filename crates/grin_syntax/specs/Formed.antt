@@ -15,7 +15,7 @@ use Rattle.grin_syntax.specs.declared.program.Shape as S
 use Rattle.grin_syntax.specs.declared.program.Shape.TheVariants as shape
 use Rattle.grin_syntax.specs.declared.program.Cell.{Cell}
 use Rattle.grin_syntax.specs.declared.program.GlobalCell.{GlobalCell}
-use Rattle.grin_syntax.specs.Tree.{Code, end, store, bind, Act, unit, fetch, fetch_word, update, eval, apply, call, prim, read, write, case, nested, fail, Arms, no_arm, arm, Procedure, Program}
+use Rattle.grin_syntax.specs.Tree.{Code, end, store, bind, Act, leaf, unit, fetch, fetch_word, update, eval, apply, call, prim, read, write, case, nested, fail, Arms, no_arm, arm, Procedure, Program}
 use Rattle.grin_syntax.specs.Binders.{numbers_of, shape_vars, cell_vars, program_vars, program_sites}
 use Rattle.grin_syntax.specs.Tags.{is_part}
 pub use Rattle.seq.specs.Lists.{AllOf}
@@ -85,19 +85,19 @@ module _ (p : Program) where
 
   unfoldable mutual
     pub ActFormed : Scope → Act → Type 0
-    ActFormed scope (unit v) = ValFormed scope v
-    ActFormed scope (fetch a) = WordFormed scope a
-    ActFormed scope (fetch_word a i) = WordFormed scope a
-    ActFormed scope (update a v) = WordFormed scope a × ValFormed scope v
-    ActFormed scope (eval a) = WordFormed scope a
-    ActFormed scope (apply v a) = ValFormed scope v × WordFormed scope a
-    ActFormed scope (call f ws) = ProcKnown f × AllOf (WordFormed scope) ws
-    ActFormed scope (prim f a b) = WordFormed scope a × WordFormed scope b
-    ActFormed scope read = Unit {0}
-    ActFormed scope (write a) = WordFormed scope a
+    ActFormed scope (leaf (unit v)) = ValFormed scope v
+    ActFormed scope (leaf (fetch a)) = WordFormed scope a
+    ActFormed scope (leaf (fetch_word a i)) = WordFormed scope a
+    ActFormed scope (leaf (update a v)) = WordFormed scope a × ValFormed scope v
+    ActFormed scope (leaf (eval a)) = WordFormed scope a
+    ActFormed scope (leaf (apply v a)) = ValFormed scope v × WordFormed scope a
+    ActFormed scope (leaf (call f ws)) = ProcKnown f × AllOf (WordFormed scope) ws
+    ActFormed scope (leaf (prim f a b)) = WordFormed scope a × WordFormed scope b
+    ActFormed scope (leaf read) = Unit {0}
+    ActFormed scope (leaf (write a)) = WordFormed scope a
     ActFormed scope (case v as') = ValFormed scope v × ArmsFormed scope as'
     ActFormed scope (nested b) = CodeFormed scope b
-    ActFormed scope fail = Unit {0}
+    ActFormed scope (leaf fail) = Unit {0}
 
     -- what a store binds is in scope in all its cells and after it, what an operation binds after
     -- it

@@ -21,7 +21,7 @@ use Rattle.grin_syntax.specs.declared.program.Shape as S
 use Rattle.grin_syntax.specs.declared.program.Shape.TheVariants as shape
 use Rattle.grin_syntax.specs.declared.program.Cell.{Cell}
 use Rattle.grin_syntax.specs.declared.program.GlobalCell.{GlobalCell}
-use Rattle.grin_syntax.specs.Tree.{Code, end, store, bind, Act, unit, fetch, fetch_word, update, eval, apply, call, prim, read, write, case, nested, fail, Arms, no_arm, arm, Procedure, Program}
+use Rattle.grin_syntax.specs.Tree.{Code, end, store, bind, Act, leaf, unit, fetch, fetch_word, update, eval, apply, call, prim, read, write, case, nested, fail, Arms, no_arm, arm, Procedure, Program}
 use Rattle.grin_syntax.specs.Binders.{procedure_vars}
 
 -- the rank of a variable: the place, from 0, at which it stands first
@@ -119,20 +119,20 @@ module _ (p : Program) where
 
     -- the first line of an operation
     unfoldable pub first_line : Act → List ℕ
-    first_line (unit v) = codes "unit " ++ val_text v
-    first_line (fetch w) = codes "fetch " ++ word_text w
-    first_line (fetch_word w i) = codes "fetch " ++ word_text w ++ codes " " ++ decimal i
-    first_line (update w v) = codes "update " ++ word_text w ++ codes " " ++ val_text v
-    first_line (eval w) = codes "eval " ++ word_text w
-    first_line (apply v w) = codes "apply " ++ val_text v ++ codes " " ++ word_text w
-    first_line (call f ws) =
+    first_line (leaf (unit v)) = codes "unit " ++ val_text v
+    first_line (leaf (fetch w)) = codes "fetch " ++ word_text w
+    first_line (leaf (fetch_word w i)) = codes "fetch " ++ word_text w ++ codes " " ++ decimal i
+    first_line (leaf (update w v)) = codes "update " ++ word_text w ++ codes " " ++ val_text v
+    first_line (leaf (eval w)) = codes "eval " ++ word_text w
+    first_line (leaf (apply v w)) = codes "apply " ++ val_text v ++ codes " " ++ word_text w
+    first_line (leaf (call f ws)) =
         codes "call " ++ procedure_name (slice_get p.procs f.0) ++ spaced word_text ws
-    first_line (prim o a b) = operator o ++ codes " " ++ word_text a ++ codes " " ++ word_text b
-    first_line read = codes "read"
-    first_line (write w) = codes "write " ++ word_text w
+    first_line (leaf (prim o a b)) = operator o ++ codes " " ++ word_text a ++ codes " " ++ word_text b
+    first_line (leaf read) = codes "read"
+    first_line (leaf (write w)) = codes "write " ++ word_text w
     first_line (case v as') = codes "case " ++ val_text v ++ codes " of"
     first_line (nested b) = codes "do"
-    first_line fail = codes "fail"
+    first_line (leaf fail) = codes "fail"
 
     unfoldable mutual
       -- the lines of an operation after its first one; the margin is that of the first line

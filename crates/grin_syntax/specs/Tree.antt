@@ -20,6 +20,20 @@ use Rattle.grin_syntax.specs.declared.program.Block.{Block}
 use Rattle.grin_syntax.specs.declared.program.Op.TheOpen.{Op-F, Stmt-F, Alt-F, Block-F, Unit as Unit', Fetch, FetchWord, Update, Eval, Apply, Call, Prim, Read, Write, Case, Nested, Fail, Store, Bind}
 use Rattle.grin_syntax.specs.declared.program.Op.TheFolds.{fold-Op, fold-Stmt, fold-Alt, fold-Block}
 
+-- an operation without a block
+pub data Leaf : Type 0 where
+  unit : Val → Leaf
+  fetch : Word → Leaf
+  fetch_word : Word → ℕ → Leaf
+  update : Word → Val → Leaf
+  eval : Word → Leaf
+  apply : Val → Word → Leaf
+  call : ProcId → List Word → Leaf
+  prim : PrimOp → Word → Word → Leaf
+  read : Leaf
+  write : Word → Leaf
+  fail : Leaf
+
 mutual
   -- a block
   pub data Code : Type 0 where
@@ -27,21 +41,11 @@ mutual
     store : List Cell → Code → Code
     bind : Target → Act → Code → Code
 
-  -- an operation
+  -- an operation: one without a block, a case, or a block in the place of an operation
   pub data Act : Type 0 where
-    unit : Val → Act
-    fetch : Word → Act
-    fetch_word : Word → ℕ → Act
-    update : Word → Val → Act
-    eval : Word → Act
-    apply : Val → Word → Act
-    call : ProcId → List Word → Act
-    prim : PrimOp → Word → Word → Act
-    read : Act
-    write : Word → Act
+    leaf : Leaf → Act
     case : Val → Arms → Act
     nested : Code → Act
-    fail : Act
 
   -- the alternatives of a case
   pub data Arms : Type 0 where
@@ -59,19 +63,19 @@ arms_of (a ∷ as') = arm a.0 a.1 (arms_of as')
 
 -- one level of a program, where what stands below is a tree already
 abbrev pub act_step : Op-F Act (Code → Code) (Shape × Code) Code → Act
-act_step (Unit' v) = unit v
-act_step (Fetch w) = fetch w
-act_step (FetchWord w i) = fetch_word w i
-act_step (Update w v) = update w v
-act_step (Eval w) = eval w
-act_step (Apply v w) = apply v w
-act_step (Call f ws) = call f ws
-act_step (Prim p a b) = prim p a b
-act_step Read = read
-act_step (Write w) = write w
+act_step (Unit' v) = leaf (unit v)
+act_step (Fetch w) = leaf (fetch w)
+act_step (FetchWord w i) = leaf (fetch_word w i)
+act_step (Update w v) = leaf (update w v)
+act_step (Eval w) = leaf (eval w)
+act_step (Apply v w) = leaf (apply v w)
+act_step (Call f ws) = leaf (call f ws)
+act_step (Prim p a b) = leaf (prim p a b)
+act_step Read = leaf read
+act_step (Write w) = leaf (write w)
 act_step (Case v alts) = case v (arms_of alts)
 act_step (Nested b) = nested b.value
-act_step Fail = fail
+act_step Fail = leaf fail
 
 abbrev pub stmt_step : Stmt-F Act (Code → Code) (Shape × Code) Code → Code → Code
 stmt_step (Store cells) = store cells

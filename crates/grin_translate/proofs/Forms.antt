@@ -17,7 +17,7 @@ use Rattle.core_meaning.specs.Evaluation as core'
 use Rattle.core_meaning.specs.Evaluation.{State, Gives, DelayedEvaluator, and_then, with_number, name, names, force, give_all, apply, prim, form}
 use Rattle.grin_syntax.specs.declared.program.VarId.{VarId}
 use Rattle.grin_syntax.specs.declared.program.Word.TheVariants as word
-use Rattle.grin_syntax.specs.Tree.{Code, bind, end, unit}
+use Rattle.grin_syntax.specs.Tree.{Code, bind, end, leaf, unit}
 use Rattle.grin_syntax.specs.declared.program.Val.TheVariants as val
 use Rattle.grin_syntax.specs.declared.program.Target.TheVariants as to
 use Rattle.grin_syntax.specs.Tree as tree
@@ -62,10 +62,10 @@ module _ (p : Program) (o : DelayedEvaluator) (c : Calls) (on : CallsMatch p o c
   number_match n out s w (Part f xs) genv v i d b go al g at h = rw (at, tags_tell p (value_kind p (Part f xs)) Number (kind_there p (length s.heap) (Part f xs) g) (has_number p)) (none_accepts (alike_passing p out s w genv al))
 
   abbrev last_block : ℕ → PrimOp → Code
-  last_block t op = bind (to.One (temp p base (t + 4))) (tree.prim (operation op) (word.Var (temp p base (t + 1))) (word.Var (temp p base (t + 3)))) (end (unit (val.Node (tag p Number) (word.Var (temp p base (t + 4)) ∷ []))))
+  last_block t op = bind (to.One (temp p base (t + 4))) (tree.leaf (tree.prim (operation op) (word.Var (temp p base (t + 1))) (word.Var (temp p base (t + 3))))) (end (leaf (unit (val.Node (tag p Number) (word.Var (temp p base (t + 4)) ∷ [])))))
 
   abbrev second_block : ℕ → PrimOp → Var → Code
-  second_block t op y = bind (to.Node (temp p base (t + 2))) (tree.eval (blocks.word p base y)) (on_number p base (temp p base (t + 2)) (temp p base (t + 3)) (last_block t op))
+  second_block t op y = bind (to.Node (temp p base (t + 2))) (tree.leaf (tree.eval (blocks.word p base y))) (on_number p base (temp p base (t + 2)) (temp p base (t + 3)) (last_block t op))
 
   -- what is done with two numbers
   last_match : (n : ℕ) (out : List ℕ) (s : State) (w : World) (op : PrimOp) (i j : ℤ) (genv : Env) (t d : ℕ) → n ≤ length s.heap → Alike p out s w → genv (temp p base (t + 1)).0 ≡ Some (words (number i ∷ [])) → genv (temp p base (t + 3)).0 ≡ Some (words (number j ∷ []))

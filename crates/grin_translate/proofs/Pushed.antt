@@ -27,7 +27,7 @@ use Rattle.grin_syntax.specs.declared.program.Op.{Op}
 use Rattle.grin_syntax.specs.declared.program.Op.TheVariants.{Case}
 use Rattle.grin_syntax.specs.declared.program.Stmt.{Stmt}
 use Rattle.grin_syntax.specs.declared.program.Stmt.TheVariants.{Store, Bind}
-use Rattle.grin_syntax.specs.Tree.{Code, fail, end, bind, store, Act, nested, case, arm_of, code_of, apply, eval, Arms, arm, no_arm, arms_of, act_of, before_of, all_before, as_act}
+use Rattle.grin_syntax.specs.Tree.{Code, leaf, fail, end, bind, store, Act, nested, case, arm_of, code_of, apply, eval, Arms, arm, no_arm, arms_of, act_of, before_of, all_before, as_act}
 use Rattle.grin_syntax.proofs.TreeOf.{before_of-Store, before_of-Bind, code_of-parts, act_of-Case}
 use Rattle.grin_translate.specs.declared.tags.Kind.TheVariants.{Constructor}
 use Rattle.grin_translate.specs.Tags.{tag}
@@ -81,23 +81,23 @@ onto_none (x ∷ xs) = ap (arm x.0 x.1) (onto_none xs)
 module _ (p : Program) (base : ℕ) where
   -- ---- applications
 
-  gives_same : (t : ℕ) (v : VarId) (a : Word) (as' : List Word) → given_to p base t (apply (NodeVar v) a) as' ≡ give_block p base t v a as'
+  gives_same : (t : ℕ) (v : VarId) (a : Word) (as' : List Word) → given_to p base t (leaf (apply (NodeVar v) a)) as' ≡ give_block p base t v a as'
   gives_same t v a [] = refl
-  gives_same t v a (b ∷ bs) = ap (bind (to.Node (temp p base t)) (apply (NodeVar v) a)) (gives_same (suc t) (temp p base t) b bs)
+  gives_same t v a (b ∷ bs) = ap (bind (to.Node (temp p base t)) (leaf (apply (NodeVar v) a))) (gives_same (suc t) (temp p base t) b bs)
 
-  pub applied_same : (t : ℕ) (x : Word) (as' : List Word) → given_to p base t (eval x) as' ≡ apply_block p base t x as'
+  pub applied_same : (t : ℕ) (x : Word) (as' : List Word) → given_to p base t (leaf (eval x)) as' ≡ apply_block p base t x as'
   applied_same t x [] = refl
-  applied_same t x (a ∷ as') = ap (bind (to.Node (temp p base t)) (eval x)) (gives_same (suc t) (temp p base t) a as')
+  applied_same t x (a ∷ as') = ap (bind (to.Node (temp p base t)) (leaf (eval x))) (gives_same (suc t) (temp p base t) a as')
 
   -- one more word is given
-  pub given_more : (ss pushed : List Stmt) (o o' : Op) (v : VarId) (t : ℕ) (w : Word) (x : core.Var) (xs rest : List core.Var) → pushed ≡ ss ++ Bind (to.Node v) o ∷ [] → act_of o' ≡ apply (NodeVar v) w → v ≡ temp p base t → w ≡ word p base x → xs ≡ x ∷ rest
+  pub given_more : (ss pushed : List Stmt) (o o' : Op) (v : VarId) (t : ℕ) (w : Word) (x : core.Var) (xs rest : List core.Var) → pushed ≡ ss ++ Bind (to.Node v) o ∷ [] → act_of o' ≡ leaf (apply (NodeVar v) w) → v ≡ temp p base t → w ≡ word p base x → xs ≡ x ∷ rest
       → all_before (map before_of pushed) (given_to p base (t + 1) (act_of o') (map (word p base) rest)) ≡ all_before (map before_of ss) (given_to p base t (act_of o) (map (word p base) xs))
   given_more ss pushed o o' v t w x xs rest e f g h i =
       let n : t + 1 ≡ suc t = omega arith in
       ap (λ q. all_before (map before_of q) (given_to p base (t + 1) (act_of o') (map (word p base) rest))) e
       ∙ all_before_push ss (Bind (to.Node v) o) (given_to p base (t + 1) (act_of o') (map (word p base) rest))
       ∙ ap (λ s. all_before (map before_of ss) (s (given_to p base (t + 1) (act_of o') (map (word p base) rest)))) (before_of-Bind (to.Node v) o)
-      ∙ (λ z. all_before (map before_of ss) (bind (to.Node (g z)) (act_of o) (given_to p base (n z) ((f ∙ (λ y. apply (NodeVar (g y)) (h y))) z) (map (word p base) rest))))
+      ∙ (λ z. all_before (map before_of ss) (bind (to.Node (g z)) (act_of o) (given_to p base (n z) ((f ∙ (λ y. leaf (apply (NodeVar (g y)) (h y)))) z) (map (word p base) rest))))
       ∙ ap (λ ys. all_before (map before_of ss) (given_to p base t (act_of o) (map (word p base) ys))) (sym i)
 
   -- ---- primitive operations
@@ -210,7 +210,7 @@ module _ (p : Program) (base : ℕ) where
         ∙ sym (h (branches_of (map branch (drop (i + 1) bs))))
         ∙ ap (λ xs. t + branch_temps (branches_of (map branch xs))) (sym d)
 
-  pub all_made : (alts pushed : List Alt) (a : Alt) (bs : List Branch) (i t : ℕ) (v : VarId) (whole : Arms) → pushed ≡ alts ++ a ∷ [] → length bs ≤ i → arm_of a ≡ (shape.Else, end fail)
+  pub all_made : (alts pushed : List Alt) (a : Alt) (bs : List Branch) (i t : ℕ) (v : VarId) (whole : Arms) → pushed ≡ alts ++ a ∷ [] → length bs ≤ i → arm_of a ≡ (shape.Else, end (leaf fail))
       → prepend_arms (map arm_of alts) (Rest v t bs i) ≡ whole → arms_of (map arm_of pushed) ≡ whole
   all_made alts pushed a bs i t v whole e le f w =
       sym (onto_none (map arm_of pushed)) ∙ one_more alts pushed a no_arm e

@@ -8,7 +8,7 @@ use Rattle.arity_check.specs.declared.normal.Branch.{Branch, fold-roll-Branch}
 use Rattle.arity_check.specs.declared.normal.Branch.TheVariants as branch'
 use Rattle.arity_check.specs.declared.normal.Branch.TheVariants.{rolls-Con, rolls-Int, rolls-Default}
 use Rattle.arity_check.specs.declared.normal.Bound.{Bound}
-use Rattle.arity_check.specs.Program.{Term, App, Let, Case, Branches, OnCon, OnInt, OnAny, body_layer, branch_layer, branches_of, term, branch}
+use Rattle.arity_check.specs.Program.{Term, Let, Case, Branches, OnCon, OnInt, OnAny, body_layer, branch_layer, branches_of, term, branch}
 use Rattle.arity_check.proofs.TermOf.{term_of-App}
 
 pub term-Let : (group : List Bound) (inner : Box Body _) → term (body.Let group inner) ≡ Let group (term inner.value)

@@ -19,7 +19,7 @@ use Rattle.grin_syntax.specs.declared.program.Val.{Val}
 use Rattle.grin_syntax.specs.declared.program.Val.TheVariants.{NodeVar, Node}
 use Rattle.grin_syntax.specs.declared.program.Target.TheVariants as to
 use Rattle.grin_syntax.specs.declared.program.Shape.TheVariants as shape
-use Rattle.grin_syntax.specs.Tree.{Code, end, store, bind, unit, eval, apply, call, prim, case, fail, Arms, no_arm, arm, as_act}
+use Rattle.grin_syntax.specs.Tree.{Code, end, store, bind, leaf, unit, eval, apply, call, prim, case, fail, Arms, no_arm, arm, as_act}
 use Rattle.grin_translate.specs.declared.tags.Delay.TheVariants.{Calls, Applies, Operates}
 use Rattle.grin_translate.specs.declared.tags.Kind.TheVariants.{Number, Constructor, Waits, Lacks}
 use Rattle.grin_translate.specs.Tags.{tag, proc}
@@ -35,7 +35,7 @@ operation Lt = op.Lt
 
 -- the alternatives for all else
 abbrev pub else_fail : Arms
-else_fail = arm shape.Else (end fail) no_arm
+else_fail = arm shape.Else (end (leaf fail)) no_arm
 
 -- how many variables for values between operations a form and an expression bind
 abbrev pub form_temps : Flat → ℕ
@@ -86,13 +86,13 @@ module _ (p : Program) (base : ℕ) where
 
   -- the node v is given these words, one at a time
   abbrev pub give_block : ℕ → VarId → Word → List Word → Code
-  give_block t v a [] = end (apply (NodeVar v) a)
+  give_block t v a [] = end (leaf (apply (NodeVar v) a))
   give_block t v a (b ∷ bs) =
-      bind (to.Node (temp t)) (apply (NodeVar v) a) (give_block (suc t) (temp t) b bs)
+      bind (to.Node (temp t)) (leaf (apply (NodeVar v) a)) (give_block (suc t) (temp t) b bs)
 
   abbrev pub apply_block : ℕ → Word → List Word → Code
-  apply_block t x [] = end (eval x)
-  apply_block t x (a ∷ as') = bind (to.Node (temp t)) (eval x) (give_block (suc t) (temp t) a as')
+  apply_block t x [] = end (leaf (eval x))
+  apply_block t x (a ∷ as') = bind (to.Node (temp t)) (leaf (eval x)) (give_block (suc t) (temp t) a as')
 
   -- where the node v is a number, i is that number in the block
   abbrev pub on_number : VarId → VarId → Code → Code
@@ -100,18 +100,18 @@ module _ (p : Program) (base : ℕ) where
 
   abbrev pub prim_block : ℕ → PrimOp → Word → Word → Code
   prim_block t op a b =
-      bind (to.Node (temp t)) (eval a)
+      bind (to.Node (temp t)) (leaf (eval a))
       (on_number (temp t) (temp (t + 1))
-      (bind (to.Node (temp (t + 2))) (eval b)
+      (bind (to.Node (temp (t + 2))) (leaf (eval b))
       (on_number (temp (t + 2)) (temp (t + 3))
-      (bind (to.One (temp (t + 4))) (prim (operation op) (Var (temp (t + 1))) (Var (temp (t + 3))))
-      (end (unit (Node (tag p Number) (Var (temp (t + 4)) ∷ []))))))))
+      (bind (to.One (temp (t + 4))) (leaf (prim (operation op) (Var (temp (t + 1))) (Var (temp (t + 3)))))
+      (end (leaf (unit (Node (tag p Number) (Var (temp (t + 4)) ∷ [])))))))))
 
   abbrev pub form_block : ℕ → Flat → Code
-  form_block t (flat.Int k) = end (unit (node (flat.Int k)))
-  form_block t (flat.Con c xs) = end (unit (node (flat.Con c xs)))
-  form_block t (flat.Part f xs) = end (unit (node (flat.Part f xs)))
-  form_block t (flat.Call f xs) = end (call (proc p (Calls f)) (map word xs))
+  form_block t (flat.Int k) = end (leaf (unit (node (flat.Int k))))
+  form_block t (flat.Con c xs) = end (leaf (unit (node (flat.Con c xs))))
+  form_block t (flat.Part f xs) = end (leaf (unit (node (flat.Part f xs))))
+  form_block t (flat.Call f xs) = end (leaf (call (proc p (Calls f)) (map word xs)))
   form_block t (flat.Apply x xs) = apply_block t (word x) (map word xs)
   form_block t (flat.Prim op x y) = prim_block t op (word x) (word y)
 

@@ -8,3 +8,4 @@ pub mod Same
 -- devices of the proofs
 pub mod Numbered
 pub mod Pieces
+pub mod Source

@@ -12,7 +12,7 @@ use Rattle.grin_syntax.specs.declared.program.GlobalCell.{GlobalCell}
 use Rattle.grin_syntax.specs.declared.program.Val.{Val}
 use Rattle.grin_syntax.specs.declared.program.Val.TheVariants.{Node, NodeVar}
 use Rattle.grin_syntax.specs.declared.program.Target.TheVariants as to
-use Rattle.grin_syntax.specs.Tree.{Code, end, store, bind, Act, unit, eval, apply, prim, Arms, arm, Procedure}
+use Rattle.grin_syntax.specs.Tree.{Code, end, store, bind, Act, leaf, unit, eval, apply, prim, Arms, arm, Procedure}
 use Rattle.grin_translate.specs.declared.tags.Kind.TheVariants.{Number, Constructor, Waits}
 use Rattle.grin_translate.specs.declared.tags.Delay.TheVariants.{Calls, Reads}
 use Rattle.grin_translate.specs.Tags.{tag, fun_name, takes_input}
@@ -34,27 +34,27 @@ module _ (p : Program) where
   -- k is the operation's result, which the block gives
   abbrev pub result_of : PrimOp → VarId → VarId → VarId → Code
   result_of op i j k =
-      bind (to.One k) (prim (operation op) (Var i) (Var j))
-      (end (unit (Node (tag p Number) (Var k ∷ []))))
+      bind (to.One k) (leaf (prim (operation op) (Var i) (Var j)))
+      (end (leaf (unit (Node (tag p Number) (Var k ∷ [])))))
 
   -- the word's value is v, and where this is a number it is i in what follows
   abbrev pub evaluated_of : Word → VarId → VarId → Code → Code
-  evaluated_of a v i b = bind (to.Node v) (eval a) (on_number p 0 v i b)
+  evaluated_of a v i b = bind (to.Node v) (leaf (eval a)) (on_number p 0 v i b)
 
   -- the operation o gives a node, which is given these words, one at a time
   abbrev pub given_to : ℕ → ℕ → Act → List Word → Code
   given_to base t o [] = end o
   given_to base t o (a ∷ as') =
       bind (to.Node (temp p base t)) o
-      (given_to base (suc t) (apply (NodeVar (temp p base t)) a) as')
+      (given_to base (suc t) (leaf (apply (NodeVar (temp p base t)) a)) as')
 
   -- the list of the next byte and of the others: the byte's cell and that of the rest of the input
   abbrev pub more_of : ℕ → Code
   more_of base =
       store (cell p base 0 (Node (tag p Number) (Var (temp p base 0) ∷ []))
       ∷ (cell p base 1 (Node (tag p (Waits Reads)) []) ∷ []))
-      (end (unit
-      (Node (tag p (Constructor (cons p))) (Var (local p base 0) ∷ Var (local p base 1) ∷ []))))
+      (end (leaf (unit
+      (Node (tag p (Constructor (cons p))) (Var (local p base 0) ∷ Var (local p base 1) ∷ [])))))
 
   -- the global cell of a function, where it has no parameters
   abbrev pub shared_of : ℕ → List GlobalCell

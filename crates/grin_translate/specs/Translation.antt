@@ -11,7 +11,7 @@ use Rattle.grin_syntax.specs.declared.program.Word.TheVariants.{Var}
 use Rattle.grin_syntax.specs.declared.program.Val.TheVariants.{NodeVar, Node}
 use Rattle.grin_syntax.specs.declared.program.Target.TheVariants as to
 use Rattle.grin_syntax.specs.declared.program.Shape.TheVariants as shape
-use Rattle.grin_syntax.specs.Tree.{Code, end, store, bind, unit, eval, call, read, write, case, fail, arm, no_arm, Procedure, Program}
+use Rattle.grin_syntax.specs.Tree.{Code, end, store, bind, leaf, unit, eval, call, read, write, case, fail, arm, no_arm, Procedure, Program}
 use Rattle.grin_translate.specs.declared.tags.Delay.{Delay}
 use Rattle.grin_translate.specs.declared.tags.Delay.TheVariants.{Calls, Applies, Operates, Reads}
 use Rattle.grin_translate.specs.declared.tags.Kind.TheVariants.{Number, Constructor, Waits}
@@ -55,24 +55,24 @@ module _ (p : core.Program) where
         record { name = name; params = map (local p base) (numbers_from 0 n); body = b }
 
     abbrev pub fun_body : Option Function → Code
-    fun_body None = end fail
+    fun_body None = end (leaf fail)
     fun_body (Some f) = block p base 0 f.body
 
     -- what follows the next byte, -1 where there is none
     abbrev pub byte_body : Code
     byte_body =
-        bind (to.Node (temp p base 1)) (unit (Node (tag p Number) (Var (temp p base 0) ∷ [])))
+        bind (to.Node (temp p base 1)) (leaf (unit (Node (tag p Number) (Var (temp p base 0) ∷ []))))
         (end (case (NodeVar (temp p base 1))
-        (arm (shape.Int (negsuc 0)) (end (unit (Node (tag p (Constructor (nil p))) [])))
+        (arm (shape.Int (negsuc 0)) (end (leaf (unit (Node (tag p (Constructor (nil p))) []))))
         (arm shape.Else
         (store (cell p base 0 (Node (tag p Number) (Var (temp p base 0) ∷ []))
         ∷ (cell p base 1 (Node (tag p (Waits Reads)) []) ∷ []))
-        (end (unit
-        (Node (tag p (Constructor (cons p))) (Var (local p base 0) ∷ Var (local p base 1) ∷ [])))))
+        (end (leaf (unit
+        (Node (tag p (Constructor (cons p))) (Var (local p base 0) ∷ Var (local p base 1) ∷ []))))))
         no_arm))))
 
     abbrev pub input_body : Code
-    input_body = bind (to.One (temp p base 0)) read byte_body
+    input_body = bind (to.One (temp p base 0)) (leaf read) byte_body
 
     -- what is done where a delayed form is forced
     abbrev pub delay_body : Delay → Code
@@ -85,16 +85,16 @@ module _ (p : core.Program) where
     -- puts out a number, and goes on with the tail
     abbrev pub write_block : Code
     write_block =
-        bind to.Nothing (write (Var (temp p base 4))) (end (call print (Var (temp p base 2) ∷ [])))
+        bind to.Nothing (leaf (write (Var (temp p base 4)))) (end (leaf (call print (Var (temp p base 2) ∷ []))))
 
     -- what is done with a head and a tail
     abbrev pub pair_block : Code
     pair_block =
-        bind (to.Node (temp p base 3)) (eval (Var (temp p base 1)))
+        bind (to.Node (temp p base 3)) (leaf (eval (Var (temp p base 1))))
         (on_number p base (temp p base 3) (temp p base 4) write_block)
 
     abbrev pub nil_block : Code
-    nil_block = end (unit (Node (tag p (Constructor (nil p))) []))
+    nil_block = end (leaf (unit (Node (tag p (Constructor (nil p))) [])))
 
     -- what is done with the value of a list
     abbrev pub list_block : Code
@@ -106,13 +106,13 @@ module _ (p : core.Program) where
         else_fail)))
 
     abbrev pub print_body : Code
-    print_body = bind (to.Node (temp p base 0)) (eval (Var (local p base 0))) list_block
+    print_body = bind (to.Node (temp p base 0)) (leaf (eval (Var (local p base 0)))) list_block
 
     abbrev pub start_body : Code
     start_body =
         store (cell p base 0 (Node (tag p (Waits Reads)) [])
         ∷ (cell p base 1 (Node (tag p (Waits (Calls p.main))) (Var (local p base 0) ∷ [])) ∷ []))
-        (end (call print (Var (local p base 1) ∷ [])))
+        (end (leaf (call print (Var (local p base 1) ∷ []))))
 
   -- the variables of a procedure have so many numbers
   abbrev pub fun_span : Option Function → ℕ

@@ -2,20 +2,20 @@
 #![tactic(auto, using(grin_syntax::proofs::TreeOf::tree_of, crate::proofs::Pushed::pushed, crate::proofs::TermOf::term_of))]
 
 ghost use Rattle.std.specs.Prelude.{◌≡◌, [], ◌∷◌, ◌++◌, ◌+◌, IfOk, OnOk, cond, map, length};
-ghost use Rattle.arity_check.specs.Program.{program, term, branch, branches_of, Branches};
-ghost use Rattle.grin_syntax.specs.Tree.{act_of, arm_of, arms_of, before_of, code_of, all_before, Code, end, store, fail, nested, arm, no_arm, as_act};
+ghost use Rattle.arity_check.specs.Program.{term, branch, branches_of, Branches};
+ghost use Rattle.grin_syntax.specs.Tree.{act_of, arm_of, arms_of, before_of, code_of, all_before, Code, end, store, leaf, fail, nested, arm, no_arm, as_act};
 ghost use Rattle.grin_syntax.specs.declared.program.Val.TheVariants.{Node, NodeVar};
+ghost use Rattle.grin_translate.specs.Source.{source};
 ghost use Rattle.grin_translate.specs.Tags.{tag};
 ghost use Rattle.grin_translate.specs.Blocks.{word as word_of, node as node_of, cell_of, operation as operation_of, on_number as number_case, apply_block, prim_block, form_block, form_temps, block as block_of, temps, arms, branch_temps};
 ghost use Rattle.grin_translate.specs.Pieces.{result_of, evaluated_of, cell_of_local};
-ghost use Rattle.grin_translate.specs.Numbered.{NumbersMatchProgram};
 
-use crate::numbering::{Numbers, params};
+use crate::numbering::{NumberedProgram, params};
 use crate::tags::{Delay, Kind};
 use crate::variables::{Variables, as_u32};
-use arity_check::normal::{self, Body, Bound, Branch, Checked, Flat, Var};
+use arity_check::normal::{self, Body, Bound, Branch, Flat, Var};
 use grin_syntax::program::{
-    Alt, Block, Cell, Op, PrimOp, Shape, Site, Stmt, TagId, Target, Val, VarId, Word,
+    Alt, Block, Cell, Op, PrimOp, Shape, Stmt, TagId, Target, Val, VarId, Word,
 };
 use seq::Seq;
 use std::alloc::{AllocError, Global};
@@ -36,31 +36,28 @@ pub fn operation(op: normal::PrimOp) -> PrimOp
 }
 
 /// The word of a variable.
-fn word(p: &Checked, numbers: &Numbers, variables: &Variables, x: Var) -> Result<Word, AllocError>
-    requires { NumbersMatchProgram (program p.now) numbers.now }
-    ensures { IfOk result (λ w. w ≡ word_of (program p.now) variables.now.base x) }
+fn word(numbered: &NumberedProgram<'_>, variables: &Variables, x: Var) -> Result<Word, AllocError>
+    ensures { IfOk result (λ w. w ≡ word_of (source numbered.now) variables.now.base x) }
 {
     match x {
         Var::Local(x) => Ok(Word::Var(variables.local(x)?)),
-        Var::Global(f) => Ok(Word::Global(numbers.global(p, f))),
+        Var::Global(f) => Ok(Word::Global(numbered.global(f))),
     }
 }
 
 /// The words of some variables after other words.
 fn words(
-    p: &Checked,
-    numbers: &Numbers,
+    numbered: &NumberedProgram<'_>,
     variables: &Variables,
     before: Seq<Word>,
     xs: &[Var],
 ) -> Result<Seq<Word>, AllocError>
-    requires { NumbersMatchProgram (program p.now) numbers.now }
     ensures { IfOk result (λ ws. ws ≡ before
-        ++ map (word_of (program p.now) variables.now.base) xs.now) }
+        ++ map (word_of (source numbered.now) variables.now.base) xs.now) }
 {
     let mut made = before;
     for x in xs {
-        made.push(word(p, numbers, variables, *x)?)?;
+        made.push(word(numbered, variables, *x)?)?;
     }
     Ok(made)
 }
@@ -68,61 +65,57 @@ fn words(
 /// The node of some variables.
 fn node_of_all(
     alloc: Global,
-    p: &Checked,
-    numbers: &Numbers,
+    numbered: &NumberedProgram<'_>,
     variables: &Variables,
     kind: Kind,
     xs: &[Var],
 ) -> Result<Val, AllocError>
-    requires { NumbersMatchProgram (program p.now) numbers.now }
     ensures { IfOk result (λ v. v
-        ≡ Node (tag (program p.now) kind)
-        (map (word_of (program p.now) variables.now.base) xs.now)) }
+        ≡ Node (tag (source numbered.now) kind)
+        (map (word_of (source numbered.now) variables.now.base) xs.now)) }
 {
-    let fields = words(p, numbers, variables, Seq::new(alloc), xs)?;
-    Ok(Val::Node(numbers.tag(p, kind), fields))
+    let fields = words(numbered, variables, Seq::new(alloc), xs)?;
+    Ok(Val::Node(numbered.tag(kind), fields))
 }
 
 /// The node of a binding.
 fn node(
     alloc: Global,
-    p: &Checked,
-    numbers: &Numbers,
+    numbered: &NumberedProgram<'_>,
     variables: &Variables,
     flat: &Flat,
 ) -> Result<Val, AllocError>
-    requires { NumbersMatchProgram (program p.now) numbers.now }
-    ensures { IfOk result (λ v. v ≡ node_of (program p.now) variables.now.base flat.now) }
+    ensures { IfOk result (λ v. v ≡ node_of (source numbered.now) variables.now.base flat.now) }
 {
     match flat {
         Flat::Int(k) => {
             let mut fields = Seq::new(alloc);
             fields.push(Word::Lit(*k))?;
-            Ok(Val::Node(numbers.tag(p, Kind::Number), fields))
+            Ok(Val::Node(numbered.tag(Kind::Number), fields))
         }
         Flat::Con(c, xs) => {
             let kind = Kind::Constructor(*c);
-            node_of_all(alloc, p, numbers, variables, kind, xs.as_slice())
+            node_of_all(alloc, numbered, variables, kind, xs.as_slice())
         }
         Flat::Call(f, xs) => {
             let kind = Kind::Waits(Delay::Calls(*f));
-            node_of_all(alloc, p, numbers, variables, kind, xs.as_slice())
+            node_of_all(alloc, numbered, variables, kind, xs.as_slice())
         }
         Flat::Part(f, xs) => {
-            let missing = (params(p, *f) as usize).saturating_sub(xs.len()) as u32;
+            let missing = (params(numbered.p, *f) as usize).saturating_sub(xs.len()) as u32;
             let kind = Kind::Lacks(*f, missing);
-            node_of_all(alloc, p, numbers, variables, kind, xs.as_slice())
+            node_of_all(alloc, numbered, variables, kind, xs.as_slice())
         }
         Flat::Apply(x, xs) => {
             let kind = Kind::Waits(Delay::Applies(as_u32(xs.len())?));
             let mut fields = Seq::new(alloc);
-            fields.push(word(p, numbers, variables, *x)?)?;
-            let fields = words(p, numbers, variables, fields, xs.as_slice())?;
-            Ok(Val::Node(numbers.tag(p, kind), fields))
+            fields.push(word(numbered, variables, *x)?)?;
+            let fields = words(numbered, variables, fields, xs.as_slice())?;
+            Ok(Val::Node(numbered.tag(kind), fields))
         }
         Flat::Prim(op, x, y) => {
             let kind = Kind::Waits(Delay::Operates(*op));
-            node_of_all(alloc, p, numbers, variables, kind, &[*x, *y])
+            node_of_all(alloc, numbered, variables, kind, &[*x, *y])
         }
     }
 }
@@ -130,22 +123,17 @@ fn node(
 /// The cells of a let group.
 fn cells(
     alloc: Global,
-    p: &Checked,
-    numbers: &Numbers,
+    numbered: &NumberedProgram<'_>,
     variables: &Variables,
     group: &[Bound],
 ) -> Result<Seq<Cell>, AllocError>
-    requires { NumbersMatchProgram (program p.now) numbers.now }
-    ensures { IfOk result (λ cs. cs ≡ map (cell_of (program p.now) variables.now.base) group.now) }
+    ensures { IfOk result (λ cs. cs
+        ≡ map (cell_of (source numbered.now) variables.now.base) group.now) }
 {
     let mut made = Seq::new(alloc);
     for bound in group {
-        let var = variables.local(bound.local)?;
-        made.push(Cell {
-            var,
-            site: Site(var.0),
-            val: node(alloc, p, numbers, variables, &bound.flat)?,
-        })?;
+        let val = node(alloc, numbered, variables, &bound.flat)?;
+        made.push(variables.cell(bound.local, val)?)?;
     }
     Ok(made)
 }
@@ -163,7 +151,7 @@ pub fn ended(alloc: Global, before: Seq<Stmt>, op: Op) -> Result<Block, AllocErr
 
 /// The alternative for all else, where none may come.
 pub fn else_fail(alloc: Global) -> Result<Alt, AllocError>
-    ensures { IfOk result (λ a. arm_of a ≡ (Shape.Else, end fail)) }
+    ensures { IfOk result (λ a. arm_of a ≡ (Shape.Else, end (leaf fail))) }
 {
     let body = ended(alloc, Seq::new(alloc), Op::Fail)?;
     Ok(Alt {
@@ -175,20 +163,19 @@ pub fn else_fail(alloc: Global) -> Result<Alt, AllocError>
 /// The case on a node that goes on where it is a number.
 fn on_number(
     alloc: Global,
-    p: &Checked,
-    numbers: &Numbers,
+    numbered: &NumberedProgram<'_>,
     v: VarId,
     i: VarId,
     then: Block,
 ) -> Result<Op, AllocError>
-    requires { NumbersMatchProgram (program p.now) numbers.now }
-    ensures { IfOk result (λ o. end (act_of o) ≡ number_case (program p.now) 0 v i (code_of then)) }
+    ensures { IfOk result (λ o. end (act_of o)
+        ≡ number_case (source numbered.now) 0 v i (code_of then)) }
 {
     let mut fields = Seq::new(alloc);
     fields.push(i)?;
     let mut alts = Seq::new(alloc);
     alts.push(Alt {
-        pattern: Shape::Node(numbers.tag(p, Kind::Number), fields),
+        pattern: Shape::Node(numbered.tag(Kind::Number), fields),
         body: then,
     })?;
     alts.push(else_fail(alloc)?)?;
@@ -198,15 +185,13 @@ fn on_number(
 /// The block of an operation on two numbers and what gives its result.
 fn result_block(
     alloc: Global,
-    p: &Checked,
-    numbers: &Numbers,
+    numbered: &NumberedProgram<'_>,
     op: normal::PrimOp,
     i: VarId,
     j: VarId,
     k: VarId,
 ) -> Result<Block, AllocError>
-    requires { NumbersMatchProgram (program p.now) numbers.now }
-    ensures { IfOk result (λ b. code_of b ≡ result_of (program p.now) op i j k) }
+    ensures { IfOk result (λ b. code_of b ≡ result_of (source numbered.now) op i j k) }
 {
     let mut fields = Seq::new(alloc);
     fields.push(Word::Var(k))?;
@@ -218,88 +203,83 @@ fn result_block(
     ended(
         alloc,
         stmts,
-        Op::Unit(Val::Node(numbers.tag(p, Kind::Number), fields)),
+        Op::Unit(Val::Node(numbered.tag(Kind::Number), fields)),
     )
 }
 
 /// The block that evaluates a word, after some statements, and goes on where it is a number.
 pub fn evaluated(
     alloc: Global,
-    p: &Checked,
-    numbers: &Numbers,
+    numbered: &NumberedProgram<'_>,
     before: Seq<Stmt>,
     a: Word,
     v: VarId,
     i: VarId,
     then: Block,
 ) -> Result<Block, AllocError>
-    requires { NumbersMatchProgram (program p.now) numbers.now }
     ensures { IfOk result (λ b. code_of b
-        ≡ all_before (map before_of before) (evaluated_of (program p.now) a v i (code_of then))) }
+        ≡ all_before (map before_of before)
+        (evaluated_of (source numbered.now) a v i (code_of then))) }
 {
     let mut stmts = before;
     stmts.push(Stmt::Bind(Target::Node(v), Op::Eval(a)))?;
-    let last = on_number(alloc, p, numbers, v, i, then)?;
+    let last = on_number(alloc, numbered, v, i, then)?;
     ended(alloc, stmts, last)
 }
 
 /// The block of a primitive operation, after some statements.
 pub fn primitive(
     alloc: Global,
-    p: &Checked,
-    numbers: &Numbers,
+    numbered: &NumberedProgram<'_>,
     variables: &mut Variables,
     before: Seq<Stmt>,
     op: normal::PrimOp,
     x: Var,
     y: Var,
 ) -> Result<Block, AllocError>
-    requires { NumbersMatchProgram (program p.now) numbers.now }
     ensures is { IfOk result (λ b. code_of b
         ≡ all_before (map before_of before)
-        (prim_block (program p.now) variables.old.base variables.old.bound op
-        (word_of (program p.now) variables.old.base x)
-        (word_of (program p.now) variables.old.base y))) }
+        (prim_block (source numbered.now) variables.old.base variables.old.bound op
+        (word_of (source numbered.now) variables.old.base x)
+        (word_of (source numbered.now) variables.old.base y))) }
     ensures next { OnOk result (variables.new.bound ≡ variables.old.bound + 5) }
     ensures base { variables.new.base ≡ variables.old.base }
 {
-    let a = word(p, numbers, variables, x)?;
-    let b = word(p, numbers, variables, y)?;
+    let a = word(numbered, variables, x)?;
+    let b = word(numbered, variables, y)?;
     let first = variables.fresh()?;
     let i = variables.fresh()?;
     let second = variables.fresh()?;
     let j = variables.fresh()?;
     let k = variables.fresh()?;
-    let inner = result_block(alloc, p, numbers, op, i, j, k)?;
-    let middle = evaluated(alloc, p, numbers, Seq::new(alloc), b, second, j, inner)?;
-    evaluated(alloc, p, numbers, before, a, first, i, middle)
+    let inner = result_block(alloc, numbered, op, i, j, k)?;
+    let middle = evaluated(alloc, numbered, Seq::new(alloc), b, second, j, inner)?;
+    evaluated(alloc, numbered, before, a, first, i, middle)
 }
 
 /// The block of an application, after some statements.
 pub fn application(
     alloc: Global,
-    p: &Checked,
-    numbers: &Numbers,
+    numbered: &NumberedProgram<'_>,
     variables: &mut Variables,
     before: Seq<Stmt>,
     x: Var,
     xs: &[Var],
 ) -> Result<Block, AllocError>
-    requires { NumbersMatchProgram (program p.now) numbers.now }
     ensures is { IfOk result (λ b. code_of b
         ≡ all_before (map before_of before)
-        (apply_block (program p.now) variables.old.base variables.old.bound
-        (word_of (program p.now) variables.old.base x)
-        (map (word_of (program p.now) variables.old.base) xs.now))) }
+        (apply_block (source numbered.now) variables.old.base variables.old.bound
+        (word_of (source numbered.now) variables.old.base x)
+        (map (word_of (source numbered.now) variables.old.base) xs.now))) }
     ensures next { OnOk result (variables.new.bound ≡ variables.old.bound + length xs.now) }
     ensures base { variables.new.base ≡ variables.old.base }
 {
     let mut stmts = before;
-    let mut op = Op::Eval(word(p, numbers, variables, x)?);
+    let mut op = Op::Eval(word(numbered, variables, x)?);
     for a in xs {
         let v = variables.fresh()?;
         stmts.push(Stmt::Bind(Target::Node(v), op))?;
-        op = Op::Apply(Val::NodeVar(v), word(p, numbers, variables, *a)?);
+        op = Op::Apply(Val::NodeVar(v), word(numbered, variables, *a)?);
     }
     ended(alloc, stmts, op)
 }
@@ -307,16 +287,14 @@ pub fn application(
 /// The block of a form, after some statements.
 fn form(
     alloc: Global,
-    p: &Checked,
-    numbers: &Numbers,
+    numbered: &NumberedProgram<'_>,
     variables: &mut Variables,
     before: Seq<Stmt>,
     flat: &Flat,
 ) -> Result<Block, AllocError>
-    requires { NumbersMatchProgram (program p.now) numbers.now }
     ensures is { IfOk result (λ b. code_of b
         ≡ all_before (map before_of before)
-        (form_block (program p.now) variables.old.base variables.old.bound flat.now)) }
+        (form_block (source numbered.now) variables.old.base variables.old.bound flat.now)) }
     ensures next { OnOk result (variables.new.bound ≡ variables.old.bound + form_temps flat.now) }
     ensures base { variables.new.base ≡ variables.old.base }
 {
@@ -324,28 +302,28 @@ fn form(
         Flat::Int(_) => ended(
             alloc,
             before,
-            Op::Unit(node(alloc, p, numbers, variables, flat)?),
+            Op::Unit(node(alloc, numbered, variables, flat)?),
         ),
         Flat::Con(_, _) => ended(
             alloc,
             before,
-            Op::Unit(node(alloc, p, numbers, variables, flat)?),
+            Op::Unit(node(alloc, numbered, variables, flat)?),
         ),
         Flat::Part(_, _) => ended(
             alloc,
             before,
-            Op::Unit(node(alloc, p, numbers, variables, flat)?),
+            Op::Unit(node(alloc, numbered, variables, flat)?),
         ),
         Flat::Call(f, xs) => {
-            let args = words(p, numbers, variables, Seq::new(alloc), xs.as_slice())?;
+            let args = words(numbered, variables, Seq::new(alloc), xs.as_slice())?;
             ended(
                 alloc,
                 before,
-                Op::Call(numbers.proc(p, Delay::Calls(*f)), args),
+                Op::Call(numbered.proc(Delay::Calls(*f)), args),
             )
         }
-        Flat::Apply(x, xs) => application(alloc, p, numbers, variables, before, *x, xs.as_slice()),
-        Flat::Prim(op, x, y) => primitive(alloc, p, numbers, variables, before, *op, *x, *y),
+        Flat::Apply(x, xs) => application(alloc, numbered, variables, before, *x, xs.as_slice()),
+        Flat::Prim(op, x, y) => primitive(alloc, numbered, variables, before, *op, *x, *y),
     }
 }
 
@@ -386,13 +364,8 @@ fn named(alloc: Global, variables: &Variables, v: VarId, x: u32) -> Result<Seq<S
     ensures { IfOk result (λ ss. (c : Code) → all_before (map before_of ss) c
         ≡ store (cell_of_local variables.now.base x (NodeVar v) ∷ []) c) }
 {
-    let var = variables.local(x)?;
     let mut cells = Seq::new(alloc);
-    cells.push(Cell {
-        var,
-        site: Site(var.0),
-        val: Val::NodeVar(v),
-    })?;
+    cells.push(variables.cell(x, Val::NodeVar(v))?)?;
     let mut stmts = Seq::new(alloc);
     stmts.push(Stmt::Store(cells))?;
     Ok(stmts)
@@ -402,33 +375,31 @@ fn named(alloc: Global, variables: &Variables, v: VarId, x: u32) -> Result<Seq<S
 #[cycle(blocks)]
 pub fn block(
     alloc: Global,
-    p: &Checked,
-    numbers: &Numbers,
+    numbered: &NumberedProgram<'_>,
     variables: &mut Variables,
     body: &Body,
     before: Seq<Stmt>,
 ) -> Result<Block, AllocError>
-    requires { NumbersMatchProgram (program p.now) numbers.now }
     ensures is { IfOk result (λ b. code_of b
         ≡ all_before (map before_of before)
-        (block_of (program p.now) variables.old.base variables.old.bound (term body.now))) }
+        (block_of (source numbered.now) variables.old.base variables.old.bound (term body.now))) }
     ensures next { OnOk result (variables.new.bound ≡ variables.old.bound + temps (term body.now)) }
     ensures base { variables.new.base ≡ variables.old.base }
 {
     match body {
-        Body::App(flat) => form(alloc, p, numbers, variables, before, flat),
+        Body::App(flat) => form(alloc, numbered, variables, before, flat),
         Body::Let(group, inner) => {
             let mut stmts = before;
-            stmts.push(Stmt::Store(cells(alloc, p, numbers, variables, group.as_slice())?))?;
-            block(alloc, p, numbers, variables, inner, stmts)
+            stmts.push(Stmt::Store(cells(alloc, numbered, variables, group.as_slice())?))?;
+            block(alloc, numbered, variables, inner, stmts)
         }
         Body::Case(tested, branches) => {
             let v = variables.fresh()?;
-            let value = block(alloc, p, numbers, variables, tested, Seq::new(alloc))?;
+            let value = block(alloc, numbered, variables, tested, Seq::new(alloc))?;
             let op = as_operation(alloc, value)?;
             let mut stmts = before;
             stmts.push(Stmt::Bind(Target::Node(v), op))?;
-            let alts = alternatives(alloc, p, numbers, variables, v, branches.as_slice())?;
+            let alts = alternatives(alloc, numbered, variables, v, branches.as_slice())?;
             ended(alloc, stmts, Op::Case(Val::NodeVar(v), alts))
         }
     }
@@ -439,17 +410,16 @@ pub fn block(
 #[cycle(blocks)]
 fn alternative(
     alloc: Global,
-    p: &Checked,
-    numbers: &Numbers,
+    numbered: &NumberedProgram<'_>,
     variables: &mut Variables,
     v: VarId,
     each: &Branch,
 ) -> Result<(Alt, bool), AllocError>
-    requires { NumbersMatchProgram (program p.now) numbers.now }
     ensures is { IfOk result (λ r. (rest : Branches)
-        → arms (program p.now) variables.old.base v variables.old.bound (branch each.now rest)
+        → arms (source numbered.now) variables.old.base v variables.old.bound (branch each.now rest)
         ≡ arm (arm_of r.0).0 (arm_of r.0).1
-        (cond r.1 no_arm (arms (program p.now) variables.old.base v variables.new.bound rest))) }
+        (cond r.1 no_arm
+        (arms (source numbered.now) variables.old.base v variables.new.bound rest))) }
     ensures next { IfOk result (λ r. (rest : Branches)
         → variables.old.bound + branch_temps (branch each.now rest)
         ≡ variables.new.bound + cond r.1 0 (branch_temps rest)) }
@@ -459,24 +429,24 @@ fn alternative(
     match each {
         Branch::Con(c, fields, inner) => {
             let bound = variables.locals(alloc, fields.as_slice())?;
-            let body = block(alloc, p, numbers, variables, inner, none)?;
-            let pattern = Shape::Node(numbers.tag(p, Kind::Constructor(*c)), bound);
+            let body = block(alloc, numbered, variables, inner, none)?;
+            let pattern = Shape::Node(numbered.tag(Kind::Constructor(*c)), bound);
             Ok((alternative_of(pattern, body), false))
         }
         Branch::Int(k, inner) => {
-            let body = block(alloc, p, numbers, variables, inner, none)?;
+            let body = block(alloc, numbered, variables, inner, none)?;
             let pattern = Shape::Int(*k);
             Ok((alternative_of(pattern, body), false))
         }
         Branch::Default(name, inner) => match name {
             None => {
-                let body = block(alloc, p, numbers, variables, inner, none)?;
+                let body = block(alloc, numbered, variables, inner, none)?;
                 let pattern = Shape::Else;
                 Ok((alternative_of(pattern, body), true))
             }
             Some(x) => {
                 let stored = named(alloc, variables, v, *x)?;
-                let body = block(alloc, p, numbers, variables, inner, stored)?;
+                let body = block(alloc, numbered, variables, inner, stored)?;
                 let pattern = Shape::Else;
                 Ok((alternative_of(pattern, body), true))
             }
@@ -488,15 +458,13 @@ fn alternative(
 #[cycle(blocks)]
 fn alternatives(
     alloc: Global,
-    p: &Checked,
-    numbers: &Numbers,
+    numbered: &NumberedProgram<'_>,
     variables: &mut Variables,
     v: VarId,
     branches: &[Branch],
 ) -> Result<Seq<Alt>, AllocError>
-    requires { NumbersMatchProgram (program p.now) numbers.now }
     ensures is { IfOk result (λ alts. arms_of (map arm_of alts)
-        ≡ arms (program p.now) variables.old.base v variables.old.bound
+        ≡ arms (source numbered.now) variables.old.base v variables.old.bound
         (branches_of (map branch branches.now))) }
     ensures next { OnOk result (variables.new.bound
         ≡ variables.old.bound + branch_temps (branches_of (map branch branches.now))) }
@@ -504,7 +472,7 @@ fn alternatives(
 {
     let mut alts = Seq::new(alloc);
     for each in branches {
-        let (alt, last) = alternative(alloc, p, numbers, variables, v, each)?;
+        let (alt, last) = alternative(alloc, numbered, variables, v, each)?;
         alts.push(alt)?;
         if last {
             return Ok(alts);

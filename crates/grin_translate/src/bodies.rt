@@ -3,22 +3,21 @@
 
 ghost use Rattle.std.specs.Prelude.{◌≡◌, ◌+◌, map, max, IfOk};
 ghost use Rattle.arity_check.specs.declared.normal.Var.TheVariants.{Local};
-ghost use Rattle.arity_check.specs.Program.{program};
 ghost use Rattle.grin_syntax.specs.Tree.{code_of, procedure_of};
 ghost use Rattle.grin_translate.specs.declared.tags.Delay.TheVariants.{Calls, Applies};
+ghost use Rattle.grin_translate.specs.Source.{source};
 ghost use Rattle.grin_translate.specs.Tags.{delay_name, delay_params};
 ghost use Rattle.grin_translate.specs.Translation.{procedure as procedure_in, delay_body, span};
-ghost use Rattle.grin_translate.specs.Numbered.{NumbersMatchProgram};
 ghost use Rattle.seq.specs.Lists.{numbers_from};
 
 use crate::block::{application, block, ended, primitive};
 use crate::counts::count_bound_locals;
 use crate::names::{thunk_arity, thunk_name};
-use crate::numbering::Numbers;
+use crate::numbering::NumberedProgram;
 use crate::procedures::{input_block, procedure};
 use crate::tags::Delay;
 use crate::variables::{Variables, sum};
-use arity_check::normal::{Checked, Var};
+use arity_check::normal::Var;
 use grin_syntax::program::{Block, Op, Proc};
 use seq::Seq;
 use std::alloc::{AllocError, Global};
@@ -43,20 +42,18 @@ fn later_locals(alloc: Global, count: u32) -> Result<Seq<Var>, AllocError>
 /// A function's block, with the number of the numbers that its variables have.
 fn function_block(
     alloc: Global,
-    p: &Checked,
-    numbers: &Numbers,
+    numbered: &NumberedProgram<'_>,
     base: u32,
     f: u32,
 ) -> Result<(Block, u32), AllocError>
-    requires { NumbersMatchProgram (program p.now) numbers.now }
-    ensures is { IfOk result (λ r. code_of r.0 ≡ delay_body (program p.now) base (Calls f)) }
-    ensures numbers { IfOk result (λ r. r.1 ≡ span (program p.now) (Calls f)) }
+    ensures is { IfOk result (λ r. code_of r.0 ≡ delay_body (source numbered.now) base (Calls f)) }
+    ensures numbers { IfOk result (λ r. r.1 ≡ span (source numbered.now) (Calls f)) }
 {
     let none = Seq::new(alloc);
-    match p.funs.get(f as usize) {
+    match numbered.p.funs.get(f as usize) {
         Some(fun) => {
             let mut variables = Variables { base, bound: 0 };
-            let body = block(alloc, p, numbers, &mut variables, &fun.body, none)?;
+            let body = block(alloc, numbered, &mut variables, &fun.body, none)?;
             let binders = count_bound_locals(&fun.body)?;
             let locals = sum(fun.params, binders)?;
             let most = greater(locals, variables.bound);
@@ -72,21 +69,19 @@ fn function_block(
 
 fn application_block(
     alloc: Global,
-    p: &Checked,
-    numbers: &Numbers,
+    numbered: &NumberedProgram<'_>,
     base: u32,
     args: u32,
 ) -> Result<(Block, u32), AllocError>
-    requires { NumbersMatchProgram (program p.now) numbers.now }
-    ensures is { IfOk result (λ r. code_of r.0 ≡ delay_body (program p.now) base (Applies args)) }
-    ensures numbers { IfOk result (λ r. r.1 ≡ span (program p.now) (Applies args)) }
+    ensures is { IfOk result (λ r. code_of r.0
+        ≡ delay_body (source numbered.now) base (Applies args)) }
+    ensures numbers { IfOk result (λ r. r.1 ≡ span (source numbered.now) (Applies args)) }
 {
     let xs = later_locals(alloc, args)?;
     let mut variables = Variables { base, bound: 0 };
     let body = application(
         alloc,
-        p,
-        numbers,
+        numbered,
         &mut variables,
         Seq::new(alloc),
         Var::Local(0),
@@ -100,24 +95,21 @@ fn application_block(
 /// The block of what waits, with the number of the numbers that its variables have.
 fn waiting_block(
     alloc: Global,
-    p: &Checked,
-    numbers: &Numbers,
+    numbered: &NumberedProgram<'_>,
     base: u32,
     delay: Delay,
 ) -> Result<(Block, u32), AllocError>
-    requires { NumbersMatchProgram (program p.now) numbers.now }
-    ensures is { IfOk result (λ r. code_of r.0 ≡ delay_body (program p.now) base delay) }
-    ensures numbers { IfOk result (λ r. r.1 ≡ span (program p.now) delay) }
+    ensures is { IfOk result (λ r. code_of r.0 ≡ delay_body (source numbered.now) base delay) }
+    ensures numbers { IfOk result (λ r. r.1 ≡ span (source numbered.now) delay) }
 {
     let mut variables = Variables { base, bound: 0 };
     match delay {
-        Delay::Calls(f) => function_block(alloc, p, numbers, base, f),
-        Delay::Applies(args) => application_block(alloc, p, numbers, base, args),
+        Delay::Calls(f) => function_block(alloc, numbered, base, f),
+        Delay::Applies(args) => application_block(alloc, numbered, base, args),
         Delay::Operates(op) => {
             let body = primitive(
                 alloc,
-                p,
-                numbers,
+                numbered,
                 &mut variables,
                 Seq::new(alloc),
                 op,
@@ -127,7 +119,7 @@ fn waiting_block(
             Ok((body, 10))
         }
         Delay::Reads => {
-            let body = input_block(alloc, p, numbers, &variables)?;
+            let body = input_block(alloc, numbered, &variables)?;
             Ok((body, 4))
         }
     }
@@ -137,22 +129,20 @@ fn waiting_block(
 /// after its variables.
 pub fn thunk_procedure(
     alloc: Global,
-    p: &Checked,
-    numbers: &Numbers,
+    numbered: &NumberedProgram<'_>,
     base: u32,
     delay: Delay,
 ) -> Result<(Proc, u32), AllocError>
-    requires { NumbersMatchProgram (program p.now) numbers.now }
     ensures is { IfOk result (λ r. procedure_of r.0
-        ≡ procedure_in (program p.now) base (delay_name (program p.now) delay)
-        (delay_params (program p.now) delay) (delay_body (program p.now) base delay)) }
-    ensures next { IfOk result (λ r. r.1 ≡ base + span (program p.now) delay) }
+        ≡ procedure_in (source numbered.now) base (delay_name (source numbered.now) delay)
+        (delay_params (source numbered.now) delay) (delay_body (source numbered.now) base delay)) }
+    ensures next { IfOk result (λ r. r.1 ≡ base + span (source numbered.now) delay) }
 {
-    let name = thunk_name(alloc, p, delay)?;
-    let params = thunk_arity(p, delay)?;
-    let (body, count) = waiting_block(alloc, p, numbers, base, delay)?;
+    let name = thunk_name(alloc, numbered.p, delay)?;
+    let params = thunk_arity(numbered.p, delay)?;
+    let (body, count) = waiting_block(alloc, numbered, base, delay)?;
     let next = sum(base, count)?;
     let variables = Variables { base, bound: 0 };
-    let made = procedure(alloc, p, name, params, &variables, body)?;
+    let made = procedure(alloc, numbered.p, name, params, &variables, body)?;
     Ok((made, next))
 }

@@ -16,6 +16,7 @@ mod block;
 mod bodies;
 mod counts;
 mod lists;
+mod lookup;
 mod names;
 mod numbering;
 mod procedures;
@@ -25,7 +26,7 @@ mod waiting;
 
 use arity_check::normal::Checked;
 use grin_syntax::program::{Grin, ProcId};
-use numbering::Numbers;
+use numbering::{NumberedProgram, Numbers};
 use std::alloc::{AllocError, Global};
 use variables::sum;
 use waiting::takes_input;
@@ -35,11 +36,12 @@ pub fn translate(alloc: Global, p: &Checked) -> Result<Grin, AllocError>
     ensures { IfOk result (λ g. program_of g ≡ tr (program p.now)) }
 {
     let numbers = Numbers::new(alloc, p)?;
-    let tags = lists::tags(alloc, p, &numbers)?;
-    let globals = lists::globals(alloc, p, &numbers)?;
-    let procs = lists::procedures(alloc, p, &numbers)?;
+    let numbered = NumberedProgram { p, numbers };
+    let tags = lists::tags(alloc, &numbered)?;
+    let globals = lists::globals(alloc, &numbered)?;
+    let procs = lists::procedures(alloc, &numbered)?;
     if takes_input(p) {
-        let start = ProcId(sum(1, numbers.waiting)?);
+        let start = ProcId(sum(1, numbered.numbers.waiting)?);
         return Ok(Grin {
             tags,
             globals,
@@ -48,12 +50,12 @@ pub fn translate(alloc: Global, p: &Checked) -> Result<Grin, AllocError>
             argument: None,
         });
     }
-    let main = numbers.global(p, p.main);
+    let main = numbered.global(p.main);
     Ok(Grin {
         tags,
         globals,
         procs,
-        start: ProcId(numbers.waiting),
+        start: ProcId(numbered.numbers.waiting),
         argument: Some(main),
     })
 }

@@ -5,15 +5,15 @@ ghost use Rattle.arity_check.specs.Program.{program};
 ghost use Rattle.core_meaning.specs.Evaluation.{params as params_of};
 ghost use Rattle.grin_syntax.specs.Tree.{procedure_of};
 ghost use Rattle.grin_translate.specs.declared.tags.Kind.TheVariants.{Constructor, Waits};
+ghost use Rattle.grin_translate.specs.Source.{source};
 ghost use Rattle.grin_translate.specs.Tags.{tag_of as tag_in, parts, function_parts, kinds, delays};
 ghost use Rattle.grin_translate.specs.Translation.{global_cells, delayed_procs, rest, tr};
 ghost use Rattle.grin_translate.specs.Pieces.{shared_of, start_if};
-ghost use Rattle.grin_translate.specs.Numbered.{NumbersMatchProgram};
 ghost use Rattle.seq.specs.Lists.{numbers_from};
 
 use crate::bodies::thunk_procedure;
 use crate::names::{function_name, thunk_arity, thunk_name};
-use crate::numbering::{Numbers, params};
+use crate::numbering::{NumberedProgram, params};
 use crate::procedures::{print_procedure, start_procedure};
 use crate::tags::{Delay, Kind};
 use crate::variables::sum;
@@ -24,9 +24,8 @@ use seq::Seq;
 use std::alloc::{AllocError, Global};
 
 /// The tag of a kind.
-fn tag_of(alloc: Global, p: &Checked, numbers: &Numbers, kind: Kind) -> Result<Tag, AllocError>
-    requires { NumbersMatchProgram (program p.now) numbers.now }
-    ensures { IfOk result (λ t. t ≡ tag_in (program p.now) kind) }
+fn tag_of(alloc: Global, numbered: &NumberedProgram<'_>, kind: Kind) -> Result<Tag, AllocError>
+    ensures { IfOk result (λ t. t ≡ tag_in (source numbered.now) kind) }
 {
     match kind {
         Kind::Number => Ok(Tag {
@@ -36,20 +35,20 @@ fn tag_of(alloc: Global, p: &Checked, numbers: &Numbers, kind: Kind) -> Result<T
             fields: 1,
             proc: None,
         }),
-        Kind::Constructor(c) => constructor_tag(alloc, p, c),
+        Kind::Constructor(c) => constructor_tag(alloc, numbered.p, c),
         Kind::Waits(delay) => Ok(Tag {
             kind: TagKind::Fun,
-            name: thunk_name(alloc, p, delay)?,
+            name: thunk_name(alloc, numbered.p, delay)?,
             missing: 0,
-            fields: thunk_arity(p, delay)?,
-            proc: Some(numbers.proc(p, delay)),
+            fields: thunk_arity(numbered.p, delay)?,
+            proc: Some(numbered.proc(delay)),
         }),
         Kind::Lacks(f, missing) => Ok(Tag {
             kind: TagKind::Part,
-            name: function_name(alloc, p, f)?,
+            name: function_name(alloc, numbered.p, f)?,
             missing,
-            fields: params(p, f).saturating_sub(missing),
-            proc: Some(numbers.proc(p, Delay::Calls(f))),
+            fields: params(numbered.p, f).saturating_sub(missing),
+            proc: Some(numbered.proc(Delay::Calls(f))),
         }),
     }
 }
@@ -78,18 +77,16 @@ fn constructor_tag(alloc: Global, p: &Checked, c: u32) -> Result<Tag, AllocError
 /// The tags of the constructors, after others.
 fn constructor_tags(
     alloc: Global,
-    p: &Checked,
-    numbers: &Numbers,
+    numbered: &NumberedProgram<'_>,
     before: Seq<Tag>,
 ) -> Result<Seq<Tag>, AllocError>
-    requires { NumbersMatchProgram (program p.now) numbers.now }
     ensures { IfOk result (λ ts. ts ≡ before
-        ++ map (λ c. tag_in (program p.now) (Constructor c))
-        (numbers_from 0 numbers.now.constructors)) }
+        ++ map (λ c. tag_in (source numbered.now) (Constructor c))
+        (numbers_from 0 numbered.now.numbers.constructors)) }
 {
     let mut made = before;
-    for c in 0..numbers.constructors {
-        let tag = tag_of(alloc, p, numbers, Kind::Constructor(c))?;
+    for c in 0..numbered.numbers.constructors {
+        let tag = tag_of(alloc, numbered, Kind::Constructor(c))?;
         made.push(tag)?;
     }
     Ok(made)
@@ -98,17 +95,15 @@ fn constructor_tags(
 /// The tags of what waits, after others.
 fn waiting_tags(
     alloc: Global,
-    p: &Checked,
-    numbers: &Numbers,
+    numbered: &NumberedProgram<'_>,
     before: Seq<Tag>,
 ) -> Result<Seq<Tag>, AllocError>
-    requires { NumbersMatchProgram (program p.now) numbers.now }
     ensures { IfOk result (λ ts. ts ≡ before
-        ++ map (λ d. tag_in (program p.now) (Waits d)) numbers.now.delays) }
+        ++ map (λ d. tag_in (source numbered.now) (Waits d)) numbered.now.numbers.delays) }
 {
     let mut made = before;
-    for delay in numbers.delays.as_slice() {
-        let tag = tag_of(alloc, p, numbers, Kind::Waits(*delay))?;
+    for delay in numbered.numbers.delays.as_slice() {
+        let tag = tag_of(alloc, numbered, Kind::Waits(*delay))?;
         made.push(tag)?;
     }
     Ok(made)
@@ -117,19 +112,18 @@ fn waiting_tags(
 /// The tags of a function that lacks arguments, after others: the one that lacks all comes first.
 fn part_tags(
     alloc: Global,
-    p: &Checked,
-    numbers: &Numbers,
+    numbered: &NumberedProgram<'_>,
     f: u32,
     before: Seq<Tag>,
 ) -> Result<Seq<Tag>, AllocError>
-    requires { NumbersMatchProgram (program p.now) numbers.now }
     ensures { IfOk result (λ ts. ts ≡ before
-        ++ map (tag_in (program p.now)) (function_parts f (params_of (program p.now) f))) }
+        ++ map (tag_in (source numbered.now))
+        (function_parts f (params_of (source numbered.now) f))) }
 {
     let mut made = before;
-    let mut missing = params(p, f);
+    let mut missing = params(numbered.p, f);
     'parts: while missing > 0 {
-        let tag = tag_of(alloc, p, numbers, Kind::Lacks(f, missing))?;
+        let tag = tag_of(alloc, numbered, Kind::Lacks(f, missing))?;
         made.push(tag)?;
         missing -= 1;
     }
@@ -138,65 +132,61 @@ fn part_tags(
 
 fn all_part_tags(
     alloc: Global,
-    p: &Checked,
-    numbers: &Numbers,
+    numbered: &NumberedProgram<'_>,
     before: Seq<Tag>,
 ) -> Result<Seq<Tag>, AllocError>
-    requires { NumbersMatchProgram (program p.now) numbers.now }
     ensures { IfOk result (λ ts. ts ≡ before
-        ++ map (tag_in (program p.now)) (parts (program p.now).funs 0)) }
+        ++ map (tag_in (source numbered.now)) (parts (source numbered.now).funs 0)) }
 {
     let mut made = before;
-    for f in 0..numbers.functions {
-        made = part_tags(alloc, p, numbers, f, made)?;
+    for f in 0..numbered.numbers.functions {
+        made = part_tags(alloc, numbered, f, made)?;
     }
     Ok(made)
 }
 
 /// The tags of a program, in their order.
-pub fn tags(alloc: Global, p: &Checked, numbers: &Numbers) -> Result<Seq<Tag>, AllocError>
-    requires { NumbersMatchProgram (program p.now) numbers.now }
-    ensures { IfOk result (λ ts. ts ≡ map (tag_in (program p.now)) (kinds (program p.now))) }
+pub fn tags(alloc: Global, numbered: &NumberedProgram<'_>) -> Result<Seq<Tag>, AllocError>
+    ensures { IfOk result (λ ts. ts
+        ≡ map (tag_in (source numbered.now)) (kinds (source numbered.now))) }
 {
-    let number = tag_of(alloc, p, numbers, Kind::Number)?;
+    let number = tag_of(alloc, numbered, Kind::Number)?;
     let mut first = Seq::new(alloc);
     first.push(number)?;
-    let second = constructor_tags(alloc, p, numbers, first)?;
-    let third = waiting_tags(alloc, p, numbers, second)?;
-    all_part_tags(alloc, p, numbers, third)
+    let second = constructor_tags(alloc, numbered, first)?;
+    let third = waiting_tags(alloc, numbered, second)?;
+    all_part_tags(alloc, numbered, third)
 }
 
 /// The cells of the functions without parameters, after others.
 fn shared_cell(
     alloc: Global,
-    p: &Checked,
-    numbers: &Numbers,
+    numbered: &NumberedProgram<'_>,
     f: u32,
     before: Seq<GlobalCell>,
 ) -> Result<Seq<GlobalCell>, AllocError>
-    requires { NumbersMatchProgram (program p.now) numbers.now }
-    ensures { IfOk result (λ cs. cs ≡ before ++ shared_of (program p.now) f) }
+    ensures { IfOk result (λ cs. cs ≡ before ++ shared_of (source numbered.now) f) }
 {
     let mut made = before;
-    if params(p, f) == 0 {
-        let name = function_name(alloc, p, f)?;
+    if params(numbered.p, f) == 0 {
+        let name = function_name(alloc, numbered.p, f)?;
         made.push(GlobalCell {
             name,
             site: Site(f),
-            tag: numbers.tag(p, Kind::Waits(Delay::Calls(f))),
+            tag: numbered.tag(Kind::Waits(Delay::Calls(f))),
         })?;
     }
     Ok(made)
 }
 
 /// The global cells of a program.
-pub fn globals(alloc: Global, p: &Checked, numbers: &Numbers) -> Result<Seq<GlobalCell>, AllocError>
-    requires { NumbersMatchProgram (program p.now) numbers.now }
-    ensures { IfOk result (λ cs. cs ≡ global_cells (program p.now) (program p.now).funs 0) }
+pub fn globals(alloc: Global, numbered: &NumberedProgram<'_>) -> Result<Seq<GlobalCell>, AllocError>
+    ensures { IfOk result (λ cs. cs
+        ≡ global_cells (source numbered.now) (source numbered.now).funs 0) }
 {
     let mut made = Seq::new(alloc);
-    for f in 0..numbers.functions {
-        made = shared_cell(alloc, p, numbers, f, made)?;
+    for f in 0..numbered.numbers.functions {
+        made = shared_cell(alloc, numbered, f, made)?;
     }
     Ok(made)
 }
@@ -204,19 +194,18 @@ pub fn globals(alloc: Global, p: &Checked, numbers: &Numbers) -> Result<Seq<Glob
 /// The procedures of what waits, and the first number after their variables.
 fn waiting_procedures(
     alloc: Global,
-    p: &Checked,
-    numbers: &Numbers,
+    numbered: &NumberedProgram<'_>,
 ) -> Result<(Seq<Proc>, u32), AllocError>
-    requires { NumbersMatchProgram (program p.now) numbers.now }
     ensures is { IfOk result (λ r. map procedure_of r.0
-        ≡ delayed_procs (program p.now) (length (program p.now).funs) (delays (program p.now))) }
-    ensures next { IfOk result (λ r. r.1 ≡ rest (program p.now)) }
+        ≡ delayed_procs (source numbered.now) (length (source numbered.now).funs)
+        (delays (source numbered.now))) }
+    ensures next { IfOk result (λ r. r.1 ≡ rest (source numbered.now)) }
 {
-    let mut base = numbers.functions;
+    let mut base = numbered.numbers.functions;
     let mut made = Seq::new(alloc);
-    let waiting = numbers.delays.as_slice();
+    let waiting = numbered.numbers.delays.as_slice();
     for delay in waiting {
-        let (each, next) = thunk_procedure(alloc, p, numbers, base, *delay)?;
+        let (each, next) = thunk_procedure(alloc, numbered, base, *delay)?;
         made.push(each)?;
         base = next;
     }
@@ -226,33 +215,30 @@ fn waiting_procedures(
 /// The start after other procedures, where `main` takes the input.
 fn with_start(
     alloc: Global,
-    p: &Checked,
-    numbers: &Numbers,
+    numbered: &NumberedProgram<'_>,
     base: u32,
     before: Seq<Proc>,
 ) -> Result<Seq<Proc>, AllocError>
-    requires { NumbersMatchProgram (program p.now) numbers.now }
     ensures { IfOk result (λ qs. map procedure_of qs ≡ map procedure_of before
-        ++ start_if (program p.now) base) }
+        ++ start_if (source numbered.now) base) }
 {
     let mut made = before;
-    if !takes_input(p) {
+    if !takes_input(numbered.p) {
         return Ok(made);
     }
     let next = sum(base, 10)?;
-    let start = start_procedure(alloc, p, numbers, next)?;
+    let start = start_procedure(alloc, numbered, next)?;
     made.push(start)?;
     Ok(made)
 }
 
 /// The procedures of a program.
-pub fn procedures(alloc: Global, p: &Checked, numbers: &Numbers) -> Result<Seq<Proc>, AllocError>
-    requires { NumbersMatchProgram (program p.now) numbers.now }
-    ensures { IfOk result (λ qs. map procedure_of qs ≡ (tr (program p.now)).procs) }
+pub fn procedures(alloc: Global, numbered: &NumberedProgram<'_>) -> Result<Seq<Proc>, AllocError>
+    ensures { IfOk result (λ qs. map procedure_of qs ≡ (tr (source numbered.now)).procs) }
 {
-    let (waiting, base) = waiting_procedures(alloc, p, numbers)?;
-    let print = print_procedure(alloc, p, numbers, base)?;
+    let (waiting, base) = waiting_procedures(alloc, numbered)?;
+    let print = print_procedure(alloc, numbered, base)?;
     let mut all = waiting;
     all.push(print)?;
-    with_start(alloc, p, numbers, base, all)
+    with_start(alloc, numbered, base, all)
 }

@@ -3,8 +3,9 @@
 
 ghost use Rattle.std.specs.Prelude.{◌≡◌, ◌+◌, ◌*◌, IfOk, OnOk, map};
 ghost use Rattle.grin_syntax.specs.Fresh.{variable};
+ghost use Rattle.grin_translate.specs.Pieces.{cell_of_local};
 
-use grin_syntax::program::VarId;
+use grin_syntax::program::{Cell, Site, Val, VarId};
 use seq::Seq;
 use std::alloc::{AllocError, Global};
 
@@ -44,6 +45,18 @@ impl Variables {
     {
         let twice = sum(x, x)?;
         Ok(VarId(sum(self.base, twice)?))
+    }
+
+    /// The cell of a local.
+    pub fn cell(&self, x: u32, val: Val) -> Result<Cell, AllocError>
+        ensures { IfOk result (λ c. c ≡ cell_of_local self.now.base x val) }
+    {
+        let var = self.local(x)?;
+        Ok(Cell {
+            var,
+            site: Site(var.0),
+            val,
+        })
     }
 
     /// The variables of some locals, in their order.

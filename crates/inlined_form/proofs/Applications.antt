@@ -7,7 +7,7 @@ use Rattle.grin_syntax.specs.declared.program.TagKind.TheVariants as kind
 use Rattle.grin_syntax.specs.declared.program.Val.{Val}
 use Rattle.grin_syntax.specs.declared.program.Word.{Word}
 use Rattle.grin_syntax.specs.declared.program.Word.TheVariants.{Var}
-use Rattle.grin_syntax.specs.Tree.{Code, end, store, bind, Act, unit, fetch, fetch_word, update, eval, apply, call, prim, read, write, case, nested, fail, Arms, no_arm, arm, Procedure, Program}
+use Rattle.grin_syntax.specs.Tree.{Code, end, store, bind, Act, leaf, unit, fetch, fetch_word, update, eval, apply, call, prim, read, write, case, nested, fail, Arms, no_arm, arm, Procedure, Program}
 use Rattle.grin_syntax.specs.Formed.{AllOf}
 use Rattle.grin_syntax.specs.Fresh.{variables, past_procs}
 use Rattle.grin_meaning.specs.Run.{is_fun_kind, is_part_kind, is_some_and, is_part, is_proc, part_from}
@@ -90,37 +90,37 @@ module _ (p : Program) (A : Solution) (first : FirstIsNoPart p.tags) where
 
   same_sort : (x : ℕ) (o : Act) → sort_of (apply_act p A x o) ≡ sort_of o
   unfolding apply_act
-  same_sort x (apply v a) = refl
+  same_sort x (leaf (apply v a)) = refl
   same_sort x (case v as') = refl
   same_sort x (nested b) = refl
-  same_sort x (unit v) = refl
-  same_sort x (fetch a) = refl
-  same_sort x (fetch_word a i) = refl
-  same_sort x (update a v) = refl
-  same_sort x (eval a) = refl
-  same_sort x (call f ws) = refl
-  same_sort x (prim f a b) = refl
-  same_sort x read = refl
-  same_sort x (write a) = refl
-  same_sort x fail = refl
+  same_sort x (leaf (unit v)) = refl
+  same_sort x (leaf (fetch a)) = refl
+  same_sort x (leaf (fetch_word a i)) = refl
+  same_sort x (leaf (update a v)) = refl
+  same_sort x (leaf (eval a)) = refl
+  same_sort x (leaf (call f ws)) = refl
+  same_sort x (leaf (prim f a b)) = refl
+  same_sort x (leaf read) = refl
+  same_sort x (leaf (write a)) = refl
+  same_sort x (leaf fail) = refl
 
   mutual
     unfolding ActFits apply_act
 
     act_fits : (o : Act) (x : ℕ) (Γ : Sorts) → ActFits p.tags ⊥ (Unit {0}) Γ o → ActFits p.tags ⊥ ⊥ Γ (apply_act p A x o)
-    act_fits (unit v) x Γ h = h
-    act_fits (fetch a) x Γ h = tt
-    act_fits (fetch_word a i) x Γ h = h
-    act_fits (update a v) x Γ h = h
-    act_fits (eval a) x Γ h = h
-    act_fits (apply v a) x Γ h = (h.1, arms_fit v a x (part_tags_of p A v) (else_fail p A (others_of p A v)) Γ (else_fits v (others_of p A v) Γ))
-    act_fits (call f ws) x Γ h = tt
-    act_fits (prim f a b) x Γ h = tt
-    act_fits read x Γ h = tt
-    act_fits (write a) x Γ h = tt
+    act_fits (leaf (unit v)) x Γ h = h
+    act_fits (leaf (fetch a)) x Γ h = tt
+    act_fits (leaf (fetch_word a i)) x Γ h = h
+    act_fits (leaf (update a v)) x Γ h = h
+    act_fits (leaf (eval a)) x Γ h = h
+    act_fits (leaf (apply v a)) x Γ h = (h.1, arms_fit v a x (part_tags_of p A v) (else_fail p A (others_of p A v)) Γ (else_fits v (others_of p A v) Γ))
+    act_fits (leaf (call f ws)) x Γ h = tt
+    act_fits (leaf (prim f a b)) x Γ h = tt
+    act_fits (leaf read) x Γ h = tt
+    act_fits (leaf (write a)) x Γ h = tt
     act_fits (case v as') x Γ h = (h.0, all_fit as' x v Γ h.1)
     act_fits (nested b) x Γ h = code_fits b x Γ h
-    act_fits fail x Γ h = tt
+    act_fits (leaf fail) x Γ h = tt
 
     code_fits : (b : Code) (x : ℕ) (Γ : Sorts) → CodeFits p.tags ⊥ (Unit {0}) Γ b → CodeFits p.tags ⊥ ⊥ Γ (apply_code p A x b)
     code_fits (end o) x Γ h = (same_sort x o ∙ h.0, act_fits o x Γ h.1)

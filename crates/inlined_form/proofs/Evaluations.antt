@@ -9,7 +9,7 @@ use Rattle.grin_syntax.specs.declared.program.Target.{Target}
 use Rattle.grin_syntax.specs.declared.program.Val as V
 use Rattle.grin_syntax.specs.declared.program.Val.TheVariants.{NodeVar}
 use Rattle.grin_syntax.specs.declared.program.Word.{Word}
-use Rattle.grin_syntax.specs.Tree.{Code, end, store, bind, Act, unit, fetch, fetch_word, update, eval, apply, call, prim, read, write, case, nested, fail, Arms, no_arm, arm, Procedure, Program}
+use Rattle.grin_syntax.specs.Tree.{Code, end, store, bind, Act, leaf, unit, fetch, fetch_word, update, eval, apply, call, prim, read, write, case, nested, fail, Arms, no_arm, arm, Procedure, Program}
 use Rattle.grin_syntax.specs.Formed.{AllOf}
 use Rattle.grin_syntax.specs.Fresh.{variable, variables, past_act, past_code, past_arms, past_procs}
 use Rattle.grin_meaning.specs.Run.{is_fun_kind, is_some_and}
@@ -42,7 +42,7 @@ module _ (p : Program) (A : Solution) where
   unfolding ActFits
   body_fits a n y t i Γ lt e = on (is_fun_kind i.kind) (ap (λ o. is_some_and o (λ i. is_fun_kind i.kind)) e)
     where
-      on : (b : Bool) → delayed p.tags t ≡ b → CodeFits p.tags ⊥ (Unit {0}) (vars_sorted (variables y i.fields) (cond (delayed p.tags t) Γ (sorted n evaluated Γ))) (cond b (call_body p A a y i.fields i.proc) (end (unit (NodeVar (variable n)))))
+      on : (b : Bool) → delayed p.tags t ≡ b → CodeFits p.tags ⊥ (Unit {0}) (vars_sorted (variables y i.fields) (cond (delayed p.tags t) Γ (sorted n evaluated Γ))) (cond b (call_body p A a y i.fields i.proc) (end (leaf (unit (NodeVar (variable n))))))
       on true q = call_fits a y i.fields i.proc _
       on false q = (refl, variables_above y i.fields n _ lt ∙ (ap (λ b. cond b Γ (sorted n evaluated Γ) n) q ∙ has_sort n evaluated Γ))
 
@@ -63,13 +63,13 @@ module _ (p : Program) (A : Solution) where
   bound_fits : (x : ℕ) (t : Target) (o : Act) (b : Code) (Γ Γ' : Sorts) → KnowsNoMore Γ Γ' → Γ x ≡ anything → TargetFits t (sort_of o) → (NotEval o → (Γ' : Sorts) → KnowsNoMore Γ Γ' → ActFits p.tags ⊥ (Unit {0}) Γ' (eval_act p A x o))
       → ((Γ' : Sorts) → KnowsNoMore (target_sorted t (sort_of o) Γ) Γ' → CodeFits p.tags ⊥ (Unit {0}) Γ' b) → CodeFits p.tags ⊥ (Unit {0}) Γ' (eval_bound p A x t (eval_act p A x o) b)
   unfolding ActFits eval_act
-  bound_fits x t (eval a) b Γ Γ' k new ht ho hb = (tt, tt, (ht, case_fits a x Γ', hb _ (knows_target t evaluated Γ (sorted x a_node Γ') (fresh_known Γ Γ' k x a_node new))))
+  bound_fits x t (leaf (eval a)) b Γ Γ' k new ht ho hb = (tt, tt, (ht, case_fits a x Γ', hb _ (knows_target t evaluated Γ (sorted x a_node Γ') (fresh_known Γ Γ' k x a_node new))))
   bound_fits x t o b Γ Γ' k new ht ho hb = (ht, ho tt Γ' k, hb _ (knows_target t (sort_of o) Γ Γ' k))
 
   ended_fits : (x : ℕ) (o : Act) (Γ Γ' : Sorts) → KnowsNoMore Γ Γ' → Γ x ≡ anything → sort_of o ≡ evaluated → (NotEval o → (Γ' : Sorts) → KnowsNoMore Γ Γ' → ActFits p.tags ⊥ (Unit {0}) Γ' (eval_act p A x o))
       → CodeFits p.tags ⊥ (Unit {0}) Γ' (eval_ended p A x (eval_act p A x o))
   unfolding ActFits eval_act
-  ended_fits x (eval a) Γ Γ' k new hs ho = (tt, tt, (refl, case_fits a x Γ'))
+  ended_fits x (leaf (eval a)) Γ Γ' k new hs ho = (tt, tt, (refl, case_fits a x Γ'))
   ended_fits x o Γ Γ' k new hs ho = (hs, ho tt Γ' k)
 
   -- x0 is a variable past those of the program
@@ -78,19 +78,19 @@ module _ (p : Program) (A : Solution) where
       unfolding ActFits eval_act past_act
 
       act_fits : (o : Act) (x : ℕ) (Γ Γ' : Sorts) → x0 ≤ x → past_act o ≤ x0 → Unknown x0 Γ → KnowsNoMore Γ Γ' → NotEval o → ActFits p.tags (Unit {0}) (Unit {0}) Γ o → ActFits p.tags ⊥ (Unit {0}) Γ' (eval_act p A x o)
-      act_fits (unit v) x Γ Γ' fresh past u k ne h = given_known Γ Γ' k p.tags v h
-      act_fits (fetch a) x Γ Γ' fresh past u k ne h = tt
-      act_fits (fetch_word a i) x Γ Γ' fresh past u k ne h = h
-      act_fits (update a v) x Γ Γ' fresh past u k ne h = kept_known Γ Γ' k v h
-      act_fits (eval a) x Γ Γ' fresh past u k ne h = absurd ne
-      act_fits (apply v a) x Γ Γ' fresh past u k ne h = (tt, scrutinee_known Γ Γ' k v h.1)
-      act_fits (call f ws) x Γ Γ' fresh past u k ne h = tt
-      act_fits (prim f a b) x Γ Γ' fresh past u k ne h = tt
-      act_fits read x Γ Γ' fresh past u k ne h = tt
-      act_fits (write a) x Γ Γ' fresh past u k ne h = tt
+      act_fits (leaf (unit v)) x Γ Γ' fresh past u k ne h = given_known Γ Γ' k p.tags v h
+      act_fits (leaf (fetch a)) x Γ Γ' fresh past u k ne h = tt
+      act_fits (leaf (fetch_word a i)) x Γ Γ' fresh past u k ne h = h
+      act_fits (leaf (update a v)) x Γ Γ' fresh past u k ne h = kept_known Γ Γ' k v h
+      act_fits (leaf (eval a)) x Γ Γ' fresh past u k ne h = absurd ne
+      act_fits (leaf (apply v a)) x Γ Γ' fresh past u k ne h = (tt, scrutinee_known Γ Γ' k v h.1)
+      act_fits (leaf (call f ws)) x Γ Γ' fresh past u k ne h = tt
+      act_fits (leaf (prim f a b)) x Γ Γ' fresh past u k ne h = tt
+      act_fits (leaf read) x Γ Γ' fresh past u k ne h = tt
+      act_fits (leaf (write a)) x Γ Γ' fresh past u k ne h = tt
       act_fits (case v as') x Γ Γ' fresh past u k ne h = (scrutinee_known Γ Γ' k v h.0, all_fit as' x v Γ Γ' fresh past u k h.0 h.1)
       act_fits (nested b) x Γ Γ' fresh past u k ne h = code_fits b x Γ Γ' fresh past u k h
-      act_fits fail x Γ Γ' fresh past u k ne h = tt
+      act_fits (leaf fail) x Γ Γ' fresh past u k ne h = tt
 
       code_fits : (b : Code) (x : ℕ) (Γ Γ' : Sorts) → x0 ≤ x → past_code b ≤ x0 → Unknown x0 Γ → KnowsNoMore Γ Γ' → CodeFits p.tags (Unit {0}) (Unit {0}) Γ b → CodeFits p.tags ⊥ (Unit {0}) Γ' (eval_code p A x b)
       code_fits (end o) x Γ Γ' fresh past u k h = ended_fits x o Γ Γ' k (u x fresh) h.0 (λ ne Γ' k. act_fits o x Γ Γ' fresh past u k ne h.1)

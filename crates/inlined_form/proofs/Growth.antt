@@ -9,7 +9,7 @@ use Rattle.grin_syntax.specs.declared.program.Val.{Val}
 use Rattle.grin_syntax.specs.declared.program.Val.TheVariants.{NodeVar}
 use Rattle.grin_syntax.specs.declared.program.Word.{Word}
 use Rattle.grin_syntax.specs.declared.program.Word.TheVariants.{Var}
-use Rattle.grin_syntax.specs.Tree.{Code, end, store, bind, Act, unit, fetch, fetch_word, update, eval, apply, call, prim, read, write, case, nested, fail, Arms, no_arm, arm, Procedure, Program}
+use Rattle.grin_syntax.specs.Tree.{Code, end, store, bind, Act, leaf, unit, fetch, fetch_word, update, eval, apply, call, prim, read, write, case, nested, fail, Arms, no_arm, arm, Procedure, Program}
 use Rattle.grin_syntax.specs.Fresh.{variable, variables, past_procs}
 use Rattle.grin_meaning.specs.Run.{is_fun_kind, part_from}
 use Rattle.grin_meaning.specs.Ready.{most_fields}
@@ -69,7 +69,7 @@ module _ (p : Program) (A : Solution) where
   unfolding act_size
   eval_body_size a n y i = on (is_fun_kind i.kind)
     where
-      on : (b : Bool) → code_size (cond b (call_body p A a y i.fields i.proc) (end (unit (NodeVar (variable n))))) ≤ i.fields + 7
+      on : (b : Bool) → code_size (cond b (call_body p A a y i.fields i.proc) (end (leaf (unit (NodeVar (variable n)))))) ≤ i.fields + 7
       on true = call_size a y i.fields i.proc
       on false = omega arith
 
@@ -88,31 +88,31 @@ module _ (p : Program) (A : Solution) where
 
   ended_size : (x : ℕ) (o : Act) → act_size (eval_act p A x o) ≤ G * act_size o → code_size (eval_ended p A x (eval_act p A x o)) ≤ G * act_size o
   unfolding act_size eval_act
-  ended_size x (eval a) le = omega (arith, case_size x a, more_times 1 2 G (omega arith))
+  ended_size x (leaf (eval a)) le = omega (arith, case_size x a, more_times 1 2 G (omega arith))
   ended_size x o le = le
 
   bound_size : (x : ℕ) (t : Target) (o : Act) (b b' : Code) → act_size (eval_act p A x o) ≤ G * act_size o → code_size b' ≤ G * code_size b → code_size (eval_bound p A x t (eval_act p A x o) b') ≤ G * code_size (bind t o b)
   unfolding act_size eval_act
-  bound_size x t (eval a) b b' le leb = omega (arith, case_size x a, large (target_size t), mul-add G (target_size t + 2) (code_size b), mul-add G (target_size t) 2, leb)
+  bound_size x t (leaf (eval a)) b b' le leb = omega (arith, case_size x a, large (target_size t), mul-add G (target_size t + 2) (code_size b), mul-add G (target_size t) 2, leb)
   bound_size x t o b b' le leb = both_grow G (target_size t + act_size o) (code_size b) _ _ (both_grow G (target_size t) (act_size o) _ _ (large (target_size t)) le) leb
 
   mutual
     unfolding act_size eval_act
 
     eval_act_size : (o : Act) (x : ℕ) → act_size (eval_act p A x o) ≤ G * act_size o
-    eval_act_size (unit v) x = large (act_size (unit v))
-    eval_act_size (fetch a) x = large (act_size (fetch a))
-    eval_act_size (fetch_word a i) x = large (act_size (fetch_word a i))
-    eval_act_size (update a v) x = large (act_size (update a v))
-    eval_act_size (eval a) x = large (act_size (eval a))
-    eval_act_size (apply v a) x = large (act_size (apply v a))
-    eval_act_size (call f ws) x = large (act_size (call f ws))
-    eval_act_size (prim f a b) x = large (act_size (prim f a b))
-    eval_act_size read x = large (act_size read)
-    eval_act_size (write a) x = large (act_size (write a))
+    eval_act_size (leaf (unit v)) x = large (act_size (leaf (unit v)))
+    eval_act_size (leaf (fetch a)) x = large (act_size (leaf (fetch a)))
+    eval_act_size (leaf (fetch_word a i)) x = large (act_size (leaf (fetch_word a i)))
+    eval_act_size (leaf (update a v)) x = large (act_size (leaf (update a v)))
+    eval_act_size (leaf (eval a)) x = large (act_size (leaf (eval a)))
+    eval_act_size (leaf (apply v a)) x = large (act_size (leaf (apply v a)))
+    eval_act_size (leaf (call f ws)) x = large (act_size (leaf (call f ws)))
+    eval_act_size (leaf (prim f a b)) x = large (act_size (leaf (prim f a b)))
+    eval_act_size (leaf read) x = large (act_size (leaf read))
+    eval_act_size (leaf (write a)) x = large (act_size (leaf (write a)))
     eval_act_size (case v as') x = both_grow G (1 + val_size v) (arms_size as') _ _ (large (1 + val_size v)) (eval_all_size as' x)
     eval_act_size (nested b) x = both_grow G 1 (code_size b) _ _ (large 1) (eval_code_size b x)
-    eval_act_size fail x = large (act_size fail)
+    eval_act_size (leaf fail) x = large (act_size (leaf fail))
 
     eval_code_size : (b : Code) (x : ℕ) → code_size (eval_code p A x b) ≤ G * code_size b
     eval_code_size (end o) x = ended_size x o (eval_act_size o x)
@@ -159,7 +159,7 @@ module _ (p : Program) (A : Solution) where
   last_size [] = omega arith
   last_size (k ∷ ks) = omega arith
 
-  applied_size : (v : Val) (a : Word) (x : ℕ) → act_size (case v (apply_arms p A a x (part_tags_of p A v) (else_fail p A (others_of p A v)))) ≤ G * act_size (apply v a)
+  applied_size : (v : Val) (a : Word) (x : ℕ) → act_size (case v (apply_arms p A a x (part_tags_of p A v) (else_fail p A (others_of p A v)))) ≤ G * act_size (leaf (apply v a))
   unfolding act_size
   applied_size v a x =
       let few = more_times (length (part_tags_of p A v)) (length p.tags) M (those_few _ 0 (length p.tags)) in
@@ -169,19 +169,19 @@ module _ (p : Program) (A : Solution) where
     unfolding act_size apply_act
 
     apply_act_size : (o : Act) (x : ℕ) → act_size (apply_act p A x o) ≤ G * act_size o
-    apply_act_size (unit v) x = large (act_size (unit v))
-    apply_act_size (fetch a) x = large (act_size (fetch a))
-    apply_act_size (fetch_word a i) x = large (act_size (fetch_word a i))
-    apply_act_size (update a v) x = large (act_size (update a v))
-    apply_act_size (eval a) x = large (act_size (eval a))
-    apply_act_size (apply v a) x = applied_size v a x
-    apply_act_size (call f ws) x = large (act_size (call f ws))
-    apply_act_size (prim f a b) x = large (act_size (prim f a b))
-    apply_act_size read x = large (act_size read)
-    apply_act_size (write a) x = large (act_size (write a))
+    apply_act_size (leaf (unit v)) x = large (act_size (leaf (unit v)))
+    apply_act_size (leaf (fetch a)) x = large (act_size (leaf (fetch a)))
+    apply_act_size (leaf (fetch_word a i)) x = large (act_size (leaf (fetch_word a i)))
+    apply_act_size (leaf (update a v)) x = large (act_size (leaf (update a v)))
+    apply_act_size (leaf (eval a)) x = large (act_size (leaf (eval a)))
+    apply_act_size (leaf (apply v a)) x = applied_size v a x
+    apply_act_size (leaf (call f ws)) x = large (act_size (leaf (call f ws)))
+    apply_act_size (leaf (prim f a b)) x = large (act_size (leaf (prim f a b)))
+    apply_act_size (leaf read) x = large (act_size (leaf read))
+    apply_act_size (leaf (write a)) x = large (act_size (leaf (write a)))
     apply_act_size (case v as') x = both_grow G (1 + val_size v) (arms_size as') _ _ (large (1 + val_size v)) (apply_all_size as' x)
     apply_act_size (nested b) x = both_grow G 1 (code_size b) _ _ (large 1) (apply_code_size b x)
-    apply_act_size fail x = large (act_size fail)
+    apply_act_size (leaf fail) x = large (act_size (leaf fail))
 
     apply_code_size : (b : Code) (x : ℕ) → code_size (apply_code p A x b) ≤ G * code_size b
     apply_code_size (end o) x = apply_act_size o x

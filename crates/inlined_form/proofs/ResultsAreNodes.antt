@@ -16,7 +16,7 @@ use Rattle.grin_syntax.specs.declared.program.Word as W
 use Rattle.grin_syntax.specs.declared.program.Word.TheVariants.{Lit, Var, Global, TagWord}
 use Rattle.grin_syntax.specs.declared.program.Val as V
 use Rattle.grin_syntax.specs.declared.program.Val.TheVariants.{NodeVar, Node as NodeVal, Vector, One}
-use Rattle.grin_syntax.specs.Tree.{Code, end, store, bind, Act, unit, fetch, fetch_word, update, eval, apply, call, prim, read, write, case, nested, fail, Arms, no_arm, arm, Program}
+use Rattle.grin_syntax.specs.Tree.{Code, end, store, bind, Act, leaf, unit, fetch, fetch_word, update, eval, apply, call, prim, read, write, case, nested, fail, Arms, no_arm, arm, Program}
 use Rattle.grin_syntax.specs.Formed.{AllOf}
 use Rattle.grin_meaning.specs.Values.{Datum, number, tag, cell, Node, Value, node, words, Env, HeapCell, World, Answer, gives, stops, then_do, need, and_then, Binding, with_vars, one_each, MatchOutcome, fits, fits_not, unclear, fit_of, fits_if, fields_fit, node_fit, number_fit, only_word, fields_of, made_node, as_node, word_of, words_of, value_of, node_of, bindings_of}
 use Rattle.grin_meaning.specs.Run.{Calls, act, code, arms, calls, choose, spend, spent, with_state_seen, places, cells_of, with_cells, place_of, number_of, apply_arithmetic, byte_or_end, after_read, start_world}
@@ -287,21 +287,21 @@ module _ (p : Program) where
       unfolding act ActFits
 
       pub act_goes : (o : Act) (Γ : Sorts) (env : Env) (d : ℕ) (w : World) → Fine w → Fits Γ env → ActFits p.tags ⊥ ⊥ Γ o → GivesSort (sort_of o) (act p c env d o w)
-      act_goes (unit v) Γ env d w g f h = need_goes (HasSort p evaluated) evaluated w (value_of p env v) _ (given_there Γ env f v h) (λ x l. (g, l))
-      act_goes (fetch a) Γ env d w g f h = need_is a_node w (and_then (word_of p env a) place_of) _ (λ i _. need_goes PlainCell a_node w (slice_get w.cells i) _ (all_get PlainCell w.cells g.plain i) (λ x l. (g, l)))
-      act_goes (fetch_word a j) Γ env d w g f h = absurd h
-      act_goes (update a v) Γ env d w g f h = need_is anything w (and_then (word_of p env a) place_of) _ (λ i _. need_is anything w (slice_get w.cells i) _ (λ x _.
+      act_goes (leaf (unit v)) Γ env d w g f h = need_goes (HasSort p evaluated) evaluated w (value_of p env v) _ (given_there Γ env f v h) (λ x l. (g, l))
+      act_goes (leaf (fetch a)) Γ env d w g f h = need_is a_node w (and_then (word_of p env a) place_of) _ (λ i _. need_goes PlainCell a_node w (slice_get w.cells i) _ (all_get PlainCell w.cells g.plain i) (λ x l. (g, l)))
+      act_goes (leaf (fetch_word a j)) Γ env d w g f h = absurd h
+      act_goes (leaf (update a v)) Γ env d w g f h = need_is anything w (and_then (word_of p env a) place_of) _ (λ i _. need_is anything w (slice_get w.cells i) _ (λ x _.
           need_goes PlainNode anything w (node_of p env v) _ (kept Γ env f v h) (λ n l. (record { plain = all_set PlainCell w.cells g.plain i (record { site = x.site; node = n }) l }, tt))))
-      act_goes (eval a) Γ env d w g f h = absurd h
-      act_goes (apply v a) Γ env d w g f h = absurd h.0
-      act_goes (call q ws) Γ env d w g f h = need_is evaluated w (words_of p env ws) _ (λ xs _. cg.by q.0 xs d w g)
-      act_goes (prim q a b) Γ env d w g f h = need_is a_number w (word_of p env a) _ (λ x _. need_is a_number w (word_of p env b) _ (λ y _. need_goes (HasSort p a_number) a_number w (apply_arithmetic q x y) _ (calculated q x y) (λ v l. (g, l))))
-      act_goes read Γ env d w g f h = reading_goes w.input w g
-      act_goes (write a) Γ env d w g f h = need_is anything w (and_then (word_of p env a) number_of) _ (λ k _. (record { plain = g.plain }, tt))
+      act_goes (leaf (eval a)) Γ env d w g f h = absurd h
+      act_goes (leaf (apply v a)) Γ env d w g f h = absurd h.0
+      act_goes (leaf (call q ws)) Γ env d w g f h = need_is evaluated w (words_of p env ws) _ (λ xs _. cg.by q.0 xs d w g)
+      act_goes (leaf (prim q a b)) Γ env d w g f h = need_is a_number w (word_of p env a) _ (λ x _. need_is a_number w (word_of p env b) _ (λ y _. need_goes (HasSort p a_number) a_number w (apply_arithmetic q x y) _ (calculated q x y) (λ v l. (g, l))))
+      act_goes (leaf read) Γ env d w g f h = reading_goes w.input w g
+      act_goes (leaf (write a)) Γ env d w g f h = need_is anything w (and_then (word_of p env a) number_of) _ (λ k _. (record { plain = g.plain }, tt))
       act_goes (case v as') Γ env d w g f h = need_goes (λ x. (n : Node) × (x ≡ node n) × IsOn env v n) evaluated w (value_of p env v) _ (scrutinee Γ env f v h.0)
           (λ x q. subst (λ x. GivesSort evaluated (arms p c env d x as' w)) (sym q.1) (arms_go as' Γ env v q.0 d w q.2 g f h.1))
       act_goes (nested b) Γ env d w g f h = code_goes b Γ env d w g f h
-      act_goes fail Γ env d w g f h = tt
+      act_goes (leaf fail) Γ env d w g f h = tt
 
       pub code_goes : (b : Code) (Γ : Sorts) (env : Env) (d : ℕ) (w : World) → Fine w → Fits Γ env → CodeFits p.tags ⊥ ⊥ Γ b → GivesSort evaluated (code p c env d b w)
       code_goes (end o) Γ env d w g f h = subst (λ s. GivesSort s (act p c env d o w)) h.0 (act_goes o Γ env d w g f h.1)

@@ -11,7 +11,7 @@ use Rattle.grin_syntax.specs.declared.program.Target.TheVariants as to
 use Rattle.grin_syntax.specs.declared.program.Word as W
 use Rattle.grin_syntax.specs.declared.program.Val as V
 use Rattle.grin_syntax.specs.declared.program.Val.TheVariants.{NodeVar, Node as NodeVal, Vector, One}
-use Rattle.grin_syntax.specs.Tree.{Code, end, store, bind, Act, unit, fetch, fetch_word, update, eval, apply, call, prim, read, write, case, nested, fail, Arms, arm, Program}
+use Rattle.grin_syntax.specs.Tree.{Code, end, store, bind, Act, leaf, unit, fetch, fetch_word, update, eval, apply, call, prim, read, write, case, nested, fail, Arms, arm, Program}
 use Rattle.grin_syntax.specs.Formed.{AllOf}
 use Rattle.grin_meaning.specs.Values.{Datum, number, tag, cell, Node, Value, node, words, Env, HeapCell, World, Answer, gives, Binding, with_vars, one_each, fits, fit_of, value_of, bindings_of}
 use Rattle.grin_meaning.specs.Run.{act, calls, places, cells_of, with_state_seen, with_cells, is_fun_kind, is_some_and}
@@ -158,34 +158,34 @@ module _ (p : Program) (pf : ProgramFits ⊥ ⊥ p) (i : List ℕ) (n : ℕ) whe
 
   -- only a fetch gives a node of which no more is known
   node_evaluated : (o : Act) → IsNode (sort_of o) → NotFetch p o → sort_of o ≡ evaluated
-  node_evaluated (unit v) h k = refl
-  node_evaluated (fetch a) h k = absurd k
-  node_evaluated (fetch_word a i) h k = absurd h
-  node_evaluated (update a v) h k = absurd h
-  node_evaluated (eval a) h k = refl
-  node_evaluated (apply v a) h k = refl
-  node_evaluated (call f ws) h k = refl
-  node_evaluated (prim f a b) h k = absurd h
-  node_evaluated read h k = absurd h
-  node_evaluated (write a) h k = absurd h
+  node_evaluated (leaf (unit v)) h k = refl
+  node_evaluated (leaf (fetch a)) h k = absurd k
+  node_evaluated (leaf (fetch_word a i)) h k = absurd h
+  node_evaluated (leaf (update a v)) h k = absurd h
+  node_evaluated (leaf (eval a)) h k = refl
+  node_evaluated (leaf (apply v a)) h k = refl
+  node_evaluated (leaf (call f ws)) h k = refl
+  node_evaluated (leaf (prim f a b)) h k = absurd h
+  node_evaluated (leaf read) h k = absurd h
+  node_evaluated (leaf (write a)) h k = absurd h
   node_evaluated (case v as') h k = refl
   node_evaluated (nested b) h k = refl
-  node_evaluated fail h k = refl
+  node_evaluated (leaf fail) h k = refl
 
   block_evaluated : (o : Act) → HasBlock p o → sort_of o ≡ evaluated
   block_evaluated (case v as') h = refl
   block_evaluated (nested b) h = refl
-  block_evaluated (unit v) h = absurd h
-  block_evaluated (fetch a) h = absurd h
-  block_evaluated (fetch_word a i) h = absurd h
-  block_evaluated (update a v) h = absurd h
-  block_evaluated (eval a) h = absurd h
-  block_evaluated (apply v a) h = absurd h
-  block_evaluated (call f ws) h = absurd h
-  block_evaluated (prim f a b) h = absurd h
-  block_evaluated read h = absurd h
-  block_evaluated (write a) h = absurd h
-  block_evaluated fail h = absurd h
+  block_evaluated (leaf (unit v)) h = absurd h
+  block_evaluated (leaf (fetch a)) h = absurd h
+  block_evaluated (leaf (fetch_word a i)) h = absurd h
+  block_evaluated (leaf (update a v)) h = absurd h
+  block_evaluated (leaf (eval a)) h = absurd h
+  block_evaluated (leaf (apply v a)) h = absurd h
+  block_evaluated (leaf (call f ws)) h = absurd h
+  block_evaluated (leaf (prim f a b)) h = absurd h
+  block_evaluated (leaf read) h = absurd h
+  block_evaluated (leaf (write a)) h = absurd h
+  block_evaluated (leaf fail) h = absurd h
 
   -- ---- no vectors
 
@@ -205,11 +205,11 @@ module _ (p : Program) (pf : ProgramFits ⊥ ⊥ p) (i : List ℕ) (n : ℕ) whe
   all_filled Γ env [] h = tt
   all_filled Γ env (c ∷ cs) h = (kept_filled Γ env c.val h.0, all_filled Γ env cs h.1)
 
-  unit_filled : (env : Env) (v : V.Val) (w : World) → ActHere env (unit v) w → ValFilled p env v
+  unit_filled : (env : Env) (v : V.Val) (w : World) → ActHere env (leaf (unit v)) w → ValFilled p env v
   unfolding ActFits
   unit_filled env v w h = given_filled h.sorts env v h.act_fits
 
-  update_filled : (env : Env) (a : W.Word) (v : V.Val) (w : World) → ActHere env (update a v) w → ValFilled p env v
+  update_filled : (env : Env) (a : W.Word) (v : V.Val) (w : World) → ActHere env (leaf (update a v)) w → ValFilled p env v
   unfolding ActFits
   update_filled env a v w h = kept_filled h.sorts env v h.act_fits
 

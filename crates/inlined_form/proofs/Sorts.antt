@@ -11,7 +11,7 @@ use Rattle.grin_syntax.specs.declared.program.Target.TheVariants as to
 use Rattle.grin_syntax.specs.declared.program.Shape.{Shape}
 use Rattle.grin_syntax.specs.declared.program.Shape.TheVariants as shape
 use Rattle.grin_syntax.specs.declared.program.Cell.{Cell}
-use Rattle.grin_syntax.specs.Tree.{Code, end, store, bind, Act, unit, fetch, fetch_word, update, eval, apply, prim, read, write, case, nested, Arms, no_arm, arm, Procedure, Program}
+use Rattle.grin_syntax.specs.Tree.{Code, end, store, bind, Act, leaf, unit, fetch, fetch_word, update, eval, apply, prim, read, write, case, nested, Arms, no_arm, arm, Procedure, Program}
 use Rattle.grin_syntax.specs.Formed.{AllOf}
 use Rattle.grin_meaning.specs.Run.{is_fun_kind, is_some_and}
 
@@ -50,12 +50,12 @@ target_sorted (to.Vector xs) s Γ = Γ
 
 -- what an operation gives
 abbrev pub sort_of : Act → Sort
-sort_of (fetch a) = a_node
-sort_of (fetch_word a i) = anything
-sort_of (update a v) = anything
-sort_of (prim f a b) = a_number
-sort_of read = a_number
-sort_of (write a) = anything
+sort_of (leaf (fetch a)) = a_node
+sort_of (leaf (fetch_word a i)) = anything
+sort_of (leaf (update a v)) = anything
+sort_of (leaf (prim f a b)) = a_number
+sort_of (leaf read) = a_number
+sort_of (leaf (write a)) = anything
 sort_of _ = evaluated
 
 abbrev pub IsNode : Sort → Type 0
@@ -116,11 +116,11 @@ module _ (tags : List Tag) where
   module _ (Evals Applies : Type 0) where
     unfoldable mutual
       pub ActFits : Sorts → Act → Type 0
-      ActFits Γ (unit v) = GivenFits Γ v
-      ActFits Γ (update a v) = KeptFits Γ v
-      ActFits Γ (eval a) = Evals
-      ActFits Γ (apply v a) = Applies × ScrutineeFits Γ v
-      ActFits Γ (fetch_word a i) = ⊥
+      ActFits Γ (leaf (unit v)) = GivenFits Γ v
+      ActFits Γ (leaf (update a v)) = KeptFits Γ v
+      ActFits Γ (leaf (eval a)) = Evals
+      ActFits Γ (leaf (apply v a)) = Applies × ScrutineeFits Γ v
+      ActFits Γ (leaf (fetch_word a i)) = ⊥
       ActFits Γ (case v as') = ScrutineeFits Γ v × ArmsFit Γ v as'
       ActFits Γ (nested b) = CodeFits Γ b
       ActFits Γ _ = Unit {0}

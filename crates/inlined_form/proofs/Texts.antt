@@ -3,7 +3,7 @@ use Rattle.std.proofs.Common.{ℕ, ◌≤◌, List, [], ◌∷◌}
 use Rattle.grin_syntax.specs.declared.program.Tag.{Tag}
 use Rattle.grin_syntax.specs.declared.program.Val.{Val}
 use Rattle.grin_syntax.specs.declared.program.Val.TheVariants.{NodeVar, Node, Vector, One}
-use Rattle.grin_syntax.specs.Tree.{Code, end, store, bind, Act, unit, fetch, fetch_word, update, eval, apply, call, prim, read, write, case, nested, fail, Arms, no_arm, arm, Procedure}
+use Rattle.grin_syntax.specs.Tree.{Code, end, store, bind, Act, leaf, unit, fetch, fetch_word, update, eval, apply, call, prim, read, write, case, nested, fail, Arms, no_arm, arm, Procedure}
 use Rattle.grin_syntax.specs.Formed.{AllOf}
 use Rattle.grin_meaning.specs.Ready.{EachAct, EachCode, EachArms, val_width, NarrowAct, NarrowCode, NarrowArms, EveryBodyIsOfKind, inlined_kind}
 use Rattle.inlined_form.proofs.Sorts.{Sorts, nothing_known, vars_sorted, cells_sorted, target_sorted, sort_of, GivenFits, alternative_sorted, ActFits, CodeFits, ArmsFit, ProcedureFits}
@@ -14,19 +14,19 @@ module _ (ts : List Tag) where
     unfolding ActFits EachAct
 
     act_inlined : (o : Act) (Γ : Sorts) → ActFits ts ⊥ ⊥ Γ o → EachAct inlined_kind o
-    act_inlined (unit v) Γ h = (tt, tt)
-    act_inlined (fetch a) Γ h = tt
-    act_inlined (fetch_word a i) Γ h = tt
-    act_inlined (update a v) Γ h = (tt, tt)
-    act_inlined (eval a) Γ h = h
-    act_inlined (apply v a) Γ h = absurd h.0
-    act_inlined (call f ws) Γ h = tt
-    act_inlined (prim f a b) Γ h = tt
-    act_inlined read Γ h = tt
-    act_inlined (write a) Γ h = tt
+    act_inlined (leaf (unit v)) Γ h = (tt, tt)
+    act_inlined (leaf (fetch a)) Γ h = tt
+    act_inlined (leaf (fetch_word a i)) Γ h = tt
+    act_inlined (leaf (update a v)) Γ h = (tt, tt)
+    act_inlined (leaf (eval a)) Γ h = h
+    act_inlined (leaf (apply v a)) Γ h = absurd h.0
+    act_inlined (leaf (call f ws)) Γ h = tt
+    act_inlined (leaf (prim f a b)) Γ h = tt
+    act_inlined (leaf read) Γ h = tt
+    act_inlined (leaf (write a)) Γ h = tt
     act_inlined (case v as') Γ h = (tt, tt, arms_inlined as' v Γ h.1)
     act_inlined (nested b) Γ h = (tt, code_inlined b Γ h)
-    act_inlined fail Γ h = tt
+    act_inlined (leaf fail) Γ h = tt
 
     code_inlined : (b : Code) (Γ : Sorts) → CodeFits ts ⊥ ⊥ Γ b → EachCode inlined_kind b
     code_inlined (end o) Γ h = act_inlined o Γ h.1
@@ -53,19 +53,19 @@ module _ (ts : List Tag) where
       unfolding ActFits NarrowAct
 
       act_narrow : (o : Act) (Γ : Sorts) → ActFits ts ⊥ ⊥ Γ o → NarrowAct k m o
-      act_narrow (unit v) Γ h = given_narrow v Γ h
-      act_narrow (fetch a) Γ h = le
-      act_narrow (fetch_word a i) Γ h = tt
-      act_narrow (update a v) Γ h = tt
-      act_narrow (eval a) Γ h = tt
-      act_narrow (apply v a) Γ h = tt
-      act_narrow (call f ws) Γ h = tt
-      act_narrow (prim f a b) Γ h = tt
-      act_narrow read Γ h = tt
-      act_narrow (write a) Γ h = tt
+      act_narrow (leaf (unit v)) Γ h = given_narrow v Γ h
+      act_narrow (leaf (fetch a)) Γ h = le
+      act_narrow (leaf (fetch_word a i)) Γ h = tt
+      act_narrow (leaf (update a v)) Γ h = tt
+      act_narrow (leaf (eval a)) Γ h = tt
+      act_narrow (leaf (apply v a)) Γ h = tt
+      act_narrow (leaf (call f ws)) Γ h = tt
+      act_narrow (leaf (prim f a b)) Γ h = tt
+      act_narrow (leaf read) Γ h = tt
+      act_narrow (leaf (write a)) Γ h = tt
       act_narrow (case v as') Γ h = arms_narrow as' v Γ h.1
       act_narrow (nested b) Γ h = code_narrow b Γ h
-      act_narrow fail Γ h = tt
+      act_narrow (leaf fail) Γ h = tt
 
       code_narrow : (b : Code) (Γ : Sorts) → CodeFits ts ⊥ ⊥ Γ b → NarrowCode k m b
       code_narrow (end o) Γ h = act_narrow o Γ h.1

@@ -17,7 +17,7 @@ use Rattle.grin_syntax.specs.declared.program.Word.TheVariants.{Var}
 use Rattle.grin_syntax.specs.declared.program.Val.TheVariants.{NodeVar, Node}
 use Rattle.grin_syntax.specs.declared.program.Target.TheVariants as to
 use Rattle.grin_syntax.specs.declared.program.Shape.TheVariants as shape
-use Rattle.grin_syntax.specs.Tree.{Code, end, store, bind, unit, eval, prim, case, Procedure, as_act}
+use Rattle.grin_syntax.specs.Tree.{Code, end, store, bind, leaf, unit, eval, prim, case, Procedure, as_act}
 use Rattle.grin_syntax.specs.Formed.{AllOf}
 use Rattle.grin_meaning.specs.Run.{is_fun_kind}
 use Rattle.grin_translate.specs.declared.tags.Delay.{Delay}
@@ -104,8 +104,8 @@ module _ (p : Program) where
     prim_fits : (t : ℕ) (op : PrimOp) (a b : Word) (Γ : Sorts) → CodeGood Γ (prim_block p base t op a b)
     unfolding ActFits kinds
     prim_fits t op a b Γ =
-        let last : Code = bind (to.One (temp p base (t + 4))) (prim (operation op) (Var (temp p base (t + 1))) (Var (temp p base (t + 3)))) (end (unit (Node (tag p Number) (Var (temp p base (t + 4)) ∷ [])))) in
-        let second : Code = bind (to.Node (temp p base (t + 2))) (eval b) (on_number p base (temp p base (t + 2)) (temp p base (t + 3)) last) in
+        let last : Code = bind (to.One (temp p base (t + 4))) (leaf (prim (operation op) (Var (temp p base (t + 1))) (Var (temp p base (t + 3))))) (end (leaf (unit (Node (tag p Number) (Var (temp p base (t + 4)) ∷ []))))) in
+        let second : Code = bind (to.Node (temp p base (t + 2))) (leaf (eval b)) (on_number p base (temp p base (t + 2)) (temp p base (t + 3)) last) in
         let last_fits : (Γ : Sorts) → CodeGood Γ last = λ Γ. (refl, tt, (refl, (tag_evaluated Number tt, has_sort (temp p base (t + 4)).0 a_number Γ))) in
         let second_fits : (Γ : Sorts) → CodeGood Γ second = λ Γ. (tt, tt, number_fits (temp p base (t + 2)) (temp p base (t + 3)) last (sorted (temp p base (t + 2)).0 evaluated Γ) (subst IsNode (sym (has_sort (temp p base (t + 2)).0 evaluated Γ)) tt) last_fits) in
         (tt, tt, number_fits (temp p base t) (temp p base (t + 1)) second (sorted (temp p base t).0 evaluated Γ) (subst IsNode (sym (has_sort (temp p base t).0 evaluated Γ)) tt) second_fits)

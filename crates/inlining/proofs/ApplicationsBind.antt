@@ -5,7 +5,7 @@ use Rattle.grin_syntax.specs.declared.program.Tag.{Tag}
 use Rattle.grin_syntax.specs.declared.program.ProcId.{ProcId}
 use Rattle.grin_syntax.specs.declared.program.Word.{Word}
 use Rattle.grin_syntax.specs.declared.program.Word.TheVariants.{Var}
-use Rattle.grin_syntax.specs.Tree.{Code, end, store, bind, Act, unit, fetch, fetch_word, update, eval, apply, call, prim, read, write, case, nested, fail, Arms, no_arm, arm, Procedure, Program}
+use Rattle.grin_syntax.specs.Tree.{Code, end, store, bind, Act, leaf, unit, fetch, fetch_word, update, eval, apply, call, prim, read, write, case, nested, fail, Arms, no_arm, arm, Procedure, Program}
 use Rattle.grin_syntax.specs.Binders.{numbers_of, target_vars, shape_vars, cell_vars, act_vars, code_vars, arms_vars, procs_vars, act_sites, code_sites, arms_sites, procs_sites}
 use Rattle.grin_syntax.specs.Fresh.{variables, past_procs}
 use Rattle.grin_syntax.proofs.Counted.{fresh, fresh_below, fresh_once, fresh_split}
@@ -81,17 +81,17 @@ module _ (p : Program) (A : Solution) (z : ℕ) where
     act_counted : (x : ℕ) (o : Act) → times z (act_vars (apply_act p A x o)) ≡ times z (act_vars o) + fresh z x (apply_act_room p A o)
     act_counted x (case v as') = all_counted x as'
     act_counted x (nested b) = code_counted x b
-    act_counted x (apply v a) = omega (arith, arms_counted a x (part_tags_of p A v) (else_fail p A (others_of p A v)), last_counted (others_of p A v))
-    act_counted x (unit v) = refl
-    act_counted x (fetch a) = refl
-    act_counted x (fetch_word a i) = refl
-    act_counted x (update a v) = refl
-    act_counted x (eval a) = refl
-    act_counted x (call f ws) = refl
-    act_counted x (prim f a b) = refl
-    act_counted x read = refl
-    act_counted x (write a) = refl
-    act_counted x fail = refl
+    act_counted x (leaf (apply v a)) = omega (arith, arms_counted a x (part_tags_of p A v) (else_fail p A (others_of p A v)), last_counted (others_of p A v))
+    act_counted x (leaf (unit v)) = refl
+    act_counted x (leaf (fetch a)) = refl
+    act_counted x (leaf (fetch_word a i)) = refl
+    act_counted x (leaf (update a v)) = refl
+    act_counted x (leaf (eval a)) = refl
+    act_counted x (leaf (call f ws)) = refl
+    act_counted x (leaf (prim f a b)) = refl
+    act_counted x (leaf read) = refl
+    act_counted x (leaf (write a)) = refl
+    act_counted x (leaf fail) = refl
 
     code_counted : (x : ℕ) (b : Code) → times z (code_vars (apply_code p A x b)) ≡ times z (code_vars b) + fresh z x (apply_code_room p A b)
     code_counted x (end o) = act_counted x o
@@ -180,17 +180,17 @@ module _ (p : Program) (A : Solution) where
     act_sites_stay : (x : ℕ) (o : Act) → act_sites (apply_act p A x o) ≡ act_sites o
     act_sites_stay x (case v as') = all_sites_stay x as'
     act_sites_stay x (nested b) = code_sites_stay x b
-    act_sites_stay x (apply v a) = applied_arms_sites a x (part_tags_of p A v) (else_fail p A (others_of p A v)) ∙ last_sites (others_of p A v)
-    act_sites_stay x (unit v) = refl
-    act_sites_stay x (fetch a) = refl
-    act_sites_stay x (fetch_word a i) = refl
-    act_sites_stay x (update a v) = refl
-    act_sites_stay x (eval a) = refl
-    act_sites_stay x (call f ws) = refl
-    act_sites_stay x (prim f a b) = refl
-    act_sites_stay x read = refl
-    act_sites_stay x (write a) = refl
-    act_sites_stay x fail = refl
+    act_sites_stay x (leaf (apply v a)) = applied_arms_sites a x (part_tags_of p A v) (else_fail p A (others_of p A v)) ∙ last_sites (others_of p A v)
+    act_sites_stay x (leaf (unit v)) = refl
+    act_sites_stay x (leaf (fetch a)) = refl
+    act_sites_stay x (leaf (fetch_word a i)) = refl
+    act_sites_stay x (leaf (update a v)) = refl
+    act_sites_stay x (leaf (eval a)) = refl
+    act_sites_stay x (leaf (call f ws)) = refl
+    act_sites_stay x (leaf (prim f a b)) = refl
+    act_sites_stay x (leaf read) = refl
+    act_sites_stay x (leaf (write a)) = refl
+    act_sites_stay x (leaf fail) = refl
 
     code_sites_stay : (x : ℕ) (b : Code) → code_sites (apply_code p A x b) ≡ code_sites b
     code_sites_stay x (end o) = act_sites_stay x o

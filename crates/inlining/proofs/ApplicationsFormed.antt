@@ -8,7 +8,7 @@ use Rattle.grin_syntax.specs.declared.program.TagKind.{TagKind}
 use Rattle.grin_syntax.specs.declared.program.TagKind.TheVariants as kind
 use Rattle.grin_syntax.specs.declared.program.Word.{Word}
 use Rattle.grin_syntax.specs.declared.program.Word.TheVariants.{Var}
-use Rattle.grin_syntax.specs.Tree.{Code, end, store, bind, Act, unit, fetch, fetch_word, update, eval, apply, call, prim, read, write, case, nested, fail, Arms, no_arm, arm, Procedure, Program}
+use Rattle.grin_syntax.specs.Tree.{Code, end, store, bind, Act, leaf, unit, fetch, fetch_word, update, eval, apply, call, prim, read, write, case, nested, fail, Arms, no_arm, arm, Procedure, Program}
 use Rattle.grin_syntax.specs.Binders.{numbers_of, shape_vars, cell_vars}
 use Rattle.grin_syntax.specs.Formed.{AllOf, Scope, with_word_variables, with_target, params_scope, KnownIfAny, HasProcedure, KindFormed, TagFormed, WordFormed, ActFormed, CodeFormed, ArmsFormed, ProcedureFormed, Formed, argument_words}
 use Rattle.grin_syntax.specs.Tags.{is_part}
@@ -86,17 +86,17 @@ module _ (p : Program) (A : Solution) (procs : List Procedure) (same_count : len
     act_formed : (x : ℕ) (o : Act) (scope : Scope) → ActFormed p scope o → ActFormed there scope (apply_act p A x o)
     act_formed x (case v as') scope h = (h.0, all_formed x as' scope h.1)
     act_formed x (nested b) scope h = code_formed x b scope h
-    act_formed x (apply v a) scope h = (h.0, arms_formed scope a x (part_tags_of p A v) (else_fail p A (others_of p A v)) h.1 (last_formed scope (others_of p A v)))
-    act_formed x (unit v) scope h = h
-    act_formed x (fetch a) scope h = h
-    act_formed x (fetch_word a i) scope h = h
-    act_formed x (update a v) scope h = h
-    act_formed x (eval a) scope h = h
-    act_formed x (call f ws) scope h = (known_again p procs same_count f h.0, h.1)
-    act_formed x (prim f a b) scope h = h
-    act_formed x read scope h = h
-    act_formed x (write a) scope h = h
-    act_formed x fail scope h = h
+    act_formed x (leaf (apply v a)) scope h = (h.0, arms_formed scope a x (part_tags_of p A v) (else_fail p A (others_of p A v)) h.1 (last_formed scope (others_of p A v)))
+    act_formed x (leaf (unit v)) scope h = h
+    act_formed x (leaf (fetch a)) scope h = h
+    act_formed x (leaf (fetch_word a i)) scope h = h
+    act_formed x (leaf (update a v)) scope h = h
+    act_formed x (leaf (eval a)) scope h = h
+    act_formed x (leaf (call f ws)) scope h = (known_again p procs same_count f h.0, h.1)
+    act_formed x (leaf (prim f a b)) scope h = h
+    act_formed x (leaf read) scope h = h
+    act_formed x (leaf (write a)) scope h = h
+    act_formed x (leaf fail) scope h = h
 
     code_formed : (x : ℕ) (b : Code) (scope : Scope) → CodeFormed p scope b → CodeFormed there scope (apply_code p A x b)
     code_formed x (end o) scope h = act_formed x o scope h

@@ -8,7 +8,7 @@ use Rattle.grin_syntax.specs.declared.program.Tag.{Tag}
 use Rattle.grin_syntax.specs.declared.program.Val.{Val}
 use Rattle.grin_syntax.specs.declared.program.Word.{Word}
 use Rattle.grin_syntax.specs.declared.program.Word.TheVariants.{Var}
-use Rattle.grin_syntax.specs.Tree.{apply, case, Arms, Procedure, Program}
+use Rattle.grin_syntax.specs.Tree.{leaf, apply, case, Arms, Procedure, Program}
 use Rattle.grin_syntax.specs.Fresh.{variables as names}
 use Rattle.grin_meaning.specs.Values.{Datum, Node, Value, node, Env, State, World, gives, no_alternative, stops, need, and_then, with_vars, made_node, as_node, word_of, words_of, value_of}
 use Rattle.grin_meaning.specs.Run.{Calls, act, code, arms, is_part_kind, is_some_and, part_from, apply_node, apply_part}
@@ -158,7 +158,7 @@ module _ (K : DepthComparison) (g : Program) (A : Solution) (x0 : ℕ) (procs : 
               (those_have (λ t. value_has g A v t && not (is_part_tag g A t)) n.tag (and_from _ _ had.has (ap not (kind_is n t false q k))) 0 (length g.tags) (omega arith) (omega (arith, lt)))
               (part_tags_of g A v) y (those_parts g A (value_has g A v) 0 (length g.tags))
 
-  pub apply_sim : (y : ℕ) (v : Val) (a : Word) → x0 ≤ y → ValOk Ok v → WordOk Ok a → ActLike (it K g A x0 procs c c' cb cf) (apply v a) (case v (apply_arms g A a y (part_tags_of g A v) (else_fail g A (others_of g A v))))
+  pub apply_sim : (y : ℕ) (v : Val) (a : Word) → x0 ≤ y → ValOk Ok v → WordOk Ok a → ActLike (it K g A x0 procs c c' cb cf) (leaf (apply v a)) (case v (apply_arms g A a y (part_tags_of g A v) (else_fail g A (others_of g A v))))
   unfolding act
   apply_sim y v a fresh okv ok = record { by = λ env env' d d' w ss e ag dd de lies. rw (value_same g Ok env env' ag v okv) (go env env' d d' w ss e ag dd de lies (value_of g env v) refl) }
     where

@@ -8,7 +8,7 @@ use Rattle.grin_syntax.specs.declared.program.Val.TheVariants.{NodeVar, Node, Ve
 use Rattle.grin_syntax.specs.declared.program.Target.{Target}
 use Rattle.grin_syntax.specs.declared.program.Target.TheVariants as to
 use Rattle.grin_syntax.specs.declared.program.Cell.{Cell}
-use Rattle.grin_syntax.specs.Tree.{Code, end, store, bind, Act, unit, fetch, fetch_word, update, eval, apply, call, prim, read, write, case, nested, fail, Arms, no_arm, arm, Procedure, Program}
+use Rattle.grin_syntax.specs.Tree.{Code, end, store, bind, Act, leaf, unit, fetch, fetch_word, update, eval, apply, call, prim, read, write, case, nested, fail, Arms, no_arm, arm, Procedure, Program}
 use Rattle.grin_syntax.specs.Binders.{numbers_of, target_vars, shape_vars, cell_vars}
 use Rattle.grin_syntax.specs.Formed.{AllOf, Scope, with_word_variables, with_target, params_scope, InScope, WordFormed, ValFormed, CellFormed, ActFormed, CodeFormed, ArmsFormed, ProcedureFormed, Formed}
 use Rattle.grin_syntax.specs.Fresh.{past_act, past_code, past_arms, past_procs}
@@ -68,17 +68,17 @@ module _ (p : Program) (n : ℕ) where
     act_bound : (scope : Scope) → Below scope → (o : Act) → past_act o ≤ n → ActFormed p scope o → ActOk (λ y. y < n) o
     act_bound scope low (case v as') le h = (val_bound scope low v h.0, arms_bound scope low as' le h.1)
     act_bound scope low (nested b) le h = code_bound scope low b le h
-    act_bound scope low (unit v) le h = val_bound scope low v h
-    act_bound scope low (fetch a) le h = word_bound scope low a h
-    act_bound scope low (fetch_word a i) le h = word_bound scope low a h
-    act_bound scope low (update a v) le h = (word_bound scope low a h.0, val_bound scope low v h.1)
-    act_bound scope low (eval a) le h = word_bound scope low a h
-    act_bound scope low (apply v a) le h = (val_bound scope low v h.0, word_bound scope low a h.1)
-    act_bound scope low (call f ws) le h = words_bound scope low ws h.1
-    act_bound scope low (prim f a b) le h = (word_bound scope low a h.0, word_bound scope low b h.1)
-    act_bound scope low read le h = tt
-    act_bound scope low (write a) le h = word_bound scope low a h
-    act_bound scope low fail le h = tt
+    act_bound scope low (leaf (unit v)) le h = val_bound scope low v h
+    act_bound scope low (leaf (fetch a)) le h = word_bound scope low a h
+    act_bound scope low (leaf (fetch_word a i)) le h = word_bound scope low a h
+    act_bound scope low (leaf (update a v)) le h = (word_bound scope low a h.0, val_bound scope low v h.1)
+    act_bound scope low (leaf (eval a)) le h = word_bound scope low a h
+    act_bound scope low (leaf (apply v a)) le h = (val_bound scope low v h.0, word_bound scope low a h.1)
+    act_bound scope low (leaf (call f ws)) le h = words_bound scope low ws h.1
+    act_bound scope low (leaf (prim f a b)) le h = (word_bound scope low a h.0, word_bound scope low b h.1)
+    act_bound scope low (leaf read) le h = tt
+    act_bound scope low (leaf (write a)) le h = word_bound scope low a h
+    act_bound scope low (leaf fail) le h = tt
 
     code_bound : (scope : Scope) → Below scope → (b : Code) → past_code b ≤ n → CodeFormed p scope b → CodeOk (λ y. y < n) b
     code_bound scope low (end o) le h = act_bound scope low o le h

@@ -9,7 +9,7 @@ use Rattle.grin_syntax.specs.declared.program.Val.TheVariants.{NodeVar}
 use Rattle.grin_syntax.specs.declared.program.Target.{Target}
 use Rattle.grin_syntax.specs.declared.program.Target.TheVariants.{Node as NodeTarget}
 use Rattle.grin_syntax.specs.declared.program.Shape.TheVariants.{Node as NodeShape}
-use Rattle.grin_syntax.specs.Tree.{Code, end, store, bind, Act, unit, fetch, fetch_word, update, eval, apply, call, prim, read, write, case, nested, fail, Arms, no_arm, arm, Procedure, Program}
+use Rattle.grin_syntax.specs.Tree.{Code, end, store, bind, Act, leaf, unit, fetch, fetch_word, update, eval, apply, call, prim, read, write, case, nested, fail, Arms, no_arm, arm, Procedure, Program}
 use Rattle.grin_syntax.specs.Tags.{tag_id}
 use Rattle.grin_syntax.specs.Fresh.{variable, variables}
 use Rattle.grin_meaning.specs.Run.{is_fun_kind}
@@ -57,7 +57,7 @@ module _ (p : Program) (A : Solution) (procs : List Procedure) where
   call_apart a x k (Some f) = refl
 
   body_apart : (a : W.Word) (n x : ℕ) (t : Tag) → eval_body q A a n x t ≡ eval_body p A a n x t
-  body_apart a n x t = ap (λ b. cond (is_fun_kind t.kind) b (end (unit (NodeVar (variable n))))) (call_apart a x t.fields t.proc)
+  body_apart a n x t = ap (λ b. cond (is_fun_kind t.kind) b (end (leaf (unit (NodeVar (variable n)))))) (call_apart a x t.fields t.proc)
 
   arm_apart : (a : W.Word) (n x t : ℕ) (o : Option Tag) (as' : Arms) → eval_arm q A a n x t o as' ≡ eval_arm p A a n x t o as'
   arm_apart a n x t None as' = refl
@@ -74,11 +74,11 @@ module _ (p : Program) (A : Solution) (procs : List Procedure) where
   all_arms_apart a n x = ap (eval_arms q A a n x) (tags_apart a) ∙ arms_apart a n x (tags_of p A a)
 
   bound_apart : (x : ℕ) (t : Target) (o : Act) (b : Code) → eval_bound q A x t o b ≡ eval_bound p A x t o b
-  bound_apart x t (eval a) b = ap (λ as'. bind (NodeTarget (variable x)) (fetch a) (bind t (case (NodeVar (variable x)) as') b)) (all_arms_apart a x (suc x))
+  bound_apart x t (leaf (eval a)) b = ap (λ as'. bind (NodeTarget (variable x)) (leaf (fetch a)) (bind t (case (NodeVar (variable x)) as') b)) (all_arms_apart a x (suc x))
   bound_apart x t o b = refl
 
   ended_apart : (x : ℕ) (o : Act) → eval_ended q A x o ≡ eval_ended p A x o
-  ended_apart x (eval a) = ap (λ as'. bind (NodeTarget (variable x)) (fetch a) (end (case (NodeVar (variable x)) as'))) (all_arms_apart a x (suc x))
+  ended_apart x (leaf (eval a)) = ap (λ as'. bind (NodeTarget (variable x)) (leaf (fetch a)) (end (case (NodeVar (variable x)) as'))) (all_arms_apart a x (suc x))
   ended_apart x o = refl
 
   mutual
@@ -87,17 +87,17 @@ module _ (p : Program) (A : Solution) (procs : List Procedure) where
     act_room_apart : (o : Act) → act_room q A o ≡ act_room p A o
     act_room_apart (case v as') = all_room_apart as'
     act_room_apart (nested b) = code_room_apart b
-    act_room_apart (unit v) = refl
-    act_room_apart (fetch a) = refl
-    act_room_apart (fetch_word a i) = refl
-    act_room_apart (update a v) = refl
-    act_room_apart (eval a) = ap suc (ap (arms_room q A) (tags_apart a) ∙ room_apart (tags_of p A a))
-    act_room_apart (apply v a) = refl
-    act_room_apart (call f ws) = refl
-    act_room_apart (prim f a b) = refl
-    act_room_apart read = refl
-    act_room_apart (write a) = refl
-    act_room_apart fail = refl
+    act_room_apart (leaf (unit v)) = refl
+    act_room_apart (leaf (fetch a)) = refl
+    act_room_apart (leaf (fetch_word a i)) = refl
+    act_room_apart (leaf (update a v)) = refl
+    act_room_apart (leaf (eval a)) = ap suc (ap (arms_room q A) (tags_apart a) ∙ room_apart (tags_of p A a))
+    act_room_apart (leaf (apply v a)) = refl
+    act_room_apart (leaf (call f ws)) = refl
+    act_room_apart (leaf (prim f a b)) = refl
+    act_room_apart (leaf read) = refl
+    act_room_apart (leaf (write a)) = refl
+    act_room_apart (leaf fail) = refl
 
     code_room_apart : (b : Code) → code_room q A b ≡ code_room p A b
     code_room_apart (end o) = act_room_apart o
@@ -114,17 +114,7 @@ module _ (p : Program) (A : Solution) (procs : List Procedure) where
     act_apart : (x : ℕ) (o : Act) → eval_act q A x o ≡ eval_act p A x o
     act_apart x (case v as') = ap (case v) (all_apart x as')
     act_apart x (nested b) = ap nested (code_apart x b)
-    act_apart x (unit v) = refl
-    act_apart x (fetch a) = refl
-    act_apart x (fetch_word a i) = refl
-    act_apart x (update a v) = refl
-    act_apart x (eval a) = refl
-    act_apart x (apply v a) = refl
-    act_apart x (call f ws) = refl
-    act_apart x (prim f a b) = refl
-    act_apart x read = refl
-    act_apart x (write a) = refl
-    act_apart x fail = refl
+    act_apart x (leaf l) = refl
 
     code_apart : (x : ℕ) (b : Code) → eval_code q A x b ≡ eval_code p A x b
     code_apart x (end o) = ap (eval_ended q A x) (act_apart x o) ∙ ended_apart x (eval_act p A x o)

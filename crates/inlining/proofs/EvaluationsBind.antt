@@ -5,7 +5,7 @@ use Rattle.grin_syntax.specs.declared.program.Tag.{Tag}
 use Rattle.grin_syntax.specs.declared.program.ProcId.{ProcId}
 use Rattle.grin_syntax.specs.declared.program.Word.{Word}
 use Rattle.grin_syntax.specs.declared.program.Target.{Target}
-use Rattle.grin_syntax.specs.Tree.{Code, end, store, bind, Act, unit, fetch, fetch_word, update, eval, apply, call, prim, read, write, case, nested, fail, Arms, no_arm, arm, Procedure, Program}
+use Rattle.grin_syntax.specs.Tree.{Code, end, store, bind, Act, leaf, unit, fetch, fetch_word, update, eval, apply, call, prim, read, write, case, nested, fail, Arms, no_arm, arm, Procedure, Program}
 use Rattle.grin_syntax.specs.Binders.{numbers_of, target_vars, shape_vars, cell_vars, act_vars, code_vars, arms_vars, procs_vars, act_sites, code_sites, arms_sites, procs_sites}
 use Rattle.grin_meaning.specs.Run.{is_fun_kind}
 use Rattle.flow_system.specs.Solution.{Solution}
@@ -27,7 +27,7 @@ module _ (p : Program) (A : Solution) (x : ℕ) where
   unfolding act_vars
   body_counted a n y t = go (is_fun_kind t.kind) t.proc
     where
-      go : (b : Bool) (o : Option ProcId) → times x (code_vars (cond b (call_body p A a y t.fields o) (end (unit (NodeVar (variable n)))))) ≤ fresh x (y + t.fields) 1
+      go : (b : Bool) (o : Option ProcId) → times x (code_vars (cond b (call_body p A a y t.fields o) (end (leaf (unit (NodeVar (variable n))))))) ≤ fresh x (y + t.fields) 1
       go true None = omega arith
       go true (Some f) = omega arith
       go false o = omega arith
@@ -64,7 +64,7 @@ module _ (p : Program) (A : Solution) (x : ℕ) where
   bind_counted : (y : ℕ) (t : Target) (o : Act) (b : Code) → times x (act_vars (eval_act p A y o)) ≤ times x (act_vars o) + fresh x y (act_room p A o)
       → times x (code_vars (eval_bound p A y t (eval_act p A y o) b)) ≤ times x (target_vars t) + times x (act_vars o) + fresh x y (act_room p A o) + times x (code_vars b)
   unfolding eval_act act_room act_vars
-  bind_counted y t (eval a) b h =
+  bind_counted y t (leaf (eval a)) b h =
       let r : times x (arms_vars (eval_arms p A a y (suc y) (tags_of p A a))) ≤ fresh x (suc y) (arms_room p A (tags_of p A a)) = arms_counted a y (suc y) (tags_of p A a) in
       let c : times x (target_vars t ++ (arms_vars (eval_arms p A a y (suc y) (tags_of p A a)) ++ code_vars b)) ≡ times x (target_vars t) + times x (arms_vars (eval_arms p A a y (suc y) (tags_of p A a)) ++ code_vars b)
       = times_append x (target_vars t) (arms_vars (eval_arms p A a y (suc y) (tags_of p A a)) ++ code_vars b) in
@@ -81,7 +81,7 @@ module _ (p : Program) (A : Solution) (x : ℕ) where
   end_counted : (y : ℕ) (o : Act) → times x (act_vars (eval_act p A y o)) ≤ times x (act_vars o) + fresh x y (act_room p A o)
       → times x (code_vars (eval_ended p A y (eval_act p A y o))) ≤ times x (act_vars o) + fresh x y (act_room p A o)
   unfolding eval_act act_room act_vars
-  end_counted y (eval a) h =
+  end_counted y (leaf (eval a)) h =
       let r : times x (arms_vars (eval_arms p A a y (suc y) (tags_of p A a))) ≤ fresh x (suc y) (arms_room p A (tags_of p A a)) = arms_counted a y (suc y) (tags_of p A a) in
       omega arith
   end_counted y o h = h
@@ -92,17 +92,7 @@ module _ (p : Program) (A : Solution) (x : ℕ) where
     act_counted : (y : ℕ) (o : Act) → times x (act_vars (eval_act p A y o)) ≤ times x (act_vars o) + fresh x y (act_room p A o)
     act_counted y (case v as') = all_counted y as'
     act_counted y (nested b) = code_counted y b
-    act_counted y (unit v) = omega arith
-    act_counted y (fetch a) = omega arith
-    act_counted y (fetch_word a i) = omega arith
-    act_counted y (update a v) = omega arith
-    act_counted y (eval a) = omega arith
-    act_counted y (apply v a) = omega arith
-    act_counted y (call f ws) = omega arith
-    act_counted y (prim f a b) = omega arith
-    act_counted y read = omega arith
-    act_counted y (write a) = omega arith
-    act_counted y fail = omega arith
+    act_counted y (leaf l) = omega arith
 
     pub code_counted : (y : ℕ) (b : Code) → times x (code_vars (eval_code p A y b)) ≤ times x (code_vars b) + fresh x y (code_room p A b)
     code_counted y (end o) = end_counted y o (act_counted y o)
@@ -172,7 +162,7 @@ module _ (p : Program) (A : Solution) where
   unfolding act_sites
   body_sites a n y t = go (is_fun_kind t.kind) t.proc
     where
-      go : (b : Bool) (o : Option ProcId) → code_sites (cond b (call_body p A a y t.fields o) (end (unit (NodeVar (variable n))))) ≡ []
+      go : (b : Bool) (o : Option ProcId) → code_sites (cond b (call_body p A a y t.fields o) (end (leaf (unit (NodeVar (variable n)))))) ≡ []
       go true None = refl
       go true (Some f) = refl
       go false o = refl
@@ -188,12 +178,12 @@ module _ (p : Program) (A : Solution) where
 
   bind_sites : (y : ℕ) (t : Target) (o : Act) (b : Code) → act_sites (eval_act p A y o) ≡ act_sites o → code_sites (eval_bound p A y t (eval_act p A y o) b) ≡ act_sites o ++ code_sites b
   unfolding eval_act act_sites
-  bind_sites y t (eval a) b h = λ j. arms_have_none a y (suc y) (tags_of p A a) j ++ code_sites b
+  bind_sites y t (leaf (eval a)) b h = λ j. arms_have_none a y (suc y) (tags_of p A a) j ++ code_sites b
   bind_sites y t o b h = ap (λ l. l ++ code_sites b) h
 
   end_sites : (y : ℕ) (o : Act) → act_sites (eval_act p A y o) ≡ act_sites o → code_sites (eval_ended p A y (eval_act p A y o)) ≡ act_sites o
   unfolding eval_act act_sites
-  end_sites y (eval a) h = arms_have_none a y (suc y) (tags_of p A a)
+  end_sites y (leaf (eval a)) h = arms_have_none a y (suc y) (tags_of p A a)
   end_sites y o h = h
 
   mutual
@@ -202,17 +192,7 @@ module _ (p : Program) (A : Solution) where
     act_sites_stay : (y : ℕ) (o : Act) → act_sites (eval_act p A y o) ≡ act_sites o
     act_sites_stay y (case v as') = all_sites_stay y as'
     act_sites_stay y (nested b) = code_sites_stay y b
-    act_sites_stay y (unit v) = refl
-    act_sites_stay y (fetch a) = refl
-    act_sites_stay y (fetch_word a i) = refl
-    act_sites_stay y (update a v) = refl
-    act_sites_stay y (eval a) = refl
-    act_sites_stay y (apply v a) = refl
-    act_sites_stay y (call f ws) = refl
-    act_sites_stay y (prim f a b) = refl
-    act_sites_stay y read = refl
-    act_sites_stay y (write a) = refl
-    act_sites_stay y fail = refl
+    act_sites_stay y (leaf l) = refl
 
     code_sites_stay : (y : ℕ) (b : Code) → code_sites (eval_code p A y b) ≡ code_sites b
     code_sites_stay y (end o) = end_sites y o (act_sites_stay y o)

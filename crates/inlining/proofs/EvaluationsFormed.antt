@@ -9,7 +9,7 @@ use Rattle.grin_syntax.specs.declared.program.Word.{Word}
 use Rattle.grin_syntax.specs.declared.program.Val.TheVariants.{NodeVar}
 use Rattle.grin_syntax.specs.declared.program.Target.{Target}
 use Rattle.grin_syntax.specs.declared.program.Target.TheVariants.{Node as NodeTarget}
-use Rattle.grin_syntax.specs.Tree.{Code, end, store, bind, Act, unit, fetch, fetch_word, update, eval, apply, call, prim, read, write, case, nested, fail, Arms, no_arm, arm, Procedure, Program}
+use Rattle.grin_syntax.specs.Tree.{Code, end, store, bind, Act, leaf, unit, fetch, fetch_word, update, eval, apply, call, prim, read, write, case, nested, fail, Arms, no_arm, arm, Procedure, Program}
 use Rattle.grin_syntax.specs.Binders.{numbers_of, shape_vars, cell_vars}
 use Rattle.grin_syntax.specs.Formed.{AllOf, Scope, with_word_variables, with_target, params_scope, InScope, HasProcedure, KindFormed, TagFormed, WordFormed, ActFormed, CodeFormed, ArmsFormed, ProcedureFormed, Formed, argument_words}
 use Rattle.grin_syntax.proofs.Scopes.{Fewer, fewer_left, Within, within_self, within_chain, within_words, within_target, words_within, target_within, first_in, with_procs, known_again, word_stays, words_stay, val_stays, cells_stay, shape_stays, vars_formed, same_sites, formed_with}
@@ -41,7 +41,7 @@ module _ (p : Program) (A : Solution) (procs : List Procedure) (same_count : len
       r : ℕ
       r = x + i.fields
 
-      go : (b : Bool) → is_fun_kind i.kind ≡ b → (o : Option ProcId) → i.proc ≡ o → CodeFormed there scope (cond b (call_body p A a x i.fields o) (end (unit (NodeVar (variable n)))))
+      go : (b : Bool) → is_fun_kind i.kind ≡ b → (o : Option ProcId) → i.proc ≡ o → CodeFormed there scope (cond b (call_body p A a x i.fields o) (end (leaf (unit (NodeVar (variable n))))))
       go true e None q = tt
       go true e (Some f) q =
           let h : HasProcedure p (Some f) = subst (HasProcedure p) q (kind_has i.kind i ok e) in
@@ -72,12 +72,12 @@ module _ (p : Program) (A : Solution) (procs : List Procedure) (same_count : len
   bind_formed : (x : ℕ) (t : Target) (o : Act) (b : Code) (scope : Scope) → ActFormed there scope (eval_act p A x o)
       → ((scope' : Scope) → Within scope scope' → CodeFormed there (with_target t scope') b) → CodeFormed there scope (eval_bound p A x t (eval_act p A x o) b)
   unfolding eval_act ActFormed
-  bind_formed x t (eval a) b scope h rest = (h, (evaluation_formed a x scope h, rest (with_node x scope) (within_target (NodeTarget (variable x)) scope)))
+  bind_formed x t (leaf (eval a)) b scope h rest = (h, (evaluation_formed a x scope h, rest (with_node x scope) (within_target (NodeTarget (variable x)) scope)))
   bind_formed x t o b scope h rest = (h, rest scope (within_self scope))
 
   end_formed : (x : ℕ) (o : Act) (scope : Scope) → ActFormed there scope (eval_act p A x o) → CodeFormed there scope (eval_ended p A x (eval_act p A x o))
   unfolding eval_act ActFormed
-  end_formed x (eval a) scope h = (h, evaluation_formed a x scope h)
+  end_formed x (leaf (eval a)) scope h = (h, evaluation_formed a x scope h)
   end_formed x o scope h = h
 
   mutual
@@ -86,17 +86,17 @@ module _ (p : Program) (A : Solution) (procs : List Procedure) (same_count : len
     act_formed : (x : ℕ) (o : Act) (scope scope' : Scope) → Within scope scope' → ActFormed p scope o → ActFormed there scope' (eval_act p A x o)
     act_formed x (case v as') scope scope' w h = (val_stays p procs same_count scope scope' w v h.0, all_formed x as' scope scope' w h.1)
     act_formed x (nested b) scope scope' w h = code_formed x b scope scope' w h
-    act_formed x (unit v) scope scope' w h = val_stays p procs same_count scope scope' w v h
-    act_formed x (fetch a) scope scope' w h = word_stays p procs same_count scope scope' w a h
-    act_formed x (fetch_word a i) scope scope' w h = word_stays p procs same_count scope scope' w a h
-    act_formed x (update a v) scope scope' w h = (word_stays p procs same_count scope scope' w a h.0, val_stays p procs same_count scope scope' w v h.1)
-    act_formed x (eval a) scope scope' w h = word_stays p procs same_count scope scope' w a h
-    act_formed x (apply v a) scope scope' w h = (val_stays p procs same_count scope scope' w v h.0, word_stays p procs same_count scope scope' w a h.1)
-    act_formed x (call f ws) scope scope' w h = (known_again p procs same_count f h.0, words_stay p procs same_count scope scope' w ws h.1)
-    act_formed x (prim f a b) scope scope' w h = (word_stays p procs same_count scope scope' w a h.0, word_stays p procs same_count scope scope' w b h.1)
-    act_formed x read scope scope' w h = tt
-    act_formed x (write a) scope scope' w h = word_stays p procs same_count scope scope' w a h
-    act_formed x fail scope scope' w h = tt
+    act_formed x (leaf (unit v)) scope scope' w h = val_stays p procs same_count scope scope' w v h
+    act_formed x (leaf (fetch a)) scope scope' w h = word_stays p procs same_count scope scope' w a h
+    act_formed x (leaf (fetch_word a i)) scope scope' w h = word_stays p procs same_count scope scope' w a h
+    act_formed x (leaf (update a v)) scope scope' w h = (word_stays p procs same_count scope scope' w a h.0, val_stays p procs same_count scope scope' w v h.1)
+    act_formed x (leaf (eval a)) scope scope' w h = word_stays p procs same_count scope scope' w a h
+    act_formed x (leaf (apply v a)) scope scope' w h = (val_stays p procs same_count scope scope' w v h.0, word_stays p procs same_count scope scope' w a h.1)
+    act_formed x (leaf (call f ws)) scope scope' w h = (known_again p procs same_count f h.0, words_stay p procs same_count scope scope' w ws h.1)
+    act_formed x (leaf (prim f a b)) scope scope' w h = (word_stays p procs same_count scope scope' w a h.0, word_stays p procs same_count scope scope' w b h.1)
+    act_formed x (leaf read) scope scope' w h = tt
+    act_formed x (leaf (write a)) scope scope' w h = word_stays p procs same_count scope scope' w a h
+    act_formed x (leaf fail) scope scope' w h = tt
 
     code_formed : (x : ℕ) (b : Code) (scope scope' : Scope) → Within scope scope' → CodeFormed p scope b → CodeFormed there scope' (eval_code p A x b)
     code_formed x (end o) scope scope' w h = end_formed x o scope' (act_formed x o scope scope' w h)

@@ -9,7 +9,7 @@ use Rattle.grin_syntax.specs.declared.program.Word.TheVariants.{Var}
 use Rattle.grin_syntax.specs.declared.program.Val.TheVariants.{NodeVar}
 use Rattle.grin_syntax.specs.declared.program.Target.{Target}
 use Rattle.grin_syntax.specs.declared.program.Target.TheVariants.{Nothing, Node as NodeTarget}
-use Rattle.grin_syntax.specs.Tree.{Code, end, store, bind, Act, unit, fetch, fetch_word, update, eval, apply, call, prim, read, write, case, nested, fail, Arms, no_arm, arm, Procedure, Program}
+use Rattle.grin_syntax.specs.Tree.{Code, end, store, bind, Act, leaf, unit, fetch, fetch_word, update, eval, apply, call, prim, read, write, case, nested, fail, Arms, no_arm, arm, Procedure, Program}
 use Rattle.grin_syntax.specs.Fresh.{variable as var, variables as names, past_procs}
 use Rattle.grin_meaning.specs.Values.{Datum, Node, Value, node, words, HeapCell, Env, State, World, Answer, gives, then_do, need, and_then, with_vars, one_each, fits, fields_fit, fits_if, as_node, word_of, words_of, only_word, bindings_of}
 use Rattle.grin_meaning.specs.Run.{Calls, act, code, arms, with_state_seen, place_of, eval_tag, updated, is_fun_kind, is_evaluated}
@@ -71,7 +71,7 @@ module _ (K : DepthComparison) (g : Program) (A : Solution) (x0 : ℕ) (procs : 
   has_one env y v = ap (λ t. cond t (Some v) (env y)) (eq_self y)
 
   -- a variable that gives its node
-  unit_gives : (env : Env) (d y : ℕ) (n : Node) (w : World) → env y ≡ Some (node n) → code h c' env d (end (unit (NodeVar (var y)))) w ≡ gives (node n) w
+  unit_gives : (env : Env) (d y : ℕ) (n : Node) (w : World) → env y ≡ Some (node n) → code h c' env d (end (leaf (unit (NodeVar (var y))))) w ≡ gives (node n) w
   unfolding act
   unit_gives env d y n w e = λ i. need (e i) w (λ v. gives v w)
 
@@ -82,7 +82,7 @@ module _ (K : DepthComparison) (g : Program) (A : Solution) (x0 : ℕ) (procs : 
   -- update the cell, and give the result, which the variable r has
   update_sim : (a : Word) (i r : ℕ) (n : Node) (env env' : Env) (d : ℕ) (w : World) (ss : List State) (e : ℕ) → WordOk Ok a → Agree Ok env env' → and_then (word_of g env a) place_of ≡ Some i
       → env' r ≡ Some (node n) → K.Deep e w.depth
-      → Sim P K (updated g c i (node n) w) (code h c' env' d (bind Nothing (update a (NodeVar (var r))) (end (unit (NodeVar (var r))))) (other w ss e))
+      → Sim P K (updated g c i (node n) w) (code h c' env' d (bind Nothing (leaf (update a (NodeVar (var r)))) (end (leaf (unit (NodeVar (var r)))))) (other w ss e))
   unfolding act
   update_sim a i r n env env' d w ss e ok ag at has de = go (slice_get w.cells i) refl
     where
@@ -90,7 +90,7 @@ module _ (K : DepthComparison) (g : Program) (A : Solution) (x0 : ℕ) (procs : 
       place = ap (λ o. and_then o place_of) (word_same g Ok env env' ag a ok) ∙ at
 
       go : (o : Option HeapCell) → slice_get w.cells i ≡ o
-          → Sim P K (updated g c i (node n) w) (code h c' env' d (bind Nothing (update a (NodeVar (var r))) (end (unit (NodeVar (var r))))) (other w ss e))
+          → Sim P K (updated g c i (node n) w) (code h c' env' d (bind Nothing (leaf (update a (NodeVar (var r)))) (end (leaf (unit (NodeVar (var r)))))) (other w ss e))
       go None q = rw q (λ _. free)
       go (Some k) q = rw (place, q, has, has) (either_sim (is_evaluated g n) _ _ _ (λ _. gives_too _ e same de) (λ _. free))
 
@@ -106,7 +106,7 @@ module _ (K : DepthComparison) (g : Program) (A : Solution) (x0 : ℕ) (procs : 
       r = y + length ds
 
       on_result : (v : Value) (w' : World) (ss' : List State) (e' : ℕ) → K.Deep e' w'.depth → (o : Option Node) → as_node g v ≡ o
-          → Sim P K (updated g c i v w') (need (bindings_of h (NodeTarget (var (y + length ds))) v) (other w' ss' e') (λ bs. code h c' (with_vars bs env') d' (bind Nothing (update a (NodeVar (var (y + length ds)))) (end (unit (NodeVar (var (y + length ds)))))) (with_state_seen (with_vars bs env') (other w' ss' e'))))
+          → Sim P K (updated g c i v w') (need (bindings_of h (NodeTarget (var (y + length ds))) v) (other w' ss' e') (λ bs. code h c' (with_vars bs env') d' (bind Nothing (leaf (update a (NodeVar (var (y + length ds))))) (end (leaf (unit (NodeVar (var (y + length ds))))))) (with_state_seen (with_vars bs env') (other w' ss' e'))))
       on_result v w' ss' e' de' None q = rw q (λ _. free)
       on_result v w' ss' e' de' (Some n) q = rw q (update_sim a i (y + length ds) n env (with_vars ((y + length ds, node n) ∷ []) env') d' w' _ e' ok (agree_one env env' (y + length ds) (node n) (omega arith) ag) at (has_one env' (y + length ds) (node n)) de')
 
@@ -114,7 +114,7 @@ module _ (K : DepthComparison) (g : Program) (A : Solution) (x0 : ℕ) (procs : 
   arm_sim : (a : Word) (i x y : ℕ) (n : Node) (env env' : Env) (d d' : ℕ) (w : World) (ss : List State) (e : ℕ) → x0 ≤ y → WordOk Ok a → Agree Ok env env' → and_then (word_of g env a) place_of ≡ Some i
       → env' x ≡ Some (node n) → words_of g env' (map Var (names y (length n.fields))) ≡ Some n.fields → K.Deep d' d → K.Deep e w.depth
       → (b : Bool) (o : Option ProcId)
-      → Sim P K (cond b (need o w (λ q. then_do (c q.0 n.fields (suc d) w) (updated g c i))) (gives (node n) w)) (code h c' env' d' (cond b (call_body g A a y (length n.fields) o) (end (unit (NodeVar (var x))))) (other w ss e))
+      → Sim P K (cond b (need o w (λ q. then_do (c q.0 n.fields (suc d) w) (updated g c i))) (gives (node n) w)) (code h c' env' d' (cond b (call_body g A a y (length n.fields) o) (end (leaf (unit (NodeVar (var x)))))) (other w ss e))
   arm_sim a i x y n env env' d d' w ss e fresh ok ag at has stand dd de false o = rw (unit_gives env' d' x n (other w ss e) has) (λ _. gives_too ss e same de)
   arm_sim a i x y n env env' d d' w ss e fresh ok ag at has stand dd de true None = λ _. free
   arm_sim a i x y n env env' d d' w ss e fresh ok ag at has stand dd de true (Some q) = call_sim a i y n.fields q env env' d d' w ss e fresh ok ag at stand dd de
@@ -154,35 +154,35 @@ module _ (K : DepthComparison) (g : Program) (A : Solution) (x0 : ℕ) (procs : 
   case_sim a i x k env env' d d' w ss e fresh ok ag at known has dd de = rw (known.is_tag, has)
       (find_sim a i x k.node known.tag env env' d d' w ss e ok ag at has known.is_tag known.full dd de (tags_of g A a) (suc x) (omega arith) (omega arith) known.among)
 
-  pub end_sim : (x : ℕ) (a : Word) → x0 ≤ x → WordOk Ok a → CodeLike it (end (eval a)) (eval_ended g A x (eval a))
+  pub end_sim : (x : ℕ) (a : Word) → x0 ≤ x → WordOk Ok a → CodeLike it (end (leaf (eval a))) (eval_ended g A x (leaf (eval a)))
   unfolding act
   end_sim x a fresh ok = record { by = λ env env' d d' w ss e ag dd de lies. go env env' d d' w ss e ag dd de lies (and_then (word_of g env a) place_of) refl }
     where
       go : (env env' : Env) (d d' : ℕ) (w : World) (ss : List State) (e : ℕ) → Agree Ok env env' → K.Deep d' d → K.Deep e w.depth → P (record { env = env; heap = w.cells }) → (o : Option ℕ) → and_then (word_of g env a) place_of ≡ o
-          → Sim P K (code g c env d (end (eval a)) w) (code h c' env' d' (eval_ended g A x (eval a)) (other w ss e))
+          → Sim P K (code g c env d (end (leaf (eval a))) w) (code h c' env' d' (eval_ended g A x (leaf (eval a))) (other w ss e))
       go env env' d d' w ss e ag dd de lies None q = rw q (λ _. free)
       go env env' d d' w ss e ag dd de lies (Some i) q = there (slice_get w.cells i) refl
         where
           place : and_then (word_of h env' a) place_of ≡ Some i
           place = ap (λ o. and_then o place_of) (word_same g Ok env env' ag a ok) ∙ q
 
-          there : (o : Option HeapCell) → slice_get w.cells i ≡ o → Sim P K (code g c env d (end (eval a)) w) (code h c' env' d' (eval_ended g A x (eval a)) (other w ss e))
+          there : (o : Option HeapCell) → slice_get w.cells i ≡ o → Sim P K (code g c env d (end (leaf (eval a))) w) (code h c' env' d' (eval_ended g A x (leaf (eval a))) (other w ss e))
           there None p = rw (q, p) (λ _. free)
           there (Some k) p = rw (q, place, p) (case_sim a i x k env (with_vars ((x, node k.node) ∷ []) env') d d' w _ e fresh ok (agree_one env env' x (node k.node) fresh ag) q (cell_known g A _ lies a i k q p) (has_one env' x (node k.node)) dd de)
 
-  pub bind_sim : (x : ℕ) (t : Target) (a : Word) (b b' : Code) → x0 ≤ x → WordOk Ok a → CodeLike it b b' → CodeLike it (bind t (eval a) b) (eval_bound g A x t (eval a) b')
+  pub bind_sim : (x : ℕ) (t : Target) (a : Word) (b b' : Code) → x0 ≤ x → WordOk Ok a → CodeLike it b b' → CodeLike it (bind t (leaf (eval a)) b) (eval_bound g A x t (leaf (eval a)) b')
   unfolding act
   bind_sim x t a b b' fresh ok f = record { by = λ env env' d d' w ss e ag dd de lies. go env env' d d' w ss e ag dd de lies (and_then (word_of g env a) place_of) refl }
     where
       go : (env env' : Env) (d d' : ℕ) (w : World) (ss : List State) (e : ℕ) → Agree Ok env env' → K.Deep d' d → K.Deep e w.depth → P (record { env = env; heap = w.cells }) → (o : Option ℕ) → and_then (word_of g env a) place_of ≡ o
-          → Sim P K (code g c env d (bind t (eval a) b) w) (code h c' env' d' (eval_bound g A x t (eval a) b') (other w ss e))
+          → Sim P K (code g c env d (bind t (leaf (eval a)) b) w) (code h c' env' d' (eval_bound g A x t (leaf (eval a)) b') (other w ss e))
       go env env' d d' w ss e ag dd de lies None q = rw q (λ _. free)
       go env env' d d' w ss e ag dd de lies (Some i) q = there (slice_get w.cells i) refl
         where
           place : and_then (word_of h env' a) place_of ≡ Some i
           place = ap (λ o. and_then o place_of) (word_same g Ok env env' ag a ok) ∙ q
 
-          there : (o : Option HeapCell) → slice_get w.cells i ≡ o → Sim P K (code g c env d (bind t (eval a) b) w) (code h c' env' d' (eval_bound g A x t (eval a) b') (other w ss e))
+          there : (o : Option HeapCell) → slice_get w.cells i ≡ o → Sim P K (code g c env d (bind t (leaf (eval a)) b) w) (code h c' env' d' (eval_bound g A x t (leaf (eval a)) b') (other w ss e))
           there None p = rw (q, p) (λ _. free)
           there (Some k) p =
               let ag1 : Agree Ok env (with_vars ((x, node k.node) ∷ []) env') = agree_one env env' x (node k.node) fresh ag in
@@ -193,12 +193,12 @@ module _ (K : DepthComparison) (g : Program) (A : Solution) (x0 : ℕ) (procs : 
 
   on_bind_sim : (x : ℕ) (t : Target) (o : Act) (b b' : Code) → x0 ≤ x → ActOk Ok o → ActLike it o (eval_act g A x o) → CodeLike it b b' → CodeLike it (bind t o b) (eval_bound g A x t (eval_act g A x o) b')
   unfolding eval_act ActOk
-  on_bind_sim x t (eval a) b b' fresh ok fo f = bind_sim x t a b b' fresh ok f
+  on_bind_sim x t (leaf (eval a)) b b' fresh ok fo f = bind_sim x t a b b' fresh ok f
   on_bind_sim x t o b b' fresh ok fo f = bind_follows it t o (eval_act g A x o) b b' fo f
 
   on_end_sim : (x : ℕ) (o : Act) → x0 ≤ x → ActOk Ok o → ActLike it o (eval_act g A x o) → CodeLike it (end o) (eval_ended g A x (eval_act g A x o))
   unfolding eval_act ActOk
-  on_end_sim x (eval a) fresh ok fo = end_sim x a fresh ok
+  on_end_sim x (leaf (eval a)) fresh ok fo = end_sim x a fresh ok
   on_end_sim x o fresh ok fo = end_follows it o (eval_act g A x o) fo
 
   mutual
@@ -207,17 +207,7 @@ module _ (K : DepthComparison) (g : Program) (A : Solution) (x0 : ℕ) (procs : 
     act_sim : (x : ℕ) → x0 ≤ x → (o : Act) → ActOk Ok o → ActLike it o (eval_act g A x o)
     act_sim x fresh (case v as') ok = case_follows it v as' _ ok.0 (arms_sim x fresh as' ok.1)
     act_sim x fresh (nested b) ok = nested_follows it b _ (code_sim x fresh b ok)
-    act_sim x fresh (unit v) ok = leaf_follows it (unit v) tt ok
-    act_sim x fresh (fetch a) ok = leaf_follows it (fetch a) tt ok
-    act_sim x fresh (fetch_word a i) ok = leaf_follows it (fetch_word a i) tt ok
-    act_sim x fresh (update a v) ok = leaf_follows it (update a v) tt ok
-    act_sim x fresh (eval a) ok = leaf_follows it (eval a) tt ok
-    act_sim x fresh (apply v a) ok = leaf_follows it (apply v a) tt ok
-    act_sim x fresh (call q ws) ok = leaf_follows it (call q ws) tt ok
-    act_sim x fresh (prim q a b) ok = leaf_follows it (prim q a b) tt ok
-    act_sim x fresh read ok = leaf_follows it read tt ok
-    act_sim x fresh (write a) ok = leaf_follows it (write a) tt ok
-    act_sim x fresh fail ok = leaf_follows it fail tt ok
+    act_sim x fresh (leaf l) ok = leaf_follows it l ok
 
     code_sim : (x : ℕ) → x0 ≤ x → (b : Code) → CodeOk Ok b → CodeLike it b (eval_code g A x b)
     code_sim x fresh (end o) ok = on_end_sim x o fresh ok (act_sim x fresh o ok)

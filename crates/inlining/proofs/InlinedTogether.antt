@@ -1,7 +1,7 @@
 -- Evaluations and applications, inlined together.
 use Rattle.std.proofs.Common.{length, ◌∙◌, ◌≡◌, ◌≢◌, ℕ, ◌<◌, ◌≤◌, ◌+◌, max, List, [], ◌∷◌, refl, sym, subst, arith}
 use Rattle.grin_syntax.specs.declared.program.Target.{Target}
-use Rattle.grin_syntax.specs.Tree.{Code, end, store, bind, Act, unit, fetch, fetch_word, update, eval, apply, call, prim, read, write, case, nested, fail, Arms, no_arm, arm, Procedure, Program}
+use Rattle.grin_syntax.specs.Tree.{Code, end, store, bind, Act, leaf, unit, fetch, fetch_word, update, eval, apply, call, prim, read, write, case, nested, fail, Arms, no_arm, arm, Procedure, Program}
 use Rattle.grin_syntax.specs.Fresh.{past_target, past_act, past_code, past_arms, past_procs}
 use Rattle.grin_meaning.specs.Run.{Calls, run}
 use Rattle.grin_meaning.specs.Names.{ActOk, CodeOk, ArmsOk, ProcsOk}
@@ -26,35 +26,25 @@ use Rattle.grin_meaning.specs.Keeps.{ended, end_of, world_of}
 module _ (p : Program) (A : Solution) where
   ended_past : (x : ℕ) (o : Act) → past_act o ≤ past_code (eval_ended p A x o)
   unfolding past_act
-  ended_past x (eval a) = omega arith
-  ended_past x (unit v) = omega arith
-  ended_past x (fetch a) = omega arith
-  ended_past x (fetch_word a i) = omega arith
-  ended_past x (update a v) = omega arith
-  ended_past x (apply v a) = omega arith
-  ended_past x (call f ws) = omega arith
-  ended_past x (prim f a b) = omega arith
-  ended_past x read = omega arith
-  ended_past x (write a) = omega arith
+  ended_past x (leaf l) = omega arith
   ended_past x (case v as') = omega arith
   ended_past x (nested b) = omega arith
-  ended_past x fail = omega arith
 
   bound_past : (x : ℕ) (t : Target) (o : Act) (b : Code) → max (past_target t) (max (past_act o) (past_code b)) ≤ past_code (eval_bound p A x t o b)
   unfolding past_act
-  bound_past x t (eval a) b = omega arith
-  bound_past x t (unit v) b = omega arith
-  bound_past x t (fetch a) b = omega arith
-  bound_past x t (fetch_word a i) b = omega arith
-  bound_past x t (update a v) b = omega arith
-  bound_past x t (apply v a) b = omega arith
-  bound_past x t (call f ws) b = omega arith
-  bound_past x t (prim f a c) b = omega arith
-  bound_past x t read b = omega arith
-  bound_past x t (write a) b = omega arith
+  bound_past x t (leaf (eval a)) b = omega arith
+  bound_past x t (leaf (unit v)) b = omega arith
+  bound_past x t (leaf (fetch a)) b = omega arith
+  bound_past x t (leaf (fetch_word a i)) b = omega arith
+  bound_past x t (leaf (update a v)) b = omega arith
+  bound_past x t (leaf (apply v a)) b = omega arith
+  bound_past x t (leaf (call f ws)) b = omega arith
+  bound_past x t (leaf (prim f a c)) b = omega arith
+  bound_past x t (leaf read) b = omega arith
+  bound_past x t (leaf (write a)) b = omega arith
   bound_past x t (case v as') b = omega arith
   bound_past x t (nested c) b = omega arith
-  bound_past x t fail b = omega arith
+  bound_past x t (leaf fail) b = omega arith
 
   mutual
     unfolding past_act eval_act
@@ -62,17 +52,7 @@ module _ (p : Program) (A : Solution) where
     act_past : (x : ℕ) (o : Act) → past_act o ≤ past_act (eval_act p A x o)
     act_past x (case v as') = arms_past x as'
     act_past x (nested b) = code_past x b
-    act_past x (eval a) = omega arith
-    act_past x (unit v) = omega arith
-    act_past x (fetch a) = omega arith
-    act_past x (fetch_word a i) = omega arith
-    act_past x (update a v) = omega arith
-    act_past x (apply v a) = omega arith
-    act_past x (call f ws) = omega arith
-    act_past x (prim f a b) = omega arith
-    act_past x read = omega arith
-    act_past x (write a) = omega arith
-    act_past x fail = omega arith
+    act_past x (leaf l) = omega arith
 
     code_past : (x : ℕ) (b : Code) → past_code b ≤ past_code (eval_code p A x b)
     code_past x (end o) = omega (arith, act_past x o, ended_past x (eval_act p A x o))
@@ -99,15 +79,15 @@ module _ (K : DepthComparison) (g : Program) (A : Solution) (x0 : ℕ) (procs : 
 
   end_both : (x y : ℕ) (o : Act) → x0 ≤ x → ActOk Ok o → ActLike s o (apply_act h A y (eval_act g A x o)) → CodeLike s (end o) (apply_code h A y (eval_ended g A x (eval_act g A x o)))
   unfolding eval_act apply_act ActOk
-  end_both x y (eval a) fresh ok f = subst (CodeLike s (end (eval a))) (sym (ended_still g A x y a)) (end_sim K g A x0 procs c c' cb cf x a fresh ok)
+  end_both x y (leaf (eval a)) fresh ok f = subst (CodeLike s (end (leaf (eval a)))) (sym (ended_still g A x y a)) (end_sim K g A x0 procs c c' cb cf x a fresh ok)
   end_both x y o fresh ok f = end_follows s o (apply_act h A y (eval_act g A x o)) f
 
   bind_both : (x y : ℕ) (t : Target) (o : Act) (b b' : Code) → x0 ≤ x → x0 ≤ y → ActOk Ok o → ActLike s o (apply_act h A y (eval_act g A x o)) → ((z : ℕ) → x0 ≤ z → CodeLike s b (apply_code h A z b'))
       → CodeLike s (bind t o b) (apply_code h A y (eval_bound g A x t (eval_act g A x o) b'))
   unfolding eval_act apply_act ActOk
-  bind_both x y t (eval a) b b' fresh fresh' ok f k =
+  bind_both x y t (leaf (eval a)) b b' fresh fresh' ok f k =
       let z = y + 0 + apply_act_room h A (evaluation g A x a) in
-      subst (CodeLike s (bind t (eval a) b)) (sym (bound_still g A x y t a b')) (bind_sim K g A x0 procs c c' cb cf x t a b (apply_code h A z b') fresh ok (k z (omega arith)))
+      subst (CodeLike s (bind t (leaf (eval a)) b)) (sym (bound_still g A x y t a b')) (bind_sim K g A x0 procs c c' cb cf x t a b (apply_code h A z b') fresh ok (k z (omega arith)))
   bind_both x y t o b b' fresh fresh' ok f k = bind_follows s t o (apply_act h A y (eval_act g A x o)) b (apply_code h A (y + apply_act_room h A (eval_act g A x o)) b') f (k (y + apply_act_room h A (eval_act g A x o)) (omega arith))
 
   mutual
@@ -116,17 +96,17 @@ module _ (K : DepthComparison) (g : Program) (A : Solution) (x0 : ℕ) (procs : 
     act_both : (x y : ℕ) → x0 ≤ x → x0 ≤ y → (o : Act) → ActOk Ok o → ActLike s o (apply_act h A y (eval_act g A x o))
     act_both x y fx fy (case v as') ok = case_follows s v as' _ ok.0 (arms_both x y fx fy as' ok.1)
     act_both x y fx fy (nested b) ok = nested_follows s b _ (code_both x y fx fy b ok)
-    act_both x y fx fy (apply v a) ok = apply_sim K g A x0 procs c c' cb cf y v a fy ok.0 ok.1
-    act_both x y fx fy (unit v) ok = leaf_follows s (unit v) tt ok
-    act_both x y fx fy (fetch a) ok = leaf_follows s (fetch a) tt ok
-    act_both x y fx fy (fetch_word a i) ok = leaf_follows s (fetch_word a i) tt ok
-    act_both x y fx fy (update a v) ok = leaf_follows s (update a v) tt ok
-    act_both x y fx fy (eval a) ok = leaf_follows s (eval a) tt ok
-    act_both x y fx fy (call q ws) ok = leaf_follows s (call q ws) tt ok
-    act_both x y fx fy (prim q a b) ok = leaf_follows s (prim q a b) tt ok
-    act_both x y fx fy read ok = leaf_follows s read tt ok
-    act_both x y fx fy (write a) ok = leaf_follows s (write a) tt ok
-    act_both x y fx fy fail ok = leaf_follows s fail tt ok
+    act_both x y fx fy (leaf (apply v a)) ok = apply_sim K g A x0 procs c c' cb cf y v a fy ok.0 ok.1
+    act_both x y fx fy (leaf (unit v)) ok = leaf_follows s (unit v) ok
+    act_both x y fx fy (leaf (fetch a)) ok = leaf_follows s (fetch a) ok
+    act_both x y fx fy (leaf (fetch_word a i)) ok = leaf_follows s (fetch_word a i) ok
+    act_both x y fx fy (leaf (update a v)) ok = leaf_follows s (update a v) ok
+    act_both x y fx fy (leaf (eval a)) ok = leaf_follows s (eval a) ok
+    act_both x y fx fy (leaf (call q ws)) ok = leaf_follows s (call q ws) ok
+    act_both x y fx fy (leaf (prim q a b)) ok = leaf_follows s (prim q a b) ok
+    act_both x y fx fy (leaf read) ok = leaf_follows s read ok
+    act_both x y fx fy (leaf (write a)) ok = leaf_follows s (write a) ok
+    act_both x y fx fy (leaf fail) ok = leaf_follows s fail ok
 
     code_both : (x y : ℕ) → x0 ≤ x → x0 ≤ y → (b : Code) → CodeOk Ok b → CodeLike s b (apply_code h A y (eval_code g A x b))
     code_both x y fx fy (end o) ok = end_both x y o fx ok (act_both x y fx fy o ok)

@@ -7,7 +7,7 @@ use Rattle.grin_syntax.specs.declared.program.Word as W
 use Rattle.grin_syntax.specs.declared.program.Word.TheVariants.{Var}
 use Rattle.grin_syntax.specs.declared.program.Val.TheVariants.{NodeVar}
 use Rattle.grin_syntax.specs.declared.program.Target.{Target}
-use Rattle.grin_syntax.specs.Tree.{Code, end, store, bind, Act, unit, fetch, fetch_word, update, eval, apply, call, prim, read, write, case, nested, fail, Arms, no_arm, arm, Procedure, Program}
+use Rattle.grin_syntax.specs.Tree.{Code, end, store, bind, Act, leaf, unit, fetch, fetch_word, update, eval, apply, call, prim, read, write, case, nested, fail, Arms, no_arm, arm, Procedure, Program}
 use Rattle.grin_syntax.specs.Fresh.{variable, variables, past_procs}
 use Rattle.grin_meaning.specs.Run.{is_fun_kind, is_part_kind, is_some_and, part_from}
 use Rattle.flow_system.specs.Solution.{Solution}
@@ -38,7 +38,7 @@ module _ (p : Program) (A : Solution) where
   called a x k None = refl
   called a x k (Some f) = omega (arith, words_many x k)
 
-  body_size : (a : W.Word) (n x : ℕ) (t : Tag) (b : Bool) → code_size (cond b (call_body p A a x t.fields t.proc) (end (unit (NodeVar (variable n))))) ≡ cond b (eval_call_size t.proc t.fields) 2
+  body_size : (a : W.Word) (n x : ℕ) (t : Tag) (b : Bool) → code_size (cond b (call_body p A a x t.fields t.proc) (end (leaf (unit (NodeVar (variable n)))))) ≡ cond b (eval_call_size t.proc t.fields) 2
   unfolding act_size
   body_size a n x t true = called a x t.fields t.proc
   body_size a n x t false = refl
@@ -96,13 +96,13 @@ module _ (p : Program) (A : Solution) where
   bound : (x y : ℕ) (t : Target) (o : Act) (b : Code) (n : ℕ) → (NotEval o → act_size (apply_act e A y (eval_act p A x o)) ≡ expanded_act p A o) → ((z : ℕ) → code_size (apply_code e A z b) ≡ n)
       → code_size (apply_code e A y (eval_bound p A x t (eval_act p A x o) b)) ≡ target_size t + expanded_act p A o + n
   unfolding eval_act apply_act act_size expanded_act
-  bound x y t (eval a) b n f g =
+  bound x y t (leaf (eval a)) b n f g =
       ap code_size (bound_still p A x y t a b) ∙ omega (arith, eval_arms_size a x (suc x) (tags_of p A a), g (y + 0 + apply_act_room e A (evaluation p A x a)))
   bound x y t o b n f g = omega (arith, f tt, g (y + apply_act_room e A (eval_act p A x o)))
 
   ended : (x y : ℕ) (o : Act) → (NotEval o → act_size (apply_act e A y (eval_act p A x o)) ≡ expanded_act p A o) → code_size (apply_code e A y (eval_ended p A x (eval_act p A x o))) ≡ expanded_act p A o
   unfolding eval_act apply_act act_size expanded_act
-  ended x y (eval a) f = ap code_size (ended_still p A x y a) ∙ omega (arith, eval_arms_size a x (suc x) (tags_of p A a))
+  ended x y (leaf (eval a)) f = ap code_size (ended_still p A x y a) ∙ omega (arith, eval_arms_size a x (suc x) (tags_of p A a))
   ended x y o f = f tt
 
   module _ (next : PartialTagsAreClosed p.tags) where
@@ -112,17 +112,17 @@ module _ (p : Program) (A : Solution) where
       act_measured : (x y : ℕ) (o : Act) → NotEval o → act_size (apply_act e A y (eval_act p A x o)) ≡ expanded_act p A o
       act_measured x y (case v as') h = omega (arith, arms_measured x y as')
       act_measured x y (nested b) h = omega (arith, code_measured x y b)
-      act_measured x y (apply v a) h = omega (arith, apply_arms_size next a y (part_tags_of p A v) (else_fail e A (others_of p A v)) (those_parts p A (value_has p A v) 0 (length p.tags)), last_size (others_of p A v))
-      act_measured x y (eval a) h = absurd h
-      act_measured x y (unit v) h = refl
-      act_measured x y (fetch a) h = refl
-      act_measured x y (fetch_word a i) h = refl
-      act_measured x y (update a v) h = refl
-      act_measured x y (call f ws) h = refl
-      act_measured x y (prim f a b) h = refl
-      act_measured x y read h = refl
-      act_measured x y (write a) h = refl
-      act_measured x y fail h = refl
+      act_measured x y (leaf (apply v a)) h = omega (arith, apply_arms_size next a y (part_tags_of p A v) (else_fail e A (others_of p A v)) (those_parts p A (value_has p A v) 0 (length p.tags)), last_size (others_of p A v))
+      act_measured x y (leaf (eval a)) h = absurd h
+      act_measured x y (leaf (unit v)) h = refl
+      act_measured x y (leaf (fetch a)) h = refl
+      act_measured x y (leaf (fetch_word a i)) h = refl
+      act_measured x y (leaf (update a v)) h = refl
+      act_measured x y (leaf (call f ws)) h = refl
+      act_measured x y (leaf (prim f a b)) h = refl
+      act_measured x y (leaf read) h = refl
+      act_measured x y (leaf (write a)) h = refl
+      act_measured x y (leaf fail) h = refl
 
       code_measured : (x y : ℕ) (b : Code) → code_size (apply_code e A y (eval_code p A x b)) ≡ expanded_code p A b
       code_measured x y (end o) = ended x y o (act_measured x y o)

@@ -4,7 +4,7 @@ use Rattle.grin_syntax.specs.declared.program.Tag.{Tag}
 use Rattle.grin_syntax.specs.declared.program.ProcId.{ProcId}
 use Rattle.grin_syntax.specs.declared.program.Word.{Word}
 use Rattle.grin_syntax.specs.declared.program.Word.TheVariants.{Var}
-use Rattle.grin_syntax.specs.Tree.{Code, end, store, bind, Act, unit, fetch, fetch_word, update, eval, apply, call, prim, read, write, case, nested, fail, Arms, no_arm, arm, Procedure, Program}
+use Rattle.grin_syntax.specs.Tree.{Code, end, store, bind, Act, leaf, unit, fetch, fetch_word, update, eval, apply, call, prim, read, write, case, nested, fail, Arms, no_arm, arm, Procedure, Program}
 use Rattle.grin_syntax.specs.Fresh.{variables, past_procs}
 use Rattle.grin_meaning.specs.Run.{part_from}
 use Rattle.grin_meaning.specs.Ready.{EachAct, EachCode, EachArms, IsInlined, EveryBodyIsOfKind, inlined_kind}
@@ -52,17 +52,17 @@ module _ (p : Program) (A : Solution) where
     act_done : (x : ℕ) (o : Act) → EachAct no_eval_kind o → EachAct inlined_kind (apply_act p A x o)
     act_done x (case v as') h = (tt, tt, all_done x as' h.2)
     act_done x (nested b) h = (tt, code_done x b h.1)
-    act_done x (apply v a) h = (tt, tt, arms_done a x (part_tags_of p A v) (else_fail p A (others_of p A v)) (last_done (others_of p A v)))
-    act_done x (eval a) h = h
-    act_done x (unit v) h = (tt, tt)
-    act_done x (fetch a) h = tt
-    act_done x (fetch_word a i) h = tt
-    act_done x (update a v) h = (tt, tt)
-    act_done x (call f ws) h = tt
-    act_done x (prim f a b) h = tt
-    act_done x read h = tt
-    act_done x (write a) h = tt
-    act_done x fail h = tt
+    act_done x (leaf (apply v a)) h = (tt, tt, arms_done a x (part_tags_of p A v) (else_fail p A (others_of p A v)) (last_done (others_of p A v)))
+    act_done x (leaf (eval a)) h = h
+    act_done x (leaf (unit v)) h = (tt, tt)
+    act_done x (leaf (fetch a)) h = tt
+    act_done x (leaf (fetch_word a i)) h = tt
+    act_done x (leaf (update a v)) h = (tt, tt)
+    act_done x (leaf (call f ws)) h = tt
+    act_done x (leaf (prim f a b)) h = tt
+    act_done x (leaf read) h = tt
+    act_done x (leaf (write a)) h = tt
+    act_done x (leaf fail) h = tt
 
     code_done : (x : ℕ) (b : Code) → EachCode no_eval_kind b → EachCode inlined_kind (apply_code p A x b)
     code_done x (end o) h = act_done x o h

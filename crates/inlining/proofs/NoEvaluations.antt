@@ -6,7 +6,7 @@ use Rattle.grin_syntax.specs.declared.program.Cell.{Cell}
 use Rattle.grin_syntax.specs.declared.program.Word.{Word}
 use Rattle.grin_syntax.specs.declared.program.Val.TheVariants.{NodeVar}
 use Rattle.grin_syntax.specs.declared.program.Target.{Target}
-use Rattle.grin_syntax.specs.Tree.{Code, end, store, bind, Act, unit, fetch, fetch_word, update, eval, apply, call, prim, read, write, case, nested, fail, Arms, no_arm, arm, Procedure, Program}
+use Rattle.grin_syntax.specs.Tree.{Code, end, store, bind, Act, leaf, unit, fetch, fetch_word, update, eval, apply, call, prim, read, write, case, nested, fail, Arms, no_arm, arm, Procedure, Program}
 use Rattle.grin_syntax.specs.Formed.{AllOf}
 use Rattle.grin_syntax.specs.Fresh.{variable, past_procs}
 use Rattle.grin_meaning.specs.Ready.{EachAct, EachCode, EachArms, any_kind}
@@ -33,7 +33,7 @@ module _ (p : Program) (A : Solution) where
   unfolding EachAct
   body_free a n x t = go (is_fun_kind t.kind) t.proc
     where
-      go : (b : Bool) (o : Option ProcId) → CodeFree (cond b (call_body p A a x t.fields o) (end (unit (NodeVar (variable n)))))
+      go : (b : Bool) (o : Option ProcId) → CodeFree (cond b (call_body p A a x t.fields o) (end (leaf (unit (NodeVar (variable n))))))
       go true None = tt
       go true (Some f) = (tt, tt, (tt, (tt, tt), (tt, tt)))
       go false o = (tt, tt)
@@ -50,12 +50,12 @@ module _ (p : Program) (A : Solution) where
   -- an operation that is free, unless it is an evaluation, which is not left
   bind_free : (x : ℕ) (t : Target) (o : Act) (b : Code) → (NotEval o → ActFree (eval_act p A x o)) → CodeFree b → CodeFree (eval_bound p A x t (eval_act p A x o) b)
   unfolding eval_act EachAct
-  bind_free x t (eval a) b h f = (tt, tt, (tt, (tt, tt, arms_free a x (suc x) (tags_of p A a)), f))
+  bind_free x t (leaf (eval a)) b h f = (tt, tt, (tt, (tt, tt, arms_free a x (suc x) (tags_of p A a)), f))
   bind_free x t o b h f = (tt, h tt, f)
 
   end_free : (x : ℕ) (o : Act) → (NotEval o → ActFree (eval_act p A x o)) → CodeFree (eval_ended p A x (eval_act p A x o))
   unfolding eval_act EachAct
-  end_free x (eval a) h = (tt, tt, (tt, tt, arms_free a x (suc x) (tags_of p A a)))
+  end_free x (leaf (eval a)) h = (tt, tt, (tt, tt, arms_free a x (suc x) (tags_of p A a)))
   end_free x o h = h tt
 
   mutual
@@ -64,17 +64,17 @@ module _ (p : Program) (A : Solution) where
     act_free : (x : ℕ) (o : Act) → NotEval o → ActFree (eval_act p A x o)
     act_free x (case v as') h = (tt, tt, all_free x as')
     act_free x (nested b) h = (tt, code_free x b)
-    act_free x (unit v) h = (tt, tt)
-    act_free x (fetch a) h = tt
-    act_free x (fetch_word a i) h = tt
-    act_free x (update a v) h = (tt, tt)
-    act_free x (eval a) h = absurd h
-    act_free x (apply v a) h = (tt, tt)
-    act_free x (call f ws) h = tt
-    act_free x (prim f a b) h = tt
-    act_free x read h = tt
-    act_free x (write a) h = tt
-    act_free x fail h = tt
+    act_free x (leaf (unit v)) h = (tt, tt)
+    act_free x (leaf (fetch a)) h = tt
+    act_free x (leaf (fetch_word a i)) h = tt
+    act_free x (leaf (update a v)) h = (tt, tt)
+    act_free x (leaf (eval a)) h = absurd h
+    act_free x (leaf (apply v a)) h = (tt, tt)
+    act_free x (leaf (call f ws)) h = tt
+    act_free x (leaf (prim f a b)) h = tt
+    act_free x (leaf read) h = tt
+    act_free x (leaf (write a)) h = tt
+    act_free x (leaf fail) h = tt
 
     code_free : (x : ℕ) (b : Code) → CodeFree (eval_code p A x b)
     code_free x (end o) = end_free x o (act_free x o)

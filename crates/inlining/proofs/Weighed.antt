@@ -8,7 +8,7 @@ use Rattle.grin_syntax.specs.declared.program.Target.TheVariants as to
 use Rattle.grin_syntax.specs.declared.program.Shape as S
 use Rattle.grin_syntax.specs.declared.program.Shape.TheVariants as shape
 use Rattle.grin_syntax.specs.declared.program.Cell.{Cell}
-use Rattle.grin_syntax.specs.Tree.{Code, end, store, bind, Act, unit, fetch, fetch_word, update, eval, apply, call, prim, read, write, case, nested, fail, Arms, no_arm, arm, Procedure}
+use Rattle.grin_syntax.specs.Tree.{Code, end, store, bind, Act, leaf, unit, fetch, fetch_word, update, eval, apply, call, prim, read, write, case, nested, fail, Arms, no_arm, arm, Procedure}
 use Rattle.grin_syntax.specs.Binders.{shape_vars}
 use Rattle.grin_syntax.specs.Formed.{AllOf}
 use Rattle.grin_meaning.specs.Slim.{val_weight, target_weight, cells_weight, act_weight, code_weight, arms_weight, procs_weight, act_calls, code_calls, arms_calls, procs_calls, node_words, end_words, inner_words, code_words, arms_words, procedure_words}
@@ -48,17 +48,17 @@ mutual
   act_light : (o : Act) → 3 + act_weight o ≤ 48 * act_size o
   act_light (case v as') = omega (arith, val_light v, arms_light as')
   act_light (nested b) = omega (arith, code_light b)
-  act_light (unit v) = omega (arith, val_light v)
-  act_light (fetch a) = omega arith
-  act_light (fetch_word a i) = omega arith
-  act_light (update a v) = omega (arith, val_light v)
-  act_light (eval a) = omega arith
-  act_light (apply v a) = omega (arith, val_light v)
-  act_light (call f ws) = omega arith
-  act_light (prim f a b) = omega arith
-  act_light read = omega arith
-  act_light (write a) = omega arith
-  act_light fail = omega arith
+  act_light (leaf (unit v)) = omega (arith, val_light v)
+  act_light (leaf (fetch a)) = omega arith
+  act_light (leaf (fetch_word a i)) = omega arith
+  act_light (leaf (update a v)) = omega (arith, val_light v)
+  act_light (leaf (eval a)) = omega arith
+  act_light (leaf (apply v a)) = omega (arith, val_light v)
+  act_light (leaf (call f ws)) = omega arith
+  act_light (leaf (prim f a b)) = omega arith
+  act_light (leaf read) = omega arith
+  act_light (leaf (write a)) = omega arith
+  act_light (leaf fail) = omega arith
 
   code_light : (b : Code) → 3 + code_weight b ≤ 48 * code_size b
   code_light (end o) = act_light o
@@ -75,17 +75,17 @@ mutual
   act_calls_few : (o : Act) → act_calls o ≤ act_size o
   act_calls_few (case v as') = omega (arith, arms_calls_few as')
   act_calls_few (nested b) = omega (arith, code_calls_few b)
-  act_calls_few (unit v) = omega arith
-  act_calls_few (fetch a) = omega arith
-  act_calls_few (fetch_word a i) = omega arith
-  act_calls_few (update a v) = omega arith
-  act_calls_few (eval a) = omega arith
-  act_calls_few (apply v a) = omega arith
-  act_calls_few (call f ws) = omega arith
-  act_calls_few (prim f a b) = omega arith
-  act_calls_few read = omega arith
-  act_calls_few (write a) = omega arith
-  act_calls_few fail = omega arith
+  act_calls_few (leaf (unit v)) = omega arith
+  act_calls_few (leaf (fetch a)) = omega arith
+  act_calls_few (leaf (fetch_word a i)) = omega arith
+  act_calls_few (leaf (update a v)) = omega arith
+  act_calls_few (leaf (eval a)) = omega arith
+  act_calls_few (leaf (apply v a)) = omega arith
+  act_calls_few (leaf (call f ws)) = omega arith
+  act_calls_few (leaf (prim f a b)) = omega arith
+  act_calls_few (leaf read) = omega arith
+  act_calls_few (leaf (write a)) = omega arith
+  act_calls_few (leaf fail) = omega arith
 
   code_calls_few : (b : Code) → code_calls b ≤ code_size b
   code_calls_few (end o) = act_calls_few o
@@ -99,17 +99,17 @@ mutual
 bound_words : (o : Act) → node_words o ≤ end_words o
 bound_words (case v as') = omega arith
 bound_words (nested b) = omega arith
-bound_words (unit v) = omega arith
-bound_words (fetch a) = omega arith
-bound_words (fetch_word a i) = omega arith
-bound_words (update a v) = omega arith
-bound_words (eval a) = omega arith
-bound_words (apply v a) = omega arith
-bound_words (call f ws) = omega arith
-bound_words (prim f a b) = omega arith
-bound_words read = omega arith
-bound_words (write a) = omega arith
-bound_words fail = omega arith
+bound_words (leaf (unit v)) = omega arith
+bound_words (leaf (fetch a)) = omega arith
+bound_words (leaf (fetch_word a i)) = omega arith
+bound_words (leaf (update a v)) = omega arith
+bound_words (leaf (eval a)) = omega arith
+bound_words (leaf (apply v a)) = omega arith
+bound_words (leaf (call f ws)) = omega arith
+bound_words (leaf (prim f a b)) = omega arith
+bound_words (leaf read) = omega arith
+bound_words (leaf (write a)) = omega arith
+bound_words (leaf fail) = omega arith
 
 -- the words of an operation that ends a block, and so of one that a target takes
 mutual
@@ -118,17 +118,17 @@ mutual
   act_words_few : (o : Act) → end_words o + inner_words o ≤ 20 * act_size o
   act_words_few (case v as') = omega (arith, arms_words_few as')
   act_words_few (nested b) = omega (arith, code_words_few b)
-  act_words_few (unit v) = omega arith
-  act_words_few (fetch a) = omega arith
-  act_words_few (fetch_word a i) = omega arith
-  act_words_few (update a v) = omega arith
-  act_words_few (eval a) = omega arith
-  act_words_few (apply v a) = omega arith
-  act_words_few (call f ws) = omega arith
-  act_words_few (prim f a b) = omega arith
-  act_words_few read = omega arith
-  act_words_few (write a) = omega arith
-  act_words_few fail = omega arith
+  act_words_few (leaf (unit v)) = omega arith
+  act_words_few (leaf (fetch a)) = omega arith
+  act_words_few (leaf (fetch_word a i)) = omega arith
+  act_words_few (leaf (update a v)) = omega arith
+  act_words_few (leaf (eval a)) = omega arith
+  act_words_few (leaf (apply v a)) = omega arith
+  act_words_few (leaf (call f ws)) = omega arith
+  act_words_few (leaf (prim f a b)) = omega arith
+  act_words_few (leaf read) = omega arith
+  act_words_few (leaf (write a)) = omega arith
+  act_words_few (leaf fail) = omega arith
 
   code_words_few : (b : Code) → code_words b ≤ 20 * code_size b
   code_words_few (end o) = act_words_few o

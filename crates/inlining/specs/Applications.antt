@@ -7,7 +7,7 @@ use Rattle.grin_syntax.specs.declared.program.Word.TheVariants.{Var, TagWord}
 use Rattle.grin_syntax.specs.declared.program.Val as V
 use Rattle.grin_syntax.specs.declared.program.Val.TheVariants.{NodeVar, Node as NodeVal, Vector as VectorVal, One as OneVal}
 use Rattle.grin_syntax.specs.declared.program.Shape.TheVariants.{Node as NodeShape, Else}
-use Rattle.grin_syntax.specs.Tree.{Code, end, store, bind, Act, unit, apply, call, case, nested, fail, Arms, no_arm, arm, Procedure, Program}
+use Rattle.grin_syntax.specs.Tree.{Code, end, store, bind, Act, leaf, unit, apply, call, case, nested, fail, Arms, no_arm, arm, Procedure, Program}
 use Rattle.grin_syntax.specs.Tags.{tag_id}
 use Rattle.grin_syntax.specs.Fresh.{variables, past_procs}
 use Rattle.grin_meaning.specs.Run.{is_part_kind, is_some_and, part_from}
@@ -38,16 +38,16 @@ module _ (p : Program) (A : Solution) where
   is_part_tag t = is_some_and (slice_get p.tags t) (λ i. is_part_kind i.kind)
 
   abbrev pub with_one_more : ℕ → Option ℕ → List W.Word → Code
-  with_one_more f None ws = end fail
-  with_one_more f (Some t) ws = end (unit (NodeVal (tag_id t) ws))
+  with_one_more f None ws = end (leaf fail)
+  with_one_more f (Some t) ws = end (leaf (unit (NodeVal (tag_id t) ws)))
 
   abbrev pub apply_body : ℕ → ℕ → List W.Word → Code
-  apply_body f zero ws = end fail
-  apply_body f (suc zero) ws = end (call (record { 0 = f }) ws)
+  apply_body f zero ws = end (leaf fail)
+  apply_body f (suc zero) ws = end (leaf (call (record { 0 = f }) ws))
   apply_body f (suc (suc r)) ws = with_one_more f (part_from 0 p.tags f (suc r)) ws
 
   abbrev pub part_body : ℕ → W.Word → Tag → Option ProcId → Code
-  part_body x a t None = end fail
+  part_body x a t None = end (leaf fail)
   part_body x a t (Some f) = apply_body f.0 t.missing (map Var (variables x t.fields) ++ a ∷ [])
 
   abbrev pub apply_arm : W.Word → ℕ → ℕ → Option Tag → Arms → Arms
@@ -70,7 +70,7 @@ module _ (p : Program) (A : Solution) where
 
   abbrev pub else_fail : List ℕ → Arms
   else_fail [] = no_arm
-  else_fail (t ∷ ts) = arm Else (end fail) no_arm
+  else_fail (t ∷ ts) = arm Else (end (leaf fail)) no_arm
 
   abbrev pub parts_room : List ℕ → ℕ
   parts_room [] = 0
@@ -78,7 +78,7 @@ module _ (p : Program) (A : Solution) where
 
   unfoldable mutual
     pub apply_act_room : Act → ℕ
-    apply_act_room (apply v a) = parts_room (part_tags_of v)
+    apply_act_room (leaf (apply v a)) = parts_room (part_tags_of v)
     apply_act_room (case v as') = apply_arms_room as'
     apply_act_room (nested b) = apply_code_room b
     apply_act_room _ = 0
@@ -94,7 +94,7 @@ module _ (p : Program) (A : Solution) where
 
   unfoldable mutual
     pub apply_act : ℕ → Act → Act
-    apply_act x (apply v a) = case v (apply_arms a x (part_tags_of v) (else_fail (others_of v)))
+    apply_act x (leaf (apply v a)) = case v (apply_arms a x (part_tags_of v) (else_fail (others_of v)))
     apply_act x (case v as') = case v (apply_all x as')
     apply_act x (nested b) = nested (apply_code x b)
     apply_act x o = o

@@ -9,7 +9,7 @@ use Rattle.grin_syntax.specs.declared.program.Val.TheVariants.{NodeVar}
 use Rattle.grin_syntax.specs.declared.program.Target.{Target}
 use Rattle.grin_syntax.specs.declared.program.Target.TheVariants.{Nothing, Node as NodeTarget}
 use Rattle.grin_syntax.specs.declared.program.Shape.TheVariants.{Node as NodeShape}
-use Rattle.grin_syntax.specs.Tree.{Code, end, store, bind, Act, unit, fetch, update, eval, call, case, nested, fail, Arms, no_arm, arm, Procedure, Program}
+use Rattle.grin_syntax.specs.Tree.{Code, end, store, bind, Act, leaf, unit, fetch, update, eval, call, case, nested, fail, Arms, no_arm, arm, Procedure, Program}
 use Rattle.grin_syntax.specs.Tags.{tag_id}
 use Rattle.grin_syntax.specs.Fresh.{variable, variables, past_procs}
 use Rattle.grin_meaning.specs.Run.{is_fun_kind}
@@ -49,15 +49,15 @@ module _ (p : Program) (A : Solution) where
   -- The alternatives of an evaluation: n is the variable of the node, and x the first fresh
   -- variable of the alternatives.
   abbrev pub call_body : W.Word → ℕ → ℕ → Option ProcId → Code
-  call_body a x k None = end fail
+  call_body a x k None = end (leaf fail)
   call_body a x k (Some f) =
       let r = variable (x + k) in
-      bind (NodeTarget r) (call f (map Var (variables x k)))
-      (bind Nothing (update a (NodeVar r)) (end (unit (NodeVar r))))
+      bind (NodeTarget r) (leaf (call f (map Var (variables x k))))
+      (bind Nothing (leaf (update a (NodeVar r))) (end (leaf (unit (NodeVar r)))))
 
   abbrev pub eval_body : W.Word → ℕ → ℕ → Tag → Code
   eval_body a n x t =
-      cond (is_fun_kind t.kind) (call_body a x t.fields t.proc) (end (unit (NodeVar (variable n))))
+      cond (is_fun_kind t.kind) (call_body a x t.fields t.proc) (end (leaf (unit (NodeVar (variable n)))))
 
   abbrev pub fields_at : Option Tag → ℕ
   fields_at None = 0
@@ -83,17 +83,17 @@ module _ (p : Program) (A : Solution) where
   evaluation x a = case (NodeVar (variable x)) (eval_arms a x (suc x) (tags_of a))
 
   abbrev pub eval_bound : ℕ → Target → Act → Code → Code
-  eval_bound x t (eval a) b = bind (NodeTarget (variable x)) (fetch a) (bind t (evaluation x a) b)
+  eval_bound x t (leaf (eval a)) b = bind (NodeTarget (variable x)) (leaf (fetch a)) (bind t (evaluation x a) b)
   eval_bound x t o b = bind t o b
 
   abbrev pub eval_ended : ℕ → Act → Code
-  eval_ended x (eval a) = bind (NodeTarget (variable x)) (fetch a) (end (evaluation x a))
+  eval_ended x (leaf (eval a)) = bind (NodeTarget (variable x)) (leaf (fetch a)) (end (evaluation x a))
   eval_ended x o = end o
 
   unfoldable mutual
     -- how many fresh variables are taken
     pub act_room : Act → ℕ
-    act_room (eval a) = suc (arms_room (tags_of a))
+    act_room (leaf (eval a)) = suc (arms_room (tags_of a))
     act_room (case v as') = all_room as'
     act_room (nested b) = code_room b
     act_room _ = 0

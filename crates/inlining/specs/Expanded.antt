@@ -5,7 +5,7 @@ use Rattle.grin_syntax.specs.declared.program.ProcId.{ProcId}
 use Rattle.grin_syntax.specs.declared.program.Tag.{Tag}
 use Rattle.grin_syntax.specs.declared.program.Word as W
 use Rattle.grin_syntax.specs.declared.program.Val.{Val}
-use Rattle.grin_syntax.specs.Tree.{Code, end, store, bind, Act, unit, fetch, fetch_word, update, eval, apply, call, prim, read, write, case, nested, fail, Arms, no_arm, arm, Procedure, Program}
+use Rattle.grin_syntax.specs.Tree.{Code, end, store, bind, Act, leaf, unit, fetch, fetch_word, update, eval, apply, call, prim, read, write, case, nested, fail, Arms, no_arm, arm, Procedure, Program}
 use Rattle.grin_meaning.specs.Run.{is_fun_kind}
 use Rattle.flow_system.specs.Solution.{Solution}
 use Rattle.inlining.specs.Size.{shape_size, val_size, target_size, cells_size, act_size}
@@ -66,19 +66,19 @@ module _ (p : Program) (A : Solution) where
 
   unfoldable mutual
     pub expanded_act : Act → ℕ
-    expanded_act (unit v) = act_size (unit v)
-    expanded_act (fetch a) = act_size (fetch a)
-    expanded_act (fetch_word a i) = act_size (fetch_word a i)
-    expanded_act (update a v) = act_size (update a v)
-    expanded_act (eval a) = evaluation_size a
-    expanded_act (apply v a) = application_size v
-    expanded_act (call f ws) = act_size (call f ws)
-    expanded_act (prim f a b) = act_size (prim f a b)
-    expanded_act read = act_size read
-    expanded_act (write a) = act_size (write a)
+    expanded_act (leaf (unit v)) = act_size (leaf (unit v))
+    expanded_act (leaf (fetch a)) = act_size (leaf (fetch a))
+    expanded_act (leaf (fetch_word a i)) = act_size (leaf (fetch_word a i))
+    expanded_act (leaf (update a v)) = act_size (leaf (update a v))
+    expanded_act (leaf (eval a)) = evaluation_size a
+    expanded_act (leaf (apply v a)) = application_size v
+    expanded_act (leaf (call f ws)) = act_size (leaf (call f ws))
+    expanded_act (leaf (prim f a b)) = act_size (leaf (prim f a b))
+    expanded_act (leaf read) = act_size (leaf read)
+    expanded_act (leaf (write a)) = act_size (leaf (write a))
     expanded_act (case v as') = 1 + val_size v + expanded_arms as'
     expanded_act (nested b) = 1 + expanded_code b
-    expanded_act fail = act_size fail
+    expanded_act (leaf fail) = act_size (leaf fail)
 
     pub expanded_code : Code → ℕ
     expanded_code (end o) = expanded_act o

@@ -1,9 +1,9 @@
 -- Programs without evaluations.
-use Rattle.grin_syntax.specs.Tree.{Act, eval, Program}
+use Rattle.grin_syntax.specs.Tree.{Act, leaf, eval, Program}
 use Rattle.grin_meaning.specs.Ready.{PieceKind, any_kind, EveryBodyIsOfKind}
 
 abbrev pub NotEval : Act → Type 0
-NotEval (eval w) = ⊥
+NotEval (leaf (eval w)) = ⊥
 NotEval _ = Unit {0}
 
 abbrev pub no_eval_kind : PieceKind

@@ -17,7 +17,8 @@ use Rattle.flow_system.specs.Solution.{Solution}
 use Rattle.flow_system.specs.Covers.{StateIsCovered}
 use Rattle.pass_ground.specs.OpenUpdates.{tag_variable}
 use Rattle.update_special.specs.Updates.{tags_of}
-use Rattle.update_special.proofs.Step.{tag_there, tag_listed}
+use Rattle.grin_rewrite.proofs.OpenUpdates.{tag_there}
+use Rattle.update_special.proofs.Special.{tag_listed}
 use Rattle.case_simplify.proofs.Held.{NodeFits, node_fits, node_fits_not, IntFits, int_fits}
 use Rattle.known_words.specs.Needed.{any_tag_left, pattern_may_match, without, tags_left_by, arm_may_match, tags_left_after, if_nonempty, tags_at}
 

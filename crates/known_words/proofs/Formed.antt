@@ -13,7 +13,7 @@ use Rattle.grin_syntax.specs.declared.program.Val.TheVariants.{NodeVar, Node, Ve
 use Rattle.grin_syntax.specs.declared.program.Word.{Word}
 use Rattle.grin_syntax.specs.declared.program.Word.TheVariants.{Lit, Var, Global, TagWord}
 use Rattle.grin_syntax.specs.Tags.{tag_id}
-use Rattle.grin_syntax.specs.Tree.{Code, end, store, bind, Act, unit, fetch, fetch_word, update, eval, apply, call, prim, read, write, case, nested, fail, Arms, no_arm, arm, Procedure, Program}
+use Rattle.grin_syntax.specs.Tree.{Code, end, store, bind, Act, leaf, unit, fetch, fetch_word, update, eval, apply, call, prim, read, write, case, nested, fail, Arms, no_arm, arm, Procedure, Program}
 use Rattle.grin_syntax.specs.Binders.{numbers_of, target_vars, shape_vars, cell_vars, act_vars, code_vars, arms_vars, procs_vars, act_sites, code_sites, arms_sites, procs_sites}
 use Rattle.grin_syntax.specs.Formed.{AllOf, Scope, with_word_variables, with_target, params_scope, WordFormed, ValFormed, CellFormed, Formed, ActFormed, CodeFormed, ArmsFormed, ProcedureFormed}
 use Rattle.grin_syntax.specs.SameOutside.{names_of, DifferOnlyInBodies}
@@ -74,17 +74,7 @@ module _ (count : ℕ) (A : Solution) where
       act_vars_fewer : (o : Act) (facts : Facts) → times y (act_vars (known_act count A facts o)) ≤ times y (act_vars o)
       act_vars_fewer (case v as') facts = arms_vars_fewer as' facts (known_val count A facts v) (tags_at count A (tag_variable (known_val count A facts v)))
       act_vars_fewer (nested b) facts = code_vars_fewer b facts
-      act_vars_fewer (update a v) facts = omega arith
-      act_vars_fewer (unit v) facts = omega arith
-      act_vars_fewer (fetch a) facts = omega arith
-      act_vars_fewer (fetch_word a i) facts = omega arith
-      act_vars_fewer (eval a) facts = omega arith
-      act_vars_fewer (apply v a) facts = omega arith
-      act_vars_fewer (call f ws) facts = omega arith
-      act_vars_fewer (prim f a b) facts = omega arith
-      act_vars_fewer read facts = omega arith
-      act_vars_fewer (write a) facts = omega arith
-      act_vars_fewer fail facts = omega arith
+      act_vars_fewer (leaf l) facts = omega arith
 
       code_vars_fewer : (b : Code) (facts : Facts) → times y (code_vars (known_code count A facts b)) ≤ times y (code_vars b)
       code_vars_fewer (end o) facts = act_vars_fewer o facts
@@ -112,17 +102,7 @@ module _ (count : ℕ) (A : Solution) where
       act_sites_fewer : (o : Act) (facts : Facts) → times y (act_sites (known_act count A facts o)) ≤ times y (act_sites o)
       act_sites_fewer (case v as') facts = arms_sites_fewer as' facts (known_val count A facts v) (tags_at count A (tag_variable (known_val count A facts v)))
       act_sites_fewer (nested b) facts = code_sites_fewer b facts
-      act_sites_fewer (update a v) facts = omega arith
-      act_sites_fewer (unit v) facts = omega arith
-      act_sites_fewer (fetch a) facts = omega arith
-      act_sites_fewer (fetch_word a i) facts = omega arith
-      act_sites_fewer (eval a) facts = omega arith
-      act_sites_fewer (apply v a) facts = omega arith
-      act_sites_fewer (call f ws) facts = omega arith
-      act_sites_fewer (prim f a b) facts = omega arith
-      act_sites_fewer read facts = omega arith
-      act_sites_fewer (write a) facts = omega arith
-      act_sites_fewer fail facts = omega arith
+      act_sites_fewer (leaf l) facts = omega arith
 
       code_sites_fewer : (b : Code) (facts : Facts) → times y (code_sites (known_code count A facts b)) ≤ times y (code_sites b)
       code_sites_fewer (end o) facts = act_sites_fewer o facts
@@ -212,17 +192,17 @@ module _ (p : Program) (formed : Formed p) (A : Solution) (procs : List Procedur
     pub act_formed : (o : Act) (facts : Facts) (scope : Scope) → AllSound p facts → ActFormed p scope o → ActFormed after scope (known_act count A facts o)
     act_formed (case v as') facts scope s h = (val_formed facts s scope v h.0, arms_formed as' facts (known_val count A facts v) (tags_at count A (tag_variable (known_val count A facts v))) scope s h.1)
     act_formed (nested b) facts scope s h = code_formed b facts scope s h
-    act_formed (update a v) facts scope s h = (word_formed facts s scope a h.0, val_formed facts s scope v h.1)
-    act_formed (unit v) facts scope s h = val_formed facts s scope v h
-    act_formed (fetch a) facts scope s h = word_formed facts s scope a h
-    act_formed (fetch_word a i) facts scope s h = word_formed facts s scope a h
-    act_formed (eval a) facts scope s h = word_formed facts s scope a h
-    act_formed (apply v a) facts scope s h = (val_formed facts s scope v h.0, word_formed facts s scope a h.1)
-    act_formed (call f ws) facts scope s h = (known_again p procs same_count f h.0, words_formed facts s scope ws h.1)
-    act_formed (prim f a b) facts scope s h = (word_formed facts s scope a h.0, word_formed facts s scope b h.1)
-    act_formed read facts scope s h = h
-    act_formed (write a) facts scope s h = word_formed facts s scope a h
-    act_formed fail facts scope s h = h
+    act_formed (leaf (update a v)) facts scope s h = (word_formed facts s scope a h.0, val_formed facts s scope v h.1)
+    act_formed (leaf (unit v)) facts scope s h = val_formed facts s scope v h
+    act_formed (leaf (fetch a)) facts scope s h = word_formed facts s scope a h
+    act_formed (leaf (fetch_word a i)) facts scope s h = word_formed facts s scope a h
+    act_formed (leaf (eval a)) facts scope s h = word_formed facts s scope a h
+    act_formed (leaf (apply v a)) facts scope s h = (val_formed facts s scope v h.0, word_formed facts s scope a h.1)
+    act_formed (leaf (call f ws)) facts scope s h = (known_again p procs same_count f h.0, words_formed facts s scope ws h.1)
+    act_formed (leaf (prim f a b)) facts scope s h = (word_formed facts s scope a h.0, word_formed facts s scope b h.1)
+    act_formed (leaf read) facts scope s h = h
+    act_formed (leaf (write a)) facts scope s h = word_formed facts s scope a h
+    act_formed (leaf fail) facts scope s h = h
 
     code_formed : (b : Code) (facts : Facts) (scope : Scope) → AllSound p facts → CodeFormed p scope b → CodeFormed after scope (known_code count A facts b)
     code_formed (end o) facts scope s h = act_formed o facts scope s h

@@ -8,7 +8,7 @@ use Rattle.grin_syntax.specs.declared.program.Val.{Val}
 use Rattle.grin_syntax.specs.declared.program.Val.TheVariants.{NodeVar, Node, Vector, One}
 use Rattle.grin_syntax.specs.declared.program.Word.{Word}
 use Rattle.grin_syntax.specs.declared.program.Word.TheVariants.{Lit, Var, Global, TagWord}
-use Rattle.grin_syntax.specs.Tree.{Code, end, store, bind, Act, unit, fetch, fetch_word, update, eval, apply, call, prim, read, write, case, nested, fail, Arms, no_arm, arm, Procedure}
+use Rattle.grin_syntax.specs.Tree.{Code, end, store, bind, Act, leaf, unit, fetch, fetch_word, update, eval, apply, call, prim, read, write, case, nested, fail, Arms, no_arm, arm, Procedure}
 use Rattle.grin_syntax.specs.Formed.{AllOf}
 use Rattle.grin_meaning.specs.Names.{WordOk, WordsOk, ValOk, CellsOk, ActOk}
 use Rattle.grin_meaning.specs.Ready.{EachAct, EachCode, EachArms, NoNodeVar, val_width, NarrowAct, NarrowCode, NarrowArms, PieceKind, EveryBodyIsOfKind, inlined_kind, without_node_fetches, vectorised_kind, narrow_kind}
@@ -53,17 +53,17 @@ module _ (count : ℕ) (A : Solution) where
       act_each : (o : Act) (facts : Facts) → EachAct K o → EachAct K (known_act count A facts o)
       act_each (case v as') facts h = (blind.acts (case v as') facts h.0, blind.values v facts h.1, arms_each as' facts (known_val count A facts v) (tags_at count A (tag_variable (known_val count A facts v))) h.2)
       act_each (nested b) facts h = (blind.acts (nested b) facts h.0, code_each b facts h.1)
-      act_each (update a v) facts h = (blind.acts (update a v) facts h.0, blind.values v facts h.1)
-      act_each (unit v) facts h = (blind.acts (unit v) facts h.0, blind.values v facts h.1)
-      act_each (fetch a) facts h = blind.acts (fetch a) facts h
-      act_each (fetch_word a i) facts h = blind.acts (fetch_word a i) facts h
-      act_each (eval a) facts h = blind.acts (eval a) facts h
-      act_each (apply v a) facts h = (blind.acts (apply v a) facts h.0, blind.values v facts h.1)
-      act_each (call f ws) facts h = blind.acts (call f ws) facts h
-      act_each (prim f a b) facts h = blind.acts (prim f a b) facts h
-      act_each read facts h = blind.acts read facts h
-      act_each (write a) facts h = blind.acts (write a) facts h
-      act_each fail facts h = blind.acts fail facts h
+      act_each (leaf (update a v)) facts h = (blind.acts (leaf (update a v)) facts h.0, blind.values v facts h.1)
+      act_each (leaf (unit v)) facts h = (blind.acts (leaf (unit v)) facts h.0, blind.values v facts h.1)
+      act_each (leaf (fetch a)) facts h = blind.acts (leaf (fetch a)) facts h
+      act_each (leaf (fetch_word a i)) facts h = blind.acts (leaf (fetch_word a i)) facts h
+      act_each (leaf (eval a)) facts h = blind.acts (leaf (eval a)) facts h
+      act_each (leaf (apply v a)) facts h = (blind.acts (leaf (apply v a)) facts h.0, blind.values v facts h.1)
+      act_each (leaf (call f ws)) facts h = blind.acts (leaf (call f ws)) facts h
+      act_each (leaf (prim f a b)) facts h = blind.acts (leaf (prim f a b)) facts h
+      act_each (leaf read) facts h = blind.acts (leaf read) facts h
+      act_each (leaf (write a)) facts h = blind.acts (leaf (write a)) facts h
+      act_each (leaf fail) facts h = blind.acts (leaf fail) facts h
 
       code_each : (b : Code) (facts : Facts) → EachCode K b → EachCode K (known_code count A facts b)
       code_each (end o) facts h = act_each o facts h
@@ -89,33 +89,33 @@ module _ (count : ℕ) (A : Solution) where
   unfolding known_act
   still_inlined (case v as') facts h = tt
   still_inlined (nested b) facts h = tt
-  still_inlined (update a v) facts h = tt
-  still_inlined (unit v) facts h = tt
-  still_inlined (fetch a) facts h = tt
-  still_inlined (fetch_word a i) facts h = tt
-  still_inlined (eval a) facts h = h
-  still_inlined (apply v a) facts h = h
-  still_inlined (call f ws) facts h = tt
-  still_inlined (prim f a b) facts h = tt
-  still_inlined read facts h = tt
-  still_inlined (write a) facts h = tt
-  still_inlined fail facts h = tt
+  still_inlined (leaf (update a v)) facts h = tt
+  still_inlined (leaf (unit v)) facts h = tt
+  still_inlined (leaf (fetch a)) facts h = tt
+  still_inlined (leaf (fetch_word a i)) facts h = tt
+  still_inlined (leaf (eval a)) facts h = h
+  still_inlined (leaf (apply v a)) facts h = h
+  still_inlined (leaf (call f ws)) facts h = tt
+  still_inlined (leaf (prim f a b)) facts h = tt
+  still_inlined (leaf read) facts h = tt
+  still_inlined (leaf (write a)) facts h = tt
+  still_inlined (leaf fail) facts h = tt
 
   still_by_words : (o : Act) (facts : Facts) → without_node_fetches.operation o → without_node_fetches.operation (known_act count A facts o)
   unfolding known_act
   still_by_words (case v as') facts h = tt
   still_by_words (nested b) facts h = tt
-  still_by_words (update a v) facts h = tt
-  still_by_words (unit v) facts h = tt
-  still_by_words (fetch a) facts h = h
-  still_by_words (fetch_word a i) facts h = tt
-  still_by_words (eval a) facts h = tt
-  still_by_words (apply v a) facts h = tt
-  still_by_words (call f ws) facts h = tt
-  still_by_words (prim f a b) facts h = tt
-  still_by_words read facts h = tt
-  still_by_words (write a) facts h = tt
-  still_by_words fail facts h = tt
+  still_by_words (leaf (update a v)) facts h = tt
+  still_by_words (leaf (unit v)) facts h = tt
+  still_by_words (leaf (fetch a)) facts h = h
+  still_by_words (leaf (fetch_word a i)) facts h = tt
+  still_by_words (leaf (eval a)) facts h = tt
+  still_by_words (leaf (apply v a)) facts h = tt
+  still_by_words (leaf (call f ws)) facts h = tt
+  still_by_words (leaf (prim f a b)) facts h = tt
+  still_by_words (leaf read) facts h = tt
+  still_by_words (leaf (write a)) facts h = tt
+  still_by_words (leaf fail) facts h = tt
 
   pub procs_inlined : (qs : List Procedure) → EveryBodyIsOfKind inlined_kind qs → EveryBodyIsOfKind inlined_kind (map (known_procedure count A) qs)
   procs_inlined = procs_each inlined_kind (record { acts = still_inlined; values = λ v facts h. tt })
@@ -144,17 +144,17 @@ module _ (count : ℕ) (A : Solution) where
       act_gives : (o : Act) (facts : Facts) → NarrowAct width most o → NarrowAct width most (known_act count A facts o)
       act_gives (case v as') facts h = arms_give as' facts (known_val count A facts v) (tags_at count A (tag_variable (known_val count A facts v))) h
       act_gives (nested b) facts h = code_gives b facts h
-      act_gives (update a v) facts h = tt
-      act_gives (unit v) facts h = subst (λ n. n ≤ most) (sym (as_wide v facts)) h
-      act_gives (fetch a) facts h = h
-      act_gives (fetch_word a i) facts h = tt
-      act_gives (eval a) facts h = tt
-      act_gives (apply v a) facts h = tt
-      act_gives (call f ws) facts h = tt
-      act_gives (prim f a b) facts h = tt
-      act_gives read facts h = tt
-      act_gives (write a) facts h = tt
-      act_gives fail facts h = tt
+      act_gives (leaf (update a v)) facts h = tt
+      act_gives (leaf (unit v)) facts h = subst (λ n. n ≤ most) (sym (as_wide v facts)) h
+      act_gives (leaf (fetch a)) facts h = h
+      act_gives (leaf (fetch_word a i)) facts h = tt
+      act_gives (leaf (eval a)) facts h = tt
+      act_gives (leaf (apply v a)) facts h = tt
+      act_gives (leaf (call f ws)) facts h = tt
+      act_gives (leaf (prim f a b)) facts h = tt
+      act_gives (leaf read) facts h = tt
+      act_gives (leaf (write a)) facts h = tt
+      act_gives (leaf fail) facts h = tt
 
       code_gives : (b : Code) (facts : Facts) → NarrowCode width most b → NarrowCode width most (known_code count A facts b)
       code_gives (end o) facts h = act_gives o facts h
@@ -229,17 +229,17 @@ module _ (count : ℕ) (A : Solution) where
       arms_untold as' facts (known_val count A facts v) (tags_at count A (tag_variable (known_val count A facts v))) n.2,
     )
     act_untold (nested b) facts n = code_untold b facts n.1
-    act_untold (update a v) facts n = (word_untold facts a, val_untold facts v n.1)
-    act_untold (unit v) facts n = val_untold facts v n.1
-    act_untold (fetch a) facts n = word_untold facts a
-    act_untold (fetch_word a i) facts n = word_untold facts a
-    act_untold (eval a) facts n = word_untold facts a
-    act_untold (apply v a) facts n = (val_untold facts v n.1, word_untold facts a)
-    act_untold (call f ws) facts n = words_untold facts ws
-    act_untold (prim f a b) facts n = (word_untold facts a, word_untold facts b)
-    act_untold read facts n = tt
-    act_untold (write a) facts n = word_untold facts a
-    act_untold fail facts n = tt
+    act_untold (leaf (update a v)) facts n = (word_untold facts a, val_untold facts v n.1)
+    act_untold (leaf (unit v)) facts n = val_untold facts v n.1
+    act_untold (leaf (fetch a)) facts n = word_untold facts a
+    act_untold (leaf (fetch_word a i)) facts n = word_untold facts a
+    act_untold (leaf (eval a)) facts n = word_untold facts a
+    act_untold (leaf (apply v a)) facts n = (val_untold facts v n.1, word_untold facts a)
+    act_untold (leaf (call f ws)) facts n = words_untold facts ws
+    act_untold (leaf (prim f a b)) facts n = (word_untold facts a, word_untold facts b)
+    act_untold (leaf read) facts n = tt
+    act_untold (leaf (write a)) facts n = word_untold facts a
+    act_untold (leaf fail) facts n = tt
 
     code_untold : (b : Code) (facts : Facts) → EachCode vectorised_kind b → KnownCode count A facts (known_code count A facts b)
     code_untold (end o) facts n = act_untold o facts n
@@ -283,17 +283,17 @@ module _ (count : ℕ) (A : Solution) where
     act_fewer : (o : Act) (facts : Facts) → act_update_sum opens (known_act count A facts o) ≤ act_update_sum opens o
     act_fewer (case v as') facts = arms_fewer as' facts (known_val count A facts v) (tags_at count A (tag_variable (known_val count A facts v)))
     act_fewer (nested b) facts = code_fewer b facts
-    act_fewer (update a v) facts = fewer_open v facts
-    act_fewer (unit v) facts = omega arith
-    act_fewer (fetch a) facts = omega arith
-    act_fewer (fetch_word a i) facts = omega arith
-    act_fewer (eval a) facts = omega arith
-    act_fewer (apply v a) facts = omega arith
-    act_fewer (call f ws) facts = omega arith
-    act_fewer (prim f a b) facts = omega arith
-    act_fewer read facts = omega arith
-    act_fewer (write a) facts = omega arith
-    act_fewer fail facts = omega arith
+    act_fewer (leaf (update a v)) facts = fewer_open v facts
+    act_fewer (leaf (unit v)) facts = omega arith
+    act_fewer (leaf (fetch a)) facts = omega arith
+    act_fewer (leaf (fetch_word a i)) facts = omega arith
+    act_fewer (leaf (eval a)) facts = omega arith
+    act_fewer (leaf (apply v a)) facts = omega arith
+    act_fewer (leaf (call f ws)) facts = omega arith
+    act_fewer (leaf (prim f a b)) facts = omega arith
+    act_fewer (leaf read) facts = omega arith
+    act_fewer (leaf (write a)) facts = omega arith
+    act_fewer (leaf fail) facts = omega arith
 
     code_fewer : (b : Code) (facts : Facts) → code_update_sum opens (known_code count A facts b) ≤ code_update_sum opens b
     code_fewer (end o) facts = act_fewer o facts

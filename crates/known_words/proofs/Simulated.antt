@@ -6,7 +6,7 @@ use Rattle.grin_syntax.specs.declared.program.Shape.{Shape}
 use Rattle.grin_syntax.specs.declared.program.Target.{Target}
 use Rattle.grin_syntax.specs.declared.program.Word.{Word}
 use Rattle.grin_syntax.specs.declared.program.Val.{Val}
-use Rattle.grin_syntax.specs.Tree.{Code, end, store, bind, Act, unit, fetch, fetch_word, update, eval, apply, call, prim, read, write, case, nested, fail, Arms, no_arm, arm, Procedure, Program}
+use Rattle.grin_syntax.specs.Tree.{Code, end, store, bind, Act, leaf, unit, fetch, fetch_word, update, eval, apply, call, prim, read, write, case, nested, fail, Arms, no_arm, arm, Procedure, Program}
 use Rattle.grin_syntax.specs.Binders.{numbers_of, target_vars, shape_vars, cell_vars, act_vars, code_vars, arms_vars, procs_vars}
 use Rattle.grin_syntax.specs.Formed.{AllOf, Scope, with_word_variables, with_target, params_scope, ValFormed, ActFormed, CodeFormed, ArmsFormed, ProcedureFormed, Formed}
 use Rattle.grin_meaning.specs.Values.{Datum, Value, Env, HeapCell, State, and_then, Binding, with_vars, one_each, only_word, fits, fit_of, word_of, value_of, bindings_of}
@@ -95,7 +95,7 @@ module _ (g : Program) (A : Solution) (formed : Formed g) (procs : List Procedur
         there = ap (λ cells. slice_get cells i) (same_is x.b.heaps) ∙ q;
       }
 
-      unit_goes : (v : Val) → ActFollows st (R facts) Same (unit v) (unit (kv v))
+      unit_goes : (v : Val) → ActFollows st (R facts) Same (leaf (unit v)) (leaf (unit (kv v)))
       unit_goes v = unit_follows st v (kv v) (λ x y e seen. (
         λ l. fills_too g A facts (at x) x.known x.related.1 x.env' x.related.0 v y e ∙ seen l,
         y,
@@ -103,7 +103,7 @@ module _ (g : Program) (A : Solution) (formed : Formed g) (procs : List Procedur
         same,
       ))
 
-      update_goes : (a : Word) (v : Val) → ActFollows st (R facts) Same (update a v) (update (kw a) (kv v))
+      update_goes : (a : Word) (v : Val) → ActFollows st (R facts) Same (leaf (update a v)) (leaf (update (kw a) (kv v)))
       update_goes a v = update_follows st a (kw a) v (kv v) same (λ x i y e q. (
         cell_goes x a i y e q,
         λ m made seen. record {
@@ -114,29 +114,29 @@ module _ (g : Program) (A : Solution) (formed : Formed g) (procs : List Procedur
         },
       ))
 
-      fetch_goes : (a : Word) → ActFollows st (R facts) Same (fetch a) (fetch (kw a))
+      fetch_goes : (a : Word) → ActFollows st (R facts) Same (leaf (fetch a)) (leaf (fetch (kw a)))
       fetch_goes a = fetch_follows st a (kw a) (λ x i y e q. (cell_goes x a i y e q, same))
 
-      fetch_word_goes : (a : Word) (k : ℕ) → ActFollows st (R facts) Same (fetch_word a k) (fetch_word (kw a) k)
+      fetch_word_goes : (a : Word) (k : ℕ) → ActFollows st (R facts) Same (leaf (fetch_word a k)) (leaf (fetch_word (kw a) k))
       fetch_word_goes a k = fetch_word_follows st a (kw a) k k (λ x i y e q. (cell_goes x a i y e q, same))
 
     -- ---- what is bound
 
     well_too : (facts : Facts) (t : Target) (o : Act) (v : Value) → is_bound_well g t o v ≡ true → is_bound_well g t (known_act count A facts o) v ≡ true
     unfolding known_act
-    well_too facts t (unit y) v e = e
-    well_too facts t (fetch a) v e = e
-    well_too facts t (fetch_word a i) v e = e
-    well_too facts t (update a y) v e = e
-    well_too facts t (eval a) v e = e
-    well_too facts t (apply y a) v e = e
-    well_too facts t (call q ws) v e = e
-    well_too facts t (prim q a b) v e = e
-    well_too facts t read v e = e
-    well_too facts t (write a) v e = e
+    well_too facts t (leaf (unit y)) v e = e
+    well_too facts t (leaf (fetch a)) v e = e
+    well_too facts t (leaf (fetch_word a i)) v e = e
+    well_too facts t (leaf (update a y)) v e = e
+    well_too facts t (leaf (eval a)) v e = e
+    well_too facts t (leaf (apply y a)) v e = e
+    well_too facts t (leaf (call q ws)) v e = e
+    well_too facts t (leaf (prim q a b)) v e = e
+    well_too facts t (leaf read) v e = e
+    well_too facts t (leaf (write a)) v e = e
     well_too facts t (case y as') v e = e
     well_too facts t (nested b) v e = e
-    well_too facts t fail v e = e
+    well_too facts t (leaf fail) v e = e
 
     -- new variables are bound alike, and what was known still is
     knowing_on : (facts : Facts) (cells cells' : List HeapCell) (bs : List Binding) (env env' : Env) → ((y : ℕ) (k : Known) → facts y ≡ Some k → times y (keys bs) ≡ 0) → Knowing g facts cells env env' → Knowing g facts cells' (with_vars bs env) (with_vars bs env')
@@ -161,9 +161,9 @@ module _ (g : Program) (A : Solution) (formed : Formed g) (procs : List Procedur
         ap (λ o. and_then o only_word) (r y z.0 tt z.1) ∙ z.2
 
     -- the variables that are given the words of a unit hold what is known of them
-    unit_binds : (facts : Facts) (scope : Scope) (t : Target) (o : Act) (u : Val) → Inside facts scope → Once scope (target_vars t) → NoNodeTarget t → ValFormed g scope u → WellToo t o (unit u)
+    unit_binds : (facts : Facts) (scope : Scope) (t : Target) (o : Act) (u : Val) → Inside facts scope → Once scope (target_vars t) → NoNodeTarget t → ValFormed g scope u → WellToo t o (leaf (unit u))
         → (cells cells' : List HeapCell) (env env' : Env) (bs : List Binding) {v v' : Value} → Same v v' → Knowing g facts cells env env' → value_of g env' u ≡ Some v' → is_bound_well g t o v ≡ true → bindings_of g t v ≡ Some bs
-        → BindsToo st (Knowing g (note_copies (word_vars t) (words_in u) facts)) t (unit u) env env' cells' v' bs
+        → BindsToo st (Knowing g (note_copies (word_vars t) (words_in u) facts)) t (leaf (unit u)) env env' cells' v' bs
     unit_binds facts scope t o u inside once none formed well cells cells' env env' bs (same {a = v}) r given seen e = record {
       seen = λ _. well v seen;
       bs' = bs;
@@ -189,20 +189,20 @@ module _ (g : Program) (A : Solution) (formed : Formed g) (procs : List Procedur
 
     bind_goes : (facts : Facts) (scope : Scope) (t : Target) (o o' : Act) (b b' : Code) → BindGoes facts scope t o o' → CodeFollows st (Knowing g (known_after t o' facts)) Same b b' → CodeFollows st (Knowing g facts) Same (bind t o b) (bind t o' b')
     unfolding ActFormed
-    bind_goes facts scope t o (unit u) b b' q k = bind_unit st {R = Knowing g facts} {R' = Knowing g (known_after t (unit u) facts)} t o u b b' q.goes k
+    bind_goes facts scope t o (leaf (unit u)) b b' q k = bind_unit st {R = Knowing g facts} {R' = Knowing g (known_after t (leaf (unit u)) facts)} t o u b b' q.goes k
         (λ x v v' cells bs e given seen binds. unit_binds facts scope t o u q.inside q.once q.none q.formed_too q.well x.w.cells cells x.env x.env' bs e x.related given (seen refl) binds)
-    bind_goes facts scope t o (fetch a) b b' q k = bind_plainly facts scope t o (fetch a) b b' q k
-    bind_goes facts scope t o (fetch_word a n) b b' q k = bind_plainly facts scope t o (fetch_word a n) b b' q k
-    bind_goes facts scope t o (update a v) b b' q k = bind_plainly facts scope t o (update a v) b b' q k
-    bind_goes facts scope t o (eval a) b b' q k = bind_plainly facts scope t o (eval a) b b' q k
-    bind_goes facts scope t o (apply v a) b b' q k = bind_plainly facts scope t o (apply v a) b b' q k
-    bind_goes facts scope t o (call p ws) b b' q k = bind_plainly facts scope t o (call p ws) b b' q k
-    bind_goes facts scope t o (prim p a d) b b' q k = bind_plainly facts scope t o (prim p a d) b b' q k
-    bind_goes facts scope t o read b b' q k = bind_plainly facts scope t o read b b' q k
-    bind_goes facts scope t o (write a) b b' q k = bind_plainly facts scope t o (write a) b b' q k
+    bind_goes facts scope t o (leaf (fetch a)) b b' q k = bind_plainly facts scope t o (leaf (fetch a)) b b' q k
+    bind_goes facts scope t o (leaf (fetch_word a n)) b b' q k = bind_plainly facts scope t o (leaf (fetch_word a n)) b b' q k
+    bind_goes facts scope t o (leaf (update a v)) b b' q k = bind_plainly facts scope t o (leaf (update a v)) b b' q k
+    bind_goes facts scope t o (leaf (eval a)) b b' q k = bind_plainly facts scope t o (leaf (eval a)) b b' q k
+    bind_goes facts scope t o (leaf (apply v a)) b b' q k = bind_plainly facts scope t o (leaf (apply v a)) b b' q k
+    bind_goes facts scope t o (leaf (call p ws)) b b' q k = bind_plainly facts scope t o (leaf (call p ws)) b b' q k
+    bind_goes facts scope t o (leaf (prim p a d)) b b' q k = bind_plainly facts scope t o (leaf (prim p a d)) b b' q k
+    bind_goes facts scope t o (leaf read) b b' q k = bind_plainly facts scope t o (leaf read) b b' q k
+    bind_goes facts scope t o (leaf (write a)) b b' q k = bind_plainly facts scope t o (leaf (write a)) b b' q k
     bind_goes facts scope t o (case v as') b b' q k = bind_plainly facts scope t o (case v as') b b' q k
     bind_goes facts scope t o (nested d) b b' q k = bind_plainly facts scope t o (nested d) b b' q k
-    bind_goes facts scope t o fail b b' q k = bind_plainly facts scope t o fail b b' q k
+    bind_goes facts scope t o (leaf fail) b b' q k = bind_plainly facts scope t o (leaf fail) b b' q k
 
     stores_too : (facts : Facts) (scope : Scope) (cs : List Cell) → Inside facts scope → Once scope (cell_vars cs) → (x : Here plan (R facts)) (y : Stored st (R facts) cs x) → StoresToo st (R facts) (R facts) cs (known_cells count A facts cs) x y.hs
     stores_too facts scope cs inside once x y =
@@ -304,17 +304,17 @@ module _ (g : Program) (A : Solution) (formed : Formed g) (procs : List Procedur
       }))
       act_goes (nested b) facts scope q = nested_follows st b (known_code count A facts b)
           (code_goes b facts scope (record { inside_code = q.inside_act; sound_code = q.sound_act; formed_code = q.formed_act; vector_code = q.vector_act.1; inlined_code = q.inlined_act.1; once_code = q.once_act }))
-      act_goes (unit v) facts scope q = unit_goes facts v
-      act_goes (fetch a) facts scope q = fetch_goes facts a
-      act_goes (fetch_word a i) facts scope q = fetch_word_goes facts a i
-      act_goes (update a v) facts scope q = update_goes facts a v
-      act_goes (eval a) facts scope q = absurd q.inlined_act
-      act_goes (apply v a) facts scope q = absurd q.inlined_act.0
-      act_goes (call f ws) facts scope q = call_follows st f ws (known_words count A facts ws) (λ x xs e. (xs, words_too g A facts (at facts x) x.known x.related.1 x.env' x.related.0 ws xs e, same))
-      act_goes (prim f a b) facts scope q = prim_follows st f a b (known_word count A facts a) (known_word count A facts b) (word_goes facts a) (word_goes facts b) (λ k. same)
-      act_goes read facts scope q = read_follows st (λ k. same)
-      act_goes (write a) facts scope q = write_follows st a (known_word count A facts a) (word_goes facts a) same
-      act_goes fail facts scope q = fail_follows st
+      act_goes (leaf (unit v)) facts scope q = unit_goes facts v
+      act_goes (leaf (fetch a)) facts scope q = fetch_goes facts a
+      act_goes (leaf (fetch_word a i)) facts scope q = fetch_word_goes facts a i
+      act_goes (leaf (update a v)) facts scope q = update_goes facts a v
+      act_goes (leaf (eval a)) facts scope q = absurd q.inlined_act
+      act_goes (leaf (apply v a)) facts scope q = absurd q.inlined_act.0
+      act_goes (leaf (call f ws)) facts scope q = call_follows st f ws (known_words count A facts ws) (λ x xs e. (xs, words_too g A facts (at facts x) x.known x.related.1 x.env' x.related.0 ws xs e, same))
+      act_goes (leaf (prim f a b)) facts scope q = prim_follows st f a b (known_word count A facts a) (known_word count A facts b) (word_goes facts a) (word_goes facts b) (λ k. same)
+      act_goes (leaf read) facts scope q = read_follows st (λ k. same)
+      act_goes (leaf (write a)) facts scope q = write_follows st a (known_word count A facts a) (word_goes facts a) same
+      act_goes (leaf fail) facts scope q = fail_follows st
 
       code_goes : (b : Code) (facts : Facts) (scope : Scope) → GoodCode facts scope b → CodeFollows st (R facts) Same b (known_code count A facts b)
       code_goes (end o) facts scope q = end_follows st o (known_act count A facts o)

@@ -6,7 +6,7 @@ use Rattle.grin_syntax.specs.declared.program.Shape.{Shape}
 use Rattle.grin_syntax.specs.declared.program.Val.{Val}
 use Rattle.grin_syntax.specs.declared.program.Val.TheVariants.{NodeVar, Node, Vector, One}
 use Rattle.grin_syntax.specs.declared.program.Word.{Word}
-use Rattle.grin_syntax.specs.Tree.{Code, end, store, bind, Act, unit, fetch, fetch_word, update, eval, apply, call, prim, read, write, case, nested, fail, Arms, no_arm, arm, Procedure}
+use Rattle.grin_syntax.specs.Tree.{Code, end, store, bind, Act, leaf, unit, fetch, fetch_word, update, eval, apply, call, prim, read, write, case, nested, fail, Arms, no_arm, arm, Procedure}
 use Rattle.grin_syntax.specs.Binders.{shape_vars}
 use Rattle.grin_syntax.specs.Formed.{AllOf}
 use Rattle.grin_meaning.specs.Slim.{val_weight, cells_weight, act_weight, code_weight, arms_weight, procs_weight, act_calls, code_calls, arms_calls, procs_calls, node_words, end_words, inner_words, code_words, arms_words, procedure_words}
@@ -55,17 +55,17 @@ module _ (count : ℕ) (A : Solution) where
         let l : arms_weight (known_arms count A facts (known_val count A facts v) (tags_at count A (tag_variable (known_val count A facts v))) as') ≤ arms_weight as' = arms_lighter as' facts (known_val count A facts v) (tags_at count A (tag_variable (known_val count A facts v))) in
         omega (arith, h, l)
     act_lighter (nested b) facts = let l : code_weight (known_code count A facts b) ≤ code_weight b = code_lighter b facts in omega (arith, l)
-    act_lighter (update a v) facts = let h : val_weight (known_val count A facts v) ≡ val_weight v = as_heavy v facts in omega (arith, h)
-    act_lighter (unit v) facts = let h : val_weight (known_val count A facts v) ≡ val_weight v = as_heavy v facts in omega (arith, h)
-    act_lighter (fetch a) facts = omega arith
-    act_lighter (fetch_word a i) facts = omega arith
-    act_lighter (eval a) facts = omega arith
-    act_lighter (apply v a) facts = let h : val_weight (known_val count A facts v) ≡ val_weight v = as_heavy v facts in omega (arith, h)
-    act_lighter (call f ws) facts = let h : length (known_words count A facts ws) ≡ length ws = as_many ws facts in omega (arith, h)
-    act_lighter (prim f a b) facts = omega arith
-    act_lighter read facts = omega arith
-    act_lighter (write a) facts = omega arith
-    act_lighter fail facts = omega arith
+    act_lighter (leaf (update a v)) facts = let h : val_weight (known_val count A facts v) ≡ val_weight v = as_heavy v facts in omega (arith, h)
+    act_lighter (leaf (unit v)) facts = let h : val_weight (known_val count A facts v) ≡ val_weight v = as_heavy v facts in omega (arith, h)
+    act_lighter (leaf (fetch a)) facts = omega arith
+    act_lighter (leaf (fetch_word a i)) facts = omega arith
+    act_lighter (leaf (eval a)) facts = omega arith
+    act_lighter (leaf (apply v a)) facts = let h : val_weight (known_val count A facts v) ≡ val_weight v = as_heavy v facts in omega (arith, h)
+    act_lighter (leaf (call f ws)) facts = let h : length (known_words count A facts ws) ≡ length ws = as_many ws facts in omega (arith, h)
+    act_lighter (leaf (prim f a b)) facts = omega arith
+    act_lighter (leaf read) facts = omega arith
+    act_lighter (leaf (write a)) facts = omega arith
+    act_lighter (leaf fail) facts = omega arith
 
     code_lighter : (b : Code) (facts : Facts) → code_weight (known_code count A facts b) ≤ code_weight b
     code_lighter (end o) facts = act_lighter o facts
@@ -101,17 +101,17 @@ module _ (count : ℕ) (A : Solution) where
     act_calls_fewer : (o : Act) (facts : Facts) → act_calls (known_act count A facts o) ≤ act_calls o
     act_calls_fewer (case v as') facts = arms_calls_fewer as' facts (known_val count A facts v) (tags_at count A (tag_variable (known_val count A facts v)))
     act_calls_fewer (nested b) facts = code_calls_fewer b facts
-    act_calls_fewer (update a v) facts = omega arith
-    act_calls_fewer (unit v) facts = omega arith
-    act_calls_fewer (fetch a) facts = omega arith
-    act_calls_fewer (fetch_word a i) facts = omega arith
-    act_calls_fewer (eval a) facts = omega arith
-    act_calls_fewer (apply v a) facts = omega arith
-    act_calls_fewer (call f ws) facts = omega arith
-    act_calls_fewer (prim f a b) facts = omega arith
-    act_calls_fewer read facts = omega arith
-    act_calls_fewer (write a) facts = omega arith
-    act_calls_fewer fail facts = omega arith
+    act_calls_fewer (leaf (update a v)) facts = omega arith
+    act_calls_fewer (leaf (unit v)) facts = omega arith
+    act_calls_fewer (leaf (fetch a)) facts = omega arith
+    act_calls_fewer (leaf (fetch_word a i)) facts = omega arith
+    act_calls_fewer (leaf (eval a)) facts = omega arith
+    act_calls_fewer (leaf (apply v a)) facts = omega arith
+    act_calls_fewer (leaf (call f ws)) facts = omega arith
+    act_calls_fewer (leaf (prim f a b)) facts = omega arith
+    act_calls_fewer (leaf read) facts = omega arith
+    act_calls_fewer (leaf (write a)) facts = omega arith
+    act_calls_fewer (leaf fail) facts = omega arith
 
     code_calls_fewer : (b : Code) (facts : Facts) → code_calls (known_code count A facts b) ≤ code_calls b
     code_calls_fewer (end o) facts = act_calls_fewer o facts
@@ -142,33 +142,33 @@ module _ (count : ℕ) (A : Solution) where
   unfolding known_act
   node_words_stay (case v as') facts = refl
   node_words_stay (nested b) facts = refl
-  node_words_stay (update a v) facts = refl
-  node_words_stay (unit v) facts = refl
-  node_words_stay (fetch a) facts = refl
-  node_words_stay (fetch_word a i) facts = refl
-  node_words_stay (eval a) facts = refl
-  node_words_stay (apply v a) facts = refl
-  node_words_stay (call f ws) facts = refl
-  node_words_stay (prim f a b) facts = refl
-  node_words_stay read facts = refl
-  node_words_stay (write a) facts = refl
-  node_words_stay fail facts = refl
+  node_words_stay (leaf (update a v)) facts = refl
+  node_words_stay (leaf (unit v)) facts = refl
+  node_words_stay (leaf (fetch a)) facts = refl
+  node_words_stay (leaf (fetch_word a i)) facts = refl
+  node_words_stay (leaf (eval a)) facts = refl
+  node_words_stay (leaf (apply v a)) facts = refl
+  node_words_stay (leaf (call f ws)) facts = refl
+  node_words_stay (leaf (prim f a b)) facts = refl
+  node_words_stay (leaf read) facts = refl
+  node_words_stay (leaf (write a)) facts = refl
+  node_words_stay (leaf fail) facts = refl
 
   end_words_stay : (o : Act) (facts : Facts) → end_words (known_act count A facts o) ≡ end_words o
   unfolding known_act
   end_words_stay (case v as') facts = refl
   end_words_stay (nested b) facts = refl
-  end_words_stay (update a v) facts = refl
-  end_words_stay (unit v) facts = refl
-  end_words_stay (fetch a) facts = refl
-  end_words_stay (fetch_word a i) facts = refl
-  end_words_stay (eval a) facts = refl
-  end_words_stay (apply v a) facts = refl
-  end_words_stay (call f ws) facts = refl
-  end_words_stay (prim f a b) facts = refl
-  end_words_stay read facts = refl
-  end_words_stay (write a) facts = refl
-  end_words_stay fail facts = refl
+  end_words_stay (leaf (update a v)) facts = refl
+  end_words_stay (leaf (unit v)) facts = refl
+  end_words_stay (leaf (fetch a)) facts = refl
+  end_words_stay (leaf (fetch_word a i)) facts = refl
+  end_words_stay (leaf (eval a)) facts = refl
+  end_words_stay (leaf (apply v a)) facts = refl
+  end_words_stay (leaf (call f ws)) facts = refl
+  end_words_stay (leaf (prim f a b)) facts = refl
+  end_words_stay (leaf read) facts = refl
+  end_words_stay (leaf (write a)) facts = refl
+  end_words_stay (leaf fail) facts = refl
 
   mutual
     unfolding known_act inner_words
@@ -176,17 +176,7 @@ module _ (count : ℕ) (A : Solution) where
     inner_fewer : (o : Act) (facts : Facts) → inner_words (known_act count A facts o) ≤ inner_words o
     inner_fewer (case v as') facts = arms_words_fewer as' facts (known_val count A facts v) (tags_at count A (tag_variable (known_val count A facts v)))
     inner_fewer (nested b) facts = code_words_fewer b facts
-    inner_fewer (update a v) facts = omega arith
-    inner_fewer (unit v) facts = omega arith
-    inner_fewer (fetch a) facts = omega arith
-    inner_fewer (fetch_word a i) facts = omega arith
-    inner_fewer (eval a) facts = omega arith
-    inner_fewer (apply v a) facts = omega arith
-    inner_fewer (call f ws) facts = omega arith
-    inner_fewer (prim f a b) facts = omega arith
-    inner_fewer read facts = omega arith
-    inner_fewer (write a) facts = omega arith
-    inner_fewer fail facts = omega arith
+    inner_fewer (leaf l) facts = omega arith
 
     code_words_fewer : (b : Code) (facts : Facts) → code_words (known_code count A facts b) ≤ code_words b
     code_words_fewer (end o) facts =

@@ -6,7 +6,7 @@ use Rattle.grin_syntax.specs.declared.program.Cell as C
 use Rattle.grin_syntax.specs.declared.program.VarId.{VarId}
 use Rattle.grin_syntax.specs.Binders.{numbers_of, target_vars, shape_vars, cell_vars, act_vars, code_vars, arms_vars, procedure_vars, procs_vars}
 use Rattle.grin_syntax.specs.Tree as grin
-use Rattle.grin_syntax.specs.Tree.{Act, unit, fetch, fetch_word, update, eval, apply, call, prim, read, write, case, nested, fail, end, store, bind, no_arm, arm}
+use Rattle.grin_syntax.specs.Tree.{Act, leaf, unit, fetch, fetch_word, update, eval, apply, call, prim, read, write, case, nested, fail, end, store, bind, no_arm, arm}
 use Rattle.grin_meaning.specs.Slim as slim
 use Rattle.grin_meaning.specs.Slim.{target_weight, node_words, inner_words, code_words, arms_words, procedure_words}
 use Rattle.low_code.specs.declared.program.Operand.{Operand}
@@ -63,7 +63,7 @@ module _ (x : ℕ) where
   module _ (width : ℕ) (rs : List ℕ) where
     -- how many further variables the results of a call have
     abbrev pub unused : ℕ → Act → ℕ
-    unused k (call f ws) = results_of rs f.0 - k
+    unused k (leaf (call f ws)) = results_of rs f.0 - k
     unused k _ = 0
 
     call_binds : (xs : List ℕ) (n k v w r : ℕ) (ys : List ℕ) → BindsAre (n + (1 + (r - length xs))) k v w ys
@@ -92,21 +92,21 @@ module _ (x : ℕ) where
 
     plain_binds : (xs : List ℕ) (n k v w : ℕ) (o : Act) (c : low.Code) → BindsAre (n + plain_numbers width rs (length xs) o) k v w (binds c)
         → BindsAre n (plain_numbers width rs (length xs) o + k) (times x xs + v) (length xs + unused (length xs) o + w) (binds (plain_code width rs xs n o c))
-    plain_binds xs n k v w (unit a) c h = same n k v w xs (binds c) _ (sets_binds xs (operands_of a) c) h
-    plain_binds xs n k v w (fetch a) c h = same n k v w xs (binds c) _ (loads_binds width xs (operand_of a) 0 c) h
-    plain_binds xs n k v w (fetch_word a i) c h = same n k v w xs (binds c) _ (first_binds xs (λ y. load_word width y (operand_of a) i) c (λ y b. word_binds width y (operand_of a) i b)) h
-    plain_binds xs n k v w (update a b) c h = same n k v w xs (binds c) _ (saves_binds (operand_of a) 0 (padded_to_width width (operands_of b)) (set_all xs [] c) ∙ sets_binds xs [] c) h
-    plain_binds xs n k v w (call f ws) c h =
+    plain_binds xs n k v w (leaf (unit a)) c h = same n k v w xs (binds c) _ (sets_binds xs (operands_of a) c) h
+    plain_binds xs n k v w (leaf (fetch a)) c h = same n k v w xs (binds c) _ (loads_binds width xs (operand_of a) 0 c) h
+    plain_binds xs n k v w (leaf (fetch_word a i)) c h = same n k v w xs (binds c) _ (first_binds xs (λ y. load_word width y (operand_of a) i) c (λ y b. word_binds width y (operand_of a) i b)) h
+    plain_binds xs n k v w (leaf (update a b)) c h = same n k v w xs (binds c) _ (saves_binds (operand_of a) 0 (padded_to_width width (operands_of b)) (set_all xs [] c) ∙ sets_binds xs [] c) h
+    plain_binds xs n k v w (leaf (call f ws)) c h =
         let r : ℕ = results_of rs f.0 in
         subst (λ l. BindsAre n ((1 + (r - length xs)) + k) (times x xs + v) (length xs + (r - length xs) + w) ((take r xs ++ numbers_from (suc n) (r - length xs)) ++ l)) (sym (sets_binds (drop r xs) [] c)) (call_binds xs n k v w r (binds c) h)
-    plain_binds xs n k v w (prim f a b) c h = same n k v w xs (binds c) _ (first_binds xs (λ y. low.prim (operation_of f) y (operand_of a) (operand_of b)) c (λ y e. refl)) h
-    plain_binds xs n k v w read c h = same n k v w xs (binds c) _ (first_binds xs (λ y. low.get y) c (λ y e. refl)) h
-    plain_binds xs n k v w (write a) c h = same n k v w xs (binds c) _ (sets_binds xs [] c) h
-    plain_binds xs n k v w (eval a) c h = same n k v w xs (binds c) _ refl h
-    plain_binds xs n k v w (apply a b) c h = same n k v w xs (binds c) _ refl h
+    plain_binds xs n k v w (leaf (prim f a b)) c h = same n k v w xs (binds c) _ (first_binds xs (λ y. low.prim (operation_of f) y (operand_of a) (operand_of b)) c (λ y e. refl)) h
+    plain_binds xs n k v w (leaf read) c h = same n k v w xs (binds c) _ (first_binds xs (λ y. low.get y) c (λ y e. refl)) h
+    plain_binds xs n k v w (leaf (write a)) c h = same n k v w xs (binds c) _ (sets_binds xs [] c) h
+    plain_binds xs n k v w (leaf (eval a)) c h = same n k v w xs (binds c) _ refl h
+    plain_binds xs n k v w (leaf (apply a b)) c h = same n k v w xs (binds c) _ refl h
     plain_binds xs n k v w (case a as') c h = same n k v w xs (binds c) _ refl h
     plain_binds xs n k v w (nested b) c h = same n k v w xs (binds c) _ refl h
-    plain_binds xs n k v w fail c h = same n k v w xs (binds c) _ refl h
+    plain_binds xs n k v w (leaf fail) c h = same n k v w xs (binds c) _ refl h
 
     through_binds : (goal : Goal) (n : ℕ) (o : Act) → BindsAre n (through_numbers width rs goal o) 0 (end_words width rs goal.words o + unused (end_words width rs goal.words o) o) (binds (through width rs goal n o))
     through_binds goal n o =
@@ -125,54 +125,54 @@ module _ (x : ℕ) where
 
     module _ (few_results : (f : ℕ) → results_of rs f ≤ 13) (few_fields : width ≤ 14) where
       end_few : (k : ℕ) (o : Act) → end_words width rs k o + unused (end_words width rs k o) o ≤ slim.end_words o
-      end_few k (unit v) = omega arith
-      end_few k (fetch a) = let h : min k width ≤ 14 = omega (arith, few_fields) in omega (arith, h)
-      end_few k (fetch_word a i) = omega arith
-      end_few k (update a v) = omega arith
-      end_few k (eval a) = omega arith
-      end_few k (apply v a) = omega arith
-      end_few k (call f ws) = let h = few_results f.0 in omega (arith, h)
-      end_few k (prim f a b) = omega arith
-      end_few k read = omega arith
-      end_few k (write a) = omega arith
+      end_few k (leaf (unit v)) = omega arith
+      end_few k (leaf (fetch a)) = let h : min k width ≤ 14 = omega (arith, few_fields) in omega (arith, h)
+      end_few k (leaf (fetch_word a i)) = omega arith
+      end_few k (leaf (update a v)) = omega arith
+      end_few k (leaf (eval a)) = omega arith
+      end_few k (leaf (apply v a)) = omega arith
+      end_few k (leaf (call f ws)) = let h = few_results f.0 in omega (arith, h)
+      end_few k (leaf (prim f a b)) = omega arith
+      end_few k (leaf read) = omega arith
+      end_few k (leaf (write a)) = omega arith
       end_few k (case v as') = omega arith
       end_few k (nested b) = omega arith
-      end_few k fail = omega arith
+      end_few k (leaf fail) = omega arith
 
       unused_few : (k : ℕ) (o : Act) → unused k o ≤ node_words o
-      unused_few k (unit v) = omega arith
-      unused_few k (fetch a) = omega arith
-      unused_few k (fetch_word a i) = omega arith
-      unused_few k (update a v) = omega arith
-      unused_few k (eval a) = omega arith
-      unused_few k (apply v a) = omega arith
-      unused_few k (call f ws) = let h = few_results f.0 in omega (arith, h)
-      unused_few k (prim f a b) = omega arith
-      unused_few k read = omega arith
-      unused_few k (write a) = omega arith
+      unused_few k (leaf (unit v)) = omega arith
+      unused_few k (leaf (fetch a)) = omega arith
+      unused_few k (leaf (fetch_word a i)) = omega arith
+      unused_few k (leaf (update a v)) = omega arith
+      unused_few k (leaf (eval a)) = omega arith
+      unused_few k (leaf (apply v a)) = omega arith
+      unused_few k (leaf (call f ws)) = let h = few_results f.0 in omega (arith, h)
+      unused_few k (leaf (prim f a b)) = omega arith
+      unused_few k (leaf read) = omega arith
+      unused_few k (leaf (write a)) = omega arith
       unused_few k (case v as') = omega arith
       unused_few k (nested b) = omega arith
-      unused_few k fail = omega arith
+      unused_few k (leaf fail) = omega arith
 
       through_few : (goal : Goal) (n : ℕ) (o : Act) → BindsAre n (through_numbers width rs goal o) 0 (slim.end_words o) (binds (through width rs goal n o))
       through_few goal n o = binds_as n n _ _ 0 0 _ (slim.end_words o) _ refl refl (omega arith) (end_few goal.words o) (through_binds goal n o)
 
       plain_end_binds : (goal : Goal) (n : ℕ) (o : Act) → BindsAre n (plain_end_numbers width rs goal o) 0 (slim.end_words o) (binds (plain_end width rs goal n o))
-      plain_end_binds goal n (unit v) = binds_none n 0 0 1
-      plain_end_binds goal n fail = binds_none n 0 0 1
-      plain_end_binds goal n (eval w) = binds_none n 0 0 1
-      plain_end_binds goal n (apply v w) = binds_none n 0 0 1
-      plain_end_binds goal n (call f ws) = by goal.leaves
+      plain_end_binds goal n (leaf (unit v)) = binds_none n 0 0 1
+      plain_end_binds goal n (leaf fail) = binds_none n 0 0 1
+      plain_end_binds goal n (leaf (eval w)) = binds_none n 0 0 1
+      plain_end_binds goal n (leaf (apply v w)) = binds_none n 0 0 1
+      plain_end_binds goal n (leaf (call f ws)) = by goal.leaves
         where
-          by : (b : Bool) → BindsAre n (elim b [ true ↦ 1 | false ↦ through_numbers width rs goal (call f ws) ]) 0 14 (binds (elim b [ true ↦ low.tail f.0 n (operands_of_words ws) | false ↦ through width rs goal n (call f ws) ]))
+          by : (b : Bool) → BindsAre n (elim b [ true ↦ 1 | false ↦ through_numbers width rs goal (leaf (call f ws)) ]) 0 14 (binds (elim b [ true ↦ low.tail f.0 n (operands_of_words ws) | false ↦ through width rs goal n (leaf (call f ws)) ]))
           by true = binds_none n 1 0 14
-          by false = through_few goal n (call f ws)
-      plain_end_binds goal n (fetch a) = through_few goal n (fetch a)
-      plain_end_binds goal n (fetch_word a i) = through_few goal n (fetch_word a i)
-      plain_end_binds goal n (update a v) = through_few goal n (update a v)
-      plain_end_binds goal n (prim f a b) = through_few goal n (prim f a b)
-      plain_end_binds goal n read = through_few goal n read
-      plain_end_binds goal n (write a) = through_few goal n (write a)
+          by false = through_few goal n (leaf (call f ws))
+      plain_end_binds goal n (leaf (fetch a)) = through_few goal n (leaf (fetch a))
+      plain_end_binds goal n (leaf (fetch_word a i)) = through_few goal n (leaf (fetch_word a i))
+      plain_end_binds goal n (leaf (update a v)) = through_few goal n (leaf (update a v))
+      plain_end_binds goal n (leaf (prim f a b)) = through_few goal n (leaf (prim f a b))
+      plain_end_binds goal n (leaf read) = through_few goal n (leaf read)
+      plain_end_binds goal n (leaf (write a)) = through_few goal n (leaf (write a))
       plain_end_binds goal n (case v as') = through_few goal n (case v as')
       plain_end_binds goal n (nested b) = through_few goal n (nested b)
 
@@ -210,32 +210,32 @@ module _ (x : ℕ) where
             → BindsAre n (act_numbers width rs (length xs) o + k) (times x xs + (times x (act_vars o) + v)) (length xs + node_words o + inner_words o + w) (binds (act_code width rs xs n o c))
         act_binds xs n k v w (case a as') c h = joined n (arms_numbers width rs (to_join xs) as') k (times x (arms_vars as')) v (arms_words as') w xs _ (binds c) (arms_are (to_join xs) n (operands_of a) as') h
         act_binds xs n k v w (nested b) c h = joined n (code_numbers width rs (to_join xs) b) k (times x (code_vars b)) v (code_words b) w xs _ (binds c) (code_binds (to_join xs) n b) h
-        act_binds xs n k v w (unit a) c h = plain_act xs n k v w (unit a) c h
-        act_binds xs n k v w (fetch a) c h = plain_act xs n k v w (fetch a) c h
-        act_binds xs n k v w (fetch_word a i) c h = plain_act xs n k v w (fetch_word a i) c h
-        act_binds xs n k v w (update a b) c h = plain_act xs n k v w (update a b) c h
-        act_binds xs n k v w (eval a) c h = plain_act xs n k v w (eval a) c h
-        act_binds xs n k v w (apply a b) c h = plain_act xs n k v w (apply a b) c h
-        act_binds xs n k v w (call f ws) c h = plain_act xs n k v w (call f ws) c h
-        act_binds xs n k v w (prim f a b) c h = plain_act xs n k v w (prim f a b) c h
-        act_binds xs n k v w read c h = plain_act xs n k v w read c h
-        act_binds xs n k v w (write a) c h = plain_act xs n k v w (write a) c h
-        act_binds xs n k v w fail c h = plain_act xs n k v w fail c h
+        act_binds xs n k v w (leaf (unit a)) c h = plain_act xs n k v w (leaf (unit a)) c h
+        act_binds xs n k v w (leaf (fetch a)) c h = plain_act xs n k v w (leaf (fetch a)) c h
+        act_binds xs n k v w (leaf (fetch_word a i)) c h = plain_act xs n k v w (leaf (fetch_word a i)) c h
+        act_binds xs n k v w (leaf (update a b)) c h = plain_act xs n k v w (leaf (update a b)) c h
+        act_binds xs n k v w (leaf (eval a)) c h = plain_act xs n k v w (leaf (eval a)) c h
+        act_binds xs n k v w (leaf (apply a b)) c h = plain_act xs n k v w (leaf (apply a b)) c h
+        act_binds xs n k v w (leaf (call f ws)) c h = plain_act xs n k v w (leaf (call f ws)) c h
+        act_binds xs n k v w (leaf (prim f a b)) c h = plain_act xs n k v w (leaf (prim f a b)) c h
+        act_binds xs n k v w (leaf read) c h = plain_act xs n k v w (leaf read) c h
+        act_binds xs n k v w (leaf (write a)) c h = plain_act xs n k v w (leaf (write a)) c h
+        act_binds xs n k v w (leaf fail) c h = plain_act xs n k v w (leaf fail) c h
 
         end_binds : (goal : Goal) (n : ℕ) (o : Act) → BindsAre n (end_numbers width rs goal o) (times x (act_vars o)) (slim.end_words o + inner_words o) (binds (end_code width rs goal n o))
         end_binds goal n (case v as') = binds_as n n _ _ _ _ (arms_words as') _ _ refl refl (omega arith) (omega arith) (arms_are goal n (operands_of v) as')
         end_binds goal n (nested b) = binds_as n n _ _ _ _ (code_words b) _ _ refl refl (omega arith) (omega arith) (code_binds goal n b)
-        end_binds goal n (unit v) = plain_last goal n (unit v)
-        end_binds goal n (fetch a) = plain_last goal n (fetch a)
-        end_binds goal n (fetch_word a i) = plain_last goal n (fetch_word a i)
-        end_binds goal n (update a v) = plain_last goal n (update a v)
-        end_binds goal n (eval a) = plain_last goal n (eval a)
-        end_binds goal n (apply v a) = plain_last goal n (apply v a)
-        end_binds goal n (call f ws) = plain_last goal n (call f ws)
-        end_binds goal n (prim f a b) = plain_last goal n (prim f a b)
-        end_binds goal n read = plain_last goal n read
-        end_binds goal n (write a) = plain_last goal n (write a)
-        end_binds goal n fail = plain_last goal n fail
+        end_binds goal n (leaf (unit v)) = plain_last goal n (leaf (unit v))
+        end_binds goal n (leaf (fetch a)) = plain_last goal n (leaf (fetch a))
+        end_binds goal n (leaf (fetch_word a i)) = plain_last goal n (leaf (fetch_word a i))
+        end_binds goal n (leaf (update a v)) = plain_last goal n (leaf (update a v))
+        end_binds goal n (leaf (eval a)) = plain_last goal n (leaf (eval a))
+        end_binds goal n (leaf (apply v a)) = plain_last goal n (leaf (apply v a))
+        end_binds goal n (leaf (call f ws)) = plain_last goal n (leaf (call f ws))
+        end_binds goal n (leaf (prim f a b)) = plain_last goal n (leaf (prim f a b))
+        end_binds goal n (leaf read) = plain_last goal n (leaf read)
+        end_binds goal n (leaf (write a)) = plain_last goal n (leaf (write a))
+        end_binds goal n (leaf fail) = plain_last goal n (leaf fail)
 
         pub code_binds : (goal : Goal) (n : ℕ) (b : grin.Code) → BindsAre n (code_numbers width rs goal b) (times x (code_vars b)) (code_words b) (binds (code_code width rs goal n b))
         code_binds goal n (end o) = end_binds goal n o

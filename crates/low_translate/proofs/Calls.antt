@@ -2,7 +2,7 @@
 use Rattle.std.proofs.Common.{◌≡◌, ◌≤◌, ◌<◌, ℕ, suc, ◌+◌, ◌-◌, Bool, true, false, List, [], ◌∷◌, ◌++◌, length, drop, refl, sym, ap, ◌∙◌, subst, arith, length-append}
 use Rattle.grin_syntax.specs.Binders.{target_vars, shape_vars, cell_vars}
 use Rattle.grin_syntax.specs.Tree as grin
-use Rattle.grin_syntax.specs.Tree.{Act, unit, fetch, fetch_word, update, eval, apply, call, prim, read, write, case, nested, fail, end, store, bind, no_arm, arm}
+use Rattle.grin_syntax.specs.Tree.{Act, leaf, unit, fetch, fetch_word, update, eval, apply, call, prim, read, write, case, nested, fail, end, store, bind, no_arm, arm}
 use Rattle.grin_syntax.specs.Formed.{AllOf, Scope, with_word_variables, with_target, params_scope, ActFormed, CodeFormed, ArmsFormed, ProcedureFormed}
 use Rattle.grin_meaning.specs.Slim.{act_calls, code_calls, arms_calls, procs_calls}
 use Rattle.low_code.specs.declared.program.Operand.{Operand}
@@ -54,33 +54,33 @@ module _ (procs : ℕ) where
   same n k c xs ys e h = subst (CallsAre n (0 + k) (0 + c)) (sym e) (calls_as (n + 0) n k (0 + k) c (0 + c) ys (omega arith) (omega arith) (omega arith) h)
 
   abbrev pub plain_calls : Act → ℕ
-  plain_calls (call f ws) = 1
+  plain_calls (leaf (call f ws)) = 1
   plain_calls _ = 0
 
   module _ (width : ℕ) (rs : List ℕ) where
     -- the procedure that an operation calls is there
     abbrev pub Calls : Act → Type 0
-    Calls (call f ws) = f.0 < procs
+    Calls (leaf (call f ws)) = f.0 < procs
     Calls _ = Unit {0}
 
     plain_calls_are : (xs : List ℕ) (n k d : ℕ) (o : Act) (c : low.Code) → Calls o → CallsAre (n + plain_numbers width rs (length xs) o) k d (calls_in c)
         → CallsAre n (plain_numbers width rs (length xs) o + k) (plain_calls o + d) (calls_in (plain_code width rs xs n o c))
-    plain_calls_are xs n k d (unit v) c f h = same n k d _ _ (sets_calls xs (operands_of v) c) h
-    plain_calls_are xs n k d (fetch a) c f h = same n k d _ _ (loads_calls width xs (operand_of a) 0 c) h
-    plain_calls_are xs n k d (fetch_word a i) c f h = same n k d _ _ (first_calls xs (λ x. load_word width x (operand_of a) i) c (λ x b. word_calls width x (operand_of a) i b)) h
-    plain_calls_are xs n k d (update a v) c f h = same n k d _ _ (saves_calls (operand_of a) 0 (padded_to_width width (operands_of v)) (set_all xs [] c) ∙ sets_calls xs [] c) h
-    plain_calls_are xs n k d (call f ws) c lt h =
+    plain_calls_are xs n k d (leaf (unit v)) c f h = same n k d _ _ (sets_calls xs (operands_of v) c) h
+    plain_calls_are xs n k d (leaf (fetch a)) c f h = same n k d _ _ (loads_calls width xs (operand_of a) 0 c) h
+    plain_calls_are xs n k d (leaf (fetch_word a i)) c f h = same n k d _ _ (first_calls xs (λ x. load_word width x (operand_of a) i) c (λ x b. word_calls width x (operand_of a) i b)) h
+    plain_calls_are xs n k d (leaf (update a v)) c f h = same n k d _ _ (saves_calls (operand_of a) 0 (padded_to_width width (operands_of v)) (set_all xs [] c) ∙ sets_calls xs [] c) h
+    plain_calls_are xs n k d (leaf (call f ws)) c lt h =
         let r : ℕ = results_of rs f.0 in
         subst (λ l. CallsAre n ((1 + (r - length xs)) + k) (1 + d) ((n, f.0) ∷ l)) (sym (sets_calls (drop r xs) [] c))
         (calls_both n (1 + (r - length xs)) k 1 d ((n, f.0) ∷ []) (calls_in c) (calls_one n (r - length xs) f.0 lt) h)
-    plain_calls_are xs n k d (prim f a b) c t h = same n k d _ _ (first_calls xs (λ x. low.prim (operation_of f) x (operand_of a) (operand_of b)) c (λ x e. refl)) h
-    plain_calls_are xs n k d read c f h = same n k d _ _ (first_calls xs (λ x. low.get x) c (λ x e. refl)) h
-    plain_calls_are xs n k d (write a) c f h = same n k d _ _ (sets_calls xs [] c) h
-    plain_calls_are xs n k d (eval a) c f h = same n k d _ _ refl h
-    plain_calls_are xs n k d (apply v a) c f h = same n k d _ _ refl h
+    plain_calls_are xs n k d (leaf (prim f a b)) c t h = same n k d _ _ (first_calls xs (λ x. low.prim (operation_of f) x (operand_of a) (operand_of b)) c (λ x e. refl)) h
+    plain_calls_are xs n k d (leaf read) c f h = same n k d _ _ (first_calls xs (λ x. low.get x) c (λ x e. refl)) h
+    plain_calls_are xs n k d (leaf (write a)) c f h = same n k d _ _ (sets_calls xs [] c) h
+    plain_calls_are xs n k d (leaf (eval a)) c f h = same n k d _ _ refl h
+    plain_calls_are xs n k d (leaf (apply v a)) c f h = same n k d _ _ refl h
     plain_calls_are xs n k d (case v as') c f h = same n k d _ _ refl h
     plain_calls_are xs n k d (nested b) c f h = same n k d _ _ refl h
-    plain_calls_are xs n k d fail c f h = same n k d _ _ refl h
+    plain_calls_are xs n k d (leaf fail) c f h = same n k d _ _ refl h
 
     through_calls : (goal : Goal) (n : ℕ) (o : Act) → Calls o → CallsAre n (through_numbers width rs goal o) (plain_calls o) (calls_in (through width rs goal n o))
     through_calls goal n o f =
@@ -92,21 +92,21 @@ module _ (procs : ℕ) where
         (calls_both n e (plain_numbers width rs e o) 0 (plain_calls o) [] _ (calls_none n e) (calls_as (n + e) (n + e) _ (plain_numbers width rs e o) _ (plain_calls o) _ refl more (omega arith) body))
 
     plain_end_calls : (goal : Goal) (n : ℕ) (o : Act) → Calls o → CallsAre n (plain_end_numbers width rs goal o) (plain_calls o) (calls_in (plain_end width rs goal n o))
-    plain_end_calls goal n (unit v) h = calls_none n 0
-    plain_end_calls goal n fail h = calls_none n 0
-    plain_end_calls goal n (eval w) h = calls_none n 0
-    plain_end_calls goal n (apply v w) h = calls_none n 0
-    plain_end_calls goal n (call f ws) h = by goal.leaves
+    plain_end_calls goal n (leaf (unit v)) h = calls_none n 0
+    plain_end_calls goal n (leaf fail) h = calls_none n 0
+    plain_end_calls goal n (leaf (eval w)) h = calls_none n 0
+    plain_end_calls goal n (leaf (apply v w)) h = calls_none n 0
+    plain_end_calls goal n (leaf (call f ws)) h = by goal.leaves
       where
-        by : (b : Bool) → CallsAre n (elim b [ true ↦ 1 | false ↦ through_numbers width rs goal (call f ws) ]) 1 (calls_in (elim b [ true ↦ low.tail f.0 n (operands_of_words ws) | false ↦ through width rs goal n (call f ws) ]))
+        by : (b : Bool) → CallsAre n (elim b [ true ↦ 1 | false ↦ through_numbers width rs goal (leaf (call f ws)) ]) 1 (calls_in (elim b [ true ↦ low.tail f.0 n (operands_of_words ws) | false ↦ through width rs goal n (leaf (call f ws)) ]))
         by true = calls_one n 0 f.0 h
-        by false = through_calls goal n (call f ws) h
-    plain_end_calls goal n (fetch a) h = through_calls goal n (fetch a) h
-    plain_end_calls goal n (fetch_word a i) h = through_calls goal n (fetch_word a i) h
-    plain_end_calls goal n (update a v) h = through_calls goal n (update a v) h
-    plain_end_calls goal n (prim f a b) h = through_calls goal n (prim f a b) h
-    plain_end_calls goal n read h = through_calls goal n read h
-    plain_end_calls goal n (write a) h = through_calls goal n (write a) h
+        by false = through_calls goal n (leaf (call f ws)) h
+    plain_end_calls goal n (leaf (fetch a)) h = through_calls goal n (leaf (fetch a)) h
+    plain_end_calls goal n (leaf (fetch_word a i)) h = through_calls goal n (leaf (fetch_word a i)) h
+    plain_end_calls goal n (leaf (update a v)) h = through_calls goal n (leaf (update a v)) h
+    plain_end_calls goal n (leaf (prim f a b)) h = through_calls goal n (leaf (prim f a b)) h
+    plain_end_calls goal n (leaf read) h = through_calls goal n (leaf read) h
+    plain_end_calls goal n (leaf (write a)) h = through_calls goal n (leaf (write a)) h
     plain_end_calls goal n (case v as') h = through_calls goal n (case v as') h
     plain_end_calls goal n (nested b) h = through_calls goal n (nested b) h
 
@@ -121,32 +121,32 @@ module _ (g : grin.Program) (width : ℕ) (rs : List ℕ) where
         → CallsAre procs n (act_numbers width rs (length xs) o + k) (act_calls o + d) (calls_in (act_code width rs xs n o c))
     act_calls_are scope xs n k d (case v as') c h f = calls_both procs n (arms_numbers width rs (to_join xs) as') k (arms_calls as') d _ (calls_in c) (arms_calls_are scope (to_join xs) n (operands_of v) as' h.1) f
     act_calls_are scope xs n k d (nested b) c h f = calls_both procs n (code_numbers width rs (to_join xs) b) k (code_calls b) d _ (calls_in c) (code_calls_are scope (to_join xs) n b h) f
-    act_calls_are scope xs n k d (unit v) c h f = plain_calls_are procs width rs xs n k d (unit v) c tt f
-    act_calls_are scope xs n k d (fetch a) c h f = plain_calls_are procs width rs xs n k d (fetch a) c tt f
-    act_calls_are scope xs n k d (fetch_word a i) c h f = plain_calls_are procs width rs xs n k d (fetch_word a i) c tt f
-    act_calls_are scope xs n k d (update a v) c h f = plain_calls_are procs width rs xs n k d (update a v) c tt f
-    act_calls_are scope xs n k d (eval a) c h f = plain_calls_are procs width rs xs n k d (eval a) c tt f
-    act_calls_are scope xs n k d (apply v a) c h f = plain_calls_are procs width rs xs n k d (apply v a) c tt f
-    act_calls_are scope xs n k d (call p ws) c h f = plain_calls_are procs width rs xs n k d (call p ws) c h.0 f
-    act_calls_are scope xs n k d (prim p a b) c h f = plain_calls_are procs width rs xs n k d (prim p a b) c tt f
-    act_calls_are scope xs n k d read c h f = plain_calls_are procs width rs xs n k d read c tt f
-    act_calls_are scope xs n k d (write a) c h f = plain_calls_are procs width rs xs n k d (write a) c tt f
-    act_calls_are scope xs n k d fail c h f = plain_calls_are procs width rs xs n k d fail c tt f
+    act_calls_are scope xs n k d (leaf (unit v)) c h f = plain_calls_are procs width rs xs n k d (leaf (unit v)) c tt f
+    act_calls_are scope xs n k d (leaf (fetch a)) c h f = plain_calls_are procs width rs xs n k d (leaf (fetch a)) c tt f
+    act_calls_are scope xs n k d (leaf (fetch_word a i)) c h f = plain_calls_are procs width rs xs n k d (leaf (fetch_word a i)) c tt f
+    act_calls_are scope xs n k d (leaf (update a v)) c h f = plain_calls_are procs width rs xs n k d (leaf (update a v)) c tt f
+    act_calls_are scope xs n k d (leaf (eval a)) c h f = plain_calls_are procs width rs xs n k d (leaf (eval a)) c tt f
+    act_calls_are scope xs n k d (leaf (apply v a)) c h f = plain_calls_are procs width rs xs n k d (leaf (apply v a)) c tt f
+    act_calls_are scope xs n k d (leaf (call p ws)) c h f = plain_calls_are procs width rs xs n k d (leaf (call p ws)) c h.0 f
+    act_calls_are scope xs n k d (leaf (prim p a b)) c h f = plain_calls_are procs width rs xs n k d (leaf (prim p a b)) c tt f
+    act_calls_are scope xs n k d (leaf read) c h f = plain_calls_are procs width rs xs n k d (leaf read) c tt f
+    act_calls_are scope xs n k d (leaf (write a)) c h f = plain_calls_are procs width rs xs n k d (leaf (write a)) c tt f
+    act_calls_are scope xs n k d (leaf fail) c h f = plain_calls_are procs width rs xs n k d (leaf fail) c tt f
 
     end_calls_are : (scope : Scope) (goal : Goal) (n : ℕ) (o : Act) → ActFormed g scope o → CallsAre procs n (end_numbers width rs goal o) (act_calls o) (calls_in (end_code width rs goal n o))
     end_calls_are scope goal n (case v as') h = arms_calls_are scope goal n (operands_of v) as' h.1
     end_calls_are scope goal n (nested b) h = code_calls_are scope goal n b h
-    end_calls_are scope goal n (unit v) h = plain_end_calls procs width rs goal n (unit v) tt
-    end_calls_are scope goal n (fetch a) h = plain_end_calls procs width rs goal n (fetch a) tt
-    end_calls_are scope goal n (fetch_word a i) h = plain_end_calls procs width rs goal n (fetch_word a i) tt
-    end_calls_are scope goal n (update a v) h = plain_end_calls procs width rs goal n (update a v) tt
-    end_calls_are scope goal n (eval a) h = plain_end_calls procs width rs goal n (eval a) tt
-    end_calls_are scope goal n (apply v a) h = plain_end_calls procs width rs goal n (apply v a) tt
-    end_calls_are scope goal n (call p ws) h = plain_end_calls procs width rs goal n (call p ws) h.0
-    end_calls_are scope goal n (prim p a b) h = plain_end_calls procs width rs goal n (prim p a b) tt
-    end_calls_are scope goal n read h = plain_end_calls procs width rs goal n read tt
-    end_calls_are scope goal n (write a) h = plain_end_calls procs width rs goal n (write a) tt
-    end_calls_are scope goal n fail h = plain_end_calls procs width rs goal n fail tt
+    end_calls_are scope goal n (leaf (unit v)) h = plain_end_calls procs width rs goal n (leaf (unit v)) tt
+    end_calls_are scope goal n (leaf (fetch a)) h = plain_end_calls procs width rs goal n (leaf (fetch a)) tt
+    end_calls_are scope goal n (leaf (fetch_word a i)) h = plain_end_calls procs width rs goal n (leaf (fetch_word a i)) tt
+    end_calls_are scope goal n (leaf (update a v)) h = plain_end_calls procs width rs goal n (leaf (update a v)) tt
+    end_calls_are scope goal n (leaf (eval a)) h = plain_end_calls procs width rs goal n (leaf (eval a)) tt
+    end_calls_are scope goal n (leaf (apply v a)) h = plain_end_calls procs width rs goal n (leaf (apply v a)) tt
+    end_calls_are scope goal n (leaf (call p ws)) h = plain_end_calls procs width rs goal n (leaf (call p ws)) h.0
+    end_calls_are scope goal n (leaf (prim p a b)) h = plain_end_calls procs width rs goal n (leaf (prim p a b)) tt
+    end_calls_are scope goal n (leaf read) h = plain_end_calls procs width rs goal n (leaf read) tt
+    end_calls_are scope goal n (leaf (write a)) h = plain_end_calls procs width rs goal n (leaf (write a)) tt
+    end_calls_are scope goal n (leaf fail) h = plain_end_calls procs width rs goal n (leaf fail) tt
 
     pub code_calls_are : (scope : Scope) (goal : Goal) (n : ℕ) (b : grin.Code) → CodeFormed g scope b → CallsAre procs n (code_numbers width rs goal b) (code_calls b) (calls_in (code_code width rs goal n b))
     code_calls_are scope goal n (end o) h = end_calls_are scope goal n o h

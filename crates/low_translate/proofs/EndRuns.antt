@@ -6,7 +6,7 @@ use Rattle.grin_syntax.specs.declared.program.Word as W
 use Rattle.grin_syntax.specs.declared.program.Val as V
 use Rattle.grin_syntax.specs.Formed.{AllOf}
 use Rattle.grin_syntax.specs.Tree as grin_tree
-use Rattle.grin_syntax.specs.Tree.{Act, unit, fetch, fetch_word, update, eval, apply, call, prim, read, write, case, nested, fail}
+use Rattle.grin_syntax.specs.Tree.{Act, leaf, unit, fetch, fetch_word, update, eval, apply, call, prim, read, write, case, nested, fail}
 use Rattle.grin_meaning.specs.Values as grin
 use Rattle.grin_meaning.specs.Values.{Datum, Node, Value, node, words_of, value_of}
 use Rattle.grin_meaning.specs.Run as grin_run
@@ -31,25 +31,25 @@ use Rattle.low_translate.proofs.Matches.{free, Match, missed, fails, ran_out, gi
 use Rattle.low_translate.proofs.PlainRuns as plain
 use Rattle.seq.specs.Lists.{numbers_from, times}
 use Rattle.seq.proofs.Counted.{length_numbers}
-use Rattle.grin_meaning.proofs.Plain.{IsLeaf}
+use Rattle.low_translate.proofs.Leaves.{IsLeaf}
 
 -- goes through variables of its own
 abbrev pub IsThrough : Act → Type 0
-IsThrough (unit v) = ⊥
-IsThrough (eval a) = ⊥
-IsThrough (apply v a) = ⊥
+IsThrough (leaf (unit v)) = ⊥
+IsThrough (leaf (eval a)) = ⊥
+IsThrough (leaf (apply v a)) = ⊥
 IsThrough (case v as') = ⊥
 IsThrough (nested b) = ⊥
-IsThrough fail = ⊥
+IsThrough (leaf fail) = ⊥
 IsThrough _ = Unit {0}
 
 through_plain : (o : Act) → IsThrough o → IsLeaf o
-through_plain (unit v) h = absurd h
-through_plain (eval a) h = absurd h
-through_plain (apply v a) h = absurd h
+through_plain (leaf (unit v)) h = absurd h
+through_plain (leaf (eval a)) h = absurd h
+through_plain (leaf (apply v a)) h = absurd h
 through_plain (case v as') h = absurd h
 through_plain (nested b) h = absurd h
-through_plain fail h = absurd h
+through_plain (leaf fail) h = absurd h
 through_plain _ h = tt
 
 then_gives : (a : grin.Answer) → grin.then_do a (λ v w. grin.gives v w) ≡ a
@@ -83,18 +83,18 @@ module _ (g : grin_tree.Program) (p : low_tree.Program) (fw : ℕ → ℕ) (most
 
   -- of a fetch
   abbrev OnFetch : Act → Type 0 → Type 0
-  OnFetch (fetch a) T = T
+  OnFetch (leaf (fetch a)) T = T
   OnFetch _ T = Unit {0}
 
   -- an operation gives few words, if they fit
   few_words : (k : ℕ) (o : Act) (v : Value) → IsThrough o → Wide o v → SoundValue g v → OnFetch o ((n : Node) → v ≡ node n → length (words_of_value v) ≤ k) → length (words_of_value v) ≤ end_words (written_width g) rs k o
-  few_words k (unit u) v th wd sv f = absurd th
-  few_words k (eval a) v th wd sv f = absurd th
-  few_words k (apply u a) v th wd sv f = absurd th
+  few_words k (leaf (unit u)) v th wd sv f = absurd th
+  few_words k (leaf (eval a)) v th wd sv f = absurd th
+  few_words k (leaf (apply u a)) v th wd sv f = absurd th
   few_words k (case u as') v th wd sv f = absurd th
   few_words k (nested b) v th wd sv f = absurd th
-  few_words k fail v th wd sv f = absurd th
-  few_words k (fetch a) v th wd sv f =
+  few_words k (leaf fail) v th wd sv f = absurd th
+  few_words k (leaf (fetch a)) v th wd sv f =
       let le = f wd.0 wd.1 in
       let s : length (words_of_value v) ≡ length (words_of_value (node wd.0)) = ap (λ x. length (words_of_value x)) wd.1 in
       let n = wd.2 in
@@ -104,7 +104,7 @@ module _ (g : grin_tree.Program) (p : low_tree.Program) (fw : ℕ → ℕ) (most
   module _ (P : Value → Type 0) (goal : Goal) (d : ℕ) (s : Standing g rs (written_width g) most P goal d top under) (n : ℕ) (n_first : first ≤ n) where
     fetch_fits : (o : Act) (v : Value) → P v → SoundValue g v → Giving g rs (written_width g) most goal (Gives g rs (written_width g) most o) → OnFetch o ((m : Node) → v ≡ node m → length (words_of_value v) ≤ goal.words)
     unfolding ActGives
-    fetch_fits (fetch a) v pv sv gives = λ m e. subst (λ x. length (words_of_value x) ≤ goal.words) (sym e) (node_fits_goal g rs (written_width g) most P goal d top under s m (subst (SoundValue g) e sv) gives (subst P e pv))
+    fetch_fits (leaf (fetch a)) v pv sv gives = λ m e. subst (λ x. length (words_of_value x) ≤ goal.words) (sym e) (node_fits_goal g rs (written_width g) most P goal d top under s m (subst (SoundValue g) e sv) gives (subst P e pv))
     fetch_fits _ v pv sv gives = tt
 
     module _ (scope : List ℕ) (below : (x : ℕ) → 0 < times x scope → x < first) (env : grin.Env) (e : low.Env) (w : grin.World) (frames : ℕ) (h : At scope env e w frames) where
@@ -136,12 +136,12 @@ module _ (g : grin_tree.Program) (p : low_tree.Program) (fw : ℕ → ℕ) (most
           skip : plain.Skipping g p fw most rs first same_globals width wide gcalls lcalls calls_match top under P goal.words xs o (λ v w. grin.gives v w)
           skip v w' sv sw wd lt a = given sv sw (λ pv. absurd (let m = length_numbers n ew in let f = few_words goal.words o v th wd sv (fetch_fits o v pv sv gives) in omega (arith, lt, m, f)))
 
-      unit_ends : (v : V.Val) → NoNodeVar v → ValRanged v → Giving g rs (written_width g) most goal (Gives g rs (written_width g) most (unit v)) → Matches P goal.words (act_by g gcalls true env d (unit v) w) (does e (plain_end (written_width g) rs goal n (unit v)) (world_image width frames w))
+      unit_ends : (v : V.Val) → NoNodeVar v → ValRanged v → Giving g rs (written_width g) most goal (Gives g rs (written_width g) most (leaf (unit v))) → Matches P goal.words (act_by g gcalls true env d (leaf (unit v)) w) (does e (plain_end (written_width g) rs goal n (leaf (unit v))) (world_image width frames w))
       unfolding act_by ActGives
       unit_ends v nn r gives = by (value_of g env v) refl
         where
           low_answer : low.Answer
-          low_answer = does e (plain_end (written_width g) rs goal n (unit v)) (world_image width frames w)
+          low_answer = does e (plain_end (written_width g) rs goal n (leaf (unit v))) (world_image width frames w)
 
           by : (o : Option Value) → value_of g env v ≡ o → Matches P goal.words (grin.need o w (λ x. require_if_checked true (fills g env v) w (grin.gives x w))) low_answer
           by None q = missed
@@ -158,7 +158,7 @@ module _ (g : grin_tree.Program) (p : low_tree.Program) (fw : ℕ → ℕ) (most
                     is = give_is e _ _ (world_image width frames w) (fitted_are g p fw same_globals goal.words e (operands_of v) _ u.words.are);
                   })
 
-      tail_ends : (f : ProcId) (ws : List W.Word) → AllOf WordRanged ws → goal.leaves ≡ true → results_of rs f.0 ≡ goal.words → Matches P goal.words (act_by g gcalls true env d (call f ws) w) (does e (low_tree.tail f.0 n (operands_of_words ws)) (world_image width frames w))
+      tail_ends : (f : ProcId) (ws : List W.Word) → AllOf WordRanged ws → goal.leaves ≡ true → results_of rs f.0 ≡ goal.words → Matches P goal.words (act_by g gcalls true env d (leaf (call f ws)) w) (does e (low_tree.tail f.0 n (operands_of_words ws)) (world_image width frames w))
       unfolding act_by code
       tail_ends f ws r lv same = by (words_of g env ws) refl
         where
@@ -173,32 +173,32 @@ module _ (g : grin_tree.Program) (p : low_tree.Program) (fw : ℕ → ℕ) (most
               (any_match P goal.words _ _ (subst (λ k. Matches (λ v. Unit {0}) k (gcalls f.0 ds d w) (lcalls f.0 (images ds) b.0 (world_image width frames w))) same
               (calls_match f.0 ds d w b.0 frames u.ranged h.sound b.2 h.within)))
 
-      call_ends : (f : ProcId) (ws : List W.Word) → EachAct inlined_kind (call f ws) → EachAct vectorised_kind (call f ws) → AllOf WordRanged ws → act_writes g.tags (call f ws) ≤ procs_write g.tags g.procs → Giving g rs (written_width g) most goal (Gives g rs (written_width g) most (call f ws))
-          → Matches P goal.words (act_by g gcalls true env d (call f ws) w) (does e (plain_end (written_width g) rs goal n (call f ws)) (world_image width frames w))
+      call_ends : (f : ProcId) (ws : List W.Word) → EachAct inlined_kind (leaf (call f ws)) → EachAct vectorised_kind (leaf (call f ws)) → AllOf WordRanged ws → act_writes g.tags (leaf (call f ws)) ≤ procs_write g.tags g.procs → Giving g rs (written_width g) most goal (Gives g rs (written_width g) most (leaf (call f ws)))
+          → Matches P goal.words (act_by g gcalls true env d (leaf (call f ws)) w) (does e (plain_end (written_width g) rs goal n (leaf (call f ws))) (world_image width frames w))
       unfolding ActGives
       call_ends f ws inl' vec r few gives = by goal.leaves refl
         where
-          by : (b : Bool) → goal.leaves ≡ b → Matches P goal.words (act_by g gcalls true env d (call f ws) w) (does e (elim b [ true ↦ low_tree.tail f.0 n (operands_of_words ws) | false ↦ through (written_width g) rs goal n (call f ws) ]) (world_image width frames w))
+          by : (b : Bool) → goal.leaves ≡ b → Matches P goal.words (act_by g gcalls true env d (leaf (call f ws)) w) (does e (elim b [ true ↦ low_tree.tail f.0 n (operands_of_words ws) | false ↦ through (written_width g) rs goal n (leaf (call f ws)) ]) (world_image width frames w))
           by true q = tail_ends f ws r q (gives q)
-          by false q = through_runs (call f ws) tt inl' vec r few (s.inside q) gives
+          by false q = through_runs (leaf (call f ws)) tt inl' vec r few (s.inside q) gives
 
-      fail_ends : Matches P goal.words (act_by g gcalls true env d fail w) (does e low_tree.fail (world_image width frames w))
+      fail_ends : Matches P goal.words (act_by g gcalls true env d (leaf fail) w) (does e low_tree.fail (world_image width frames w))
       unfolding act_by code
       fail_ends = fails h.within
 
       pub end_runs : (o : Act) → IsLeaf o → EachAct inlined_kind o → EachAct vectorised_kind o → PlainRanged o → act_writes g.tags o ≤ procs_write g.tags g.procs → Giving g rs (written_width g) most goal (Gives g rs (written_width g) most o)
           → Matches P goal.words (act_by g gcalls true env d o w) (does e (plain_end (written_width g) rs goal n o) (world_image width frames w))
       unfolding EachAct
-      end_runs (unit v) pl inl' vec r few gives = unit_ends v vec.1 r gives
-      end_runs (fetch a) pl inl' vec r few gives = through_runs (fetch a) tt inl' vec r few tt gives
-      end_runs (fetch_word a i) pl inl' vec r few gives = through_runs (fetch_word a i) tt inl' vec r few tt gives
-      end_runs (update a v) pl inl' vec r few gives = through_runs (update a v) tt inl' vec r few tt gives
-      end_runs (eval a) pl inl' vec r few gives = absurd inl'
-      end_runs (apply v a) pl inl' vec r few gives = absurd inl'.0
-      end_runs (call f ws) pl inl' vec r few gives = call_ends f ws inl' vec r few gives
-      end_runs (prim f a b) pl inl' vec r few gives = through_runs (prim f a b) tt inl' vec r few tt gives
-      end_runs read pl inl' vec r few gives = through_runs read tt inl' vec r few tt gives
-      end_runs (write a) pl inl' vec r few gives = through_runs (write a) tt inl' vec r few tt gives
+      end_runs (leaf (unit v)) pl inl' vec r few gives = unit_ends v vec.1 r gives
+      end_runs (leaf (fetch a)) pl inl' vec r few gives = through_runs (leaf (fetch a)) tt inl' vec r few tt gives
+      end_runs (leaf (fetch_word a i)) pl inl' vec r few gives = through_runs (leaf (fetch_word a i)) tt inl' vec r few tt gives
+      end_runs (leaf (update a v)) pl inl' vec r few gives = through_runs (leaf (update a v)) tt inl' vec r few tt gives
+      end_runs (leaf (eval a)) pl inl' vec r few gives = absurd inl'
+      end_runs (leaf (apply v a)) pl inl' vec r few gives = absurd inl'.0
+      end_runs (leaf (call f ws)) pl inl' vec r few gives = call_ends f ws inl' vec r few gives
+      end_runs (leaf (prim f a b)) pl inl' vec r few gives = through_runs (leaf (prim f a b)) tt inl' vec r few tt gives
+      end_runs (leaf read) pl inl' vec r few gives = through_runs (leaf read) tt inl' vec r few tt gives
+      end_runs (leaf (write a)) pl inl' vec r few gives = through_runs (leaf (write a)) tt inl' vec r few tt gives
       end_runs (case v as') pl inl' vec r few gives = absurd pl
       end_runs (nested b) pl inl' vec r few gives = absurd pl
-      end_runs fail pl inl' vec r few gives = fail_ends
+      end_runs (leaf fail) pl inl' vec r few gives = fail_ends

@@ -4,7 +4,7 @@ use Rattle.std.proofs.Common.{ℕ, ◌+◌, List, [], ◌∷◌, map, length, su
 use Rattle.std.proofs.lemmas.List.{length-map}
 use Rattle.grin_syntax.specs.declared.program.Grin.{Grin}
 use Rattle.grin_syntax.specs.Binders.{shape_vars, cell_vars}
-use Rattle.grin_syntax.specs.Tree.{Code, end, store, bind, Act, unit, fetch, fetch_word, update, eval, apply, call, prim, read, write, case, nested, fail, Arms, no_arm, arm, Procedure, Program, procedure_of, program_of}
+use Rattle.grin_syntax.specs.Tree.{Code, end, store, bind, Act, leaf, unit, fetch, fetch_word, update, eval, apply, call, prim, read, write, case, nested, fail, Arms, no_arm, arm, Procedure, Program, procedure_of, program_of}
 use Rattle.grin_syntax.specs.Formed.{AllOf, Scope, with_word_variables, with_target, params_scope, ActFormed, CodeFormed, ArmsFormed, ProcedureFormed, Formed}
 use Rattle.grin_meaning.specs.Ready.{Ready, NarrowAct, NarrowCode, NarrowArms, most_value_fields}
 use Rattle.low_translate.specs.Lowered.{ActEnds, CodeEnds, ArmsEnd}
@@ -14,19 +14,19 @@ module _ (g : Program) (node most : ℕ) where
     unfolding ActFormed NarrowAct ActEnds
 
     act_ends : (scope : Scope) (o : Act) → ActFormed g scope o → NarrowAct node most o → ActEnds (length g.procs) node most o
-    act_ends scope (unit v) h k = k
-    act_ends scope (fetch w) h k = k
-    act_ends scope (fetch_word w i) h k = tt
-    act_ends scope (update w v) h k = tt
-    act_ends scope (eval w) h k = tt
-    act_ends scope (apply v w) h k = tt
-    act_ends scope (call f ws) h k = h.0
-    act_ends scope (prim o a b) h k = tt
-    act_ends scope read h k = tt
-    act_ends scope (write w) h k = tt
+    act_ends scope (leaf (unit v)) h k = k
+    act_ends scope (leaf (fetch w)) h k = k
+    act_ends scope (leaf (fetch_word w i)) h k = tt
+    act_ends scope (leaf (update w v)) h k = tt
+    act_ends scope (leaf (eval w)) h k = tt
+    act_ends scope (leaf (apply v w)) h k = tt
+    act_ends scope (leaf (call f ws)) h k = h.0
+    act_ends scope (leaf (prim o a b)) h k = tt
+    act_ends scope (leaf read) h k = tt
+    act_ends scope (leaf (write w)) h k = tt
     act_ends scope (case v as') h k = arms_end scope as' h.1 k
     act_ends scope (nested b) h k = code_ends scope b h k
-    act_ends scope fail h k = tt
+    act_ends scope (leaf fail) h k = tt
 
     code_ends : (scope : Scope) (b : Code) → CodeFormed g scope b → NarrowCode node most b → CodeEnds (length g.procs) node most b
     code_ends scope (end o) h k = act_ends scope o h k

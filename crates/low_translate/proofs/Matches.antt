@@ -6,7 +6,7 @@ use Rattle.grin_syntax.specs.declared.program.Word as W
 use Rattle.grin_syntax.specs.declared.program.Val as V
 use Rattle.grin_syntax.specs.Formed.{AllOf}
 use Rattle.grin_syntax.specs.Tree as grin_tree
-use Rattle.grin_syntax.specs.Tree.{Act, unit, fetch, update, write}
+use Rattle.grin_syntax.specs.Tree.{Act, leaf, unit, fetch, update, write}
 use Rattle.grin_meaning.specs.Values as grin
 use Rattle.grin_meaning.specs.Values.{Datum, number, tag, cell, Node, Value, node, words, HeapCell, word_of, value_of, node_of}
 use Rattle.grin_meaning.specs.Run as grin_run
@@ -83,8 +83,8 @@ module _ (g : grin_tree.Program) (p : low_tree.Program) (fw : ℕ → ℕ) (most
 
     -- what is known of a value by the operation without blocks that gives it: a fetch gives a node, and others few words
     abbrev pub Wide : Act → Value → Type 0
-    Wide (unit x) v = Unit {0}
-    Wide (fetch a) v = (m : Node) × (v ≡ node m) × (1 + length m.fields ≤ written_width g)
+    Wide (leaf (unit x)) v = Unit {0}
+    Wide (leaf (fetch a)) v = (m : Node) × (v ≡ node m) × (1 + length m.fields ≤ written_width g)
     Wide o v = length (words_of_value v) ≤ end_words (written_width g) rs 0 o
 
     -- where a value has more words than there are variables
@@ -106,7 +106,7 @@ module _ (g : grin_tree.Program) (p : low_tree.Program) (fw : ℕ → ℕ) (most
       ]
 
       module _ (scope : List ℕ) (env : grin.Env) (w : grin.World) (frames d : ℕ) (apart : (x : ℕ) → 0 < times x scope → times x xs ≡ 0) (h : Here scope env e w frames) where
-        pub unit_runs : (v : V.Val) → NoNodeVar v → ValRanged v → Goes P k n xs e c goes → Skips P k xs (unit v) goes → Match P k (grin.then_do (act_by g gcalls true env d (unit v) w) goes) (does e (set_all xs (operands_of v) c) (world_image width frames w))
+        pub unit_runs : (v : V.Val) → NoNodeVar v → ValRanged v → Goes P k n xs e c goes → Skips P k xs (leaf (unit v)) goes → Match P k (grin.then_do (act_by g gcalls true env d (leaf (unit v)) w) goes) (does e (set_all xs (operands_of v) c) (world_image width frames w))
         unfolding act_by
         unit_runs v nn r go skip = by (value_of g env v) refl
           where
@@ -119,7 +119,7 @@ module _ (g : grin_tree.Program) (p : low_tree.Program) (fw : ℕ → ℕ) (most
                 looks true =
                     let u = value_is g p fw same_globals first scope env e h.agrees v x q nn r in
                     subst (Match P k (goes x w)) (sym (sets_run p fw free lcalls top under xs (operands_of v) (images (words_of_value x)) e c (world_image width frames w) u.words.are (u.words.avoid xs apart)))
-                    (finish (unit v) go skip x w frames u.sound h.sound tt h.within)
+                    (finish (leaf (unit v)) go skip x w frames u.sound h.sound tt h.within)
 
         -- the place that a word stands for
         pub place_is : (a : W.Word) (i : ℕ) → grin.and_then (word_of g env a) place_of ≡ Some i → WordRanged a → Word' g p fw same_globals scope e (operand_of a) (cell i)
@@ -131,7 +131,7 @@ module _ (g : grin_tree.Program) (p : low_tree.Program) (fw : ℕ → ℕ) (most
             by (Some (tag t)) z m = absurd (none_some m)
             by (Some (cell j)) z m = operand_is g p fw same_globals first scope env e h.agrees a (cell i) (z ∙ ap (λ k. Some (cell k)) (some_same m)) r
 
-        pub fetch_runs : (a : W.Word) → WordRanged a → Goes P k n xs e c goes → Skips P k xs (fetch a) goes → Match P k (grin.then_do (act_by g gcalls true env d (fetch a) w) goes) (does e (load_all (written_width g) xs (operand_of a) 0 c) (world_image width frames w))
+        pub fetch_runs : (a : W.Word) → WordRanged a → Goes P k n xs e c goes → Skips P k xs (leaf (fetch a)) goes → Match P k (grin.then_do (act_by g gcalls true env d (leaf (fetch a)) w) goes) (does e (load_all (written_width g) xs (operand_of a) 0 c) (world_image width frames w))
         unfolding act_by
         fetch_runs a r go skip = by (grin.and_then (word_of g env a) place_of) refl
           where
@@ -145,9 +145,9 @@ module _ (g : grin_tree.Program) (p : low_tree.Program) (fw : ℕ → ℕ) (most
                     let o = place_is a i q r in
                     let s : SoundCell g u.node = all_get (λ x. SoundCell g x.node) w.cells i u h.sound.cells z in
                     subst (Match P k (goes (node u.node) w)) (sym (loads_run p fw free lcalls top under (written_width g) width (omega (arith, wide)) xs (operand_of a) 0 i (images (tag u.node.tag ∷ u.node.fields)) e c (world_image width frames w) o.is (o.avoids xs apart) (map_get (λ x. cell_image width x.node) w.cells i u z) (cell_narrow g u.node s)))
-                    (finish (fetch a) go skip (node u.node) w frames s.sound h.sound (u.node, refl, s.narrow) h.within)
+                    (finish (leaf (fetch a)) go skip (node u.node) w frames s.sound h.sound (u.node, refl, s.narrow) h.within)
 
-        pub write_runs : (a : W.Word) → WordRanged a → Goes P k n xs e c goes → Skips P k xs (write a) goes → Match P k (grin.then_do (act_by g gcalls true env d (write a) w) goes) (does e (low_tree.put (operand_of a) (set_all xs [] c)) (world_image width frames w))
+        pub write_runs : (a : W.Word) → WordRanged a → Goes P k n xs e c goes → Skips P k xs (leaf (write a)) goes → Match P k (grin.then_do (act_by g gcalls true env d (leaf (write a)) w) goes) (does e (low_tree.put (operand_of a) (set_all xs [] c)) (world_image width frames w))
         unfolding act_by code
         write_runs a r go skip = by (grin.and_then (word_of g env a) grin_run.number_of) refl
           where
@@ -166,10 +166,10 @@ module _ (g : grin_tree.Program) (p : low_tree.Program) (fw : ℕ → ℕ) (most
                     ∙ (λ t. does e (set_all xs [] c) (record (world_image width frames w) { out = w.out ++ low_of_pattern j o.ranged t ∷ [] }))
                     ∙ sets_run p fw free lcalls top under xs [] [] e c (world_image width frames (grin_run.written j w)) refl tt in
                     subst (Match P k (goes (words []) (grin_run.written j w))) (sym path)
-                    (finish (write a) go skip (words []) (grin_run.written j w) frames tt (record { cells = h.sound.cells; bytes = h.sound.bytes }) (omega arith) h.within)
+                    (finish (leaf (write a)) go skip (words []) (grin_run.written j w) frames tt (record { cells = h.sound.cells; bytes = h.sound.bytes }) (omega arith) h.within)
 
-        pub update_runs : (a : W.Word) (v : V.Val) → WordRanged a → NoNodeVar v → ValRanged v → fields_in g.tags v ≤ procs_write g.tags g.procs → Goes P k n xs e c goes → Skips P k xs (update a v) goes
-            → Match P k (grin.then_do (act_by g gcalls true env d (update a v) w) goes) (does e (save_all (operand_of a) 0 (padded_to_width (written_width g) (operands_of v)) (set_all xs [] c)) (world_image width frames w))
+        pub update_runs : (a : W.Word) (v : V.Val) → WordRanged a → NoNodeVar v → ValRanged v → fields_in g.tags v ≤ procs_write g.tags g.procs → Goes P k n xs e c goes → Skips P k xs (leaf (update a v)) goes
+            → Match P k (grin.then_do (act_by g gcalls true env d (leaf (update a v)) w) goes) (does e (save_all (operand_of a) 0 (padded_to_width (written_width g) (operands_of v)) (set_all xs [] c)) (world_image width frames w))
         unfolding act_by
         update_runs a v ra nn r few go skip = by (grin.and_then (word_of g env a) place_of) refl
           where
@@ -202,4 +202,4 @@ module _ (g : grin_tree.Program) (p : low_tree.Program) (fw : ℕ → ℕ) (most
                             ∙ (λ t. does e (set_all xs [] c) (record (world_image width frames w) { cells = sym (map_set (λ x. cell_image width x.node) w.cells i (record { site = u.site; node = m })) t }))
                             ∙ sets_run p fw free lcalls top under xs [] [] e c (world_image width frames next) refl tt in
                             subst (Match P k (goes (words []) next)) (sym path)
-                            (finish (update a v) go skip (words []) next frames tt (record { cells = all_set (λ x. SoundCell g x.node) w.cells i _ h.sound.cells run.1; bytes = h.sound.bytes }) (omega arith) h.within)
+                            (finish (leaf (update a v)) go skip (words []) next frames tt (record { cells = all_set (λ x. SoundCell g x.node) w.cells i _ h.sound.cells run.1; bytes = h.sound.bytes }) (omega arith) h.within)

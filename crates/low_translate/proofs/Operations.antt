@@ -20,7 +20,7 @@ use Rattle.grin_syntax.specs.declared.program.Stmt.TheVariants as stmt
 use Rattle.grin_syntax.specs.Binders.{numbers_of, target_vars, cell_vars}
 use Rattle.grin_syntax.specs.Formed.{AllOf}
 use Rattle.grin_syntax.specs.Tree as grin
-use Rattle.grin_syntax.specs.Tree.{Act, call, case, nested, fail, act_of, before_of, code_of, all_before}
+use Rattle.grin_syntax.specs.Tree.{Act, leaf, call, case, nested, fail, act_of, before_of, code_of, all_before}
 use Rattle.grin_syntax.proofs.TreeOf as grin_tree
 use Rattle.low_code.specs.declared.program.LowStmt.{LowStmt}
 use Rattle.low_code.specs.declared.program.LowStmt.TheVariants as low_stmt
@@ -36,7 +36,7 @@ use Rattle.low_translate.specs.Emitted.{emitted, AppendsBefore, PlainDone, ActDo
 use Rattle.low_translate.proofs.Emitting.{adds_then}
 use Rattle.seq.specs.Lists.{numbers_from}
 use Rattle.seq.proofs.Counted.{length_numbers}
-use Rattle.grin_meaning.proofs.Plain.{IsLeaf}
+use Rattle.low_translate.proofs.Leaves.{IsLeaf}
 
 -- the first variable, then the others
 pub first_done : (a b c : List LowStmt) (x : ℕ) (xs rest : List ℕ) (e : ℕ → low.Code → low.Code) → xs ≡ x ∷ rest → AppendsBefore a b (e x) → AppendsBefore b c (set_all rest []) → AppendsBefore a c (to_first xs e)
@@ -91,7 +91,7 @@ end_alone b s = low_tree.code_of-parts b ∙ ap (λ l. low.all_before (map low.b
 module _ (w : ℕ) (rs : List ℕ) where
   pub call_done : (n n1 n2 : ℕ) (xs : List ℕ) (f : ProcId) (ws : List Word) (site count : ℕ) (front into more into' past : List ℕ) (arguments : List Operand) (a b c : List LowStmt)
       → site ≡ n → n1 ≡ suc n → count ≡ results_of rs f.0 → front ≡ take count xs → into ≡ front → more ≡ numbers_from n1 (count - length xs) → n2 ≡ n1 + (count - length xs) → into' ≡ into ++ more
-      → arguments ≡ operands_of_words ws → AllOf WordRanged ws → AppendsBefore a b (low.before_of (low_stmt.Call f.0 site arguments into')) → past ≡ drop count xs → AppendsBefore b c (set_all past []) → PlainDone w rs n n2 xs (call f ws) a c
+      → arguments ≡ operands_of_words ws → AllOf WordRanged ws → AppendsBefore a b (low.before_of (low_stmt.Call f.0 site arguments into')) → past ≡ drop count xs → AppendsBefore b c (set_all past []) → PlainDone w rs n n2 xs (leaf (call f ws)) a c
   call_done n n1 n2 xs f ws site count front into more into' past arguments a b c es en ec ef ei em e2 ej ea r h ep k = record {
     is = record {
       by = λ x. k.by x ∙ h.by (set_all past [] x) ∙ ap (λ g. emitted a (g (set_all past [] x))) (low_tree.before_of-Call f.0 site arguments into')
@@ -136,10 +136,10 @@ module _ (w : ℕ) (rs : List ℕ) where
       first = en ∙ ap (λ k. n + k) ec
 
   pub tail_done : (n n1 : ℕ) (goal : Goal) (f : ProcId) (ws : List Word) (site : ℕ) (arguments : List Operand) (a : List LowStmt) → goal.leaves ≡ true → site ≡ n → n1 ≡ suc n → arguments ≡ operands_of_words ws → AllOf WordRanged ws
-      → PlainEndDone w rs n n1 goal (call f ws) a a (low.end_of (low_end.Tail f.0 site arguments))
+      → PlainEndDone w rs n n1 goal (leaf (call f ws)) a a (low.end_of (low_end.Tail f.0 site arguments))
   tail_done n n1 goal f ws site arguments a l es en ea r = record {
-    is = record { by = ap (emitted a) (low_tree.end_of-Tail f.0 site arguments ∙ (λ i. low.tail f.0 (es i) (ea i)) ∙ sym (ap (λ t. elim t [ true ↦ low.tail f.0 n (operands_of_words ws) | false ↦ through w rs goal n (call f ws) ]) l)) };
-    numbers = let m : n1 ≡ n + 1 = omega (arith, en) in m ∙ sym (ap (λ t. n + elim t [ true ↦ 1 | false ↦ through_numbers w rs goal (call f ws) ]) l);
+    is = record { by = ap (emitted a) (low_tree.end_of-Tail f.0 site arguments ∙ (λ i. low.tail f.0 (es i) (ea i)) ∙ sym (ap (λ t. elim t [ true ↦ low.tail f.0 n (operands_of_words ws) | false ↦ through w rs goal n (leaf (call f ws)) ]) l)) };
+    numbers = let m : n1 ≡ n + 1 = omega (arith, en) in m ∙ sym (ap (λ t. n + elim t [ true ↦ 1 | false ↦ through_numbers w rs goal (leaf (call f ws)) ]) l);
     ranged = r;
   }
 

@@ -12,7 +12,7 @@ use Rattle.grin_syntax.specs.declared.program.Target.TheVariants as to
 use Rattle.grin_syntax.specs.declared.program.Cell as C
 use Rattle.grin_syntax.specs.Binders.{numbers_of, target_vars, shape_vars, cell_vars}
 use Rattle.grin_syntax.specs.Tree as grin
-use Rattle.grin_syntax.specs.Tree.{Act, unit, fetch, fetch_word, update, eval, apply, call, prim, read, write, case, nested, fail, end, store, bind, no_arm, arm}
+use Rattle.grin_syntax.specs.Tree.{Act, leaf, unit, fetch, fetch_word, update, eval, apply, call, prim, read, write, case, nested, fail, end, store, bind, no_arm, arm}
 use Rattle.grin_syntax.specs.Formed.{AllOf, Scope, with_word_variables, with_target, params_scope, WordFormed, ValFormed, CellFormed, ShapeFormed, ActFormed, CodeFormed, ArmsFormed, ProcedureFormed}
 use Rattle.grin_meaning.specs.Ready.{EachAct, EachCode, EachArms, vectorised_kind}
 use Rattle.low_code.specs.declared.program.Operand.{Operand}
@@ -96,19 +96,19 @@ module _ (g : grin.Program) (few_tags : length g.tags ≤ 2 ^ 32) (width : ℕ) 
 
     plain_fine : (xs : List ℕ) (n : ℕ) (o : Act) (c : low.Code) → ActFormed g scope o → PlainRanged o → Onward globals ys xs c → Fine globals ys (plain_code width rs xs n o c)
     unfolding ActFormed
-    plain_fine xs n (unit v) c h r k = sets_fine globals xs (operands_of v) ys c (value_good scope ys m v h r) k
-    plain_fine xs n (fetch a) c h r k = loads_fine globals width xs (operand_of a) 0 ys c (word_good scope ys m a h r) k
-    plain_fine xs n (fetch_word a i) c h r k = first_fine globals xs (λ x. load_word width x (operand_of a) i) ys c (λ x b. word_fine globals width x (operand_of a) i ys b (word_good scope ys m a h r)) k
-    plain_fine xs n (update a v) c h r k = saves_fine globals (operand_of a) 0 (padded_to_width width (operands_of v)) ys (set_all xs [] c) (word_good scope ys m a h.0 r.0) (fitted_good globals width (operands_of v) ys (value_good scope ys m v h.1 r.1)) (sets_fine globals xs [] ys c tt k)
-    plain_fine xs n (call f ws) c h r k = calling f.0 n (results_of rs f.0) (operands_of_words ws) xs c (words_good scope ys m ws h.1 r) k
-    plain_fine xs n (prim f a b) c h r k = first_fine globals xs (λ x. low.prim (operation_of f) x (operand_of a) (operand_of b)) ys c (λ x e. fine_prim globals ys (operation_of f) x (operand_of a) (operand_of b) e (word_good scope ys m a h.0 r.0) (word_good scope ys m b h.1 r.1)) k
-    plain_fine xs n read c h r k = first_fine globals xs (λ x. low.get x) ys c (λ x b. fine_get globals ys x b) k
-    plain_fine xs n (write a) c h r k = fine_put globals ys (operand_of a) (set_all xs [] c) (word_good scope ys m a h r) (sets_fine globals xs [] ys c tt k)
-    plain_fine xs n (eval a) c h r k = failing xs c k
-    plain_fine xs n (apply v a) c h r k = failing xs c k
+    plain_fine xs n (leaf (unit v)) c h r k = sets_fine globals xs (operands_of v) ys c (value_good scope ys m v h r) k
+    plain_fine xs n (leaf (fetch a)) c h r k = loads_fine globals width xs (operand_of a) 0 ys c (word_good scope ys m a h r) k
+    plain_fine xs n (leaf (fetch_word a i)) c h r k = first_fine globals xs (λ x. load_word width x (operand_of a) i) ys c (λ x b. word_fine globals width x (operand_of a) i ys b (word_good scope ys m a h r)) k
+    plain_fine xs n (leaf (update a v)) c h r k = saves_fine globals (operand_of a) 0 (padded_to_width width (operands_of v)) ys (set_all xs [] c) (word_good scope ys m a h.0 r.0) (fitted_good globals width (operands_of v) ys (value_good scope ys m v h.1 r.1)) (sets_fine globals xs [] ys c tt k)
+    plain_fine xs n (leaf (call f ws)) c h r k = calling f.0 n (results_of rs f.0) (operands_of_words ws) xs c (words_good scope ys m ws h.1 r) k
+    plain_fine xs n (leaf (prim f a b)) c h r k = first_fine globals xs (λ x. low.prim (operation_of f) x (operand_of a) (operand_of b)) ys c (λ x e. fine_prim globals ys (operation_of f) x (operand_of a) (operand_of b) e (word_good scope ys m a h.0 r.0) (word_good scope ys m b h.1 r.1)) k
+    plain_fine xs n (leaf read) c h r k = first_fine globals xs (λ x. low.get x) ys c (λ x b. fine_get globals ys x b) k
+    plain_fine xs n (leaf (write a)) c h r k = fine_put globals ys (operand_of a) (set_all xs [] c) (word_good scope ys m a h r) (sets_fine globals xs [] ys c tt k)
+    plain_fine xs n (leaf (eval a)) c h r k = failing xs c k
+    plain_fine xs n (leaf (apply v a)) c h r k = failing xs c k
     plain_fine xs n (case v as') c h r k = failing xs c k
     plain_fine xs n (nested b) c h r k = failing xs c k
-    plain_fine xs n fail c h r k = failing xs c k
+    plain_fine xs n (leaf fail) c h r k = failing xs c k
 
     through_fine : (goal : Goal) (n : ℕ) (o : Act) → ActFormed g scope o → PlainRanged o → Fine globals ys (through width rs goal n o)
     through_fine goal n o h r =
@@ -118,21 +118,21 @@ module _ (g : grin.Program) (few_tags : length g.tags ≤ 2 ^ 32) (width : ℕ) 
 
     plain_end_fine : (goal : Goal) (n : ℕ) (o : Act) → ActFormed g scope o → PlainRanged o → Fine globals ys (plain_end width rs goal n o)
     unfolding ActFormed
-    plain_end_fine goal n (unit v) h r = fine_give globals ys (padded_to_width goal.words (operands_of v)) (fitted_good globals goal.words (operands_of v) ys (value_good scope ys m v h r))
-    plain_end_fine goal n fail h r = fine_fail globals ys
-    plain_end_fine goal n (eval w) h r = fine_fail globals ys
-    plain_end_fine goal n (apply v w) h r = fine_fail globals ys
-    plain_end_fine goal n (call f ws) h r = by goal.leaves
+    plain_end_fine goal n (leaf (unit v)) h r = fine_give globals ys (padded_to_width goal.words (operands_of v)) (fitted_good globals goal.words (operands_of v) ys (value_good scope ys m v h r))
+    plain_end_fine goal n (leaf fail) h r = fine_fail globals ys
+    plain_end_fine goal n (leaf (eval w)) h r = fine_fail globals ys
+    plain_end_fine goal n (leaf (apply v w)) h r = fine_fail globals ys
+    plain_end_fine goal n (leaf (call f ws)) h r = by goal.leaves
       where
-        by : (b : Bool) → Fine globals ys (elim b [ true ↦ low.tail f.0 n (operands_of_words ws) | false ↦ through width rs goal n (call f ws) ])
+        by : (b : Bool) → Fine globals ys (elim b [ true ↦ low.tail f.0 n (operands_of_words ws) | false ↦ through width rs goal n (leaf (call f ws)) ])
         by true = fine_tail globals ys f.0 n (operands_of_words ws) (words_good scope ys m ws h.1 r)
-        by false = through_fine goal n (call f ws) h r
-    plain_end_fine goal n (fetch a) h r = through_fine goal n (fetch a) h r
-    plain_end_fine goal n (fetch_word a i) h r = through_fine goal n (fetch_word a i) h r
-    plain_end_fine goal n (update a v) h r = through_fine goal n (update a v) h r
-    plain_end_fine goal n (prim f a b) h r = through_fine goal n (prim f a b) h r
-    plain_end_fine goal n read h r = through_fine goal n read h r
-    plain_end_fine goal n (write a) h r = through_fine goal n (write a) h r
+        by false = through_fine goal n (leaf (call f ws)) h r
+    plain_end_fine goal n (leaf (fetch a)) h r = through_fine goal n (leaf (fetch a)) h r
+    plain_end_fine goal n (leaf (fetch_word a i)) h r = through_fine goal n (leaf (fetch_word a i)) h r
+    plain_end_fine goal n (leaf (update a v)) h r = through_fine goal n (leaf (update a v)) h r
+    plain_end_fine goal n (leaf (prim f a b)) h r = through_fine goal n (leaf (prim f a b)) h r
+    plain_end_fine goal n (leaf read) h r = through_fine goal n (leaf read) h r
+    plain_end_fine goal n (leaf (write a)) h r = through_fine goal n (leaf (write a)) h r
     plain_end_fine goal n (case v as') h r = through_fine goal n (case v as') h r
     plain_end_fine goal n (nested b) h r = through_fine goal n (nested b) h r
 
@@ -144,32 +144,32 @@ module _ (g : grin.Program) (few_tags : length g.tags ≤ 2 ^ 32) (width : ℕ) 
     act_fine : (scope : Scope) (ys : List ℕ) (m : More scope.words ys) (xs : List ℕ) (n : ℕ) (o : Act) (c : low.Code) → ActFormed g scope o → ActRanged o → ActVectorised o → Onward globals ys xs c → Fine globals ys (act_code width rs xs n o c)
     act_fine scope ys m xs n (case v as') c h r e k = fine_join globals ys xs _ c (fine_choose globals ys _ (arms_fine scope ys m (to_join xs) n (operands_of v) as' (value_good scope ys m v h.0 r.0) h.1 r.1 e.2)) (k (xs ++ ys) (more_right xs ys) (more_left xs ys))
     act_fine scope ys m xs n (nested b) c h r e k = fine_join globals ys xs _ c (code_fine scope ys m (to_join xs) n b h r e.1) (k (xs ++ ys) (more_right xs ys) (more_left xs ys))
-    act_fine scope ys m xs n (unit v) c h r e k = plain_fine scope ys m xs n (unit v) c h r k
-    act_fine scope ys m xs n (fetch a) c h r e k = plain_fine scope ys m xs n (fetch a) c h r k
-    act_fine scope ys m xs n (fetch_word a i) c h r e k = plain_fine scope ys m xs n (fetch_word a i) c h r k
-    act_fine scope ys m xs n (update a v) c h r e k = plain_fine scope ys m xs n (update a v) c h r k
-    act_fine scope ys m xs n (eval a) c h r e k = plain_fine scope ys m xs n (eval a) c h r k
-    act_fine scope ys m xs n (apply v a) c h r e k = plain_fine scope ys m xs n (apply v a) c h r k
-    act_fine scope ys m xs n (call f ws) c h r e k = plain_fine scope ys m xs n (call f ws) c h r k
-    act_fine scope ys m xs n (prim f a b) c h r e k = plain_fine scope ys m xs n (prim f a b) c h r k
-    act_fine scope ys m xs n read c h r e k = plain_fine scope ys m xs n read c h r k
-    act_fine scope ys m xs n (write a) c h r e k = plain_fine scope ys m xs n (write a) c h r k
-    act_fine scope ys m xs n fail c h r e k = plain_fine scope ys m xs n fail c h r k
+    act_fine scope ys m xs n (leaf (unit v)) c h r e k = plain_fine scope ys m xs n (leaf (unit v)) c h r k
+    act_fine scope ys m xs n (leaf (fetch a)) c h r e k = plain_fine scope ys m xs n (leaf (fetch a)) c h r k
+    act_fine scope ys m xs n (leaf (fetch_word a i)) c h r e k = plain_fine scope ys m xs n (leaf (fetch_word a i)) c h r k
+    act_fine scope ys m xs n (leaf (update a v)) c h r e k = plain_fine scope ys m xs n (leaf (update a v)) c h r k
+    act_fine scope ys m xs n (leaf (eval a)) c h r e k = plain_fine scope ys m xs n (leaf (eval a)) c h r k
+    act_fine scope ys m xs n (leaf (apply v a)) c h r e k = plain_fine scope ys m xs n (leaf (apply v a)) c h r k
+    act_fine scope ys m xs n (leaf (call f ws)) c h r e k = plain_fine scope ys m xs n (leaf (call f ws)) c h r k
+    act_fine scope ys m xs n (leaf (prim f a b)) c h r e k = plain_fine scope ys m xs n (leaf (prim f a b)) c h r k
+    act_fine scope ys m xs n (leaf read) c h r e k = plain_fine scope ys m xs n (leaf read) c h r k
+    act_fine scope ys m xs n (leaf (write a)) c h r e k = plain_fine scope ys m xs n (leaf (write a)) c h r k
+    act_fine scope ys m xs n (leaf fail) c h r e k = plain_fine scope ys m xs n (leaf fail) c h r k
 
     end_fine : (scope : Scope) (ys : List ℕ) (m : More scope.words ys) (goal : Goal) (n : ℕ) (o : Act) → ActFormed g scope o → ActRanged o → ActVectorised o → Fine globals ys (end_code width rs goal n o)
     end_fine scope ys m goal n (case v as') h r e = fine_choose globals ys _ (arms_fine scope ys m goal n (operands_of v) as' (value_good scope ys m v h.0 r.0) h.1 r.1 e.2)
     end_fine scope ys m goal n (nested b) h r e = code_fine scope ys m goal n b h r e.1
-    end_fine scope ys m goal n (unit v) h r e = plain_end_fine scope ys m goal n (unit v) h r
-    end_fine scope ys m goal n (fetch a) h r e = plain_end_fine scope ys m goal n (fetch a) h r
-    end_fine scope ys m goal n (fetch_word a i) h r e = plain_end_fine scope ys m goal n (fetch_word a i) h r
-    end_fine scope ys m goal n (update a v) h r e = plain_end_fine scope ys m goal n (update a v) h r
-    end_fine scope ys m goal n (eval a) h r e = plain_end_fine scope ys m goal n (eval a) h r
-    end_fine scope ys m goal n (apply v a) h r e = plain_end_fine scope ys m goal n (apply v a) h r
-    end_fine scope ys m goal n (call f ws) h r e = plain_end_fine scope ys m goal n (call f ws) h r
-    end_fine scope ys m goal n (prim f a b) h r e = plain_end_fine scope ys m goal n (prim f a b) h r
-    end_fine scope ys m goal n read h r e = plain_end_fine scope ys m goal n read h r
-    end_fine scope ys m goal n (write a) h r e = plain_end_fine scope ys m goal n (write a) h r
-    end_fine scope ys m goal n fail h r e = plain_end_fine scope ys m goal n fail h r
+    end_fine scope ys m goal n (leaf (unit v)) h r e = plain_end_fine scope ys m goal n (leaf (unit v)) h r
+    end_fine scope ys m goal n (leaf (fetch a)) h r e = plain_end_fine scope ys m goal n (leaf (fetch a)) h r
+    end_fine scope ys m goal n (leaf (fetch_word a i)) h r e = plain_end_fine scope ys m goal n (leaf (fetch_word a i)) h r
+    end_fine scope ys m goal n (leaf (update a v)) h r e = plain_end_fine scope ys m goal n (leaf (update a v)) h r
+    end_fine scope ys m goal n (leaf (eval a)) h r e = plain_end_fine scope ys m goal n (leaf (eval a)) h r
+    end_fine scope ys m goal n (leaf (apply v a)) h r e = plain_end_fine scope ys m goal n (leaf (apply v a)) h r
+    end_fine scope ys m goal n (leaf (call f ws)) h r e = plain_end_fine scope ys m goal n (leaf (call f ws)) h r
+    end_fine scope ys m goal n (leaf (prim f a b)) h r e = plain_end_fine scope ys m goal n (leaf (prim f a b)) h r
+    end_fine scope ys m goal n (leaf read) h r e = plain_end_fine scope ys m goal n (leaf read) h r
+    end_fine scope ys m goal n (leaf (write a)) h r e = plain_end_fine scope ys m goal n (leaf (write a)) h r
+    end_fine scope ys m goal n (leaf fail) h r e = plain_end_fine scope ys m goal n (leaf fail) h r
 
     pub code_fine : (scope : Scope) (ys : List ℕ) (m : More scope.words ys) (goal : Goal) (n : ℕ) (b : grin.Code) → CodeFormed g scope b → CodeRanged b → CodeVectorised b → Fine globals ys (code_code width rs goal n b)
     code_fine scope ys m goal n (end o) h r e = end_fine scope ys m goal n o h r e

@@ -4,7 +4,7 @@ use Rattle.std.specs.Prelude.{max}
 use Rattle.seq.proofs.Truth.{false_not_true}
 use Rattle.grin_syntax.specs.Binders.{target_vars, shape_vars, cell_vars, act_vars, code_vars, arms_vars}
 use Rattle.grin_syntax.specs.Tree as grin_tree
-use Rattle.grin_syntax.specs.Tree.{Act, call, case, nested, Code, end, store, bind, Arms, no_arm, arm}
+use Rattle.grin_syntax.specs.Tree.{Act, leaf, call, case, nested, Code, end, store, bind, Arms, no_arm, arm}
 use Rattle.grin_meaning.specs.Values as grin
 use Rattle.grin_meaning.specs.Values.{Value}
 use Rattle.grin_meaning.specs.Run as grin_run
@@ -29,7 +29,7 @@ use Rattle.low_translate.proofs.EndRuns as ends
 use Rattle.low_translate.proofs.BoundRuns as binds
 use Rattle.low_translate.proofs.Choices as choices
 use Rattle.seq.specs.Lists.{times}
-use Rattle.grin_meaning.proofs.Plain.{IsLeaf}
+use Rattle.low_translate.proofs.Leaves.{IsLeaf}
 
 module _ (g : grin_tree.Program) (rs : List ℕ) (width most first : ℕ) where
   -- what is known of the text of a piece, whose further numbers begin at n
@@ -153,7 +153,7 @@ module _ (g : grin_tree.Program) (p : low_tree.Program) (fw : ℕ → ℕ) (most
   here_passing top under scope env e w frames h = record { agrees = h.agrees; sound = record { cells = h.sound.cells; bytes = h.sound.bytes }; within = h.within }
 
   lies : (o : Act) (d top : ℕ) (under : Option ℕ) → top ≤ d * most → plain.Lies g p fw most rs first same_globals width wide gcalls lcalls calls_match top under o d
-  lies (call f ws) d top under le = le
+  lies (leaf (call f ws)) d top under le = le
   lies _ d top under le = tt
 
   abbrev lows : (top : ℕ) (under : Option ℕ) → low.Env → low_tree.Code → low.World → low.Answer

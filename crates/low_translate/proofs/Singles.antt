@@ -5,7 +5,7 @@ use Rattle.headline.specs.Carries.{IsBytes}
 use Rattle.grin_syntax.specs.declared.program.PrimOp as G
 use Rattle.grin_syntax.specs.declared.program.Word as W
 use Rattle.grin_syntax.specs.Tree as grin_tree
-use Rattle.grin_syntax.specs.Tree.{Act, fetch_word, prim, read}
+use Rattle.grin_syntax.specs.Tree.{Act, leaf, fetch_word, prim, read}
 use Rattle.grin_meaning.specs.Values as grin
 use Rattle.grin_meaning.specs.Values.{Datum, number, tag, cell, Value, node, words, HeapCell, word_of}
 use Rattle.grin_meaning.specs.Run as grin_run
@@ -56,9 +56,9 @@ module _ (g : grin_tree.Program) (p : low_tree.Program) (fw : ℕ → ℕ) (most
         (finish g p fw most rs first same_globals width wide gcalls lcalls top under P k n (x ∷ xs) e c goes o go skip (words (d ∷ [])) w' frames (r, tt) s wd wi)
 
     module _ (xs : List ℕ) (scope : List ℕ) (env : grin.Env) (w : grin.World) (frames d : ℕ) (apart : (x : ℕ) → 0 < times x scope → times x xs ≡ 0) (h : At scope env e w frames) where
-      pub read_runs : Going P k n xs e c goes → Skipping P k xs read goes → Matches P k (grin.then_do (act_by g gcalls true env d read w) goes) (does e (to_first xs (λ x. low_tree.get x) c) (world_image width frames w))
+      pub read_runs : Going P k n xs e c goes → Skipping P k xs (leaf read) goes → Matches P k (grin.then_do (act_by g gcalls true env d (leaf read) w) goes) (does e (to_first xs (λ x. low_tree.get x) c) (world_image width frames w))
       unfolding act_by code
-      read_runs go skip = one_word read xs (λ x. low_tree.get x) (number (byte_or_end w.input)) w (after_read w.input w) frames (omega arith) (ranged w.input h.sound.bytes) (sound w.input refl) (depth w.input refl) go skip (λ x rest c' eq. step w.input refl x c')
+      read_runs go skip = one_word (leaf read) xs (λ x. low_tree.get x) (number (byte_or_end w.input)) w (after_read w.input w) frames (omega arith) (ranged w.input h.sound.bytes) (sound w.input refl) (depth w.input refl) go skip (λ x rest c' eq. step w.input refl x c')
         where
           ranged : (i : List ℕ) → IsBytes i → Has32Bits (byte_or_end i)
           ranged [] b = lit< tt
@@ -79,8 +79,8 @@ module _ (g : grin_tree.Program) (p : low_tree.Program) (fw : ℕ → ℕ) (most
       first_only : (x : ℕ) (rest : List ℕ) (y : ℕ) → xs ≡ x ∷ rest → times y xs ≡ 0 → times y (x ∷ []) ≡ 0
       first_only x rest y e h = let k : times y (x ∷ rest) ≡ 0 = ap (times y) (sym e) ∙ h in omega (arith, k)
 
-      pub fetch_word_runs : (a : W.Word) (j : ℕ) → WordRanged a → Going P k n xs e c goes → Skipping P k xs (fetch_word a j) goes
-          → Matches P k (grin.then_do (act_by g gcalls true env d (fetch_word a j) w) goes) (does e (to_first xs (λ x. load_word (written_width g) x (operand_of a) j) c) (world_image width frames w))
+      pub fetch_word_runs : (a : W.Word) (j : ℕ) → WordRanged a → Going P k n xs e c goes → Skipping P k xs (leaf (fetch_word a j)) goes
+          → Matches P k (grin.then_do (act_by g gcalls true env d (leaf (fetch_word a j)) w) goes) (does e (to_first xs (λ x. load_word (written_width g) x (operand_of a) j) c) (world_image width frames w))
       unfolding act_by
       fetch_word_runs a j r go skip = by (grin.and_then (word_of g env a) place_of) refl
         where
@@ -94,12 +94,12 @@ module _ (g : grin_tree.Program) (p : low_tree.Program) (fw : ℕ → ℕ) (most
                   let o = place_is g p fw most rs first same_globals width wide gcalls lcalls top under P k n xs e c goes scope env w frames d apart h a i q r in
                   let s : SoundCell g u.node = all_get (λ x. SoundCell g x.node) w.cells i u h.sound.cells z in
                   let ws = images (tag u.node.tag ∷ u.node.fields) in
-                  one_word (fetch_word a j) xs (λ x. load_word (written_width g) x (operand_of a) j) (node_word u.node j) w w frames (omega arith) (node_word_ranged u.node j s.sound.ranged) h.sound h.within go skip
+                  one_word (leaf (fetch_word a j)) xs (λ x. load_word (written_width g) x (operand_of a) j) (node_word u.node j) w w frames (omega arith) (node_word_ranged u.node j s.sound.ranged) h.sound h.within go skip
                   (λ x rest c' eq. loads_run p fw free lcalls top under (written_width g) width (omega (arith, wide)) (x ∷ []) (operand_of a) j i ws e c' (world_image width frames w) o.is (o.avoids (x ∷ []) (λ y m. first_only x rest y eq (apart y m))) (map_get (λ x. cell_image width x.node) w.cells i u z) (cell_narrow g u.node s)
                   ∙ (λ t. does (bound (x ∷ []) (fit_from 0 j ws t) e) c' (world_image width frames w)) ∙ ap (λ v. does (with_var x v e) c' (world_image width frames w)) (sym (node_word_image u.node j)))
 
-      pub prim_runs : (f : G.PrimOp) (a b : W.Word) → WordRanged a → WordRanged b → Going P k n xs e c goes → Skipping P k xs (prim f a b) goes
-          → Matches P k (grin.then_do (act_by g gcalls true env d (prim f a b) w) goes) (does e (to_first xs (λ x. low_tree.prim (operation_of f) x (operand_of a) (operand_of b)) c) (world_image width frames w))
+      pub prim_runs : (f : G.PrimOp) (a b : W.Word) → WordRanged a → WordRanged b → Going P k n xs e c goes → Skipping P k xs (leaf (prim f a b)) goes
+          → Matches P k (grin.then_do (act_by g gcalls true env d (leaf (prim f a b)) w) goes) (does e (to_first xs (λ x. low_tree.prim (operation_of f) x (operand_of a) (operand_of b)) c) (world_image width frames w))
       unfolding act_by code
       prim_runs f a b ra rb go skip = by (word_of g env a) refl
         where
@@ -116,6 +116,6 @@ module _ (g : grin_tree.Program) (p : low_tree.Program) (fw : ℕ → ℕ) (most
               second (Some (number j)) z (number i) q =
                   let oa = operand_is g p fw same_globals first scope env e h.agrees a (number i) q ra in
                   let ob = operand_is g p fw same_globals first scope env e h.agrees b (number j) z rb in
-                  one_word (prim f a b) xs (λ x. low_tree.prim (operation_of f) x (operand_of a) (operand_of b)) (number (grin_run.arithmetic f i j)) w w frames (omega arith) (arithmetic_has f i j oa.ranged ob.ranged) h.sound h.within go skip
+                  one_word (leaf (prim f a b)) xs (λ x. low_tree.prim (operation_of f) x (operand_of a) (operand_of b)) (number (grin_run.arithmetic f i j)) w w frames (omega arith) (arithmetic_has f i j oa.ranged ob.ranged) h.sound h.within go skip
                   (λ x rest c' eq. (λ t. need (and_then (oa.is t) low.number_of) (world_image width frames w) (λ m. need (and_then (ob.is t) low.number_of) (world_image width frames w) (λ l. does (with_var x (low.number (low_arithmetic.arithmetic (operation_of f) m l)) e) c' (world_image width frames w))))
                   ∙ (λ t. does (with_var x (low.number (arithmetic_same f i j oa.ranged ob.ranged t)) e) c' (world_image width frames w)))

@@ -6,7 +6,7 @@ use Rattle.grin_syntax.specs.declared.program.Cell as C
 use Rattle.grin_syntax.specs.Binders.{target_vars, cell_vars}
 use Rattle.grin_syntax.specs.Formed.{AllOf}
 use Rattle.grin_syntax.specs.Tree as grin
-use Rattle.grin_syntax.specs.Tree.{Act, unit, fetch, fetch_word, update, eval, apply, call, prim, read, write, case, nested, fail, end, store, bind, no_arm, arm}
+use Rattle.grin_syntax.specs.Tree.{Act, leaf, unit, fetch, fetch_word, update, eval, apply, call, prim, read, write, case, nested, fail, end, store, bind, no_arm, arm}
 use Rattle.grin_meaning.specs.Ready.{EachAct, EachCode, EachArms, narrow_kind}
 use Rattle.grin_meaning.specs.Slim.{target_weight, act_weight, code_weight, arms_weight, procs_weight}
 use Rattle.low_code.specs.declared.program.Operand.{Operand}
@@ -20,7 +20,7 @@ use Rattle.low_translate.proofs.Parts.{words_many, sets_size, word_size, loads_s
 use Rattle.seq.specs.Lists.{numbers_from}
 use Rattle.seq.proofs.Counted.{length_numbers}
 use Rattle.grin_syntax.proofs.Counted.{length_numbers as numbers_many}
-use Rattle.grin_meaning.proofs.Plain.{IsLeaf}
+use Rattle.low_translate.proofs.Leaves.{IsLeaf}
 
 cells_many : (cs : List C.Cell) → length (cell_vars cs) ≡ length cs
 cells_many [] = refl
@@ -57,61 +57,61 @@ module _ (width : ℕ) (rs : List ℕ) (few_results : (f : ℕ) → results_of r
 
   -- what an operation without blocks weighs beside its variables
   abbrev own : Act → ℕ
-  own (unit v) = 0
-  own (fetch a) = 0
-  own (fetch_word a i) = 3
-  own (update a v) = 42
-  own (call f ws) = 14 + length ws
-  own (prim f a b) = 4
-  own read = 10
-  own (write a) = 10
+  own (leaf (unit v)) = 0
+  own (leaf (fetch a)) = 0
+  own (leaf (fetch_word a i)) = 3
+  own (leaf (update a v)) = 42
+  own (leaf (call f ws)) = 14 + length ws
+  own (leaf (prim f a b)) = 4
+  own (leaf read) = 10
+  own (leaf (write a)) = 10
   own _ = 2
 
   plain_size : (xs : List ℕ) (n : ℕ) (o : Act) (c : low.Code) → code_size (plain_code width rs xs n o c) ≤ own o + 3 * length xs + code_size c
-  plain_size xs n (unit v) c = let h = sets_size xs (operands_of v) c in omega (arith, h)
-  plain_size xs n (fetch a) c = let h = loads_size width xs (operand_of a) 0 c in omega (arith, h)
-  plain_size xs n (fetch_word a i) c = first_size 3 xs (λ x. load_word width x (operand_of a) i) c (λ x b. word_size width x (operand_of a) i b)
-  plain_size xs n (update a v) c =
+  plain_size xs n (leaf (unit v)) c = let h = sets_size xs (operands_of v) c in omega (arith, h)
+  plain_size xs n (leaf (fetch a)) c = let h = loads_size width xs (operand_of a) 0 c in omega (arith, h)
+  plain_size xs n (leaf (fetch_word a i)) c = first_size 3 xs (λ x. load_word width x (operand_of a) i) c (λ x b. word_size width x (operand_of a) i b)
+  plain_size xs n (leaf (update a v)) c =
       let h = saves_size (operand_of a) 0 (padded_to_width width (operands_of v)) (set_all xs [] c) in
       let k = sets_size xs [] c in
       let m = length_fitted width (operands_of v) in
       omega (arith, h, k, m, few_fields)
-  plain_size xs n (call f ws) c =
+  plain_size xs n (leaf (call f ws)) c =
       let h = call_size f.0 n (results_of rs f.0) (operands_of_words ws) xs c in
       let k = few_results f.0 in
       let m = words_many ws in
       omega (arith, h, k, m)
-  plain_size xs n (prim f a b) c = first_size 4 xs (λ x. low.prim (operation_of f) x (operand_of a) (operand_of b)) c (λ x e. refl)
-  plain_size xs n read c = first_size 10 xs (λ x. low.get x) c (λ x e. refl)
-  plain_size xs n (write a) c = let h = sets_size xs [] c in omega (arith, h)
-  plain_size xs n (eval a) c = omega arith
-  plain_size xs n (apply v a) c = omega arith
+  plain_size xs n (leaf (prim f a b)) c = first_size 4 xs (λ x. low.prim (operation_of f) x (operand_of a) (operand_of b)) c (λ x e. refl)
+  plain_size xs n (leaf read) c = first_size 10 xs (λ x. low.get x) c (λ x e. refl)
+  plain_size xs n (leaf (write a)) c = let h = sets_size xs [] c in omega (arith, h)
+  plain_size xs n (leaf (eval a)) c = omega arith
+  plain_size xs n (leaf (apply v a)) c = omega arith
   plain_size xs n (case v as') c = omega arith
   plain_size xs n (nested b) c = omega arith
-  plain_size xs n fail c = omega arith
+  plain_size xs n (leaf fail) c = omega arith
 
   -- one without blocks and no call
   abbrev IsSingle : Act → Type 0
-  IsSingle (call f ws) = ⊥
+  IsSingle (leaf (call f ws)) = ⊥
   IsSingle (case v as') = ⊥
   IsSingle (nested b) = ⊥
   IsSingle _ = Unit {0}
 
   single_light : (k : ℕ) (o : Act) → IsSingle o → own o + 3 * end_words width rs k o + 15 ≤ 4 * act_weight o
   unfolding act_weight
-  single_light k (unit v) s = omega arith
-  single_light k (fetch a) s = let h : min k width ≤ 14 = omega (arith, few_fields) in omega (arith, h)
-  single_light k (fetch_word a i) s = omega arith
-  single_light k (update a v) s = omega arith
-  single_light k (eval a) s = omega arith
-  single_light k (apply v a) s = omega arith
-  single_light k (call f ws) s = absurd s
-  single_light k (prim f a b) s = omega arith
-  single_light k read s = omega arith
-  single_light k (write a) s = omega arith
+  single_light k (leaf (unit v)) s = omega arith
+  single_light k (leaf (fetch a)) s = let h : min k width ≤ 14 = omega (arith, few_fields) in omega (arith, h)
+  single_light k (leaf (fetch_word a i)) s = omega arith
+  single_light k (leaf (update a v)) s = omega arith
+  single_light k (leaf (eval a)) s = omega arith
+  single_light k (leaf (apply v a)) s = omega arith
+  single_light k (leaf (call f ws)) s = absurd s
+  single_light k (leaf (prim f a b)) s = omega arith
+  single_light k (leaf read) s = omega arith
+  single_light k (leaf (write a)) s = omega arith
   single_light k (case v as') s = absurd s
   single_light k (nested b) s = absurd s
-  single_light k fail s = omega arith
+  single_light k (leaf fail) s = omega arith
 
   module _ (goal : Goal) (few_words : goal.words ≤ 14) where
     single_size : (n : ℕ) (o : Act) → IsSingle o → code_size (through width rs goal n o) ≤ 4 * act_weight o
@@ -135,39 +135,39 @@ module _ (width : ℕ) (rs : List ℕ) (few_results : (f : ℕ) → results_of r
 
     end_size : (n : ℕ) (o : Act) → IsLeaf o → code_size (plain_end width rs goal n o) ≤ 4 * act_weight o
     unfolding act_weight
-    end_size n (unit v) s = let k = length_fitted goal.words (operands_of v) in omega (arith, k, few_words)
-    end_size n fail s = omega arith
-    end_size n (eval w) s = omega arith
-    end_size n (apply v w) s = omega arith
-    end_size n (call f ws) s = by goal.leaves
+    end_size n (leaf (unit v)) s = let k = length_fitted goal.words (operands_of v) in omega (arith, k, few_words)
+    end_size n (leaf fail) s = omega arith
+    end_size n (leaf (eval w)) s = omega arith
+    end_size n (leaf (apply v w)) s = omega arith
+    end_size n (leaf (call f ws)) s = by goal.leaves
       where
-        by : (b : Bool) → code_size (elim b [ true ↦ low.tail f.0 n (operands_of_words ws) | false ↦ through width rs goal n (call f ws) ]) ≤ 4 * (16 + length ws)
+        by : (b : Bool) → code_size (elim b [ true ↦ low.tail f.0 n (operands_of_words ws) | false ↦ through width rs goal n (leaf (call f ws)) ]) ≤ 4 * (16 + length ws)
         by true = let m = words_many ws in omega (arith, m)
         by false = let m = words_many ws in let h = through_call_size n f.0 (operands_of_words ws) (results_of rs f.0) (few_results f.0) in omega (arith, m, h)
-    end_size n (fetch a) s = single_size n (fetch a) tt
-    end_size n (fetch_word a i) s = single_size n (fetch_word a i) tt
-    end_size n (update a v) s = single_size n (update a v) tt
-    end_size n (prim f a b) s = single_size n (prim f a b) tt
-    end_size n read s = single_size n read tt
-    end_size n (write a) s = single_size n (write a) tt
+    end_size n (leaf (fetch a)) s = single_size n (leaf (fetch a)) tt
+    end_size n (leaf (fetch_word a i)) s = single_size n (leaf (fetch_word a i)) tt
+    end_size n (leaf (update a v)) s = single_size n (leaf (update a v)) tt
+    end_size n (leaf (prim f a b)) s = single_size n (leaf (prim f a b)) tt
+    end_size n (leaf read) s = single_size n (leaf read) tt
+    end_size n (leaf (write a)) s = single_size n (leaf (write a)) tt
     end_size n (case v as') s = absurd s
     end_size n (nested b) s = absurd s
 
   own_light : (o : Act) → IsLeaf o → own o ≤ 4 * act_weight o
   unfolding act_weight
-  own_light (unit v) s = omega arith
-  own_light (fetch a) s = omega arith
-  own_light (fetch_word a i) s = omega arith
-  own_light (update a v) s = omega arith
-  own_light (eval a) s = omega arith
-  own_light (apply v a) s = omega arith
-  own_light (call f ws) s = omega arith
-  own_light (prim f a b) s = omega arith
-  own_light read s = omega arith
-  own_light (write a) s = omega arith
+  own_light (leaf (unit v)) s = omega arith
+  own_light (leaf (fetch a)) s = omega arith
+  own_light (leaf (fetch_word a i)) s = omega arith
+  own_light (leaf (update a v)) s = omega arith
+  own_light (leaf (eval a)) s = omega arith
+  own_light (leaf (apply v a)) s = omega arith
+  own_light (leaf (call f ws)) s = omega arith
+  own_light (leaf (prim f a b)) s = omega arith
+  own_light (leaf read) s = omega arith
+  own_light (leaf (write a)) s = omega arith
   own_light (case v as') s = absurd s
   own_light (nested b) s = absurd s
-  own_light fail s = omega arith
+  own_light (leaf fail) s = omega arith
 
   plain_act_size : (xs : List ℕ) (n : ℕ) (o : Act) (c : low.Code) → IsLeaf o → code_size (plain_code width rs xs n o c) ≤ 4 * act_weight o + 3 * length xs + code_size c
   plain_act_size xs n o c s = let h = plain_size xs n o c in let k = own_light o s in omega (arith, h, k)
@@ -180,32 +180,32 @@ module _ (width : ℕ) (rs : List ℕ) (few_results : (f : ℕ) → results_of r
     act_light : (xs : List ℕ) (n : ℕ) (o : Act) (c : low.Code) → length xs ≤ 14 → ActNarrow o → code_size (act_code width rs xs n o c) ≤ 4 * act_weight o + 3 * length xs + code_size c
     act_light xs n (case v as') c le h = let k = arms_light (to_join xs) n (operands_of v) as' le h.2 in omega (arith, k)
     act_light xs n (nested b) c le h = let k = code_light (to_join xs) n b le h.1 in omega (arith, k)
-    act_light xs n (unit v) c le h = plain_act_size xs n (unit v) c tt
-    act_light xs n (fetch a) c le h = plain_act_size xs n (fetch a) c tt
-    act_light xs n (fetch_word a i) c le h = plain_act_size xs n (fetch_word a i) c tt
-    act_light xs n (update a v) c le h = plain_act_size xs n (update a v) c tt
-    act_light xs n (eval a) c le h = plain_act_size xs n (eval a) c tt
-    act_light xs n (apply v a) c le h = plain_act_size xs n (apply v a) c tt
-    act_light xs n (call f ws) c le h = plain_act_size xs n (call f ws) c tt
-    act_light xs n (prim f a b) c le h = plain_act_size xs n (prim f a b) c tt
-    act_light xs n read c le h = plain_act_size xs n read c tt
-    act_light xs n (write a) c le h = plain_act_size xs n (write a) c tt
-    act_light xs n fail c le h = plain_act_size xs n fail c tt
+    act_light xs n (leaf (unit v)) c le h = plain_act_size xs n (leaf (unit v)) c tt
+    act_light xs n (leaf (fetch a)) c le h = plain_act_size xs n (leaf (fetch a)) c tt
+    act_light xs n (leaf (fetch_word a i)) c le h = plain_act_size xs n (leaf (fetch_word a i)) c tt
+    act_light xs n (leaf (update a v)) c le h = plain_act_size xs n (leaf (update a v)) c tt
+    act_light xs n (leaf (eval a)) c le h = plain_act_size xs n (leaf (eval a)) c tt
+    act_light xs n (leaf (apply v a)) c le h = plain_act_size xs n (leaf (apply v a)) c tt
+    act_light xs n (leaf (call f ws)) c le h = plain_act_size xs n (leaf (call f ws)) c tt
+    act_light xs n (leaf (prim f a b)) c le h = plain_act_size xs n (leaf (prim f a b)) c tt
+    act_light xs n (leaf read) c le h = plain_act_size xs n (leaf read) c tt
+    act_light xs n (leaf (write a)) c le h = plain_act_size xs n (leaf (write a)) c tt
+    act_light xs n (leaf fail) c le h = plain_act_size xs n (leaf fail) c tt
 
     end_light : (goal : Goal) (n : ℕ) (o : Act) → goal.words ≤ 14 → ActNarrow o → code_size (end_code width rs goal n o) ≤ 4 * act_weight o
     end_light goal n (case v as') le h = let k = arms_light goal n (operands_of v) as' le h.2 in omega (arith, k)
     end_light goal n (nested b) le h = let k = code_light goal n b le h.1 in omega (arith, k)
-    end_light goal n (unit v) le h = end_size goal le n (unit v) tt
-    end_light goal n (fetch a) le h = end_size goal le n (fetch a) tt
-    end_light goal n (fetch_word a i) le h = end_size goal le n (fetch_word a i) tt
-    end_light goal n (update a v) le h = end_size goal le n (update a v) tt
-    end_light goal n (eval a) le h = end_size goal le n (eval a) tt
-    end_light goal n (apply v a) le h = end_size goal le n (apply v a) tt
-    end_light goal n (call f ws) le h = end_size goal le n (call f ws) tt
-    end_light goal n (prim f a b) le h = end_size goal le n (prim f a b) tt
-    end_light goal n read le h = end_size goal le n read tt
-    end_light goal n (write a) le h = end_size goal le n (write a) tt
-    end_light goal n fail le h = end_size goal le n fail tt
+    end_light goal n (leaf (unit v)) le h = end_size goal le n (leaf (unit v)) tt
+    end_light goal n (leaf (fetch a)) le h = end_size goal le n (leaf (fetch a)) tt
+    end_light goal n (leaf (fetch_word a i)) le h = end_size goal le n (leaf (fetch_word a i)) tt
+    end_light goal n (leaf (update a v)) le h = end_size goal le n (leaf (update a v)) tt
+    end_light goal n (leaf (eval a)) le h = end_size goal le n (leaf (eval a)) tt
+    end_light goal n (leaf (apply v a)) le h = end_size goal le n (leaf (apply v a)) tt
+    end_light goal n (leaf (call f ws)) le h = end_size goal le n (leaf (call f ws)) tt
+    end_light goal n (leaf (prim f a b)) le h = end_size goal le n (leaf (prim f a b)) tt
+    end_light goal n (leaf read) le h = end_size goal le n (leaf read) tt
+    end_light goal n (leaf (write a)) le h = end_size goal le n (leaf (write a)) tt
+    end_light goal n (leaf fail) le h = end_size goal le n (leaf fail) tt
 
     pub code_light : (goal : Goal) (n : ℕ) (b : grin.Code) → goal.words ≤ 14 → CodeNarrow b → code_size (code_code width rs goal n b) ≤ 4 * code_weight b
     code_light goal n (end o) le h = end_light goal n o le h

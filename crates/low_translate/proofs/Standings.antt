@@ -5,7 +5,7 @@ use Rattle.grin_syntax.specs.declared.program.Word as W
 use Rattle.grin_syntax.specs.declared.program.Val as V
 use Rattle.grin_syntax.specs.declared.program.Val.TheVariants as val
 use Rattle.grin_syntax.specs.Tree as grin_tree
-use Rattle.grin_syntax.specs.Tree.{Act, fetch, fetch_word, call, prim, read}
+use Rattle.grin_syntax.specs.Tree.{Act, leaf, fetch, fetch_word, call, prim, read}
 use Rattle.grin_meaning.specs.Values as grin
 use Rattle.grin_meaning.specs.Values.{Datum, tag, Node, Value, node, words, word_of, words_of, value_of}
 use Rattle.grin_meaning.specs.Checks.{is_delayed, not_delayed}
@@ -73,11 +73,11 @@ module _ (g : grin_tree.Program) (rs : List ℕ) (width most : ℕ) where
   -- the words of an operation at an end are no more than are given
   words_fit : (o : Act) (k : ℕ) → Gives o k → end_words width rs k o ≤ k
   unfolding ActGives
-  words_fit (fetch a) k h = omega arith
-  words_fit (fetch_word a i) k h = h
-  words_fit (prim f a b) k h = h
-  words_fit read k h = h
-  words_fit (call f ws) k h = omega (arith, h)
+  words_fit (leaf (fetch a)) k h = omega arith
+  words_fit (leaf (fetch_word a i)) k h = h
+  words_fit (leaf (prim f a b)) k h = h
+  words_fit (leaf read) k h = h
+  words_fit (leaf (call f ws)) k h = omega (arith, h)
   words_fit _ k h = omega arith
 
   module _ (P : Value → Type 0) (goal : Goal) (d top : ℕ) (under : Option ℕ) (s : Standing P goal d top under) where

@@ -7,7 +7,7 @@ use Rattle.grin_syntax.specs.declared.program.Val.TheVariants as val
 use Rattle.grin_syntax.specs.declared.program.Shape as S
 use Rattle.grin_syntax.specs.declared.program.Shape.TheVariants as shape
 use Rattle.grin_syntax.specs.Tree as grin
-use Rattle.grin_syntax.specs.Tree.{Code, end, store, bind, Act, unit, fetch, fetch_word, update, eval, apply, call, prim, read, write, case, nested, fail, Arms, no_arm, arm, Procedure}
+use Rattle.grin_syntax.specs.Tree.{Code, end, store, bind, Act, leaf, unit, fetch, fetch_word, update, eval, apply, call, prim, read, write, case, nested, fail, Arms, no_arm, arm, Procedure}
 use Rattle.grin_syntax.specs.Fresh.{past_procs}
 use Rattle.grin_syntax.specs.Formed.{AllOf}
 use Rattle.grin_meaning.specs.Ready.{most_fields, most_value_fields, val_width}
@@ -36,13 +36,13 @@ ShapeRanged (shape.Int k) = Has32Bits k
 ShapeRanged _ = Unit {0}
 
 abbrev pub PlainRanged : Act → Type 0
-PlainRanged (unit v) = ValRanged v
-PlainRanged (fetch w) = WordRanged w
-PlainRanged (fetch_word w i) = WordRanged w
-PlainRanged (update w v) = WordRanged w × ValRanged v
-PlainRanged (call f ws) = AllOf WordRanged ws
-PlainRanged (prim f a b) = WordRanged a × WordRanged b
-PlainRanged (write w) = WordRanged w
+PlainRanged (leaf (unit v)) = ValRanged v
+PlainRanged (leaf (fetch w)) = WordRanged w
+PlainRanged (leaf (fetch_word w i)) = WordRanged w
+PlainRanged (leaf (update w v)) = WordRanged w × ValRanged v
+PlainRanged (leaf (call f ws)) = AllOf WordRanged ws
+PlainRanged (leaf (prim f a b)) = WordRanged a × WordRanged b
+PlainRanged (leaf (write w)) = WordRanged w
 PlainRanged _ = Unit {0}
 
 -- the last alternative of a case needs no test
@@ -72,12 +72,12 @@ unfoldable mutual
 module _ (node_width : ℕ) (results : List ℕ) (r : ℕ) where
   unfoldable mutual
     pub ActGives : Act → Type 0
-    ActGives (unit v) = val_width node_width v ≤ r
-    ActGives (fetch w) = node_width ≤ r
-    ActGives (fetch_word w i) = 1 ≤ r
-    ActGives (prim f a b) = 1 ≤ r
-    ActGives read = 1 ≤ r
-    ActGives (call f ws) = results_of results f.0 ≡ r
+    ActGives (leaf (unit v)) = val_width node_width v ≤ r
+    ActGives (leaf (fetch w)) = node_width ≤ r
+    ActGives (leaf (fetch_word w i)) = 1 ≤ r
+    ActGives (leaf (prim f a b)) = 1 ≤ r
+    ActGives (leaf read) = 1 ≤ r
+    ActGives (leaf (call f ws)) = results_of results f.0 ≡ r
     ActGives (case v as') = ArmsGive as'
     ActGives (nested b) = CodeGives b
     ActGives _ = Unit {0}
@@ -102,9 +102,9 @@ EachProcedureReturns node_width results _ _ = ⊥
 module _ (n node_width most : ℕ) where
   unfoldable mutual
     pub ActEnds : Act → Type 0
-    ActEnds (unit v) = val_width node_width v ≤ most
-    ActEnds (fetch w) = node_width ≤ most
-    ActEnds (call f ws) = f.0 < n
+    ActEnds (leaf (unit v)) = val_width node_width v ≤ most
+    ActEnds (leaf (fetch w)) = node_width ≤ most
+    ActEnds (leaf (call f ws)) = f.0 < n
     ActEnds (case v as') = ArmsEnd as'
     ActEnds (nested b) = CodeEnds b
     ActEnds _ = Unit {0}

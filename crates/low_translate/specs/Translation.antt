@@ -13,7 +13,7 @@ use Rattle.grin_syntax.specs.declared.program.PrimOp as G
 use Rattle.grin_syntax.specs.declared.program.PrimOp.TheVariants as grin_op
 use Rattle.grin_syntax.specs.declared.program.Cell as C
 use Rattle.grin_syntax.specs.Tree as grin
-use Rattle.grin_syntax.specs.Tree.{Act, unit, fetch, fetch_word, update, eval, apply, call, prim, read, write, case, nested, end, store, bind, no_arm}
+use Rattle.grin_syntax.specs.Tree.{Act, leaf, unit, fetch, fetch_word, update, eval, apply, call, prim, read, write, case, nested, end, store, bind, no_arm}
 use Rattle.grin_syntax.specs.Binders.{numbers_of, target_vars, cell_vars}
 use Rattle.low_code.specs.declared.program.PrimOp.{PrimOp}
 use Rattle.low_code.specs.declared.program.PrimOp.TheVariants as op
@@ -144,17 +144,17 @@ results_of (r ∷ rs) (suc f) = results_of rs f
 module _ (width : ℕ) (results : List ℕ) where
   -- how many words an operation at the end of a block has, beside those that need no variable
   abbrev pub end_words : ℕ → Act → ℕ
-  end_words k (fetch w) = min k width
-  end_words k (fetch_word w i) = 1
-  end_words k (prim f a b) = 1
-  end_words k read = 1
-  end_words k (call f ws) = results_of results f.0
+  end_words k (leaf (fetch w)) = min k width
+  end_words k (leaf (fetch_word w i)) = 1
+  end_words k (leaf (prim f a b)) = 1
+  end_words k (leaf read) = 1
+  end_words k (leaf (call f ws)) = results_of results f.0
   end_words k _ = 0
 
   -- how many numbers an operation without blocks takes, for the site of a call and for further
   -- variables
   abbrev pub plain_numbers : (variables : ℕ) → Act → ℕ
-  plain_numbers k (call f ws) = 1 + (results_of results f.0 - k)
+  plain_numbers k (leaf (call f ws)) = 1 + (results_of results f.0 - k)
   plain_numbers k _ = 0
 
   -- one at the end of a block, whose words go to variables of their own
@@ -162,12 +162,12 @@ module _ (width : ℕ) (results : List ℕ) where
   through_numbers goal o = end_words goal.words o + plain_numbers (end_words goal.words o) o
 
   abbrev pub plain_end_numbers : Goal → Act → ℕ
-  plain_end_numbers goal (unit v) = 0
-  plain_end_numbers goal grin.fail = 0
-  plain_end_numbers goal (eval w) = 0
-  plain_end_numbers goal (apply v w) = 0
-  plain_end_numbers goal (call f ws) =
-      elim goal.leaves [ true ↦ 1 | false ↦ through_numbers goal (call f ws) ]
+  plain_end_numbers goal (leaf (unit v)) = 0
+  plain_end_numbers goal (grin.leaf grin.fail) = 0
+  plain_end_numbers goal (leaf (eval w)) = 0
+  plain_end_numbers goal (leaf (apply v w)) = 0
+  plain_end_numbers goal (leaf (call f ws)) =
+      elim goal.leaves [ true ↦ 1 | false ↦ through_numbers goal (leaf (call f ws)) ]
   plain_end_numbers goal o = through_numbers goal o
 
   -- and a piece
@@ -193,19 +193,19 @@ module _ (width : ℕ) (results : List ℕ) where
 
   -- an operation without blocks whose words go to variables; the further numbers begin at n
   abbrev pub plain_code : (xs : List ℕ) → (n : ℕ) → Act → Code → Code
-  plain_code xs n (unit v) c = set_all xs (operands_of v) c
-  plain_code xs n (fetch w) c = load_all width xs (operand_of w) 0 c
-  plain_code xs n (fetch_word w i) c = to_first xs (λ x. load_word width x (operand_of w) i) c
-  plain_code xs n (update w v) c =
+  plain_code xs n (leaf (unit v)) c = set_all xs (operands_of v) c
+  plain_code xs n (leaf (fetch w)) c = load_all width xs (operand_of w) 0 c
+  plain_code xs n (leaf (fetch_word w i)) c = to_first xs (λ x. load_word width x (operand_of w) i) c
+  plain_code xs n (leaf (update w v)) c =
       save_all (operand_of w) 0 (padded_to_width width (operands_of v)) (set_all xs [] c)
-  plain_code xs n (call f ws) c =
+  plain_code xs n (leaf (call f ws)) c =
       let r = results_of results f.0 in
       low.call f.0 n (operands_of_words ws) (take r xs ++ numbers_from (suc n) (r - length xs))
       (set_all (drop r xs) [] c)
-  plain_code xs n (prim f a b) c =
+  plain_code xs n (leaf (prim f a b)) c =
       to_first xs (λ x. low.prim (operation_of f) x (operand_of a) (operand_of b)) c
-  plain_code xs n read c = to_first xs (λ x. get x) c
-  plain_code xs n (write w) c = put (operand_of w) (set_all xs [] c)
+  plain_code xs n (leaf read) c = to_first xs (λ x. get x) c
+  plain_code xs n (leaf (write w)) c = put (operand_of w) (set_all xs [] c)
   plain_code xs n _ c = join xs low.fail c
 
   -- one at the end of a block, whose words go to variables of their own and are given
@@ -216,13 +216,13 @@ module _ (width : ℕ) (results : List ℕ) where
       (give (padded_to_width goal.words (variables_of xs)))
 
   abbrev pub plain_end : Goal → (n : ℕ) → Act → Code
-  plain_end goal n (unit v) = give (padded_to_width goal.words (operands_of v))
-  plain_end goal n grin.fail = low.fail
-  plain_end goal n (eval w) = low.fail
-  plain_end goal n (apply v w) = low.fail
-  plain_end goal n (call f ws) = elim goal.leaves [
+  plain_end goal n (leaf (unit v)) = give (padded_to_width goal.words (operands_of v))
+  plain_end goal n (grin.leaf grin.fail) = low.fail
+  plain_end goal n (leaf (eval w)) = low.fail
+  plain_end goal n (leaf (apply v w)) = low.fail
+  plain_end goal n (leaf (call f ws)) = elim goal.leaves [
     | true ↦ tail f.0 n (operands_of_words ws)
-    | false ↦ through goal n (call f ws)
+    | false ↦ through goal n (leaf (call f ws))
   ]
   plain_end goal n o = through goal n o
 

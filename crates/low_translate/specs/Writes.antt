@@ -6,7 +6,7 @@ use Rattle.grin_syntax.specs.declared.program.Word.TheVariants.{TagWord}
 use Rattle.grin_syntax.specs.declared.program.Val as V
 use Rattle.grin_syntax.specs.declared.program.Val.TheVariants as val
 use Rattle.grin_syntax.specs.declared.program.Cell as C
-use Rattle.grin_syntax.specs.Tree.{Code, end, store, bind, Act, update, case, nested, Arms, no_arm, arm, Procedure, Program}
+use Rattle.grin_syntax.specs.Tree.{Code, end, store, bind, Act, leaf, update, case, nested, Arms, no_arm, arm, Procedure, Program}
 use Rattle.grin_meaning.specs.Ready.{most_fields}
 
 -- no more fields than a tag has
@@ -40,7 +40,7 @@ module _ (tags : List Tag) where
 
   unfoldable mutual
     pub act_writes : Act → ℕ
-    act_writes (update w v) = fields_in v
+    act_writes (leaf (update w v)) = fields_in v
     act_writes (case v as') = arms_write as'
     act_writes (nested b) = code_writes b
     act_writes _ = 0

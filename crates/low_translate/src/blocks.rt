@@ -4,7 +4,7 @@
 ghost use Rattle.std.specs.Prelude.{◌≡◌, [], map, length, take, drop, min, IfOk, OnOk};
 ghost use Rattle.grin_syntax.specs.Binders.{numbers_of, target_vars};
 ghost use Rattle.grin_syntax.specs.Formed.{AllOf};
-ghost use Rattle.grin_syntax.specs.Tree.{call, act_of, arms_of, arm_of, before_of, code_of, procedure_of};
+ghost use Rattle.grin_syntax.specs.Tree.{leaf, call, act_of, arms_of, arm_of, before_of, code_of, procedure_of};
 ghost use Rattle.low_code.specs.Tree as low;
 ghost use Rattle.low_translate.specs.Emitted.{AppendsBefore, PlainDone, ActDone, ThroughDone, PlainEndDone, EndDone, BlockDone, StmtDone, ArmsDone, ProcedureDone};
 ghost use Rattle.low_translate.specs.Translation.{operand_of, operands_of, operation_of, variables_of, results_of, to_first, set_all, save_all, padded_to_width, load_word, end_words};
@@ -100,7 +100,7 @@ impl LoweringPlan<'_> {
         words: &[Word],
     ) -> Result<(), AllocError>
         ensures { OnOk result (PlainDone self.now.width self.now.results.now numbers.old.next
-            numbers.new.next vars.now (call f words.now) made.old made.new) }
+            numbers.new.next vars.now (leaf (call f words.now)) made.old made.new) }
     {
         let site = numbers.one()?;
         let count = self.results(f) as usize;
@@ -191,10 +191,10 @@ impl LoweringPlan<'_> {
         f: ProcId,
         words: &[Word],
     ) -> Result<LowEnd, AllocError>
-        requires { act_of op.now ≡ call f words.now }
+        requires { act_of op.now ≡ leaf (call f words.now) }
         ensures { IfOk result (λ e.
             PlainEndDone self.now.width self.now.results.now numbers.old.next numbers.new.next goal
-            (call f words.now) made.old made.new (low.end_of e)) }
+            (leaf (call f words.now)) made.old made.new (low.end_of e)) }
     {
         if !goal.leaves {
             return self.through(alloc, numbers, made, goal, op);

@@ -85,7 +85,7 @@ impl Groups {
     }
 
     /// Gives each number the value of the first one of its group.
-    pub(crate) fn spread(&self, values: &mut Vec<u32>)
+    pub(crate) fn spread_over_groups(&self, values: &mut Vec<u32>)
         requires many { length values.old.items ≡ length self.now.parents.items }
         requires ordered { ParentsAreSmaller self.now.parents.items }
         requires raised { (x : ℕ) → x < length self.now.parents.items

@@ -111,6 +111,6 @@ pub(crate) fn results(alloc: Global, node: usize, procs: &[Proc]) -> Result<Vec<
         widths.push(width as u32)?;
     }
     groups.raise(&mut widths);
-    groups.spread(&mut widths);
+    groups.spread_over_groups(&mut widths);
     Ok(widths)
 }

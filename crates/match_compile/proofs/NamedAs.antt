@@ -17,7 +17,7 @@ use Rattle.arity_check.specs.Scope.{is_named, primitives, primitive_from}
 use Rattle.match_compile.specs.Source.{Source}
 use Rattle.match_compile.specs.Sound.{name_of_equation, equations_as_functions}
 use Rattle.match_compile.specs.Decisions.{decisions}
-use Rattle.match_compile.specs.Translated.{is_nameless, param_name, field_name, most_params, most_fields_of, with_nameless, texts, translated}
+use Rattle.match_compile.specs.Translated.{is_nameless, param_name, field_name, most_params, most_fields_of, with_nameless, numbered_texts, translated}
 
 -- ---- lists
 
@@ -92,7 +92,7 @@ primitive_apart {q = q} n e = all_get (λ q. IsApart q.0) primitives n q all_apa
 
 -- ---- the tables
 
-texts_new : (n : ℕ) (f : ℕ → List ℕ) → ((k : ℕ) → IsNew (f k)) → {b : List ℕ} → In b (texts n f) → IsNew b
+texts_new : (n : ℕ) (f : ℕ → List ℕ) → ((k : ℕ) → IsNew (f k)) → {b : List ℕ} → In b (numbered_texts n f) → IsNew b
 texts_new n f g h = let r = map_in f (range_with_len 0 n) h in (((g r.0).0), r.2 ∙ (g r.0).1)
 
 equation_new : (k : ℕ) → IsNew (name_of_equation k)
@@ -139,14 +139,14 @@ module _ (c : Source) where
   -- those behind the source's texts
   abbrev new_texts : List (List ℕ)
   new_texts =
-      texts (length c.equations) name_of_equation
-      ++ (texts (most_params c.equations) param_name
-      ++ texts (most_fields_of (decisions c)) field_name)
+      numbered_texts (length c.equations) name_of_equation
+      ++ (numbered_texts (most_params c.equations) param_name
+      ++ numbered_texts (most_fields_of (decisions c)) field_name)
 
   texts_are_new : {b : List ℕ} → In b new_texts → IsNew b
-  texts_are_new h = elim (in_split (texts (length c.equations) name_of_equation) (texts (most_params c.equations) param_name ++ texts (most_fields_of (decisions c)) field_name) h) [
+  texts_are_new h = elim (in_split (numbered_texts (length c.equations) name_of_equation) (numbered_texts (most_params c.equations) param_name ++ numbered_texts (most_fields_of (decisions c)) field_name) h) [
     | inl k ↦ texts_new (length c.equations) name_of_equation equation_new k
-    | inr k ↦ ⊎_elim (texts_new (most_params c.equations) param_name param_new) (texts_new (most_fields_of (decisions c)) field_name field_new) (in_split (texts (most_params c.equations) param_name) (texts (most_fields_of (decisions c)) field_name) k)
+    | inr k ↦ ⊎_elim (texts_new (most_params c.equations) param_name param_new) (texts_new (most_fields_of (decisions c)) field_name field_new) (in_split (numbered_texts (most_params c.equations) param_name) (numbered_texts (most_fields_of (decisions c)) field_name) k)
   ]
 
   pub text_of_translated : {b : List ℕ} (x : ℕ) → slice_get (translated c).names x ≡ Some b → (slice_get c.names x ≡ Some b) ⊎ IsMade b

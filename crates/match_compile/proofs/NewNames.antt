@@ -18,7 +18,7 @@ use Rattle.match_compile.specs.Source.{Source}
 use Rattle.match_compile.specs.Grammar.{IsSourceText}
 use Rattle.match_compile.specs.Rules.{is_reserved, IsReserved}
 use Rattle.match_compile.specs.Sound.{name_of_equation}
-use Rattle.match_compile.specs.Translated.{is_nameless, with_nameless, texts, param_name, field_name}
+use Rattle.match_compile.specs.Translated.{is_nameless, with_nameless, numbered_texts, param_name, field_name}
 use Rattle.match_compile.specs.NamesOf.{IsUnreservedName}
 
 -- ---- of a text
@@ -110,13 +110,13 @@ apart_by text k zero w h = All-nil (λ v. v ≢ w)
 apart_by text k (suc n) w h = All-cons (λ v. v ≢ w) (text k) (map text (range_with_len (k + 1) n)) (h k) (apart_by text (k + 1) n w h)
 
 -- free names, and names that begin so
-free_apart : (text after : ℕ → List ℕ) (n : ℕ) (ws : List (List ℕ)) → ((k : ℕ) → text k ≡ codes "match'" ++ after k) → All IsUnreservedName ws → Apart (texts n text) ws
-free_apart text after n [] b f = All-nil (λ w. All (λ v. v ≢ w) (texts n text))
-free_apart text after n (w ∷ ws) b f = All-cons (λ w. All (λ v. v ≢ w) (texts n text)) w ws (apart_by text 0 n w (λ m e. All-head IsUnreservedName w ws f (after m) (sym e ∙ b m))) (free_apart text after n ws b (All-tail IsUnreservedName w ws f))
+free_apart : (text after : ℕ → List ℕ) (n : ℕ) (ws : List (List ℕ)) → ((k : ℕ) → text k ≡ codes "match'" ++ after k) → All IsUnreservedName ws → Apart (numbered_texts n text) ws
+free_apart text after n [] b f = All-nil (λ w. All (λ v. v ≢ w) (numbered_texts n text))
+free_apart text after n (w ∷ ws) b f = All-cons (λ w. All (λ v. v ≢ w) (numbered_texts n text)) w ws (apart_by text 0 n w (λ m e. All-head IsUnreservedName w ws f (after m) (sym e ∙ b m))) (free_apart text after n ws b (All-tail IsUnreservedName w ws f))
 
-texts_apart : (text text' : ℕ → List ℕ) (n k m : ℕ) → k + m ≤ 2 ^ 32 → ((i j : ℕ) → j < 2 ^ 32 → text i ≢ text' j) → Apart (texts n text) (map text' (range_with_len k m))
-texts_apart text text' n k zero l h = All-nil (λ w. All (λ v. v ≢ w) (texts n text))
-texts_apart text text' n k (suc m) l h = All-cons (λ w. All (λ v. v ≢ w) (texts n text)) (text' k) (map text' (range_with_len (k + 1) m)) (apart_by text 0 n (text' k) (λ i e. h i k (omega arith) e)) (texts_apart text text' n (k + 1) m (omega arith) h)
+texts_apart : (text text' : ℕ → List ℕ) (n k m : ℕ) → k + m ≤ 2 ^ 32 → ((i j : ℕ) → j < 2 ^ 32 → text i ≢ text' j) → Apart (numbered_texts n text) (map text' (range_with_len k m))
+texts_apart text text' n k zero l h = All-nil (λ w. All (λ v. v ≢ w) (numbered_texts n text))
+texts_apart text text' n k (suc m) l h = All-cons (λ w. All (λ v. v ≢ w) (numbered_texts n text)) (text' k) (map text' (range_with_len (k + 1) m)) (apart_by text 0 n (text' k) (λ i e. h i k (omega arith) e)) (texts_apart text text' n (k + 1) m (omega arith) h)
 
 -- a letter is no digit
 no_digit : (n c : ℕ) (ds : List ℕ) → 57 < c → n < 2 ^ 64 → c ∷ ds ≢ decimal n
@@ -175,11 +175,11 @@ with_nameless_free names f = go (position is_nameless names)
 
 -- all names of the program
 pub all_different : (names : List (List ℕ)) (e p f : ℕ) → e ≤ 2 ^ 32 → p ≤ 2 ^ 32 → f ≤ 2 ^ 32 → AreDistinct names → All IsUnreservedName names
-    → AreDistinct (names ++ (texts e name_of_equation ++ (texts p param_name ++ texts f field_name)))
+    → AreDistinct (names ++ (numbered_texts e name_of_equation ++ (numbered_texts p param_name ++ numbered_texts f field_name)))
 all_different names e p f le lp lf d free =
-    let params = texts p param_name in
-    let fields = texts f field_name in
-    let equations = texts e name_of_equation in
+    let params = numbered_texts p param_name in
+    let fields = numbered_texts f field_name in
+    let equations = numbered_texts e name_of_equation in
     let new : AreDistinct (equations ++ (params ++ fields)) =
     append_different equations (params ++ fields) (numbered_different (codes "match'") 0 e (omega (arith, le)))
     (append_different params fields (numbered_different (codes "match'p") 0 p (omega (arith, lp))) (numbered_different (codes "match'q") 0 f (omega (arith, lf))) (texts_apart field_name param_name f 0 p (omega (arith, lp)) letters_apart))
@@ -189,7 +189,7 @@ all_different names e p f le lp lf d free =
     (apart_append params fields names (free_apart param_name (λ k. 112 ∷ decimal k) p names (λ k. refl) free) (free_apart field_name (λ k. 113 ∷ decimal k) f names (λ k. refl) free)))
 
 pub new_different : (names : List (List ℕ)) (e p f : ℕ) → e < 2 ^ 32 → p < 2 ^ 32 → f < 2 ^ 32 → AreDistinct names → All IsUnreservedName names
-    → AreDistinct (with_nameless names ++ (texts e name_of_equation ++ (texts p param_name ++ texts f field_name)))
+    → AreDistinct (with_nameless names ++ (numbered_texts e name_of_equation ++ (numbered_texts p param_name ++ numbered_texts f field_name)))
 new_different names e p f le lp lf d free =
     all_different (with_nameless names) e p f (omega (arith, le)) (omega (arith, lp)) (omega (arith, lf)) (with_nameless_different names d) (with_nameless_free names free)
 

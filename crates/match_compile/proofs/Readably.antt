@@ -37,7 +37,7 @@ use Rattle.match_compile.specs.Heads.{Head, Integer, Constructor}
 use Rattle.match_compile.specs.Trees.{Tree, Body, Case, Branches, NoBranch, AndBranch, Default, NoDefault, ATree}
 use Rattle.match_compile.specs.Decisions.{Decision, decisions}
 use Rattle.match_compile.specs.Renamed.{renamed_name, shadowing, renamed_term, renamed_terms, renamed_bind, renamed_expr, renamed_alts}
-use Rattle.match_compile.specs.Translated.{name_supply_of, bound_at, first_bound, first_bound_in, all_bind, stays, is_nameless, param_name, field_name, most_params, most_fields, most_fields_of, with_nameless, texts, nameless, equation_name, keeps, place_name, taken, binder, name_or, with_fields, binders, pattern_of, expr_of, alts_of, default_of, param_stays, with_params, arguments, call, is_called, function_of, next_of, first_of, each_of, others_of, firsts, others, translated}
+use Rattle.match_compile.specs.Translated.{name_supply_of, bound_at, first_bound, first_bound_in, all_bind, stays, is_nameless, param_name, field_name, most_params, most_fields, most_fields_of, with_nameless, numbered_texts, nameless, equation_name, keeps, place_name, taken, binder, name_or, with_fields, binders, pattern_of, expr_of, alts_of, default_of, param_stays, with_params, arguments, call, is_called, function_of, next_of, first_of, each_of, others_of, firsts, others, translated}
 use Rattle.match_compile.specs.NamesOf.{IsUnreservedName, NewNamesFit}
 use Rattle.match_compile.proofs.NewNames.{new_different}
 use Rattle.match_compile.proofs.NamedAs.{translated_text, nameless_text}
@@ -75,7 +75,7 @@ text_from text a zero k l = absurd (omega (arith, l))
 text_from text a (suc n) zero l = ap (λ i. Some (text i)) (omega arith)
 text_from text a (suc n) (suc k) l = let e : a + 1 + k ≡ a + suc k = omega arith in text_from text (a + 1) n k (omega (arith, l)) ∙ ap (λ i. Some (text i)) e
 
-text_at : (text : ℕ → List ℕ) (n k : ℕ) → k < n → slice_get (texts n text) k ≡ Some (text k)
+text_at : (text : ℕ → List ℕ) (n k : ℕ) → k < n → slice_get (numbered_texts n text) k ≡ Some (text k)
 text_at text n k l = let e : 0 + k ≡ k = omega arith in text_from text 0 n k l ∙ ap (λ i. Some (text i)) e
 
 both_all : {X : Type 0} (P Q : X → Type 0) (xs : List X) → AllOf P xs → AllOf Q xs → AllOf (λ x. P x × Q x) xs
@@ -175,33 +175,33 @@ module _ (c : Source) where
     equation_named : (k : ℕ) → k < equations → IsNamed all (equation_name (name_supply_of c) k)
     equation_named k l = (
       name_of_equation k,
-      get_right (with_nameless c.names) (texts equations name_of_equation ++ (texts params_most param_name ++ texts fields_most field_name)) k (name_of_equation k)
-          (get_left (texts equations name_of_equation) (texts params_most param_name ++ texts fields_most field_name) k (name_of_equation k) (text_at name_of_equation equations k l)),
+      get_right (with_nameless c.names) (numbered_texts equations name_of_equation ++ (numbered_texts params_most param_name ++ numbered_texts fields_most field_name)) k (name_of_equation k)
+          (get_left (numbered_texts equations name_of_equation) (numbered_texts params_most param_name ++ numbered_texts fields_most field_name) k (name_of_equation k) (text_at name_of_equation equations k l)),
       name_is (decimal k) (decimal_inner k (omega (arith, l, few.equations))),
     )
 
     -- behind the names of equations
-    behind : (i : ℕ) (text : List ℕ) → slice_get (texts params_most param_name ++ texts fields_most field_name) i ≡ Some text → slice_get all (length (with_nameless c.names) + equations + i) ≡ Some text
+    behind : (i : ℕ) (text : List ℕ) → slice_get (numbered_texts params_most param_name ++ numbered_texts fields_most field_name) i ≡ Some text → slice_get all (length (with_nameless c.names) + equations + i) ≡ Some text
     behind i text e =
-        let long : length (texts equations name_of_equation) ≡ equations = length-map-range_with_len name_of_equation 0 equations in
-        let at : length (with_nameless c.names) + (length (texts equations name_of_equation) + i) ≡ length (with_nameless c.names) + equations + i = omega (arith, long) in
+        let long : length (numbered_texts equations name_of_equation) ≡ equations = length-map-range_with_len name_of_equation 0 equations in
+        let at : length (with_nameless c.names) + (length (numbered_texts equations name_of_equation) + i) ≡ length (with_nameless c.names) + equations + i = omega (arith, long) in
         subst (λ j. slice_get all j ≡ Some text) at
-        (get_right (with_nameless c.names) (texts equations name_of_equation ++ (texts params_most param_name ++ texts fields_most field_name)) (length (texts equations name_of_equation) + i) text
-        (get_right (texts equations name_of_equation) (texts params_most param_name ++ texts fields_most field_name) i text e))
+        (get_right (with_nameless c.names) (numbered_texts equations name_of_equation ++ (numbered_texts params_most param_name ++ numbered_texts fields_most field_name)) (length (numbered_texts equations name_of_equation) + i) text
+        (get_right (numbered_texts equations name_of_equation) (numbered_texts params_most param_name ++ numbered_texts fields_most field_name) i text e))
 
     column_named : (p : ℕ) → p < params_most → IsNamed all (length (with_nameless c.names) + equations + p)
     column_named p l = (
       param_name p,
-      behind p (param_name p) (get_left (texts params_most param_name) (texts fields_most field_name) p (param_name p) (text_at param_name params_most p l)),
+      behind p (param_name p) (get_left (numbered_texts params_most param_name) (numbered_texts fields_most field_name) p (param_name p) (text_at param_name params_most p l)),
       name_is (codes "p" ++ decimal p) (decimal_inner p (omega (arith, l, few.params))),
     )
 
     field_named : (i : ℕ) → i < fields_most → IsNamed all (length (with_nameless c.names) + equations + (params_most + i))
     field_named i l =
-        let long : length (texts params_most param_name) ≡ params_most = length-map-range_with_len param_name 0 params_most in (
+        let long : length (numbered_texts params_most param_name) ≡ params_most = length-map-range_with_len param_name 0 params_most in (
           field_name i,
           behind (params_most + i) (field_name i)
-              (subst (λ n. slice_get (texts params_most param_name ++ texts fields_most field_name) (n + i) ≡ Some (field_name i)) long (get_right (texts params_most param_name) (texts fields_most field_name) i (field_name i) (text_at field_name fields_most i l))),
+              (subst (λ n. slice_get (numbered_texts params_most param_name ++ numbered_texts fields_most field_name) (n + i) ≡ Some (field_name i)) long (get_right (numbered_texts params_most param_name) (numbered_texts fields_most field_name) i (field_name i) (text_at field_name fields_most i l))),
           name_is (codes "q" ++ decimal i) (decimal_inner i (omega (arith, l, few.fields))),
         )
 
@@ -218,7 +218,7 @@ module _ (c : Source) where
         let same : t.0 ≡ codes "_" = (bytes_eq-Decides t.0 (codes "_")).0 t.2 in
         let kind : IsName (codes "_") = (refl, refl) in (
           t.0,
-          get_left (with_nameless c.names) (texts equations name_of_equation ++ (texts params_most param_name ++ texts fields_most field_name)) (nameless (name_supply_of c)) t.0 t.1,
+          get_left (with_nameless c.names) (numbered_texts equations name_of_equation ++ (numbered_texts params_most param_name ++ numbered_texts fields_most field_name)) (nameless (name_supply_of c)) t.0 t.1,
           subst IsName (sym same) kind,
         )
 

@@ -102,17 +102,17 @@ with_nameless names = elim (position is_nameless names) [
   | None ↦ names ++ codes "_" ∷ []
 ]
 
-abbrev pub texts : (n : ℕ) → (ℕ → List ℕ) → List (List ℕ)
-texts n text = map text (range_with_len 0 n)
+abbrev pub numbered_texts : (n : ℕ) → (ℕ → List ℕ) → List (List ℕ)
+numbered_texts n text = map text (range_with_len 0 n)
 
 -- the names of the text, then one for each equation, for each column, and for as many fields as a
 -- tree has
 abbrev pub names : Source → List (List ℕ)
 names c =
     with_nameless c.names
-    ++ (texts (length c.equations) name_of_equation
-    ++ (texts (most_params c.equations) param_name
-    ++ texts (most_fields_of (decisions c)) field_name))
+    ++ (numbered_texts (length c.equations) name_of_equation
+    ++ (numbered_texts (most_params c.equations) param_name
+    ++ numbered_texts (most_fields_of (decisions c)) field_name))
 
 -- what new names go by: the names of the text, the number of its equations, and the largest number
 -- of their patterns

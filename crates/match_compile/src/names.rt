@@ -7,7 +7,7 @@ ghost use Rattle.core_reader.specs.Different.{AreDistinct};
 ghost use Rattle.match_compile.specs.SourceOf.{equation_of};
 ghost use Rattle.match_compile.specs.Parts.{count};
 ghost use Rattle.match_compile.specs.Sound.{name_of_equation};
-ghost use Rattle.match_compile.specs.Translated.{is_nameless, with_nameless, texts, param_name, field_name, most_params, most_fields, most_fields_of};
+ghost use Rattle.match_compile.specs.Translated.{is_nameless, with_nameless, numbered_texts, param_name, field_name, most_params, most_fields, most_fields_of};
 ghost use Rattle.match_compile.specs.DecisionOf.{decisions_of};
 ghost use Rattle.match_compile.specs.NamesOf.{IsUnreservedName};
 
@@ -37,7 +37,7 @@ fn add_numbered(
     entries: &mut Vec<Seq<u8>>,
 ) -> Result<(), AllocError>
     ensures { IfOk result (λ _. entries.new.items
-        ≡ entries.old.items ++ texts count (λ k. start.now ++ decimal k)) }
+        ≡ entries.old.items ++ numbered_texts count (λ k. start.now ++ decimal k)) }
 {
     for number in 0..count {
         entries.push(numbered(alloc, start, number)?)?;
@@ -82,8 +82,8 @@ pub fn with_new(
     fields: u32,
 ) -> Result<Names, AllocError>
     requires { All IsUnreservedName names }
-    ensures { IfOk result (λ all. all ≡ with_nameless names ++ (texts equations name_of_equation
-        ++ (texts params param_name ++ texts fields field_name))) }
+    ensures { IfOk result (λ all. all ≡ with_nameless names ++ (numbered_texts equations name_of_equation
+        ++ (numbered_texts params param_name ++ numbered_texts fields field_name))) }
 {
     let mut entries = with_nameless(alloc, names.into_vec())?;
     add_numbered(alloc, b"match'", equations, &mut entries)?;

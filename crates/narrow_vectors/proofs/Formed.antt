@@ -14,7 +14,7 @@ use Rattle.grin_syntax.specs.declared.program.Target.TheVariants as to
 use Rattle.grin_syntax.specs.declared.program.Word as W
 use Rattle.grin_syntax.specs.declared.program.Val as V
 use Rattle.grin_syntax.specs.declared.program.Val.TheVariants.{NodeVar, Node, Vector, One}
-use Rattle.grin_syntax.specs.Tree.{Code, end, store, bind, Act, unit, fetch, fetch_word, update, eval, apply, call, prim, read, write, case, nested, fail, Arms, no_arm, arm, Procedure, Program}
+use Rattle.grin_syntax.specs.Tree.{Code, end, store, bind, Act, leaf, unit, fetch, fetch_word, update, eval, apply, call, prim, read, write, case, nested, fail, Arms, no_arm, arm, Procedure, Program}
 use Rattle.grin_syntax.specs.Binders.{numbers_of, target_vars, shape_vars, cell_vars, act_vars, code_vars, arms_vars, procs_vars, act_sites, code_sites, arms_sites, procs_sites}
 use Rattle.grin_syntax.specs.Formed.{AllOf, Scope, InScope, with_word_variables, with_target, params_scope, WordFormed, ValFormed, CellFormed, ActFormed, CodeFormed, ArmsFormed, ProcedureFormed, Formed}
 use Rattle.grin_syntax.specs.SameOutside.{names_of, DifferOnlyInBodies}
@@ -84,17 +84,7 @@ module _ (count : ℕ) (A : Solution) where
     act_counts : (y : ℕ) (p : WordSelection) (o : Act) → times y (act_vars (narrow_act count A p o)) ≤ times y (act_vars o)
     act_counts y p (case v as') = arms_counts y p as'
     act_counts y p (nested b) = code_counts y p b
-    act_counts y p (unit v) = omega arith
-    act_counts y p (fetch a) = omega arith
-    act_counts y p (fetch_word a i) = omega arith
-    act_counts y p (update a v) = omega arith
-    act_counts y p (eval a) = omega arith
-    act_counts y p (apply v a) = omega arith
-    act_counts y p (call f ws) = omega arith
-    act_counts y p (prim f a b) = omega arith
-    act_counts y p read = omega arith
-    act_counts y p (write a) = omega arith
-    act_counts y p fail = omega arith
+    act_counts y p (leaf l) = omega arith
 
     code_counts : (y : ℕ) (p : WordSelection) (b : Code) → times y (code_vars (narrow_code count A p b)) ≤ times y (code_vars b)
     code_counts y p (end o) = act_counts y p o
@@ -120,17 +110,7 @@ module _ (count : ℕ) (A : Solution) where
     act_sites_stay : (p : WordSelection) (o : Act) → act_sites (narrow_act count A p o) ≡ act_sites o
     act_sites_stay p (case v as') = arms_sites_stay p as'
     act_sites_stay p (nested b) = code_sites_stay p b
-    act_sites_stay p (unit v) = refl
-    act_sites_stay p (fetch a) = refl
-    act_sites_stay p (fetch_word a i) = refl
-    act_sites_stay p (update a v) = refl
-    act_sites_stay p (eval a) = refl
-    act_sites_stay p (apply v a) = refl
-    act_sites_stay p (call f ws) = refl
-    act_sites_stay p (prim f a b) = refl
-    act_sites_stay p read = refl
-    act_sites_stay p (write a) = refl
-    act_sites_stay p fail = refl
+    act_sites_stay p (leaf l) = refl
 
     code_sites_stay : (p : WordSelection) (b : Code) → code_sites (narrow_code count A p b) ≡ code_sites b
     code_sites_stay p (end o) = act_sites_stay p o
@@ -208,26 +188,26 @@ module _ (count : ℕ) (A : Solution) where
         arms_formed as' p scope scope' (covers_right (Carried scope scope') (used_in_val v) (used_in_arms (narrow_arms count A p as')) c) f.1 n.2,
       )
       act_formed (nested b) p scope scope' c f n = code_formed b p scope scope' c f n.1
-      act_formed (unit v) p scope scope' c f n = val_formed g procs same_count scope scope' (picked_val p v) (no_variable p v n.1) c (picked_formed p scope v f)
-      act_formed (fetch a) p scope scope' c f n = word_formed g procs same_count scope scope' a c f
-      act_formed (fetch_word a i) p scope scope' c f n = word_formed g procs same_count scope scope' a c f
-      act_formed (update a v) p scope scope' c f n = (
+      act_formed (leaf (unit v)) p scope scope' c f n = val_formed g procs same_count scope scope' (picked_val p v) (no_variable p v n.1) c (picked_formed p scope v f)
+      act_formed (leaf (fetch a)) p scope scope' c f n = word_formed g procs same_count scope scope' a c f
+      act_formed (leaf (fetch_word a i)) p scope scope' c f n = word_formed g procs same_count scope scope' a c f
+      act_formed (leaf (update a v)) p scope scope' c f n = (
         word_formed g procs same_count scope scope' a (covers_left (Carried scope scope') (used_in_word a) (used_in_val v) c) f.0,
         val_formed g procs same_count scope scope' v n.1 (covers_right (Carried scope scope') (used_in_word a) (used_in_val v) c) f.1,
       )
-      act_formed (eval a) p scope scope' c f n = word_formed g procs same_count scope scope' a c f
-      act_formed (apply v a) p scope scope' c f n = (
+      act_formed (leaf (eval a)) p scope scope' c f n = word_formed g procs same_count scope scope' a c f
+      act_formed (leaf (apply v a)) p scope scope' c f n = (
         val_formed g procs same_count scope scope' v n.1 (covers_left (Carried scope scope') (used_in_val v) (used_in_word a) c) f.0,
         word_formed g procs same_count scope scope' a (covers_right (Carried scope scope') (used_in_val v) (used_in_word a) c) f.1,
       )
-      act_formed (call r ws) p scope scope' c f n = (known_again g procs same_count r f.0, words_formed g procs same_count scope scope' ws c f.1)
-      act_formed (prim r a b) p scope scope' c f n = (
+      act_formed (leaf (call r ws)) p scope scope' c f n = (known_again g procs same_count r f.0, words_formed g procs same_count scope scope' ws c f.1)
+      act_formed (leaf (prim r a b)) p scope scope' c f n = (
         word_formed g procs same_count scope scope' a (covers_left (Carried scope scope') (used_in_word a) (used_in_word b) c) f.0,
         word_formed g procs same_count scope scope' b (covers_right (Carried scope scope') (used_in_word a) (used_in_word b) c) f.1,
       )
-      act_formed read p scope scope' c f n = tt
-      act_formed (write a) p scope scope' c f n = word_formed g procs same_count scope scope' a c f
-      act_formed fail p scope scope' c f n = tt
+      act_formed (leaf read) p scope scope' c f n = tt
+      act_formed (leaf (write a)) p scope scope' c f n = word_formed g procs same_count scope scope' a c f
+      act_formed (leaf fail) p scope scope' c f n = tt
 
       code_formed : (b : Code) (p : WordSelection) (scope : Scope) (scope' : List ℕ) → Covers (Carried scope scope') (used_in_code (narrow_code count A p b)) → CodeFormed g scope b → EachCode vectorised_kind b → CodeFormed there (as_scope scope') (narrow_code count A p b)
       code_formed (end o) p scope scope' c f n = act_formed o p scope scope' c f n

@@ -9,7 +9,7 @@ use Rattle.grin_syntax.specs.declared.program.Target.{Target}
 use Rattle.grin_syntax.specs.declared.program.Target.TheVariants as to
 use Rattle.grin_syntax.specs.declared.program.Val as V
 use Rattle.grin_syntax.specs.declared.program.Val.TheVariants.{NodeVar, Node, Vector, One}
-use Rattle.grin_syntax.specs.Tree.{Code, end, store, bind, Act, unit, fetch, fetch_word, update, eval, apply, call, prim, read, write, case, nested, fail, Arms, no_arm, arm, Procedure}
+use Rattle.grin_syntax.specs.Tree.{Code, end, store, bind, Act, leaf, unit, fetch, fetch_word, update, eval, apply, call, prim, read, write, case, nested, fail, Arms, no_arm, arm, Procedure}
 use Rattle.grin_syntax.specs.Binders.{numbers_of, target_vars}
 use Rattle.grin_syntax.specs.Formed.{AllOf}
 use Rattle.grin_meaning.specs.Ready.{EachAct, EachCode, EachArms, NoNodeTarget, NoNodeVar, val_width, NarrowAct, NarrowCode, NarrowArms, PieceKind, EveryBodyIsOfKind, inlined_kind, without_node_fetches, vectorised_kind, narrow_kind}
@@ -42,17 +42,17 @@ module _ (count : ℕ) (A : Solution) where
       act_each : (o : Act) (p : WordSelection) → EachAct K o → EachAct K (narrow_act count A p o)
       act_each (case v as') p h = (blind.acts (case v as') p h.0, h.1, arms_each as' p h.2)
       act_each (nested b) p h = (blind.acts (nested b) p h.0, code_each b p h.1)
-      act_each (unit v) p h = (blind.acts (unit v) p h.0, blind.values v p h.1)
-      act_each (update a v) p h = h
-      act_each (apply v a) p h = h
-      act_each (fetch a) p h = h
-      act_each (fetch_word a i) p h = h
-      act_each (eval a) p h = h
-      act_each (call f ws) p h = h
-      act_each (prim f a b) p h = h
-      act_each read p h = h
-      act_each (write a) p h = h
-      act_each fail p h = h
+      act_each (leaf (unit v)) p h = (blind.acts (leaf (unit v)) p h.0, blind.values v p h.1)
+      act_each (leaf (update a v)) p h = h
+      act_each (leaf (apply v a)) p h = h
+      act_each (leaf (fetch a)) p h = h
+      act_each (leaf (fetch_word a i)) p h = h
+      act_each (leaf (eval a)) p h = h
+      act_each (leaf (call f ws)) p h = h
+      act_each (leaf (prim f a b)) p h = h
+      act_each (leaf read) p h = h
+      act_each (leaf (write a)) p h = h
+      act_each (leaf fail) p h = h
 
       code_each : (b : Code) (p : WordSelection) → EachCode K b → EachCode K (narrow_code count A p b)
       code_each (end o) p h = act_each o p h
@@ -72,33 +72,33 @@ module _ (count : ℕ) (A : Solution) where
   unfolding narrow_act
   still_inlined (case v as') p h = tt
   still_inlined (nested b) p h = tt
-  still_inlined (update a v) p h = tt
-  still_inlined (unit v) p h = tt
-  still_inlined (fetch a) p h = tt
-  still_inlined (fetch_word a i) p h = tt
-  still_inlined (eval a) p h = h
-  still_inlined (apply v a) p h = h
-  still_inlined (call f ws) p h = tt
-  still_inlined (prim f a b) p h = tt
-  still_inlined read p h = tt
-  still_inlined (write a) p h = tt
-  still_inlined fail p h = tt
+  still_inlined (leaf (update a v)) p h = tt
+  still_inlined (leaf (unit v)) p h = tt
+  still_inlined (leaf (fetch a)) p h = tt
+  still_inlined (leaf (fetch_word a i)) p h = tt
+  still_inlined (leaf (eval a)) p h = h
+  still_inlined (leaf (apply v a)) p h = h
+  still_inlined (leaf (call f ws)) p h = tt
+  still_inlined (leaf (prim f a b)) p h = tt
+  still_inlined (leaf read) p h = tt
+  still_inlined (leaf (write a)) p h = tt
+  still_inlined (leaf fail) p h = tt
 
   still_by_words : (o : Act) (p : WordSelection) → without_node_fetches.operation o → without_node_fetches.operation (narrow_act count A p o)
   unfolding narrow_act
   still_by_words (case v as') p h = tt
   still_by_words (nested b) p h = tt
-  still_by_words (update a v) p h = tt
-  still_by_words (unit v) p h = tt
-  still_by_words (fetch a) p h = h
-  still_by_words (fetch_word a i) p h = tt
-  still_by_words (eval a) p h = tt
-  still_by_words (apply v a) p h = tt
-  still_by_words (call f ws) p h = tt
-  still_by_words (prim f a b) p h = tt
-  still_by_words read p h = tt
-  still_by_words (write a) p h = tt
-  still_by_words fail p h = tt
+  still_by_words (leaf (update a v)) p h = tt
+  still_by_words (leaf (unit v)) p h = tt
+  still_by_words (leaf (fetch a)) p h = h
+  still_by_words (leaf (fetch_word a i)) p h = tt
+  still_by_words (leaf (eval a)) p h = tt
+  still_by_words (leaf (apply v a)) p h = tt
+  still_by_words (leaf (call f ws)) p h = tt
+  still_by_words (leaf (prim f a b)) p h = tt
+  still_by_words (leaf read) p h = tt
+  still_by_words (leaf (write a)) p h = tt
+  still_by_words (leaf fail) p h = tt
 
   numbers_many : (xs : List VarId) → length (numbers_of xs) ≡ length xs
   numbers_many xs = length-map xs (λ (x : VarId). x.0)
@@ -142,17 +142,17 @@ module _ (count : ℕ) (A : Solution) where
       act_gives : (o : Act) (p : WordSelection) → NarrowAct width most o → NarrowAct width most (narrow_act count A p o)
       act_gives (case v as') p h = arms_give as' p h
       act_gives (nested b) p h = code_gives b p h
-      act_gives (unit v) p h = as_narrow v p h
-      act_gives (fetch a) p h = h
-      act_gives (update a v) p h = tt
-      act_gives (fetch_word a i) p h = tt
-      act_gives (eval a) p h = tt
-      act_gives (apply v a) p h = tt
-      act_gives (call f ws) p h = tt
-      act_gives (prim f a b) p h = tt
-      act_gives read p h = tt
-      act_gives (write a) p h = tt
-      act_gives fail p h = tt
+      act_gives (leaf (unit v)) p h = as_narrow v p h
+      act_gives (leaf (fetch a)) p h = h
+      act_gives (leaf (update a v)) p h = tt
+      act_gives (leaf (fetch_word a i)) p h = tt
+      act_gives (leaf (eval a)) p h = tt
+      act_gives (leaf (apply v a)) p h = tt
+      act_gives (leaf (call f ws)) p h = tt
+      act_gives (leaf (prim f a b)) p h = tt
+      act_gives (leaf read) p h = tt
+      act_gives (leaf (write a)) p h = tt
+      act_gives (leaf fail) p h = tt
 
       code_gives : (b : Code) (p : WordSelection) → NarrowCode width most b → NarrowCode width most (narrow_code count A p b)
       code_gives (end o) p h = act_gives o p h
@@ -180,17 +180,17 @@ module _ (count : ℕ) (A : Solution) where
     act_ends : (bs : List Bool) (o : Act) → act_fits count A bs (narrow_act count A None o) ≡ act_fits count A bs o
     act_ends bs (case v as') = arms_end bs as'
     act_ends bs (nested b) = code_ends bs b
-    act_ends bs (unit v) = refl
-    act_ends bs (fetch a) = refl
-    act_ends bs (update a v) = refl
-    act_ends bs (fetch_word a i) = refl
-    act_ends bs (eval a) = refl
-    act_ends bs (apply v a) = refl
-    act_ends bs (call f ws) = refl
-    act_ends bs (prim f a b) = refl
-    act_ends bs read = refl
-    act_ends bs (write a) = refl
-    act_ends bs fail = refl
+    act_ends bs (leaf (unit v)) = refl
+    act_ends bs (leaf (fetch a)) = refl
+    act_ends bs (leaf (update a v)) = refl
+    act_ends bs (leaf (fetch_word a i)) = refl
+    act_ends bs (leaf (eval a)) = refl
+    act_ends bs (leaf (apply v a)) = refl
+    act_ends bs (leaf (call f ws)) = refl
+    act_ends bs (leaf (prim f a b)) = refl
+    act_ends bs (leaf read) = refl
+    act_ends bs (leaf (write a)) = refl
+    act_ends bs (leaf fail) = refl
 
     code_ends : (bs : List Bool) (b : Code) → code_fits count A bs (narrow_code count A None b) ≡ code_fits count A bs b
     code_ends bs (end o) = act_ends bs o
@@ -229,17 +229,17 @@ module _ (count : ℕ) (A : Solution) where
     act_read : (o : Act) (p : WordSelection) → BoundAct (IsRead count A) (narrow_act count A p o)
     act_read (case v as') p = arms_read as' p
     act_read (nested b) p = code_read b p
-    act_read (unit v) p = tt
-    act_read (fetch a) p = tt
-    act_read (update a v) p = tt
-    act_read (fetch_word a i) p = tt
-    act_read (eval a) p = tt
-    act_read (apply v a) p = tt
-    act_read (call f ws) p = tt
-    act_read (prim f a b) p = tt
-    act_read read p = tt
-    act_read (write a) p = tt
-    act_read fail p = tt
+    act_read (leaf (unit v)) p = tt
+    act_read (leaf (fetch a)) p = tt
+    act_read (leaf (update a v)) p = tt
+    act_read (leaf (fetch_word a i)) p = tt
+    act_read (leaf (eval a)) p = tt
+    act_read (leaf (apply v a)) p = tt
+    act_read (leaf (call f ws)) p = tt
+    act_read (leaf (prim f a b)) p = tt
+    act_read (leaf read) p = tt
+    act_read (leaf (write a)) p = tt
+    act_read (leaf fail) p = tt
 
     code_read : (b : Code) (p : WordSelection) → BoundCode (IsRead count A) (narrow_code count A p b)
     code_read (end o) p = act_read o p
@@ -263,17 +263,17 @@ module _ (count : ℕ) (A : Solution) where
       act_updates : (o : Act) (p : WordSelection) → act_update_sum of (narrow_act count A p o) ≡ act_update_sum of o
       act_updates (case v as') p = arms_update as' p
       act_updates (nested b) p = code_updates b p
-      act_updates (unit v) p = refl
-      act_updates (fetch a) p = refl
-      act_updates (update a v) p = refl
-      act_updates (fetch_word a i) p = refl
-      act_updates (eval a) p = refl
-      act_updates (apply v a) p = refl
-      act_updates (call f ws) p = refl
-      act_updates (prim f a b) p = refl
-      act_updates read p = refl
-      act_updates (write a) p = refl
-      act_updates fail p = refl
+      act_updates (leaf (unit v)) p = refl
+      act_updates (leaf (fetch a)) p = refl
+      act_updates (leaf (update a v)) p = refl
+      act_updates (leaf (fetch_word a i)) p = refl
+      act_updates (leaf (eval a)) p = refl
+      act_updates (leaf (apply v a)) p = refl
+      act_updates (leaf (call f ws)) p = refl
+      act_updates (leaf (prim f a b)) p = refl
+      act_updates (leaf read) p = refl
+      act_updates (leaf (write a)) p = refl
+      act_updates (leaf fail) p = refl
 
       code_updates : (b : Code) (p : WordSelection) → code_update_sum of (narrow_code count A p b) ≡ code_update_sum of b
       code_updates (end o) p = act_updates o p

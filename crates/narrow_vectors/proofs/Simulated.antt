@@ -13,7 +13,7 @@ use Rattle.grin_syntax.specs.declared.program.Target.TheVariants as to
 use Rattle.grin_syntax.specs.declared.program.Word as W
 use Rattle.grin_syntax.specs.declared.program.Val as V
 use Rattle.grin_syntax.specs.declared.program.Val.TheVariants.{NodeVar, Node, Vector, One}
-use Rattle.grin_syntax.specs.Tree.{Code, end, store, bind, Act, unit, fetch, fetch_word, update, eval, apply, call, prim, read, write, case, nested, fail, Arms, no_arm, arm, Procedure, Program}
+use Rattle.grin_syntax.specs.Tree.{Code, end, store, bind, Act, Leaf, leaf, unit, fetch, fetch_word, update, eval, apply, call, prim, read, write, case, nested, fail, Arms, no_arm, arm, Procedure, Program}
 use Rattle.grin_syntax.specs.Formed.{Formed}
 use Rattle.grin_meaning.specs.Values.{Datum, Value, words, Env, HeapCell, State, and_then, Binding, with_vars, one_each, value_of, words_of, bindings_of}
 use Rattle.grin_meaning.specs.Run.{Calls}
@@ -27,7 +27,7 @@ use Rattle.grin_meaning.proofs.Back.{CallsBack}
 use Rattle.grin_meaning.proofs.Beside.{no_deeper, Likewise, Seen}
 use Rattle.grin_meaning.proofs.Rules.{Plan, Here, Setting, CallsFollow, ActFollows, CodeFollows, ArmsFollow, BindsToo, unit_follows, nested_follows, end_follows, fail_follows, bind_follows}
 use Rattle.grin_meaning.proofs.Procedures.{BodiesFollow, no_more, one_more, side_by_side, run_follows}
-use Rattle.grin_meaning.proofs.Plain.{Has, IsPlain, IsLeaf, On, having, words_have, leaf_follows, store_same, bind_same, case_same, no_arm_same, arm_same}
+use Rattle.grin_meaning.proofs.Plain.{Has, IsPlain, On, having, words_have, leaf_follows, store_same, bind_same, case_same, no_arm_same, arm_same}
 use Rattle.grin_meaning.proofs.KeptBy.{likewise_kept, looking_kept}
 use Rattle.grin_meaning.proofs.LooksBack.{look_agrees}
 use Rattle.grin_meaning.proofs.Paired.{nothing}
@@ -46,35 +46,25 @@ use Rattle.narrow_vectors.proofs.Tagged.{may_go_holds}
 
 pub still_has_block : (count : ℕ) (A : Solution) (p : WordSelection) (o : Act) → has_block (narrow_act count A p o) ≡ has_block o
 unfolding narrow_act
-still_has_block count A p (unit v) = refl
-still_has_block count A p (fetch a) = refl
-still_has_block count A p (fetch_word a i) = refl
-still_has_block count A p (prim f a b) = refl
-still_has_block count A p (update a v) = refl
-still_has_block count A p (eval a) = refl
-still_has_block count A p (apply v a) = refl
-still_has_block count A p (call f ws) = refl
-still_has_block count A p read = refl
-still_has_block count A p (write a) = refl
+still_has_block count A p (leaf l) = refl
 still_has_block count A p (case v as') = refl
 still_has_block count A p (nested b) = refl
-still_has_block count A p fail = refl
 
 still_fetch : (count : ℕ) (A : Solution) (p : WordSelection) (o : Act) → is_fetch (narrow_act count A p o) ≡ is_fetch o
 unfolding narrow_act
-still_fetch count A p (unit v) = refl
-still_fetch count A p (fetch a) = refl
-still_fetch count A p (fetch_word a i) = refl
-still_fetch count A p (prim f a b) = refl
-still_fetch count A p (update a v) = refl
-still_fetch count A p (eval a) = refl
-still_fetch count A p (apply v a) = refl
-still_fetch count A p (call f ws) = refl
-still_fetch count A p read = refl
-still_fetch count A p (write a) = refl
+still_fetch count A p (leaf (unit v)) = refl
+still_fetch count A p (leaf (fetch a)) = refl
+still_fetch count A p (leaf (fetch_word a i)) = refl
+still_fetch count A p (leaf (prim f a b)) = refl
+still_fetch count A p (leaf (update a v)) = refl
+still_fetch count A p (leaf (eval a)) = refl
+still_fetch count A p (leaf (apply v a)) = refl
+still_fetch count A p (leaf (call f ws)) = refl
+still_fetch count A p (leaf read) = refl
+still_fetch count A p (leaf (write a)) = refl
 still_fetch count A p (case v as') = refl
 still_fetch count A p (nested b) = refl
-still_fetch count A p fail = refl
+still_fetch count A p (leaf fail) = refl
 
 module _ (g : Program) (A : Solution) (formed : Formed g) (procs : List Procedure) where
   abbrev count : ℕ
@@ -126,7 +116,7 @@ module _ (g : Program) (A : Solution) (formed : Formed g) (procs : List Procedur
 
     -- ---- units
 
-    vector_goes : (Ok : ℕ → Type 0) (bs : List Bool) (ws : List W.Word) → act_fits count A bs (unit (Vector ws)) ≡ true → Covers Ok (used_in_words (picked bs ws)) → ActFollows it (λ heap. Has Ok) (Picks bs) (unit (Vector ws)) (unit (Vector (picked bs ws)))
+    vector_goes : (Ok : ℕ → Type 0) (bs : List Bool) (ws : List W.Word) → act_fits count A bs (leaf (unit (Vector ws))) ≡ true → Covers Ok (used_in_words (picked bs ws)) → ActFollows it (λ heap. Has Ok) (Picks bs) (leaf (unit (Vector ws))) (leaf (unit (Vector (picked bs ws))))
     unfolding act_fits
     vector_goes Ok bs ws fit cov = unit_follows it (Vector ws) (Vector (picked bs ws)) (λ x y e seen. on x y (words_of g x.env ws) refl e seen)
       where
@@ -142,7 +132,7 @@ module _ (g : Program) (A : Solution) (formed : Formed g) (procs : List Procedur
               subst (λ v. Picks bs v (words (picked bs ds))) (some_is e) (picks may),
             )
 
-    unit_goes : (Ok : ℕ → Type 0) (bs : List Bool) (v : V.Val) → act_fits count A bs (unit v) ≡ true → Covers Ok (used_in_val (picked_val (Some bs) v)) → ActFollows it (λ heap. Has Ok) (Picks bs) (unit v) (unit (picked_val (Some bs) v))
+    unit_goes : (Ok : ℕ → Type 0) (bs : List Bool) (v : V.Val) → act_fits count A bs (leaf (unit v)) ≡ true → Covers Ok (used_in_val (picked_val (Some bs) v)) → ActFollows it (λ heap. Has Ok) (Picks bs) (leaf (unit v)) (leaf (unit (picked_val (Some bs) v)))
     unfolding act_fits
     unit_goes Ok bs (NodeVar x) fit cov = true_not_false (sym fit)
     unit_goes Ok bs (Node t ws) fit cov = true_not_false (sym fit)
@@ -235,16 +225,16 @@ module _ (g : Program) (A : Solution) (formed : Formed g) (procs : List Procedur
     others_fit (Some bs) s b as' h = and_right (code_fits count A bs b) (arms_fit count A bs as') h
 
     -- an operation without a block that is no unit
-    leaf_goes : (p : WordSelection) (o : Act) (Ok : ℕ → Type 0) → IsLeaf o → ((bs : List Bool) → act_fits count A bs o ≡ true → ⊥) → ActFits p o → ActOk Ok o → Acts Ok p o o
-    leaf_goes None o Ok l never fit ok = leaf_follows it plain (having Ok) o l ok
-    leaf_goes (Some bs) o Ok l never fit ok = absurd (never bs fit)
+    leaf_goes : (p : WordSelection) (l : Leaf) (Ok : ℕ → Type 0) → ((bs : List Bool) → act_fits count A bs (leaf l) ≡ true → ⊥) → ActFits p (leaf l) → ActOk Ok (leaf l) → Acts Ok p (leaf l) (leaf l)
+    leaf_goes None l Ok never fit ok = leaf_follows it plain (having Ok) l ok
+    leaf_goes (Some bs) l Ok never fit ok = absurd (never bs fit)
 
-    fail_goes : (p : WordSelection) (Ok : ℕ → Type 0) → Acts Ok p fail fail
+    fail_goes : (p : WordSelection) (Ok : ℕ → Type 0) → Acts Ok p (leaf fail) (leaf fail)
     fail_goes p Ok = fail_follows it
 
-    whole_unit : (p : WordSelection) (v : V.Val) (Ok : ℕ → Type 0) → ActFits p (unit v) → Covers Ok (used_in_val (picked_val p v)) → Acts Ok p (unit v) (unit (picked_val p v))
+    whole_unit : (p : WordSelection) (v : V.Val) (Ok : ℕ → Type 0) → ActFits p (leaf (unit v)) → Covers Ok (used_in_val (picked_val p v)) → Acts Ok p (leaf (unit v)) (leaf (unit (picked_val p v)))
     unfolding ActOk
-    whole_unit None v Ok fit cov = leaf_follows it plain (having Ok) (unit v) tt (val_covered Ok v cov)
+    whole_unit None v Ok fit cov = leaf_follows it plain (having Ok) (unit v) (val_covered Ok v cov)
     whole_unit (Some bs) v Ok fit cov = unit_goes Ok bs v fit cov
 
     mutual
@@ -254,17 +244,17 @@ module _ (g : Program) (A : Solution) (formed : Formed g) (procs : List Procedur
       act_goes (case v as') p Ok fit cov = case_same it plain (having Ok) v as' (narrow_arms count A p as') (val_covered Ok v (covers_left Ok (used_in_val v) (used_in_arms (narrow_arms count A p as')) cov))
           (arms_go as' p Ok (case_fits p v as' fit) (covers_right Ok (used_in_val v) (used_in_arms (narrow_arms count A p as')) cov))
       act_goes (nested b) p Ok fit cov = nested_follows it b (narrow_code count A p b) (code_goes b p Ok (nested_fits p b fit) cov)
-      act_goes (unit v) p Ok fit cov = whole_unit p v Ok fit cov
-      act_goes fail p Ok fit cov = fail_goes p Ok
-      act_goes (fetch a) p Ok fit cov = leaf_goes p (fetch a) Ok tt (λ bs h. true_not_false (sym h)) fit (word_covered Ok a cov)
-      act_goes (fetch_word a i) p Ok fit cov = leaf_goes p (fetch_word a i) Ok tt (λ bs h. true_not_false (sym h)) fit (word_covered Ok a cov)
-      act_goes (update a v) p Ok fit cov = leaf_goes p (update a v) Ok tt (λ bs h. true_not_false (sym h)) fit (word_covered Ok a (covers_left Ok (used_in_word a) (used_in_val v) cov), val_covered Ok v (covers_right Ok (used_in_word a) (used_in_val v) cov))
-      act_goes (eval a) p Ok fit cov = leaf_goes p (eval a) Ok tt (λ bs h. true_not_false (sym h)) fit (word_covered Ok a cov)
-      act_goes (apply v a) p Ok fit cov = leaf_goes p (apply v a) Ok tt (λ bs h. true_not_false (sym h)) fit (val_covered Ok v (covers_left Ok (used_in_val v) (used_in_word a) cov), word_covered Ok a (covers_right Ok (used_in_val v) (used_in_word a) cov))
-      act_goes (call f ws) p Ok fit cov = leaf_goes p (call f ws) Ok tt (λ bs h. true_not_false (sym h)) fit (words_covered Ok ws cov)
-      act_goes (prim f a b) p Ok fit cov = leaf_goes p (prim f a b) Ok tt (λ bs h. true_not_false (sym h)) fit (word_covered Ok a (covers_left Ok (used_in_word a) (used_in_word b) cov), word_covered Ok b (covers_right Ok (used_in_word a) (used_in_word b) cov))
-      act_goes read p Ok fit cov = leaf_goes p read Ok tt (λ bs h. true_not_false (sym h)) fit tt
-      act_goes (write a) p Ok fit cov = leaf_goes p (write a) Ok tt (λ bs h. true_not_false (sym h)) fit (word_covered Ok a cov)
+      act_goes (leaf (unit v)) p Ok fit cov = whole_unit p v Ok fit cov
+      act_goes (leaf fail) p Ok fit cov = fail_goes p Ok
+      act_goes (leaf (fetch a)) p Ok fit cov = leaf_goes p (fetch a) Ok (λ bs h. true_not_false (sym h)) fit (word_covered Ok a cov)
+      act_goes (leaf (fetch_word a i)) p Ok fit cov = leaf_goes p (fetch_word a i) Ok (λ bs h. true_not_false (sym h)) fit (word_covered Ok a cov)
+      act_goes (leaf (update a v)) p Ok fit cov = leaf_goes p (update a v) Ok (λ bs h. true_not_false (sym h)) fit (word_covered Ok a (covers_left Ok (used_in_word a) (used_in_val v) cov), val_covered Ok v (covers_right Ok (used_in_word a) (used_in_val v) cov))
+      act_goes (leaf (eval a)) p Ok fit cov = leaf_goes p (eval a) Ok (λ bs h. true_not_false (sym h)) fit (word_covered Ok a cov)
+      act_goes (leaf (apply v a)) p Ok fit cov = leaf_goes p (apply v a) Ok (λ bs h. true_not_false (sym h)) fit (val_covered Ok v (covers_left Ok (used_in_val v) (used_in_word a) cov), word_covered Ok a (covers_right Ok (used_in_val v) (used_in_word a) cov))
+      act_goes (leaf (call f ws)) p Ok fit cov = leaf_goes p (call f ws) Ok (λ bs h. true_not_false (sym h)) fit (words_covered Ok ws cov)
+      act_goes (leaf (prim f a b)) p Ok fit cov = leaf_goes p (prim f a b) Ok (λ bs h. true_not_false (sym h)) fit (word_covered Ok a (covers_left Ok (used_in_word a) (used_in_word b) cov), word_covered Ok b (covers_right Ok (used_in_word a) (used_in_word b) cov))
+      act_goes (leaf read) p Ok fit cov = leaf_goes p read Ok (λ bs h. true_not_false (sym h)) fit tt
+      act_goes (leaf (write a)) p Ok fit cov = leaf_goes p (write a) Ok (λ bs h. true_not_false (sym h)) fit (word_covered Ok a cov)
 
       code_goes : (b : Code) (p : WordSelection) (Ok : ℕ → Type 0) → CodeFits p b → Covers Ok (used_in_code (narrow_code count A p b)) → Codes Ok p b (narrow_code count A p b)
       code_goes (end o) p Ok fit cov = end_follows it o (narrow_act count A p o) (act_goes o p Ok (end_fits p o fit) cov)

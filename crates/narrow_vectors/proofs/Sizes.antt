@@ -4,7 +4,7 @@ use Rattle.grin_syntax.specs.declared.program.Target.{Target}
 use Rattle.grin_syntax.specs.declared.program.Target.TheVariants as to
 use Rattle.grin_syntax.specs.declared.program.Val as V
 use Rattle.grin_syntax.specs.declared.program.Val.TheVariants.{NodeVar, Node, Vector, One}
-use Rattle.grin_syntax.specs.Tree.{Code, end, store, bind, Act, unit, fetch, fetch_word, update, eval, apply, call, prim, read, write, case, nested, fail, Arms, no_arm, arm, Procedure}
+use Rattle.grin_syntax.specs.Tree.{Code, end, store, bind, Act, leaf, unit, fetch, fetch_word, update, eval, apply, call, prim, read, write, case, nested, fail, Arms, no_arm, arm, Procedure}
 use Rattle.grin_syntax.specs.Formed.{AllOf}
 use Rattle.grin_meaning.specs.Slim.{val_weight, target_weight, act_weight, code_weight, arms_weight, procs_weight, act_calls, code_calls, arms_calls, procs_calls, node_words, end_words, inner_words, code_words, arms_words, procedure_words}
 use Rattle.flow_system.specs.Solution.{Solution}
@@ -37,17 +37,17 @@ module _ (count : ℕ) (A : Solution) where
     act_lighter : (o : Act) (p : WordSelection) → act_weight (narrow_act count A p o) ≤ act_weight o
     act_lighter (case v as') p = let l : arms_weight (narrow_arms count A p as') ≤ arms_weight as' = arms_lighter as' p in omega (arith, l)
     act_lighter (nested b) p = let l : code_weight (narrow_code count A p b) ≤ code_weight b = code_lighter b p in omega (arith, l)
-    act_lighter (unit v) p = let h : val_weight (picked_val p v) ≤ val_weight v = lighter p v in omega (arith, h)
-    act_lighter (update a v) p = omega arith
-    act_lighter (fetch a) p = omega arith
-    act_lighter (fetch_word a i) p = omega arith
-    act_lighter (eval a) p = omega arith
-    act_lighter (apply v a) p = omega arith
-    act_lighter (call f ws) p = omega arith
-    act_lighter (prim f a b) p = omega arith
-    act_lighter read p = omega arith
-    act_lighter (write a) p = omega arith
-    act_lighter fail p = omega arith
+    act_lighter (leaf (unit v)) p = let h : val_weight (picked_val p v) ≤ val_weight v = lighter p v in omega (arith, h)
+    act_lighter (leaf (update a v)) p = omega arith
+    act_lighter (leaf (fetch a)) p = omega arith
+    act_lighter (leaf (fetch_word a i)) p = omega arith
+    act_lighter (leaf (eval a)) p = omega arith
+    act_lighter (leaf (apply v a)) p = omega arith
+    act_lighter (leaf (call f ws)) p = omega arith
+    act_lighter (leaf (prim f a b)) p = omega arith
+    act_lighter (leaf read) p = omega arith
+    act_lighter (leaf (write a)) p = omega arith
+    act_lighter (leaf fail) p = omega arith
 
     code_lighter : (b : Code) (p : WordSelection) → code_weight (narrow_code count A p b) ≤ code_weight b
     code_lighter (end o) p = act_lighter o p
@@ -81,17 +81,17 @@ module _ (count : ℕ) (A : Solution) where
     act_calls_stay : (o : Act) (p : WordSelection) → act_calls (narrow_act count A p o) ≡ act_calls o
     act_calls_stay (case v as') p = arms_calls_stay as' p
     act_calls_stay (nested b) p = code_calls_stay b p
-    act_calls_stay (unit v) p = refl
-    act_calls_stay (update a v) p = refl
-    act_calls_stay (fetch a) p = refl
-    act_calls_stay (fetch_word a i) p = refl
-    act_calls_stay (eval a) p = refl
-    act_calls_stay (apply v a) p = refl
-    act_calls_stay (call f ws) p = refl
-    act_calls_stay (prim f a b) p = refl
-    act_calls_stay read p = refl
-    act_calls_stay (write a) p = refl
-    act_calls_stay fail p = refl
+    act_calls_stay (leaf (unit v)) p = refl
+    act_calls_stay (leaf (update a v)) p = refl
+    act_calls_stay (leaf (fetch a)) p = refl
+    act_calls_stay (leaf (fetch_word a i)) p = refl
+    act_calls_stay (leaf (eval a)) p = refl
+    act_calls_stay (leaf (apply v a)) p = refl
+    act_calls_stay (leaf (call f ws)) p = refl
+    act_calls_stay (leaf (prim f a b)) p = refl
+    act_calls_stay (leaf read) p = refl
+    act_calls_stay (leaf (write a)) p = refl
+    act_calls_stay (leaf fail) p = refl
 
     code_calls_stay : (b : Code) (p : WordSelection) → code_calls (narrow_code count A p b) ≡ code_calls b
     code_calls_stay (end o) p = act_calls_stay o p
@@ -112,33 +112,33 @@ module _ (count : ℕ) (A : Solution) where
   unfolding narrow_act
   node_words_stay (case v as') p = refl
   node_words_stay (nested b) p = refl
-  node_words_stay (unit v) p = refl
-  node_words_stay (update a v) p = refl
-  node_words_stay (fetch a) p = refl
-  node_words_stay (fetch_word a i) p = refl
-  node_words_stay (eval a) p = refl
-  node_words_stay (apply v a) p = refl
-  node_words_stay (call f ws) p = refl
-  node_words_stay (prim f a b) p = refl
-  node_words_stay read p = refl
-  node_words_stay (write a) p = refl
-  node_words_stay fail p = refl
+  node_words_stay (leaf (unit v)) p = refl
+  node_words_stay (leaf (update a v)) p = refl
+  node_words_stay (leaf (fetch a)) p = refl
+  node_words_stay (leaf (fetch_word a i)) p = refl
+  node_words_stay (leaf (eval a)) p = refl
+  node_words_stay (leaf (apply v a)) p = refl
+  node_words_stay (leaf (call f ws)) p = refl
+  node_words_stay (leaf (prim f a b)) p = refl
+  node_words_stay (leaf read) p = refl
+  node_words_stay (leaf (write a)) p = refl
+  node_words_stay (leaf fail) p = refl
 
   end_words_stay : (o : Act) (p : WordSelection) → end_words (narrow_act count A p o) ≡ end_words o
   unfolding narrow_act
   end_words_stay (case v as') p = refl
   end_words_stay (nested b) p = refl
-  end_words_stay (unit v) p = refl
-  end_words_stay (update a v) p = refl
-  end_words_stay (fetch a) p = refl
-  end_words_stay (fetch_word a i) p = refl
-  end_words_stay (eval a) p = refl
-  end_words_stay (apply v a) p = refl
-  end_words_stay (call f ws) p = refl
-  end_words_stay (prim f a b) p = refl
-  end_words_stay read p = refl
-  end_words_stay (write a) p = refl
-  end_words_stay fail p = refl
+  end_words_stay (leaf (unit v)) p = refl
+  end_words_stay (leaf (update a v)) p = refl
+  end_words_stay (leaf (fetch a)) p = refl
+  end_words_stay (leaf (fetch_word a i)) p = refl
+  end_words_stay (leaf (eval a)) p = refl
+  end_words_stay (leaf (apply v a)) p = refl
+  end_words_stay (leaf (call f ws)) p = refl
+  end_words_stay (leaf (prim f a b)) p = refl
+  end_words_stay (leaf read) p = refl
+  end_words_stay (leaf (write a)) p = refl
+  end_words_stay (leaf fail) p = refl
 
   mutual
     unfolding narrow_act inner_words
@@ -146,17 +146,7 @@ module _ (count : ℕ) (A : Solution) where
     inner_fewer : (o : Act) (p : WordSelection) → inner_words (narrow_act count A p o) ≤ inner_words o
     inner_fewer (case v as') p = arms_words_fewer as' p
     inner_fewer (nested b) p = code_words_fewer b p
-    inner_fewer (unit v) p = omega arith
-    inner_fewer (update a v) p = omega arith
-    inner_fewer (fetch a) p = omega arith
-    inner_fewer (fetch_word a i) p = omega arith
-    inner_fewer (eval a) p = omega arith
-    inner_fewer (apply v a) p = omega arith
-    inner_fewer (call f ws) p = omega arith
-    inner_fewer (prim f a b) p = omega arith
-    inner_fewer read p = omega arith
-    inner_fewer (write a) p = omega arith
-    inner_fewer fail p = omega arith
+    inner_fewer (leaf l) p = omega arith
 
     code_words_fewer : (b : Code) (p : WordSelection) → code_words (narrow_code count A p b) ≤ code_words b
     code_words_fewer (end o) p =

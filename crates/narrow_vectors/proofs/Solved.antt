@@ -10,7 +10,7 @@ use Rattle.grin_syntax.specs.declared.program.Target.{Target}
 use Rattle.grin_syntax.specs.declared.program.Target.TheVariants as to'
 use Rattle.grin_syntax.specs.declared.program.Val as V
 use Rattle.grin_syntax.specs.declared.program.Val.TheVariants.{NodeVar, Node, Vector, One}
-use Rattle.grin_syntax.specs.Tree.{Code, end, store, bind, Act, unit, fetch, fetch_word, update, eval, apply, call, prim, read, write, case, nested, fail, Arms, no_arm, arm, Procedure, Program}
+use Rattle.grin_syntax.specs.Tree.{Code, end, store, bind, Act, leaf, unit, fetch, fetch_word, update, eval, apply, call, prim, read, write, case, nested, fail, Arms, no_arm, arm, Procedure, Program}
 use Rattle.grin_meaning.specs.Rewritten.{rewritten_procedure}
 use Rattle.flow_system.specs.declared.fact.Element.{Element as AbstractWord}
 use Rattle.flow_system.specs.declared.fact.Place.TheVariants.{Var as var, Result as result}
@@ -108,17 +108,17 @@ module _ (count : ℕ) (A : Solution) where
     act_evals_same : (p : WordSelection) (o : Act) → act_evals (narrow_act count A p o) ≡ act_evals o
     act_evals_same p (case v as') = arms_eval_same p as'
     act_evals_same p (nested b) = code_evals_same p b
-    act_evals_same p (unit v) = refl
-    act_evals_same p (fetch a) = refl
-    act_evals_same p (fetch_word a i) = refl
-    act_evals_same p (update a v) = refl
-    act_evals_same p (eval a) = refl
-    act_evals_same p (apply v a) = refl
-    act_evals_same p (call f ws) = refl
-    act_evals_same p (prim f a b) = refl
-    act_evals_same p read = refl
-    act_evals_same p (write a) = refl
-    act_evals_same p fail = refl
+    act_evals_same p (leaf (unit v)) = refl
+    act_evals_same p (leaf (fetch a)) = refl
+    act_evals_same p (leaf (fetch_word a i)) = refl
+    act_evals_same p (leaf (update a v)) = refl
+    act_evals_same p (leaf (eval a)) = refl
+    act_evals_same p (leaf (apply v a)) = refl
+    act_evals_same p (leaf (call f ws)) = refl
+    act_evals_same p (leaf (prim f a b)) = refl
+    act_evals_same p (leaf read) = refl
+    act_evals_same p (leaf (write a)) = refl
+    act_evals_same p (leaf fail) = refl
 
     code_evals_same : (p : WordSelection) (b : Code) → code_evals (narrow_code count A p b) ≡ code_evals b
     code_evals_same p (end o) = act_evals_same p o
@@ -211,17 +211,17 @@ module _ (g h : Program) (A : Solution) (same_tables : tables h ≡ tables g) (s
     act_met : {p : WordSelection} {k k' : FlowSink} → Turned p k k' → (o : Act) → Allowed p (λ bs. act_fits count A bs o) → Met (act_flows g k o) → Met (act_flows h k' (narrow_act count A p o))
     act_met t (case v as') a m = arms_met t v as' a m
     act_met t (nested b) a m = code_met t b a m
-    act_met t (unit v) a m = (unit_met t v a m.0, tt)
-    act_met t (fetch b) a m = all_given t a (λ k. Met (flows (nodes_at b) k ∷ [])) m
-    act_met t (fetch_word b i) a m = all_given t a (λ k. Met (flows (word_at b i) k ∷ [])) m
-    act_met t (update b v) a m = m
-    act_met t (eval b) a m = all_given t a (λ k. Met (flows (evaluated (nodes_at b)) k ∷ [])) m
-    act_met t (apply v b) a m = all_given t a (λ k. Met (flows (extended v b) k ∷ applies v b k ∷ [])) m
-    act_met t (call f ws) a m = (to_params f.0 (λ t. Meets (tables g) A (flows (value (Vector ws)) (to t))) m.0, all_given t a (λ k. Met (flows (held (result f.0)) k ∷ [])) m.1)
-    act_met t (prim f b c) a m = all_given t a (λ k. Met (flows a_number k ∷ [])) m
-    act_met t read a m = all_given t a (λ k. Met (flows a_number k ∷ [])) m
-    act_met t (write b) a m = m
-    act_met t fail a m = m
+    act_met t (leaf (unit v)) a m = (unit_met t v a m.0, tt)
+    act_met t (leaf (fetch b)) a m = all_given t a (λ k. Met (flows (nodes_at b) k ∷ [])) m
+    act_met t (leaf (fetch_word b i)) a m = all_given t a (λ k. Met (flows (word_at b i) k ∷ [])) m
+    act_met t (leaf (update b v)) a m = m
+    act_met t (leaf (eval b)) a m = all_given t a (λ k. Met (flows (evaluated (nodes_at b)) k ∷ [])) m
+    act_met t (leaf (apply v b)) a m = all_given t a (λ k. Met (flows (extended v b) k ∷ applies v b k ∷ [])) m
+    act_met t (leaf (call f ws)) a m = (to_params f.0 (λ t. Meets (tables g) A (flows (value (Vector ws)) (to t))) m.0, all_given t a (λ k. Met (flows (held (result f.0)) k ∷ [])) m.1)
+    act_met t (leaf (prim f b c)) a m = all_given t a (λ k. Met (flows a_number k ∷ [])) m
+    act_met t (leaf read) a m = all_given t a (λ k. Met (flows a_number k ∷ [])) m
+    act_met t (leaf (write b)) a m = m
+    act_met t (leaf fail) a m = m
 
     code_met : {p : WordSelection} {k k' : FlowSink} → Turned p k k' → (b : Code) → Allowed p (λ bs. code_fits count A bs b) → Met (code_flows g k b) → Met (code_flows h k' (narrow_code count A p b))
     code_met t (end o) a m = act_met t o a m

@@ -17,7 +17,7 @@ use Rattle.flow_system.specs.Solution.{Solution, At}
 use Rattle.flow_system.specs.Covers.{StateIsCovered, ValueIn}
 use Rattle.flow_system.proofs.Lying.{from_some}
 use Rattle.update_special.specs.Updates.{may_have_tag, tags_of}
-use Rattle.update_special.proofs.Step.{tag_listed}
+use Rattle.update_special.proofs.Special.{tag_listed}
 use Rattle.narrow_vectors.specs.Picked.{picked, first_satisfies, no_tag_left, is_no_tag, is_no_number_tag, may_go}
 use Rattle.narrow_vectors.proofs.Picks.{words_picked, NoTag, NoNumberTag, FirstIs, MayGo}
 

@@ -4,7 +4,7 @@ use Rattle.grin_syntax.specs.declared.program.Val as V
 use Rattle.grin_syntax.specs.declared.program.Val.TheVariants.{NodeVar, Node, Vector, One}
 use Rattle.grin_syntax.specs.declared.program.Target.{Target}
 use Rattle.grin_syntax.specs.declared.program.Target.TheVariants as to
-use Rattle.grin_syntax.specs.Tree.{Code, end, store, bind, Act, unit, fetch, fetch_word, update, eval, apply, call, prim, read, write, case, nested, fail, Arms, no_arm, arm, Program}
+use Rattle.grin_syntax.specs.Tree.{Code, end, store, bind, Act, Leaf, leaf, unit, fetch, fetch_word, update, eval, apply, call, prim, read, write, case, nested, fail, Arms, no_arm, arm, Program}
 use Rattle.grin_meaning.specs.Rewritten.{rewritten}
 use Rattle.flow_system.specs.Solution.{Solution}
 use Rattle.copy_prop.specs.Lean.{used_in_code}
@@ -39,10 +39,10 @@ module _ (count : ℕ) (A : Solution) where
   unfoldable mutual
     -- each end of a piece is a unit of a vector of which the other words may go, or it fails
     pub act_fits : List Bool → Act → Bool
-    act_fits bs (unit v) = val_fits bs v
+    act_fits bs (leaf (unit v)) = val_fits bs v
     act_fits bs (case v as') = arms_fit bs as'
     act_fits bs (nested b) = code_fits bs b
-    act_fits bs fail = true
+    act_fits bs (leaf fail) = true
     act_fits bs _ = false
 
     pub code_fits : List Bool → Code → Bool
@@ -61,22 +61,17 @@ module _ (count : ℕ) (A : Solution) where
   word_selection (to.One x) o used = None
   word_selection (to.Vector xs) o used = cond (act_fits (stay used xs) o) (Some (stay used xs)) None
 
+  -- an operation without a block: what it gives
+  abbrev pub narrow_leaf : WordSelection → Leaf → Leaf
+  narrow_leaf p (unit v) = unit (picked_val p v)
+  narrow_leaf p o = o
+
   unfoldable mutual
     -- `p` is what stays of what the piece gives
     pub narrow_act : WordSelection → Act → Act
-    narrow_act p (unit v) = unit (picked_val p v)
-    narrow_act p (fetch a) = fetch a
-    narrow_act p (fetch_word a i) = fetch_word a i
-    narrow_act p (update a v) = update a v
-    narrow_act p (eval a) = eval a
-    narrow_act p (apply v a) = apply v a
-    narrow_act p (call f ws) = call f ws
-    narrow_act p (prim f a b) = prim f a b
-    narrow_act p read = read
-    narrow_act p (write a) = write a
+    narrow_act p (leaf o) = leaf (narrow_leaf p o)
     narrow_act p (case v as') = case v (narrow_arms p as')
     narrow_act p (nested b) = nested (narrow_code p b)
-    narrow_act p fail = fail
 
     pub narrow_code : WordSelection → Code → Code
     narrow_code p (end o) = end (narrow_act p o)

@@ -10,7 +10,7 @@ use Rattle.grin_syntax.specs.declared.program.Word as W
 use Rattle.grin_syntax.specs.declared.program.Word.TheVariants.{Lit, Var, Global, TagWord}
 use Rattle.grin_syntax.specs.declared.program.Val as V
 use Rattle.grin_syntax.specs.declared.program.Val.TheVariants.{NodeVar, Node, Vector, One}
-use Rattle.grin_syntax.specs.Tree.{Code, end, store, bind, Act, unit, fetch, fetch_word, update, eval, apply, call, prim, read, write, case, nested, fail, Arms, no_arm, arm, Procedure, Program}
+use Rattle.grin_syntax.specs.Tree.{Code, end, store, bind, Act, leaf, unit, fetch, fetch_word, update, eval, apply, call, prim, read, write, case, nested, fail, Arms, no_arm, arm, Procedure, Program}
 use Rattle.grin_syntax.specs.Binders.{shape_vars, cell_vars}
 use Rattle.grin_syntax.specs.Formed.{AllOf, Scope, with_word_variables, with_target, params_scope, WordFormed, ValFormed, CellFormed, ActFormed, CodeFormed, ArmsFormed, ProcedureFormed, Formed}
 use Rattle.grin_syntax.specs.SameOutside.{DifferOnlyInBodies}
@@ -76,23 +76,23 @@ module _ (P : W.Word → Type 0) (zero_is : P (Lit (pos 0))) where
 
   -- what an operation puts into a cell
   abbrev pub PutOk : Act → Type 0
-  PutOk (update a v) = MemoryOk (stored_contents v)
+  PutOk (leaf (update a v)) = MemoryOk (stored_contents v)
   PutOk _ = Unit {0}
 
   act_ok : (o : Act) (T : KnownCellContents) → PutOk o → MemoriesOk T → MemoriesOk (after_act o T)
-  act_ok (update a v) T h k = update_ok a v T h k
+  act_ok (leaf (update a v)) T h k = update_ok a v T h k
   act_ok (case v as') T h k = forget_ok (arms_updated as') T k
   act_ok (nested b) T h k = forget_ok (code_updated b) T k
-  act_ok (unit v) T h k = k
-  act_ok (fetch a) T h k = k
-  act_ok (eval a) T h k = k
-  act_ok (apply v a) T h k = k
-  act_ok (call f ws) T h k = k
-  act_ok (prim q a b) T h k = k
-  act_ok read T h k = k
-  act_ok (write a) T h k = k
-  act_ok fail T h k = k
-  act_ok (fetch_word a i) T h k = k
+  act_ok (leaf (unit v)) T h k = k
+  act_ok (leaf (fetch a)) T h k = k
+  act_ok (leaf (eval a)) T h k = k
+  act_ok (leaf (apply v a)) T h k = k
+  act_ok (leaf (call f ws)) T h k = k
+  act_ok (leaf (prim q a b)) T h k = k
+  act_ok (leaf read) T h k = k
+  act_ok (leaf (write a)) T h k = k
+  act_ok (leaf fail) T h k = k
+  act_ok (leaf (fetch_word a i)) T h k = k
 
   store_ok : (own : ℕ → Bool) (cs : List Cell) (T : KnownCellContents) → AllOf (λ c. MemoryOk (stored_contents c.val)) cs → MemoriesOk T → MemoriesOk (after_store own cs T)
   store_ok own [] T h k = k
@@ -143,23 +143,23 @@ module _ (p : Program) (procs : List Procedure) (same_count : length procs ≡ l
     unfolding told_act ActFormed
 
     act_formed : (own : ℕ → Bool) (o : Act) (scope : Scope) (T : KnownCellContents) → ActFormed p scope o → Tells scope T → ActFormed after scope (told_act own T o)
-    act_formed own (fetch_word a i) scope T h k = go (remembered_word_of T a i) refl
+    act_formed own (leaf (fetch_word a i)) scope T h k = go (remembered_word_of T a i) refl
       where
         go : (m : Option W.Word) → remembered_word_of T a i ≡ m → ActFormed after scope (word_or_fetch a i m)
         go None q = word_stays p procs same_count scope scope (within_self scope) a h
         go (Some w) q = told_ok (Words scope) tt T a i w k q
     act_formed own (case v as') scope T h k = (val_stays p procs same_count scope scope (within_self scope) v h.0, arms_formed own as' scope T h.1 k)
     act_formed own (nested b) scope T h k = code_formed own b scope T h k
-    act_formed own (unit v) scope T h k = val_stays p procs same_count scope scope (within_self scope) v h
-    act_formed own (fetch a) scope T h k = word_stays p procs same_count scope scope (within_self scope) a h
-    act_formed own (update a v) scope T h k = (word_stays p procs same_count scope scope (within_self scope) a h.0, val_stays p procs same_count scope scope (within_self scope) v h.1)
-    act_formed own (eval a) scope T h k = word_stays p procs same_count scope scope (within_self scope) a h
-    act_formed own (apply v a) scope T h k = (val_stays p procs same_count scope scope (within_self scope) v h.0, word_stays p procs same_count scope scope (within_self scope) a h.1)
-    act_formed own (call f ws) scope T h k = (known_again p procs same_count f h.0, words_stay p procs same_count scope scope (within_self scope) ws h.1)
-    act_formed own (prim f a b) scope T h k = (word_stays p procs same_count scope scope (within_self scope) a h.0, word_stays p procs same_count scope scope (within_self scope) b h.1)
-    act_formed own read scope T h k = tt
-    act_formed own (write a) scope T h k = word_stays p procs same_count scope scope (within_self scope) a h
-    act_formed own fail scope T h k = tt
+    act_formed own (leaf (unit v)) scope T h k = val_stays p procs same_count scope scope (within_self scope) v h
+    act_formed own (leaf (fetch a)) scope T h k = word_stays p procs same_count scope scope (within_self scope) a h
+    act_formed own (leaf (update a v)) scope T h k = (word_stays p procs same_count scope scope (within_self scope) a h.0, val_stays p procs same_count scope scope (within_self scope) v h.1)
+    act_formed own (leaf (eval a)) scope T h k = word_stays p procs same_count scope scope (within_self scope) a h
+    act_formed own (leaf (apply v a)) scope T h k = (val_stays p procs same_count scope scope (within_self scope) v h.0, word_stays p procs same_count scope scope (within_self scope) a h.1)
+    act_formed own (leaf (call f ws)) scope T h k = (known_again p procs same_count f h.0, words_stay p procs same_count scope scope (within_self scope) ws h.1)
+    act_formed own (leaf (prim f a b)) scope T h k = (word_stays p procs same_count scope scope (within_self scope) a h.0, word_stays p procs same_count scope scope (within_self scope) b h.1)
+    act_formed own (leaf read) scope T h k = tt
+    act_formed own (leaf (write a)) scope T h k = word_stays p procs same_count scope scope (within_self scope) a h
+    act_formed own (leaf fail) scope T h k = tt
 
     code_formed : (own : ℕ → Bool) (b : Code) (scope : Scope) (T : KnownCellContents) → CodeFormed p scope b → Tells scope T → CodeFormed after scope (told_code own T b)
     code_formed own (end o) scope T h k = act_formed own o scope T h k
@@ -181,17 +181,17 @@ module _ (p : Program) (procs : List Procedure) (same_count : length procs ≡ l
     )
 
     put_formed : (o : Act) (scope : Scope) → ActFormed p scope o → PutOk (Words scope) tt o
-    put_formed (update a v) scope h = held_formed scope v (val_stays p procs same_count scope scope (within_self scope) v h.1)
-    put_formed (unit v) scope h = tt
-    put_formed (fetch a) scope h = tt
-    put_formed (eval a) scope h = tt
-    put_formed (apply v a) scope h = tt
-    put_formed (call f ws) scope h = tt
-    put_formed (prim q a b) scope h = tt
-    put_formed read scope h = tt
-    put_formed (write a) scope h = tt
-    put_formed fail scope h = tt
-    put_formed (fetch_word a i) scope h = tt
+    put_formed (leaf (update a v)) scope h = held_formed scope v (val_stays p procs same_count scope scope (within_self scope) v h.1)
+    put_formed (leaf (unit v)) scope h = tt
+    put_formed (leaf (fetch a)) scope h = tt
+    put_formed (leaf (eval a)) scope h = tt
+    put_formed (leaf (apply v a)) scope h = tt
+    put_formed (leaf (call f ws)) scope h = tt
+    put_formed (leaf (prim q a b)) scope h = tt
+    put_formed (leaf read) scope h = tt
+    put_formed (leaf (write a)) scope h = tt
+    put_formed (leaf fail) scope h = tt
+    put_formed (leaf (fetch_word a i)) scope h = tt
     put_formed (case v as') scope h = tt
     put_formed (nested b) scope h = tt
 
@@ -256,19 +256,19 @@ module _ (own : ℕ → Bool) where
     unfolding told_act act_shown
 
     act_more : (o : Act) (T : KnownCellContents) → Among (act_shown o) (act_shown (told_act own T o))
-    act_more (fetch_word a i) T = none_among _
+    act_more (leaf (fetch_word a i)) T = none_among _
     act_more (case v as') T = among_append (val_words v) (arms_shown as') (val_words v) (arms_shown (told_arms own T as')) (among_self (val_words v)) (arms_more as' T)
     act_more (nested b) T = code_more b T
-    act_more (unit v) T = among_self (act_shown (unit v))
-    act_more (fetch a) T = among_self (act_shown (fetch a))
-    act_more (update a v) T = among_self (act_shown (update a v))
-    act_more (eval a) T = among_self (act_shown (eval a))
-    act_more (apply v a) T = among_self (act_shown (apply v a))
-    act_more (call f ws) T = among_self (act_shown (call f ws))
-    act_more (prim q a b) T = among_self (act_shown (prim q a b))
-    act_more read T = among_self (act_shown read)
-    act_more (write a) T = among_self (act_shown (write a))
-    act_more fail T = among_self (act_shown fail)
+    act_more (leaf (unit v)) T = among_self (act_shown (leaf (unit v)))
+    act_more (leaf (fetch a)) T = among_self (act_shown (leaf (fetch a)))
+    act_more (leaf (update a v)) T = among_self (act_shown (leaf (update a v)))
+    act_more (leaf (eval a)) T = among_self (act_shown (leaf (eval a)))
+    act_more (leaf (apply v a)) T = among_self (act_shown (leaf (apply v a)))
+    act_more (leaf (call f ws)) T = among_self (act_shown (leaf (call f ws)))
+    act_more (leaf (prim q a b)) T = among_self (act_shown (leaf (prim q a b)))
+    act_more (leaf read) T = among_self (act_shown (leaf read))
+    act_more (leaf (write a)) T = among_self (act_shown (leaf (write a)))
+    act_more (leaf fail) T = among_self (act_shown (leaf fail))
 
     code_more : (b : Code) (T : KnownCellContents) → Among (code_shown b) (code_shown (told_code own T b))
     code_more (end o) T = act_more o T
@@ -298,36 +298,36 @@ module _ (own : ℕ → Bool) where
       unfolding told_act act_shown
 
       act_fewer : (o : Act) (T : KnownCellContents) → Among (act_shown o) all → MemoriesOk Inside zero_inside T → Among (act_shown (told_act own T o)) all
-      act_fewer (fetch_word a i) T h k = go (remembered_word_of T a i) refl
+      act_fewer (leaf (fetch_word a i)) T h k = go (remembered_word_of T a i) refl
         where
           go : (m : Option W.Word) → remembered_word_of T a i ≡ m → Among (act_shown (word_or_fetch a i m)) all
           go None q = none_among all
           go (Some w) q = told_ok Inside zero_inside T a i w k q
       act_fewer (case v as') T h k = among_both (val_words v) (arms_shown (told_arms own T as')) all (among_front (val_words v) (arms_shown as') all h) (arms_fewer as' T (among_back (val_words v) (arms_shown as') all h) k)
       act_fewer (nested b) T h k = code_fewer b T h k
-      act_fewer (unit v) T h k = h
-      act_fewer (fetch a) T h k = h
-      act_fewer (update a v) T h k = h
-      act_fewer (eval a) T h k = h
-      act_fewer (apply v a) T h k = h
-      act_fewer (call f ws) T h k = h
-      act_fewer (prim q a b) T h k = h
-      act_fewer read T h k = h
-      act_fewer (write a) T h k = h
-      act_fewer fail T h k = h
+      act_fewer (leaf (unit v)) T h k = h
+      act_fewer (leaf (fetch a)) T h k = h
+      act_fewer (leaf (update a v)) T h k = h
+      act_fewer (leaf (eval a)) T h k = h
+      act_fewer (leaf (apply v a)) T h k = h
+      act_fewer (leaf (call f ws)) T h k = h
+      act_fewer (leaf (prim q a b)) T h k = h
+      act_fewer (leaf read) T h k = h
+      act_fewer (leaf (write a)) T h k = h
+      act_fewer (leaf fail) T h k = h
 
       put_inside : (o : Act) → Among (act_shown o) all → PutOk Inside zero_inside o
-      put_inside (update a v) h = held_inside v h
-      put_inside (unit v) h = tt
-      put_inside (fetch a) h = tt
-      put_inside (eval a) h = tt
-      put_inside (apply v a) h = tt
-      put_inside (call f ws) h = tt
-      put_inside (prim q a b) h = tt
-      put_inside read h = tt
-      put_inside (write a) h = tt
-      put_inside fail h = tt
-      put_inside (fetch_word a i) h = tt
+      put_inside (leaf (update a v)) h = held_inside v h
+      put_inside (leaf (unit v)) h = tt
+      put_inside (leaf (fetch a)) h = tt
+      put_inside (leaf (eval a)) h = tt
+      put_inside (leaf (apply v a)) h = tt
+      put_inside (leaf (call f ws)) h = tt
+      put_inside (leaf (prim q a b)) h = tt
+      put_inside (leaf read) h = tt
+      put_inside (leaf (write a)) h = tt
+      put_inside (leaf fail) h = tt
+      put_inside (leaf (fetch_word a i)) h = tt
       put_inside (case v as') h = tt
       put_inside (nested b) h = tt
 
@@ -346,41 +346,41 @@ module _ (own : ℕ → Bool) where
 
   pub acts_same : (o : Act) (T : KnownCellContents) → after_act (told_act own T o) T ≡ after_act o T
   unfolding told_act
-  acts_same (fetch_word a i) T = either a i (λ o. after_act o T ≡ T) refl (λ w. refl) (remembered_word_of T a i)
+  acts_same (leaf (fetch_word a i)) T = either a i (λ o. after_act o T ≡ T) refl (λ w. refl) (remembered_word_of T a i)
   acts_same (case v as') T = ap (λ ws. forget ws T) (arms_updates_same own as' T)
   acts_same (nested b) T = ap (λ ws. forget ws T) (code_updates_same own b T)
-  acts_same (unit v) T = refl
-  acts_same (fetch a) T = refl
-  acts_same (update a v) T = refl
-  acts_same (eval a) T = refl
-  acts_same (apply v a) T = refl
-  acts_same (call f ws) T = refl
-  acts_same (prim q a b) T = refl
-  acts_same read T = refl
-  acts_same (write a) T = refl
-  acts_same fail T = refl
+  acts_same (leaf (unit v)) T = refl
+  acts_same (leaf (fetch a)) T = refl
+  acts_same (leaf (update a v)) T = refl
+  acts_same (leaf (eval a)) T = refl
+  acts_same (leaf (apply v a)) T = refl
+  acts_same (leaf (call f ws)) T = refl
+  acts_same (leaf (prim q a b)) T = refl
+  acts_same (leaf read) T = refl
+  acts_same (leaf (write a)) T = refl
+  acts_same (leaf fail) T = refl
 
   mutual
     unfolding told_act ActUnknown
 
     act_unknown : (o : Act) (T : KnownCellContents) → ActUnknown own T (told_act own T o)
-    act_unknown (fetch_word a i) T = go (remembered_word_of T a i) refl
+    act_unknown (leaf (fetch_word a i)) T = go (remembered_word_of T a i) refl
       where
         go : (m : Option W.Word) → remembered_word_of T a i ≡ m → ActUnknown own T (word_or_fetch a i m)
         go None q = q
         go (Some w) q = tt
     act_unknown (case v as') T = arms_unknown as' T
     act_unknown (nested b) T = code_unknown b T
-    act_unknown (unit v) T = tt
-    act_unknown (fetch a) T = tt
-    act_unknown (update a v) T = tt
-    act_unknown (eval a) T = tt
-    act_unknown (apply v a) T = tt
-    act_unknown (call f ws) T = tt
-    act_unknown (prim q a b) T = tt
-    act_unknown read T = tt
-    act_unknown (write a) T = tt
-    act_unknown fail T = tt
+    act_unknown (leaf (unit v)) T = tt
+    act_unknown (leaf (fetch a)) T = tt
+    act_unknown (leaf (update a v)) T = tt
+    act_unknown (leaf (eval a)) T = tt
+    act_unknown (leaf (apply v a)) T = tt
+    act_unknown (leaf (call f ws)) T = tt
+    act_unknown (leaf (prim q a b)) T = tt
+    act_unknown (leaf read) T = tt
+    act_unknown (leaf (write a)) T = tt
+    act_unknown (leaf fail) T = tt
 
     code_unknown : (b : Code) (T : KnownCellContents) → CodeUnknown own T (told_code own T b)
     code_unknown (end o) T = act_unknown o T

@@ -16,7 +16,7 @@ use Rattle.grin_syntax.specs.declared.program.Shape.TheVariants as shape
 use Rattle.grin_syntax.specs.declared.program.Val.TheVariants.{NodeVar, Node as Node', Vector, One}
 use Rattle.grin_syntax.specs.declared.program.Target.{Target}
 use Rattle.grin_syntax.specs.declared.program.Target.TheVariants as to
-use Rattle.grin_syntax.specs.Tree.{Code, end, store, bind, Act, unit, fetch, fetch_word, update, eval, apply, call, prim, read, write, case, nested, fail, Arms, no_arm, arm, Program}
+use Rattle.grin_syntax.specs.Tree.{Code, end, store, bind, Act, leaf, unit, fetch, fetch_word, update, eval, apply, call, prim, read, write, case, nested, fail, Arms, no_arm, arm, Program}
 use Rattle.grin_syntax.specs.Formed.{AllOf}
 use Rattle.grin_meaning.specs.Values.{Datum, number, tag, cell, words, node, Node, Value, Env, HeapCell, State, World, Stop, Answer, gives, stops, missing, then_do, need, and_then, Binding, with_vars, one_each, padded, MatchOutcome, fits, fits_not, unclear, fit_of, fits_if, fields_fit, node_fit, number_fit, int_fit, word_of, words_of, value_of, node_of, as_node, only_word, made_node, fields_of, bindings_of}
 use Rattle.grin_meaning.specs.Run.{Calls, act_by, code_by, arms_by, calls_by, require_if_checked, require_value_if_checked, choose, byte_or_end, after_read, spend, spent, with_state_seen, places, cells_of, with_cells, with_node, node_word, nth_or_zero, place_of, number_of, apply_arithmetic}
@@ -451,20 +451,20 @@ module _ (g : Program) where
         unfolding act_by EachAct act_shown act_updated
 
         pub act_kept : (env : Env) (d : ℕ) (o : Act) (w : World) → EnvIs Bad (length w.cells) env → Good w → EachAct inlined_kind o → Clear Bad (act_shown o) → UpdateFits Bad (act_updated o) → Still w (act_by g c looks env d o w)
-        act_kept env d (unit v) w e h l s u = need_kept _ (value_of g env v) w _ h (λ y q. looking_kept _ looks _ w _ h (gives_good (omega arith) (value_good (at w h) Bad env e v y s q) h))
-        act_kept env d (fetch a) w e h l s u = need_kept _ (and_then (word_of g env a) place_of) w _ h (λ i p. need_kept _ (slice_get w.cells i) w _ h (λ y q. gives_good (omega arith) (k.fetched w.cells i y h.heap q) h))
-        act_kept env d (fetch_word a j) w e h l s u = need_kept _ (and_then (word_of g env a) place_of) w _ h (λ i p. need_kept _ (slice_get w.cells i) w _ h (λ y q. gives_good (omega arith) (node_word_good (at w h) y.node j (k.fetched w.cells i y h.heap q), tt) h))
-        act_kept env d (update a v) w e h l s u = need_kept _ (and_then (word_of g env a) place_of) w _ h (λ i p. need_kept _ (slice_get w.cells i) w _ h (λ y q.
+        act_kept env d (leaf (unit v)) w e h l s u = need_kept _ (value_of g env v) w _ h (λ y q. looking_kept _ looks _ w _ h (gives_good (omega arith) (value_good (at w h) Bad env e v y s q) h))
+        act_kept env d (leaf (fetch a)) w e h l s u = need_kept _ (and_then (word_of g env a) place_of) w _ h (λ i p. need_kept _ (slice_get w.cells i) w _ h (λ y q. gives_good (omega arith) (k.fetched w.cells i y h.heap q) h))
+        act_kept env d (leaf (fetch_word a j)) w e h l s u = need_kept _ (and_then (word_of g env a) place_of) w _ h (λ i p. need_kept _ (slice_get w.cells i) w _ h (λ y q. gives_good (omega arith) (node_word_good (at w h) y.node j (k.fetched w.cells i y h.heap q), tt) h))
+        act_kept env d (leaf (update a v)) w e h l s u = need_kept _ (and_then (word_of g env a) place_of) w _ h (λ i p. need_kept _ (slice_get w.cells i) w _ h (λ y q.
             need_kept _ (node_of g env v) w _ h (λ n r. looking_kept _ looks _ w _ h (put_kept env w e h a u i y n p q (node_good (at w h) Bad env e v n s r)))))
-        act_kept env d (eval a) w e h l s u = absurd l
-        act_kept env d (apply v a) w e h l s u = absurd l.0
-        act_kept env d (call f ws) w e h l s u = need_kept _ (words_of g env ws) w _ h (λ xs q. cg.by f.0 xs d w (words_good (at w h) Bad env e ws xs s q) h)
-        act_kept env d (prim f a b) w e h l s u = need_kept _ (word_of g env a) w _ h (λ x q. need_kept _ (word_of g env b) w _ h (λ y r. numbers_kept f x y w h))
-        act_kept env d read w e h l s u = read_kept w.input w h
-        act_kept env d (write a) w e h l s u = need_kept _ (and_then (word_of g env a) number_of) w _ h (λ i q. gives_good (omega arith) tt (record { heap = h.heap; seen = h.seen }))
+        act_kept env d (leaf (eval a)) w e h l s u = absurd l
+        act_kept env d (leaf (apply v a)) w e h l s u = absurd l.0
+        act_kept env d (leaf (call f ws)) w e h l s u = need_kept _ (words_of g env ws) w _ h (λ xs q. cg.by f.0 xs d w (words_good (at w h) Bad env e ws xs s q) h)
+        act_kept env d (leaf (prim f a b)) w e h l s u = need_kept _ (word_of g env a) w _ h (λ x q. need_kept _ (word_of g env b) w _ h (λ y r. numbers_kept f x y w h))
+        act_kept env d (leaf read) w e h l s u = read_kept w.input w h
+        act_kept env d (leaf (write a)) w e h l s u = need_kept _ (and_then (word_of g env a) number_of) w _ h (λ i q. gives_good (omega arith) tt (record { heap = h.heap; seen = h.seen }))
         act_kept env d (case v as') w e h l s u = need_kept _ (value_of g env v) w _ h (λ y q. arms_kept env d y as' w e h (value_good (at w h) Bad env e v y (clear_front Bad (val_words v) (arms_shown as') s) q) l.2 (clear_back Bad (val_words v) (arms_shown as') s) u)
         act_kept env d (nested b) w e h l s u = code_kept env d b w e h l.1 s u
-        act_kept env d fail w e h l s u = stops_good h
+        act_kept env d (leaf fail) w e h l s u = stops_good h
 
         pub code_kept : (env : Env) (d : ℕ) (b : Code) (w : World) → EnvIs Bad (length w.cells) env → Good w → EachCode inlined_kind b → Clear Bad (code_shown b) → UpdateFits Bad (code_updated b) → Still w (code_by g c looks env d b w)
         code_kept env d (end o) w e h l s u = act_kept env d o w e h l s u

@@ -9,7 +9,7 @@ use Rattle.grin_syntax.specs.declared.program.Word.TheVariants.{Lit, Var, Global
 use Rattle.grin_syntax.specs.declared.program.Val as V
 use Rattle.grin_syntax.specs.declared.program.Val.TheVariants.{NodeVar, Node as Node', Vector, One}
 use Rattle.grin_syntax.specs.declared.program.Target.{Target}
-use Rattle.grin_syntax.specs.Tree.{Act, unit, fetch, fetch_word, update, eval, apply, call, prim, read, write, case, nested, fail, Program}
+use Rattle.grin_syntax.specs.Tree.{Act, leaf, unit, fetch, fetch_word, update, eval, apply, call, prim, read, write, case, nested, fail, Program}
 use Rattle.grin_syntax.specs.Formed.{AllOf}
 use Rattle.grin_meaning.specs.Values.{Datum, cell, words, Node, Value, Env, HeapCell, State, World, gives, need, and_then, Binding, with_vars, only_word, word_of, node_of, bindings_of}
 use Rattle.grin_meaning.specs.Run.{Calls, act_by, require_if_checked, with_node, place_of, node_word}
@@ -147,7 +147,7 @@ module _ (g : Program) (own : ℕ → Bool) where
       filled : fills g env v ≡ true
       cells : w'.cells ≡ slice_set w.cells i (record { site = y.site; node = n })
 
-    update_gave : (env : Env) (d : ℕ) (a : W.Word) (v : V.Val) (w w' : World) (u : Value) → act_by g c true env d (update a v) w ≡ gives u w' → Updated env a v w w'
+    update_gave : (env : Env) (d : ℕ) (a : W.Word) (v : V.Val) (w w' : World) (u : Value) → act_by g c true env d (leaf (update a v)) w ≡ gives u w' → Updated env a v w w'
     unfolding act_by
     update_gave env d a v w w' u e = at_place (and_then (word_of g env a) place_of) refl e
       where
@@ -171,12 +171,12 @@ module _ (g : Program) (own : ℕ → Bool) where
         at_place (Some i) p x = at_cell i (slice_get w.cells i) p refl x
 
     -- the cell of x is updated
-    own_update : (env : Env) (d : ℕ) (z : VarId) (v : V.Val) (w w' : World) (u : Value) (Q : HeapCell → Type 0) (ds : List Datum) → Clear IsOwn (val_words v) → act_by g c true env d (update (Var z) v) w ≡ gives u w'
+    own_update : (env : Env) (d : ℕ) (z : VarId) (v : V.Val) (w w' : World) (u : Value) (Q : HeapCell → Type 0) (ds : List Datum) → Clear IsOwn (val_words v) → act_by g c true env d (leaf (update (Var z) v)) w ≡ gives u w'
         → Beside env w.cells z.0 Q ds → Beside env w'.cells z.0 (Holds g env (stored_contents v)) (all_words u)
     unfolding EachAct act_shown act_updated
     own_update env d z v w w' u Q ds s e k =
         let y : Updated env (Var z) v w w' = update_gave env d (Var z) v w w' u e in
-        let b : Beside env w'.cells z.0 (λ y. Unit {0}) (all_words u) = own_act env d (update (Var z) v) w w' u z.0 (λ y. Unit {0}) ds (tt, tt) s (inr (λ y. tt)) e (own_weaker env w.cells z.0 Q (λ y. Unit {0}) ds (λ y h. tt) k) in
+        let b : Beside env w'.cells z.0 (λ y. Unit {0}) (all_words u) = own_act env d (leaf (update (Var z) v)) w w' u z.0 (λ y. Unit {0}) ds (tt, tt) s (inr (λ y. tt)) e (own_weaker env w.cells z.0 Q (λ y. Unit {0}) ds (λ y h. tt) k) in
         let new : HeapCell = record { site = y.y.site; node = y.n } in
         let same : Some b.at.a ≡ Some y.i = sym (ap (λ o. and_then (and_then o only_word) place_of) b.at.bound) ∙ y.place in
         let here : y.i ≡ b.at.a = cc in
@@ -197,18 +197,18 @@ module _ (g : Program) (own : ℕ → Bool) where
           free = b.free;
         }
 
-    known_update : (env : Env) (d : ℕ) (z : VarId) (v : V.Val) (w w' : World) (u : Value) (m : Memory) (ds : List Datum) → Clear IsOwn (val_words v) → act_by g c true env d (update (Var z) v) w ≡ gives u w'
+    known_update : (env : Env) (d : ℕ) (z : VarId) (v : V.Val) (w w' : World) (u : Value) (m : Memory) (ds : List Datum) → Clear IsOwn (val_words v) → act_by g c true env d (leaf (update (Var z) v)) w ≡ gives u w'
         → Known env w.cells z.0 m ds → Known env w'.cells z.0 (contents_replaced m (stored_contents v)) (all_words u)
     known_update env d z v w w' u other ds s e k = tt
     known_update env d z v w w' u lost ds s e k = known_held env w'.cells z.0 v (all_words u) (own_update env d z v w w' u (λ y. Unit {0}) ds s e k)
     known_update env d z v w w' u (holds ws) ds s e k = known_held env w'.cells z.0 v (all_words u) (own_update env d z v w w' u (Holds g env (holds ws)) ds s e k)
 
-    updates_known : (env : Env) (d : ℕ) (a : W.Word) (v : V.Val) (w w' : World) (u : Value) (T : KnownCellContents) (ds : List Datum) → Clear IsOwn (val_words v) → act_by g c true env d (update a v) w ≡ gives u w'
+    updates_known : (env : Env) (d : ℕ) (a : W.Word) (v : V.Val) (w w' : World) (u : Value) (T : KnownCellContents) (ds : List Datum) → Clear IsOwn (val_words v) → act_by g c true env d (leaf (update a v)) w ≡ gives u w'
         → AllKnown env w.cells T ds → AllKnown env w'.cells (after_update a v T) (all_words u)
     unfolding EachAct act_shown act_updated
-    updates_known env d (Lit i) v w w' u T ds s e k x = known_act env d (update (Lit i) v) w w' u x (T x) ds (tt, tt) s refl e (k x)
-    updates_known env d (Global i) v w w' u T ds s e k x = known_act env d (update (Global i) v) w w' u x (T x) ds (tt, tt) s refl e (k x)
-    updates_known env d (TagWord t) v w w' u T ds s e k x = known_act env d (update (TagWord t) v) w w' u x (T x) ds (tt, tt) s refl e (k x)
+    updates_known env d (Lit i) v w w' u T ds s e k x = known_act env d (leaf (update (Lit i) v)) w w' u x (T x) ds (tt, tt) s refl e (k x)
+    updates_known env d (Global i) v w w' u T ds s e k x = known_act env d (leaf (update (Global i) v)) w w' u x (T x) ds (tt, tt) s refl e (k x)
+    updates_known env d (TagWord t) v w w' u T ds s e k x = known_act env d (leaf (update (TagWord t) v)) w w' u x (T x) ds (tt, tt) s refl e (k x)
     updates_known env d (Var z) v w w' u T ds s e k x = go (nat_eq x z.0) refl
       where
         turned : nat_eq x z.0 ≡ false → words_use x (Var z ∷ []) ≡ false
@@ -216,24 +216,24 @@ module _ (g : Program) (own : ℕ → Bool) where
 
         go : (b : Bool) → nat_eq x z.0 ≡ b → Known env w'.cells x (cond b (contents_replaced (T z.0) (stored_contents v)) (T x)) (all_words u)
         go true q = subst (λ y. Known env w'.cells y (contents_replaced (T z.0) (stored_contents v)) (all_words u)) (sym (eq_from x z.0 q)) (known_update env d z v w w' u (T z.0) ds s e (k z.0))
-        go false q = known_act env d (update (Var z) v) w w' u x (T x) ds (tt, tt) s (turned q) e (k x)
+        go false q = known_act env d (leaf (update (Var z) v)) w w' u x (T x) ds (tt, tt) s (turned q) e (k x)
 
     -- behind an operation
     pub acts_known : (env : Env) (d : ℕ) (o : Act) (w w' : World) (u : Value) (T : KnownCellContents) (ds : List Datum) → EachAct inlined_kind o → Clear IsOwn (act_shown o) → act_by g c true env d o w ≡ gives u w' → AllKnown env w.cells T ds → AllKnown env w'.cells (after_act o T) (all_words u)
     unfolding act_shown act_updated
-    acts_known env d (unit v) w w' u T ds l s e k x = known_act env d (unit v) w w' u x (T x) ds l s refl e (k x)
-    acts_known env d (fetch a) w w' u T ds l s e k x = known_act env d (fetch a) w w' u x (T x) ds l s refl e (k x)
-    acts_known env d (fetch_word a i) w w' u T ds l s e k x = known_act env d (fetch_word a i) w w' u x (T x) ds l s refl e (k x)
-    acts_known env d (update a v) w w' u T ds l s e k x = updates_known env d a v w w' u T ds s e k x
-    acts_known env d (eval a) w w' u T ds l s e k x = known_act env d (eval a) w w' u x (T x) ds l s refl e (k x)
-    acts_known env d (apply v a) w w' u T ds l s e k x = known_act env d (apply v a) w w' u x (T x) ds l s refl e (k x)
-    acts_known env d (call f ws) w w' u T ds l s e k x = known_act env d (call f ws) w w' u x (T x) ds l s refl e (k x)
-    acts_known env d (prim f a b) w w' u T ds l s e k x = known_act env d (prim f a b) w w' u x (T x) ds l s refl e (k x)
-    acts_known env d read w w' u T ds l s e k x = known_act env d read w w' u x (T x) ds l s refl e (k x)
-    acts_known env d (write a) w w' u T ds l s e k x = known_act env d (write a) w w' u x (T x) ds l s refl e (k x)
+    acts_known env d (leaf (unit v)) w w' u T ds l s e k x = known_act env d (leaf (unit v)) w w' u x (T x) ds l s refl e (k x)
+    acts_known env d (leaf (fetch a)) w w' u T ds l s e k x = known_act env d (leaf (fetch a)) w w' u x (T x) ds l s refl e (k x)
+    acts_known env d (leaf (fetch_word a i)) w w' u T ds l s e k x = known_act env d (leaf (fetch_word a i)) w w' u x (T x) ds l s refl e (k x)
+    acts_known env d (leaf (update a v)) w w' u T ds l s e k x = updates_known env d a v w w' u T ds s e k x
+    acts_known env d (leaf (eval a)) w w' u T ds l s e k x = known_act env d (leaf (eval a)) w w' u x (T x) ds l s refl e (k x)
+    acts_known env d (leaf (apply v a)) w w' u T ds l s e k x = known_act env d (leaf (apply v a)) w w' u x (T x) ds l s refl e (k x)
+    acts_known env d (leaf (call f ws)) w w' u T ds l s e k x = known_act env d (leaf (call f ws)) w w' u x (T x) ds l s refl e (k x)
+    acts_known env d (leaf (prim f a b)) w w' u T ds l s e k x = known_act env d (leaf (prim f a b)) w w' u x (T x) ds l s refl e (k x)
+    acts_known env d (leaf read) w w' u T ds l s e k x = known_act env d (leaf read) w w' u x (T x) ds l s refl e (k x)
+    acts_known env d (leaf (write a)) w w' u T ds l s e k x = known_act env d (leaf (write a)) w w' u x (T x) ds l s refl e (k x)
     acts_known env d (case v as') w w' u T ds l s e k x = known_forget env d (case v as') w w' u x (T x) ds l s e (k x)
     acts_known env d (nested b) w w' u T ds l s e k x = known_forget env d (nested b) w w' u x (T x) ds l s e (k x)
-    acts_known env d fail w w' u T ds l s e k x = known_act env d fail w w' u x (T x) ds l s refl e (k x)
+    acts_known env d (leaf fail) w w' u T ds l s e k x = known_act env d (leaf fail) w w' u x (T x) ds l s refl e (k x)
 
   -- ---- bindings
 

@@ -13,7 +13,7 @@ use Rattle.grin_syntax.specs.declared.program.Word as W
 use Rattle.grin_syntax.specs.declared.program.Word.TheVariants.{Lit, Var, Global, TagWord}
 use Rattle.grin_syntax.specs.declared.program.Val as V
 use Rattle.grin_syntax.specs.declared.program.Val.TheVariants.{NodeVar, Node as Node', Vector, One}
-use Rattle.grin_syntax.specs.Tree.{Code, end, store, bind, Act, unit, fetch, fetch_word, update, eval, apply, call, prim, read, write, case, nested, fail, Arms, no_arm, arm, Procedure, Program}
+use Rattle.grin_syntax.specs.Tree.{Code, end, store, bind, Act, Leaf, leaf, unit, fetch, fetch_word, update, eval, apply, call, prim, read, write, case, nested, fail, Arms, no_arm, arm, Procedure, Program}
 use Rattle.grin_syntax.specs.Binders.{numbers_of, target_vars, shape_vars, cell_vars, act_vars, code_vars, arms_vars, procs_vars}
 use Rattle.grin_syntax.specs.Formed.{AllOf, ArgumentKnown, Formed}
 use Rattle.numbers.specs.Numbers.{same_number}
@@ -30,7 +30,7 @@ use Rattle.grin_meaning.proofs.Back.{CallsBack, calls_by_back}
 use Rattle.grin_meaning.proofs.Beside.{beside, no_deeper, Likewise, gives_too, Seen, need_first, need_is}
 use Rattle.grin_meaning.proofs.Rules.{Relation, Plan, Setting, Here, CallsFollow, ActFollows, CodeFollows, ArmsFollow, BindsToo, FitsToo, act_more, end_follows, nested_follows, bind_follows, store_follows, case_follows, no_arm_follows, arm_follows}
 use Rattle.grin_meaning.proofs.Procedures.{BodiesFollow, no_more, one_more, second, at, run_too}
-use Rattle.grin_meaning.proofs.Plain.{Has, IsLeaf, IsPlain, having, leaf_follows, vars_have, word_has, value_has, cells_have, all_fill_too, same_is}
+use Rattle.grin_meaning.proofs.Plain.{Has, IsPlain, having, leaf_follows, vars_have, word_has, value_has, cells_have, all_fill_too, same_is}
 use Rattle.grin_meaning.proofs.KeptBy.{likewise_kept, looking_kept}
 use Rattle.grin_meaning.proofs.Paired.{nothing}
 use Rattle.pass_ground.specs.Uses.{words_use}
@@ -68,21 +68,19 @@ cells_any : (cs : List Cell) → CellsOk Any cs
 cells_any [] = tt
 cells_any (c ∷ cs) = (val_any c.val, cells_any cs)
 
-leaf_any : (o : Act) → IsLeaf o → ActOk Any o
+leaf_any : (l : Leaf) → ActOk Any (leaf l)
 unfolding ActOk
-leaf_any (unit v) l = val_any v
-leaf_any (fetch a) l = word_any a
-leaf_any (fetch_word a k) l = word_any a
-leaf_any (update a v) l = (word_any a, val_any v)
-leaf_any (eval a) l = word_any a
-leaf_any (apply v a) l = (val_any v, word_any a)
-leaf_any (call f ws) l = words_any ws
-leaf_any (prim q a b) l = (word_any a, word_any b)
-leaf_any read l = tt
-leaf_any (write a) l = word_any a
-leaf_any (case v as') l = absurd l
-leaf_any (nested b) l = absurd l
-leaf_any fail l = tt
+leaf_any (unit v) = val_any v
+leaf_any (fetch a) = word_any a
+leaf_any (fetch_word a k) = word_any a
+leaf_any (update a v) = (word_any a, val_any v)
+leaf_any (eval a) = word_any a
+leaf_any (apply v a) = (val_any v, word_any a)
+leaf_any (call f ws) = words_any ws
+leaf_any (prim q a b) = (word_any a, word_any b)
+leaf_any read = tt
+leaf_any (write a) = word_any a
+leaf_any fail = tt
 
 -- ---- each variable is bound once
 
@@ -161,8 +159,8 @@ module _ (g : Program) (procs : List Procedure) where
     abbrev Codes : KnownCellContents → Code → Code → Type 0
     Codes T b b' = CodeFollows st (Remembers own T (code_vars b)) Same b b'
 
-    leaf : (T : KnownCellContents) (vs : List ℕ) (o : Act) → IsLeaf o → Acts T vs o o
-    leaf T vs o l = act_more st o o (λ c env env' r. r.same) (λ v v' u. u) (leaf_follows st plain (having Any) o l (leaf_any o l))
+    leaf_goes : (T : KnownCellContents) (vs : List ℕ) (l : Leaf) → Acts T vs (leaf l) (leaf l)
+    leaf_goes T vs l = act_more st (leaf l) (leaf l) (λ c env env' r. r.same) (λ v v' u. u) (leaf_follows st plain (having Any) l (leaf_any l))
 
     told_is : (env : Env) (cells : List HeapCell) (z : ℕ) (m : Memory) (i j : ℕ) (w : W.Word) (y : HeapCell) → told m i ≡ Some w → Known g own env cells z m [] → and_then (and_then (env z) only_word) place_of ≡ Some j → slice_get cells j ≡ Some y
         → word_of g env w ≡ Some (node_word y.node i)
@@ -176,7 +174,7 @@ module _ (g : Program) (procs : List Procedure) where
         let is : k.at.heap.y ≡ y = cc in
         ap (word_of g env) (sym a) ∙ k.at.heap.holds i ∙ ap (λ y. Some (node_word y.node i)) is
 
-    fetch_told : (T : KnownCellContents) (vs : List ℕ) (a : W.Word) (i : ℕ) (w : W.Word) → remembered_word_of T a i ≡ Some w → Acts T vs (fetch_word a i) (unit (One w))
+    fetch_told : (T : KnownCellContents) (vs : List ℕ) (a : W.Word) (i : ℕ) (w : W.Word) → remembered_word_of T a i ≡ Some w → Acts T vs (leaf (fetch_word a i)) (leaf (unit (One w)))
     unfolding act_by
     fetch_told T vs (Lit k) i w t = cc
     fetch_told T vs (Global k) i w t = cc
@@ -190,32 +188,32 @@ module _ (g : Program) (procs : List Procedure) where
           (gives_too x.b same)));
     }
 
-    fetch_goes : (T : KnownCellContents) (vs : List ℕ) (a : W.Word) (i : ℕ) → Acts T vs (fetch_word a i) (word_or_fetch a i (remembered_word_of T a i))
+    fetch_goes : (T : KnownCellContents) (vs : List ℕ) (a : W.Word) (i : ℕ) → Acts T vs (leaf (fetch_word a i)) (word_or_fetch a i (remembered_word_of T a i))
     fetch_goes T vs a i = go (remembered_word_of T a i) refl
       where
-        go : (o : Option W.Word) → remembered_word_of T a i ≡ o → Acts T vs (fetch_word a i) (word_or_fetch a i o)
-        go None q = leaf T vs (fetch_word a i) tt
+        go : (o : Option W.Word) → remembered_word_of T a i ≡ o → Acts T vs (leaf (fetch_word a i)) (word_or_fetch a i o)
+        go None q = leaf_goes T vs (fetch_word a i)
         go (Some w) q = fetch_told T vs a i w q
 
     bound_well : (T : KnownCellContents) (o : Act) (t : Target) (v : Value) → is_bound_well g t (told_act own T o) v ≡ is_bound_well g t o v
     unfolding told_act
-    bound_well T (unit u) t v = refl
-    bound_well T (fetch a) t v = refl
-    bound_well T (fetch_word a i) t v = go (remembered_word_of T a i)
+    bound_well T (leaf (unit u)) t v = refl
+    bound_well T (leaf (fetch a)) t v = refl
+    bound_well T (leaf (fetch_word a i)) t v = go (remembered_word_of T a i)
       where
-        go : (o : Option W.Word) → is_bound_well g t (word_or_fetch a i o) v ≡ is_bound_well g t (fetch_word a i) v
+        go : (o : Option W.Word) → is_bound_well g t (word_or_fetch a i o) v ≡ is_bound_well g t (leaf (fetch_word a i)) v
         go None = refl
         go (Some w) = refl
-    bound_well T (update a u) t v = refl
-    bound_well T (eval a) t v = refl
-    bound_well T (apply u a) t v = refl
-    bound_well T (call f ws) t v = refl
-    bound_well T (prim q a b) t v = refl
-    bound_well T read t v = refl
-    bound_well T (write a) t v = refl
+    bound_well T (leaf (update a u)) t v = refl
+    bound_well T (leaf (eval a)) t v = refl
+    bound_well T (leaf (apply u a)) t v = refl
+    bound_well T (leaf (call f ws)) t v = refl
+    bound_well T (leaf (prim q a b)) t v = refl
+    bound_well T (leaf read) t v = refl
+    bound_well T (leaf (write a)) t v = refl
     bound_well T (case u as') t v = refl
     bound_well T (nested b) t v = refl
-    bound_well T fail t v = refl
+    bound_well T (leaf fail) t v = refl
 
     bind_goes : (T : KnownCellContents) (t : Target) (o : Act) (b : Code) → Once (target_vars t ++ (act_vars o ++ code_vars b)) → EachAct inlined_kind o → Clear (IsOwn g own) (act_shown o) → Acts T (act_vars o) o (told_act own T o) → Codes (after_act o T) b (told_code own (after_act o T) b)
         → CodeFollows st (Remembers own T (target_vars t ++ (act_vars o ++ code_vars b))) Same (bind t o b) (bind t (told_act own T o) (told_code own (after_act o T) b))
@@ -283,20 +281,20 @@ module _ (g : Program) (procs : List Procedure) where
       unfolding told_act act_vars EachAct act_shown
 
       act_goes : (o : Act) (T : KnownCellContents) → Once (act_vars o) → EachAct inlined_kind o → EachAct vectorised_kind o → Clear (IsOwn g own) (act_shown o) → Acts T (act_vars o) o (told_act own T o)
-      act_goes (fetch_word a i) T once l n s = fetch_goes T [] a i
+      act_goes (leaf (fetch_word a i)) T once l n s = fetch_goes T [] a i
       act_goes (case v as') T once l n s = case_follows st v v as' (told_arms own T as') (arms_go as' T once l.2 n.2 (clear_back (IsOwn g own) (val_words v) (arms_shown as') s))
           (λ x y e. (y, value_has g Any x.env x.env' x.related.same v (val_any v) y e, (same, x.related)))
       act_goes (nested b) T once l n s = nested_follows st b (told_code own T b) (code_goes b T once l.1 n.1 s)
-      act_goes (unit v) T once l n s = leaf T [] (unit v) tt
-      act_goes (fetch a) T once l n s = leaf T [] (fetch a) tt
-      act_goes (update a v) T once l n s = leaf T [] (update a v) tt
-      act_goes (eval a) T once l n s = leaf T [] (eval a) tt
-      act_goes (apply v a) T once l n s = leaf T [] (apply v a) tt
-      act_goes (call f ws) T once l n s = leaf T [] (call f ws) tt
-      act_goes (prim q a b) T once l n s = leaf T [] (prim q a b) tt
-      act_goes read T once l n s = leaf T [] read tt
-      act_goes (write a) T once l n s = leaf T [] (write a) tt
-      act_goes fail T once l n s = leaf T [] fail tt
+      act_goes (leaf (unit v)) T once l n s = leaf_goes T [] (unit v)
+      act_goes (leaf (fetch a)) T once l n s = leaf_goes T [] (fetch a)
+      act_goes (leaf (update a v)) T once l n s = leaf_goes T [] (update a v)
+      act_goes (leaf (eval a)) T once l n s = leaf_goes T [] (eval a)
+      act_goes (leaf (apply v a)) T once l n s = leaf_goes T [] (apply v a)
+      act_goes (leaf (call f ws)) T once l n s = leaf_goes T [] (call f ws)
+      act_goes (leaf (prim q a b)) T once l n s = leaf_goes T [] (prim q a b)
+      act_goes (leaf read) T once l n s = leaf_goes T [] read
+      act_goes (leaf (write a)) T once l n s = leaf_goes T [] (write a)
+      act_goes (leaf fail) T once l n s = leaf_goes T [] fail
 
       code_goes : (b : Code) (T : KnownCellContents) → Once (code_vars b) → EachCode inlined_kind b → EachCode vectorised_kind b → Clear (IsOwn g own) (code_shown b) → Codes T b (told_code own T b)
       code_goes (end o) T once l n s = end_follows st o (told_act own T o) (act_goes o T once l n s)

@@ -3,7 +3,7 @@ use Rattle.std.proofs.Common.{◌≡◌, ℕ, ◌+◌, ◌≤◌, Bool, List, []
 use Rattle.grin_syntax.specs.declared.program.Val as V
 use Rattle.grin_syntax.specs.declared.program.Val.TheVariants.{One}
 use Rattle.grin_syntax.specs.declared.program.Word as W
-use Rattle.grin_syntax.specs.Tree.{Code, end, store, bind, Act, unit, fetch, fetch_word, update, eval, apply, call, prim, read, write, case, nested, fail, Arms, no_arm, arm, Procedure}
+use Rattle.grin_syntax.specs.Tree.{Code, end, store, bind, Act, leaf, unit, fetch, fetch_word, update, eval, apply, call, prim, read, write, case, nested, fail, Arms, no_arm, arm, Procedure}
 use Rattle.grin_syntax.specs.Binders.{numbers_of, target_vars, shape_vars, cell_vars, act_vars, code_vars, arms_vars, procs_vars, act_sites, code_sites, arms_sites, procs_sites}
 use Rattle.grin_syntax.specs.Formed.{AllOf}
 use Rattle.grin_syntax.specs.SameOutside.{names_of}
@@ -16,7 +16,7 @@ use Rattle.own_cells.specs.Memory.{KnownCellContents, none, remembered_word_of, 
 use Rattle.own_cells.specs.Remembered.{word_or_fetch, told_act, told_code, told_arms, is_own_cell_variable, remembered_body}
 
 -- the word, or the fetch
-pub either : (a : W.Word) (i : ℕ) (P : Act → Type 0) → P (fetch_word a i) → ((w : W.Word) → P (unit (One w))) → (o : Option W.Word) → P (word_or_fetch a i o)
+pub either : (a : W.Word) (i : ℕ) (P : Act → Type 0) → P (leaf (fetch_word a i)) → ((w : W.Word) → P (leaf (unit (One w)))) → (o : Option W.Word) → P (word_or_fetch a i o)
 either a i P f u None = f
 either a i P f u (Some w) = u w
 
@@ -27,17 +27,17 @@ module _ (own : ℕ → Bool) where
     unfolding told_act act_vars
 
     act_vars_same : (o : Act) (T : KnownCellContents) → act_vars (told_act own T o) ≡ act_vars o
-    act_vars_same (unit v) T = refl
-    act_vars_same (fetch a) T = refl
-    act_vars_same (update a v) T = refl
-    act_vars_same (eval a) T = refl
-    act_vars_same (apply v a) T = refl
-    act_vars_same (call f ws) T = refl
-    act_vars_same (prim q a b) T = refl
-    act_vars_same read T = refl
-    act_vars_same (write a) T = refl
-    act_vars_same fail T = refl
-    act_vars_same (fetch_word a i) T = either a i (λ o. act_vars o ≡ act_vars (fetch_word a i)) refl (λ w. refl) (remembered_word_of T a i)
+    act_vars_same (leaf (unit v)) T = refl
+    act_vars_same (leaf (fetch a)) T = refl
+    act_vars_same (leaf (update a v)) T = refl
+    act_vars_same (leaf (eval a)) T = refl
+    act_vars_same (leaf (apply v a)) T = refl
+    act_vars_same (leaf (call f ws)) T = refl
+    act_vars_same (leaf (prim q a b)) T = refl
+    act_vars_same (leaf read) T = refl
+    act_vars_same (leaf (write a)) T = refl
+    act_vars_same (leaf fail) T = refl
+    act_vars_same (leaf (fetch_word a i)) T = either a i (λ o. act_vars o ≡ act_vars (leaf (fetch_word a i))) refl (λ w. refl) (remembered_word_of T a i)
     act_vars_same (case v as') T = λ i. arms_vars_same as' T i
     act_vars_same (nested b) T = λ i. code_vars_same b T i
 
@@ -54,17 +54,17 @@ module _ (own : ℕ → Bool) where
     unfolding told_act act_sites
 
     act_sites_same : (o : Act) (T : KnownCellContents) → act_sites (told_act own T o) ≡ act_sites o
-    act_sites_same (unit v) T = refl
-    act_sites_same (fetch a) T = refl
-    act_sites_same (update a v) T = refl
-    act_sites_same (eval a) T = refl
-    act_sites_same (apply v a) T = refl
-    act_sites_same (call f ws) T = refl
-    act_sites_same (prim q a b) T = refl
-    act_sites_same read T = refl
-    act_sites_same (write a) T = refl
-    act_sites_same fail T = refl
-    act_sites_same (fetch_word a i) T = either a i (λ o. act_sites o ≡ act_sites (fetch_word a i)) refl (λ w. refl) (remembered_word_of T a i)
+    act_sites_same (leaf (unit v)) T = refl
+    act_sites_same (leaf (fetch a)) T = refl
+    act_sites_same (leaf (update a v)) T = refl
+    act_sites_same (leaf (eval a)) T = refl
+    act_sites_same (leaf (apply v a)) T = refl
+    act_sites_same (leaf (call f ws)) T = refl
+    act_sites_same (leaf (prim q a b)) T = refl
+    act_sites_same (leaf read) T = refl
+    act_sites_same (leaf (write a)) T = refl
+    act_sites_same (leaf fail) T = refl
+    act_sites_same (leaf (fetch_word a i)) T = either a i (λ o. act_sites o ≡ act_sites (leaf (fetch_word a i))) refl (λ w. refl) (remembered_word_of T a i)
     act_sites_same (case v as') T = λ i. arms_sites_same as' T i
     act_sites_same (nested b) T = λ i. code_sites_same b T i
 
@@ -81,17 +81,17 @@ module _ (own : ℕ → Bool) where
     unfolding told_act act_updated
 
     act_updates_same : (o : Act) (T : KnownCellContents) → act_updated (told_act own T o) ≡ act_updated o
-    act_updates_same (unit v) T = refl
-    act_updates_same (fetch a) T = refl
-    act_updates_same (update a v) T = refl
-    act_updates_same (eval a) T = refl
-    act_updates_same (apply v a) T = refl
-    act_updates_same (call f ws) T = refl
-    act_updates_same (prim q a b) T = refl
-    act_updates_same read T = refl
-    act_updates_same (write a) T = refl
-    act_updates_same fail T = refl
-    act_updates_same (fetch_word a i) T = either a i (λ o. act_updated o ≡ act_updated (fetch_word a i)) refl (λ w. refl) (remembered_word_of T a i)
+    act_updates_same (leaf (unit v)) T = refl
+    act_updates_same (leaf (fetch a)) T = refl
+    act_updates_same (leaf (update a v)) T = refl
+    act_updates_same (leaf (eval a)) T = refl
+    act_updates_same (leaf (apply v a)) T = refl
+    act_updates_same (leaf (call f ws)) T = refl
+    act_updates_same (leaf (prim q a b)) T = refl
+    act_updates_same (leaf read) T = refl
+    act_updates_same (leaf (write a)) T = refl
+    act_updates_same (leaf fail) T = refl
+    act_updates_same (leaf (fetch_word a i)) T = either a i (λ o. act_updated o ≡ act_updated (leaf (fetch_word a i))) refl (λ w. refl) (remembered_word_of T a i)
     act_updates_same (case v as') T = λ i. arms_updates_same as' T i
     act_updates_same (nested b) T = λ i. code_updates_same b T i
 
@@ -108,17 +108,17 @@ module _ (own : ℕ → Bool) where
     unfolding told_act act_weight
 
     act_weights_same : (o : Act) (T : KnownCellContents) → act_weight (told_act own T o) ≡ act_weight o
-    act_weights_same (unit v) T = refl
-    act_weights_same (fetch a) T = refl
-    act_weights_same (update a v) T = refl
-    act_weights_same (eval a) T = refl
-    act_weights_same (apply v a) T = refl
-    act_weights_same (call f ws) T = refl
-    act_weights_same (prim q a b) T = refl
-    act_weights_same read T = refl
-    act_weights_same (write a) T = refl
-    act_weights_same fail T = refl
-    act_weights_same (fetch_word a i) T = either a i (λ o. act_weight o ≡ act_weight (fetch_word a i)) refl (λ w. refl) (remembered_word_of T a i)
+    act_weights_same (leaf (unit v)) T = refl
+    act_weights_same (leaf (fetch a)) T = refl
+    act_weights_same (leaf (update a v)) T = refl
+    act_weights_same (leaf (eval a)) T = refl
+    act_weights_same (leaf (apply v a)) T = refl
+    act_weights_same (leaf (call f ws)) T = refl
+    act_weights_same (leaf (prim q a b)) T = refl
+    act_weights_same (leaf read) T = refl
+    act_weights_same (leaf (write a)) T = refl
+    act_weights_same (leaf fail) T = refl
+    act_weights_same (leaf (fetch_word a i)) T = either a i (λ o. act_weight o ≡ act_weight (leaf (fetch_word a i))) refl (λ w. refl) (remembered_word_of T a i)
     act_weights_same (case v as') T = λ i. 16 + val_weight v + arms_weights_same as' T i
     act_weights_same (nested b) T = λ i. 16 + code_weights_same b T i
 
@@ -135,17 +135,17 @@ module _ (own : ℕ → Bool) where
     unfolding told_act act_calls
 
     act_calls_same : (o : Act) (T : KnownCellContents) → act_calls (told_act own T o) ≡ act_calls o
-    act_calls_same (unit v) T = refl
-    act_calls_same (fetch a) T = refl
-    act_calls_same (update a v) T = refl
-    act_calls_same (eval a) T = refl
-    act_calls_same (apply v a) T = refl
-    act_calls_same (call f ws) T = refl
-    act_calls_same (prim q a b) T = refl
-    act_calls_same read T = refl
-    act_calls_same (write a) T = refl
-    act_calls_same fail T = refl
-    act_calls_same (fetch_word a i) T = either a i (λ o. act_calls o ≡ act_calls (fetch_word a i)) refl (λ w. refl) (remembered_word_of T a i)
+    act_calls_same (leaf (unit v)) T = refl
+    act_calls_same (leaf (fetch a)) T = refl
+    act_calls_same (leaf (update a v)) T = refl
+    act_calls_same (leaf (eval a)) T = refl
+    act_calls_same (leaf (apply v a)) T = refl
+    act_calls_same (leaf (call f ws)) T = refl
+    act_calls_same (leaf (prim q a b)) T = refl
+    act_calls_same (leaf read) T = refl
+    act_calls_same (leaf (write a)) T = refl
+    act_calls_same (leaf fail) T = refl
+    act_calls_same (leaf (fetch_word a i)) T = either a i (λ o. act_calls o ≡ act_calls (leaf (fetch_word a i))) refl (λ w. refl) (remembered_word_of T a i)
     act_calls_same (case v as') T = λ i. arms_calls_same as' T i
     act_calls_same (nested b) T = λ i. code_calls_same b T i
 
@@ -160,51 +160,51 @@ module _ (own : ℕ → Bool) where
 
   node_stays : (o : Act) (T : KnownCellContents) → node_words (told_act own T o) ≡ node_words o
   unfolding told_act
-  node_stays (unit v) T = refl
-  node_stays (fetch a) T = refl
-  node_stays (update a v) T = refl
-  node_stays (eval a) T = refl
-  node_stays (apply v a) T = refl
-  node_stays (call f ws) T = refl
-  node_stays (prim q a b) T = refl
-  node_stays read T = refl
-  node_stays (write a) T = refl
-  node_stays fail T = refl
+  node_stays (leaf (unit v)) T = refl
+  node_stays (leaf (fetch a)) T = refl
+  node_stays (leaf (update a v)) T = refl
+  node_stays (leaf (eval a)) T = refl
+  node_stays (leaf (apply v a)) T = refl
+  node_stays (leaf (call f ws)) T = refl
+  node_stays (leaf (prim q a b)) T = refl
+  node_stays (leaf read) T = refl
+  node_stays (leaf (write a)) T = refl
+  node_stays (leaf fail) T = refl
   node_stays (case v as') T = refl
   node_stays (nested b) T = refl
-  node_stays (fetch_word a i) T = either a i (λ o. node_words o ≡ 0) refl (λ w. refl) (remembered_word_of T a i)
+  node_stays (leaf (fetch_word a i)) T = either a i (λ o. node_words o ≡ 0) refl (λ w. refl) (remembered_word_of T a i)
 
   end_stays : (o : Act) (T : KnownCellContents) → end_words (told_act own T o) ≡ end_words o
   unfolding told_act
-  end_stays (unit v) T = refl
-  end_stays (fetch a) T = refl
-  end_stays (update a v) T = refl
-  end_stays (eval a) T = refl
-  end_stays (apply v a) T = refl
-  end_stays (call f ws) T = refl
-  end_stays (prim q a b) T = refl
-  end_stays read T = refl
-  end_stays (write a) T = refl
-  end_stays fail T = refl
+  end_stays (leaf (unit v)) T = refl
+  end_stays (leaf (fetch a)) T = refl
+  end_stays (leaf (update a v)) T = refl
+  end_stays (leaf (eval a)) T = refl
+  end_stays (leaf (apply v a)) T = refl
+  end_stays (leaf (call f ws)) T = refl
+  end_stays (leaf (prim q a b)) T = refl
+  end_stays (leaf read) T = refl
+  end_stays (leaf (write a)) T = refl
+  end_stays (leaf fail) T = refl
   end_stays (case v as') T = refl
   end_stays (nested b) T = refl
-  end_stays (fetch_word a i) T = either a i (λ o. end_words o ≡ 1) refl (λ w. refl) (remembered_word_of T a i)
+  end_stays (leaf (fetch_word a i)) T = either a i (λ o. end_words o ≡ 1) refl (λ w. refl) (remembered_word_of T a i)
 
   mutual
     unfolding told_act inner_words
 
     act_words_same : (o : Act) (T : KnownCellContents) → inner_words (told_act own T o) ≡ inner_words o
-    act_words_same (unit v) T = refl
-    act_words_same (fetch a) T = refl
-    act_words_same (update a v) T = refl
-    act_words_same (eval a) T = refl
-    act_words_same (apply v a) T = refl
-    act_words_same (call f ws) T = refl
-    act_words_same (prim q a b) T = refl
-    act_words_same read T = refl
-    act_words_same (write a) T = refl
-    act_words_same fail T = refl
-    act_words_same (fetch_word a i) T = either a i (λ o. inner_words o ≡ inner_words (fetch_word a i)) refl (λ w. refl) (remembered_word_of T a i)
+    act_words_same (leaf (unit v)) T = refl
+    act_words_same (leaf (fetch a)) T = refl
+    act_words_same (leaf (update a v)) T = refl
+    act_words_same (leaf (eval a)) T = refl
+    act_words_same (leaf (apply v a)) T = refl
+    act_words_same (leaf (call f ws)) T = refl
+    act_words_same (leaf (prim q a b)) T = refl
+    act_words_same (leaf read) T = refl
+    act_words_same (leaf (write a)) T = refl
+    act_words_same (leaf fail) T = refl
+    act_words_same (leaf (fetch_word a i)) T = either a i (λ o. inner_words o ≡ inner_words (leaf (fetch_word a i))) refl (λ w. refl) (remembered_word_of T a i)
     act_words_same (case v as') T = λ i. arms_words_same as' T i
     act_words_same (nested b) T = λ i. code_words_same b T i
 
@@ -222,17 +222,17 @@ module _ (own : ℕ → Bool) where
       unfolding told_act act_update_sum
 
       act_sums_same : (o : Act) (T : KnownCellContents) → act_update_sum count (told_act own T o) ≡ act_update_sum count o
-      act_sums_same (unit v) T = refl
-      act_sums_same (fetch a) T = refl
-      act_sums_same (update a v) T = refl
-      act_sums_same (eval a) T = refl
-      act_sums_same (apply v a) T = refl
-      act_sums_same (call f ws) T = refl
-      act_sums_same (prim q a b) T = refl
-      act_sums_same read T = refl
-      act_sums_same (write a) T = refl
-      act_sums_same fail T = refl
-      act_sums_same (fetch_word a i) T = either a i (λ o. act_update_sum count o ≡ act_update_sum count (fetch_word a i)) refl (λ w. refl) (remembered_word_of T a i)
+      act_sums_same (leaf (unit v)) T = refl
+      act_sums_same (leaf (fetch a)) T = refl
+      act_sums_same (leaf (update a v)) T = refl
+      act_sums_same (leaf (eval a)) T = refl
+      act_sums_same (leaf (apply v a)) T = refl
+      act_sums_same (leaf (call f ws)) T = refl
+      act_sums_same (leaf (prim q a b)) T = refl
+      act_sums_same (leaf read) T = refl
+      act_sums_same (leaf (write a)) T = refl
+      act_sums_same (leaf fail) T = refl
+      act_sums_same (leaf (fetch_word a i)) T = either a i (λ o. act_update_sum count o ≡ act_update_sum count (leaf (fetch_word a i))) refl (λ w. refl) (remembered_word_of T a i)
       act_sums_same (case v as') T = λ i. arms_sums_same as' T i
       act_sums_same (nested b) T = λ i. code_sums_same b T i
 
@@ -247,24 +247,24 @@ module _ (own : ℕ → Bool) where
 
   -- ---- what is of some kind
 
-  module _ (K : PieceKind) (op : (w : W.Word) → K.operation (unit (One w))) (value : (w : W.Word) → K.value (One w)) (cases : (v : V.Val) (as' bs' : Arms) → K.operation (case v as') → K.operation (case v bs')) (blocks : (b c : Code) → K.operation (nested b) → K.operation (nested c)) where
+  module _ (K : PieceKind) (op : (w : W.Word) → K.operation (leaf (unit (One w)))) (value : (w : W.Word) → K.value (One w)) (cases : (v : V.Val) (as' bs' : Arms) → K.operation (case v as') → K.operation (case v bs')) (blocks : (b c : Code) → K.operation (nested b) → K.operation (nested c)) where
     mutual
       unfolding told_act EachAct
 
       act_each : (o : Act) (T : KnownCellContents) → EachAct K o → EachAct K (told_act own T o)
-      act_each (fetch_word a i) T h = either a i (EachAct K) h (λ w. (op w, value w)) (remembered_word_of T a i)
+      act_each (leaf (fetch_word a i)) T h = either a i (EachAct K) h (λ w. (op w, value w)) (remembered_word_of T a i)
       act_each (case v as') T h = (cases v as' (told_arms own T as') h.0, h.1, arms_each as' T h.2)
       act_each (nested b) T h = (blocks b (told_code own T b) h.0, code_each b T h.1)
-      act_each (unit v) T h = h
-      act_each (fetch a) T h = h
-      act_each (update a v) T h = h
-      act_each (eval a) T h = h
-      act_each (apply v a) T h = h
-      act_each (call f ws) T h = h
-      act_each (prim q a b) T h = h
-      act_each read T h = h
-      act_each (write a) T h = h
-      act_each fail T h = h
+      act_each (leaf (unit v)) T h = h
+      act_each (leaf (fetch a)) T h = h
+      act_each (leaf (update a v)) T h = h
+      act_each (leaf (eval a)) T h = h
+      act_each (leaf (apply v a)) T h = h
+      act_each (leaf (call f ws)) T h = h
+      act_each (leaf (prim q a b)) T h = h
+      act_each (leaf read) T h = h
+      act_each (leaf (write a)) T h = h
+      act_each (leaf fail) T h = h
 
       pub code_each : (b : Code) (T : KnownCellContents) → EachCode K b → EachCode K (told_code own T b)
       code_each (end o) T h = act_each o T h
@@ -280,19 +280,19 @@ module _ (own : ℕ → Bool) where
       unfolding told_act NarrowAct
 
       act_narrow : (o : Act) (T : KnownCellContents) → NarrowAct w most o → NarrowAct w most (told_act own T o)
-      act_narrow (fetch_word a i) T h = either a i (NarrowAct w most) tt (λ w. some) (remembered_word_of T a i)
+      act_narrow (leaf (fetch_word a i)) T h = either a i (NarrowAct w most) tt (λ w. some) (remembered_word_of T a i)
       act_narrow (case v as') T h = arms_narrow as' T h
       act_narrow (nested b) T h = code_narrow b T h
-      act_narrow (unit v) T h = h
-      act_narrow (fetch a) T h = h
-      act_narrow (update a v) T h = h
-      act_narrow (eval a) T h = h
-      act_narrow (apply v a) T h = h
-      act_narrow (call f ws) T h = h
-      act_narrow (prim q a b) T h = h
-      act_narrow read T h = h
-      act_narrow (write a) T h = h
-      act_narrow fail T h = h
+      act_narrow (leaf (unit v)) T h = h
+      act_narrow (leaf (fetch a)) T h = h
+      act_narrow (leaf (update a v)) T h = h
+      act_narrow (leaf (eval a)) T h = h
+      act_narrow (leaf (apply v a)) T h = h
+      act_narrow (leaf (call f ws)) T h = h
+      act_narrow (leaf (prim q a b)) T h = h
+      act_narrow (leaf read) T h = h
+      act_narrow (leaf (write a)) T h = h
+      act_narrow (leaf fail) T h = h
 
       pub code_narrow : (b : Code) (T : KnownCellContents) → NarrowCode w most b → NarrowCode w most (told_code own T b)
       code_narrow (end o) T h = act_narrow o T h
@@ -308,7 +308,7 @@ module _ (own : ℕ → Bool) where
 abbrev pub remembered_procedure : Procedure → Procedure
 remembered_procedure = rewritten_procedure remembered_body
 
-pub procs_each : (K : PieceKind) → ((w : W.Word) → K.operation (unit (One w))) → ((w : W.Word) → K.value (One w)) → ((v : V.Val) (as' bs' : Arms) → K.operation (case v as') → K.operation (case v bs')) → ((b c : Code) → K.operation (nested b) → K.operation (nested c)) → (qs : List Procedure)
+pub procs_each : (K : PieceKind) → ((w : W.Word) → K.operation (leaf (unit (One w)))) → ((w : W.Word) → K.value (One w)) → ((v : V.Val) (as' bs' : Arms) → K.operation (case v as') → K.operation (case v bs')) → ((b c : Code) → K.operation (nested b) → K.operation (nested c)) → (qs : List Procedure)
     → EveryBodyIsOfKind K qs → EveryBodyIsOfKind K (map remembered_procedure qs)
 procs_each K w v c b [] h = tt
 procs_each K w v c b (q ∷ qs) h = (code_each (is_own_cell_variable q.body) K w v c b q.body none h.0, procs_each K w v c b qs h.1)

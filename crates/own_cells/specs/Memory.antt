@@ -5,7 +5,7 @@ use Rattle.grin_syntax.specs.declared.program.Word as W
 use Rattle.grin_syntax.specs.declared.program.Word.TheVariants.{Lit, Var, TagWord}
 use Rattle.grin_syntax.specs.declared.program.Val as V
 use Rattle.grin_syntax.specs.declared.program.Val.TheVariants.{NodeVar, Node, Vector, One}
-use Rattle.grin_syntax.specs.Tree.{Act, update, case, nested}
+use Rattle.grin_syntax.specs.Tree.{Act, leaf, update, case, nested}
 use Rattle.pass_ground.specs.Uses.{words_use}
 use Rattle.pass_ground.specs.Updated.{arms_updated, code_updated}
 
@@ -53,7 +53,7 @@ after_update _ v T = T
 
 -- behind a bound operation
 abbrev pub after_act : Act → KnownCellContents → KnownCellContents
-after_act (update a v) T = after_update a v T
+after_act (leaf (update a v)) T = after_update a v T
 after_act (case v as') T = forget (arms_updated as') T
 after_act (nested b) T = forget (code_updated b) T
 after_act _ T = T

@@ -3,20 +3,20 @@ use Rattle.std.specs.Prelude.{ℕ, Bool, not, Option, Some, None}
 use Rattle.grin_syntax.specs.declared.program.Shape.{Shape}
 use Rattle.grin_syntax.specs.declared.program.Word as W
 use Rattle.grin_syntax.specs.declared.program.Val.TheVariants.{One}
-use Rattle.grin_syntax.specs.Tree.{Code, end, store, bind, Act, unit, fetch_word, case, nested, Arms, no_arm, arm, Program}
+use Rattle.grin_syntax.specs.Tree.{Code, end, store, bind, Act, leaf, unit, fetch_word, case, nested, Arms, no_arm, arm, Program}
 use Rattle.grin_meaning.specs.Rewritten.{rewritten}
 use Rattle.pass_ground.specs.Uses.{words_use}
 use Rattle.own_cells.specs.Shown.{code_shown}
 use Rattle.own_cells.specs.Memory.{KnownCellContents, none, after_act, after_store, remembered_word_of}
 
 abbrev pub word_or_fetch : W.Word → ℕ → Option W.Word → Act
-word_or_fetch a i None = fetch_word a i
-word_or_fetch a i (Some w) = unit (One w)
+word_or_fetch a i None = leaf (fetch_word a i)
+word_or_fetch a i (Some w) = leaf (unit (One w))
 
 module _ (own : ℕ → Bool) where
   unfoldable mutual
     pub told_act : KnownCellContents → Act → Act
-    told_act T (fetch_word a i) = word_or_fetch a i (remembered_word_of T a i)
+    told_act T (leaf (fetch_word a i)) = word_or_fetch a i (remembered_word_of T a i)
     told_act T (case v as') = case v (told_arms T as')
     told_act T (nested b) = nested (told_code T b)
     told_act T o = o

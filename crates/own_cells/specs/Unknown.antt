@@ -1,6 +1,6 @@
 -- The shape of a program that fetches no word that is remembered.
 use Rattle.std.specs.Prelude.{ℕ, ◌≡◌, Bool, None}
-use Rattle.grin_syntax.specs.Tree.{Code, end, store, bind, Act, fetch_word, case, nested, Arms, no_arm, arm, Program}
+use Rattle.grin_syntax.specs.Tree.{Code, end, store, bind, Act, leaf, fetch_word, case, nested, Arms, no_arm, arm, Program}
 use Rattle.grin_syntax.specs.Formed.{AllOf}
 use Rattle.grin_meaning.specs.Slim.{Slim}
 use Rattle.pass_ground.specs.Vectors.{StaysVectorForm}
@@ -12,7 +12,7 @@ use Rattle.own_cells.specs.Remembered.{is_own_cell_variable}
 module _ (own : ℕ → Bool) where
   unfoldable mutual
     pub ActUnknown : KnownCellContents → Act → Type 0
-    ActUnknown T (fetch_word a i) = remembered_word_of T a i ≡ None
+    ActUnknown T (leaf (fetch_word a i)) = remembered_word_of T a i ≡ None
     ActUnknown T (case v as') = ArmsUnknown T as'
     ActUnknown T (nested b) = CodeUnknown T b
     ActUnknown T _ = Unit {0}

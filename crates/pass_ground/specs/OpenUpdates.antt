@@ -5,7 +5,7 @@ use Rattle.grin_syntax.specs.declared.program.Word as W
 use Rattle.grin_syntax.specs.declared.program.Word.TheVariants.{Lit, Var, Global, TagWord}
 use Rattle.grin_syntax.specs.declared.program.Val as V
 use Rattle.grin_syntax.specs.declared.program.Val.TheVariants.{NodeVar, Node, Vector, One}
-use Rattle.grin_syntax.specs.Tree.{Code, end, store, bind, Act, update, case, nested, Arms, no_arm, arm, Procedure, Program}
+use Rattle.grin_syntax.specs.Tree.{Code, end, store, bind, Act, leaf, update, case, nested, Arms, no_arm, arm, Procedure, Program}
 use Rattle.grin_meaning.specs.Values.{and_then}
 
 abbrev pub variable_of : W.Word → Option VarId
@@ -26,7 +26,7 @@ tag_variable (One a) = variable_of a
 unfoldable mutual
   -- what the updates of a piece count together, each as the value that it takes does
   pub act_update_sum : (V.Val → ℕ) → Act → ℕ
-  act_update_sum count (update a v) = count v
+  act_update_sum count (leaf (update a v)) = count v
   act_update_sum count (case v as') = arms_update_sum count as'
   act_update_sum count (nested b) = code_update_sum count b
   act_update_sum count _ = 0

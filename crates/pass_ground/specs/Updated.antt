@@ -1,11 +1,11 @@
 -- The words that stand for the cells that a piece of a program updates.
 use Rattle.std.specs.Prelude.{List, [], ◌∷◌, ◌++◌}
 use Rattle.grin_syntax.specs.declared.program.Word as W
-use Rattle.grin_syntax.specs.Tree.{Code, end, store, bind, Act, update, case, nested, Arms, no_arm, arm, Procedure}
+use Rattle.grin_syntax.specs.Tree.{Code, end, store, bind, Act, leaf, update, case, nested, Arms, no_arm, arm, Procedure}
 
 unfoldable mutual
   pub act_updated : Act → List W.Word
-  act_updated (update a v) = a ∷ []
+  act_updated (leaf (update a v)) = a ∷ []
   act_updated (case v as') = arms_updated as'
   act_updated (nested b) = code_updated b
   act_updated _ = []

@@ -6,7 +6,7 @@ use Rattle.grin_syntax.specs.declared.program.Word.TheVariants.{Var}
 use Rattle.grin_syntax.specs.declared.program.Val as V
 use Rattle.grin_syntax.specs.declared.program.Val.TheVariants.{NodeVar, Node, Vector, One}
 use Rattle.grin_syntax.specs.declared.program.Cell.{Cell}
-use Rattle.grin_syntax.specs.Tree.{Code, end, store, bind, Act, unit, fetch, fetch_word, update, eval, apply, call, prim, read, write, case, nested, fail, Arms, no_arm, arm}
+use Rattle.grin_syntax.specs.Tree.{Code, end, store, bind, Act, leaf, unit, fetch, fetch_word, update, eval, apply, call, prim, read, write, case, nested, fail, Arms, no_arm, arm}
 
 module _ (x : ℕ) where
   abbrev pub word_is : W.Word → Bool
@@ -31,19 +31,19 @@ module _ (x : ℕ) where
 module _ (fetched : Bool) (x : ℕ) where
   unfoldable mutual
     pub act_mentions : Act → Bool
-    act_mentions (unit v) = val_uses x v
-    act_mentions (fetch a) = fetched && word_is x a
-    act_mentions (fetch_word a i) = fetched && word_is x a
-    act_mentions (update a v) = word_is x a || val_uses x v
-    act_mentions (eval a) = word_is x a
-    act_mentions (apply v a) = val_uses x v || word_is x a
-    act_mentions (call f ws) = words_use x ws
-    act_mentions (prim f a b) = word_is x a || word_is x b
-    act_mentions read = false
-    act_mentions (write a) = word_is x a
+    act_mentions (leaf (unit v)) = val_uses x v
+    act_mentions (leaf (fetch a)) = fetched && word_is x a
+    act_mentions (leaf (fetch_word a i)) = fetched && word_is x a
+    act_mentions (leaf (update a v)) = word_is x a || val_uses x v
+    act_mentions (leaf (eval a)) = word_is x a
+    act_mentions (leaf (apply v a)) = val_uses x v || word_is x a
+    act_mentions (leaf (call f ws)) = words_use x ws
+    act_mentions (leaf (prim f a b)) = word_is x a || word_is x b
+    act_mentions (leaf read) = false
+    act_mentions (leaf (write a)) = word_is x a
     act_mentions (case v as') = val_uses x v || arms_mention as'
     act_mentions (nested b) = code_mentions b
-    act_mentions fail = false
+    act_mentions (leaf fail) = false
 
     pub code_mentions : Code → Bool
     code_mentions (end o) = act_mentions o

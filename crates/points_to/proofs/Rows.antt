@@ -9,7 +9,7 @@ use Rattle.flow_system.specs.declared.fact.Element.TheVariants.{Cell, Tag, Numbe
 use Rattle.flow_system.specs.declared.fact.Part.{Part}
 use Rattle.points_to.specs.declared.items.Row.{Row}
 use Rattle.points_to.specs.declared.runs.ItemRun.{ItemRun}
-use Rattle.points_to.specs.Runs.{items_of_run}
+use Rattle.points_to.specs.Runs.{items_of_item_run}
 use Rattle.points_to.specs.Held.{In, item, same_part, words_in_part, in_part}
 use Rattle.points_to.specs.Bits.{block_numbers, block_words, number_or_tag, number_of, word_of}
 use Rattle.points_to.specs.Rows.{numbers_in, row_words, row_items, GainsMembers}
@@ -93,7 +93,7 @@ has_word r u n b q t =
     )
 
 -- a row that gets words
-pub row_gets : (r r' : Row) (run : ItemRun) → r.part ≡ run.part → r'.part ≡ r.part → GainsMembers (numbers_in r.words) (numbers_in r'.words) (block_numbers run.block) → GainsMembers (row_items r) (row_items r') (items_of_run run)
+pub row_gets : (r r' : Row) (run : ItemRun) → r.part ≡ run.part → r'.part ≡ r.part → GainsMembers (numbers_in r.words) (numbers_in r'.words) (block_numbers run.block) → GainsMembers (row_items r) (row_items r') (items_of_item_run run)
 row_gets r r' run e e' g =
     subst (λ q. GainsMembers (row_items r) (row_items r') (in_part q (block_words run.block))) e
     (subst (λ q. GainsMembers (row_items r) (in_part q (row_words r')) (in_part r.part (block_words run.block))) (sym e')

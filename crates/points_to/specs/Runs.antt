@@ -8,8 +8,8 @@ use Rattle.points_to.specs.Held.{in_part}
 use Rattle.points_to.specs.Asked.{facts_at}
 use Rattle.points_to.specs.Bits.{block_words}
 
-abbrev pub items_of_run : ItemRun → List Item
-items_of_run r = in_part r.part (block_words r.block)
+abbrev pub items_of_item_run : ItemRun → List Item
+items_of_item_run r = in_part r.part (block_words r.block)
 
 abbrev pub facts_of_run : FactRun → List Fact
-facts_of_run r = facts_at r.place (items_of_run r.items)
+facts_of_run r = facts_at r.place (items_of_item_run r.items)

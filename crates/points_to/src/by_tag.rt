@@ -5,7 +5,7 @@ ghost use Rattle.std.specs.Prelude.{◌≡◌, ℕ, [], ◌++◌, cond, nat_eq, 
 ghost use Rattle.flow_system.specs.declared.fact.Part.TheVariants.{Tags as tags'};
 ghost use Rattle.points_to.specs.Held.{words_in_part};
 ghost use Rattle.points_to.specs.ByTag.{field_items, items_of, IsByTag};
-ghost use Rattle.points_to.specs.Runs.{items_of_run};
+ghost use Rattle.points_to.specs.Runs.{items_of_item_run};
 
 use crate::nodes::listed;
 use crate::runs::{ItemRun, ItemRuns};
@@ -67,7 +67,7 @@ fn put_at(
     run: ItemRun,
 ) -> Result<(), AllocError>
     ensures { OnOk result ((u : ℕ) → items_of fields.new u ≡ items_of fields.old u
-        ++ cond (nat_eq t u) (items_of_run run) []) }
+        ++ cond (nat_eq t u) (items_of_item_run run) []) }
 {
     match fields.get_mut(&t) {
         Some(items) => items.push(run),
@@ -86,7 +86,7 @@ fn put_field(
     run: ItemRun,
 ) -> Result<(), AllocError>
     ensures { OnOk result ((u : ℕ) → items_of fields.new u ≡ items_of fields.old u
-        ++ field_items u (items_of_run run)) }
+        ++ field_items u (items_of_item_run run)) }
 {
     match run.part {
         Part::Tags => Ok(()),

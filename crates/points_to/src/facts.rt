@@ -7,7 +7,7 @@ ghost use Rattle.flow_system.specs.Shown.{tables_of};
 ghost use Rattle.points_to.specs.Bits.{block_words};
 ghost use Rattle.points_to.specs.Held.{In, words_in_part, done_items};
 ghost use Rattle.points_to.specs.Known.{items_at, held, PutsItems, GrowsByFacts};
-ghost use Rattle.points_to.specs.Runs.{items_of_run, facts_of_run};
+ghost use Rattle.points_to.specs.Runs.{items_of_item_run, facts_of_run};
 ghost use Rattle.points_to.specs.Wanted.{place_of};
 
 use crate::items::Items;
@@ -286,7 +286,7 @@ fn grow(alloc: Global, sets: &mut Vec<Items>, n: u32) -> Result<(), AllocError>
 fn add_there(alloc: Global, sets: &mut Vec<Items>, n: u32, run: ItemRun) -> Result<bool, AllocError>
     requires { n < length sets.old.items }
     ensures puts { OnOk result (PutsItems (items_at sets.old.items) (items_at sets.new.items) n
-        (items_of_run run)) }
+        (items_of_item_run run)) }
     ensures still { IfOk result (λ added. added ≡ false → sets.new ≡ sets.old) }
     ensures elsewhere { OnOk result ((m : ℕ) → (m ≡ n)
         ⊎ (items_at sets.new.items m ≡ items_at sets.old.items m)) }
@@ -296,7 +296,7 @@ fn add_there(alloc: Global, sets: &mut Vec<Items>, n: u32, run: ItemRun) -> Resu
 
 fn add_new(alloc: Global, sets: &mut Vec<Items>, n: u32, run: ItemRun) -> Result<bool, AllocError>
     ensures puts { OnOk result (PutsItems (items_at sets.old.items) (items_at sets.new.items) n
-        (items_of_run run)) }
+        (items_of_item_run run)) }
     ensures still { IfOk result (λ added. added ≡ false → sets.new ≡ sets.old) }
     ensures elsewhere { OnOk result ((m : ℕ) → (m ≡ n)
         ⊎ (items_at sets.new.items m ≡ items_at sets.old.items m)) }

@@ -8,7 +8,7 @@ ghost use Rattle.points_to.specs.Bits.{block_words};
 ghost use Rattle.points_to.specs.Held.{In, words_in_part, done_items};
 ghost use Rattle.points_to.specs.PartOrder.{before, Ascending, Finds, IsPlace};
 ghost use Rattle.points_to.specs.Rows.{row_items, GainsMembers};
-ghost use Rattle.points_to.specs.Runs.{items_of_run};
+ghost use Rattle.points_to.specs.Runs.{items_of_item_run};
 
 use crate::bits::{Bits, number_of};
 use crate::facts::Item;
@@ -69,7 +69,7 @@ impl Items {
     /// Puts the items of a run there, and says whether some of them may be new. Where none is,
     /// nothing changes.
     pub fn add_new(&mut self, alloc: Global, run: ItemRun) -> Result<bool, AllocError>
-        ensures gets { OnOk result (GainsMembers self.old self.new (items_of_run run)) }
+        ensures gets { OnOk result (GainsMembers self.old self.new (items_of_item_run run)) }
         ensures still { IfOk result (λ added. added ≡ false → self.new ≡ self.old) }
     {
         add_new_in(alloc, &mut self.rows, run)
@@ -177,7 +177,7 @@ fn find(rows: &[Row], part: Part) -> Result<usize, usize>
 
 fn add_block(row: &mut Row, run: ItemRun) -> Result<bool, AllocError>
     requires { row.old.part ≡ run.part }
-    ensures gets { OnOk result (GainsMembers (row_items row.old) (row_items row.new) (items_of_run run)) }
+    ensures gets { OnOk result (GainsMembers (row_items row.old) (row_items row.new) (items_of_item_run run)) }
     ensures still { IfOk result (λ added. added ≡ false → row.new ≡ row.old) }
     ensures same_part { row.new.part ≡ row.old.part }
 {
@@ -188,7 +188,7 @@ fn add_new_in(alloc: Global, rows: &mut Vec<Row>, run: ItemRun) -> Result<bool, 
     requires { Ascending rows.old.items }
     ensures ascending { Ascending rows.new.items }
     ensures gets { OnOk result (GainsMembers (flat_map row_items rows.old.items)
-        (flat_map row_items rows.new.items) (items_of_run run)) }
+        (flat_map row_items rows.new.items) (items_of_item_run run)) }
     ensures still { IfOk result (λ added. added ≡ false → rows.new.items ≡ rows.old.items) }
 {
     match find(rows.as_slice(), run.part) {

@@ -6,7 +6,7 @@ ghost use Rattle.flow_system.specs.Shown.{tables_of};
 ghost use Rattle.points_to.specs.Bits.{block_words};
 ghost use Rattle.points_to.specs.Held.{same_part, words_in_part, in_part, field_of_tag, fetched, as_word, node_of_word, as_nodes, words_hold_tag, shifted_word, field_or_zero_of, made_node, done_tag, done_items};
 ghost use Rattle.points_to.specs.OneTag.{is_tag, node_if_tag, as_nodes_of};
-ghost use Rattle.points_to.specs.Runs.{items_of_run};
+ghost use Rattle.points_to.specs.Runs.{items_of_item_run};
 ghost use Rattle.points_to.specs.Shift.{shifted_items};
 
 use crate::bits::{Block, word_of};
@@ -54,7 +54,7 @@ pub fn same_part(a: Part, b: Part) -> bool
 
 // Puts a run at the end of a list, where it is wanted.
 fn push_if(wanted: bool, run: ItemRun, out: &mut ItemRuns) -> Result<(), AllocError>
-    ensures { OnOk result (out.new ≡ out.old ++ cond wanted (items_of_run run) []) }
+    ensures { OnOk result (out.new ≡ out.old ++ cond wanted (items_of_item_run run) []) }
 {
     if wanted {
         out.push(run)?;
@@ -63,7 +63,7 @@ fn push_if(wanted: bool, run: ItemRun, out: &mut ItemRuns) -> Result<(), AllocEr
 }
 
 fn pick(part: Part, run: ItemRun, out: &mut WordRuns) -> Result<(), AllocError>
-    ensures { OnOk result (out.new ≡ out.old ++ words_in_part part (items_of_run run)) }
+    ensures { OnOk result (out.new ≡ out.old ++ words_in_part part (items_of_item_run run)) }
 {
     if same_part(part, run.part) {
         return out.push_block(run.block);
@@ -160,7 +160,7 @@ pub fn shift_evaluated(
     out: &mut ItemRuns,
 ) -> Result<(), AllocError>
     ensures { OnOk result (out.new ≡ out.old
-        ++ done_items (tables_of system.now) (items_of_run run)) }
+        ++ done_items (tables_of system.now) (items_of_item_run run)) }
 {
     match run.part {
         Part::Tags => push_done_tags(system, run.block, out),
@@ -176,7 +176,7 @@ fn shift_run(
     out: &mut ItemRuns,
 ) -> Result<(), AllocError>
     ensures { OnOk result (out.new ≡ out.old
-        ++ flat_map (shifted_items (tables_of system.now) by) (items_of_run run)) }
+        ++ flat_map (shifted_items (tables_of system.now) by) (items_of_item_run run)) }
 {
     let block = run.block;
     match by {

@@ -6,7 +6,7 @@ ghost use Rattle.points_to.specs.Held.{item, in_part};
 ghost use Rattle.points_to.specs.Asked.{facts_at};
 ghost use Rattle.points_to.specs.Bits.{block_words};
 ghost use Rattle.points_to.specs.Rows.{GainsMembers, words_in};
-ghost use Rattle.points_to.specs.Runs.{items_of_run, facts_of_run};
+ghost use Rattle.points_to.specs.Runs.{items_of_item_run, facts_of_run};
 
 use crate::bits::{Bits, Block, block_of, word_of};
 use flow_system::fact::{Element, Part, Place};
@@ -138,12 +138,12 @@ pub struct ItemRuns {
 impl Model for ItemRuns {
     ghost use Rattle.std.specs.Prelude.{List};
     ghost use Rattle.std.specs.List.{flat_map};
-    ghost use Rattle.points_to.specs.Runs.{items_of_run};
+    ghost use Rattle.points_to.specs.Runs.{items_of_item_run};
     ghost use Rattle.points_to.specs.declared.facts.Item.{Item as AnItem};
 
     ghost Value = { List AnItem };
 
-    ghost view = { λ s. flat_map items_of_run s.runs.items };
+    ghost view = { λ s. flat_map items_of_item_run s.runs.items };
 }
 
 impl ItemRuns {
@@ -158,14 +158,14 @@ impl ItemRuns {
 
     /// The runs.
     pub fn as_slice(&self) -> &[ItemRun]
-        ensures { flat_map items_of_run result.now ≡ self.now }
+        ensures { flat_map items_of_item_run result.now ≡ self.now }
     {
         self.runs.as_slice()
     }
 
     /// Puts a run at the end.
     pub fn push(&mut self, run: ItemRun) -> Result<(), AllocError>
-        ensures { OnOk result (self.new ≡ self.old ++ items_of_run run) }
+        ensures { OnOk result (self.new ≡ self.old ++ items_of_item_run run) }
     {
         self.runs.push(run)?;
         Ok(())
@@ -232,7 +232,7 @@ impl FactRuns {
 
     /// Puts items, at a place, at the end.
     pub fn push(&mut self, place: Place, items: ItemRun) -> Result<(), AllocError>
-        ensures { OnOk result (self.new ≡ self.old ++ facts_at place (items_of_run items)) }
+        ensures { OnOk result (self.new ≡ self.old ++ facts_at place (items_of_item_run items)) }
     {
         self.runs.push(FactRun { place, items })?;
         Ok(())

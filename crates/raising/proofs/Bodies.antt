@@ -5,7 +5,7 @@ use Rattle.grin_syntax.specs.declared.program.Target.{Target}
 use Rattle.grin_syntax.specs.declared.program.Val.{Val}
 use Rattle.grin_syntax.specs.declared.program.Val.TheVariants.{Vector}
 use Rattle.grin_syntax.specs.declared.program.Word.{Word}
-use Rattle.grin_syntax.specs.Tree.{Code, end, store, bind, Act, unit, fetch, fetch_word, update, eval, apply, call, prim, read, write, case, nested, fail, Arms, no_arm, arm, Procedure, Program}
+use Rattle.grin_syntax.specs.Tree.{Code, end, store, bind, Act, leaf, unit, fetch, fetch_word, update, eval, apply, call, prim, read, write, case, nested, fail, Arms, no_arm, arm, Procedure, Program}
 use Rattle.grin_syntax.specs.Binders.{target_vars}
 use Rattle.grin_syntax.specs.Formed.{AllOf}
 use Rattle.grin_meaning.specs.Values.{Datum, Value, Env, HeapCell, World, stops, missing, then_do, need, words_of, bindings_of}
@@ -55,7 +55,7 @@ module _ (g : Program) (A : Solution) (D : List Decisions) (top : ℕ) (F : List
 
       -- the arguments of a call are there
       abbrev Ready : ℕ → Act → Env → Env → Type 0
-      Ready n (call f ws) env env' = (xs : List Datum) → words_of g env ws ≡ Some xs
+      Ready n (leaf (call f ws)) env env' = (xs : List Datum) → words_of g env ws ≡ Some xs
           → (xs' : List Datum) × (words_of (after g A D top F) env' (arguments_for n (decisions_at D f.0) ws) ≡ Some xs') × ArgsFor F (decisions_at D f.0) xs xs'
       Ready n _ env env' = Unit {0}
 
@@ -63,10 +63,10 @@ module _ (g : Program) (A : Solution) (D : List Decisions) (top : ℕ) (F : List
       RelFor n o = λ cells env env'. Related F first N env env' × Ready n o env env'
 
       -- where an argument is missing
-      lacks : (f : ProcId) (ws : List Word) (b : Code) (env : Env) (d : ℕ) (w : World) → Begins (call f ws) b → words_of g env ws ≡ None → code_by g c true env d b w ≡ stops missing w
+      lacks : (f : ProcId) (ws : List Word) (b : Code) (env : Env) (d : ℕ) (w : World) → Begins (leaf (call f ws)) b → words_of g env ws ≡ None → code_by g c true env d b w ≡ stops missing w
       unfolding act_by
       lacks f ws b env d w at_end e = ap (λ o. need o w (λ xs. c f.0 xs d w)) e
-      lacks f ws b env d w (at_bind {t = t} {b = b1}) e = ap (λ o. then_do (need o w (λ xs. c f.0 xs (suc d) w)) (rest st t (call f ws) b1 env d)) e
+      lacks f ws b env d w (at_bind {t = t} {b = b1}) e = ap (λ o. then_do (need o w (λ xs. c f.0 xs (suc d) w)) (rest st t (leaf (call f ws)) b1 env d)) e
 
       ready_at : (x : Here (plan g A D top F) Rel) (f : ProcId) (ws : List Word) (xs : List Datum) → Meets (tables g) A (flows (value (Vector ws)) (to (params_of (tables g) f.0))) → words_of g x.env ws ≡ Some xs
           → (o : Option Decisions) → slice_get D f.0 ≡ o → CellsReady F x.w.cells (or_no_decisions o) xs
@@ -76,7 +76,7 @@ module _ (g : Program) (A : Solution) (D : List Decisions) (top : ℕ) (F : List
           arguments_ready g A F x.env x.w.cells x.known.0 x.known.1 f k.0 ds ws xs k.1 k.2 m there
 
       -- the second fetches the fields for a call
-      call_first : (n : ℕ) (f : ProcId) (ws : List Word) (b b' : Code) → top ≤ n → WordsOk (Stays N) ws → Meets (tables g) A (flows (value (Vector ws)) (to (params_of (tables g) f.0))) → Begins (call f ws) b → CodeFollows st (RelFor n (call f ws)) Same b b' → CodeFollows st Rel Same b (fetches_for n (decisions_at D f.0) ws b')
+      call_first : (n : ℕ) (f : ProcId) (ws : List Word) (b b' : Code) → top ≤ n → WordsOk (Stays N) ws → Meets (tables g) A (flows (value (Vector ws)) (to (params_of (tables g) f.0))) → Begins (leaf (call f ws)) b → CodeFollows st (RelFor n (leaf (call f ws))) Same b b' → CodeFollows st Rel Same b (fetches_for n (decisions_at D f.0) ws b')
       call_first n f ws b b' le ok m i follows = record { by = λ x. go x (words_of g x.env ws) refl }
         where
           ds : Decisions
@@ -111,19 +111,19 @@ module _ (g : Program) (A : Solution) (D : List Decisions) (top : ℕ) (F : List
       -- what comes before an operation
       first_like : (k : FlowSink) (n : ℕ) (o : Act) (b b' : Code) → top ≤ n → PieceAct N g A first k o → Begins o b → CodeFollows st (RelFor n o) Same b b' → CodeFollows st Rel Same b (fetches_before D n o b')
       unfolding act_mentions act_flows
-      first_like k n (call f ws) b b' le p i h = call_first n f ws b b' le (words_ok N ws p.free) p.met.0 i h
-      first_like k n (unit v) b b' le p i h = code_more st b b' (λ cells env env' r. (r, tt)) (λ v v' u. u) h
-      first_like k n (fetch a) b b' le p i h = code_more st b b' (λ cells env env' r. (r, tt)) (λ v v' u. u) h
-      first_like k n (fetch_word a j) b b' le p i h = code_more st b b' (λ cells env env' r. (r, tt)) (λ v v' u. u) h
-      first_like k n (update a v) b b' le p i h = code_more st b b' (λ cells env env' r. (r, tt)) (λ v v' u. u) h
-      first_like k n (eval a) b b' le p i h = code_more st b b' (λ cells env env' r. (r, tt)) (λ v v' u. u) h
-      first_like k n (apply v a) b b' le p i h = code_more st b b' (λ cells env env' r. (r, tt)) (λ v v' u. u) h
-      first_like k n (prim s x y) b b' le p i h = code_more st b b' (λ cells env env' r. (r, tt)) (λ v v' u. u) h
-      first_like k n read b b' le p i h = code_more st b b' (λ cells env env' r. (r, tt)) (λ v v' u. u) h
-      first_like k n (write a) b b' le p i h = code_more st b b' (λ cells env env' r. (r, tt)) (λ v v' u. u) h
+      first_like k n (leaf (call f ws)) b b' le p i h = call_first n f ws b b' le (words_ok N ws p.free) p.met.0 i h
+      first_like k n (leaf (unit v)) b b' le p i h = code_more st b b' (λ cells env env' r. (r, tt)) (λ v v' u. u) h
+      first_like k n (leaf (fetch a)) b b' le p i h = code_more st b b' (λ cells env env' r. (r, tt)) (λ v v' u. u) h
+      first_like k n (leaf (fetch_word a j)) b b' le p i h = code_more st b b' (λ cells env env' r. (r, tt)) (λ v v' u. u) h
+      first_like k n (leaf (update a v)) b b' le p i h = code_more st b b' (λ cells env env' r. (r, tt)) (λ v v' u. u) h
+      first_like k n (leaf (eval a)) b b' le p i h = code_more st b b' (λ cells env env' r. (r, tt)) (λ v v' u. u) h
+      first_like k n (leaf (apply v a)) b b' le p i h = code_more st b b' (λ cells env env' r. (r, tt)) (λ v v' u. u) h
+      first_like k n (leaf (prim s x y)) b b' le p i h = code_more st b b' (λ cells env env' r. (r, tt)) (λ v v' u. u) h
+      first_like k n (leaf read) b b' le p i h = code_more st b b' (λ cells env env' r. (r, tt)) (λ v v' u. u) h
+      first_like k n (leaf (write a)) b b' le p i h = code_more st b b' (λ cells env env' r. (r, tt)) (λ v v' u. u) h
       first_like k n (case v as') b b' le p i h = code_more st b b' (λ cells env env' r. (r, tt)) (λ v v' u. u) h
       first_like k n (nested z) b b' le p i h = code_more st b b' (λ cells env env' r. (r, tt)) (λ v v' u. u) h
-      first_like k n fail b b' le p i h = code_more st b b' (λ cells env env' r. (r, tt)) (λ v v' u. u) h
+      first_like k n (leaf fail) b b' le p i h = code_more st b b' (λ cells env env' r. (r, tt)) (λ v v' u. u) h
 
       -- what a target binds
       binds : (t : Target) (n : ℕ) (o : Act) → AllOf (Plain first N) (target_vars t) → (x : Here (plan g A D top F) (RelFor n o)) (y : Given st (RelFor n o) Same t o x) → BindsToo st Rel t (raised_act D N n o) x.env x.env' y.w.cells y.v' y.bs
@@ -141,22 +141,22 @@ module _ (g : Program) (A : Solution) (D : List Decisions) (top : ℕ) (F : List
         unfolding raised_act new_act act_mentions EachAct
 
         act_like : (k : FlowSink) (n : ℕ) (o : Act) → top ≤ n → PieceAct N g A first k o → ActFollows st (RelFor n o) Same o (raised_act D N n o)
-        act_like k n (unit v) le p = on n (unit v) (unit v) (unit_like g A D top F c c' cb cf N new v (val_ok N v p.free))
-        act_like k n (fetch a) le p = absurd p.by_words
-        act_like k n (fetch_word a i) le p = on n (fetch_word a i) (raised_act D N n (fetch_word a i)) (fetched_like g A D top F c c' cb cf N new q ra a i)
-        act_like k n (update a v) le p = on n (update a v) (update a v) (update_like g A D top F c c' cb cf N new a v
+        act_like k n (leaf (unit v)) le p = on n (leaf (unit v)) (leaf (unit v)) (unit_like g A D top F c c' cb cf N new v (val_ok N v p.free))
+        act_like k n (leaf (fetch a)) le p = absurd p.by_words
+        act_like k n (leaf (fetch_word a i)) le p = on n (leaf (fetch_word a i)) (raised_act D N n (leaf (fetch_word a i))) (fetched_like g A D top F c c' cb cf N new q ra a i)
+        act_like k n (leaf (update a v)) le p = on n (leaf (update a v)) (leaf (update a v)) (update_like g A D top F c c' cb cf N new a v
             (word_ok N a (free_left N (λ y. word_is y a) (λ y. val_uses y v) p.free)) (val_ok N v (free_right N (λ y. word_is y a) (λ y. val_uses y v) p.free)))
-        act_like k n (eval a) le p = absurd p.inlined
-        act_like k n (apply v a) le p = absurd p.inlined.0
-        act_like k n (call f ws) le p = call_follows st {R = RelFor n (call f ws)} f ws (arguments_for n (decisions_at D f.0) ws) (λ x xs e. x.related.1 xs e)
-        act_like k n (prim s a b) le p = on n (prim s a b) (prim s a b) (prim_like g A D top F c c' cb cf N new s a b
+        act_like k n (leaf (eval a)) le p = absurd p.inlined
+        act_like k n (leaf (apply v a)) le p = absurd p.inlined.0
+        act_like k n (leaf (call f ws)) le p = call_follows st {R = RelFor n (leaf (call f ws))} f ws (arguments_for n (decisions_at D f.0) ws) (λ x xs e. x.related.1 xs e)
+        act_like k n (leaf (prim s a b)) le p = on n (leaf (prim s a b)) (leaf (prim s a b)) (prim_like g A D top F c c' cb cf N new s a b
             (word_ok N a (free_left N (λ y. word_is y a) (λ y. word_is y b) p.free)) (word_ok N b (free_right N (λ y. word_is y a) (λ y. word_is y b) p.free)))
-        act_like k n read le p = on n read read (read_like g A D top F c c' cb cf N new)
-        act_like k n (write a) le p = on n (write a) (write a) (write_like g A D top F c c' cb cf N new a (word_ok N a p.free))
+        act_like k n (leaf read) le p = on n (leaf read) (leaf read) (read_like g A D top F c c' cb cf N new)
+        act_like k n (leaf (write a)) le p = on n (leaf (write a)) (leaf (write a)) (write_like g A D top F c c' cb cf N new a (word_ok N a p.free))
         act_like k n (case v as') le p = on n (case v as') (case v (raised_arms D N n as')) (case_like g A D top F c c' cb cf N new v as' (raised_arms D N n as')
             (val_ok N v (free_left N (λ y. val_uses y v) (λ y. arms_use_as_value y as') p.free)) (arms_like k n v as' le (of_case N g A first k v as' p)))
         act_like k n (nested b) le p = on n (nested b) (nested (raised_code D N n b)) (nested_follows st b (raised_code D N n b) (code_like k n b le (of_nested N g A first k b p)))
-        act_like k n fail le p = on n fail fail (fail_like g A D top F c c' cb cf N new)
+        act_like k n (leaf fail) le p = on n (leaf fail) (leaf fail) (fail_like g A D top F c c' cb cf N new)
 
         code_like : (k : FlowSink) (n : ℕ) (b : Code) → top ≤ n → PieceCode N g A first k b → CodeFollows st Rel Same b (raised_code D N n b)
         code_like k n (end o) le p = first_like k n o (end o) (end (raised_act D N n o)) le (of_end N g A first k o p) at_end

@@ -3,7 +3,7 @@ use Rattle.std.proofs.Common.{◌≡◌, ℕ, suc, ◌+◌, ◌≤◌, true, con
 use Rattle.grin_syntax.specs.declared.program.Target.TheVariants as to
 use Rattle.grin_syntax.specs.declared.program.Word.{Word}
 use Rattle.grin_syntax.specs.declared.program.Word.TheVariants.{Var}
-use Rattle.grin_syntax.specs.Tree.{Code, bind, fetch_word, Program}
+use Rattle.grin_syntax.specs.Tree.{Code, bind, leaf, fetch_word, Program}
 use Rattle.grin_syntax.specs.Fresh.{variable, variables}
 use Rattle.grin_meaning.specs.Values.{Datum, cell, Value, words, Env, HeapCell, State, World, Answer, gives, then_do, need, and_then, with_vars, only_word, word_of, words_of, bindings_of}
 use Rattle.grin_meaning.specs.Run.{Calls, act_by, code_by, require_if_checked, with_state_seen, place_of, node_word, nth_or_zero}
@@ -60,7 +60,7 @@ module _ (h : Program) (c' : Calls) (d' : ℕ) where
     pub is : code_by h c' true env d' from w ≡ code_by h c' true env2 d' to' (record w { seen = seen })
 
   one_fetch : (env : Env) (w : World) (a : Word) (c : ℕ) (y : HeapCell) (n i : ℕ) (x : Datum) (b : Code) → word_of h env a ≡ Some (cell c) → slice_get w.cells c ≡ Some y → nth_or_zero y.node.fields i ≡ x
-      → code_by h c' true env d' (bind (to.One (variable n)) (fetch_word a (suc i)) b) w
+      → code_by h c' true env d' (bind (to.One (variable n)) (leaf (fetch_word a (suc i))) b) w
       ≡ code_by h c' true (λ z. cond (nat_eq z n) (Some (words (x ∷ []))) (env z)) d' b (with_state_seen (λ z. cond (nat_eq z n) (Some (words (x ∷ []))) (env z)) w)
   unfolding act_by
   one_fetch env w a c y n i x b e q f =
@@ -69,7 +69,7 @@ module _ (h : Program) (c' : Calls) (d' : ℕ) where
       ∙ ap (λ u. rest (words (u ∷ [])) w) f
     where
       rest : Value → World → Answer
-      rest v w' = require_if_checked true (is_bound_well h (to.One (variable n)) (fetch_word a (suc i)) v) w' (need (bindings_of h (to.One (variable n)) v) w' (λ bs. code_by h c' true (with_vars bs env) d' b (with_state_seen (with_vars bs env) w')))
+      rest v w' = require_if_checked true (is_bound_well h (to.One (variable n)) (leaf (fetch_word a (suc i))) v) w' (need (bindings_of h (to.One (variable n)) v) w' (λ bs. code_by h c' true (with_vars bs env) d' b (with_state_seen (with_vars bs env) w')))
 
   field_comes : (a : Word) (c : ℕ) (y : HeapCell) (b : Code) (fs : List Datum) (n i : ℕ) (env : Env) (w : World) → ((env2 : Env) → Agrees n env env2 → word_of h env2 a ≡ Some (cell c)) → slice_get w.cells c ≡ Some y
       → ((j : ℕ) → nth_or_zero y.node.fields (i + j) ≡ nth_or_zero fs j) → Comes env w (field_fetches a n i (length fs) b) b (with_vars (named n fs) env)

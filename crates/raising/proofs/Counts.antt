@@ -3,7 +3,7 @@ use Rattle.std.proofs.Common.{◌≡◌, ℕ, zero, suc, ◌+◌, ◌<◌, ◌�
 use Rattle.grin_syntax.specs.declared.program.VarId.{VarId}
 use Rattle.grin_syntax.specs.declared.program.Word as W
 use Rattle.grin_syntax.specs.declared.program.Word.TheVariants.{Lit, Var, Global, TagWord}
-use Rattle.grin_syntax.specs.Tree.{Code, end, store, bind, Act, fetch_word, call, case, nested, Arms, no_arm, arm, Procedure}
+use Rattle.grin_syntax.specs.Tree.{Code, end, store, bind, Act, leaf, fetch_word, call, case, nested, Arms, no_arm, arm, Procedure}
 use Rattle.grin_syntax.specs.Binders.{numbers_of, target_vars, shape_vars, cell_vars, act_vars, code_vars, arms_vars, procs_vars}
 use Rattle.grin_syntax.specs.Fresh.{variables, past_procs}
 use Rattle.grin_syntax.proofs.Counted.{fresh, fresh_below, fresh_once, fresh_next, fresh_split}
@@ -109,13 +109,13 @@ module _ (u : ℕ) where
 
   module _ (D : List Decisions) where
     before_count : (n : ℕ) (o : Act) (c : Code) → times u (code_vars (fetches_before D n o c)) ≡ fresh u n (new_before D o) + times u (code_vars c)
-    before_count n (call f ws) c = fetches_count n (decisions_at D f.0) ws c
+    before_count n (leaf (call f ws)) c = fetches_count n (decisions_at D f.0) ws c
     before_count n o c = omega arith
 
     -- an operation takes new variables before it or in it
     in_turn : (n : ℕ) (o : Act) → fresh u n (new_before D o) + fresh u n (new_act D o) ≡ fresh u n (new_before D o + new_act D o)
     unfolding new_act
-    in_turn n (call f ws) = none_after n (new_variables_for (decisions_at D f.0) ws)
+    in_turn n (leaf (call f ws)) = none_after n (new_variables_for (decisions_at D f.0) ws)
     in_turn n o = none_before n (new_act D o)
 
     -- ---- pieces
@@ -127,7 +127,7 @@ module _ (u : ℕ) where
         act_counts : (o : Act) (n : ℕ) → times u (act_vars (raised_act D N n o)) ≡ times u (act_vars o) + fresh u n (new_act D o)
         act_counts (case v as') n = arms_count as' n
         act_counts (nested b) n = code_counts b n
-        act_counts (fetch_word a i) n = let e : times u (act_vars (fetched N a i)) ≡ 0 = ap (times u) (none_fetched N a i) in omega (arith, e)
+        act_counts (leaf (fetch_word a i)) n = let e : times u (act_vars (fetched N a i)) ≡ 0 = ap (times u) (none_fetched N a i) in omega (arith, e)
         act_counts o n = omega arith
 
         code_counts : (b : Code) (n : ℕ) → times u (code_vars (raised_code D N n b)) ≡ times u (code_vars b) + fresh u n (new_code D b)

@@ -3,7 +3,7 @@ use Rattle.std.proofs.Common.{◌≡◌, ℕ, zero, suc, Bool, true, false, cond
 use Rattle.seq.proofs.Order.{eq_from, differs_from}
 use Rattle.seq.proofs.Lists.{all_get}
 use Rattle.grin_syntax.specs.declared.program.Word.{Word}
-use Rattle.grin_syntax.specs.Tree.{Code, end, store, bind, Act, unit, fetch, fetch_word, update, eval, apply, call, prim, read, write, case, nested, fail, Arms, no_arm, arm, Procedure, Program}
+use Rattle.grin_syntax.specs.Tree.{Code, end, store, bind, Act, leaf, unit, fetch, fetch_word, update, eval, apply, call, prim, read, write, case, nested, fail, Arms, no_arm, arm, Procedure, Program}
 use Rattle.grin_syntax.specs.Formed.{AllOf}
 use Rattle.grin_meaning.specs.Values.{Datum, number, words, Node, Value, Env, HeapCell, State, World, Answer, gives, stops, missing, then_do, need, and_then, Binding, with_vars, one_each, MatchOutcome, fits, fits_not, unclear, fit_of, word_of, words_of, value_of, node_of, bindings_of}
 use Rattle.grin_meaning.specs.Run.{Calls, act_by, code_by, arms_by, calls_by, run_by, require_if_checked, require_value_if_checked, choose, byte_or_end, after_read, spend, spent, with_state_seen, places, cells_of, with_cells, with_node, place_of, number_of, apply_arithmetic, start_words, start_world}
@@ -162,20 +162,20 @@ module _ (g : Program) (A : Solution) where
       unfolding act_by EachAct act_updated
 
       act_moves : (env : Env) (d : ℕ) (o : Act) (w : World) → StateIsCovered g A (state env w) → EachAct inlined_kind o → Apart (act_updated o) → Moves w (act_by g c looks env d o w)
-      act_moves env d (unit v) w lies l ap' = need_moves (value_of g env v) w _ (λ y e. looking_moves looks _ w _ (λ all. still w))
-      act_moves env d (fetch a) w lies l ap' = need_moves (and_then (word_of g env a) place_of) w _ (λ i e. need_moves (slice_get w.cells i) w _ (λ y q all. still w))
-      act_moves env d (fetch_word a k) w lies l ap' = need_moves (and_then (word_of g env a) place_of) w _ (λ i e. need_moves (slice_get w.cells i) w _ (λ y q all. still w))
-      act_moves env d (update a v) w lies l ap' = need_moves (and_then (word_of g env a) place_of) w _ (λ i e. need_moves (slice_get w.cells i) w _ (λ y q.
+      act_moves env d (leaf (unit v)) w lies l ap' = need_moves (value_of g env v) w _ (λ y e. looking_moves looks _ w _ (λ all. still w))
+      act_moves env d (leaf (fetch a)) w lies l ap' = need_moves (and_then (word_of g env a) place_of) w _ (λ i e. need_moves (slice_get w.cells i) w _ (λ y q all. still w))
+      act_moves env d (leaf (fetch_word a k)) w lies l ap' = need_moves (and_then (word_of g env a) place_of) w _ (λ i e. need_moves (slice_get w.cells i) w _ (λ y q all. still w))
+      act_moves env d (leaf (update a v)) w lies l ap' = need_moves (and_then (word_of g env a) place_of) w _ (λ i e. need_moves (slice_get w.cells i) w _ (λ y q.
           need_moves (node_of g env v) w _ (λ n r. looking_moves looks _ w _ (put_moves env w lies a ap' i y n e q))))
-      act_moves env d (eval a) w lies l ap' = absurd l
-      act_moves env d (apply v a) w lies l ap' = absurd l.0
-      act_moves env d (call f ws) w lies l ap' = need_moves (words_of g env ws) w _ (λ xs e. cm.by f.0 xs d w)
-      act_moves env d (prim f a b) w lies l ap' = need_moves (word_of g env a) w _ (λ x e. need_moves (word_of g env b) w _ (λ y q. need_moves (apply_arithmetic f x y) w _ (λ v r all. still w)))
-      act_moves env d read w lies l ap' = read_moves w.input w
-      act_moves env d (write a) w lies l ap' = need_moves (and_then (word_of g env a) number_of) w _ (λ k e all good. record { cells = later_self w.cells; seen = good })
+      act_moves env d (leaf (eval a)) w lies l ap' = absurd l
+      act_moves env d (leaf (apply v a)) w lies l ap' = absurd l.0
+      act_moves env d (leaf (call f ws)) w lies l ap' = need_moves (words_of g env ws) w _ (λ xs e. cm.by f.0 xs d w)
+      act_moves env d (leaf (prim f a b)) w lies l ap' = need_moves (word_of g env a) w _ (λ x e. need_moves (word_of g env b) w _ (λ y q. need_moves (apply_arithmetic f x y) w _ (λ v r all. still w)))
+      act_moves env d (leaf read) w lies l ap' = read_moves w.input w
+      act_moves env d (leaf (write a)) w lies l ap' = need_moves (and_then (word_of g env a) number_of) w _ (λ k e all good. record { cells = later_self w.cells; seen = good })
       act_moves env d (case v as') w lies l ap' = need_moves (value_of g env v) w _ (λ y e. arms_move env d y as' w lies l.2 ap')
       act_moves env d (nested b) w lies l ap' = code_moves env d b w lies l.1 ap'
-      act_moves env d fail w lies l ap' = λ all. still w
+      act_moves env d (leaf fail) w lies l ap' = λ all. still w
 
       code_moves : (env : Env) (d : ℕ) (b : Code) (w : World) → StateIsCovered g A (state env w) → EachCode inlined_kind b → Apart (code_updated b) → Moves w (code_by g c looks env d b w)
       code_moves env d (end o) w lies l ap' = act_moves env d o w lies l ap'

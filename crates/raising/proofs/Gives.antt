@@ -7,7 +7,7 @@ use Rattle.grin_syntax.specs.declared.program.Word.TheVariants.{Lit, Var, Global
 use Rattle.grin_syntax.specs.declared.program.Val as V
 use Rattle.grin_syntax.specs.declared.program.Val.TheVariants.{One}
 use Rattle.grin_syntax.specs.declared.program.Target.TheVariants as to
-use Rattle.grin_syntax.specs.Tree.{Code, end, store, bind, Act, unit, fetch, fetch_word, update, eval, apply, call, prim, read, write, case, nested, fail, Arms, no_arm, arm, Procedure}
+use Rattle.grin_syntax.specs.Tree.{Code, end, store, bind, Act, leaf, unit, fetch, fetch_word, update, eval, apply, call, prim, read, write, case, nested, fail, Arms, no_arm, arm, Procedure}
 use Rattle.grin_syntax.specs.Binders.{act_sites, code_sites, arms_sites, procs_sites}
 use Rattle.grin_syntax.specs.Formed.{AllOf}
 use Rattle.grin_syntax.specs.SameOutside.{names_of}
@@ -20,9 +20,9 @@ use Rattle.raising.specs.Raising.{Raising, Decisions, decided, raised_fetch_of, 
 pub record Blind (K : PieceKind) : Type 0 where
   pub cases : (v : V.Val) (as' bs : Arms) → K.operation (case v as') → K.operation (case v bs)
   pub blocks : (b c : Code) → K.operation (nested b) → K.operation (nested c)
-  pub calls : (f : ProcId) (ws vs : List W.Word) → K.operation (call f ws) → K.operation (call f vs)
-  pub words : (a : W.Word) (i : ℕ) → K.operation (fetch_word a i)
-  pub units : (a : W.Word) → K.operation (unit (One a))
+  pub calls : (f : ProcId) (ws vs : List W.Word) → K.operation (leaf (call f ws)) → K.operation (leaf (call f vs))
+  pub words : (a : W.Word) (i : ℕ) → K.operation (leaf (fetch_word a i))
+  pub units : (a : W.Word) → K.operation (leaf (unit (One a)))
   pub one : (x : VarId) → K.target (to.One x)
   pub word : (a : W.Word) → K.value (One a)
 
@@ -45,7 +45,7 @@ module _ (D : List Decisions) where
     fetches_each n (d ∷ ds) (a ∷ ws) c h = fields_each a n 0 (new_variables_of d) (fetches_for (n + new_variables_of d) ds ws c) (fetches_each (n + new_variables_of d) ds ws c h)
 
     before_each : (n : ℕ) (o : Act) (c : Code) → Codes c → Codes (fetches_before D n o c)
-    before_each n (call f ws) c h = fetches_each n (decisions_at D f.0) ws c h
+    before_each n (leaf (call f ws)) c h = fetches_each n (decisions_at D f.0) ws c h
     before_each n o c h = h
 
     fetched_each : (N : ℕ → Option Raising) (a : W.Word) (i : ℕ) → Acts (fetched N a i)
@@ -66,17 +66,17 @@ module _ (D : List Decisions) where
         act_each : (o : Act) (n : ℕ) → Acts o → Acts (raised_act D N n o)
         act_each (case v as') n h = (ok.cases v as' (raised_arms D N n as') h.0, h.1, arms_each as' n h.2)
         act_each (nested b) n h = (ok.blocks b (raised_code D N n b) h.0, code_each b n h.1)
-        act_each (fetch_word a i) n h = fetched_each N a i
-        act_each (call f ws) n h = ok.calls f ws _ h
-        act_each (unit v) n h = h
-        act_each (fetch a) n h = h
-        act_each (update a v) n h = h
-        act_each (eval a) n h = h
-        act_each (apply v a) n h = h
-        act_each (prim f a b) n h = h
-        act_each read n h = h
-        act_each (write a) n h = h
-        act_each fail n h = h
+        act_each (leaf (fetch_word a i)) n h = fetched_each N a i
+        act_each (leaf (call f ws)) n h = ok.calls f ws _ h
+        act_each (leaf (unit v)) n h = h
+        act_each (leaf (fetch a)) n h = h
+        act_each (leaf (update a v)) n h = h
+        act_each (leaf (eval a)) n h = h
+        act_each (leaf (apply v a)) n h = h
+        act_each (leaf (prim f a b)) n h = h
+        act_each (leaf read) n h = h
+        act_each (leaf (write a)) n h = h
+        act_each (leaf fail) n h = h
 
         code_each : (b : Code) (n : ℕ) → Codes b → Codes (raised_code D N n b)
         code_each (end o) n h = before_each n o (end (raised_act D N n o)) (act_each o n h)
@@ -120,7 +120,7 @@ module _ (D : List Decisions) where
     fetches_give n (d ∷ ds) (a ∷ ws) c h = fields_give a n 0 (new_variables_of d) (fetches_for (n + new_variables_of d) ds ws c) (fetches_give (n + new_variables_of d) ds ws c h)
 
     before_give : (n : ℕ) (o : Act) (c : Code) → NarrowCode width most c → NarrowCode width most (fetches_before D n o c)
-    before_give n (call f ws) c h = fetches_give n (decisions_at D f.0) ws c h
+    before_give n (leaf (call f ws)) c h = fetches_give n (decisions_at D f.0) ws c h
     before_give n o c h = h
 
     fetched_gives : (N : ℕ → Option Raising) (a : W.Word) (i : ℕ) → NarrowAct width most (fetched N a i)
@@ -141,17 +141,17 @@ module _ (D : List Decisions) where
         act_gives : (o : Act) (n : ℕ) → NarrowAct width most o → NarrowAct width most (raised_act D N n o)
         act_gives (case v as') n h = arms_give as' n h
         act_gives (nested b) n h = code_gives b n h
-        act_gives (fetch_word a i) n h = fetched_gives N a i
-        act_gives (unit v) n h = h
-        act_gives (fetch a) n h = h
-        act_gives (update a v) n h = h
-        act_gives (eval a) n h = h
-        act_gives (apply v a) n h = h
-        act_gives (call f ws) n h = tt
-        act_gives (prim f a b) n h = h
-        act_gives read n h = h
-        act_gives (write a) n h = h
-        act_gives fail n h = h
+        act_gives (leaf (fetch_word a i)) n h = fetched_gives N a i
+        act_gives (leaf (unit v)) n h = h
+        act_gives (leaf (fetch a)) n h = h
+        act_gives (leaf (update a v)) n h = h
+        act_gives (leaf (eval a)) n h = h
+        act_gives (leaf (apply v a)) n h = h
+        act_gives (leaf (call f ws)) n h = tt
+        act_gives (leaf (prim f a b)) n h = h
+        act_gives (leaf read) n h = h
+        act_gives (leaf (write a)) n h = h
+        act_gives (leaf fail) n h = h
 
         code_gives : (b : Code) (n : ℕ) → NarrowCode width most b → NarrowCode width most (raised_code D N n b)
         code_gives (end o) n h = before_give n o (end (raised_act D N n o)) (act_gives o n h)
@@ -180,7 +180,7 @@ module _ (D : List Decisions) where
   fetches_sites n (d ∷ ds) (a ∷ ws) c = fields_sites a n 0 (new_variables_of d) (fetches_for (n + new_variables_of d) ds ws c) ∙ fetches_sites (n + new_variables_of d) ds ws c
 
   before_sites : (n : ℕ) (o : Act) (c : Code) → code_sites (fetches_before D n o c) ≡ code_sites c
-  before_sites n (call f ws) c = fetches_sites n (decisions_at D f.0) ws c
+  before_sites n (leaf (call f ws)) c = fetches_sites n (decisions_at D f.0) ws c
   before_sites n o c = refl
 
   fetched_sites : (N : ℕ → Option Raising) (a : W.Word) (i : ℕ) → act_sites (fetched N a i) ≡ []
@@ -201,7 +201,7 @@ module _ (D : List Decisions) where
       act_sites_stay : (o : Act) (n : ℕ) → act_sites (raised_act D N n o) ≡ act_sites o
       act_sites_stay (case v as') n = arms_sites_stay as' n
       act_sites_stay (nested b) n = code_sites_stay b n
-      act_sites_stay (fetch_word a i) n = fetched_sites N a i
+      act_sites_stay (leaf (fetch_word a i)) n = fetched_sites N a i
       act_sites_stay o n = refl
 
       code_sites_stay : (b : Code) (n : ℕ) → code_sites (raised_code D N n b) ≡ code_sites b
@@ -243,7 +243,7 @@ module _ (D : List Decisions) where
     fetches_sum n (d ∷ ds) (a ∷ ws) c = fields_sum a n 0 (new_variables_of d) (fetches_for (n + new_variables_of d) ds ws c) ∙ fetches_sum (n + new_variables_of d) ds ws c
 
     before_sum : (n : ℕ) (o : Act) (c : Code) → code_update_sum count (fetches_before D n o c) ≡ code_update_sum count c
-    before_sum n (call f ws) c = fetches_sum n (decisions_at D f.0) ws c
+    before_sum n (leaf (call f ws)) c = fetches_sum n (decisions_at D f.0) ws c
     before_sum n o c = refl
 
     fetched_sum : (N : ℕ → Option Raising) (a : W.Word) (i : ℕ) → act_update_sum count (fetched N a i) ≡ 0
@@ -264,7 +264,7 @@ module _ (D : List Decisions) where
         act_sum_stays : (o : Act) (n : ℕ) → act_update_sum count (raised_act D N n o) ≡ act_update_sum count o
         act_sum_stays (case v as') n = arms_sum_stays as' n
         act_sum_stays (nested b) n = code_sum_stays b n
-        act_sum_stays (fetch_word a i) n = fetched_sum N a i
+        act_sum_stays (leaf (fetch_word a i)) n = fetched_sum N a i
         act_sum_stays o n = refl
 
         code_sum_stays : (b : Code) (n : ℕ) → code_update_sum count (raised_code D N n b) ≡ code_update_sum count b

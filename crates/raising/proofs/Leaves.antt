@@ -10,7 +10,7 @@ use Rattle.grin_syntax.specs.declared.program.Val.{Val}
 use Rattle.grin_syntax.specs.declared.program.Val.TheVariants.{One}
 use Rattle.grin_syntax.specs.declared.program.Word.{Word}
 use Rattle.grin_syntax.specs.declared.program.Word.TheVariants.{Lit, Var, Global, TagWord}
-use Rattle.grin_syntax.specs.Tree.{Code, store, Act, unit, fetch, fetch_word, update, eval, apply, call, prim, read, write, case, nested, fail, Arms, no_arm, arm, Procedure, Program}
+use Rattle.grin_syntax.specs.Tree.{Code, store, Act, leaf, unit, fetch, fetch_word, update, eval, apply, call, prim, read, write, case, nested, fail, Arms, no_arm, arm, Procedure, Program}
 use Rattle.grin_syntax.specs.Binders.{shape_vars, cell_vars}
 use Rattle.grin_syntax.specs.Formed.{AllOf}
 use Rattle.grin_syntax.specs.Fresh.{variable, past_procs}
@@ -75,31 +75,31 @@ place_bound env x k e = go (env x) refl e
     go (Some (words ds)) q f = many ds q f
 
 -- what is looked at of what is bound
-fetched_block : (g : Program) (t : Target) (v : Value) (N : ℕ → Option Raising) (a : Word) (i : ℕ) → is_bound_well g t (fetched N a i) v ≡ is_bound_well g t (fetch_word a i) v
+fetched_block : (g : Program) (t : Target) (v : Value) (N : ℕ → Option Raising) (a : Word) (i : ℕ) → is_bound_well g t (fetched N a i) v ≡ is_bound_well g t (leaf (fetch_word a i)) v
 fetched_block g t v N (Lit k) i = refl
 fetched_block g t v N (Global k) i = refl
 fetched_block g t v N (TagWord k) i = refl
 fetched_block g t v N (Var x) i = go (N x.0)
   where
-    go : (o : Option Raising) → is_bound_well g t (raised_fetch_of o (Var x) i) v ≡ is_bound_well g t (fetch_word (Var x) i) v
+    go : (o : Option Raising) → is_bound_well g t (raised_fetch_of o (Var x) i) v ≡ is_bound_well g t (leaf (fetch_word (Var x) i)) v
     go None = refl
     go (Some r) = refl
 
 pub bound_alike : (g : Program) (t : Target) (v : Value) (D : List Decisions) (N : ℕ → Option Raising) (n : ℕ) (o : Act) → is_bound_well g t (raised_act D N n o) v ≡ is_bound_well g t o v
 unfolding raised_act
-bound_alike g t v D N n (unit y) = refl
-bound_alike g t v D N n (fetch a) = refl
-bound_alike g t v D N n (fetch_word a i) = fetched_block g t v N a i
-bound_alike g t v D N n (update a y) = refl
-bound_alike g t v D N n (eval a) = refl
-bound_alike g t v D N n (apply y a) = refl
-bound_alike g t v D N n (call f ws) = refl
-bound_alike g t v D N n (prim q a b) = refl
-bound_alike g t v D N n read = refl
-bound_alike g t v D N n (write a) = refl
+bound_alike g t v D N n (leaf (unit y)) = refl
+bound_alike g t v D N n (leaf (fetch a)) = refl
+bound_alike g t v D N n (leaf (fetch_word a i)) = fetched_block g t v N a i
+bound_alike g t v D N n (leaf (update a y)) = refl
+bound_alike g t v D N n (leaf (eval a)) = refl
+bound_alike g t v D N n (leaf (apply y a)) = refl
+bound_alike g t v D N n (leaf (call f ws)) = refl
+bound_alike g t v D N n (leaf (prim q a b)) = refl
+bound_alike g t v D N n (leaf read) = refl
+bound_alike g t v D N n (leaf (write a)) = refl
 bound_alike g t v D N n (case y as') = refl
 bound_alike g t v D N n (nested b) = refl
-bound_alike g t v D N n fail = refl
+bound_alike g t v D N n (leaf fail) = refl
 
 module _ (g : Program) (A : Solution) (D : List Decisions) (top : ℕ) (F : List HeapCell) where
   abbrev pub base : ℕ
@@ -140,13 +140,13 @@ module _ (g : Program) (A : Solution) (D : List Decisions) (top : ℕ) (F : List
         there = ap (λ c. slice_get c i) (cells_same x.b) ∙ q;
       }
 
-      pub unit_like : (v : Val) → ValOk (Stays N) v → ActLike (unit v) (unit v)
+      pub unit_like : (v : Val) → ValOk (Stays N) v → ActLike (leaf (unit v)) (leaf (unit v))
       unit_like v ok = unit_follows it v v (λ x y e seen. (λ l. fills_too g (Stays N) x.env x.env' x.related.same v ok y e ∙ seen l, y, value_has g (Stays N) x.env x.env' x.related.same v ok y e, same))
 
-      pub fetch_word_like : (a : Word) (k : ℕ) → WordOk (Stays N) a → ActLike (fetch_word a k) (fetch_word a k)
+      pub fetch_word_like : (a : Word) (k : ℕ) → WordOk (Stays N) a → ActLike (leaf (fetch_word a k)) (leaf (fetch_word a k))
       fetch_word_like a k ok = fetch_word_follows it a a k k (λ x i y e q. (cell_too x a ok i y e q, same))
 
-      pub update_like : (a : Word) (v : Val) → WordOk (Stays N) a → ValOk (Stays N) v → ActLike (update a v) (update a v)
+      pub update_like : (a : Word) (v : Val) → WordOk (Stays N) a → ValOk (Stays N) v → ActLike (leaf (update a v)) (leaf (update a v))
       update_like a v ok okv = update_follows it a a v v same (λ x i y e q. (
         cell_too x a ok i y e q,
         λ n m seen. record {
@@ -157,16 +157,16 @@ module _ (g : Program) (A : Solution) (D : List Decisions) (top : ℕ) (F : List
         },
       ))
 
-      pub prim_like : (q : PrimOp) (a b : Word) → WordOk (Stays N) a → WordOk (Stays N) b → ActLike (prim q a b) (prim q a b)
+      pub prim_like : (q : PrimOp) (a b : Word) → WordOk (Stays N) a → WordOk (Stays N) b → ActLike (leaf (prim q a b)) (leaf (prim q a b))
       prim_like q a b oka okb = prim_follows it q a b a b (λ x. word_has g (Stays N) x.env x.env' x.related.same a oka) (λ x. word_has g (Stays N) x.env x.env' x.related.same b okb) (λ k. same)
 
-      pub read_like : ActLike read read
+      pub read_like : ActLike (leaf read) (leaf read)
       read_like = read_follows it (λ k. same)
 
-      pub write_like : (a : Word) → WordOk (Stays N) a → ActLike (write a) (write a)
+      pub write_like : (a : Word) → WordOk (Stays N) a → ActLike (leaf (write a)) (leaf (write a))
       write_like a ok = write_follows it a a (λ x. word_has g (Stays N) x.env x.env' x.related.same a ok) same
 
-      pub fail_like : ActLike fail fail
+      pub fail_like : ActLike (leaf fail) (leaf fail)
       fail_like = fail_follows it
 
       -- ---- a fetch of a word from the cell of a raised parameter
@@ -211,7 +211,7 @@ module _ (g : Program) (A : Solution) (D : List Decisions) (top : ℕ) (F : List
               let one : h.y ≡ y = cc in
               word_there z.env' r h.y.node i h.its_tag h.many each ∙ ap (λ u. Some (node_word u.node i)) one
 
-      fetch_raised : (q : Procedure) (x : VarId) (r : Raising) (i : ℕ) → N x.0 ≡ Some r → Raisable A g q x.0 r.tag.0 r.fields → ActLike (fetch_word (Var x) i) (unit (One (word_at r i)))
+      fetch_raised : (q : Procedure) (x : VarId) (r : Raising) (i : ℕ) → N x.0 ≡ Some r → Raisable A g q x.0 r.tag.0 r.fields → ActLike (leaf (fetch_word (Var x) i)) (leaf (unit (One (word_at r i))))
       unfolding act_by
       fetch_raised q x r i n ra = record {
         by = λ z. need_first plan.P no_deeper Same (and_then (word_of g z.env (Var x)) place_of) z.w _ _ (λ k e. need_first plan.P no_deeper Same (slice_get z.w.cells k) z.w _ _ (λ y there.
@@ -219,13 +219,13 @@ module _ (g : Program) (A : Solution) (D : List Decisions) (top : ℕ) (F : List
             (sym (fetched_word q x.0 r i n ra z k y e there)) (λ _. gives_too z.b same)));
       }
 
-      pub fetched_like : (q : Procedure) → ((y : ℕ) (r : Raising) → N y ≡ Some r → Raisable A g q y r.tag.0 r.fields) → (a : Word) (i : ℕ) → ActLike (fetch_word a i) (fetched N a i)
+      pub fetched_like : (q : Procedure) → ((y : ℕ) (r : Raising) → N y ≡ Some r → Raisable A g q y r.tag.0 r.fields) → (a : Word) (i : ℕ) → ActLike (leaf (fetch_word a i)) (fetched N a i)
       fetched_like q ra (Lit k) i = fetch_word_like (Lit k) i tt
       fetched_like q ra (Global k) i = fetch_word_like (Global k) i tt
       fetched_like q ra (TagWord t) i = fetch_word_like (TagWord t) i tt
       fetched_like q ra (Var x) i = go (N x.0) refl
         where
-          go : (o : Option Raising) → N x.0 ≡ o → ActLike (fetch_word (Var x) i) (raised_fetch_of o (Var x) i)
+          go : (o : Option Raising) → N x.0 ≡ o → ActLike (leaf (fetch_word (Var x) i)) (raised_fetch_of o (Var x) i)
           go None e = fetch_word_like (Var x) i e
           go (Some r) e = fetch_raised q x r i e (ra x.0 r e)
 

@@ -12,7 +12,7 @@ use Rattle.grin_syntax.specs.declared.program.Val as V
 use Rattle.grin_syntax.specs.declared.program.Val.TheVariants.{NodeVar, Node, Vector, One}
 use Rattle.grin_syntax.specs.declared.program.Target as T
 use Rattle.grin_syntax.specs.declared.program.Target.TheVariants as to
-use Rattle.grin_syntax.specs.Tree.{Code, end, store, bind, Act, unit, fetch, fetch_word, update, eval, apply, call, prim, read, write, case, nested, fail, Arms, no_arm, arm, Procedure, Program}
+use Rattle.grin_syntax.specs.Tree.{Code, end, store, bind, Act, leaf, unit, fetch, fetch_word, update, eval, apply, call, prim, read, write, case, nested, fail, Arms, no_arm, arm, Procedure, Program}
 use Rattle.grin_syntax.specs.Binders.{numbers_of, shape_vars, cell_vars}
 use Rattle.grin_syntax.specs.Formed.{AllOf, Scope, InScope, with_word_variables, with_target, params_scope, TagKnown, WordFormed, ValFormed, CellFormed, ActFormed, CodeFormed, ArmsFormed}
 use Rattle.grin_syntax.specs.Fresh.{variable, variables}
@@ -218,31 +218,31 @@ module _ (g : Program) (procs : List Procedure) (same_count : length procs ≡ l
       unfolding raised_act ActFormed EachAct act_mentions new_act
 
       act_formed : (o : Act) (n : ℕ) (s s' : Scope) → Fits N s s' → EachAct without_node_fetches o → Spared N (λ y. act_uses_as_value y o) → ActFormed g s o → Made n o s'
-      act_formed (unit v) n s s' x e p h = λ c k. k s' (within_self s') (val_formed s s' x v p h)
-      act_formed (fetch a) n s s' x e p h = absurd e
-      act_formed (fetch_word a i) n s s' x e p h = λ c k. k s' (within_self s') (fetched_formed s s' x a i h)
-      act_formed (update a v) n s s' x e p h = λ c k. k s' (within_self s') (
+      act_formed (leaf (unit v)) n s s' x e p h = λ c k. k s' (within_self s') (val_formed s s' x v p h)
+      act_formed (leaf (fetch a)) n s s' x e p h = absurd e
+      act_formed (leaf (fetch_word a i)) n s s' x e p h = λ c k. k s' (within_self s') (fetched_formed s s' x a i h)
+      act_formed (leaf (update a v)) n s s' x e p h = λ c k. k s' (within_self s') (
         word_formed s s' x a (left_spared N (λ y. word_is y a) (λ y. val_uses y v) p) h.0,
         val_formed s s' x v (right_spared N (λ y. word_is y a) (λ y. val_uses y v) p) h.1,
       )
-      act_formed (eval a) n s s' x e p h = λ c k. k s' (within_self s') (word_formed s s' x a p h)
-      act_formed (apply v a) n s s' x e p h = λ c k. k s' (within_self s') (
+      act_formed (leaf (eval a)) n s s' x e p h = λ c k. k s' (within_self s') (word_formed s s' x a p h)
+      act_formed (leaf (apply v a)) n s s' x e p h = λ c k. k s' (within_self s') (
         val_formed s s' x v (left_spared N (λ y. val_uses y v) (λ y. word_is y a) p) h.0,
         word_formed s s' x a (right_spared N (λ y. val_uses y v) (λ y. word_is y a) p) h.1,
       )
-      act_formed (call f ws) n s s' x e p h = λ c k. fetches_formed n (decisions_at D f.0) ws c s' (words_formed s s' x ws p h.1) (λ s2 w as'. k s2 w (known_again g procs same_count f h.0, as'))
-      act_formed (prim f a b) n s s' x e p h = λ c k. k s' (within_self s') (
+      act_formed (leaf (call f ws)) n s s' x e p h = λ c k. fetches_formed n (decisions_at D f.0) ws c s' (words_formed s s' x ws p h.1) (λ s2 w as'. k s2 w (known_again g procs same_count f h.0, as'))
+      act_formed (leaf (prim f a b)) n s s' x e p h = λ c k. k s' (within_self s') (
         word_formed s s' x a (left_spared N (λ y. word_is y a) (λ y. word_is y b) p) h.0,
         word_formed s s' x b (right_spared N (λ y. word_is y a) (λ y. word_is y b) p) h.1,
       )
-      act_formed read n s s' x e p h = λ c k. k s' (within_self s') tt
-      act_formed (write a) n s s' x e p h = λ c k. k s' (within_self s') (word_formed s s' x a p h)
+      act_formed (leaf read) n s s' x e p h = λ c k. k s' (within_self s') tt
+      act_formed (leaf (write a)) n s s' x e p h = λ c k. k s' (within_self s') (word_formed s s' x a p h)
       act_formed (case v as') n s s' x e p h = λ c k. k s' (within_self s') (
         val_formed s s' x v (left_spared N (λ y. val_uses y v) (λ y. arms_use_as_value y as') p) h.0,
         arms_formed as' n s s' x e.2 (right_spared N (λ y. val_uses y v) (λ y. arms_use_as_value y as') p) h.1,
       )
       act_formed (nested b) n s s' x e p h = λ c k. k s' (within_self s') (code_formed b n s s' x e.1 p h)
-      act_formed fail n s s' x e p h = λ c k. k s' (within_self s') tt
+      act_formed (leaf fail) n s s' x e p h = λ c k. k s' (within_self s') tt
 
       pub code_formed : (b : Code) (n : ℕ) (s s' : Scope) → Fits N s s' → EachCode without_node_fetches b → Spared N (λ y. code_uses_as_value y b) → CodeFormed g s b → CodeFormed after s' (raised_code D N n b)
       code_formed (end o) n s s' x e p h = act_formed o n s s' x e p h (end (raised_act D N n o)) (λ s2 w k. k)

@@ -6,7 +6,7 @@ use Rattle.grin_syntax.specs.declared.program.Word.TheVariants.{Lit, Var, Global
 use Rattle.grin_syntax.specs.declared.program.Val.TheVariants.{One}
 use Rattle.grin_syntax.specs.declared.program.Target.TheVariants as to
 use Rattle.grin_syntax.specs.Fresh.{variable, variables}
-use Rattle.grin_syntax.specs.Tree.{Code, end, store, bind, Act, unit, fetch, fetch_word, update, eval, apply, call, prim, read, write, case, nested, fail, Arms, no_arm, arm, Procedure, Program}
+use Rattle.grin_syntax.specs.Tree.{Code, end, store, bind, Act, leaf, unit, fetch, fetch_word, update, eval, apply, call, prim, read, write, case, nested, fail, Arms, no_arm, arm, Procedure, Program}
 pub use Rattle.raising.specs.declared.raising.Raising.{Raising}
 
 -- what is decided of each parameter of a procedure: whether it stays, or what stands in its place
@@ -41,15 +41,15 @@ word_at r zero = TagWord r.tag
 word_at r (suc i) = cond (nat_lt i r.fields) (Var (variable (r.first.0 + i))) (Lit (pos 0))
 
 abbrev pub raised_fetch_of : Option Raising → W.Word → ℕ → Act
-raised_fetch_of None a i = fetch_word a i
-raised_fetch_of (Some r) a i = unit (One (word_at r i))
+raised_fetch_of None a i = leaf (fetch_word a i)
+raised_fetch_of (Some r) a i = leaf (unit (One (word_at r i)))
 
 -- where something is decided of each variable
 abbrev pub fetched : (ℕ → Option Raising) → W.Word → ℕ → Act
-fetched N (Lit k) i = fetch_word (Lit k) i
+fetched N (Lit k) i = leaf (fetch_word (Lit k) i)
 fetched N (Var x) i = raised_fetch_of (N x.0) (Var x) i
-fetched N (Global j) i = fetch_word (Global j) i
-fetched N (TagWord t) i = fetch_word (TagWord t) i
+fetched N (Global j) i = leaf (fetch_word (Global j) i)
+fetched N (TagWord t) i = leaf (fetch_word (TagWord t) i)
 
 -- ---- arguments of a call, by what is decided of the parameters; with new variables from n on
 
@@ -67,7 +67,7 @@ new_variables_for (d ∷ ds) (a ∷ ws) = new_variables_of d + new_variables_for
 abbrev pub field_fetches : W.Word → ℕ → ℕ → ℕ → Code → Code
 field_fetches a n i zero c = c
 field_fetches a n i (suc k) c =
-    bind (to.One (variable n)) (fetch_word a (suc i)) (field_fetches a (suc n) (suc i) k c)
+    bind (to.One (variable n)) (leaf (fetch_word a (suc i))) (field_fetches a (suc n) (suc i) k c)
 
 abbrev pub fetches_for : ℕ → Decisions → List W.Word → Code → Code
 fetches_for n [] ws c = c
@@ -97,12 +97,12 @@ decisions_at D f = or_no_decisions (slice_get D f)
 -- by what is decided of the parameters of each procedure
 module _ (D : List Decisions) where
   abbrev pub new_before : Act → ℕ
-  new_before (call f ws) = new_variables_for (decisions_at D f.0) ws
+  new_before (leaf (call f ws)) = new_variables_for (decisions_at D f.0) ws
   new_before _ = 0
 
   -- a caller fetches the fields before the call
   abbrev pub fetches_before : ℕ → Act → Code → Code
-  fetches_before n (call f ws) c = fetches_for n (decisions_at D f.0) ws c
+  fetches_before n (leaf (call f ws)) c = fetches_for n (decisions_at D f.0) ws c
   fetches_before n _ c = c
 
   unfoldable mutual
@@ -125,19 +125,19 @@ module _ (D : List Decisions) where
     -- in a procedure of whose variables this is decided
     unfoldable mutual
       pub raised_act : ℕ → Act → Act
-      raised_act n (unit v) = unit v
-      raised_act n (fetch a) = fetch a
-      raised_act n (fetch_word a i) = fetched N a i
-      raised_act n (update a v) = update a v
-      raised_act n (eval a) = eval a
-      raised_act n (apply v a) = apply v a
-      raised_act n (call f ws) = call f (arguments_for n (decisions_at D f.0) ws)
-      raised_act n (prim p a b) = prim p a b
-      raised_act n read = read
-      raised_act n (write a) = write a
+      raised_act n (leaf (unit v)) = leaf (unit v)
+      raised_act n (leaf (fetch a)) = leaf (fetch a)
+      raised_act n (leaf (fetch_word a i)) = fetched N a i
+      raised_act n (leaf (update a v)) = leaf (update a v)
+      raised_act n (leaf (eval a)) = leaf (eval a)
+      raised_act n (leaf (apply v a)) = leaf (apply v a)
+      raised_act n (leaf (call f ws)) = leaf (call f (arguments_for n (decisions_at D f.0) ws))
+      raised_act n (leaf (prim p a b)) = leaf (prim p a b)
+      raised_act n (leaf read) = leaf read
+      raised_act n (leaf (write a)) = leaf (write a)
       raised_act n (case v as') = case v (raised_arms n as')
       raised_act n (nested b) = nested (raised_code n b)
-      raised_act n fail = fail
+      raised_act n (leaf fail) = leaf fail
 
       pub raised_code : ℕ → Code → Code
       raised_code n (end o) = fetches_before n o (end (raised_act n o))

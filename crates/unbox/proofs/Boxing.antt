@@ -13,7 +13,7 @@ use Rattle.grin_syntax.specs.declared.program.Stmt.TheVariants.{Store, Bind}
 use Rattle.grin_syntax.specs.declared.program.Op.{Op}
 use Rattle.grin_syntax.specs.declared.program.Op.TheVariants.{Unit as Unit'}
 use Rattle.grin_syntax.specs.declared.program.Cell.{Cell}
-use Rattle.grin_syntax.specs.Tree.{Code, bind, Act, unit, act_of, before_of, all_before}
+use Rattle.grin_syntax.specs.Tree.{Code, bind, Act, leaf, unit, act_of, before_of, all_before}
 use Rattle.grin_syntax.proofs.TreeOf.{before_of-Store, before_of-Bind, act_of-Unit}
 use Rattle.grin_syntax.proofs.Pieces.{all_before_push}
 use Rattle.unboxing.specs.Ends.{Procedures, act_calls}
@@ -52,7 +52,7 @@ boxed_long (x ∷ []) others number o v old mid new h n w t m l c = absurd (omeg
 boxed_long (x ∷ (y ∷ zs)) others number o v old mid new h n w t m l c =
     l c ∙ m (bind (to.Vector others) (act_of (Unit' v)) c)
     ∙ ap (λ a. all_before (map before_of old) (bind (to.One number) (act_of o) (bind (to.Vector others) a c))) (act_of-Unit v)
-    ∙ (λ i. all_before (map before_of old) (bind (to.One (n i)) (act_of o) (bind (to.Vector (w i)) (unit (value i)) c)))
+    ∙ (λ i. all_before (map before_of old) (bind (to.One (n i)) (act_of o) (bind (to.Vector (w i)) (leaf (unit (value i))) c)))
   where
     value : v ≡ tag_and_zeros (length zs)
     value = let k : suc (length zs) - 1 ≡ length zs = omega arith in t ∙ ap (λ l. tag_and_zeros (length l - 1)) w ∙ ap tag_and_zeros k

@@ -6,7 +6,7 @@ use Rattle.seq.proofs.Lists.{all_append as all_both}
 use Rattle.grin_syntax.specs.declared.program.ProcId.{ProcId}
 use Rattle.grin_syntax.specs.declared.program.Proc.{Proc}
 use Rattle.grin_syntax.specs.declared.program.Grin.{Grin}
-use Rattle.grin_syntax.specs.Tree.{Code, end, store, bind, Act, unit, fetch, fetch_word, update, eval, apply, call, prim, read, write, case, nested, fail, Arms, no_arm, arm, Procedure, procedure_of, Program, program_of}
+use Rattle.grin_syntax.specs.Tree.{Code, end, store, bind, Act, leaf, unit, fetch, fetch_word, update, eval, apply, call, prim, read, write, case, nested, fail, Arms, no_arm, arm, Procedure, procedure_of, Program, program_of}
 use Rattle.grin_syntax.specs.Formed.{AllOf}
 use Rattle.flow_system.specs.Solution.{Solution}
 use Rattle.pass_ground.proofs.Tests.{all_front, all_back}
@@ -31,19 +31,19 @@ module _ (A : Solution) (S : Procedures) where
     unfolding act_calls act_called
 
     act_any : (o : Act) → any_in S (act_called o) ≡ act_calls S o
-    act_any (call f ws) = or_false (S f.0)
+    act_any (leaf (call f ws)) = or_false (S f.0)
     act_any (case v as') = arms_any as'
     act_any (nested b) = code_any b
-    act_any (unit v) = refl
-    act_any (fetch a) = refl
-    act_any (fetch_word a i) = refl
-    act_any (update a v) = refl
-    act_any (eval a) = refl
-    act_any (apply v a) = refl
-    act_any (prim p a b) = refl
-    act_any read = refl
-    act_any (write a) = refl
-    act_any fail = refl
+    act_any (leaf (unit v)) = refl
+    act_any (leaf (fetch a)) = refl
+    act_any (leaf (fetch_word a i)) = refl
+    act_any (leaf (update a v)) = refl
+    act_any (leaf (eval a)) = refl
+    act_any (leaf (apply v a)) = refl
+    act_any (leaf (prim p a b)) = refl
+    act_any (leaf read) = refl
+    act_any (leaf (write a)) = refl
+    act_any (leaf fail) = refl
 
     code_any : (b : Code) → any_in S (code_called b) ≡ code_calls S b
     code_any (end o) = act_any o
@@ -58,19 +58,19 @@ module _ (A : Solution) (S : Procedures) where
     unfolding IntAct act_ints act_called
 
     int_act : (o : Act) → (act_ints A o && all_in S (act_called o)) ≡ true → IntAct S A o
-    int_act (unit v) h = and_left (is_int A v) true h
-    int_act (call f ws) h = and_left (S f.0) true h
+    int_act (leaf (unit v)) h = and_left (is_int A v) true h
+    int_act (leaf (call f ws)) h = and_left (S f.0) true h
     int_act (case v as') h = int_arms as' h
     int_act (nested b) h = int_code b h
-    int_act fail h = tt
-    int_act (fetch a) h = cc
-    int_act (fetch_word a i) h = cc
-    int_act (update a v) h = cc
-    int_act (eval a) h = cc
-    int_act (apply v a) h = cc
-    int_act (prim p a b) h = cc
-    int_act read h = cc
-    int_act (write a) h = cc
+    int_act (leaf fail) h = tt
+    int_act (leaf (fetch a)) h = cc
+    int_act (leaf (fetch_word a i)) h = cc
+    int_act (leaf (update a v)) h = cc
+    int_act (leaf (eval a)) h = cc
+    int_act (leaf (apply v a)) h = cc
+    int_act (leaf (prim p a b)) h = cc
+    int_act (leaf read) h = cc
+    int_act (leaf (write a)) h = cc
 
     int_code : (b : Code) → (code_ints A b && all_in S (code_called b)) ≡ true → IntCode S A b
     int_code (end o) h = int_act o h
@@ -90,19 +90,19 @@ module _ (A : Solution) (S : Procedures) where
     unfolding IntAct act_ints act_called
 
     act_int : (o : Act) → IntAct S A o → (act_ints A o && all_in S (act_called o)) ≡ true
-    act_int (unit v) h = and_from (is_int A v) true h refl
-    act_int (call f ws) h = and_from (S f.0) true h refl
+    act_int (leaf (unit v)) h = and_from (is_int A v) true h refl
+    act_int (leaf (call f ws)) h = and_from (S f.0) true h refl
     act_int (case v as') h = arms_int as' h
     act_int (nested b) h = code_int b h
-    act_int fail h = refl
-    act_int (fetch a) h = absurd h
-    act_int (fetch_word a i) h = absurd h
-    act_int (update a v) h = absurd h
-    act_int (eval a) h = absurd h
-    act_int (apply v a) h = absurd h
-    act_int (prim p a b) h = absurd h
-    act_int read h = absurd h
-    act_int (write a) h = absurd h
+    act_int (leaf fail) h = refl
+    act_int (leaf (fetch a)) h = absurd h
+    act_int (leaf (fetch_word a i)) h = absurd h
+    act_int (leaf (update a v)) h = absurd h
+    act_int (leaf (eval a)) h = absurd h
+    act_int (leaf (apply v a)) h = absurd h
+    act_int (leaf (prim p a b)) h = absurd h
+    act_int (leaf read) h = absurd h
+    act_int (leaf (write a)) h = absurd h
 
     code_int : (b : Code) → IntCode S A b → (code_ints A b && all_in S (code_called b)) ≡ true
     code_int (end o) h = act_int o h
@@ -119,17 +119,17 @@ module _ (A : Solution) (S : Procedures) where
     act_heeds : (o : Act) → ActClosed A S o → AllOf (RespectsTie S) (act_ties A o)
     act_heeds (case v as') h = arms_heed as' h
     act_heeds (nested b) h = code_heeds b h
-    act_heeds (unit v) h = tt
-    act_heeds (call f ws) h = tt
-    act_heeds (fetch a) h = tt
-    act_heeds (fetch_word a i) h = tt
-    act_heeds (update a v) h = tt
-    act_heeds (eval a) h = tt
-    act_heeds (apply v a) h = tt
-    act_heeds (prim p a b) h = tt
-    act_heeds read h = tt
-    act_heeds (write a) h = tt
-    act_heeds fail h = tt
+    act_heeds (leaf (unit v)) h = tt
+    act_heeds (leaf (call f ws)) h = tt
+    act_heeds (leaf (fetch a)) h = tt
+    act_heeds (leaf (fetch_word a i)) h = tt
+    act_heeds (leaf (update a v)) h = tt
+    act_heeds (leaf (eval a)) h = tt
+    act_heeds (leaf (apply v a)) h = tt
+    act_heeds (leaf (prim p a b)) h = tt
+    act_heeds (leaf read) h = tt
+    act_heeds (leaf (write a)) h = tt
+    act_heeds (leaf fail) h = tt
 
     code_heeds : (b : Code) → CodeClosed A S b → AllOf (RespectsTie S) (code_ties A b)
     code_heeds (end o) h = act_heeds o h
@@ -146,17 +146,17 @@ module _ (A : Solution) (S : Procedures) where
     act_closed : (o : Act) → AllOf (RespectsTie S) (act_ties A o) → ActClosed A S o
     act_closed (case v as') h = arms_closed as' h
     act_closed (nested b) h = code_closed b h
-    act_closed (unit v) h = tt
-    act_closed (call f ws) h = tt
-    act_closed (fetch a) h = tt
-    act_closed (fetch_word a i) h = tt
-    act_closed (update a v) h = tt
-    act_closed (eval a) h = tt
-    act_closed (apply v a) h = tt
-    act_closed (prim p a b) h = tt
-    act_closed read h = tt
-    act_closed (write a) h = tt
-    act_closed fail h = tt
+    act_closed (leaf (unit v)) h = tt
+    act_closed (leaf (call f ws)) h = tt
+    act_closed (leaf (fetch a)) h = tt
+    act_closed (leaf (fetch_word a i)) h = tt
+    act_closed (leaf (update a v)) h = tt
+    act_closed (leaf (eval a)) h = tt
+    act_closed (leaf (apply v a)) h = tt
+    act_closed (leaf (prim p a b)) h = tt
+    act_closed (leaf read) h = tt
+    act_closed (leaf (write a)) h = tt
+    act_closed (leaf fail) h = tt
 
     code_closed : (b : Code) → AllOf (RespectsTie S) (code_ties A b) → CodeClosed A S b
     code_closed (end o) h = act_closed o h

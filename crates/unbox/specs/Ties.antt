@@ -2,7 +2,7 @@
 -- the body's own; and those that the ends of one bound operation call.
 use Rattle.std.specs.Prelude.{ℕ, suc, ◌≡◌, ◌<◌, Bool, true, false, ◌&&◌, ◌||◌, List, [], ◌∷◌, ◌++◌}
 use Rattle.grin_syntax.specs.declared.program.ProcId.{ProcId}
-use Rattle.grin_syntax.specs.Tree.{Code, end, store, bind, Act, unit, call, case, nested, fail, Arms, no_arm, arm, Procedure}
+use Rattle.grin_syntax.specs.Tree.{Code, end, store, bind, Act, leaf, unit, call, case, nested, fail, Arms, no_arm, arm, Procedure}
 use Rattle.grin_syntax.specs.Formed.{AllOf}
 use Rattle.flow_system.specs.Solution.{Solution}
 use Rattle.unbox.specs.declared.ties.Tie.{Tie}
@@ -11,7 +11,7 @@ use Rattle.unboxing.specs.Ends.{Procedures, is_int, has_int}
 unfoldable mutual
   -- the procedures that the ends of a piece call
   pub act_called : Act → List ProcId
-  act_called (call f ws) = f ∷ []
+  act_called (leaf (call f ws)) = f ∷ []
   act_called (case v as') = arms_called as'
   act_called (nested b) = code_called b
   act_called _ = []
@@ -29,11 +29,11 @@ module _ (A : Solution) where
   unfoldable mutual
     -- whether each other end gives the tag CInt and no other, or fails
     pub act_ints : Act → Bool
-    act_ints (unit v) = is_int A v
-    act_ints (call f ws) = true
+    act_ints (leaf (unit v)) = is_int A v
+    act_ints (leaf (call f ws)) = true
     act_ints (case v as') = arms_ints as'
     act_ints (nested b) = code_ints b
-    act_ints fail = true
+    act_ints (leaf fail) = true
     act_ints _ = false
 
     pub code_ints : Code → Bool

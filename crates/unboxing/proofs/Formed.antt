@@ -7,7 +7,7 @@ use Rattle.grin_syntax.specs.declared.program.Val.TheVariants.{NodeVar, Node, Ve
 use Rattle.grin_syntax.specs.declared.program.Word.{Word}
 use Rattle.grin_syntax.specs.declared.program.Target.{Target}
 use Rattle.grin_syntax.specs.declared.program.Target.TheVariants as to
-use Rattle.grin_syntax.specs.Tree.{Code, end, store, bind, Act, unit, fetch, fetch_word, update, eval, apply, call, prim, read, write, case, nested, fail, Arms, no_arm, arm, Procedure, Program}
+use Rattle.grin_syntax.specs.Tree.{Code, end, store, bind, Act, leaf, unit, fetch, fetch_word, update, eval, apply, call, prim, read, write, case, nested, fail, Arms, no_arm, arm, Procedure, Program}
 use Rattle.grin_syntax.specs.Binders.{numbers_of, target_vars, shape_vars, cell_vars, act_vars, code_vars, arms_vars, procs_vars, procs_sites}
 use Rattle.grin_syntax.specs.Formed.{AllOf, Scope, with_word_variables, with_target, params_scope, WordFormed, ValFormed, Formed, ActFormed, CodeFormed, ArmsFormed, ProcedureFormed}
 use Rattle.grin_syntax.specs.SameOutside.{names_of, DifferOnlyInBodies}
@@ -64,17 +64,7 @@ module _ (M : Procedures) (x : ℕ) where
     act_times : (bare : Bool) (o : Act) → times x (act_vars (unbox_act M bare o)) ≡ times x (act_vars o)
     act_times bare (case v as') = arms_times bare as'
     act_times bare (nested b) = code_times bare b
-    act_times bare (unit v) = refl
-    act_times bare (update a v) = refl
-    act_times bare (fetch a) = refl
-    act_times bare (fetch_word a i) = refl
-    act_times bare (eval a) = refl
-    act_times bare (apply v a) = refl
-    act_times bare (call f ws) = refl
-    act_times bare (prim f a b) = refl
-    act_times bare read = refl
-    act_times bare (write a) = refl
-    act_times bare fail = refl
+    act_times bare (leaf l) = refl
 
     code_times : (bare : Bool) (b : Code) → times x (code_vars (unbox_code M bare b)) ≡ times x (code_vars b)
     code_times bare (end o) = act_times bare o
@@ -160,17 +150,17 @@ module _ (M : Procedures) where
       act_formed : (scope scope' : Scope) (w : Within scope scope') (bare : Bool) (o : Act) → ActFormed p scope o → ActFormed after scope' (unbox_act M bare o)
       act_formed scope scope' w bare (case v as') h = (val_stays p procs same_count scope scope' w v h.0, arms_formed scope scope' w bare as' h.1)
       act_formed scope scope' w bare (nested b) h = code_formed scope scope' w bare b h
-      act_formed scope scope' w bare (update a v) h = (word_stays p procs same_count scope scope' w a h.0, val_stays p procs same_count scope scope' w v h.1)
-      act_formed scope scope' w bare (unit v) h = given_formed scope' bare v (val_stays p procs same_count scope scope' w v h)
-      act_formed scope scope' w bare (fetch a) h = word_stays p procs same_count scope scope' w a h
-      act_formed scope scope' w bare (fetch_word a i) h = word_stays p procs same_count scope scope' w a h
-      act_formed scope scope' w bare (eval a) h = word_stays p procs same_count scope scope' w a h
-      act_formed scope scope' w bare (apply v a) h = (val_stays p procs same_count scope scope' w v h.0, word_stays p procs same_count scope scope' w a h.1)
-      act_formed scope scope' w bare (call f ws) h = (known_again p procs same_count f h.0, words_stay p procs same_count scope scope' w ws h.1)
-      act_formed scope scope' w bare (prim f a b) h = (word_stays p procs same_count scope scope' w a h.0, word_stays p procs same_count scope scope' w b h.1)
-      act_formed scope scope' w bare read h = h
-      act_formed scope scope' w bare (write a) h = word_stays p procs same_count scope scope' w a h
-      act_formed scope scope' w bare fail h = h
+      act_formed scope scope' w bare (leaf (update a v)) h = (word_stays p procs same_count scope scope' w a h.0, val_stays p procs same_count scope scope' w v h.1)
+      act_formed scope scope' w bare (leaf (unit v)) h = given_formed scope' bare v (val_stays p procs same_count scope scope' w v h)
+      act_formed scope scope' w bare (leaf (fetch a)) h = word_stays p procs same_count scope scope' w a h
+      act_formed scope scope' w bare (leaf (fetch_word a i)) h = word_stays p procs same_count scope scope' w a h
+      act_formed scope scope' w bare (leaf (eval a)) h = word_stays p procs same_count scope scope' w a h
+      act_formed scope scope' w bare (leaf (apply v a)) h = (val_stays p procs same_count scope scope' w v h.0, word_stays p procs same_count scope scope' w a h.1)
+      act_formed scope scope' w bare (leaf (call f ws)) h = (known_again p procs same_count f h.0, words_stay p procs same_count scope scope' w ws h.1)
+      act_formed scope scope' w bare (leaf (prim f a b)) h = (word_stays p procs same_count scope scope' w a h.0, word_stays p procs same_count scope scope' w b h.1)
+      act_formed scope scope' w bare (leaf read) h = h
+      act_formed scope scope' w bare (leaf (write a)) h = word_stays p procs same_count scope scope' w a h
+      act_formed scope scope' w bare (leaf fail) h = h
 
       code_formed : (scope scope' : Scope) (w : Within scope scope') (bare : Bool) (b : Code) → CodeFormed p scope b → CodeFormed after scope' (unbox_code M bare b)
       code_formed scope scope' w bare (end o) h = act_formed scope scope' w bare o h

@@ -6,7 +6,7 @@ use Rattle.grin_syntax.specs.declared.program.Val.TheVariants.{NodeVar, Node, Ve
 use Rattle.grin_syntax.specs.declared.program.Word.{Word}
 use Rattle.grin_syntax.specs.declared.program.Target.{Target}
 use Rattle.grin_syntax.specs.declared.program.Target.TheVariants as to
-use Rattle.grin_syntax.specs.Tree.{Code, end, store, bind, Act, unit, fetch, fetch_word, update, eval, apply, call, prim, read, write, case, nested, fail, Arms, no_arm, arm, Procedure}
+use Rattle.grin_syntax.specs.Tree.{Code, end, store, bind, Act, leaf, unit, fetch, fetch_word, update, eval, apply, call, prim, read, write, case, nested, fail, Arms, no_arm, arm, Procedure}
 use Rattle.grin_syntax.specs.Formed.{AllOf}
 use Rattle.grin_meaning.specs.Ready.{EachAct, EachCode, EachArms, val_width, NarrowAct, NarrowCode, NarrowArms, PieceKind, EveryBodyIsOfKind, inlined_kind, without_node_fetches, vectorised_kind, narrow_kind}
 use Rattle.flow_system.specs.Solution.{Solution}
@@ -24,7 +24,7 @@ module _ (M : Procedures) where
   record Blind (K : PieceKind) : Type 0 where
     cases : (v : Val) (as' bs' : Arms) → K.operation (case v as') → K.operation (case v bs')
     blocks : (b b' : Code) → K.operation (nested b) → K.operation (nested b')
-    units : (v : Val) → K.operation (unit v)
+    units : (v : Val) → K.operation (leaf (unit v))
     ones : (a : Word) → K.value (One a)
     vectors : (ws : List Word) → K.value (Vector ws)
     second : (x y : VarId) (zs : List VarId) → K.target (to.Vector (x ∷ y ∷ zs)) → K.target (to.One y)
@@ -67,17 +67,17 @@ module _ (M : Procedures) where
       act_each : (bare : Bool) (o : Act) → Acts o → Acts (unbox_act M bare o)
       act_each bare (case v as') h = (blind.cases v as' (unbox_arms M bare as') h.0, h.1, arms_each bare as' h.2)
       act_each bare (nested b) h = (blind.blocks b (unbox_code M bare b) h.0, code_each bare b h.1)
-      act_each bare (unit v) h = (blind.units _, given_each bare v h.1)
-      act_each bare (update a v) h = h
-      act_each bare (fetch a) h = h
-      act_each bare (fetch_word a i) h = h
-      act_each bare (eval a) h = h
-      act_each bare (apply v a) h = h
-      act_each bare (call f ws) h = h
-      act_each bare (prim f a b) h = h
-      act_each bare read h = h
-      act_each bare (write a) h = h
-      act_each bare fail h = h
+      act_each bare (leaf (unit v)) h = (blind.units _, given_each bare v h.1)
+      act_each bare (leaf (update a v)) h = h
+      act_each bare (leaf (fetch a)) h = h
+      act_each bare (leaf (fetch_word a i)) h = h
+      act_each bare (leaf (eval a)) h = h
+      act_each bare (leaf (apply v a)) h = h
+      act_each bare (leaf (call f ws)) h = h
+      act_each bare (leaf (prim f a b)) h = h
+      act_each bare (leaf read) h = h
+      act_each bare (leaf (write a)) h = h
+      act_each bare (leaf fail) h = h
 
       code_each : (bare : Bool) (b : Code) → Codes b → Codes (unbox_code M bare b)
       code_each bare (end o) h = act_each bare o h
@@ -128,17 +128,17 @@ module _ (M : Procedures) where
       act_gives : (bare : Bool) (o : Act) → NarrowAct width most o → NarrowAct width most (unbox_act M bare o)
       act_gives bare (case v as') h = arms_give bare as' h
       act_gives bare (nested b) h = code_gives bare b h
-      act_gives bare (unit v) h = given_narrow bare v h
-      act_gives bare (update a v) h = h
-      act_gives bare (fetch a) h = h
-      act_gives bare (fetch_word a i) h = h
-      act_gives bare (eval a) h = h
-      act_gives bare (apply v a) h = h
-      act_gives bare (call f ws) h = h
-      act_gives bare (prim f a b) h = h
-      act_gives bare read h = h
-      act_gives bare (write a) h = h
-      act_gives bare fail h = h
+      act_gives bare (leaf (unit v)) h = given_narrow bare v h
+      act_gives bare (leaf (update a v)) h = h
+      act_gives bare (leaf (fetch a)) h = h
+      act_gives bare (leaf (fetch_word a i)) h = h
+      act_gives bare (leaf (eval a)) h = h
+      act_gives bare (leaf (apply v a)) h = h
+      act_gives bare (leaf (call f ws)) h = h
+      act_gives bare (leaf (prim f a b)) h = h
+      act_gives bare (leaf read) h = h
+      act_gives bare (leaf (write a)) h = h
+      act_gives bare (leaf fail) h = h
 
       code_gives : (bare : Bool) (b : Code) → NarrowCode width most b → NarrowCode width most (unbox_code M bare b)
       code_gives bare (end o) h = act_gives bare o h
@@ -185,17 +185,17 @@ module _ (M : Procedures) where
       act_one_word : (o : Act) → IntAct M A o → OneWordAct M (unbox_act M true o)
       act_one_word (case v as') h = arms_one_word as' h
       act_one_word (nested b) h = code_one_word b h
-      act_one_word (unit v) h = tt
-      act_one_word (call f ws) h = h
-      act_one_word fail h = tt
-      act_one_word (update a v) h = absurd h
-      act_one_word (fetch a) h = absurd h
-      act_one_word (fetch_word a i) h = absurd h
-      act_one_word (eval a) h = absurd h
-      act_one_word (apply v a) h = absurd h
-      act_one_word (prim f a b) h = absurd h
-      act_one_word read h = absurd h
-      act_one_word (write a) h = absurd h
+      act_one_word (leaf (unit v)) h = tt
+      act_one_word (leaf (call f ws)) h = h
+      act_one_word (leaf fail) h = tt
+      act_one_word (leaf (update a v)) h = absurd h
+      act_one_word (leaf (fetch a)) h = absurd h
+      act_one_word (leaf (fetch_word a i)) h = absurd h
+      act_one_word (leaf (eval a)) h = absurd h
+      act_one_word (leaf (apply v a)) h = absurd h
+      act_one_word (leaf (prim f a b)) h = absurd h
+      act_one_word (leaf read) h = absurd h
+      act_one_word (leaf (write a)) h = absurd h
 
       code_one_word : (b : Code) → IntCode M A b → OneWordCode M (unbox_code M true b)
       code_one_word (end o) h = act_one_word o h
@@ -229,17 +229,7 @@ module _ (M : Procedures) where
       act_bound : (bare : Bool) (o : Act) → ActClosed A M o → BoundAct M (unbox_act M bare o)
       act_bound bare (case v as') h = arms_bound bare as' h
       act_bound bare (nested b) h = code_bound bare b h
-      act_bound bare (unit v) h = tt
-      act_bound bare (call f ws) h = tt
-      act_bound bare fail h = tt
-      act_bound bare (update a v) h = tt
-      act_bound bare (fetch a) h = tt
-      act_bound bare (fetch_word a i) h = tt
-      act_bound bare (eval a) h = tt
-      act_bound bare (apply v a) h = tt
-      act_bound bare (prim f a b) h = tt
-      act_bound bare read h = tt
-      act_bound bare (write a) h = tt
+      act_bound bare (leaf l) h = tt
 
       code_bound : (bare : Bool) (b : Code) → CodeClosed A M b → BoundCode M (unbox_code M bare b)
       code_bound bare (end o) h = act_bound bare o h

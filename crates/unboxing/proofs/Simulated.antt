@@ -11,7 +11,7 @@ use Rattle.grin_syntax.specs.declared.program.Val.TheVariants.{Vector, One}
 use Rattle.grin_syntax.specs.declared.program.Word.{Word}
 use Rattle.grin_syntax.specs.declared.program.Target.{Target}
 use Rattle.grin_syntax.specs.declared.program.Target.TheVariants as to
-use Rattle.grin_syntax.specs.Tree.{Code, end, store, bind, Act, unit, fetch, fetch_word, update, eval, apply, call, prim, read, write, case, nested, fail, Arms, no_arm, arm, Procedure, Program}
+use Rattle.grin_syntax.specs.Tree.{Code, end, store, bind, Act, leaf, unit, fetch, fetch_word, update, eval, apply, call, prim, read, write, case, nested, fail, Arms, no_arm, arm, Procedure, Program}
 use Rattle.grin_syntax.specs.Binders.{numbers_of, target_vars, shape_vars, cell_vars, act_vars, code_vars, arms_vars, procs_vars}
 use Rattle.grin_syntax.specs.Formed.{Formed}
 use Rattle.grin_meaning.specs.Values.{Datum, number, tag, Value, words, Env, HeapCell, World, missing, and_then, gives, stops, need, Binding, with_vars, one_each, fits, fit_of, word_of, bindings_of}
@@ -129,9 +129,9 @@ module _ (g : Program) (A : Solution) (M : Procedures) where
   R = λ c. Has Any
 
   abbrev Silent : Act → Type 0
-  Silent (eval a) = ⊥
-  Silent (apply v a) = ⊥
-  Silent (call f ws) = ⊥
+  Silent (leaf (eval a)) = ⊥
+  Silent (leaf (apply v a)) = ⊥
+  Silent (leaf (call f ws)) = ⊥
   Silent (case v as') = ⊥
   Silent (nested b) = ⊥
   Silent _ = Unit {0}
@@ -145,52 +145,52 @@ module _ (g : Program) (A : Solution) (M : Procedures) where
 
     silent : (o : Act) → Silent o → ActFollows it R Same o o
     unfolding act_by
-    silent (unit v) l = record { by = λ x. (leaf_follows quiet pl (having Any) (unit v) tt (any_act (unit v))).by (quietly x) }
-    silent (fetch a) l = record { by = λ x. (leaf_follows quiet pl (having Any) (fetch a) tt (any_act (fetch a))).by (quietly x) }
-    silent (fetch_word a i) l = record { by = λ x. (leaf_follows quiet pl (having Any) (fetch_word a i) tt (any_act (fetch_word a i))).by (quietly x) }
-    silent (update a v) l = record { by = λ x. (leaf_follows quiet pl (having Any) (update a v) tt (any_act (update a v))).by (quietly x) }
-    silent (prim q a b) l = record { by = λ x. (leaf_follows quiet pl (having Any) (prim q a b) tt (any_act (prim q a b))).by (quietly x) }
-    silent read l = record { by = λ x. (leaf_follows quiet pl (having Any) read tt (any_act read)).by (quietly x) }
-    silent (write a) l = record { by = λ x. (leaf_follows quiet pl (having Any) (write a) tt (any_act (write a))).by (quietly x) }
-    silent fail l = fail_follows it
-    silent (eval a) l = absurd l
-    silent (apply v a) l = absurd l
-    silent (call f ws) l = absurd l
+    silent (leaf (unit v)) l = record { by = λ x. (leaf_follows quiet pl (having Any) (unit v) (any_act (leaf (unit v)))).by (quietly x) }
+    silent (leaf (fetch a)) l = record { by = λ x. (leaf_follows quiet pl (having Any) (fetch a) (any_act (leaf (fetch a)))).by (quietly x) }
+    silent (leaf (fetch_word a i)) l = record { by = λ x. (leaf_follows quiet pl (having Any) (fetch_word a i) (any_act (leaf (fetch_word a i)))).by (quietly x) }
+    silent (leaf (update a v)) l = record { by = λ x. (leaf_follows quiet pl (having Any) (update a v) (any_act (leaf (update a v)))).by (quietly x) }
+    silent (leaf (prim q a b)) l = record { by = λ x. (leaf_follows quiet pl (having Any) (prim q a b) (any_act (leaf (prim q a b)))).by (quietly x) }
+    silent (leaf read) l = record { by = λ x. (leaf_follows quiet pl (having Any) read (any_act (leaf read))).by (quietly x) }
+    silent (leaf (write a)) l = record { by = λ x. (leaf_follows quiet pl (having Any) (write a) (any_act (leaf (write a)))).by (quietly x) }
+    silent (leaf fail) l = fail_follows it
+    silent (leaf (eval a)) l = absurd l
+    silent (leaf (apply v a)) l = absurd l
+    silent (leaf (call f ws)) l = absurd l
     silent (case v as') l = absurd l
     silent (nested b) l = absurd l
 
     -- ---- ends
 
-    unit_bare : (v : Val) → is_int A v ≡ true → ActFollows it R Bare (unit v) (unit (One (number_word v)))
+    unit_bare : (v : Val) → is_int A v ≡ true → ActFollows it R Bare (leaf (unit v)) (leaf (unit (One (number_word v))))
     unit_bare v e = unit_follows it v (One (number_word v)) (λ x y q seen.
         let n : IntValue g A (record { env = x.env; heap = x.w.cells }) x.known v y = int_value g A (record { env = x.env; heap = x.w.cells }) x.known v y e q in
         let has : word_of g x.env' (number_word v) ≡ Some (nth_or_zero n.ds 0) = word_has g Any x.env x.env' x.related (number_word v) (any_val (One (number_word v))) (nth_or_zero n.ds 0) n.has in
         (λ l. refl, words (nth_or_zero n.ds 0 ∷ []), ap (λ o. and_then o (λ d. Some (words (d ∷ [])))) has, record { ds = n.ds; boxed = n.boxed; alone = refl }))
 
-    call_as : (b : Bool) (f : ProcId) (ws : List Word) → M f.0 ≡ b → ActFollows it R (Gives b) (call f ws) (call f ws)
-    call_as b f ws e = subst (λ q. ActFollows it R (Gives q) (call f ws) (call f ws)) e
+    call_as : (b : Bool) (f : ProcId) (ws : List Word) → M f.0 ≡ b → ActFollows it R (Gives b) (leaf (call f ws)) (leaf (call f ws))
+    call_as b f ws e = subst (λ q. ActFollows it R (Gives q) (leaf (call f ws)) (leaf (call f ws))) e
         (call_follows it f ws ws (λ x xs q. (xs, words_have g Any x.env x.env' x.related ws (any_val (Vector ws)) xs q, same)))
 
-    call_bare : (f : ProcId) (ws : List Word) → M f.0 ≡ true → ActFollows it R Bare (call f ws) (call f ws)
-    call_bare f ws e = act_more it (call f ws) (call f ws) (λ k env env' r. r) number_bare (call_as true f ws e)
+    call_bare : (f : ProcId) (ws : List Word) → M f.0 ≡ true → ActFollows it R Bare (leaf (call f ws)) (leaf (call f ws))
+    call_bare f ws e = act_more it (leaf (call f ws)) (leaf (call f ws)) (λ k env env' r. r) number_bare (call_as true f ws e)
 
     -- ---- what is bound as it is
 
     same_well : (t : Target) (o : Act) (v : Value) → is_bound_well g t o v ≡ true → is_bound_well (h it) t (unbox_act M false o) v ≡ true
     unfolding unbox_act
-    same_well t (unit y) v e = e
-    same_well t (fetch a) v e = e
-    same_well t (fetch_word a i) v e = e
-    same_well t (update a y) v e = e
-    same_well t (eval a) v e = e
-    same_well t (apply y a) v e = e
-    same_well t (call f ws) v e = e
-    same_well t (prim q a b) v e = e
-    same_well t read v e = e
-    same_well t (write a) v e = e
+    same_well t (leaf (unit y)) v e = e
+    same_well t (leaf (fetch a)) v e = e
+    same_well t (leaf (fetch_word a i)) v e = e
+    same_well t (leaf (update a y)) v e = e
+    same_well t (leaf (eval a)) v e = e
+    same_well t (leaf (apply y a)) v e = e
+    same_well t (leaf (call f ws)) v e = e
+    same_well t (leaf (prim q a b)) v e = e
+    same_well t (leaf read) v e = e
+    same_well t (leaf (write a)) v e = e
     same_well t (case y as') v e = e
     same_well t (nested b) v e = e
-    same_well t fail v e = e
+    same_well t (leaf fail) v e = e
 
     binds_same : (t : Target) (o : Act) (x : Here plan R) (y : Given it R Same t o x) → BindsToo it R t (unbox_act M false o) x.env x.env' y.w.cells y.v' y.bs
     binds_same t o x y = on y.values
@@ -204,13 +204,13 @@ module _ (g : Program) (A : Solution) (M : Procedures) where
     abbrev Before : VarId → List VarId → Relation
     Before x zs = λ cells env env'. Has Any env (with_vars (beside_number x zs) env')
 
-    gave_tag : (k : ℕ) (env : Env) (d : ℕ) (w : World) → act_by (h it) c' true env (suc d) (unit (tag_and_zeros k)) w ≡ gives (words (tag 0 ∷ zero_data k)) w
+    gave_tag : (k : ℕ) (env : Env) (d : ℕ) (w : World) → act_by (h it) c' true env (suc d) (leaf (unit (tag_and_zeros k))) w ≡ gives (words (tag 0 ∷ zero_data k)) w
     unfolding act_by
     gave_tag k env d w =
         ap (λ o. need o w (λ x. require_if_checked true (fills (h it) env (tag_and_zeros k)) w (gives x w))) (value_stands (h it) env k)
         ∙ ap (λ b. require_if_checked true b w (gives (words (tag 0 ∷ zero_data k)) w)) (value_fills (h it) env k)
 
-    tag_alone : (x : VarId) (zs : List VarId) (y : Here plan (Before x zs)) → Alone it R (to.Vector (x ∷ zs)) (unit (tag_and_zeros (length zs))) y.env y.env' y.d' y.w.cells (beside y.b)
+    tag_alone : (x : VarId) (zs : List VarId) (y : Here plan (Before x zs)) → Alone it R (to.Vector (x ∷ zs)) (leaf (unit (tag_and_zeros (length zs)))) y.env y.env' y.d' y.w.cells (beside y.b)
     tag_alone x zs y = record {
       v' = words (tag 0 ∷ zero_data (length zs));
       bs' = beside_number x zs;
@@ -229,8 +229,8 @@ module _ (g : Program) (A : Solution) (M : Procedures) where
 
     vector_number : {U V : Value → Value → Type 0} (x y : VarId) (zs : List VarId) (o o' : Act) (b b' : Code) → x.0 ≢ y.0 → ActFollows it R U o o' → CodeFollows it R V b b'
         → ((s : Here plan R) (u : Given it R U (to.Vector (x ∷ y ∷ zs)) o s) → Number u.v u.v') → CodeFollows it R V (bind (to.Vector (x ∷ y ∷ zs)) o b) (boxed_vector (x ∷ y ∷ zs) o' b')
-    vector_number {U} {V} x y zs o o' b b' apart f k number' = bind_follows it (to.Vector (x ∷ y ∷ zs)) (to.One y) o o' b (bind (to.Vector (x ∷ zs)) (unit (tag_and_zeros (length zs))) b') f
-        (right_follows it (to.Vector (x ∷ zs)) (unit (tag_and_zeros (length zs))) b b' k (tag_alone x zs)) (λ s u. binds s u (number' s u))
+    vector_number {U} {V} x y zs o o' b b' apart f k number' = bind_follows it (to.Vector (x ∷ y ∷ zs)) (to.One y) o o' b (bind (to.Vector (x ∷ zs)) (leaf (unit (tag_and_zeros (length zs)))) b') f
+        (right_follows it (to.Vector (x ∷ zs)) (leaf (unit (tag_and_zeros (length zs)))) b b' k (tag_alone x zs)) (λ s u. binds s u (number' s u))
       where
         binds : (s : Here plan R) (u : Given it R U (to.Vector (x ∷ y ∷ zs)) o s) → Number u.v u.v' → BindsToo it (Before x zs) (to.One y) o' s.env s.env' u.w.cells u.v' u.bs
         binds s u n =
@@ -260,19 +260,19 @@ module _ (g : Program) (A : Solution) (M : Procedures) where
     member_follows : {V : Value → Value → Type 0} (t : Target) (o : Act) (b b' : Code) → NoNodeTarget t → Once (target_vars t) → act_calls M o ≡ true → ActFollows it R Bare o (unbox_act M true o) → CodeFollows it R V b b'
         → CodeFollows it R V (bind t o b) (boxed t (unbox_act M true o) b')
     unfolding act_calls unbox_act
-    member_follows t (call q ws) b b' l n e f k = boxed_follows t (call q ws) (call q ws) b b' l n (call_as true q ws e) k (λ s u. u.values)
+    member_follows t (leaf (call q ws)) b b' l n e f k = boxed_follows t (leaf (call q ws)) (leaf (call q ws)) b b' l n (call_as true q ws e) k (λ s u. u.values)
     member_follows t (case v as') b b' l n e f k = boxed_follows t (case v as') (case v (unbox_arms M true as')) b b' l n f k (λ s u. bare_number g u.v u.v' u.values (and_left (is_given g u.v) _ (u.seen refl)))
     member_follows t (nested q) b b' l n e f k = boxed_follows t (nested q) (nested (unbox_code M true q)) b b' l n f k (λ s u. bare_number g u.v u.v' u.values (and_left (is_given g u.v) _ (u.seen refl)))
-    member_follows t (unit v) b b' l n e f k = cc
-    member_follows t (fetch a) b b' l n e f k = cc
-    member_follows t (fetch_word a i) b b' l n e f k = cc
-    member_follows t (update a v) b b' l n e f k = cc
-    member_follows t (eval a) b b' l n e f k = cc
-    member_follows t (apply v a) b b' l n e f k = cc
-    member_follows t (prim q x y) b b' l n e f k = cc
-    member_follows t read b b' l n e f k = cc
-    member_follows t (write a) b b' l n e f k = cc
-    member_follows t fail b b' l n e f k = cc
+    member_follows t (leaf (unit v)) b b' l n e f k = cc
+    member_follows t (leaf (fetch a)) b b' l n e f k = cc
+    member_follows t (leaf (fetch_word a i)) b b' l n e f k = cc
+    member_follows t (leaf (update a v)) b b' l n e f k = cc
+    member_follows t (leaf (eval a)) b b' l n e f k = cc
+    member_follows t (leaf (apply v a)) b b' l n e f k = cc
+    member_follows t (leaf (prim q x y)) b b' l n e f k = cc
+    member_follows t (leaf read) b b' l n e f k = cc
+    member_follows t (leaf (write a)) b b' l n e f k = cc
+    member_follows t (leaf fail) b b' l n e f k = cc
 
     bound_follows : {V : Value → Value → Type 0} (t : Target) (o : Act) (b b' : Code) (q : Bool) → act_calls M o ≡ q → (act_calls M o ≡ true → IntAct M A o) → NoNodeTarget t → Once (target_vars t)
         → ((q : Bool) → Ends q o → ActFollows it R (EndGives q) o (unbox_act M q o)) → CodeFollows it R V b b' → CodeFollows it R V (bind t o b) (bound q t (unbox_act M q o) b')
@@ -319,25 +319,25 @@ module _ (g : Program) (A : Solution) (M : Procedures) where
           → ActFollows it R (EndGives bare) o (unbox_act M bare o)
       act_like bare (case v as') l i u n k = case_like v as' (unbox_arms M bare as') (arms_like bare as' (case_ends bare v as' l) i.2 u.2 n k)
       act_like bare (nested b) l i u n k = nested_follows it b (unbox_code M bare b) (code_like bare b (nested_ends bare b l) i.1 u.1 n k)
-      act_like true (unit v) l i u n k = unit_bare v l
-      act_like false (unit v) l i u n k = silent (unit v) tt
-      act_like true (call f ws) l i u n k = call_bare f ws l
-      act_like false (call f ws) l i u n k = call_as false f ws l
-      act_like bare fail l i u n k = fail_follows it
-      act_like bare (eval a) l i u n k = absurd i
-      act_like bare (apply v a) l i u n k = absurd i.0
-      act_like true (fetch a) l i u n k = absurd l
-      act_like true (fetch_word a j) l i u n k = absurd l
-      act_like true (update a v) l i u n k = absurd l
-      act_like true (prim q a b) l i u n k = absurd l
-      act_like true read l i u n k = absurd l
-      act_like true (write a) l i u n k = absurd l
-      act_like false (fetch a) l i u n k = silent (fetch a) tt
-      act_like false (fetch_word a j) l i u n k = silent (fetch_word a j) tt
-      act_like false (update a v) l i u n k = silent (update a v) tt
-      act_like false (prim q a b) l i u n k = silent (prim q a b) tt
-      act_like false read l i u n k = silent read tt
-      act_like false (write a) l i u n k = silent (write a) tt
+      act_like true (leaf (unit v)) l i u n k = unit_bare v l
+      act_like false (leaf (unit v)) l i u n k = silent (leaf (unit v)) tt
+      act_like true (leaf (call f ws)) l i u n k = call_bare f ws l
+      act_like false (leaf (call f ws)) l i u n k = call_as false f ws l
+      act_like bare (leaf fail) l i u n k = fail_follows it
+      act_like bare (leaf (eval a)) l i u n k = absurd i
+      act_like bare (leaf (apply v a)) l i u n k = absurd i.0
+      act_like true (leaf (fetch a)) l i u n k = absurd l
+      act_like true (leaf (fetch_word a j)) l i u n k = absurd l
+      act_like true (leaf (update a v)) l i u n k = absurd l
+      act_like true (leaf (prim q a b)) l i u n k = absurd l
+      act_like true (leaf read) l i u n k = absurd l
+      act_like true (leaf (write a)) l i u n k = absurd l
+      act_like false (leaf (fetch a)) l i u n k = silent (leaf (fetch a)) tt
+      act_like false (leaf (fetch_word a j)) l i u n k = silent (leaf (fetch_word a j)) tt
+      act_like false (leaf (update a v)) l i u n k = silent (leaf (update a v)) tt
+      act_like false (leaf (prim q a b)) l i u n k = silent (leaf (prim q a b)) tt
+      act_like false (leaf read) l i u n k = silent (leaf read) tt
+      act_like false (leaf (write a)) l i u n k = silent (leaf (write a)) tt
 
       code_like : (bare : Bool) (b : Code) → CodeEnds bare b → EachCode inlined_kind b → EachCode vectorised_kind b → Once (code_vars b) → CodeClosed A M b
           → CodeFollows it R (EndGives bare) b (unbox_code M bare b)

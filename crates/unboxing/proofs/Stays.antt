@@ -2,7 +2,7 @@
 use Rattle.std.proofs.Common.{◌≡◌, Bool, true, false, ◌||◌, [], ◌∷◌, ◌++◌, map, refl, ap, ◌∙◌}
 use Rattle.grin_syntax.specs.declared.program.Target.{Target}
 use Rattle.grin_syntax.specs.declared.program.Target.TheVariants as to
-use Rattle.grin_syntax.specs.Tree.{Code, end, store, bind, Act, unit, fetch, fetch_word, update, eval, apply, call, prim, read, write, case, nested, fail, Arms, no_arm, arm}
+use Rattle.grin_syntax.specs.Tree.{Code, end, store, bind, Act, leaf, unit, fetch, fetch_word, update, eval, apply, call, prim, read, write, case, nested, fail, Arms, no_arm, arm}
 use Rattle.grin_syntax.specs.Binders.{act_sites, code_sites, arms_sites}
 use Rattle.unboxing.specs.Ends.{Procedures, act_calls, code_calls, arms_calls}
 use Rattle.unboxing.specs.Unboxing.{bound, unbox_act, unbox_code, unbox_arms}
@@ -44,17 +44,17 @@ module _ (M : Procedures) where
     pub act_stays : (bare : Bool) (o : Act) → ActStays o (unbox_act M bare o)
     act_stays bare (case v as') = let h = arms_stay bare as' in record { sites = h.sites; updates = h.updates; calls = h.calls }
     act_stays bare (nested b) = let h = code_stays bare b in record { sites = h.sites; updates = h.updates; calls = h.calls }
-    act_stays bare (unit v) = record { sites = refl; updates = refl; calls = refl }
-    act_stays bare (update a v) = same _
-    act_stays bare (fetch a) = same _
-    act_stays bare (fetch_word a i) = same _
-    act_stays bare (eval a) = same _
-    act_stays bare (apply v a) = same _
-    act_stays bare (call f ws) = same _
-    act_stays bare (prim f a b) = same _
-    act_stays bare read = same _
-    act_stays bare (write a) = same _
-    act_stays bare fail = same _
+    act_stays bare (leaf (unit v)) = record { sites = refl; updates = refl; calls = refl }
+    act_stays bare (leaf (update a v)) = same _
+    act_stays bare (leaf (fetch a)) = same _
+    act_stays bare (leaf (fetch_word a i)) = same _
+    act_stays bare (leaf (eval a)) = same _
+    act_stays bare (leaf (apply v a)) = same _
+    act_stays bare (leaf (call f ws)) = same _
+    act_stays bare (leaf (prim f a b)) = same _
+    act_stays bare (leaf read) = same _
+    act_stays bare (leaf (write a)) = same _
+    act_stays bare (leaf fail) = same _
 
     pub code_stays : (bare : Bool) (b : Code) → CodeStays b (unbox_code M bare b)
     code_stays bare (end o) = let h = act_stays bare o in record { sites = h.sites; updates = h.updates; calls = h.calls }

@@ -5,7 +5,7 @@ use Rattle.grin_syntax.specs.declared.program.Word as W
 use Rattle.grin_syntax.specs.declared.program.Word.TheVariants.{Lit, Var, Global, TagWord}
 use Rattle.grin_syntax.specs.declared.program.Val as V
 use Rattle.grin_syntax.specs.declared.program.Val.TheVariants.{NodeVar, Node, Vector, One}
-use Rattle.grin_syntax.specs.Tree.{Code, end, store, bind, Act, unit, call, case, nested, fail, Arms, no_arm, arm}
+use Rattle.grin_syntax.specs.Tree.{Code, end, store, bind, Act, leaf, unit, call, case, nested, fail, Arms, no_arm, arm}
 use Rattle.flow_system.specs.declared.fact.Element.{Element}
 use Rattle.flow_system.specs.declared.fact.Element.TheVariants.{Tag as tag}
 use Rattle.flow_system.specs.declared.fact.Place.TheVariants.{Var as var, Result as result}
@@ -51,7 +51,7 @@ module _ (S : Procedures) where
   unfoldable mutual
     -- whether one of the ends calls a procedure of the set
     pub act_calls : Act → Bool
-    act_calls (call f ws) = S f.0
+    act_calls (leaf (call f ws)) = S f.0
     act_calls (case v as') = arms_calls as'
     act_calls (nested b) = code_calls b
     act_calls _ = false
@@ -69,11 +69,11 @@ module _ (S : Procedures) where
     unfoldable mutual
       -- each end calls a procedure of the set, gives the tag CInt and no other, or fails
       pub IntAct : Act → Type 0
-      IntAct (unit v) = is_int A v ≡ true
-      IntAct (call f ws) = S f.0 ≡ true
+      IntAct (leaf (unit v)) = is_int A v ≡ true
+      IntAct (leaf (call f ws)) = S f.0 ≡ true
       IntAct (case v as') = IntArms as'
       IntAct (nested b) = IntCode b
-      IntAct fail = Unit {0}
+      IntAct (leaf fail) = Unit {0}
       IntAct _ = ⊥
 
       pub IntCode : Code → Type 0

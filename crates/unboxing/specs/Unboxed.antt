@@ -3,7 +3,7 @@ use Rattle.std.specs.Prelude.{ℕ, suc, ◌≡◌, true, List, [], ◌∷◌, �
 use Rattle.grin_syntax.specs.declared.program.Val as V
 use Rattle.grin_syntax.specs.declared.program.Val.TheVariants.{One}
 use Rattle.grin_syntax.specs.declared.program.Word.{Word}
-use Rattle.grin_syntax.specs.Tree.{Code, end, store, bind, Act, unit, update, call, case, nested, fail, Arms, no_arm, arm, Procedure, Program}
+use Rattle.grin_syntax.specs.Tree.{Code, end, store, bind, Act, leaf, unit, update, call, case, nested, fail, Arms, no_arm, arm, Procedure, Program}
 use Rattle.flow_system.specs.Tables.{tables}
 use Rattle.flow_system.specs.System.{system}
 use Rattle.flow_system.specs.Solution.{Solution, IsLeast}
@@ -22,11 +22,11 @@ module _ (S : Procedures) where
   unfoldable mutual
     -- each end gives one word
     pub OneWordAct : Act → Type 0
-    OneWordAct (unit v) = IsOneWord v
-    OneWordAct (call f ws) = S f.0 ≡ true
+    OneWordAct (leaf (unit v)) = IsOneWord v
+    OneWordAct (leaf (call f ws)) = S f.0 ≡ true
     OneWordAct (case v as') = OneWordArms as'
     OneWordAct (nested b) = OneWordCode b
-    OneWordAct fail = Unit {0}
+    OneWordAct (leaf fail) = Unit {0}
     OneWordAct _ = ⊥
 
     pub OneWordCode : Code → Type 0
@@ -65,7 +65,7 @@ module _ (S : Procedures) where
 unfoldable mutual
   -- the updates of a piece
   pub act_updates : Act → List (Word × V.Val)
-  act_updates (update a v) = (a, v) ∷ []
+  act_updates (leaf (update a v)) = (a, v) ∷ []
   act_updates (case v as') = arms_updates as'
   act_updates (nested b) = code_updates b
   act_updates _ = []

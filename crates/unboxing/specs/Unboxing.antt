@@ -9,7 +9,7 @@ use Rattle.grin_syntax.specs.declared.program.Target as T
 use Rattle.grin_syntax.specs.declared.program.Target.TheVariants as to
 use Rattle.grin_syntax.specs.declared.program.Shape.{Shape}
 use Rattle.grin_syntax.specs.Tags.{tag_id}
-use Rattle.grin_syntax.specs.Tree.{Code, end, store, bind, Act, unit, fetch, fetch_word, update, eval, apply, call, prim, read, write, case, nested, fail, Arms, no_arm, arm, Procedure, Program}
+use Rattle.grin_syntax.specs.Tree.{Code, end, store, bind, Act, Leaf, leaf, unit, fetch, fetch_word, update, eval, apply, call, prim, read, write, case, nested, fail, Arms, no_arm, arm, Procedure, Program}
 use Rattle.unboxing.specs.Ends.{Procedures, act_calls}
 
 -- ---- the number of a value
@@ -47,7 +47,7 @@ without_second xs = xs
 -- a number goes to the second variable of a vector. Nothing else can take it in a run
 abbrev pub boxed_vector : List VarId → Act → Code → Code
 boxed_vector (x ∷ y ∷ zs) o b =
-    bind (to.One y) o (bind (to.Vector (x ∷ zs)) (unit (tag_and_zeros (length zs))) b)
+    bind (to.One y) o (bind (to.Vector (x ∷ zs)) (leaf (unit (tag_and_zeros (length zs)))) b)
 boxed_vector xs o b = bind (to.Vector xs) o b
 
 abbrev pub boxed : T.Target → Act → Code → Code
@@ -61,22 +61,17 @@ bound bare t o b = cond bare (boxed t o b) (bind t o b)
 
 -- with a set of members
 module _ (S : Procedures) where
+  -- an operation without a block: what it gives
+  abbrev pub unbox_leaf : Bool → Leaf → Leaf
+  unbox_leaf bare (unit v) = unit (given bare v)
+  unbox_leaf bare o = o
+
   unfoldable mutual
     -- whose ends give the number alone or as it was
     pub unbox_act : Bool → Act → Act
-    unbox_act bare (unit v) = unit (given bare v)
-    unbox_act bare (fetch a) = fetch a
-    unbox_act bare (fetch_word a i) = fetch_word a i
-    unbox_act bare (update a v) = update a v
-    unbox_act bare (eval a) = eval a
-    unbox_act bare (apply v a) = apply v a
-    unbox_act bare (call f ws) = call f ws
-    unbox_act bare (prim p a b) = prim p a b
-    unbox_act bare read = read
-    unbox_act bare (write a) = write a
+    unbox_act bare (leaf o) = leaf (unbox_leaf bare o)
     unbox_act bare (case v as') = case v (unbox_arms bare as')
     unbox_act bare (nested b) = nested (unbox_code bare b)
-    unbox_act bare fail = fail
 
     pub unbox_code : Bool → Code → Code
     unbox_code bare (end o) = end (unbox_act bare o)

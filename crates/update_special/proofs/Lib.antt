@@ -1,7 +1,4 @@
 pub mod Listed
 pub mod Loops
-pub mod Simulated
-pub mod Gives
-pub mod Step
-pub mod Formed
+pub mod Special
 pub mod Contract

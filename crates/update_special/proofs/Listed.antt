@@ -13,7 +13,7 @@ use Rattle.flow_system.specs.declared.fact.Element.TheVariants.{Tag as tag}
 use Rattle.flow_system.specs.declared.fact.Place.TheVariants.{Var as var}
 use Rattle.flow_system.specs.declared.fact.Part.TheVariants.{Tags as tags, Word as word}
 use Rattle.flow_system.specs.Solution.{Solution, At}
-use Rattle.points_to.specs.Held.{In, there}
+use Rattle.points_to.specs.Held.{In}
 use Rattle.update_special.specs.Updates.{may_have_tag, tags_of}
 
 -- what is asked of each tag that is listed

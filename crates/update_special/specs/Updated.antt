@@ -1,7 +1,7 @@
 -- What the pass makes of a program.
 use Rattle.std.specs.Prelude.{ℕ, ◌≡◌, ◌<◌, ◌≤◌, cond, nat_le, List, length, Option, Some, None, IfSome}
 use Rattle.grin_syntax.specs.declared.program.VarId.{VarId}
-use Rattle.grin_syntax.specs.Tree.{Act, update, Program}
+use Rattle.grin_syntax.specs.Tree.{Act, leaf, update, Program}
 use Rattle.grin_meaning.specs.Ready.{PieceKind, any_kind, EveryBodyIsOfKind}
 use Rattle.flow_system.specs.Tables.{tables}
 use Rattle.flow_system.specs.System.{system}
@@ -15,7 +15,7 @@ use Rattle.update_special.specs.Updates.{max_case_tags, tags_of, updated}
 -- with the tags of each variable: where the tag of an update is a variable, this may be one of more
 -- than eight
 abbrev pub TagIsLiteralOrMany : (ℕ → List ℕ) → Act → Type 0
-TagIsLiteralOrMany T (update a v) = IfSome (tag_variable v) (λ x. max_case_tags < length (T x.0))
+TagIsLiteralOrMany T (leaf (update a v)) = IfSome (tag_variable v) (λ x. max_case_tags < length (T x.0))
 TagIsLiteralOrMany T _ = Unit {0}
 
 abbrev pub literal_kind : (ℕ → List ℕ) → PieceKind

@@ -10,10 +10,10 @@ ghost use Rattle.update_special.specs.Updated.{Updated, MadeByLeastSolution};
 
 use crate::blocks::Tags;
 use grin_meaning::Pass;
-use grin_syntax::{Grin, Proc};
+use grin_rewrite::rewrite;
+use grin_syntax::Grin;
 use least_flow::least;
 use points_to::Flow;
-use seq::Seq;
 use std::alloc::{AllocError, Global};
 
 /// An update that puts a vector into a cell whose tag is a variable becomes a case over the tags
@@ -49,10 +49,6 @@ fn with_cases(alloc: Global, g: Grin, flow: &Flow) -> Result<Grin, AllocError>
         count: g.tags.len(),
         flow,
     };
-    let mut procs = Seq::new(alloc);
-    for proc in g.procs.into_vec() {
-        let body = tags.block(alloc, proc.body)?;
-        procs.push(Proc { body, ..proc })?;
-    }
-    Ok(Grin { procs, ..g })
+    let h = rewrite(alloc, &tags, g)?;
+    Ok(h)
 }

@@ -9,7 +9,7 @@ use Rattle.grin_syntax.specs.declared.program.Shape.TheVariants as shape
 use Rattle.grin_syntax.specs.declared.program.Word.TheVariants.{Var}
 use Rattle.grin_syntax.specs.declared.program.Val as V
 use Rattle.grin_syntax.specs.declared.program.Val.TheVariants.{NodeVar, Node, Vector, One}
-use Rattle.grin_syntax.specs.Tree.{Code, end, store, bind, Act, unit, fetch, fetch_word, update, eval, apply, call, prim, read, write, case, nested, fail, Arms, no_arm, arm, Procedure}
+use Rattle.grin_syntax.specs.Tree.{Code, end, store, bind, Act, leaf, unit, fetch, fetch_word, update, eval, apply, call, prim, read, write, case, nested, fail, Arms, no_arm, arm, Procedure}
 use Rattle.grin_syntax.specs.Binders.{shape_vars, code_sites, act_sites, arms_sites, procs_sites}
 use Rattle.grin_syntax.specs.Formed.{AllOf}
 use Rattle.grin_syntax.specs.Fresh.{variables}
@@ -59,17 +59,17 @@ module _ (l : Layout) (k : Table) where
     act_gone : (o : Act) → EachAct vectorised_kind (wide_act l k o)
     act_gone (case v as') = (tt, val_gone v, arms_gone as')
     act_gone (nested b) = (tt, code_gone b)
-    act_gone (unit v) = (tt, given_gone v)
-    act_gone (fetch a) = tt
-    act_gone (fetch_word a i) = tt
-    act_gone (update a v) = (tt, val_gone v)
-    act_gone (eval a) = tt
-    act_gone (apply v a) = (tt, val_gone v)
-    act_gone (call f ws) = tt
-    act_gone (prim f a b) = tt
-    act_gone read = tt
-    act_gone (write a) = tt
-    act_gone fail = tt
+    act_gone (leaf (unit v)) = (tt, given_gone v)
+    act_gone (leaf (fetch a)) = tt
+    act_gone (leaf (fetch_word a i)) = tt
+    act_gone (leaf (update a v)) = (tt, val_gone v)
+    act_gone (leaf (eval a)) = tt
+    act_gone (leaf (apply v a)) = (tt, val_gone v)
+    act_gone (leaf (call f ws)) = tt
+    act_gone (leaf (prim f a b)) = tt
+    act_gone (leaf read) = tt
+    act_gone (leaf (write a)) = tt
+    act_gone (leaf fail) = tt
 
     code_gone : (b : Code) → EachCode vectorised_kind (wide_code l k b)
     code_gone (end o) = act_gone o
@@ -99,17 +99,17 @@ module _ (l : Layout) (k : Table) where
     act_inlined : (o : Act) → EachAct inlined_kind o → EachAct inlined_kind (wide_act l k o)
     act_inlined (case v as') h = (tt, tt, arms_inlined as' h.2)
     act_inlined (nested b) h = (tt, code_inlined b h.1)
-    act_inlined (unit v) h = (tt, tt)
-    act_inlined (fetch a) h = tt
-    act_inlined (fetch_word a i) h = tt
-    act_inlined (update a v) h = (tt, tt)
-    act_inlined (eval a) h = absurd h
-    act_inlined (apply v a) h = absurd h.0
-    act_inlined (call f ws) h = tt
-    act_inlined (prim f a b) h = tt
-    act_inlined read h = tt
-    act_inlined (write a) h = tt
-    act_inlined fail h = tt
+    act_inlined (leaf (unit v)) h = (tt, tt)
+    act_inlined (leaf (fetch a)) h = tt
+    act_inlined (leaf (fetch_word a i)) h = tt
+    act_inlined (leaf (update a v)) h = (tt, tt)
+    act_inlined (leaf (eval a)) h = absurd h
+    act_inlined (leaf (apply v a)) h = absurd h.0
+    act_inlined (leaf (call f ws)) h = tt
+    act_inlined (leaf (prim f a b)) h = tt
+    act_inlined (leaf read) h = tt
+    act_inlined (leaf (write a)) h = tt
+    act_inlined (leaf fail) h = tt
 
     code_inlined : (b : Code) → EachCode inlined_kind b → EachCode inlined_kind (wide_code l k b)
     code_inlined (end o) h = act_inlined o h
@@ -138,17 +138,17 @@ module _ (l : Layout) (k : Table) where
     act_narrow : (most : ℕ) (o : Act) → NarrowAct (1 + l.most_value) most o → NarrowAct (1 + l.most_value) most (wide_act l k o)
     act_narrow most (case v as') h = arms_narrow most as' h
     act_narrow most (nested b) h = code_narrow most b h
-    act_narrow most (unit v) h = let n : val_width (1 + l.most_value) (returned_val l k v) ≤ val_width (1 + l.most_value) v = given_narrow v in omega (arith, h, n)
-    act_narrow most (fetch a) h = h
-    act_narrow most (fetch_word a i) h = tt
-    act_narrow most (update a v) h = tt
-    act_narrow most (eval a) h = tt
-    act_narrow most (apply v a) h = tt
-    act_narrow most (call f ws) h = tt
-    act_narrow most (prim f a b) h = tt
-    act_narrow most read h = tt
-    act_narrow most (write a) h = tt
-    act_narrow most fail h = tt
+    act_narrow most (leaf (unit v)) h = let n : val_width (1 + l.most_value) (returned_val l k v) ≤ val_width (1 + l.most_value) v = given_narrow v in omega (arith, h, n)
+    act_narrow most (leaf (fetch a)) h = h
+    act_narrow most (leaf (fetch_word a i)) h = tt
+    act_narrow most (leaf (update a v)) h = tt
+    act_narrow most (leaf (eval a)) h = tt
+    act_narrow most (leaf (apply v a)) h = tt
+    act_narrow most (leaf (call f ws)) h = tt
+    act_narrow most (leaf (prim f a b)) h = tt
+    act_narrow most (leaf read) h = tt
+    act_narrow most (leaf (write a)) h = tt
+    act_narrow most (leaf fail) h = tt
 
     code_narrow : (most : ℕ) (b : Code) → NarrowCode (1 + l.most_value) most b → NarrowCode (1 + l.most_value) most (wide_code l k b)
     code_narrow most (end o) h = act_narrow most o h
@@ -179,17 +179,7 @@ module _ (l : Layout) (k : Table) where
     act_sites_stay : (o : Act) → act_sites (wide_act l k o) ≡ act_sites o
     act_sites_stay (case v as') = arms_sites_stay as'
     act_sites_stay (nested b) = code_sites_stay b
-    act_sites_stay (unit v) = refl
-    act_sites_stay (fetch a) = refl
-    act_sites_stay (fetch_word a i) = refl
-    act_sites_stay (update a v) = refl
-    act_sites_stay (eval a) = refl
-    act_sites_stay (apply v a) = refl
-    act_sites_stay (call f ws) = refl
-    act_sites_stay (prim f a b) = refl
-    act_sites_stay read = refl
-    act_sites_stay (write a) = refl
-    act_sites_stay fail = refl
+    act_sites_stay (leaf l) = refl
 
     code_sites_stay : (b : Code) → code_sites (wide_code l k b) ≡ code_sites b
     code_sites_stay (end o) = act_sites_stay o
@@ -223,17 +213,7 @@ module _ (l : Layout) (k : Table) where
     act_widths : (o : Act) → ActWidths l.most l.most_value o (wide_act l k o)
     act_widths (case v as') = arms_widths as'
     act_widths (nested b) = code_widths b
-    act_widths (unit v) = tt
-    act_widths (fetch a) = tt
-    act_widths (fetch_word a i) = tt
-    act_widths (update a v) = tt
-    act_widths (eval a) = tt
-    act_widths (apply v a) = tt
-    act_widths (call f ws) = tt
-    act_widths (prim f a b) = tt
-    act_widths read = tt
-    act_widths (write a) = tt
-    act_widths fail = tt
+    act_widths (leaf l) = tt
 
     code_widths : (b : Code) → CodeWidths l.most l.most_value b (wide_code l k b)
     code_widths (end o) = act_widths o
@@ -286,17 +266,17 @@ module _ (l : Layout) (k : Table) where
       act_light : (o : Act) → act_weight (wide_act l k o) ≤ act_weight o
       act_light (case v as') = let h : val_weight (wide_val l k v) ≤ val_weight v = val_light v in let r : arms_weight (wide_arms l k as') ≤ arms_weight as' = arms_light as' in omega (arith, h, r)
       act_light (nested b) = let r : code_weight (wide_code l k b) ≤ code_weight b = code_light b in omega (arith, r)
-      act_light (unit v) = let h : val_weight (returned_val l k v) ≤ val_weight v = given_light v in omega (arith, h)
-      act_light (fetch a) = omega arith
-      act_light (fetch_word a i) = omega arith
-      act_light (update a v) = let h : val_weight (wide_val l k v) ≤ val_weight v = val_light v in omega (arith, h)
-      act_light (eval a) = omega arith
-      act_light (apply v a) = let h : val_weight (wide_val l k v) ≤ val_weight v = val_light v in omega (arith, h)
-      act_light (call f ws) = let h : length (as_words k ws) ≡ length ws = length_map _ ws in omega (arith, h)
-      act_light (prim f a b) = omega arith
-      act_light read = omega arith
-      act_light (write a) = omega arith
-      act_light fail = omega arith
+      act_light (leaf (unit v)) = let h : val_weight (returned_val l k v) ≤ val_weight v = given_light v in omega (arith, h)
+      act_light (leaf (fetch a)) = omega arith
+      act_light (leaf (fetch_word a i)) = omega arith
+      act_light (leaf (update a v)) = let h : val_weight (wide_val l k v) ≤ val_weight v = val_light v in omega (arith, h)
+      act_light (leaf (eval a)) = omega arith
+      act_light (leaf (apply v a)) = let h : val_weight (wide_val l k v) ≤ val_weight v = val_light v in omega (arith, h)
+      act_light (leaf (call f ws)) = let h : length (as_words k ws) ≡ length ws = length_map _ ws in omega (arith, h)
+      act_light (leaf (prim f a b)) = omega arith
+      act_light (leaf read) = omega arith
+      act_light (leaf (write a)) = omega arith
+      act_light (leaf fail) = omega arith
 
       code_light : (b : Code) → code_weight (wide_code l k b) ≤ code_weight b
       code_light (end o) = act_light o
@@ -325,17 +305,17 @@ module _ (l : Layout) (k : Table) where
       calls_in_act : (o : Act) → act_calls (wide_act l k o) ≡ act_calls o
       calls_in_act (case v as') = calls_in_arms as'
       calls_in_act (nested b) = calls_in_code b
-      calls_in_act (unit v) = refl
-      calls_in_act (fetch a) = refl
-      calls_in_act (fetch_word a i) = refl
-      calls_in_act (update a v) = refl
-      calls_in_act (eval a) = refl
-      calls_in_act (apply v a) = refl
-      calls_in_act (call f ws) = refl
-      calls_in_act (prim f a b) = refl
-      calls_in_act read = refl
-      calls_in_act (write a) = refl
-      calls_in_act fail = refl
+      calls_in_act (leaf (unit v)) = refl
+      calls_in_act (leaf (fetch a)) = refl
+      calls_in_act (leaf (fetch_word a i)) = refl
+      calls_in_act (leaf (update a v)) = refl
+      calls_in_act (leaf (eval a)) = refl
+      calls_in_act (leaf (apply v a)) = refl
+      calls_in_act (leaf (call f ws)) = refl
+      calls_in_act (leaf (prim f a b)) = refl
+      calls_in_act (leaf read) = refl
+      calls_in_act (leaf (write a)) = refl
+      calls_in_act (leaf fail) = refl
 
       calls_in_code : (b : Code) → code_calls (wide_code l k b) ≡ code_calls b
       calls_in_code (end o) = calls_in_act o
@@ -354,33 +334,33 @@ module _ (l : Layout) (k : Table) where
     unfolding wide_act
     nodes_stay (case v as') = refl
     nodes_stay (nested b) = refl
-    nodes_stay (unit v) = refl
-    nodes_stay (fetch a) = refl
-    nodes_stay (fetch_word a i) = refl
-    nodes_stay (update a v) = refl
-    nodes_stay (eval a) = refl
-    nodes_stay (apply v a) = refl
-    nodes_stay (call f ws) = refl
-    nodes_stay (prim f a b) = refl
-    nodes_stay read = refl
-    nodes_stay (write a) = refl
-    nodes_stay fail = refl
+    nodes_stay (leaf (unit v)) = refl
+    nodes_stay (leaf (fetch a)) = refl
+    nodes_stay (leaf (fetch_word a i)) = refl
+    nodes_stay (leaf (update a v)) = refl
+    nodes_stay (leaf (eval a)) = refl
+    nodes_stay (leaf (apply v a)) = refl
+    nodes_stay (leaf (call f ws)) = refl
+    nodes_stay (leaf (prim f a b)) = refl
+    nodes_stay (leaf read) = refl
+    nodes_stay (leaf (write a)) = refl
+    nodes_stay (leaf fail) = refl
 
     ends_stay : (o : Act) → end_words (wide_act l k o) ≡ end_words o
     unfolding wide_act
     ends_stay (case v as') = refl
     ends_stay (nested b) = refl
-    ends_stay (unit v) = refl
-    ends_stay (fetch a) = refl
-    ends_stay (fetch_word a i) = refl
-    ends_stay (update a v) = refl
-    ends_stay (eval a) = refl
-    ends_stay (apply v a) = refl
-    ends_stay (call f ws) = refl
-    ends_stay (prim f a b) = refl
-    ends_stay read = refl
-    ends_stay (write a) = refl
-    ends_stay fail = refl
+    ends_stay (leaf (unit v)) = refl
+    ends_stay (leaf (fetch a)) = refl
+    ends_stay (leaf (fetch_word a i)) = refl
+    ends_stay (leaf (update a v)) = refl
+    ends_stay (leaf (eval a)) = refl
+    ends_stay (leaf (apply v a)) = refl
+    ends_stay (leaf (call f ws)) = refl
+    ends_stay (leaf (prim f a b)) = refl
+    ends_stay (leaf read) = refl
+    ends_stay (leaf (write a)) = refl
+    ends_stay (leaf fail) = refl
 
     mutual
       unfolding wide_act inner_words
@@ -388,17 +368,7 @@ module _ (l : Layout) (k : Table) where
       words_in_act : (o : Act) → inner_words (wide_act l k o) ≤ inner_words o
       words_in_act (case v as') = words_in_arms as'
       words_in_act (nested b) = words_in_code b
-      words_in_act (unit v) = omega arith
-      words_in_act (fetch a) = omega arith
-      words_in_act (fetch_word a i) = omega arith
-      words_in_act (update a v) = omega arith
-      words_in_act (eval a) = omega arith
-      words_in_act (apply v a) = omega arith
-      words_in_act (call f ws) = omega arith
-      words_in_act (prim f a b) = omega arith
-      words_in_act read = omega arith
-      words_in_act (write a) = omega arith
-      words_in_act fail = omega arith
+      words_in_act (leaf l) = omega arith
 
       words_in_code : (b : Code) → code_words (wide_code l k b) ≤ code_words b
       words_in_code (end o) = let e : end_words (wide_act l k o) ≡ end_words o = ends_stay o in let h : inner_words (wide_act l k o) ≤ inner_words o = words_in_act o in omega (arith, e, h)

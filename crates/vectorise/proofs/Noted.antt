@@ -11,7 +11,7 @@ use Rattle.grin_syntax.specs.declared.program.Word as W
 use Rattle.grin_syntax.specs.declared.program.Word.TheVariants.{Lit, Var, Global, TagWord}
 use Rattle.grin_syntax.specs.declared.program.Val as V
 use Rattle.grin_syntax.specs.declared.program.Val.TheVariants.{NodeVar, Node, Vector, One}
-use Rattle.grin_syntax.specs.Tree.{Code, end, store, bind, Act, unit, fetch, fetch_word, update, eval, apply, call, prim, read, write, case, nested, fail, Arms, no_arm, arm, Procedure, Program}
+use Rattle.grin_syntax.specs.Tree.{Code, end, store, bind, Act, leaf, unit, fetch, fetch_word, update, eval, apply, call, prim, read, write, case, nested, fail, Arms, no_arm, arm, Procedure, Program}
 use Rattle.grin_syntax.specs.Binders.{numbers_of, target_vars, shape_vars, cell_vars, act_vars, code_vars, arms_vars, procs_vars}
 use Rattle.grin_syntax.specs.Formed.{AllOf, Scope, with_word_variables, with_target, params_scope, WordFormed, ValFormed, ActFormed, CodeFormed, ArmsFormed, ProcedureFormed, Formed}
 use Rattle.grin_syntax.specs.Fresh.{variables, past_procs}
@@ -168,17 +168,7 @@ module _ (l : Layout) where
     act_leaves : (o : Act) (k : Table) (y : ℕ) → times y (act_vars o) ≡ 0 → slice_get (noted_act l o k) y ≡ slice_get k y
     act_leaves (case v as') k y h = arms_leave (field_words l k v) as' k y h
     act_leaves (nested b) k y h = code_leaves b k y h
-    act_leaves (unit v) k y h = refl
-    act_leaves (fetch a) k y h = refl
-    act_leaves (fetch_word a i) k y h = refl
-    act_leaves (update a v) k y h = refl
-    act_leaves (eval a) k y h = refl
-    act_leaves (apply v a) k y h = refl
-    act_leaves (call f ws) k y h = refl
-    act_leaves (prim f a b) k y h = refl
-    act_leaves read k y h = refl
-    act_leaves (write a) k y h = refl
-    act_leaves fail k y h = refl
+    act_leaves (leaf l) k y h = refl
 
     code_leaves : (b : Code) (k : Table) (y : ℕ) → times y (code_vars b) ≡ 0 → slice_get (noted_code l b k) y ≡ slice_get k y
     code_leaves (end o) k y h = act_leaves o k y h
@@ -309,17 +299,7 @@ module _ (l : Layout) where
         act_known : (o : Act) (scope : Scope) (k : Table) → ActFormed p scope o → Once scope (act_vars o) → OnScope scope k → Clean (act_vars o) k → On (act_vars o) (noted_act l o k) → ActKnown o
         act_known (case v as') scope k f once sc clean on = subst (λ ws. ArmsKnown ws as') (fields_same p scope k v sc f.0) (arms_known (field_words l k v) as' scope k f.1 once sc clean on)
         act_known (nested b) scope k f once sc clean on = code_known b scope k f once sc clean on
-        act_known (unit v) scope k f once sc clean on = tt
-        act_known (fetch a) scope k f once sc clean on = tt
-        act_known (fetch_word a i) scope k f once sc clean on = tt
-        act_known (update a v) scope k f once sc clean on = tt
-        act_known (eval a) scope k f once sc clean on = tt
-        act_known (apply v a) scope k f once sc clean on = tt
-        act_known (call q ws) scope k f once sc clean on = tt
-        act_known (prim q a b) scope k f once sc clean on = tt
-        act_known read scope k f once sc clean on = tt
-        act_known (write a) scope k f once sc clean on = tt
-        act_known fail scope k f once sc clean on = tt
+        act_known (leaf l) scope k f once sc clean on = tt
 
         code_known : (b : Code) (scope : Scope) (k : Table) → CodeFormed p scope b → Once scope (code_vars b) → OnScope scope k → Clean (code_vars b) k → On (code_vars b) (noted_code l b k) → CodeKnown b
         code_known (end o) scope k f once sc clean on = act_known o scope k f once sc clean on

@@ -14,7 +14,7 @@ use Rattle.grin_syntax.specs.declared.program.Word as W
 use Rattle.grin_syntax.specs.declared.program.Word.TheVariants.{Lit, Var, Global, TagWord}
 use Rattle.grin_syntax.specs.declared.program.Val as V
 use Rattle.grin_syntax.specs.declared.program.Val.TheVariants.{NodeVar, Node, Vector, One}
-use Rattle.grin_syntax.specs.Tree.{Code, end, store, bind, Act, unit, fetch, fetch_word, update, eval, apply, call, prim, read, write, case, nested, fail, Arms, no_arm, arm, Procedure, Program}
+use Rattle.grin_syntax.specs.Tree.{Code, end, store, bind, Act, leaf, unit, fetch, fetch_word, update, eval, apply, call, prim, read, write, case, nested, fail, Arms, no_arm, arm, Procedure, Program}
 use Rattle.grin_syntax.specs.Binders.{numbers_of, target_vars, shape_vars, cell_vars, act_vars, code_vars, arms_vars}
 use Rattle.grin_syntax.specs.Formed.{AllOf, Scope, InScope, with_word_variables, with_target, params_scope, WordFormed, ValFormed, CellFormed, ShapeFormed, ActFormed, CodeFormed, ArmsFormed}
 use Rattle.grin_syntax.specs.Fresh.{variables, past_vars, past_target, past_cells, past_act, past_code, past_arms}
@@ -140,17 +140,7 @@ module _ (l : Layout) where
         act_counts : (u z : ℕ) (o : Act) → Origin u z → past_act o ≤ l.base → times u (act_vars (wide_act l K o)) ≤ times z (act_vars o)
         act_counts u z (case v as') o le = arms_count u z as' o le
         act_counts u z (nested b) o le = code_counts u z b o le
-        act_counts u z (unit v) o le = omega arith
-        act_counts u z (fetch a) o le = omega arith
-        act_counts u z (fetch_word a i) o le = omega arith
-        act_counts u z (update a v) o le = omega arith
-        act_counts u z (eval a) o le = omega arith
-        act_counts u z (apply v a) o le = omega arith
-        act_counts u z (call f ws) o le = omega arith
-        act_counts u z (prim f a b) o le = omega arith
-        act_counts u z read o le = omega arith
-        act_counts u z (write a) o le = omega arith
-        act_counts u z fail o le = omega arith
+        act_counts u z (leaf l) o le = omega arith
 
         pub code_counts : (u z : ℕ) (b : Code) → Origin u z → past_code b ≤ l.base → times u (code_vars (wide_code l K b)) ≤ times z (code_vars b)
         code_counts u z (end a) o le = act_counts u z a o le
@@ -362,17 +352,17 @@ module _ (l : Layout) where
         act_formed : (o : Act) (scope : Scope) (scope' : List ℕ) → Carries scope scope' → ActKnown l K o → ActFormed p scope o → ActFormed there (as_scope scope') (wide_act l K o)
         act_formed (case v as') scope scope' c k h = (val_formed scope scope' c v h.0, arms_formed (field_words l K v) as' scope scope' c (fields_formed scope scope' c v h.0) k h.1)
         act_formed (nested b) scope scope' c k h = code_formed b scope scope' c k h
-        act_formed (unit v) scope scope' c k h = given_formed scope scope' c v h
-        act_formed (fetch a) scope scope' c k h = word_formed scope scope' c a h
-        act_formed (fetch_word a i) scope scope' c k h = word_formed scope scope' c a h
-        act_formed (update a v) scope scope' c k h = (word_formed scope scope' c a h.0, val_formed scope scope' c v h.1)
-        act_formed (eval a) scope scope' c k h = word_formed scope scope' c a h
-        act_formed (apply v a) scope scope' c k h = (val_formed scope scope' c v h.0, word_formed scope scope' c a h.1)
-        act_formed (call f ws) scope scope' c k h = (known_again p procs same_count f h.0, words_formed scope scope' c ws h.1)
-        act_formed (prim f a b) scope scope' c k h = (word_formed scope scope' c a h.0, word_formed scope scope' c b h.1)
-        act_formed read scope scope' c k h = tt
-        act_formed (write a) scope scope' c k h = word_formed scope scope' c a h
-        act_formed fail scope scope' c k h = tt
+        act_formed (leaf (unit v)) scope scope' c k h = given_formed scope scope' c v h
+        act_formed (leaf (fetch a)) scope scope' c k h = word_formed scope scope' c a h
+        act_formed (leaf (fetch_word a i)) scope scope' c k h = word_formed scope scope' c a h
+        act_formed (leaf (update a v)) scope scope' c k h = (word_formed scope scope' c a h.0, val_formed scope scope' c v h.1)
+        act_formed (leaf (eval a)) scope scope' c k h = word_formed scope scope' c a h
+        act_formed (leaf (apply v a)) scope scope' c k h = (val_formed scope scope' c v h.0, word_formed scope scope' c a h.1)
+        act_formed (leaf (call f ws)) scope scope' c k h = (known_again p procs same_count f h.0, words_formed scope scope' c ws h.1)
+        act_formed (leaf (prim f a b)) scope scope' c k h = (word_formed scope scope' c a h.0, word_formed scope scope' c b h.1)
+        act_formed (leaf read) scope scope' c k h = tt
+        act_formed (leaf (write a)) scope scope' c k h = word_formed scope scope' c a h
+        act_formed (leaf fail) scope scope' c k h = tt
 
         pub code_formed : (b : Code) (scope : Scope) (scope' : List ℕ) → Carries scope scope' → CodeKnown l K b → CodeFormed p scope b → CodeFormed there (as_scope scope') (wide_code l K b)
         code_formed (end o) scope scope' c k h = act_formed o scope scope' c k h

@@ -10,7 +10,7 @@ use Rattle.grin_syntax.specs.declared.program.Cell.{Cell}
 use Rattle.grin_syntax.specs.declared.program.Target.{Target}
 use Rattle.grin_syntax.specs.declared.program.Target.TheVariants as to
 use Rattle.grin_syntax.specs.declared.program.Word as W
-use Rattle.grin_syntax.specs.Tree.{Code, end, store, bind, Act, unit, fetch, fetch_word, update, eval, apply, call, prim, read, write, case, nested, fail, Arms, no_arm, arm, Procedure, Program}
+use Rattle.grin_syntax.specs.Tree.{Code, end, store, bind, Act, leaf, unit, fetch, fetch_word, update, eval, apply, call, prim, read, write, case, nested, fail, Arms, no_arm, arm, Procedure, Program}
 use Rattle.grin_syntax.specs.Binders.{numbers_of, target_vars, shape_vars, cell_vars, act_vars, code_vars, arms_vars, procs_vars}
 use Rattle.grin_syntax.specs.Formed.{AllOf, Scope, InScope, with_word_variables, with_target, params_scope, WordFormed, CellFormed, ActFormed, CodeFormed, ArmsFormed, ProcedureFormed, Formed}
 use Rattle.grin_syntax.specs.Fresh.{past_vars, past_target, past_cells, past_act, past_code, past_arms, past_procs}
@@ -125,17 +125,7 @@ module _ (g : Program) (formed : Formed g) (never : CheckedRunsNeverMissing g) (
   unfolding wide_act
   block_stays (case v as') = refl
   block_stays (nested b) = refl
-  block_stays (unit v) = refl
-  block_stays (fetch a) = refl
-  block_stays (fetch_word a i) = refl
-  block_stays (update a v) = refl
-  block_stays (eval a) = refl
-  block_stays (apply v a) = refl
-  block_stays (call f ws) = refl
-  block_stays (prim f a b) = refl
-  block_stays read = refl
-  block_stays (write a) = refl
-  block_stays fail = refl
+  block_stays (leaf l) = refl
 
   bound_too : (t : Target) (o : Act) {v v' : Value} → Gives g l.most_value v v' → is_bound_well g t o v ≡ true → is_bound_well g (wide_target l (is_fetch o) t) (wide_act l K o) v' ≡ true
   bound_too t o {v} {v'} u h = and_from (cond (has_block (wide_act l K o)) (is_given g v') true) (cond (is_node_target (wide_target l (is_fetch o) t) && not (is_fetch (wide_act l K o))) (not_delayed g v') true)
@@ -280,15 +270,15 @@ module _ (g : Program) (formed : Formed g) (never : CheckedRunsNeverMissing g) (
           (z.y', z.value, (x.related, z.node_same, λ n r. (z.fine n r).1))))
       act_goes (nested b) scope scope' q = act_more it (nested b) (nested (wide_code l K b)) (λ c e e' r. r) (λ a a' u. (u, not_fetched)) (nested_follows it b (wide_code l K b)
           (code_goes b scope scope' (record { held = q.held; formed_code = q.formed_act; inlined_code = q.inlined_act.1; whole_code = q.whole_act.1; known_code = q.known_act; once_code = q.once_act; past = q.past })))
-      act_goes (unit v) scope scope' q = unit_follows it v (returned_val l K v) (λ x y e seen.
+      act_goes (leaf (unit v)) scope scope' q = unit_follows it v (returned_val l K v) (λ x y e seen.
           let u : (y' : Value) × (value_of g x.env' (returned_val l K v) ≡ Some y') × Results y y' × (fills g x.env' (returned_val l K v) ≡ true) = unit_goes l K g procs same_count scope x.env x.env' x.related x.known.variables few v q.formed_act q.whole_act.0 q.whole_act.1 y e in
           (λ _. u.3, u.0, u.1, (u.2, not_fetched)))
-      act_goes (fetch a) scope scope' q = fetch_follows it a (as_word K a) (λ x i y e r. (
+      act_goes (leaf (fetch a)) scope scope' q = fetch_follows it a (as_word K a) (λ x i y e r. (
         cell_too scope x a q.formed_act i y e r,
         (gives_node (all_get (FullCell g) x.w.cells i y x.known.cells r), λ _. refl),
       ))
-      act_goes (fetch_word a i) scope scope' q = absurd q.whole_act
-      act_goes (update a v) scope scope' q = update_follows it a (as_word K a) v (wide_val l K v) (gives_nothing, not_fetched) (λ x i y e r. (
+      act_goes (leaf (fetch_word a i)) scope scope' q = absurd q.whole_act
+      act_goes (leaf (update a v)) scope scope' q = update_follows it a (as_word K a) v (wide_val l K v) (gives_nothing, not_fetched) (λ x i y e r. (
         cell_too scope x a q.formed_act.0 i y e r,
         λ n m seen.
             let z : Made l K g procs same_count scope x.env x.env' x.related x.known.variables v n = node_goes l K g procs same_count scope x.env x.env' x.related x.known.variables v q.formed_act.1 q.whole_act.1 n m in
@@ -299,18 +289,18 @@ module _ (g : Program) (formed : Formed g) (never : CheckedRunsNeverMissing g) (
               heaps = is_same _ _ (ap (λ c. slice_set c i (record { site = y.site; node = n })) (same_cells x.b));
             },
       ))
-      act_goes (eval a) scope scope' q = absurd q.inlined_act
-      act_goes (apply v a) scope scope' q = absurd q.inlined_act.0
-      act_goes (call f ws) scope scope' q = act_more it (call f ws) (call f (as_words K ws)) (λ c e e' r. r) (λ a a' u. (u, not_fetched))
+      act_goes (leaf (eval a)) scope scope' q = absurd q.inlined_act
+      act_goes (leaf (apply v a)) scope scope' q = absurd q.inlined_act.0
+      act_goes (leaf (call f ws)) scope scope' q = act_more it (leaf (call f ws)) (leaf (call f (as_words K ws))) (λ c e e' r. r) (λ a a' u. (u, not_fetched))
           (call_follows it f ws (as_words K ws) (λ x xs e. (
             xs,
             words_go l K g procs same_count scope x.env x.env' x.related ws q.formed_act.1 xs e,
             same,
           )))
-      act_goes (prim f a b) scope scope' q = prim_follows it f a b (as_word K a) (as_word K b) (λ x. word_goes l K g procs same_count scope x.env x.env' x.related a q.formed_act.0) (λ x. word_goes l K g procs same_count scope x.env x.env' x.related b q.formed_act.1) (λ k. (gives_number k, not_fetched))
-      act_goes read scope scope' q = read_follows it (λ k. (gives_number k, not_fetched))
-      act_goes (write a) scope scope' q = write_follows it a (as_word K a) (λ x. word_goes l K g procs same_count scope x.env x.env' x.related a q.formed_act) (gives_nothing, not_fetched)
-      act_goes fail scope scope' q = fail_follows it
+      act_goes (leaf (prim f a b)) scope scope' q = prim_follows it f a b (as_word K a) (as_word K b) (λ x. word_goes l K g procs same_count scope x.env x.env' x.related a q.formed_act.0) (λ x. word_goes l K g procs same_count scope x.env x.env' x.related b q.formed_act.1) (λ k. (gives_number k, not_fetched))
+      act_goes (leaf read) scope scope' q = read_follows it (λ k. (gives_number k, not_fetched))
+      act_goes (leaf (write a)) scope scope' q = write_follows it a (as_word K a) (λ x. word_goes l K g procs same_count scope x.env x.env' x.related a q.formed_act) (gives_nothing, not_fetched)
+      act_goes (leaf fail) scope scope' q = fail_follows it
 
       code_goes : (b : Code) (scope : Scope) (scope' : List ℕ) → GoodCode scope scope' b → CodeFollows it (St scope) Results b (wide_code l K b)
       code_goes (end o) scope scope' q = end_follows it o (wide_act l K o) (act_more it o (wide_act l K o) (λ c e e' r. r) (λ a a' u. u.0)

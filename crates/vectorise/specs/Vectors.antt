@@ -7,7 +7,7 @@ use Rattle.grin_syntax.specs.declared.program.Target.TheVariants as to
 use Rattle.grin_syntax.specs.declared.program.Shape.{Shape}
 use Rattle.grin_syntax.specs.declared.program.Shape.TheVariants as shape
 use Rattle.grin_syntax.specs.declared.program.Cell.{Cell}
-use Rattle.grin_syntax.specs.Tree.{Code, end, store, bind, Act, unit, fetch, fetch_word, update, eval, apply, call, prim, read, write, case, nested, fail, Arms, no_arm, arm, Program}
+use Rattle.grin_syntax.specs.Tree.{Code, end, store, bind, Act, Leaf, leaf, unit, fetch, fetch_word, update, eval, apply, call, prim, read, write, case, nested, fail, Arms, no_arm, arm, Program}
 use Rattle.grin_syntax.specs.Fresh.{variables}
 use Rattle.grin_meaning.specs.Checks.{is_fetch}
 use Rattle.grin_meaning.specs.Rewritten.{rewritten}
@@ -40,21 +40,25 @@ abbrev pub wide_cells : Layout → Table → List Cell → List Cell
 wide_cells l k cs = map {A = Cell} (λ c. record c { val = wide_val l k c.val }) cs
 
 module _ (l : Layout) (k : Table) where
+  -- an operation without a block
+  abbrev pub wide_leaf : Leaf → Leaf
+  wide_leaf (unit v) = unit (returned_val l k v)
+  wide_leaf (fetch a) = fetch (as_word k a)
+  wide_leaf (fetch_word a i) = fetch_word (as_word k a) i
+  wide_leaf (update a v) = update (as_word k a) (wide_val l k v)
+  wide_leaf (eval a) = eval (as_word k a)
+  wide_leaf (apply v a) = apply (wide_val l k v) (as_word k a)
+  wide_leaf (call f ws) = call f (as_words k ws)
+  wide_leaf (prim p a b) = prim p (as_word k a) (as_word k b)
+  wide_leaf read = read
+  wide_leaf (write a) = write (as_word k a)
+  wide_leaf fail = fail
+
   unfoldable mutual
     pub wide_act : Act → Act
-    wide_act (unit v) = unit (returned_val l k v)
-    wide_act (fetch a) = fetch (as_word k a)
-    wide_act (fetch_word a i) = fetch_word (as_word k a) i
-    wide_act (update a v) = update (as_word k a) (wide_val l k v)
-    wide_act (eval a) = eval (as_word k a)
-    wide_act (apply v a) = apply (wide_val l k v) (as_word k a)
-    wide_act (call f ws) = call f (as_words k ws)
-    wide_act (prim p a b) = prim p (as_word k a) (as_word k b)
-    wide_act read = read
-    wide_act (write a) = write (as_word k a)
+    wide_act (leaf o) = leaf (wide_leaf o)
     wide_act (case v as') = case (wide_val l k v) (wide_arms as')
     wide_act (nested b) = nested (wide_code b)
-    wide_act fail = fail
 
     pub wide_code : Code → Code
     wide_code (end o) = end (wide_act o)

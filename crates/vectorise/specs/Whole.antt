@@ -4,7 +4,7 @@ use Rattle.grin_syntax.specs.declared.program.Val.{Val}
 use Rattle.grin_syntax.specs.declared.program.Val.TheVariants.{Vector, One}
 use Rattle.grin_syntax.specs.declared.program.Target.{Target}
 use Rattle.grin_syntax.specs.declared.program.Target.TheVariants as to
-use Rattle.grin_syntax.specs.Tree.{Act, unit, fetch_word, Program}
+use Rattle.grin_syntax.specs.Tree.{Act, leaf, unit, fetch_word, Program}
 use Rattle.grin_meaning.specs.Ready.{PieceKind, any_kind, EveryBodyIsOfKind}
 
 abbrev pub NoVector : Val → Type 0
@@ -20,8 +20,8 @@ NoWord (One w) = ⊥
 NoWord _ = Unit {0}
 
 abbrev pub GivesNodes : Act → Type 0
-GivesNodes (unit v) = NoWord v
-GivesNodes (fetch_word a i) = ⊥
+GivesNodes (leaf (unit v)) = NoWord v
+GivesNodes (leaf (fetch_word a i)) = ⊥
 GivesNodes _ = Unit {0}
 
 abbrev pub whole_node_kind : PieceKind

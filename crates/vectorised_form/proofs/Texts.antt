@@ -6,7 +6,7 @@ use Rattle.grin_syntax.specs.declared.program.Target.{Target}
 use Rattle.grin_syntax.specs.declared.program.Target.TheVariants as to
 use Rattle.grin_syntax.specs.declared.program.Val.{Val}
 use Rattle.grin_syntax.specs.declared.program.Val.TheVariants.{NodeVar, Node, Vector, One}
-use Rattle.grin_syntax.specs.Tree.{Code, end, store, bind, Act, unit, fetch, fetch_word, update, eval, apply, call, prim, read, write, case, nested, fail, Arms, no_arm, arm, Procedure}
+use Rattle.grin_syntax.specs.Tree.{Code, end, store, bind, Act, leaf, unit, fetch, fetch_word, update, eval, apply, call, prim, read, write, case, nested, fail, Arms, no_arm, arm, Procedure}
 use Rattle.grin_syntax.specs.Formed.{AllOf}
 use Rattle.grin_meaning.specs.Ready.{EachAct, EachCode, EachArms, EveryBodyIsOfKind}
 use Rattle.vectorise.specs.Whole.{NoVector, NoVectorTarget, NoWord, whole_node_kind}
@@ -45,19 +45,19 @@ module _ (ts : List Tag) where
     unfolding ActFits EachAct
 
     act_whole : (o : Act) (Γ : Sorts) → ActFits ts ⊥ ⊥ Γ o → EachAct whole_node_kind o
-    act_whole (unit v) Γ h = given_whole Γ v h
-    act_whole (fetch a) Γ h = tt
-    act_whole (fetch_word a i) Γ h = absurd h
-    act_whole (update a v) Γ h = (tt, kept_whole Γ v h)
-    act_whole (eval a) Γ h = absurd h
-    act_whole (apply v a) Γ h = absurd h.0
-    act_whole (call f ws) Γ h = tt
-    act_whole (prim f a b) Γ h = tt
-    act_whole read Γ h = tt
-    act_whole (write a) Γ h = tt
+    act_whole (leaf (unit v)) Γ h = given_whole Γ v h
+    act_whole (leaf (fetch a)) Γ h = tt
+    act_whole (leaf (fetch_word a i)) Γ h = absurd h
+    act_whole (leaf (update a v)) Γ h = (tt, kept_whole Γ v h)
+    act_whole (leaf (eval a)) Γ h = absurd h
+    act_whole (leaf (apply v a)) Γ h = absurd h.0
+    act_whole (leaf (call f ws)) Γ h = tt
+    act_whole (leaf (prim f a b)) Γ h = tt
+    act_whole (leaf read) Γ h = tt
+    act_whole (leaf (write a)) Γ h = tt
     act_whole (case v as') Γ h = (tt, scrutinee_whole Γ v h.0, arms_whole as' v Γ h.1)
     act_whole (nested b) Γ h = (tt, code_whole b Γ h)
-    act_whole fail Γ h = tt
+    act_whole (leaf fail) Γ h = tt
 
     code_whole : (b : Code) (Γ : Sorts) → CodeFits ts ⊥ ⊥ Γ b → EachCode whole_node_kind b
     code_whole (end o) Γ h = act_whole o Γ h.1

@@ -10,7 +10,7 @@ pub returns-clause-parts : goal.returns-clause-parts
 returns-clause-parts c =
     let stack = whole_words c.args.options.stack in
     compilation c.translation_refines.ensures (program c.args.p.now) c.requires.valid c.args.options.cells stack _ c.in_ok-stages.ensures.stages
-    (subst (λ g. HasImage g c.args.options.cells stack c.in_ok-lowered.lowered) c.lowered_stage.ensures c.in_ok-lowered.ensures)
+    (subst (λ g. HasImage g c.args.options.cells stack c.in_ok-lowered.lowered) c.later_stage.ensures c.in_ok-lowered.ensures)
 
 pub returns-clause-made : goal.returns-clause-made
 returns-clause-made c = made_by (program c.args.p.now) c.args.options.cells (whole_words c.args.options.stack) _ (returns-clause-parts c)

@@ -8,7 +8,7 @@ use Rattle.grin_translate.proofs.block.+blocks.Goals as goal
 
 pub alternative-returns-in_ok-body-in-Con-clause-is : goal.alternative-returns-in_ok-body-in-Con-clause-is
 alternative-returns-in_ok-body-in-Con-clause-is t c =
-    let p = program c.args.p.now in
+    let p = program c.args.numbered.now.p.now in
     let base = c.args.variables.now.base in
     let t0 = c.args.variables.now.bound in
     con_made p base t0 c.block.new.variables.bound c.args.v c.args.each.now c.alternative_of.result (code_of c.in_ok-body-in-Con.body) c.in-Con.c c.in-Con.fields c.in-Con.inner c.tag.result c.in_ok-bound-in-Con.bound
@@ -21,7 +21,7 @@ alternative-returns-in_ok-body-in-Con-clause-is t c =
 
 pub alternative-returns-in_ok-body-in-Int-clause-is : goal.alternative-returns-in_ok-body-in-Int-clause-is
 alternative-returns-in_ok-body-in-Int-clause-is t c =
-    let p = program c.args.p.now in
+    let p = program c.args.numbered.now.p.now in
     let base = c.args.variables.now.base in
     let t0 = c.args.variables.now.bound in
     int_made p base t0 c.block-in-Int.new.variables.bound c.args.v c.args.each.now c.alternative_of-in-Int.result (code_of c.in_ok-body-in-Int.body) c.in-Int.k c.in-Int.inner
@@ -32,7 +32,7 @@ alternative-returns-in_ok-body-in-Int-clause-is t c =
 
 pub alternative-returns-in_ok-body-in-None-clause-is : goal.alternative-returns-in_ok-body-in-None-clause-is
 alternative-returns-in_ok-body-in-None-clause-is t c =
-    let p = program c.args.p.now in
+    let p = program c.args.numbered.now.p.now in
     let base = c.args.variables.now.base in
     let t0 = c.args.variables.now.bound in
     any_made p base t0 c.block-in-None.new.variables.bound c.args.v c.args.each.now c.alternative_of-in-None.result (code_of c.in_ok-body-in-None.body) c.in-Default.inner c.in-Default.name
@@ -43,7 +43,7 @@ alternative-returns-in_ok-body-in-None-clause-is t c =
 
 pub alternative-returns-in_ok-body-in-Some-clause-is : goal.alternative-returns-in_ok-body-in-Some-clause-is
 alternative-returns-in_ok-body-in-Some-clause-is t c =
-    let p = program c.args.p.now in
+    let p = program c.args.numbered.now.p.now in
     let base = c.args.variables.now.base in
     let t0 = c.args.variables.now.bound in
     name_made p base t0 c.block-in-Some.new.variables.bound c.args.v c.args.each.now c.alternative_of-in-Some.result (code_of c.in_ok-body-in-Some.body) c.in-Default.inner c.in-Default.name c.in-Some.x
@@ -54,7 +54,7 @@ alternative-returns-in_ok-body-in-Some-clause-is t c =
 
 pub alternatives-returns-then-last-clause-is : goal.alternatives-returns-then-last-clause-is
 alternatives-returns-then-last-clause-is t c =
-    let p = program c.args.p.now in
+    let p = program c.args.numbered.now.p.now in
     let base = c.args.variables.now.base in
     let i = c.loop-each.each-index in
     let bs = c.args.branches.now in
@@ -67,7 +67,7 @@ alternatives-returns-then-last-clause-is t c =
 
 pub alternatives-loop-each-preserved : goal.alternatives-loop-each-preserved
 alternatives-loop-each-preserved t c =
-    let p = program c.args.p.now in
+    let p = program c.args.numbered.now.p.now in
     let base = c.args.variables.now.base in
     let i = c.loop-each.each-index in
     let bs = c.args.branches.now in
@@ -85,7 +85,7 @@ alternatives-loop-each-preserved t c =
 
 pub alternatives-returns-clause-is : goal.alternatives-returns-clause-is
 alternatives-returns-clause-is t c =
-    all_made (program c.args.p.now) c.args.variables.now.base c.loop-each.alts c.push-2.new.self c.in_ok-else_fail.field-0 c.args.branches.now c.loop-each.each-index c.loop-each.variables.bound c.args.v _
+    all_made (program c.args.numbered.now.p.now) c.args.variables.now.base c.loop-each.alts c.push-2.new.self c.in_ok-else_fail.field-0 c.args.branches.now c.loop-each.each-index c.loop-each.variables.bound c.args.v _
     c.in_ok-push-2.ensures.ok
     (omega arith)
     c.in_ok-else_fail.ensures
@@ -93,7 +93,7 @@ alternatives-returns-clause-is t c =
 
 pub block-returns-in_ok-push-in-Let-clause-is : goal.block-returns-in_ok-push-in-Let-clause-is
 block-returns-in_ok-push-in-Let-clause-is t c =
-    let p = program c.args.p.now in
+    let p = program c.args.numbered.now.p.now in
     let base = c.args.variables.now.base in
     let whole : term c.args.body.now ≡ Let c.as_slice.result.now (term c.deref.result.now) =
     ap term c.in-Let.is ∙ term-Let c.in-Let.group c.in-Let.inner ∙ ap (λ g. Let g (term c.in-Let.inner.value)) (sym c.as_slice.ensures) ∙ ap (λ b. Let c.as_slice.result.now (term b)) (sym c.deref.ensures) in
@@ -101,7 +101,7 @@ block-returns-in_ok-push-in-Let-clause-is t c =
 
 pub block-returns-in_ok-alts-in-Case-clause-is : goal.block-returns-in_ok-alts-in-Case-clause-is
 block-returns-in_ok-alts-in-Case-clause-is t c =
-    let p = program c.args.p.now in
+    let p = program c.args.numbered.now.p.now in
     let base = c.args.variables.now.base in
     let v = c.in_ok-v-in-Case.v in
     let e = term c.deref-in-Case.result.now in

@@ -4,7 +4,7 @@ use Rattle.arity_check.specs.declared.normal.Var.TheVariants.{Local}
 use Rattle.arity_check.specs.Program.{program}
 use Rattle.grin_syntax.specs.declared.program.Op.TheVariants.{Apply}
 use Rattle.grin_syntax.specs.declared.program.Val.TheVariants.{NodeVar}
-use Rattle.grin_syntax.specs.Tree.{act_of, before_of, code_of, all_before, eval}
+use Rattle.grin_syntax.specs.Tree.{act_of, before_of, code_of, all_before, leaf, eval}
 use Rattle.grin_syntax.proofs.TreeOf.{act_of-Apply, act_of-Eval}
 use Rattle.grin_translate.specs.Blocks.{word}
 use Rattle.grin_translate.specs.Pieces.{given_to}
@@ -14,7 +14,7 @@ use Rattle.grin_syntax.specs.Fresh.{variable}
 
 pub loop-a-preserved : goal.loop-a-preserved
 loop-a-preserved c =
-    let p = program c.args.p.now in
+    let p = program c.args.numbered.now.p.now in
     let base = c.args.variables.now.base in
     let here = c.in_ok-v.ensures.base ∙ c.loop-a.invariant.base in
     record {
@@ -33,11 +33,11 @@ loop-a-preserved c =
 
 pub returns-clause-is : goal.returns-clause-is
 returns-clause-is c =
-    let p = program c.args.p.now in
+    let p = program c.args.numbered.now.p.now in
     let base = c.args.variables.now.base in
     let t = c.args.variables.now.bound in
     subst (λ z. IfOk c.ended.result (λ b. code_of b ≡ z))
     (ap (λ ys. all_before (map before_of c.loop-a.stmts) (given_to p base c.loop-a.variables.bound (act_of c.loop-a.op) (map (word p base) ys))) (sym (drop_past c.args.xs.now c.loop-a.a-index (omega arith)))
     ∙ c.loop-a.invariant.so_far
-    ∙ ap (all_before (map before_of c.args.before)) ((λ z. given_to p base t ((act_of-Eval c.in_ok-word.field-0 ∙ ap eval c.in_ok-word.ensures) z) (map (word p base) c.args.xs.now)) ∙ applied_same p base t (word p base c.args.x) (map (word p base) c.args.xs.now)))
+    ∙ ap (all_before (map before_of c.args.before)) ((λ z. given_to p base t ((act_of-Eval c.in_ok-word.field-0 ∙ ap (λ x. leaf (eval x)) c.in_ok-word.ensures) z) (map (word p base) c.args.xs.now)) ∙ applied_same p base t (word p base c.args.x) (map (word p base) c.args.xs.now)))
     c.ended.ensures

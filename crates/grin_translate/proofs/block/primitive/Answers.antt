@@ -9,7 +9,7 @@ use Rattle.grin_syntax.specs.Fresh.{variable}
 
 pub returns-clause-is : goal.returns-clause-is
 returns-clause-is c =
-    let p = program c.args.p.now in
+    let p = program c.args.numbered.now.p.now in
     let base = c.args.variables.now.base in
     let t = c.args.variables.now.bound in
     let b1 = c.in_ok-first.ensures.base in

@@ -4,4 +4,4 @@ use Rattle.grin_translate.specs.Translation.{global_cells}
 use Rattle.grin_translate.proofs.lists.globals.Given as goal
 
 abbrev pub invariant-loop-f : goal.invariant-loop-f
-invariant-loop-f l = l.made ++ global_cells (program l.p) (drop l.f (program l.p).funs) l.f ≡ global_cells (program l.p) (program l.p).funs 0
+invariant-loop-f l = l.made ++ global_cells (program l.numbered.p.now) (drop l.f (program l.numbered.p.now).funs) l.f ≡ global_cells (program l.numbered.p.now) (program l.numbered.p.now).funs 0

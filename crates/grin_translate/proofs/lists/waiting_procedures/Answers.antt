@@ -8,7 +8,7 @@ use Rattle.grin_translate.proofs.lists.waiting_procedures.Goals as goal
 
 pub loop-delay-preserved : goal.loop-delay-preserved
 loop-delay-preserved c =
-    let p = program c.args.p.now in
+    let p = program c.args.numbered.now.p.now in
     let ds = c.as_slice-waiting.result.now in
     let i = c.loop-delay.delay-index in
     let d = get_or ds i (Calls 0) in
@@ -20,14 +20,14 @@ loop-delay-preserved c =
 
 pub returns-clause-is : goal.returns-clause-is
 returns-clause-is c =
-    let p = program c.args.p.now in
+    let p = program c.args.numbered.now.p.now in
     let ds = c.as_slice-waiting.result.now in
     procs_end p c.loop-delay.delay-index c.loop-delay.base ds c.loop-delay.made _ (omega arith) c.loop-delay.invariant.procs
-    ∙ (λ z. delayed_procs p (c.requires.functions z) ((c.as_slice-waiting.ensures ∙ c.requires.delays) z))
+    ∙ (λ z. delayed_procs p (c.args.numbered.now.exact.functions z) ((c.as_slice-waiting.ensures ∙ c.args.numbered.now.exact.delays) z))
 
 pub returns-clause-next : goal.returns-clause-next
 returns-clause-next c =
-    let p = program c.args.p.now in
+    let p = program c.args.numbered.now.p.now in
     let ds = c.as_slice-waiting.result.now in
     spans_end p c.loop-delay.delay-index c.loop-delay.base ds _ (omega arith) c.loop-delay.invariant.base
-    ∙ (λ z. (c.requires.functions z) + spans p ((c.as_slice-waiting.ensures ∙ c.requires.delays) z))
+    ∙ (λ z. (c.args.numbered.now.exact.functions z) + spans p ((c.as_slice-waiting.ensures ∙ c.args.numbered.now.exact.delays) z))

@@ -39,12 +39,12 @@ overflow_cast-width c =
 
 pub returns-clause-gives : goal.returns-clause-gives
 returns-clause-gives c =
-    let rs : List ℕ = c.spread.new.values.items in
+    let rs : List ℕ = c.spread_over_groups.new.values.items in
     let i = c.loop-f.invariant in
-    let all : length rs ≡ c.loop-f.f = c.spread.ensures.many ∙ c.raise.ensures.many ∙ i.each in
+    let all : length rs ≡ c.loop-f.f = c.spread_over_groups.ensures.many ∙ c.raise.ensures.many ∙ i.each in
     let end : c.loop-f.f ≡ length c.args.procs.now = search rules in
     each_gives c.args.node rs rs c.args.procs.now (all ∙ end)
-    (λ x q lt e. i.gives rs c.spread.ensures.same x q (omega (arith, lt, end)) e (let a = c.raise.ensures.more x in let b = c.spread.ensures.more x in omega (arith, a, b)))
+    (λ x q lt e. i.gives rs c.spread_over_groups.ensures.same x q (omega (arith, lt, end)) e (let a = c.raise.ensures.more x in let b = c.spread_over_groups.ensures.more x in omega (arith, a, b)))
 
 pub returns-clause-few : goal.returns-clause-few
-returns-clause-few c = all_few 13 _ (c.spread.ensures.few 13 (c.raise.ensures.few 13 c.loop-f.invariant.few))
+returns-clause-few c = all_few 13 _ (c.spread_over_groups.ensures.few 13 (c.raise.ensures.few 13 c.loop-f.invariant.few))

@@ -1,7 +1,7 @@
 use Rattle.std.proofs.Common.{◌≡◌, false, refl, ap}
 use Rattle.points_to.specs.Bits.{block_numbers}
 use Rattle.points_to.specs.Rows.{numbers_in, row_items, GainsMembers}
-use Rattle.points_to.specs.Runs.{items_of_run}
+use Rattle.points_to.specs.Runs.{items_of_item_run}
 use Rattle.points_to.proofs.Sets.{on_ok, if_ok}
 use Rattle.points_to.proofs.Rows.{row_gets}
 use Rattle.points_to.proofs.items.add_block.Goals as goal
@@ -10,7 +10,7 @@ pub returns-clause-gets : goal.returns-clause-gets
 returns-clause-gets c =
     let row = c.args.row.now in
     let new = record row { words = c.add_new.new.self } in
-    on_ok c.add_new.result (GainsMembers (numbers_in row.words) (numbers_in new.words) (block_numbers c.args.run.block)) (GainsMembers (row_items row) (row_items new) (items_of_run c.args.run))
+    on_ok c.add_new.result (GainsMembers (numbers_in row.words) (numbers_in new.words) (block_numbers c.args.run.block)) (GainsMembers (row_items row) (row_items new) (items_of_item_run c.args.run))
     (row_gets row new c.args.run c.requires refl) c.add_new.ensures.gets
 
 pub returns-clause-still : goal.returns-clause-still

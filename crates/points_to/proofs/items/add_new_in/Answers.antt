@@ -3,7 +3,7 @@ use Rattle.std.specs.List.{flat_map}
 use Rattle.std.proofs.lemmas.List.{set-get_or}
 use Rattle.points_to.specs.PartOrder.{Ascending, StandsAt, GoesTo}
 use Rattle.points_to.specs.Rows.{row_items, GainsMembers}
-use Rattle.points_to.specs.Runs.{items_of_run}
+use Rattle.points_to.specs.Runs.{items_of_item_run}
 use Rattle.points_to.proofs.Sets.{on_ok, if_ok}
 use Rattle.points_to.proofs.Gets.{gets_at}
 use Rattle.points_to.proofs.Rows.{row_none}
@@ -21,7 +21,7 @@ pub returns-in-Ok-clause-gets : goal.returns-in-Ok-clause-gets
 returns-in-Ok-clause-gets c =
     let rows = c.args.rows.now.items in
     let k = c.in-Ok.place in
-    let is = items_of_run c.args.run in
+    let is = items_of_item_run c.args.run in
     let h : StandsAt rows c.args.run.part k = subst (λ l. StandsAt l c.args.run.part k) c.as_slice.ensures.value c.in-Ok.ensures in
     on_ok c.add_block.result (GainsMembers (row_items c.index_mut.result.now) (row_items c.add_block.new.row) is) (GainsMembers (flat_map row_items rows) (flat_map row_items (slice_set rows k c.add_block.new.row)) is)
     (λ g. gets_at row_items is rows k c.index_mut.result.now c.add_block.new.row h.within c.index_mut.ensures.value g) c.add_block.ensures.gets
@@ -48,6 +48,6 @@ pub returns-in_ok-insert-in-Err-clause-gets : goal.returns-in_ok-insert-in-Err-c
 returns-in_ok-insert-in-Err-clause-gets c =
     let rows = c.args.rows.now.items in
     let row = c.add_block-in-Err.new.row in
-    let is = items_of_run c.args.run in
+    let is = items_of_item_run c.args.run in
     subst (λ l. GainsMembers (flat_map row_items rows) (flat_map row_items l) is) (sym c.in_ok-insert-in-Err.ensures.items)
     (gets_row rows c.in-Err.place row is (subst (λ l. GainsMembers l (row_items row) is) (row_none (record { part = c.args.run.part; words = c.new.result }) c.new.ensures) c.in_ok-add_block-in-Err.ensures.gets))

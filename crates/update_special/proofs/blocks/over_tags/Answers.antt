@@ -6,4 +6,4 @@ pub returns-then-len-gt-MOST_TAGS : goal.returns-then-len-gt-MOST_TAGS
 returns-then-len-gt-MOST_TAGS c = over_many _ _ c.args.tags (omega arith)
 
 pub returns : goal.returns
-returns c = over_few _ _ _ _ _ _ _ c.loop-tag.invariant.scrutinee c.as_slice-tag-items.ensures (omega arith) (omega arith) c.loop-tag.invariant.some
+returns c = over_few _ _ _ _ (omega arith) c.in_ok-alts.ensures

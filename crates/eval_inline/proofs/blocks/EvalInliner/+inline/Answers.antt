@@ -1,7 +1,7 @@
 use Rattle.std.proofs.Common.{◌≡◌, ℕ, ◌+◌, map, ap, refl, sym, ◌∙◌, rules}
 use Rattle.std.proofs.lemmas.Iterator.Adapters.{YieldsList-from_vec}
 use Rattle.std.proofs.lemmas.Iterator.Consumers.{YieldsList-end}
-use Rattle.grin_syntax.specs.Tree.{program_of, act_of, arm_of, arms_of, eval}
+use Rattle.grin_syntax.specs.Tree.{program_of, act_of, arm_of, arms_of, leaf, eval}
 use Rattle.grin_syntax.proofs.TreeOf.{act_of-Fetch, act_of-Eval}
 use Rattle.points_to.specs.Found.{found}
 use Rattle.inlining.specs.Evaluations.{eval_all, all_room}
@@ -37,7 +37,7 @@ op-returns-in_default-clause-next t c = plain_room (program_of c.args.self.now.p
 
 pub op-returns-in_ok-push-in-Eval-clause-is : goal.op-returns-in_ok-push-in-Eval-clause-is
 op-returns-in_ok-push-in-Eval-clause-is t c =
-    ok_follows _ _ c.evaluation.result (λ o e. same_follows (program_of c.args.self.now.program.now) (found c.args.self.now.flow.now) c.args.fresh.now.next c.args.before.now _ (act_of c.args.op) (eval c.in-Eval.word) (act_of o) (act_of o) (ap act_of c.in-Eval.is ∙ act_of-Eval c.in-Eval.word) refl
+    ok_follows _ _ c.evaluation.result (λ o e. same_follows (program_of c.args.self.now.program.now) (found c.args.self.now.flow.now) c.args.fresh.now.next c.args.before.now _ (act_of c.args.op) (leaf (eval c.in-Eval.word)) (act_of o) (act_of o) (ap act_of c.in-Eval.is ∙ act_of-Eval c.in-Eval.word) refl
     (eval_follows (program_of c.args.self.now.program.now) (found c.args.self.now.flow.now) c.args.fresh.now.next c.args.before.now _ c.in-Eval.word (act_of o) _ c.in_ok-node-in-Eval.node _ c.in_ok-node-in-Eval.ensures.is c.in_ok-node-in-Eval.ensures.next (act_of-Fetch c.in-Eval.word) c.in_ok-push-in-Eval.ensures.ok e)) c.evaluation.ensures.is
 
 pub op-returns-in_ok-push-in-Eval-clause-next : goal.op-returns-in_ok-push-in-Eval-clause-next

@@ -1,7 +1,7 @@
 use Rattle.std.proofs.Common.{ℕ, ◌≡◌, false, refl, sym, ap, subst}
 use Rattle.points_to.specs.Asked.{facts_at}
 use Rattle.points_to.specs.Known.{items_at, held, PutsItems, GrowsByFacts}
-use Rattle.points_to.specs.Runs.{items_of_run, facts_of_run}
+use Rattle.points_to.specs.Runs.{items_of_item_run, facts_of_run}
 use Rattle.std.specs.Prelude.{◌⊎◌}
 use Rattle.flow_system.specs.declared.fact.Place.{Place}
 use Rattle.points_to.proofs.Elsewhere.{site_elsewhere, var_elsewhere, result_elsewhere}
@@ -12,7 +12,7 @@ pub returns-in-Site-clause-grown : goal.returns-in-Site-clause-grown
 returns-in-Site-clause-grown c =
     let before = c.args.self.now in
     let after = record before { sites = c.add_new.new.sets } in
-    let is = items_of_run c.args.run.items in
+    let is = items_of_item_run c.args.run.items in
     on_ok c.add_new.result (PutsItems (items_at before.sites.items) (items_at c.add_new.new.sets.items) c.in-Site.n is) (GrowsByFacts (held before) (held after) (facts_of_run c.args.run))
     (λ p. subst (λ q. GrowsByFacts (held before) (held after) (facts_at q is)) (sym c.in-Site.is) (site_put before after c.in-Site.n is refl refl p)) c.add_new.ensures.puts
 
@@ -20,7 +20,7 @@ pub returns-in-Var-clause-grown : goal.returns-in-Var-clause-grown
 returns-in-Var-clause-grown c =
     let before = c.args.self.now in
     let after = record before { vars = c.add_new-in-Var.new.sets } in
-    let is = items_of_run c.args.run.items in
+    let is = items_of_item_run c.args.run.items in
     on_ok c.add_new-in-Var.result (PutsItems (items_at before.vars.items) (items_at c.add_new-in-Var.new.sets.items) c.in-Var.n is) (GrowsByFacts (held before) (held after) (facts_of_run c.args.run))
     (λ p. subst (λ q. GrowsByFacts (held before) (held after) (facts_at q is)) (sym c.in-Var.is) (var_put before after c.in-Var.n is refl refl p)) c.add_new-in-Var.ensures.puts
 
@@ -28,7 +28,7 @@ pub returns-in-Result-clause-grown : goal.returns-in-Result-clause-grown
 returns-in-Result-clause-grown c =
     let before = c.args.self.now in
     let after = record before { results = c.add_new-in-Result.new.sets } in
-    let is = items_of_run c.args.run.items in
+    let is = items_of_item_run c.args.run.items in
     on_ok c.add_new-in-Result.result (PutsItems (items_at before.results.items) (items_at c.add_new-in-Result.new.sets.items) c.in-Result.n is) (GrowsByFacts (held before) (held after) (facts_of_run c.args.run))
     (λ p. subst (λ q. GrowsByFacts (held before) (held after) (facts_at q is)) (sym c.in-Result.is) (result_put before after c.in-Result.n is refl refl p)) c.add_new-in-Result.ensures.puts
 

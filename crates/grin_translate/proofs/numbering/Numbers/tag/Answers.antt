@@ -1,7 +1,0 @@
-use Rattle.std.proofs.Common.{rules}
-use Rattle.arity_check.specs.Program.{program}
-use Rattle.grin_translate.proofs.Lookups.{number_place}
-use Rattle.grin_translate.proofs.numbering.Numbers.tag.Goals as goal
-
-pub returns-in-Number : goal.returns-in-Number
-returns-in-Number c = search (rules, number_place (program c.args.p.now))
