@@ -6,7 +6,7 @@ use Rattle.grin_syntax.specs.declared.program.Word as W
 use Rattle.grin_syntax.specs.declared.program.Word.TheVariants.{Lit, Var, Global, TagWord}
 use Rattle.grin_syntax.specs.declared.program.Val as V
 use Rattle.grin_syntax.specs.declared.program.Val.TheVariants.{NodeVar, Node, Vector, One}
-use Rattle.grin_syntax.specs.Tree.{Code, end, store, bind, Act, leaf, unit, fetch, fetch_word, update, eval, apply, call, prim, read, write, case, nested, fail}
+use Rattle.grin_syntax.specs.Tree.{Code, end, store, bind, Act, leaf, case, nested}
 use Rattle.grin_syntax.specs.Binders.{numbers_of}
 use Rattle.grin_syntax.specs.Formed.{AllOf, InScope}
 use Rattle.grin_syntax.specs.Fresh.{variable}

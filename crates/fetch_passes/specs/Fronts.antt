@@ -32,7 +32,8 @@ OutsideUsesFetchedFirst t b i (x ∷ xs) c =
 
 -- of the node that it fetches, in what follows the tag
 abbrev pub NodeWordsFetchedFirst : Act → Target → (b c : Code) → Type 0
-NodeWordsFetchedFirst (leaf (fetch a)) (to.Vector (x ∷ xs)) b c = OutsideUsesFetchedFirst x.0 b 1 xs c
+NodeWordsFetchedFirst (leaf (fetch a)) (to.Vector (x ∷ xs)) b c =
+    OutsideUsesFetchedFirst x.0 b 1 xs c
 NodeWordsFetchedFirst o t b c = Unit {0}
 
 -- of what waits, an alternative b fetches first, in c, what it uses

@@ -36,7 +36,8 @@ pub data Position : Type 0 where
 -- each alternative gives a node with the tag of its pattern
 abbrev pub ArmsReturnNodes : Arms → Type 0
 ArmsReturnNodes no_arm = Unit {0}
-ArmsReturnNodes (arm (shape.Node t xs) (end (leaf (unit (Node u ws)))) as') = (t ≡ u) × ArmsReturnNodes as'
+ArmsReturnNodes (arm (shape.Node t xs) (end (leaf (unit (Node u ws)))) as') =
+    (t ≡ u) × ArmsReturnNodes as'
 ArmsReturnNodes (arm s b as') = ⊥
 
 -- the block gives the node of the tag t by its words, as in place of a fetch that ends a block
@@ -89,7 +90,8 @@ module _ (first : ℕ) where
 
   -- a tag goes to a variable before the first new one, but for that of a fetch that ended a block
   abbrev pub FetchPlaced : Act → Target → Position → Code → Type 0
-  FetchPlaced (leaf (fetch_word a zero)) (to.One t) here b = (t.0 < first) ⊎ ReturnsNodeByWords t.0 b
+  FetchPlaced (leaf (fetch_word a zero)) (to.One t) here b =
+      (t.0 < first) ⊎ ReturnsNodeByWords t.0 b
   FetchPlaced (leaf (fetch_word a (suc i))) (to.One x) here b = WordPlaced here a (suc i) x b
   FetchPlaced (leaf (fetch_word a (suc i))) t here b = ⊥
   FetchPlaced o t here b = Unit {0}

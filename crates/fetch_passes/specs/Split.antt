@@ -43,7 +43,8 @@ front_names n (p ∷ ps) b ks = front_names (suc n) ps b (named_if (code_uses p.
 -- ---- after an operation that goes to a target, where a block follows
 
 abbrev pub names_after : Act → Target → Code → Names → Names
-names_after (leaf (fetch a)) (to.Vector (x ∷ xs)) b ks = with_hidden (deferred_fields_of x.0 b 1 xs) ks
+names_after (leaf (fetch a)) (to.Vector (x ∷ xs)) b ks =
+    with_hidden (deferred_fields_of x.0 b 1 xs) ks
 names_after (leaf (fetch a)) t b ks = ks
 names_after o t b ks = ks
 
@@ -69,13 +70,15 @@ bound o t b c = bind t o c
 
 abbrev pub fetch_all_words : W.Word → ℕ → List VarId → Code → Code
 fetch_all_words a i [] c = c
-fetch_all_words a i (x ∷ xs) c = bind (to.One x) (leaf (fetch_word a i)) (fetch_all_words a (suc i) xs c)
+fetch_all_words a i (x ∷ xs) c =
+    bind (to.One x) (leaf (fetch_word a i)) (fetch_all_words a (suc i) xs c)
 
 -- the node of each tag, with as many of these variables as it has fields
 abbrev pub node_arms : List VarId → ℕ → List Tag → Arms
 node_arms xs i [] = no_arm
 node_arms xs i (t ∷ ts) =
-    arm (shape.Node (tag_id i) []) (end (leaf (unit (Node (tag_id i) (map Var (take t.fields xs))))))
+    arm (shape.Node (tag_id i) [])
+    (end (leaf (unit (Node (tag_id i) (map Var (take t.fields xs))))))
     (node_arms xs (suc i) ts)
 
 abbrev pub whole_node : List Tag → ℕ → W.Word → Code

@@ -14,19 +14,9 @@ ghost use Rattle.fetch_passes.specs.Split.{fetch_all_words, node_arms, whole_nod
 
 use grin_syntax::fresh::Fresh;
 use grin_syntax::{Alt, Block, Op, Shape, Stmt, Tag, TagId, Target, Val, VarId, Word};
+use node_sizes::most_fields;
 use seq::Seq;
 use std::alloc::{AllocError, Global};
-
-/// The most fields that a tag has.
-pub(crate) fn longest(tags: &[Tag]) -> u32
-    ensures { result ≡ most_fields tags.now }
-{
-    let mut most = 0;
-    for tag in tags {
-        most = tag.fields.max(most);
-    }
-    most
-}
 
 fn as_words(alloc: Global, vars: &[VarId]) -> Result<Seq<Word>, AllocError>
     ensures { IfOk result (λ words. words ≡ map Var vars.now) }
@@ -111,7 +101,7 @@ fn whole_node(
         ≡ all_before (map before_of made.old) (whole_node tags.now fresh.old.next cell)) }
     ensures next { OnOk result (fresh.new.next ≡ fresh.old.next + suc (most_fields tags.now)) }
 {
-    let most = longest(tags);
+    let most = most_fields(tags);
     let tag = fresh.variable()?;
     let fields = fresh.variables(alloc, most)?;
     let alts = node_alts(alloc, tags, fields.as_slice())?;

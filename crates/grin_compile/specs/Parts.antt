@@ -35,7 +35,8 @@ lowered_stage s = later_stage s s.last
 -- the programs of all stages, in their order
 abbrev pub all_programs : Stages → List grin.Program
 all_programs s =
-    program_of s.translated ∷ program_of s.evaluated ∷ program_of s.applied ∷ map program_of s.later.items
+    program_of s.translated ∷ program_of s.evaluated ∷ program_of s.applied
+    ∷ map program_of s.later.items
 
 -- the stages after a, which is a program as it is inlined and is not too large, and the last slim
 -- one of them, which can be lowered

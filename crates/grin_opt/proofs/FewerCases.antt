@@ -2,7 +2,7 @@
 use Rattle.std.proofs.Common.{◌≡◌, ℕ, ◌≤◌, List, [], ◌∷◌, map, sym, subst, arith}
 use Rattle.grin_syntax.specs.declared.program.Shape.{Shape}
 use Rattle.grin_syntax.specs.declared.program.Val.{Val}
-use Rattle.grin_syntax.specs.Tree.{Code, end, store, bind, Act, leaf, unit, fetch, fetch_word, update, eval, apply, call, prim, read, write, case, nested, fail, Arms, no_arm, arm, Procedure, Program, as_act}
+use Rattle.grin_syntax.specs.Tree.{Code, end, store, bind, Act, leaf, case, nested, fail, Arms, no_arm, arm, Procedure, Program, as_act}
 use Rattle.pass_ground.specs.OpenUpdates.{tag_variable, act_update_sum, code_update_sum, arms_update_sum, procs_update_sum, one_if_some, updates_with_variable_tag}
 use Rattle.pass_ground.specs.Vectors.{IsVectorForm}
 use Rattle.case_simplify.specs.Known.{Facts, nothing_known, known_after, facts_in_alternative}

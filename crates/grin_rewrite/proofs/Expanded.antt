@@ -1,5 +1,5 @@
 -- Operations that become cases over the tags of a value.
-use Rattle.std.proofs.Common.{◌≡◌, ℕ, suc, ◌+◌, ◌<◌, Bool, true, false, cond, not, ◌&&◌, nat_eq, List, [], ◌∷◌, ◌++◌, map, length, Option, Some, None, slice_get, refl, sym, ap, ◌∙◌, subst, inl, inr, arith}
+use Rattle.std.proofs.Common.{◌≡◌, ℕ, ◌<◌, Bool, true, false, cond, ◌&&◌, nat_eq, List, [], ◌∷◌, ◌++◌, map, length, Option, Some, None, slice_get, refl, sym, ap, ◌∙◌, subst, inl, inr, arith}
 use Rattle.std.specs.Prelude.{◌⊎◌}
 use Rattle.std.proofs.lemmas.Bool.Decides.{nat_tests}
 use Rattle.seq.specs.Lists.{In}
@@ -10,15 +10,15 @@ use Rattle.grin_syntax.specs.declared.program.Target.{Target}
 use Rattle.grin_syntax.specs.declared.program.Val.{Val}
 use Rattle.grin_syntax.specs.declared.program.Val.TheVariants.{NodeVar, Node as Node', Vector, One}
 use Rattle.grin_syntax.specs.declared.program.Word.{Word}
-use Rattle.grin_syntax.specs.Tree.{end, arm, act_of, arm_of, arms_of, Act, Leaf, leaf, unit, update, apply, case, Procedure, Program}
+use Rattle.grin_syntax.specs.Tree.{end, arm, act_of, arm_of, arms_of, Leaf, leaf, update, apply, case, Procedure, Program}
 use Rattle.grin_syntax.specs.Binders.{act_vars, arms_vars, act_sites, arms_sites}
 use Rattle.grin_syntax.specs.Formed.{AllOf, Scope, ActFormed, ArmsFormed}
 use Rattle.grin_syntax.proofs.TreeOf.{act_of-Case}
-use Rattle.grin_meaning.specs.Values.{Datum, Node, Value, words, Env, State, World, Answer, gives, stops, need, and_then, with_vars, fits, fits_not, node_fit, as_node, word_of, words_of, value_of, node_of}
+use Rattle.grin_meaning.specs.Values.{Node, Value, words, Env, State, World, Answer, gives, stops, need, and_then, with_vars, fits, fits_not, node_fit, as_node, word_of, words_of, value_of, node_of}
 use Rattle.grin_meaning.specs.Run.{Calls, act_by, code_by, arms_by, require_if_checked, choose, with_state_seen, place_of, with_node}
 use Rattle.grin_meaning.specs.Checks.{is_none_or, is_filled, fills, is_given, not_delayed, is_bound_well, is_node_target}
 use Rattle.grin_meaning.specs.Follows.{Same}
-use Rattle.grin_meaning.specs.Ready.{PieceKind, any_kind, EachAct, EachArms, inlined_kind, without_node_fetches, vectorised_kind, narrow_kind, NarrowAct, NarrowArms}
+use Rattle.grin_meaning.specs.Ready.{PieceKind, EachAct, EachArms, inlined_kind, without_node_fetches, vectorised_kind, NarrowAct, NarrowArms}
 use Rattle.grin_meaning.proofs.Back.{CallsBack}
 use Rattle.grin_meaning.proofs.Names.{Any, any_act, any_val}
 use Rattle.grin_meaning.proofs.Beside.{beside, no_deeper, Sim, need_first}

@@ -1,4 +1,5 @@
--- A rule by which an operation becomes a case over the tags of a value, with an operation for each.
+-- A rule by which an operation becomes a case over the tags of a value, with one operation for
+-- each.
 use Rattle.std.specs.Prelude.{ℕ, List, [], ◌∷◌, Option, Some, None}
 use Rattle.grin_syntax.specs.declared.program.Val.{Val}
 use Rattle.grin_syntax.specs.declared.program.Shape.{Shape}

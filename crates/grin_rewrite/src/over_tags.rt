@@ -25,7 +25,8 @@ pub fn alternatives<A: Alternative>(
     of: &A,
     tags: &Seq<TagId>,
 ) -> Result<Seq<Alt>, AllocError>
-    ensures { IfOk result (λ alts. map arm_of alts ≡ map (A.at_tag of.now) (map (λ t. t.0) tags.now)) }
+    ensures { IfOk result (λ alts. map arm_of alts
+        ≡ map (A.at_tag of.now) (map (λ t. t.0) tags.now)) }
 {
     let mut alts = Seq::new(alloc);
     for tag in tags.as_slice() {

@@ -14,7 +14,8 @@ use std::alloc::{AllocError, Global};
 
 /// A program in which the rule says what becomes of each operation without a block.
 pub fn rewrite<R: Rule>(alloc: Global, rule: &R, g: Grin) -> Result<Grin, AllocError>
-    ensures { IfOk result (λ h. program_of h ≡ rewritten (rewrite_code (R.becomes rule.now)) (program_of g)) }
+    ensures { IfOk result (λ h. program_of h
+        ≡ rewritten (rewrite_code (R.becomes rule.now)) (program_of g)) }
 {
     let mut procs = Seq::new(alloc);
     for proc in g.procs.into_vec() {

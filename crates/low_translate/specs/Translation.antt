@@ -195,7 +195,8 @@ module _ (width : ℕ) (results : List ℕ) where
   abbrev pub plain_code : (xs : List ℕ) → (n : ℕ) → Act → Code → Code
   plain_code xs n (leaf (unit v)) c = set_all xs (operands_of v) c
   plain_code xs n (leaf (fetch w)) c = load_all width xs (operand_of w) 0 c
-  plain_code xs n (leaf (fetch_word w i)) c = to_first xs (λ x. load_word width x (operand_of w) i) c
+  plain_code xs n (leaf (fetch_word w i)) c =
+      to_first xs (λ x. load_word width x (operand_of w) i) c
   plain_code xs n (leaf (update w v)) c =
       save_all (operand_of w) 0 (padded_to_width width (operands_of v)) (set_all xs [] c)
   plain_code xs n (leaf (call f ws)) c =

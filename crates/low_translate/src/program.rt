@@ -4,7 +4,7 @@ ghost use Rattle.std.specs.Prelude.{◌≡◌, ◌≤◌, ◌+◌, map, length, 
 ghost use Rattle.grin_syntax.specs.Formed.{AllOf};
 ghost use Rattle.grin_syntax.specs.Fresh.{past_procs};
 ghost use Rattle.grin_syntax.specs.Tree.{procedure_of, program_of};
-ghost use Rattle.grin_meaning.specs.Ready.{most_fields, most_value_fields, value_fields};
+ghost use Rattle.grin_meaning.specs.Ready.{most_fields, most_value_fields};
 ghost use Rattle.low_code.specs.Tree as low;
 ghost use Rattle.low_translate.specs.Translation.{program_code};
 ghost use Rattle.low_translate.specs.Writes.{written_width};
@@ -15,43 +15,11 @@ use crate::fresh::Numbers;
 use crate::results::results;
 use crate::writes::most_written;
 use grin_syntax::fresh::Fresh;
-use grin_syntax::{GlobalCell, Grin, Tag, TagKind};
+use grin_syntax::{GlobalCell, Grin, Tag};
 use low_code::Low;
+use node_sizes::{most_fields, most_value_fields};
 use seq::Seq;
 use std::alloc::{AllocError, Global};
-
-/// The largest number of fields.
-pub(crate) fn most_fields(tags: &[Tag]) -> u32
-    ensures { result ≡ most_fields tags.now }
-{
-    let mut most = 0;
-    for tag in tags {
-        most = tag.fields.max(most);
-    }
-    most
-}
-
-// How many fields a tag has, where it stands for values.
-fn value_fields(tag: &Tag) -> u32
-    ensures { result ≡ value_fields tag.now.kind tag.now.fields }
-{
-    match tag.kind {
-        TagKind::Fun => 0,
-        TagKind::Con => tag.fields,
-        TagKind::Part => tag.fields,
-    }
-}
-
-// The largest number of fields of the tags that stand for values.
-fn most_value_fields(tags: &[Tag]) -> u32
-    ensures { result ≡ most_value_fields tags.now }
-{
-    let mut most = 0;
-    for tag in tags {
-        most = value_fields(tag).max(most);
-    }
-    most
-}
 
 // The tags of global cells.
 fn global_tags(alloc: Global, globals: &[GlobalCell]) -> Result<Seq<u32>, AllocError>

@@ -13,7 +13,7 @@ use Rattle.grin_syntax.specs.declared.program.Target.{Target}
 use Rattle.grin_syntax.specs.declared.program.Op.{Op}
 use Rattle.grin_syntax.specs.declared.program.Op.TheVariants.{Case}
 use Rattle.grin_syntax.specs.declared.program.Stmt.TheVariants.{Store, Bind}
-use Rattle.grin_syntax.specs.Tree.{Code, end, store, bind, Act, Arms, no_arm, arm, case, act_of, before_of, arm_of, code_of, all_before, arms_of, procedure_of}
+use Rattle.grin_syntax.specs.Tree.{Code, end, bind, Act, Arms, no_arm, arm, case, act_of, before_of, arm_of, code_of, all_before, arms_of, procedure_of}
 use Rattle.grin_syntax.proofs.TreeOf.{act_of-Case, before_of-Store, before_of-Bind, code_of-parts}
 use Rattle.grin_syntax.proofs.Pieces.{all_arms, all_arms_none, arms_push}
 use Rattle.grin_meaning.specs.Rewritten.{rewritten_procedure}

@@ -8,7 +8,7 @@ use Rattle.grin_syntax.specs.declared.program.Alt.{Alt}
 use Rattle.grin_syntax.specs.declared.program.Block.{Block}
 use Rattle.grin_syntax.specs.declared.program.Stmt.{Stmt}
 use Rattle.grin_syntax.specs.declared.program.Stmt.TheVariants.{Store, Bind}
-use Rattle.grin_syntax.specs.Tree.{Code, end, Arms, no_arm, arm, act_of, before_of, arm_of, arms_of, code_of, all_before}
+use Rattle.grin_syntax.specs.Tree.{Code, end, act_of, before_of, arm_of, arms_of, code_of, all_before}
 use Rattle.grin_syntax.proofs.TreeOf.{before_of-Store, before_of-Bind, code_of-parts, arm_of-parts}
 use Rattle.flow_system.specs.Solution.{Solution}
 use Rattle.narrow_vectors.specs.Picked.{picked, stay}

@@ -15,7 +15,8 @@ use Rattle.update_special.specs.Updates.{max_case_tags, tags_of, updated}
 -- with the tags of each variable: where the tag of an update is a variable, this may be one of more
 -- than eight
 abbrev pub TagIsLiteralOrMany : (ℕ → List ℕ) → Act → Type 0
-TagIsLiteralOrMany T (leaf (update a v)) = IfSome (tag_variable v) (λ x. max_case_tags < length (T x.0))
+TagIsLiteralOrMany T (leaf (update a v)) =
+    IfSome (tag_variable v) (λ x. max_case_tags < length (T x.0))
 TagIsLiteralOrMany T _ = Unit {0}
 
 abbrev pub literal_kind : (ℕ → List ℕ) → PieceKind

@@ -43,7 +43,8 @@ impl Tags<'_> {
     // An update, or a case over the tags of what it puts into the cell.
     fn update(&self, alloc: Global, word: Word, value: Val) -> Result<Op, AllocError>
         ensures { IfOk result (λ o. act_of o
-            ≡ expanded (update word value) (by_variable (tags_by_solution self.now) word value (tag_variable value))) }
+            ≡ expanded (update word value) (by_variable (tags_by_solution self.now) word value
+            (tag_variable value))) }
     {
         match tag_variable(&value) {
             Some(var) => {

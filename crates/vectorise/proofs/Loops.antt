@@ -1,9 +1,8 @@
 -- What the loops keep.
-use Rattle.std.proofs.Common.{◌≡◌, ℕ, zero, suc, ◌+◌, ◌<◌, ◌≤◌, max, List, [], ◌∷◌, ◌++◌, map, take, length, length-take, get_or, replicate, slice_get, slice_set, refl, sym, ap, ◌∙◌, subst, arith}
+use Rattle.std.proofs.Common.{◌≡◌, ℕ, zero, suc, ◌+◌, ◌<◌, ◌≤◌, List, [], ◌∷◌, ◌++◌, map, take, length, length-take, get_or, replicate, slice_get, slice_set, refl, sym, ap, ◌∙◌, subst, arith}
 use Rattle.std.proofs.lemmas.List.{take_more, take_all}
 use Rattle.seq.proofs.Lists.{take_next, map_push}
 use Rattle.grin_syntax.specs.declared.program.VarId.{VarId}
-use Rattle.grin_syntax.specs.declared.program.Tag.{Tag}
 use Rattle.grin_syntax.specs.declared.program.Word as W
 use Rattle.grin_syntax.specs.declared.program.Shape.{Shape}
 use Rattle.grin_syntax.specs.declared.program.Val.{Val}
@@ -15,23 +14,10 @@ use Rattle.grin_syntax.specs.declared.program.Op.TheVariants.{Case}
 use Rattle.grin_syntax.specs.Tree.{Code, end, Arms, no_arm, arm, case, Procedure, act_of, before_of, arm_of, code_of, all_before, arms_of, procedure_of}
 use Rattle.grin_syntax.proofs.TreeOf.{code_of-parts, act_of-Case}
 use Rattle.grin_syntax.proofs.Pieces.{all_arms, all_arms_none, all_arms_push, all_before_push}
-use Rattle.grin_meaning.specs.Ready.{value_fields, most_value_fields}
 use Rattle.vectorise.specs.declared.known.Known.{Known}
 use Rattle.vectorise.specs.declared.known.Known.TheVariants.{Field}
 use Rattle.vectorise.specs.Known.{Layout, Table, word_or_zero, noted_fields, noted_shape, noted_act, noted_code, noted_arms, noted_procs}
 use Rattle.vectorise.specs.Vectors.{wide_val, without_binders, wide_act, wide_code, wide_arms, wide_arm}
-
--- ---- the longest node
-
-value_push : (ts : List Tag) (t : Tag) → most_value_fields (ts ++ t ∷ []) ≡ max (value_fields t.kind t.fields) (most_value_fields ts)
-value_push [] t = refl
-value_push (u ∷ ts) t = let h : most_value_fields (ts ++ t ∷ []) ≡ max (value_fields t.kind t.fields) (most_value_fields ts) = value_push ts t in omega arith
-
-pub value_next : (ts : List Tag) (i : ℕ) (t : Tag) (one old new : ℕ) → i < length ts → t ≡ get_or ts i t → one ≡ value_fields t.kind t.fields → new ≡ max one old → old ≡ most_value_fields (take i ts) → new ≡ most_value_fields (take (i + 1) ts)
-value_next ts i t one old new lt at f n o =
-    let h : most_value_fields (take i ts ++ t ∷ []) ≡ max (value_fields t.kind t.fields) (most_value_fields (take i ts)) = value_push (take i ts) t in
-    let e : new ≡ most_value_fields (take i ts ++ t ∷ []) = omega arith in
-    e ∙ ap most_value_fields (sym (take_next ts i t lt at))
 
 -- ---- what is known
 

@@ -3,11 +3,11 @@
 
 ghost use Rattle.std.specs.Prelude.{◌≡◌, IfOk};
 ghost use Rattle.grin_syntax.specs.Tree.{program_of};
-ghost use Rattle.grin_meaning.specs.Ready.{value_fields, most_fields, most_value_fields};
 ghost use Rattle.vectorise.specs.Known.{layout_of, vector_start, room};
 
 use grin_syntax::fresh::Fresh;
-use grin_syntax::{Grin, Tag, TagKind, VarId};
+use grin_syntax::{Grin, VarId};
+use node_sizes::{most_fields, most_value_fields};
 use std::alloc::AllocError;
 
 /// The first new variable, the fields of the longest node, and those of the longest node that is a
@@ -30,8 +30,8 @@ impl Layout {
         };
         Ok(Layout {
             base,
-            most: longest(g.tags.as_slice()),
-            most_value: longest_value(g.tags.as_slice()),
+            most: most_fields(g.tags.as_slice()),
+            most_value: most_value_fields(g.tags.as_slice()),
         })
     }
 
@@ -47,36 +47,5 @@ impl Layout {
         ensures { result ≡ room self.now fetched }
     {
         if fetched { self.most } else { self.most_value }
-    }
-}
-
-fn longest(tags: &[Tag]) -> u32
-    ensures { result ≡ most_fields tags.now }
-{
-    let mut most = 0;
-    for tag in tags {
-        most = tag.fields.max(most);
-    }
-    most
-}
-
-fn longest_value(tags: &[Tag]) -> u32
-    ensures { result ≡ most_value_fields tags.now }
-{
-    let mut most = 0;
-    for tag in tags {
-        most = as_value(tag).max(most);
-    }
-    most
-}
-
-// The fields of a tag whose nodes are values; a delayed call is none.
-fn as_value(tag: &Tag) -> u32
-    ensures { result ≡ value_fields tag.now.kind tag.now.fields }
-{
-    match tag.kind {
-        TagKind::Con => tag.fields,
-        TagKind::Fun => 0,
-        TagKind::Part => tag.fields,
     }
 }

@@ -1,6 +1,0 @@
-use Rattle.std.proofs.Common.{◌≡◌, take}
-use Rattle.grin_meaning.specs.Ready.{most_value_fields}
-use Rattle.vectorise.proofs.layout.longest_value.Given as goal
-
-abbrev pub invariant-loop-tag : goal.invariant-loop-tag
-invariant-loop-tag l = l.most ≡ most_value_fields (take l.tag-index l.tags)
