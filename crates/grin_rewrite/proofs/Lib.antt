@@ -5,3 +5,10 @@ pub mod Text
 pub mod Sides
 pub mod Expanded
 pub mod Sound
+pub mod FactLoops
+pub mod Walked
+pub mod KeptByWords
+pub mod NamedByWords
+pub mod FactText
+pub mod FactSides
+pub mod FactSound

@@ -29,7 +29,7 @@ module _ (p : Program) (procs : List Procedure) (same_count : length procs ≡ l
     act_again scope (nested b) h = code_again scope b h
     act_again scope (leaf _) h = h
 
-    code_again : (scope : Scope) (b : Code) → CodeFormed p scope b → CodeFormed (with_procs p procs same_count) scope b
+    pub code_again : (scope : Scope) (b : Code) → CodeFormed p scope b → CodeFormed (with_procs p procs same_count) scope b
     code_again scope (end o) h = act_again scope o h
     code_again scope (store cs b) h = (h.0, code_again (with_word_variables (cell_vars cs) scope) b h.1)
     code_again scope (bind t o b) h = (act_again scope o h.0, code_again (with_target t scope) b h.1)

@@ -1,2 +1,4 @@
 pub mod Rewriting
 pub mod Expanding
+pub mod WithFacts
+pub mod ByWords

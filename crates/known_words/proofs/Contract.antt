@@ -1,75 +1,58 @@
 -- That the pass meets its contract: the shape of what it makes, and that this keeps the program.
-use Rattle.std.proofs.Common.{◌≡◌, ℕ, ◌+◌, ◌≤◌, ◌*◌, length, sym, subst, arith}
+use Rattle.std.proofs.Common.{◌≡◌, ℕ, List, length, sym, subst}
+use Rattle.grin_syntax.specs.declared.program.Word.{Word}
 use Rattle.grin_syntax.specs.Tree.{Program}
-use Rattle.grin_meaning.specs.Ready.{Ready, most_value_fields}
-use Rattle.grin_meaning.specs.Keeps.{Keeps}
-use Rattle.grin_meaning.specs.Looking.{CheckedRunsNeverMissing}
-use Rattle.grin_meaning.specs.Slim.{Slim, procs_weight, procs_calls}
-use Rattle.grin_meaning.proofs.Looked.{looking_law}
+use Rattle.grin_meaning.specs.Run.{run}
+use Rattle.grin_meaning.specs.Follows.{HoldsInEveryState}
+use Rattle.grin_meaning.specs.Keeps.{world_of, Keeps}
 use Rattle.flow_system.specs.Tables.{tables}
 use Rattle.flow_system.specs.System.{system}
 use Rattle.flow_system.specs.Solution.{Solution, IsLeast}
+use Rattle.flow_system.proofs.Covered.{covers}
+use Rattle.flow_system.proofs.Starting.{formed_is_started}
 use Rattle.pass_ground.specs.Vectors.{IsVectorForm}
-use Rattle.known_words.specs.Known.{known}
+use Rattle.grin_rewrite.specs.WithFacts.{WithFacts}
+use Rattle.grin_rewrite.proofs.KeptByWords.{updates_kept}
+use Rattle.grin_rewrite.proofs.FactText.{walked_slim, updates_fewer}
+use Rattle.grin_rewrite.proofs.FactSound.{FactsAreSound, stays, keeps}
+use Rattle.case_simplify.specs.Known.{Facts, nothing_known}
+use Rattle.known_words.specs.Told.{silent, known_word}
+use Rattle.known_words.specs.Known.{literals_for_known, known}
 use Rattle.known_words.specs.KnownWords.{MadeByLeastSolution, KnownWordsAreLiterals, KnownWords, ToldWords}
-use Rattle.known_words.specs.Told.{silent}
-use Rattle.known_words.proofs.Tells.{all_silent}
-use Rattle.known_words.proofs.Simulated.{EachTells, each_tells, known_kept}
-use Rattle.known_words.proofs.Gives.{procs_inlined, procs_by_words, procs_vectorised, procs_narrow, procs_give, procs_params, procs_untold, procs_fewer}
-use Rattle.known_words.proofs.Sizes.{procs_lighter, procs_calls_fewer, procs_words}
-use Rattle.known_words.proofs.Formed.{known_formed, known_outside}
+use Rattle.known_words.proofs.Tells.{Tells, all_tell, all_silent}
+use Rattle.known_words.proofs.Gives.{procs_untold, opens, fewer_open}
+use Rattle.known_words.proofs.Asked.{sound}
 
-looks : (g : Program) → IsVectorForm g → CheckedRunsNeverMissing g
-looks g of = (looking_law g of.ready.inlined).sees of.ready.never_missing of.ready.runs
+module _ (g : Program) (A : Solution) (of : IsVectorForm g) (tells : (i : List ℕ) (n : ℕ) → HoldsInEveryState (Tells g A) (world_of (run g i n)).seen) where
+  abbrev R : WithFacts Facts
+  R = literals_for_known (length g.tags) A
 
-abbrev AllTell : (g : Program) (A : Solution) → IsVectorForm g → Type 0
-AllTell g A of = EachTells g A of.formed of.vectorised of.ready.inlined (looks g of)
+  abbrev word : Facts → Word → Word
+  word = known_word (length g.tags) A
 
-module _ (g : Program) (A : Solution) (of : IsVectorForm g) (tells : AllTell g A of) where
-  abbrev count : ℕ
-  count = length g.tags
-
-  kept : CheckedRunsNeverMissing (known A g) × Keeps g (known A g)
-  kept = known_kept g A of.formed of.vectorised of.ready.inlined (looks g of) tells
-
-  ready : Ready (known A g)
-  ready = record {
-    inlined = procs_inlined count A g.procs of.ready.inlined;
-    few_params = procs_params count A 16 g.procs of.ready.few_params;
-    few_results = procs_give count A (1 + most_value_fields g.tags) 13 g.procs of.ready.few_results;
-    few_fields = of.ready.few_fields;
-    never_missing = (looking_law (known A g) (procs_inlined count A g.procs of.ready.inlined)).never_missing kept.0;
-    runs = (looking_law (known A g) (procs_inlined count A g.procs of.ready.inlined)).runs_well kept.0;
-  }
-
-  slim : (size most : ℕ) → Slim size most g → Slim size most (known A g)
-  slim size most s = record {
-    light = let l : procs_weight (known A g).procs ≤ procs_weight g.procs = procs_lighter count A g.procs in let k : procs_weight g.procs ≤ 48 * size = s.light in omega (arith, l, k);
-    few_calls = let l : procs_calls (known A g).procs ≤ procs_calls g.procs = procs_calls_fewer count A g.procs in let k : procs_calls g.procs ≤ size = s.few_calls in omega (arith, l, k);
-    few_words = procs_words count A (20 * most) g.procs s.few_words;
-  }
+  facts_sound : FactsAreSound R word g nothing_known (Tells g A)
+  facts_sound = sound g A of.formed
 
   whole : KnownWordsAreLiterals A g (known A g)
+  unfolding updates_kept
   whole = record {
-    stays = record {
-      of_vectors = record { formed = known_formed A g of.formed; ready = ready; vectorised = procs_vectorised count A g.procs of.vectorised };
-      outside = known_outside A g;
-      narrow = λ most. procs_narrow count A most g.procs;
-      by_words = procs_by_words count A g.procs;
-    };
-    known = procs_untold count A g.procs of.vectorised;
-    no_more_open = procs_fewer count A g.procs;
-    slim = slim;
+    stays = stays R word g nothing_known (Tells g A) facts_sound of tells;
+    known = procs_untold (length g.tags) A g.procs of.vectorised;
+    no_more_open = updates_fewer R word nothing_known facts_sound.by (opens (length g.tags) A) (facts_sound.cases (updates_kept (opens (length g.tags) A))) (fewer_open (length g.tags) A) g.procs;
+    slim = walked_slim R word nothing_known facts_sound.by facts_sound.cases g;
   }
 
-by_solution : (g : Program) (A : Solution) (of : IsVectorForm g) → IsLeast (tables g) (system g) A → AllTell g A of
-by_solution g A of least = each_tells g A of.formed of.vectorised of.ready.inlined (looks g of) least.solves
+  kept : Keeps g (known A g)
+  kept = keeps R word g nothing_known (Tells g A) facts_sound of tells
+
+by_solution : (g : Program) (A : Solution) → IsVectorForm g → IsLeast (tables g) (system g) A → (i : List ℕ) (n : ℕ) → HoldsInEveryState (Tells g A) (world_of (run g i n)).seen
+by_solution g A of least i n = all_tell g A _ ((covers g A (formed_is_started g of.formed) least.solves).passed i n)
 
 pub is_known : (g h : Program) → IsVectorForm g → MadeByLeastSolution g h → KnownWords g h
 is_known g h of m = record { solution = m.solution; least = m.least; by = subst (KnownWordsAreLiterals m.solution g) (sym m.made) (whole g m.solution of (by_solution g m.solution of m.least)) }
 
 pub is_kept : (g h : Program) → IsVectorForm g → MadeByLeastSolution g h → Keeps g h
-is_kept g h of m = subst (Keeps g) (sym m.made) (kept g m.solution of (by_solution g m.solution of m.least)).1
+is_kept g h of m = subst (Keeps g) (sym m.made) (kept g m.solution of (by_solution g m.solution of m.least))
 
 pub by_least : {g h : Program} {A : Solution} → IsLeast (tables g) (system g) A → h ≡ known A g → MadeByLeastSolution g h
 by_least {A = A} least e = record { solution = A; least = least; made = e }
@@ -79,4 +62,4 @@ pub is_told : (g h : Program) → IsVectorForm g → h ≡ known silent g → To
 is_told g h of e = subst (KnownWordsAreLiterals silent g) (sym e) (whole g silent of (λ i n. all_silent g _))
 
 pub told_kept : (g h : Program) → IsVectorForm g → h ≡ known silent g → Keeps g h
-told_kept g h of e = subst (Keeps g) (sym e) (kept g silent of (λ i n. all_silent g _)).1
+told_kept g h of e = subst (Keeps g) (sym e) (kept g silent of (λ i n. all_silent g _))

@@ -1,11 +1,8 @@
 pub mod Literals
 pub mod Tells
-pub mod Words
 pub mod Sound
-pub mod Formed
-pub mod Simulated
+pub mod Asked
 pub mod Gives
-pub mod Sizes
 pub mod Contract
 pub mod Loops
 pub mod Soles

@@ -12,7 +12,7 @@ use Rattle.grin_syntax.specs.declared.program.Word.TheVariants.{Lit, Var, Global
 use Rattle.grin_syntax.specs.declared.program.Val as V
 use Rattle.grin_syntax.specs.declared.program.Val.TheVariants.{NodeVar, Node, Vector, One}
 use Rattle.grin_syntax.specs.Tags.{tag_id}
-use Rattle.grin_syntax.specs.Tree.{Act, leaf, unit, fetch, fetch_word, update, eval, apply, call, prim, read, write, case, nested, fail, Program}
+use Rattle.grin_syntax.specs.Tree.{Act, leaf, unit, case, nested, Program}
 use Rattle.grin_syntax.specs.Formed.{Scope, WordFormed, ValFormed, ShapeFormed, ActFormed, Formed}
 use Rattle.case_simplify.specs.declared.known.Known.{Known}
 use Rattle.case_simplify.specs.declared.known.Known.TheVariants.{Tag, Number}
@@ -78,15 +78,6 @@ module _ (g : Program) where
     pub after_sound : (facts : Facts) (t : Target) (o : Act) → ActFormed g scope o → AllSound facts → AllSound (known_after t o facts)
     unfolding ActFormed
     after_sound facts t (leaf (unit v)) f h = copies_sound (word_vars t) (words_in v) facts (words_formed v f) h
-    after_sound facts t (leaf (fetch a)) f h = h
-    after_sound facts t (leaf (fetch_word a i)) f h = h
-    after_sound facts t (leaf (update a v)) f h = h
-    after_sound facts t (leaf (eval a)) f h = h
-    after_sound facts t (leaf (apply v a)) f h = h
-    after_sound facts t (leaf (call q ws)) f h = h
-    after_sound facts t (leaf (prim q a b)) f h = h
-    after_sound facts t (leaf read) f h = h
-    after_sound facts t (leaf (write a)) f h = h
+    after_sound facts t (leaf _) f h = h
     after_sound facts t (case v as') f h = h
     after_sound facts t (nested b) f h = h
-    after_sound facts t (leaf fail) f h = h

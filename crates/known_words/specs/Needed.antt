@@ -1,5 +1,5 @@
 -- Which alternatives of a case a run may take, by the tags that its value may have.
-use Rattle.std.specs.Prelude.{ℕ, ◌≡◌, Bool, true, false, not, nat_eq, List, [], ◌∷◌, map, filter, Option, Some, None}
+use Rattle.std.specs.Prelude.{ℕ, ◌≡◌, Bool, true, false, cond, not, nat_eq, List, [], ◌∷◌, map, filter, Option, Some, None}
 use Rattle.grin_syntax.specs.declared.program.VarId.{VarId}
 use Rattle.grin_syntax.specs.declared.program.TagId.{TagId}
 use Rattle.grin_syntax.specs.declared.program.Shape.{Shape}
@@ -37,6 +37,13 @@ arm_may_match (Some tags) s = pattern_may_match tags s
 abbrev pub tags_left_after : Option (List ℕ) → Shape → Option (List ℕ)
 tags_left_after None s = None
 tags_left_after (Some tags) s = Some (tags_left_by tags s)
+
+-- the alternatives that may be taken
+abbrev pub needed_arms : Option (List ℕ) → Arms → Arms
+needed_arms left no_arm = no_arm
+needed_arms left (arm s b as') =
+    cond (arm_may_match left s) (arm s b (needed_arms (tags_left_after left s) as'))
+    (needed_arms left as')
 
 -- each alternative may be taken
 abbrev pub AllArmsNeeded : Option (List ℕ) → Arms → Type 0

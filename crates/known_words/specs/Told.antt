@@ -1,12 +1,11 @@
 -- What is told of a variable: by the alternatives around it, or by a solution that has one tag and
 -- nothing else for it.
-use Rattle.std.specs.Prelude.{ℕ, Bool, true, cond, nat_lt, ◌&&◌, List, [], ◌∷◌, map, Option, Some, None}
+use Rattle.std.specs.Prelude.{ℕ, Bool, true, cond, nat_lt, ◌&&◌, List, [], ◌∷◌, Option, Some, None}
 use Rattle.grin_syntax.specs.declared.program.VarId.{VarId}
 use Rattle.grin_syntax.specs.declared.program.Cell.{Cell}
 use Rattle.grin_syntax.specs.declared.program.Word as W
 use Rattle.grin_syntax.specs.declared.program.Word.TheVariants.{Lit, Var, Global, TagWord}
 use Rattle.grin_syntax.specs.declared.program.Val as V
-use Rattle.grin_syntax.specs.declared.program.Val.TheVariants.{NodeVar, Node, Vector, One}
 use Rattle.grin_syntax.specs.Tags.{tag_id}
 use Rattle.grin_meaning.specs.Values.{and_then}
 use Rattle.flow_system.specs.declared.fact.Element.{Element as AbstractWord}
@@ -19,6 +18,7 @@ use Rattle.points_to.specs.Found.{found}
 use Rattle.case_simplify.specs.declared.known.Known.{Known}
 use Rattle.case_simplify.specs.declared.known.Known.TheVariants.{Tag, Number}
 use Rattle.case_simplify.specs.Known.{Facts}
+use Rattle.grin_rewrite.specs.ByWords.{words_by, val_by, cell_by, cells_by}
 
 -- a solution that is silent of all variables
 abbrev pub silent : Solution
@@ -72,16 +72,13 @@ module _ (count : ℕ) (A : Solution) where
     known_word (TagWord t) = TagWord t
 
     abbrev pub known_words : List W.Word → List W.Word
-    known_words ws = map known_word ws
+    known_words ws = words_by known_word ws
 
     abbrev pub known_val : V.Val → V.Val
-    known_val (NodeVar x) = NodeVar x
-    known_val (Node t ws) = Node t (known_words ws)
-    known_val (Vector ws) = Vector (known_words ws)
-    known_val (One a) = One (known_word a)
+    known_val v = val_by known_word v
 
     abbrev pub known_cell : Cell → Cell
-    known_cell c = record c { val = known_val c.val }
+    known_cell c = cell_by known_word c
 
     abbrev pub known_cells : List Cell → List Cell
-    known_cells cs = map known_cell cs
+    known_cells cs = cells_by known_word cs

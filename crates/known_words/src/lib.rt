@@ -3,9 +3,9 @@
 //! alternatives of tags outside this solution go.
 #![tactic(auto)]
 
-mod blocks;
 mod needed;
 mod pass;
+mod rule;
 mod told;
 
 pub use pass::{KnownWords, ToldWords, with_known_words, with_locally_known_words};

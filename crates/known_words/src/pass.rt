@@ -8,14 +8,13 @@ ghost use Rattle.known_words.specs.Known.{known};
 ghost use Rattle.known_words.specs.KnownWords.{MadeByLeastSolution, KnownWords, ToldWords};
 ghost use Rattle.known_words.specs.Told.{silent, solution_or_empty};
 
-use crate::blocks::known_block;
 use crate::told::Told;
 use case_simplify::FactTable;
 use grin_meaning::Pass;
-use grin_syntax::{Grin, Proc};
+use grin_rewrite::rewrite_with_facts;
+use grin_syntax::Grin;
 use least_flow::least;
 use points_to::Flow;
-use seq::Seq;
 use std::alloc::{AllocError, Global};
 
 /// A literal stands for each variable that an alternative around it tells the tag or the number of,
@@ -75,10 +74,6 @@ fn with_literals(alloc: Global, g: Grin, flow: Option<&Flow>) -> Result<Grin, Al
         flow,
     };
     let mut facts = FactTable::new(alloc);
-    let mut procs = Seq::new(alloc);
-    for proc in g.procs.into_vec() {
-        let body = known_block(alloc, &told, &mut facts, proc.body)?;
-        procs.push(Proc { body, ..proc })?;
-    }
-    Ok(Grin { procs, ..g })
+    let h = rewrite_with_facts(alloc, &told, &mut facts, g)?;
+    Ok(h)
 }

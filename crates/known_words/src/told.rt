@@ -132,7 +132,7 @@ impl Told<'_> {
         }
     }
 
-    pub(crate) fn cells(
+    pub(crate) fn known_cells(
         &self,
         alloc: Global,
         facts: &FactTable,
