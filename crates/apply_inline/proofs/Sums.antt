@@ -1,7 +1,7 @@
 -- What the loops that add sizes have added so far.
-use Rattle.std.proofs.Common.{◌≡◌, ℕ, zero, suc, ◌+◌, ◌-◌, ◌^◌, ◌<◌, ◌≤◌, Bool, true, false, cond, List, [], ◌∷◌, ◌++◌, map, take, length, get_or, Some, slice_get, sym, ap, ◌∙◌, subst, arith}
+use Rattle.std.proofs.Common.{◌≡◌, ℕ, ◌+◌, ◌-◌, ◌^◌, ◌<◌, ◌≤◌, List, [], ◌∷◌, ◌++◌, map, take, length, get_or, Some, slice_get, sym, ap, ◌∙◌, arith}
 use Rattle.std.proofs.lemmas.List.{take_all}
-use Rattle.seq.proofs.Lists.{take_next, map_push}
+use Rattle.seq.proofs.Lists.{take_next}
 use Rattle.grin_syntax.specs.declared.program.Stmt.{Stmt}
 use Rattle.grin_syntax.specs.declared.program.Stmt.TheVariants.{Store, Bind}
 use Rattle.grin_syntax.specs.declared.program.Alt.{Alt}
@@ -14,19 +14,11 @@ use Rattle.grin_syntax.specs.declared.program.Tag.{Tag}
 use Rattle.grin_syntax.specs.declared.program.Word.{Word}
 use Rattle.grin_syntax.specs.declared.program.Val.{Val}
 use Rattle.grin_syntax.specs.Tree.{Code, end, Arms, no_arm, arm, act_of, before_of, arm_of, code_of, all_before, arms_of, Procedure, Program}
-use Rattle.grin_syntax.proofs.TreeOf.{act_of-Apply, code_of-parts, arm_of-parts, before_of-Store, before_of-Bind}
-use Rattle.grin_syntax.proofs.Pieces.{all_before_push}
-use Rattle.flow_system.specs.Solution.{Solution, among}
+use Rattle.grin_syntax.proofs.TreeOf.{act_of-Apply, code_of-parts, before_of-Store, before_of-Bind}
+use Rattle.grin_syntax.proofs.Pieces.{all_arms, all_arms_none, all_arms_push, all_before_push}
+use Rattle.flow_system.specs.Solution.{Solution}
 use Rattle.inlining.specs.Size.{val_size, target_size, shape_size, cells_size, total}
-use Rattle.flow_system.specs.declared.fact.Element.TheVariants.{Tag as tag}
-use Rattle.flow_system.specs.declared.fact.Place.TheVariants.{Site as site}
-use Rattle.flow_system.specs.declared.fact.Part.TheVariants.{Tags as tags}
-use Rattle.inlining.specs.Evaluations.{any_satisfies, sites_of}
-use Rattle.eval_inline.specs.Met.{cell_tags_from}
-use Rattle.apply_inline.specs.Applied.{arms_before}
-use Rattle.inlining.specs.Expanded.{saturated_at_64_bits, eval_tag_size, eval_tags_size, evaluation_size, part_tag_size, parts_size, application_size, expanded_act, expanded_code, expanded_arms}
-use Rattle.apply_inline.proofs.Loops.{arms_before-push, arms_of_before}
-use Rattle.seq.specs.Lists.{those}
+use Rattle.inlining.specs.Expanded.{saturated_at_64_bits, tag_size, tags_size, application_size, expanded_act, expanded_code, expanded_arms}
 
 cells_push : (cs : List Cell) (c : Cell) → cells_size (cs ++ c ∷ []) ≡ cells_size cs + (2 + val_size c.val)
 cells_push [] c = omega arith
@@ -90,24 +82,23 @@ module _ (p : Program) (A : Solution) where
 
   -- the size of alternatives
   pub record AltsSize (as' : List Alt) (n : ℕ) : Type 0 where
-    pub by : (rest : Arms) → saturated_at_64_bits (expanded_arms p A (arms_before (map arm_of as') rest)) ≡ saturated_at_64_bits (n + expanded_arms p A rest)
+    pub by : (rest : Arms) → saturated_at_64_bits (expanded_arms p A (all_arms (map arm_of as') rest)) ≡ saturated_at_64_bits (n + expanded_arms p A rest)
     pub fits : n ≤ 2 ^ 64 - 1
 
   pub no_alts : AltsSize [] 0
   no_alts = record { by = λ rest. let e : 0 + expanded_arms p A rest ≡ expanded_arms p A rest = omega arith in ap saturated_at_64_bits (sym e); fits = omega arith }
 
-  alt_sized : (a : Alt) (rest : Arms) (j b k : ℕ) → j ≡ shape_size a.pattern → b ≡ saturated_at_64_bits (expanded_code p A (code_of a.body)) → k ≡ saturated_at_64_bits (j + b) → saturated_at_64_bits (expanded_arms p A (arm (arm_of a).0 (arm_of a).1 rest)) ≡ saturated_at_64_bits (k + expanded_arms p A rest)
+  alt_sized : (a : Alt) (rest : Arms) (j b k : ℕ) → j ≡ shape_size a.pattern → b ≡ saturated_at_64_bits (expanded_code p A (code_of a.body)) → k ≡ saturated_at_64_bits (j + b) → saturated_at_64_bits (expanded_arms p A (arm a.pattern (code_of a.body) rest)) ≡ saturated_at_64_bits (k + expanded_arms p A rest)
   unfolding expanded_act
-  alt_sized a rest j b k e f g = ap (λ q. saturated_at_64_bits (expanded_arms p A (arm q.0 q.1 rest))) (arm_of-parts a) ∙ omega arith
+  alt_sized a rest j b k e f g = omega arith
 
   pub alt_more : (as' : List Alt) (i : ℕ) (a : Alt) (n j b k m : ℕ) → i < length as' → a ≡ get_or as' i a → AltsSize (take i as') n → j ≡ shape_size a.pattern → b ≡ saturated_at_64_bits (expanded_code p A (code_of a.body)) → k ≡ saturated_at_64_bits (j + b)
       → m ≡ saturated_at_64_bits (n + k) → AltsSize (take (i + 1) as') m
   alt_more as' i a n j b k m lt is u e f g h = record {
     by = λ rest.
-        ap (λ l. saturated_at_64_bits (expanded_arms p A (arms_before (map arm_of l) rest))) (take_next as' i a lt is) ∙ ap (λ l. saturated_at_64_bits (expanded_arms p A (arms_before l rest))) (map_push arm_of (take i as') a)
-        ∙ ap (λ r. saturated_at_64_bits (expanded_arms p A r)) (arms_before-push (map arm_of (take i as')) (arm_of a) rest)
-        ∙ chain (expanded_arms p A (arms_before (map arm_of (take i as')) (arm (arm_of a).0 (arm_of a).1 rest))) n (expanded_arms p A (arm (arm_of a).0 (arm_of a).1 rest)) k (expanded_arms p A rest) m
-        (u.by (arm (arm_of a).0 (arm_of a).1 rest)) (alt_sized a rest j b k e f g) h;
+        ap (λ l. saturated_at_64_bits (expanded_arms p A (all_arms (map arm_of l) rest))) (take_next as' i a lt is) ∙ ap (λ r. saturated_at_64_bits (expanded_arms p A r)) (all_arms_push (take i as') a rest)
+        ∙ chain (expanded_arms p A (all_arms (map arm_of (take i as')) (arm a.pattern (code_of a.body) rest))) n (expanded_arms p A (arm a.pattern (code_of a.body) rest)) k (expanded_arms p A rest) m
+        (u.by (arm a.pattern (code_of a.body) rest)) (alt_sized a rest j b k e f g) h;
     fits = omega arith;
   }
 
@@ -115,54 +106,15 @@ module _ (p : Program) (A : Solution) where
   unfolding expanded_act
   alts_sized as' i n le u =
       let fits = u.fits in
-      let e : saturated_at_64_bits (expanded_arms p A (arms_before (map arm_of as') no_arm)) ≡ saturated_at_64_bits (n + 0) = ap (λ l. saturated_at_64_bits (expanded_arms p A (arms_before (map arm_of l) no_arm))) (sym (take_all i as' le)) ∙ u.by no_arm in
-      let f : n ≡ saturated_at_64_bits (expanded_arms p A (arms_before (map arm_of as') no_arm)) = omega arith in
-      f ∙ ap (λ r. saturated_at_64_bits (expanded_arms p A r)) (sym (arms_of_before (map arm_of as')))
+      let e : saturated_at_64_bits (expanded_arms p A (all_arms (map arm_of as') no_arm)) ≡ saturated_at_64_bits (n + 0) = ap (λ l. saturated_at_64_bits (expanded_arms p A (all_arms (map arm_of l) no_arm))) (sym (take_all i as' le)) ∙ u.by no_arm in
+      let f : n ≡ saturated_at_64_bits (expanded_arms p A (all_arms (map arm_of as') no_arm)) = omega arith in
+      f ∙ ap (λ r. saturated_at_64_bits (expanded_arms p A r)) (all_arms_none (map arm_of as'))
 
-  -- the size of the alternatives of an evaluation, from those that are left
-  pub record TagsSize (a : Word) (n from : ℕ) : Type 0 where
-    pub sum : saturated_at_64_bits (evaluation_size p A a) ≡ saturated_at_64_bits (n + eval_tags_size p A (cell_tags_from p A a from))
-    pub within : from ≤ length p.tags
-    pub fits : n ≤ 2 ^ 64 - 1
+-- the size of alternatives, tag by tag
+module _ (size : Tag → ℕ) (tags : List Tag) where
+  sizes_push : (ts : List ℕ) (t : ℕ) → tags_size size tags (ts ++ t ∷ []) ≡ tags_size size tags ts + tag_size size (slice_get tags t)
+  sizes_push [] t = omega arith
+  sizes_push (s ∷ ts) t = let h = sizes_push ts t in omega arith
 
-  pub no_tags : (a : Word) → TagsSize a 5 0
-  no_tags a = record {
-    sum =
-        let e : length p.tags ≡ length p.tags - 0 = omega arith in
-        ap (λ k. saturated_at_64_bits (5 + eval_tags_size p A (those (λ t. any_satisfies (λ s. among (tag t) (A (site s) tags)) (sites_of p A a)) 0 k))) e;
-    within = omega arith;
-    fits = omega arith;
-  }
-
-  pub tag_more : (a : Word) (n from t k m : ℕ) → TagsSize a n from → cell_tags_from p A a from ≡ t ∷ cell_tags_from p A a (suc t) → t < length p.tags → k ≡ saturated_at_64_bits (eval_tag_size p A (slice_get p.tags t)) → m ≡ saturated_at_64_bits (n + k) → TagsSize a m (t + 1)
-  tag_more a n from t k m u e lt h f = record {
-    sum =
-        let s : eval_tags_size p A (cell_tags_from p A a from) ≡ eval_tag_size p A (slice_get p.tags t) + eval_tags_size p A (cell_tags_from p A a (suc t)) = ap (eval_tags_size p A) e in
-        let r = u.sum in
-        let g : saturated_at_64_bits (evaluation_size p A a) ≡ saturated_at_64_bits (m + eval_tags_size p A (cell_tags_from p A a (suc t))) = omega arith in
-        let z : suc t ≡ t + 1 = omega arith in
-        subst (λ j. saturated_at_64_bits (evaluation_size p A a) ≡ saturated_at_64_bits (m + eval_tags_size p A (cell_tags_from p A a j))) z g;
-    within = omega arith;
-    fits = omega arith;
-  }
-
-  pub tags_sized : (a : Word) (n from : ℕ) → TagsSize a n from → cell_tags_from p A a from ≡ [] → n ≡ saturated_at_64_bits (evaluation_size p A a)
-  tags_sized a n from u e = let s : eval_tags_size p A (cell_tags_from p A a from) ≡ 0 = ap (eval_tags_size p A) e in let r = u.sum in let f = u.fits in omega arith
-
-  those_low : (test : ℕ → Bool) (i k t : ℕ) (ts : List ℕ) → those test i k ≡ t ∷ ts → i ≤ t
-  those_low test i zero t ts e = cc
-  those_low test i (suc k) t ts e = go (test i) e (those_low test (suc i) k t ts)
-    where
-      go : (b : Bool) → cond b (i ∷ those test (suc i) k) (those test (suc i) k) ≡ t ∷ ts → (those test (suc i) k ≡ t ∷ ts → suc i ≤ t) → i ≤ t
-      go true e rest = let s : i ≡ t = cc in omega arith
-      go false e rest = let h : suc i ≤ t = rest e in omega arith
-
-  pub tags_low : (a : Word) (from t : ℕ) (ts : List ℕ) → cell_tags_from p A a from ≡ t ∷ ts → from ≤ t
-  tags_low a from t ts e = those_low _ from (length p.tags - from) t ts e
-
-  parts_push : (ts : List ℕ) (t : ℕ) → parts_size p A (ts ++ t ∷ []) ≡ parts_size p A ts + part_tag_size p A (slice_get p.tags t)
-  parts_push [] t = omega arith
-  parts_push (s ∷ ts) t = let h = parts_push ts t in omega arith
-
-  pub parts_more : (ts us : List ℕ) (t : ℕ) (i : Tag) → us ≡ ts ++ t ∷ [] → slice_get p.tags t ≡ Some i → parts_size p A us ≡ parts_size p A ts + part_tag_size p A (Some i)
-  parts_more ts us t i e is = ap (parts_size p A) e ∙ parts_push ts t ∙ ap (λ o. parts_size p A ts + part_tag_size p A o) is
+  pub sizes_more : (ts us : List ℕ) (t : ℕ) (i : Tag) → us ≡ ts ++ t ∷ [] → slice_get tags t ≡ Some i → tags_size size tags us ≡ tags_size size tags ts + (i.fields + size i)
+  sizes_more ts us t i e is = ap (tags_size size tags) e ∙ sizes_push ts t ∙ ap (λ o. tags_size size tags ts + tag_size size o) is

@@ -2,11 +2,10 @@
 use Rattle.std.specs.Prelude.{◌≡◌, ℕ, Bool, true, false, not, ◌&&◌, nat_eq, nat_le, List, [], ◌∷◌, length, Some, slice_get}
 use Rattle.std.specs.List.Sorted.{IsStrictlyIncreasing}
 use Rattle.grin_syntax.specs.declared.program.Tag.{Tag}
-use Rattle.grin_syntax.specs.declared.program.Shape.{Shape}
 use Rattle.grin_syntax.specs.declared.program.Word as W
 use Rattle.grin_syntax.specs.declared.program.Val as V
 use Rattle.grin_syntax.specs.declared.program.Val.TheVariants.{NodeVar, Node, Vector, One}
-use Rattle.grin_syntax.specs.Tree.{Code, Arms, arm, Program}
+use Rattle.grin_syntax.specs.Tree.{Program}
 use Rattle.grin_meaning.specs.Run.{is_part_kind, is_some_and}
 use Rattle.flow_system.specs.Solution.{Solution}
 use Rattle.inlining.specs.Applications.{word_has, value_has}
@@ -16,11 +15,6 @@ use Rattle.seq.specs.Lists.{In}
 abbrev pub is_nonempty : List ℕ → Bool
 is_nonempty [] = false
 is_nonempty (x ∷ xs) = true
-
--- alternatives before others
-abbrev pub arms_before : List (Shape × Code) → Arms → Arms
-arms_before [] last = last
-arms_before (a ∷ as') last = arm a.0 a.1 (arms_before as' last)
 
 module _ (p : Program) (A : Solution) where
   -- whether a vector may be a node of a tag with so many fields

@@ -2,15 +2,19 @@
 // A sum that passes the largest number stays there.
 #![tactic(auto, using(grin_syntax::proofs::TreeOf::tree_of), unfolding(inlining::specs::Expanded::expanded_act, inlining::specs::Size::act_size))]
 
-ghost use Rattle.std.specs.Prelude.{◌≡◌, ◌+◌, map, slice_get};
+ghost use Rattle.std.specs.Prelude.{◌≡◌, ◌+◌, ℕ, Bool, true, false, List, map, Some, slice_get, MatchOption};
+ghost use Rattle.std.specs.List.{filter};
+ghost use Rattle.grin_syntax.specs.declared.program.Tag.{Tag};
 ghost use Rattle.grin_syntax.specs.Tree.{Code, act_of, before_of, arm_of, arms_of, code_of, procedure_of};
 ghost use Rattle.inlining.specs.Applications.{part_tags_of};
 ghost use Rattle.inlining.specs.Size.{val_size, target_size, shape_size, cells_size, total};
+ghost use Rattle.apply_inline.specs.Applied.{meets_part};
 ghost use Rattle.apply_inline.specs.Known.{program, solution};
-ghost use Rattle.inlining.specs.Expanded.{saturated_at_64_bits, eval_body_size, eval_tag_size, evaluation_size, part_body_size, parts_size, application_size, expanded_act, expanded_code, expanded_arms, expanded_procedure};
+ghost use Rattle.eval_inline.specs.Met.{is_tag};
+ghost use Rattle.inlining.specs.Expanded.{saturated_at_64_bits, eval_body_size, evaluation_size, applied_size, tags_size, application_size, expanded_act, expanded_code, expanded_arms, expanded_procedure};
 
 use crate::known::Known;
-use eval_inline::met::next_tag;
+use eval_inline::met::tags_met;
 use grin_syntax::{
     Alt, Block, Cell, Op, Proc, Shape, Stmt, Tag, TagId, TagKind, Target, Val, Word,
 };
@@ -103,24 +107,8 @@ impl Known<'_> {
         ensures { result ≡ saturated_at_64_bits (evaluation_size (program self.now) (solution self.now)
             word.now) }
     {
-        let mut size = 5u64;
-        let mut from = 0;
-        'tags: while let Some(tag) = next_tag(self.program, self.flow, word, from) {
-            size = size.saturating_add(self.eval_tag_size(tag));
-            from = tag.0 as usize + 1;
-        }
-        size
-    }
-
-    // The alternative of an evaluation for a tag.
-    fn eval_tag_size(&self, t: TagId) -> u64
-        ensures { result ≡ saturated_at_64_bits (eval_tag_size (program self.now) (solution self.now)
-            (slice_get self.now.program.now.tags t.0)) }
-    {
-        match self.program.tags.get(t.0 as usize) {
-            Some(tag) => u64::from(tag.fields).saturating_add(eval_body_size(tag)),
-            None => 0,
-        }
+        let tags = tags_met(self.program, self.flow, word);
+        tags_size(&Evaluated { known: self }, tags).saturating_add(5)
     }
 
     fn application_size(&self, v: &Val) -> u64
@@ -135,30 +123,103 @@ impl Known<'_> {
 
     // The alternatives of an application.
     fn parts_size(&self, v: &Val) -> u64
-        ensures { result ≡ saturated_at_64_bits (parts_size (program self.now) (solution self.now)
+        ensures { result ≡ saturated_at_64_bits (tags_size applied_size self.now.program.now.tags
             (part_tags_of (program self.now) (solution self.now) v.now)) }
     {
-        let mut size = 0u64;
-        for t in self.candidates(v) {
-            if let Some(tag) = self.part(v, *t) {
-                size = size.saturating_add(part_size(tag));
-            }
-        }
-        size
+        let applied = Applied {
+            known: self,
+            value: v,
+        };
+        tags_size(&applied, self.candidates(v))
     }
 }
 
-// The alternative of an application for a function that lacks arguments.
-fn part_size(tag: &Tag) -> u64
-    ensures { result ≡ tag.now.fields + part_body_size tag.now tag.now.proc }
+// What opens a node by a case, as far as sizes go.
+trait OpensBySize {
+    ghost tags: { Self → List Tag };
+
+    ghost meets: { Self → ℕ → Bool };
+
+    ghost size: { Self → Tag → ℕ };
+
+    // What is known of a tag that the node may have.
+    fn met(&self, tag: TagId) -> Option<&Tag>
+        ensures { MatchOption result (meets self.now tag.0 ≡ false) (λ i.
+            (meets self.now tag.0 ≡ true) × (slice_get (tags self.now) tag.0 ≡ Some i.now)) };
+
+    // The size of what is done with a node of a tag.
+    fn body_size(&self, tag: &Tag) -> u64
+        ensures { result ≡ size self.now tag.now };
+}
+
+// The alternatives for these tags.
+fn tags_size<O: OpensBySize>(of: &O, tags: &[TagId]) -> u64
+    ensures { result ≡ saturated_at_64_bits (tags_size (O.size of.now) (O.tags of.now)
+        (filter (O.meets of.now) (map (λ t. t.0) tags.now))) }
 {
-    let fields = u64::from(tag.fields);
+    let mut size = 0u64;
+    for t in tags {
+        if let Some(tag) = of.met(*t) {
+            let fields = u64::from(tag.fields);
+            size = size.saturating_add(of.body_size(tag).saturating_add(fields));
+        }
+    }
+    size
+}
+
+#[derive(Drop)]
+struct Evaluated<'a, 'b> {
+    known: &'b Known<'a>,
+}
+
+impl OpensBySize for Evaluated<'_, '_> {
+    ghost tags = { λ k. k.known.now.program.now.tags };
+
+    ghost meets = { λ k. is_tag (program k.known.now) };
+
+    ghost size = { λ k. eval_body_size };
+
+    fn met(&self, tag: TagId) -> Option<&Tag> {
+        self.known.program.tags.get(tag.0 as usize)
+    }
+
+    fn body_size(&self, tag: &Tag) -> u64 {
+        eval_body_size(tag)
+    }
+}
+
+#[derive(Drop)]
+struct Applied<'a, 'b> {
+    known: &'b Known<'a>,
+    value: &'b Val,
+}
+
+impl OpensBySize for Applied<'_, '_> {
+    ghost tags = { λ k. k.known.now.program.now.tags };
+
+    ghost meets = { λ k. meets_part (program k.known.now) (solution k.known.now) k.value.now };
+
+    ghost size = { λ k. applied_size };
+
+    fn met(&self, tag: TagId) -> Option<&Tag> {
+        self.known.part(self.value, tag)
+    }
+
+    fn body_size(&self, tag: &Tag) -> u64 {
+        applied_size(tag)
+    }
+}
+
+// What is done with a node that lacked an argument and has it now.
+fn applied_size(tag: &Tag) -> u64
+    ensures { result ≡ applied_size tag.now }
+{
     match tag.proc {
         Some(_) => match tag.missing {
-            0 => fields + 1,
-            _ => fields + fields + 2,
+            0 => 1,
+            _ => u64::from(tag.fields) + 2,
         },
-        None => fields + 1,
+        None => 1,
     }
 }
 

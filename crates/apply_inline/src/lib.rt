@@ -18,6 +18,7 @@ mod known;
 
 use blocks::ApplyInliner;
 use flow_system::starts::partial_tag_starts;
+use grin_rewrite::rewrite_with_fresh;
 use grin_syntax::Grin;
 use grin_syntax::fresh::Fresh;
 use known::Known;
@@ -45,7 +46,7 @@ pub fn inline(alloc: Global, mut g: Grin, flow: &Flow) -> Result<Grin, AllocErro
         known: Known { program: &g, flow },
         starts: starts.as_slice(),
     };
-    g.procs = inlining.procs(alloc, &mut fresh, procs)?;
+    g.procs = rewrite_with_fresh(alloc, &inlining, &mut fresh, procs)?;
     Ok(g)
 }
 

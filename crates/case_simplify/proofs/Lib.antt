@@ -1,12 +1,8 @@
-pub mod Tables
-pub mod Loops
+pub mod Statements
 pub mod Held
 pub mod Scoped
-pub mod Copied
-pub mod Bound
-pub mod Steps
-pub mod Simulated
+pub mod Knowing
 pub mod Cases
-pub mod Standing
+pub mod Asked
 pub mod Gives
 pub mod Contract

@@ -1,5 +1,5 @@
 -- What is known of the variables at a place of a program: the tag or the number that each holds.
-use Rattle.std.specs.Prelude.{ℕ, cond, nat_eq, List, [], ◌∷◌, Option, Some, None, slice_get}
+use Rattle.std.specs.Prelude.{List, [], ◌∷◌, Option, Some, None, slice_get}
 use Rattle.grin_syntax.specs.declared.program.VarId.{VarId}
 use Rattle.grin_syntax.specs.declared.program.Word as W
 use Rattle.grin_syntax.specs.declared.program.Word.TheVariants.{Lit, Var, Global, TagWord}
@@ -14,25 +14,11 @@ use Rattle.grin_syntax.specs.Tree.{Act, leaf, unit}
 use Rattle.grin_meaning.specs.Values.{and_then}
 pub use Rattle.case_simplify.specs.declared.known.Known.{Known}
 pub use Rattle.case_simplify.specs.declared.known.Known.TheVariants.{Tag, Number}
-use Rattle.case_simplify.specs.declared.known.Fact.{Fact}
+use Rattle.grin_rewrite.specs.Table.{Facts as FactsOf}
+pub use Rattle.grin_rewrite.specs.Table.{nothing_known, note, facts_of}
 
 abbrev pub Facts : Type 0
-Facts = ℕ → Option Known
-
-abbrev pub nothing_known : Facts
-nothing_known x = None
-
--- a variable more of which something is known
-abbrev pub note : VarId → Known → Facts → Facts
-note x k facts = λ y. cond (nat_eq y x.0) (Some k) (facts y)
-
--- what a list of facts says, where the last one counts
-abbrev pub extended_by_facts : Facts → List Fact → Facts
-extended_by_facts facts [] = facts
-extended_by_facts facts (f ∷ fs) = extended_by_facts (note f.var f.known facts) fs
-
-abbrev pub facts_of : List Fact → Facts
-facts_of fs = extended_by_facts nothing_known fs
+Facts = FactsOf Known
 
 -- what is known of a word
 abbrev pub told : Facts → W.Word → Option Known
@@ -41,18 +27,19 @@ told facts (TagWord t) = Some (Tag t)
 told facts (Var x) = facts x.0
 told facts (Global i) = None
 
+-- the words of a value; those of a node are its tag and its fields
+abbrev pub words_in : V.Val → List W.Word
+words_in (NodeVar x) = []
+words_in (Node t ws) = TagWord t ∷ ws
+words_in (Vector ws) = ws
+words_in (One w) = w ∷ []
+
 -- the word of a value that holds its tag, and the one after it
 abbrev pub first_word : V.Val → Option W.Word
-first_word (NodeVar x) = None
-first_word (Node t ws) = Some (TagWord t)
-first_word (Vector ws) = slice_get ws 0
-first_word (One w) = Some w
+first_word v = slice_get (words_in v) 0
 
 abbrev pub second_word : V.Val → Option W.Word
-second_word (NodeVar x) = None
-second_word (Node t ws) = slice_get ws 0
-second_word (Vector ws) = slice_get ws 1
-second_word (One w) = None
+second_word v = slice_get (words_in v) 1
 
 abbrev pub known_first_word : Facts → V.Val → Option Known
 known_first_word facts v = and_then (first_word v) (told facts)
@@ -77,13 +64,6 @@ abbrev pub note_copies : List VarId → List W.Word → Facts → Facts
 note_copies [] ws facts = facts
 note_copies (x ∷ xs) [] facts = facts
 note_copies (x ∷ xs) (w ∷ ws) facts = note_copies xs ws (note_known x (told facts w) facts)
-
--- the words of a value; those of a node are its tag and its fields
-abbrev pub words_in : V.Val → List W.Word
-words_in (NodeVar x) = []
-words_in (Node t ws) = TagWord t ∷ ws
-words_in (Vector ws) = ws
-words_in (One w) = w ∷ []
 
 -- the variables of a target that are given a word each
 abbrev pub word_vars : Target → List VarId

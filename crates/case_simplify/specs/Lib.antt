@@ -1,5 +1,4 @@
 pub mod Known
-pub mod Table
 pub mod Choice
 pub mod Chosen
 pub mod Simple

@@ -5,10 +5,10 @@ use Rattle.grin_syntax.specs.declared.program.Word as W
 use Rattle.grin_syntax.specs.declared.program.Word.TheVariants.{Lit, Var, Global, TagWord}
 use Rattle.grin_syntax.specs.declared.program.Val as V
 use Rattle.grin_syntax.specs.declared.program.Val.TheVariants.{NodeVar, Node, Vector, One}
-use Rattle.grin_syntax.specs.declared.program.Shape.{Shape}
-use Rattle.grin_syntax.specs.Tree.{Code, end, store, bind, Act, leaf, unit, fetch, fetch_word, update, eval, apply, call, prim, read, write, case, nested, fail, Arms, no_arm, arm, Program, as_act}
+use Rattle.grin_syntax.specs.Tree.{Code, end, Act, leaf, unit, case, fail, Arms, no_arm, arm, Program, as_act}
 use Rattle.grin_meaning.specs.Checks.{is_some_and}
 use Rattle.grin_meaning.specs.Rewritten.{rewritten}
+use Rattle.grin_rewrite.specs.WithFacts.{WithFacts, walk_act, walk_code, walk_arms}
 use Rattle.numbers.specs.Numbers.{same_number}
 use Rattle.case_simplify.specs.Known.{Facts, nothing_known, known_after, facts_in_alternative}
 use Rattle.case_simplify.specs.Choice.{selected_block_for_value}
@@ -78,26 +78,26 @@ block_or_case v as' None = unit_or_case v as'
 abbrev pub simple_case : Facts → V.Val → Arms → Act
 simple_case facts v as' = block_or_case v as' (selected_block_for_value facts v as')
 
-unfoldable mutual
-  pub simple_act : Facts → Act → Act
-  simple_act facts (leaf l) = leaf l
-  simple_act facts (case v as') = simple_case facts v (simple_arms facts v as')
-  simple_act facts (nested b) = nested (simple_code facts b)
+-- what becomes of each piece: a case, by what is known where it stands
+abbrev pub simplifying : WithFacts Facts
+simplifying = record {
+  leaf_becomes = λ facts l. leaf l;
+  value_becomes = λ facts v. v;
+  cells_become = λ facts cs. cs;
+  case_becomes = simple_case;
+  after = λ facts t o. known_after t o facts;
+  inside = λ facts v s. facts_in_alternative v s facts;
+}
 
-  pub simple_code : Facts → Code → Code
-  simple_code facts (end o) = end (simple_act facts o)
-  simple_code facts (store cs b) = store cs (simple_code facts b)
-  simple_code facts (bind t o b) =
-      bind t (simple_act facts o) (simple_code (known_after t (simple_act facts o) facts) b)
+abbrev pub simple_act : Facts → Act → Act
+simple_act = walk_act simplifying
 
-  -- the alternatives of a case on v
-  pub simple_arms : Facts → V.Val → Arms → Arms
-  simple_arms facts v no_arm = no_arm
-  simple_arms facts v (arm s b as') =
-      arm s (simple_code (facts_in_alternative v s facts) b) (simple_arms facts v as')
+abbrev pub simple_code : Facts → Code → Code
+simple_code = walk_code simplifying
 
-abbrev pub simple_arm : Facts → V.Val → Shape × Code → Shape × Code
-simple_arm facts v a = (a.0, simple_code (facts_in_alternative v a.0 facts) a.1)
+-- the alternatives of a case on v
+abbrev pub simple_arms : Facts → V.Val → Arms → Arms
+simple_arms = walk_arms simplifying
 
 abbrev pub simplified : Program → Program
 simplified g = rewritten (simple_code nothing_known) g

@@ -68,6 +68,7 @@ fn verdict_of(tag: TagId, second: Option<Known>, pattern: &Shape) -> Verdict
     }
 }
 
+#[tactic(auto, using(crate::proofs::Statements::taken_over))]
 fn choose_for(tag: TagId, second: Option<Known>, alts: &[Alt]) -> Choice
     ensures within { IsInRange result (length alts.now) }
     ensures body { chosen_body result alts.now ≡ selected_block tag second (arms_of (map arm_of alts.now)) }
@@ -97,7 +98,7 @@ pub(crate) fn choose(first: Option<Known>, second: Option<Known>, alts: &[Alt]) 
 }
 
 // The value that a block only gives.
-#[tactic(auto, using(grin_syntax::proofs::TreeOf::tree_of, crate::proofs::Loops::none_given))]
+#[tactic(auto, using(grin_syntax::proofs::TreeOf::tree_of, crate::proofs::Statements::none_given))]
 fn returned_value(block: &Block) -> Option<&Val>
     ensures { MatchOption result (returned_value (code_of block.now)
         ≡ None) (λ u. returned_value (code_of block.now) ≡ Some u.now) }
@@ -139,6 +140,7 @@ fn returns_val(u: &Val, block: &Block) -> bool
     }
 }
 
+#[tactic(auto, using(crate::proofs::Statements::returned_over))]
 fn all_arms_return(u: &Val, alts: &[Alt]) -> bool
     ensures { result ≡ all_arms_return u.now (arms_of (map arm_of alts.now)) }
 {
@@ -164,12 +166,11 @@ fn all_like(v: &Val, block: &Block, alts: &[Alt]) -> bool
 
 /// Whether each alternative only gives back the value `v` of its case, or the same first words of
 /// it.
-#[tactic(auto, using(crate::proofs::Loops::gives_first, crate::proofs::Loops::gives_none))]
 pub(crate) fn returns_scrutinee(v: &Val, alts: &[Alt]) -> bool
     ensures { result ≡ returns_scrutinee v.now (arms_of (map arm_of alts.now)) }
 {
-    match alts.get(0) {
-        Some(alt) => all_like(v, &alt.body, alts),
+    match alts.split_first() {
+        Some((alt, _)) => all_like(v, &alt.body, alts),
         None => false,
     }
 }

@@ -6,7 +6,8 @@ mod blocks;
 mod choice;
 mod known;
 mod pass;
+mod rule;
 mod words;
 
-pub use known::{Fact, FactTable, Known, note_pattern, note_statement};
+pub use known::{Known, note_pattern, note_statement};
 pub use pass::{Simplify, with_fewer_cases};

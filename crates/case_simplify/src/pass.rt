@@ -7,11 +7,9 @@ ghost use Rattle.pass_ground.specs.Vectors.{IsVectorForm};
 ghost use Rattle.case_simplify.specs.Simple.{simplified};
 ghost use Rattle.case_simplify.specs.Simplified.{Simplified};
 
-use crate::blocks::simple_block;
-use crate::known::FactTable;
 use grin_meaning::Pass;
-use grin_syntax::{Grin, Proc};
-use seq::Seq;
+use grin_rewrite::{FactTable, rewrite_with_facts};
+use grin_syntax::Grin;
 use std::alloc::{AllocError, Global};
 
 /// Where the text tells which tag a case meets, by a literal or by an alternative around it on the
@@ -36,10 +34,6 @@ pub fn with_fewer_cases(alloc: Global, g: Grin) -> Result<Grin, AllocError>
     ensures { IfOk result (λ h. program_of h ≡ simplified (program_of g)) }
 {
     let mut facts = FactTable::new(alloc);
-    let mut procs = Seq::new(alloc);
-    for proc in g.procs.into_vec() {
-        let body = simple_block(alloc, &mut facts, proc.body)?;
-        procs.push(Proc { body, ..proc })?;
-    }
-    Ok(Grin { procs, ..g })
+    let h = rewrite_with_facts(alloc, &Simplify, &mut facts, g)?;
+    Ok(h)
 }

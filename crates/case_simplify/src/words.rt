@@ -1,7 +1,6 @@
 // Values that are the same, or the front of each other.
 
-ghost use Rattle.std.specs.Prelude.{◌≡◌, slice_get};
-ghost use Rattle.grin_meaning.specs.Checks.{is_some_and};
+ghost use Rattle.std.specs.Prelude.{◌≡◌};
 ghost use Rattle.case_simplify.specs.Simple.{same_word, is_prefix, same_words, same_val, is_prefix_val};
 
 use grin_syntax::{Val, Word};
@@ -37,28 +36,17 @@ fn same_word(a: Word, b: Word) -> bool
     }
 }
 
-// Whether this word stands there.
-fn stands_at(word: &Word, words: &[Word], at: usize) -> bool
-    ensures { result ≡ is_some_and (slice_get words.now at) (same_word word.now) }
-{
-    match words.get(at) {
-        Some(other) => same_word(*word, *other),
-        None => false,
-    }
-}
-
 // Whether the first words are the front of the second ones.
 fn is_prefix(front: &[Word], words: &[Word]) -> bool
     ensures { result ≡ is_prefix front.now words.now }
 {
-    let mut at = 0;
-    'front: for word in front {
-        if !stands_at(word, words, at) {
-            return false;
-        }
-        at += 1;
+    match front.split_first() {
+        Some((word, front)) => match words.split_first() {
+            Some((other, words)) => same_word(*word, *other) && is_prefix(front, words),
+            None => false,
+        },
+        None => true,
     }
-    true
 }
 
 fn same_words(a: &[Word], b: &[Word]) -> bool

@@ -15,8 +15,7 @@ use Rattle.grin_syntax.specs.declared.program.Stmt.TheVariants.{Store, Bind}
 use Rattle.grin_syntax.specs.Tree.{Code, end, bind, Act, Arms, no_arm, arm, case, act_of, before_of, arm_of, code_of, all_before, arms_of}
 use Rattle.grin_syntax.proofs.TreeOf.{act_of-Case, before_of-Store, before_of-Bind, code_of-parts}
 use Rattle.grin_syntax.proofs.Pieces.{all_arms, all_arms_none, arms_push}
-use Rattle.copy_prop.specs.Resolved.{optional_statement}
-use Rattle.copy_prop.specs.Lean.{used_in_val, used_in_cells, used_in_act, used_in_code, used_in_arms, is_idle, unless, without_idle_act, without_idle_code, without_idle_arms}
+use Rattle.copy_prop.specs.Lean.{used_in_val, used_in_cells, used_in_act, used_in_code, used_in_arms, is_idle, unless, optional_statement, without_idle_act, without_idle_code, without_idle_arms}
 use Rattle.copy_prop.proofs.Used.{drop_front}
 
 -- ---- statements

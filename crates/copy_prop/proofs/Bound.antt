@@ -1,35 +1,21 @@
 -- Which variables are bound, and which stay.
-use Rattle.std.proofs.Common.{◌≡◌, ℕ, suc, Bool, true, false, cond, ◌||◌, nat_eq, List, [], ◌∷◌, length, Option, Some, None, refl, sym, ap, ◌∙◌}
+use Rattle.std.proofs.Common.{◌≡◌, ℕ, Bool, true, false, cond, nat_eq, List, [], ◌∷◌, length, Option, Some, None, refl, sym, ap, ◌∙◌}
 use Rattle.seq.proofs.Lists.{some_is}
 use Rattle.seq.proofs.Truth.{neither_left, neither_right}
 use Rattle.grin_syntax.specs.declared.program.VarId.{VarId}
-use Rattle.grin_syntax.specs.declared.program.Cell.{Cell}
 use Rattle.grin_syntax.specs.declared.program.Target.{Target}
 use Rattle.grin_syntax.specs.declared.program.Target.TheVariants as to
 use Rattle.grin_syntax.specs.declared.program.Shape.{Shape}
 use Rattle.grin_syntax.specs.declared.program.Shape.TheVariants as shape
 use Rattle.grin_syntax.specs.Tree.{Program}
-use Rattle.grin_syntax.specs.Binders.{numbers_of, target_vars, shape_vars, cell_vars}
+use Rattle.grin_syntax.specs.Binders.{numbers_of, target_vars, shape_vars}
 use Rattle.grin_meaning.specs.Values.{Datum, number, tag, cell, Node, Value, node, words, Env, and_then, Binding, with_vars, one_each, padded, fits, fits_not, fields_fit, node_fit, number_fit, int_fit, fit_of, as_node, bindings_of}
-use Rattle.grin_meaning.specs.Run.{places}
 use Rattle.seq.specs.Lists.{is_among}
 use Rattle.grin_meaning.proofs.Bindings.{fits_is, keys}
 
 pub others_stay : (bs : List Binding) (env : Env) (x : ℕ) → is_among x (keys bs) ≡ false → with_vars bs env x ≡ env x
 others_stay [] env x h = refl
 others_stay (b ∷ bs) env x h = others_stay bs _ x (neither_right (nat_eq x b.0) (is_among x (keys bs)) h) ∙ ap (λ t. cond t (Some b.1) (env x)) (neither_left (nat_eq x b.0) (is_among x (keys bs)) h)
-
-pub bound_alike : (bs : List Binding) (env env' : Env) (x : ℕ) → is_among x (keys bs) ≡ true → with_vars bs env x ≡ with_vars bs env' x
-bound_alike [] env env' x h = cc
-bound_alike (b ∷ bs) env env' x h = go (is_among x (keys bs)) refl h (bound_alike bs _ _ x)
-  where
-    go : (t : Bool) → is_among x (keys bs) ≡ t → (nat_eq x b.0 || t) ≡ true → (is_among x (keys bs) ≡ true → with_vars (b ∷ bs) env x ≡ with_vars (b ∷ bs) env' x) → with_vars (b ∷ bs) env x ≡ with_vars (b ∷ bs) env' x
-    go true q h k = k q
-    go false q h k = others_stay bs _ x q ∙ ap (λ t. cond t (Some b.1) (env x)) (here (nat_eq x b.0) h) ∙ sym (others_stay bs _ x q ∙ ap (λ t. cond t (Some b.1) (env' x)) (here (nat_eq x b.0) h))
-      where
-        here : (t : Bool) → (t || false) ≡ true → t ≡ true
-        here true h = refl
-        here false h = h
 
 pub names_each : (xs : List VarId) (ds : List Datum) (bs : List Binding) → one_each xs ds ≡ Some bs → keys bs ≡ numbers_of xs
 names_each [] [] bs e = ap keys (sym (some_is e))
@@ -40,10 +26,6 @@ names_each (x ∷ xs) (d ∷ ds) bs e = go (one_each xs ds) refl e (names_each x
     go : (o : Option (List Binding)) → one_each xs ds ≡ o → and_then o (λ cs. Some ((x.0, words (d ∷ [])) ∷ cs)) ≡ Some bs → ((cs : List Binding) → one_each xs ds ≡ Some cs → keys cs ≡ numbers_of xs) → keys bs ≡ numbers_of (x ∷ xs)
     go None q e k = cc
     go (Some cs) q e k = ap keys (sym (some_is e)) ∙ ap (λ l. x.0 ∷ l) (k cs q)
-
-pub names_places : (a : ℕ) (cs : List Cell) → keys (places a cs) ≡ cell_vars cs
-names_places a [] = refl
-names_places a (c ∷ cs) = ap (λ l. c.var.0 ∷ l) (names_places (suc a) cs)
 
 pub names_target : (g : Program) (t : Target) (v : Value) (bs : List Binding) → bindings_of g t v ≡ Some bs → keys bs ≡ target_vars t
 names_target g to.Nothing (words []) bs e = ap keys (sym (some_is e))

@@ -23,9 +23,8 @@ use Rattle.grin_meaning.specs.Rewritten.{rewritten_procedure}
 use Rattle.copy_prop.specs.Lean.{used_in_word, used_in_words, used_in_val, used_in_cells, used_in_act, used_in_code, used_in_arms, are_disjoint, has_no_effect, is_idle, unless, without_idle_act, without_idle_code, without_idle_arms, lean}
 use Rattle.copy_prop.specs.Copied.{IsCopy, Unused, IsNeeded, BoundAct, BoundCode, BoundArms}
 use Rattle.copy_prop.proofs.Used.{none_absent}
-use Rattle.copy_prop.proofs.Held.{as_scope, target_scope}
 use Rattle.copy_prop.proofs.LeanSimulated.{Covers, covers_left, covers_right}
-use Rattle.copy_prop.proofs.ResolvedFormed.{NoCopy}
+use Rattle.copy_prop.proofs.Unused.{CopyIsUnused, Other}
 use Rattle.seq.specs.Lists.{times, is_among}
 use Rattle.grin_meaning.specs.Pieces.{HasNoEffect}
 use Rattle.seq.proofs.Counted.{times_fewer, times_append, among_first, among_append}
@@ -62,35 +61,15 @@ module _ (K : PieceKind) (op_stays : (o : Act) → K.operation o → K.operation
 
 pub inlined_stays : (o : Act) → Inlined o → Inlined (without_idle_act o)
 unfolding without_idle_act
-inlined_stays (leaf (eval a)) h = h
-inlined_stays (leaf (apply v a)) h = h
-inlined_stays (leaf (unit v)) h = tt
-inlined_stays (leaf (fetch a)) h = tt
-inlined_stays (leaf (fetch_word a i)) h = tt
-inlined_stays (leaf (update a v)) h = tt
-inlined_stays (leaf (call f ws)) h = tt
-inlined_stays (leaf (prim p a b)) h = tt
-inlined_stays (leaf read) h = tt
-inlined_stays (leaf (write a)) h = tt
+inlined_stays (leaf l) h = h
 inlined_stays (case v as') h = tt
 inlined_stays (nested b) h = tt
-inlined_stays (leaf fail) h = tt
 
 pub by_words_stays : (o : Act) → IsNotNodeFetch o → IsNotNodeFetch (without_idle_act o)
 unfolding without_idle_act
-by_words_stays (leaf (fetch a)) h = h
-by_words_stays (leaf (unit v)) h = tt
-by_words_stays (leaf (fetch_word a i)) h = tt
-by_words_stays (leaf (update a v)) h = tt
-by_words_stays (leaf (eval a)) h = tt
-by_words_stays (leaf (apply v a)) h = tt
-by_words_stays (leaf (call f ws)) h = tt
-by_words_stays (leaf (prim p a b)) h = tt
-by_words_stays (leaf read) h = tt
-by_words_stays (leaf (write a)) h = tt
+by_words_stays (leaf l) h = h
 by_words_stays (case v as') h = tt
 by_words_stays (nested b) h = tt
-by_words_stays (leaf fail) h = tt
 
 module _ (w most : ℕ) where
   bind_narrow : (t : Target) (o' : Act) (c : Code) (q : Bool) → NarrowCode w most c → NarrowCode w most (unless q (bind t o') c)
@@ -137,33 +116,30 @@ other_number x y h = go (nat_eq x y) refl
     go false q = refl
 
 module _ (x : ℕ) where
-  abbrev Other : ℕ → Type 0
-  Other y = y ≢ x
-
-  word_absent : (a : W.Word) → WordOk Other a → is_among x (used_in_word a) ≡ false
+  word_absent : (a : W.Word) → WordOk (Other x) a → is_among x (used_in_word a) ≡ false
   word_absent (Var y) h = other_number x y.0 h
   word_absent (Lit k) h = refl
   word_absent (Global i) h = refl
   word_absent (TagWord t) h = refl
 
-  words_absent : (ws : List W.Word) → WordsOk Other ws → is_among x (used_in_words ws) ≡ false
+  words_absent : (ws : List W.Word) → WordsOk (Other x) ws → is_among x (used_in_words ws) ≡ false
   words_absent [] h = refl
   words_absent (a ∷ ws) h = absent_both x (used_in_word a) (used_in_words ws) (word_absent a h.0) (words_absent ws h.1)
 
-  val_absent : (v : V.Val) → ValOk Other v → is_among x (used_in_val v) ≡ false
+  val_absent : (v : V.Val) → ValOk (Other x) v → is_among x (used_in_val v) ≡ false
   val_absent (NodeVar y) h = other_number x y.0 h
   val_absent (Node t ws) h = words_absent ws h
   val_absent (Vector ws) h = words_absent ws h
   val_absent (One a) h = word_absent a h
 
-  cells_absent : (cs : List Cell) → CellsOk Other cs → is_among x (used_in_cells cs) ≡ false
+  cells_absent : (cs : List Cell) → CellsOk (Other x) cs → is_among x (used_in_cells cs) ≡ false
   cells_absent [] h = refl
   cells_absent (c ∷ cs) h = absent_both x (used_in_val c.val) (used_in_cells cs) (val_absent c.val h.0) (cells_absent cs h.1)
 
   mutual
     unfolding used_in_act ActOk
 
-    act_absent : (o : Act) → ActOk Other o → is_among x (used_in_act o) ≡ false
+    act_absent : (o : Act) → ActOk (Other x) o → is_among x (used_in_act o) ≡ false
     act_absent (leaf (unit v)) h = val_absent v h
     act_absent (leaf (fetch a)) h = word_absent a h
     act_absent (leaf (fetch_word a i)) h = word_absent a h
@@ -178,12 +154,12 @@ module _ (x : ℕ) where
     act_absent (nested b) h = code_absent b h
     act_absent (leaf fail) h = refl
 
-    pub code_absent : (b : Code) → CodeOk Other b → is_among x (used_in_code b) ≡ false
+    pub code_absent : (b : Code) → CodeOk (Other x) b → is_among x (used_in_code b) ≡ false
     code_absent (end o) h = act_absent o h
     code_absent (store cs b) h = absent_both x (used_in_code b) (used_in_cells cs) (code_absent b h.1) (cells_absent cs h.0)
     code_absent (bind t o b) h = absent_both x (used_in_code b) (used_in_act o) (code_absent b h.1) (act_absent o h.0)
 
-    arms_absent : (as' : Arms) → ArmsOk Other as' → is_among x (used_in_arms as') ≡ false
+    arms_absent : (as' : Arms) → ArmsOk (Other x) as' → is_among x (used_in_arms as') ≡ false
     arms_absent no_arm h = refl
     arms_absent (arm s b as') h = absent_both x (used_in_code b) (used_in_arms as') (code_absent b h.0) (arms_absent as' h.1)
 
@@ -203,46 +179,74 @@ was_still (leaf (unit v)) h = refl
 was_still (leaf (fetch a)) h = refl
 was_still (leaf (fetch_word a i)) h = refl
 was_still (leaf (prim p a b)) h = refl
-was_still (leaf (update a v)) h = absurd h
-was_still (leaf (eval a)) h = absurd h
-was_still (leaf (apply v a)) h = absurd h
-was_still (leaf (call f ws)) h = absurd h
-was_still (leaf read) h = absurd h
-was_still (leaf (write a)) h = absurd h
+was_still (leaf _) h = absurd h
 was_still (case v as') h = absurd h
 was_still (nested b) h = absurd h
-was_still (leaf fail) h = absurd h
 
-bind_needed : (t : Target) (o : Act) (c : Code) (q : Bool) → is_idle t o (used_in_code c) ≡ q → (IsCopy t o → ⊥) → BoundAct IsNeeded (without_idle_act o) → BoundCode IsNeeded c → BoundCode IsNeeded (unless q (bind t (without_idle_act o)) c)
+copy_still : (t : Target) (o : Act) → IsCopy t o → has_no_effect o ≡ true
+copy_still t (leaf (unit v)) h = refl
+copy_still t (leaf _) h = absurd h
+copy_still t (case v as') h = absurd h
+copy_still t (nested b) h = absurd h
+
+-- a copy that nobody uses is idle
+bind_needed : (t : Target) (o : Act) (c : Code) (q : Bool) → is_idle t o (used_in_code c) ≡ q → CopyIsUnused t o c → BoundAct IsNeeded (without_idle_act o) → BoundCode IsNeeded c → BoundCode IsNeeded (unless q (bind t (without_idle_act o)) c)
 unfolding BoundAct
 bind_needed t o c true e n f h = h
 bind_needed t o c false e n f h = (
   record {
-    no_copy = λ i. n (was_copy t o i);
+    no_copy = λ i. not_both (is_idle t o (used_in_code c)) ((λ j. copy_still t o (was_copy t o i) j && none_used c (target_vars t) (n (was_copy t o i)) j)) e;
     not_idle = λ s u. not_both (is_idle t o (used_in_code c)) ((λ i. was_still o s i && none_used c (target_vars t) u i)) e;
   },
   f,
   h,
 )
 
+module _ (Ok : ℕ → Type 0) where
+  bind_names : (t : Target) (o' : Act) (c : Code) (q : Bool) → ActOk Ok o' → CodeOk Ok c → CodeOk Ok (unless q (bind t o') c)
+  unfolding ActOk
+  bind_names t o' c false h k = (h, k)
+  bind_names t o' c true h k = k
+
+  mutual
+    unfolding without_idle_act ActOk
+
+    act_names : (o : Act) → ActOk Ok o → ActOk Ok (without_idle_act o)
+    act_names (case v as') h = (h.0, arms_names as' h.1)
+    act_names (nested b) h = code_names b h
+    act_names (leaf l) h = h
+
+    code_names : (b : Code) → CodeOk Ok b → CodeOk Ok (without_idle_code b)
+    code_names (end o) h = act_names o h
+    code_names (store cs b) h = (h.0, code_names b h.1)
+    code_names (bind t o b) h = bind_names t (without_idle_act o) (without_idle_code b) (is_idle t o (used_in_code (without_idle_code b))) (act_names o h.0) (code_names b h.1)
+
+    arms_names : (as' : Arms) → ArmsOk Ok as' → ArmsOk Ok (without_idle_arms as')
+    arms_names no_arm h = tt
+    arms_names (arm s b as') h = (code_names b h.0, arms_names as' h.1)
+
+still_unused : (b : Code) (xs : List ℕ) → AllOf (Unused b) xs → AllOf (Unused (without_idle_code b)) xs
+still_unused b [] h = tt
+still_unused b (x ∷ xs) h = (code_names (Other x) b h.0, still_unused b xs h.1)
+
 mutual
   unfolding without_idle_act BoundAct
 
-  act_needed : (o : Act) → BoundAct NoCopy o → BoundAct IsNeeded (without_idle_act o)
+  act_needed : (o : Act) → BoundAct CopyIsUnused o → BoundAct IsNeeded (without_idle_act o)
   act_needed (case v as') h = arms_needed as' h
   act_needed (nested b) h = code_needed b h
   act_needed (leaf l) h = tt
 
-  code_needed : (b : Code) → BoundCode NoCopy b → BoundCode IsNeeded (without_idle_code b)
+  code_needed : (b : Code) → BoundCode CopyIsUnused b → BoundCode IsNeeded (without_idle_code b)
   code_needed (end o) h = act_needed o h
   code_needed (store cs b) h = code_needed b h
-  code_needed (bind t o b) h = bind_needed t o (without_idle_code b) (is_idle t o (used_in_code (without_idle_code b))) refl h.0 (act_needed o h.1) (code_needed b h.2)
+  code_needed (bind t o b) h = bind_needed t o (without_idle_code b) (is_idle t o (used_in_code (without_idle_code b))) refl (λ i. still_unused b (target_vars t) (h.0 i)) (act_needed o h.1) (code_needed b h.2)
 
-  arms_needed : (as' : Arms) → BoundArms NoCopy as' → BoundArms IsNeeded (without_idle_arms as')
+  arms_needed : (as' : Arms) → BoundArms CopyIsUnused as' → BoundArms IsNeeded (without_idle_arms as')
   arms_needed no_arm h = tt
   arms_needed (arm s b as') h = (code_needed b h.0, arms_needed as' h.1)
 
-pub procs_needed : (qs : List Procedure) → AllOf (λ q. BoundCode NoCopy q.body) qs → AllOf (λ q. BoundCode IsNeeded q.body) (map (rewritten_procedure without_idle_code) qs)
+pub procs_needed : (qs : List Procedure) → AllOf (λ q. BoundCode CopyIsUnused q.body) qs → AllOf (λ q. BoundCode IsNeeded q.body) (map (rewritten_procedure without_idle_code) qs)
 procs_needed [] h = tt
 procs_needed (q ∷ qs) h = (code_needed q.body h.0, procs_needed qs h.1)
 
@@ -316,6 +320,16 @@ pub lean_outside : (g : Program) → DifferOnlyInBodies g (lean g)
 lean_outside g = record { same_tags = refl; same_globals = refl; same_start = refl; same_argument = refl; same_names = names_stay g.procs }
 
 -- ---- scopes
+
+-- words alone
+abbrev pub as_scope : List ℕ → Scope
+as_scope xs = record { nodes = []; words = xs }
+
+pub target_scope : (t : Target) (scope : Scope) → NoNodeTarget t → with_target t scope ≡ with_word_variables (target_vars t) scope
+target_scope to.Nothing scope h = refl
+target_scope (to.Node x) scope h = absurd h
+target_scope (to.One x) scope h = refl
+target_scope (to.Vector xs) scope h = refl
 
 -- of the variables in scope in the first, those that are used are in scope in the second
 abbrev pub Carried : Scope → List ℕ → ℕ → Type 0

@@ -73,15 +73,9 @@ still_is (leaf (unit v)) h = tt
 still_is (leaf (fetch a)) h = tt
 still_is (leaf (fetch_word a i)) h = tt
 still_is (leaf (prim p a b)) h = tt
-still_is (leaf (update a v)) h = cc
-still_is (leaf (eval a)) h = cc
-still_is (leaf (apply v a)) h = cc
-still_is (leaf (call f ws)) h = cc
-still_is (leaf read) h = cc
-still_is (leaf (write a)) h = cc
+still_is (leaf _) h = cc
 still_is (case v as') h = cc
 still_is (nested b) h = cc
-still_is (leaf fail) h = cc
 
 pub still_has_block : (o : Act) → has_block (without_idle_act o) ≡ has_block o
 unfolding without_idle_act

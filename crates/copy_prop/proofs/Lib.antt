@@ -2,11 +2,9 @@ pub mod Taken
 pub mod Used
 pub mod Bound
 pub mod LeanSimulated
-pub mod Held
-pub mod Via
-pub mod ResolvedSimulated
-pub mod ResolvedFormed
+pub mod Noted
+pub mod Standing
+pub mod Unused
 pub mod LeanFormed
 pub mod Contract
-pub mod Loops
 pub mod Backward

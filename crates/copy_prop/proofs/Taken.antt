@@ -7,15 +7,15 @@ use Rattle.grin_syntax.specs.declared.program.TagId.{TagId}
 use Rattle.grin_syntax.specs.declared.program.Target.{Target}
 use Rattle.grin_syntax.specs.declared.program.Target.TheVariants as to
 use Rattle.grin_syntax.specs.declared.program.Word as W
-use Rattle.grin_syntax.specs.declared.program.Word.TheVariants.{Lit, Var, Global, TagWord}
+use Rattle.grin_syntax.specs.declared.program.Word.TheVariants.{Lit, TagWord}
 use Rattle.grin_syntax.specs.declared.program.Val as V
 use Rattle.grin_syntax.specs.declared.program.Val.TheVariants.{NodeVar, Node, Vector, One}
-use Rattle.grin_syntax.specs.Tree.{Act, leaf, unit, fetch, fetch_word, update, eval, apply, call, prim, read, write, case, nested, fail, Program}
+use Rattle.grin_syntax.specs.Tree.{Act, leaf, unit, case, nested, Program}
 use Rattle.grin_syntax.specs.Binders.{numbers_of, target_vars}
 use Rattle.grin_syntax.specs.Formed.{AllOf, Scope, WordFormed, ValFormed}
 use Rattle.grin_meaning.specs.Values as value
 use Rattle.grin_meaning.specs.Values.{Datum, number, tag, Value, words, Env, and_then, Binding, one_each, padded, fields_of, made_node, word_of, words_of, value_of, bindings_of}
-use Rattle.copy_prop.specs.Copies.{Alias, zipped_aliases, zeros_after, of_words, copies_of_node_or_words, copies_of_val, copies_of}
+use Rattle.copy_prop.specs.Copies.{Alias, zipped_aliases, zeros_after, copies_of_val, copies_of}
 use Rattle.copy_prop.specs.Copied.{IsTaken, IsCopy}
 
 some_and : {A B : Type 0} (o : Option A) (f : A → Option B) (b : B) → and_then o f ≡ Some b → (a : A) × (o ≡ Some a) × (f a ≡ Some b)
@@ -102,33 +102,15 @@ taken_found (to.Vector xs) (NodeVar y) e h = h
 
 pub copy_found : (t : Target) (o : Act) → copies_of t o ≡ None → IsCopy t o → ⊥
 copy_found t (leaf (unit v)) e h = taken_found t v e h
-copy_found t (leaf (fetch a)) e h = h
-copy_found t (leaf (fetch_word a i)) e h = h
-copy_found t (leaf (update a v)) e h = h
-copy_found t (leaf (eval a)) e h = h
-copy_found t (leaf (apply v a)) e h = h
-copy_found t (leaf (call f ws)) e h = h
-copy_found t (leaf (prim p a b)) e h = h
-copy_found t (leaf read) e h = h
-copy_found t (leaf (write a)) e h = h
+copy_found t (leaf _) e h = h
 copy_found t (case v as') e h = h
 copy_found t (nested b) e h = h
-copy_found t (leaf fail) e h = h
 
 pub copy_is : (t : Target) (o : Act) (as' : List Alias) → copies_of t o ≡ Some as' → (v : V.Val) × (o ≡ leaf (unit v)) × (copies_of_val t v ≡ Some as')
 copy_is t (leaf (unit v)) as' e = (v, refl, e)
-copy_is t (leaf (fetch a)) as' e = none_is_some e
-copy_is t (leaf (fetch_word a i)) as' e = none_is_some e
-copy_is t (leaf (update a v)) as' e = none_is_some e
-copy_is t (leaf (eval a)) as' e = none_is_some e
-copy_is t (leaf (apply v a)) as' e = none_is_some e
-copy_is t (leaf (call f ws)) as' e = none_is_some e
-copy_is t (leaf (prim p a b)) as' e = none_is_some e
-copy_is t (leaf read) as' e = none_is_some e
-copy_is t (leaf (write a)) as' e = none_is_some e
+copy_is t (leaf _) as' e = none_is_some e
 copy_is t (case v bs) as' e = none_is_some e
 copy_is t (nested b) as' e = none_is_some e
-copy_is t (leaf fail) as' e = none_is_some e
 
 -- ---- the variables
 
@@ -175,22 +157,38 @@ module _ (F : W.Word → Type 0) where
   zeros_all lit (suc n) [] f = (lit (pos 0), zeros_all lit n [] tt)
   zeros_all lit (suc n) (w ∷ ws) f = (f.0, zeros_all lit n ws f.1)
 
+  -- each word that a unit gives
+  abbrev pub EachWord : V.Val → Type 0
+  EachWord (NodeVar y) = Unit {0}
+  EachWord (Node t ws) = F (TagWord t) × AllOf F ws
+  EachWord (Vector ws) = AllOf F ws
+  EachWord (One w) = F w
+
+  pub val_each : ((i : Rattle.std.specs.Prelude.ℤ) → F (Lit i)) → (t : Target) (v : V.Val) (as' : List Alias) → copies_of_val t v ≡ Some as' → EachWord v → AllOf (λ a. F a.word) as'
+  val_each lit to.Nothing v as' e f = none_is_some e
+  val_each lit (to.Node x) v as' e f = none_is_some e
+  val_each lit (to.One x) (One w) as' e f = paired_all (x ∷ []) (w ∷ []) as' e (f, tt)
+  val_each lit (to.One x) (Vector ws) as' e f = paired_all (x ∷ []) ws as' e f
+  val_each lit (to.One x) (Node t ws) as' e f = none_is_some e
+  val_each lit (to.One x) (NodeVar y) as' e f = none_is_some e
+  val_each lit (to.Vector xs) (One w) as' e f = paired_all xs (w ∷ []) as' e (f, tt)
+  val_each lit (to.Vector xs) (Vector ws) as' e f = paired_all xs ws as' e f
+  val_each lit (to.Vector xs) (Node t ws) as' e f = paired_all xs (zeros_after (length xs) (TagWord t ∷ ws)) as' e (zeros_all lit (length xs) (TagWord t ∷ ws) f)
+  val_each lit (to.Vector xs) (NodeVar y) as' e f = none_is_some e
+
 module _ (g : Program) (scope : Scope) where
   -- each word of a copy is well formed
   abbrev pub WordsFormed : List Alias → Type 0
   WordsFormed as' = AllOf (λ a. WordFormed g scope a.word) as'
 
+  formed_words : (v : V.Val) → ValFormed g scope v → EachWord (WordFormed g scope) v
+  formed_words (NodeVar y) f = tt
+  formed_words (Node t ws) f = f
+  formed_words (Vector ws) f = f
+  formed_words (One w) f = f
+
   pub val_words : (t : Target) (v : V.Val) (as' : List Alias) → copies_of_val t v ≡ Some as' → ValFormed g scope v → WordsFormed as'
-  val_words to.Nothing v as' e f = none_is_some e
-  val_words (to.Node x) v as' e f = none_is_some e
-  val_words (to.One x) (One w) as' e f = paired_all (WordFormed g scope) (x ∷ []) (w ∷ []) as' e (f, tt)
-  val_words (to.One x) (Vector ws) as' e f = paired_all (WordFormed g scope) (x ∷ []) ws as' e f
-  val_words (to.One x) (Node t ws) as' e f = none_is_some e
-  val_words (to.One x) (NodeVar y) as' e f = none_is_some e
-  val_words (to.Vector xs) (One w) as' e f = paired_all (WordFormed g scope) xs (w ∷ []) as' e (f, tt)
-  val_words (to.Vector xs) (Vector ws) as' e f = paired_all (WordFormed g scope) xs ws as' e f
-  val_words (to.Vector xs) (Node t ws) as' e f = paired_all (WordFormed g scope) xs (zeros_after (length xs) (TagWord t ∷ ws)) as' e (zeros_all (WordFormed g scope) (λ i. tt) (length xs) (TagWord t ∷ ws) f)
-  val_words (to.Vector xs) (NodeVar y) as' e f = none_is_some e
+  val_words t v as' e f = val_each (WordFormed g scope) (λ i. tt) t v as' e (formed_words v f)
 
 -- ---- what a run binds
 

@@ -1,13 +1,14 @@
 -- Programs without idle statements: those that change nothing and bind what nobody uses.
-use Rattle.std.specs.Prelude.{ℕ, Bool, true, false, not, ◌&&◌, List, [], ◌∷◌, ◌++◌}
+use Rattle.std.specs.Prelude.{ℕ, Bool, true, false, not, ◌&&◌, List, [], ◌∷◌, ◌++◌, Option, Some, None}
 use Rattle.grin_syntax.specs.declared.program.Word as W
 use Rattle.grin_syntax.specs.declared.program.Word.TheVariants.{Var}
 use Rattle.grin_syntax.specs.declared.program.Val as V
 use Rattle.grin_syntax.specs.declared.program.Val.TheVariants.{NodeVar, Node, Vector, One}
 use Rattle.grin_syntax.specs.declared.program.Target.{Target}
 use Rattle.grin_syntax.specs.declared.program.Cell.{Cell}
+use Rattle.grin_syntax.specs.declared.program.Stmt.{Stmt}
 use Rattle.grin_syntax.specs.Binders.{target_vars}
-use Rattle.grin_syntax.specs.Tree.{Code, end, store, bind, Act, leaf, unit, fetch, fetch_word, update, eval, apply, call, prim, read, write, case, nested, fail, Arms, no_arm, arm, Program}
+use Rattle.grin_syntax.specs.Tree.{Code, end, store, bind, Act, leaf, unit, fetch, fetch_word, update, eval, apply, call, prim, read, write, case, nested, fail, Arms, no_arm, arm, Program, before_of}
 use Rattle.grin_meaning.specs.Rewritten.{rewritten}
 use Rattle.seq.specs.Lists.{is_among}
 
@@ -83,6 +84,11 @@ is_idle t o used = has_no_effect o && are_disjoint (target_vars t) used
 abbrev pub unless : Bool → (Code → Code) → Code → Code
 unless true s c = c
 unless false s c = s c
+
+-- a statement that is there, before a block
+abbrev pub optional_statement : Option Stmt → Code → Code
+optional_statement None c = c
+optional_statement (Some s) c = before_of s c
 
 unfoldable mutual
   pub without_idle_act : Act → Act

@@ -3,8 +3,7 @@
 
 ghost use Rattle.std.specs.Prelude.{◌≡◌, ◌++◌, List, length, drop, ℕ, IfOk, OnOk};
 ghost use Rattle.grin_syntax.specs.Tree.{Code, act_of, before_of, arm_of, code_of};
-ghost use Rattle.copy_prop.specs.Resolved.{optional_statement};
-ghost use Rattle.copy_prop.specs.Lean.{used_in_act, used_in_code, has_no_effect, is_idle, without_idle_act, without_idle_code};
+ghost use Rattle.copy_prop.specs.Lean.{used_in_act, used_in_code, has_no_effect, is_idle, optional_statement, without_idle_act, without_idle_code};
 
 use crate::uses::Uses;
 use grin_syntax::{Alt, Block, Op, Stmt, Target};

@@ -8,5 +8,5 @@ mod pass;
 mod resolve;
 mod uses;
 
-pub use pass::{Copies, without_copies, without_idle};
+pub use pass::{Copies, with_copies_unused, without_idle};
 pub use uses::Uses;

@@ -9,9 +9,10 @@ ghost use Rattle.copy_prop.specs.Lean.{lean};
 ghost use Rattle.copy_prop.specs.Copied.{Copied};
 
 use crate::lean::without_idle_block;
-use crate::resolve::Aliases;
+use crate::resolve::CopiesStand;
 use crate::uses::Uses;
 use grin_meaning::Pass;
+use grin_rewrite::{FactTable, rewrite_with_facts};
 use grin_syntax::{Grin, Proc};
 use seq::Seq;
 use std::alloc::{AllocError, Global};
@@ -28,23 +29,20 @@ impl Pass for Copies {
     ghost gives = { λ g h. Copied (program_of g) (program_of h) };
 
     fn apply(&self, alloc: Global, g: Grin) -> Result<Grin, AllocError> {
-        let h = without_copies(alloc, g)?;
+        let h = with_copies_unused(alloc, g)?;
         let k = without_idle(alloc, h)?;
         Ok(k)
     }
 }
 
-/// The first half of the pass, of any program: words stand for their copies.
-pub fn without_copies(alloc: Global, g: Grin) -> Result<Grin, AllocError>
+/// The first half of the pass, of any program: words stand for their copies. The copies stay, so
+/// that nobody uses what they bind.
+pub fn with_copies_unused(alloc: Global, g: Grin) -> Result<Grin, AllocError>
     ensures { IfOk result (λ h. program_of h ≡ resolved (program_of g)) }
 {
-    let mut aliases = Aliases::new(alloc);
-    let mut procs = Seq::new(alloc);
-    for proc in g.procs.into_vec() {
-        let body = aliases.block(alloc, proc.body)?;
-        procs.push(Proc { body, ..proc })?;
-    }
-    Ok(Grin { procs, ..g })
+    let mut standing = FactTable::new(alloc);
+    let h = rewrite_with_facts(alloc, &CopiesStand { alloc }, &mut standing, g)?;
+    Ok(h)
 }
 
 /// The second half, of any program: statements that change nothing and bind what nobody uses go.

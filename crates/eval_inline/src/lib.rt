@@ -14,8 +14,9 @@ mod blocks;
 pub mod met;
 
 use blocks::EvalInliner;
+use grin_rewrite::rewrite_with_fresh;
+use grin_syntax::Grin;
 use grin_syntax::fresh::Fresh;
-use grin_syntax::{Grin, Proc};
 use points_to::Flow;
 use seq::Seq;
 use std::alloc::{AllocError, Global};
@@ -34,11 +35,6 @@ pub fn inline(alloc: Global, mut g: Grin, flow: &Flow) -> Result<Grin, AllocErro
     let mut fresh = Fresh::past(g.procs.as_slice());
     let procs = mem::replace(&mut g.procs, Seq::new(alloc));
     let inlining = EvalInliner { program: &g, flow };
-    let mut made = Seq::new(alloc);
-    for proc in procs.into_vec() {
-        let body = inlining.block(alloc, &mut fresh, proc.body)?;
-        made.push(Proc { body, ..proc })?;
-    }
-    g.procs = made;
+    g.procs = rewrite_with_fresh(alloc, &inlining, &mut fresh, procs)?;
     Ok(g)
 }

@@ -1,6 +1,6 @@
 -- A program without nested blocks: their statements stand where they stood.
 use Rattle.grin_syntax.specs.declared.program.Shape.{Shape}
-use Rattle.grin_syntax.specs.Tree.{Code, end, store, bind, Act, leaf, unit, fetch, fetch_word, update, eval, apply, call, prim, read, write, case, nested, fail, Arms, no_arm, arm, Program}
+use Rattle.grin_syntax.specs.Tree.{Code, end, store, bind, Act, leaf, case, nested, Arms, no_arm, arm, Program}
 use Rattle.grin_meaning.specs.Rewritten.{rewritten}
 use Rattle.grin_meaning.specs.Spliced.{spliced}
 

@@ -3,7 +3,6 @@
 #![tactic(auto)]
 
 mod binder;
-mod growing;
 pub mod laws;
 mod names;
 mod points;

@@ -13,10 +13,10 @@ ghost use Rattle.flow_listing.specs.Ascending.{flat_map_indexed};
 ghost use Rattle.flow_listing.specs.Text.{variable_text, field_count, cell_text, word_text, field_text, node_text, place_text, global_line, bound_text, binder_line, procedure_text, points};
 
 use crate::binder::{Binder, binders};
-use crate::growing::Growing;
 use crate::names::{CellName, Names, names};
 use crate::words::words;
 use flow_system::fact::{Element, Part, Place};
+use grin_syntax::listing_text::ListingText;
 use grin_syntax::program::{GlobalCell, Grin, Proc, Site, TagId, TagKind, VarId};
 use points_to::Flow;
 use std::alloc::{AllocError, Global};
@@ -29,21 +29,21 @@ pub fn listing_text(alloc: Global, g: &Grin, flow: &Flow) -> Result<Vec<u8>, All
     ensures { IfOk result (λ text. text.items ≡ points (program_of g.now) (found flow.now)) }
 {
     let names = names(alloc, g)?;
-    let mut text = Growing::new(alloc);
+    let mut text = ListingText::new(alloc);
     put_globals(alloc, &mut text, g, flow, &names)?;
     put_procs(alloc, &mut text, g, flow, &names)?;
     Ok(text.into_vec())
 }
 
-fn put_variable(text: &mut Growing, at: u32) -> Result<(), AllocError>
+fn put_variable(text: &mut ListingText, at: u32) -> Result<(), AllocError>
     ensures { OnOk result (text.new ≡ text.old ++ variable_text at) }
 {
     text.put("v")?;
-    text.number(at)
+    text.number(at as usize)
 }
 
 // The letter of a tag's kind and the tag's name.
-fn put_tag(text: &mut Growing, g: &Grin, tag: TagId) -> Result<(), AllocError>
+fn put_tag(text: &mut ListingText, g: &Grin, tag: TagId) -> Result<(), AllocError>
     ensures { OnOk result (text.new ≡ text.old ++ tag_name (program_of g.now) tag) }
 {
     match g.tags.get(tag.0 as usize) {
@@ -53,7 +53,7 @@ fn put_tag(text: &mut Growing, g: &Grin, tag: TagId) -> Result<(), AllocError>
                 TagKind::Fun => text.put("F")?,
                 TagKind::Part => {
                     text.put("P")?;
-                    text.number(tag.missing)?;
+                    text.number(tag.missing as usize)?;
                 }
             }
             text.bytes(tag.name.as_slice())
@@ -62,7 +62,7 @@ fn put_tag(text: &mut Growing, g: &Grin, tag: TagId) -> Result<(), AllocError>
     }
 }
 
-fn put_procedure_name(text: &mut Growing, g: &Grin, proc: u32) -> Result<(), AllocError>
+fn put_procedure_name(text: &mut ListingText, g: &Grin, proc: u32) -> Result<(), AllocError>
     ensures { OnOk result (text.new ≡ text.old
         ++ procedure_name (slice_get (program_of g.now).procs proc)) }
 {
@@ -72,7 +72,7 @@ fn put_procedure_name(text: &mut Growing, g: &Grin, proc: u32) -> Result<(), All
     }
 }
 
-fn put_cell_name(text: &mut Growing, g: &Grin, name: Option<CellName>) -> Result<(), AllocError>
+fn put_cell_name(text: &mut ListingText, g: &Grin, name: Option<CellName>) -> Result<(), AllocError>
     ensures { OnOk result (text.new ≡ text.old ++ cell_text (program_of g.now) name) }
 {
     match name {
@@ -89,7 +89,12 @@ fn put_cell_name(text: &mut Growing, g: &Grin, name: Option<CellName>) -> Result
     }
 }
 
-fn put_word(text: &mut Growing, g: &Grin, names: &Names, word: Element) -> Result<(), AllocError>
+fn put_word(
+    text: &mut ListingText,
+    g: &Grin,
+    names: &Names,
+    word: Element,
+) -> Result<(), AllocError>
     ensures { OnOk result (text.new ≡ text.old
         ++ word_text (program_of g.now) (tree.get nat_cmp names.now) word) }
 {
@@ -108,7 +113,7 @@ fn put_word(text: &mut Growing, g: &Grin, names: &Names, word: Element) -> Resul
 
 // Each word after a space.
 fn put_words(
-    text: &mut Growing,
+    text: &mut ListingText,
     g: &Grin,
     names: &Names,
     words: &[Element],
@@ -125,7 +130,7 @@ fn put_words(
 
 // The words with a space between them.
 fn put_joined(
-    text: &mut Growing,
+    text: &mut ListingText,
     g: &Grin,
     names: &Names,
     words: &[Element],
@@ -145,7 +150,7 @@ fn put_joined(
 // What may stand in a field at a place; the field is a tag's number, and its own.
 fn put_field(
     alloc: Global,
-    text: &mut Growing,
+    text: &mut ListingText,
     g: &Grin,
     flow: &Flow,
     names: &Names,
@@ -173,7 +178,7 @@ fn count_fields(g: &Grin, tag: u32) -> u32
 
 fn put_fields(
     alloc: Global,
-    text: &mut Growing,
+    text: &mut ListingText,
     g: &Grin,
     flow: &Flow,
     names: &Names,
@@ -195,7 +200,7 @@ fn put_fields(
 // The nodes of a tag at a place.
 fn put_node(
     alloc: Global,
-    text: &mut Growing,
+    text: &mut ListingText,
     g: &Grin,
     flow: &Flow,
     names: &Names,
@@ -213,7 +218,7 @@ fn put_node(
 
 fn put_nodes(
     alloc: Global,
-    text: &mut Growing,
+    text: &mut ListingText,
     g: &Grin,
     flow: &Flow,
     names: &Names,
@@ -234,7 +239,7 @@ fn put_nodes(
 // What may be at a place.
 fn put_place(
     alloc: Global,
-    text: &mut Growing,
+    text: &mut ListingText,
     g: &Grin,
     flow: &Flow,
     names: &Names,
@@ -255,7 +260,7 @@ fn put_place(
 
 fn put_global(
     alloc: Global,
-    text: &mut Growing,
+    text: &mut ListingText,
     g: &Grin,
     flow: &Flow,
     names: &Names,
@@ -273,7 +278,7 @@ fn put_global(
 
 fn put_globals(
     alloc: Global,
-    text: &mut Growing,
+    text: &mut ListingText,
     g: &Grin,
     flow: &Flow,
     names: &Names,
@@ -291,7 +296,7 @@ fn put_globals(
 // What a variable may stand for, or the new cells that it stands for may hold.
 fn put_bound(
     alloc: Global,
-    text: &mut Growing,
+    text: &mut ListingText,
     g: &Grin,
     flow: &Flow,
     names: &Names,
@@ -315,7 +320,7 @@ fn put_bound(
 
 fn put_binder(
     alloc: Global,
-    text: &mut Growing,
+    text: &mut ListingText,
     g: &Grin,
     flow: &Flow,
     names: &Names,
@@ -333,7 +338,7 @@ fn put_binder(
 
 fn put_binders(
     alloc: Global,
-    text: &mut Growing,
+    text: &mut ListingText,
     g: &Grin,
     flow: &Flow,
     names: &Names,
@@ -353,7 +358,7 @@ fn put_binders(
 
 fn put_proc(
     alloc: Global,
-    text: &mut Growing,
+    text: &mut ListingText,
     g: &Grin,
     flow: &Flow,
     names: &Names,
@@ -374,7 +379,7 @@ fn put_proc(
 
 fn put_procs(
     alloc: Global,
-    text: &mut Growing,
+    text: &mut ListingText,
     g: &Grin,
     flow: &Flow,
     names: &Names,

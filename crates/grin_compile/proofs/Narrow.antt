@@ -1,5 +1,5 @@
 -- In a vectorised program no operation goes to more than 14 variables.
-use Rattle.std.proofs.Common.{ℕ, ◌≤◌, Bool, true, false, cond, List, [], ◌∷◌, length, sym, subst, arith}
+use Rattle.std.proofs.Common.{ℕ, ◌≤◌, Bool, true, false, cond, List, [], ◌∷◌, sym, subst, arith}
 use Rattle.std.proofs.lemmas.List.{length-map}
 use Rattle.grin_syntax.specs.declared.program.VarId.{VarId}
 use Rattle.grin_syntax.specs.declared.program.Target.{Target}
@@ -13,7 +13,7 @@ use Rattle.grin_meaning.specs.Ready.{EachAct, EachCode, EachArms, most_fields, v
 use Rattle.vectorise.specs.Whole.{NoVectorTarget, UsesWholeNodes, whole_node_kind}
 use Rattle.vectorise.specs.Widened.{Width, ActWidths, CodeWidths, ArmsWidths, Widths, Widened}
 use Rattle.low_translate.specs.Lowers.{TargetsFitCells}
-use Rattle.inlining.proofs.NoEvaluations.{any_cells}
+use Rattle.grin_rewrite.proofs.Sound.{all_any}
 use Rattle.low_translate.proofs.Sizes.{IsFew}
 
 module _ (most most_value : ℕ) (few : most ≤ 13) (few_value : most_value ≤ 13) where
@@ -73,7 +73,7 @@ module _ (most most_value : ℕ) (few : most ≤ 13) (few_value : most_value ≤
     code_narrow (end o) (end o') e w = act_narrow o o' e w
     code_narrow (end o) (store cs' b') e w = absurd w
     code_narrow (end o) (bind t' o' b') e w = absurd w
-    code_narrow (store cs b) (store cs' b') e w = (any_cells cs', code_narrow b b' e.1 w)
+    code_narrow (store cs b) (store cs' b') e w = (all_any cs', code_narrow b b' e.1 w)
     code_narrow (store cs b) (end o') e w = absurd w
     code_narrow (store cs b) (bind t' o' b') e w = absurd w
     code_narrow (bind t o b) (end o') e w = absurd w

@@ -8,8 +8,9 @@ use Rattle.grin_syntax.specs.SameOutside.{names_of, DifferOnlyInBodies}
 use Rattle.grin_meaning.specs.Slim.{Slim}
 use Rattle.grin_syntax.specs.Fresh.{past_procs}
 use Rattle.flow_system.specs.Solution.{Solution}
-use Rattle.inlining.specs.Evaluations.{eval_procs, code_room, eval_inlined}
-use Rattle.inlining.specs.Applications.{apply_procs, apply_code_room, inlined}
+use Rattle.grin_rewrite.proofs.CountedText.{as_many}
+use Rattle.inlining.specs.Evaluations.{eval_rule, eval_inlined}
+use Rattle.inlining.specs.Applications.{apply_rule, inlined}
 use Rattle.inlining.specs.Size.{act_size, code_size, procedure_size, total, largest, size, largest_procedure}
 use Rattle.stage_names.specs.declared.PassName.{PassName}
 use Rattle.grin_opt.proofs.Gives.{gives}
@@ -108,14 +109,6 @@ function_delays p =
     let m = length-map (numbers_from 0 (length p.funs)) Calls in
     omega (arith, n, m, length_numbers 0 (length p.funs))
 
-eval_length : (p : Program) (A : Solution) (x : ℕ) (qs : List Procedure) → length (eval_procs p A x qs) ≡ length qs
-eval_length p A x [] = refl
-eval_length p A x (q ∷ qs) = ap suc (eval_length p A (x + code_room p A q.body) qs)
-
-apply_length : (p : Program) (A : Solution) (x : ℕ) (qs : List Procedure) → length (apply_procs p A x qs) ≡ length qs
-apply_length p A x [] = refl
-apply_length p A x (q ∷ qs) = ap suc (apply_length p A (x + apply_code_room p A q.body) qs)
-
 -- each function has a procedure, and there is one more
 pub functions_inlined : (p : core.Program) (A : Solution) → suc (length p.funs) ≤ size (inlined A (tr p))
 functions_inlined p A =
@@ -123,8 +116,8 @@ functions_inlined p A =
     let h = eval_inlined A g in
     let all = length-append (delayed_procs p (length p.funs) (delays p)) (print_procs p) in
     let first = delayed_length p (length p.funs) (delays p) in
-    let evals = eval_length g A (past_procs g.procs) g.procs in
-    let applies = apply_length h A (past_procs h.procs) h.procs in
+    let evals = as_many (eval_rule g A) (past_procs g.procs) g.procs in
+    let applies = as_many (apply_rule h A) (past_procs h.procs) h.procs in
     omega (arith, function_delays p, all, first, evals, applies, few_procs (inlined A g).procs)
 
 -- ---- words

@@ -1,9 +1,8 @@
 -- The most fields of a list of tags.
-use Rattle.std.proofs.Common.{[], List, Some, arith, slice_get, suc, zero, ℕ, ◌∷◌, ◌≡◌, ◌≤◌, max, refl, ◌++◌, ap, get_or, length, sym, take, ◌+◌, ◌<◌, ◌∙◌}
+use Rattle.std.proofs.Common.{[], List, Some, arith, slice_get, suc, zero, ℕ, ◌∷◌, ◌≡◌, ◌≤◌, max, refl, ◌++◌}
 use Rattle.grin_syntax.specs.declared.program.Tag.{Tag}
 use Rattle.grin_meaning.specs.Ready.{most_fields}
 use Rattle.grin_meaning.specs.Values.{and_then}
-use Rattle.seq.proofs.Lists.{take_next}
 
 pub field_bound : (ts : List Tag) (t : ℕ) (i : Tag) → slice_get ts t ≡ Some i → i.fields ≤ most_fields ts
 field_bound [] t i e = cc
@@ -18,9 +17,3 @@ fields_fit (x ∷ ts) (suc t) k e = let h : k ≤ most_fields ts = fields_fit ts
 pub most_push : (ts : List Tag) (t : Tag) → most_fields (ts ++ t ∷ []) ≡ max t.fields (most_fields ts)
 most_push [] t = refl
 most_push (u ∷ ts) t = let h : most_fields (ts ++ t ∷ []) ≡ max t.fields (most_fields ts) = most_push ts t in omega arith
-
-pub most_next : (ts : List Tag) (i : ℕ) (t : Tag) (old new : ℕ) → i < length ts → t ≡ get_or ts i t → new ≡ max t.fields old → old ≡ most_fields (take i ts) → new ≡ most_fields (take (i + 1) ts)
-most_next ts i t old new lt at n o =
-    let h : most_fields (take i ts ++ t ∷ []) ≡ max t.fields (most_fields (take i ts)) = most_push (take i ts) t in
-    let e : new ≡ most_fields (take i ts ++ t ∷ []) = omega arith in
-    e ∙ ap most_fields (sym (take_next ts i t lt at))

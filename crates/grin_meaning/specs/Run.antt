@@ -160,7 +160,8 @@ module _ (p : Program) where
         act_by env d (leaf (apply v a)) w =
             need (node_of p env v) w (λ n. need (word_of p env a) w (λ x. apply_node d n x w))
         act_by env d (leaf (call f as')) w = need (words_of p env as') w (λ xs. calls f.0 xs d w)
-        act_by env d (leaf (prim f a b)) w = need (word_of p env a) w (λ x. need (word_of p env b) w (λ y.
+        act_by env d (leaf (prim f a b)) w =
+            need (word_of p env a) w (λ x. need (word_of p env b) w (λ y.
             need (apply_arithmetic f x y) w (λ v. gives v w)))
         act_by env d (leaf read) w =
             gives (words (number (byte_or_end w.input) ∷ [])) (after_read w.input w)

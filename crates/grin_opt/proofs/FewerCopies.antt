@@ -5,14 +5,19 @@ use Rattle.grin_syntax.specs.declared.program.Target.{Target}
 use Rattle.grin_syntax.specs.declared.program.Word.TheVariants.{Lit, Var, Global, TagWord}
 use Rattle.grin_syntax.specs.declared.program.Val.{Val}
 use Rattle.grin_syntax.specs.declared.program.Val.TheVariants.{NodeVar, Node, Vector, One}
-use Rattle.grin_syntax.specs.Tree.{Code, end, store, bind, Act, leaf, unit, fetch, fetch_word, update, eval, apply, call, prim, read, write, case, nested, fail, Arms, no_arm, arm, Procedure, Program}
+use Rattle.grin_syntax.specs.Tree.{Code, end, store, bind, Act, leaf, case, nested, Arms, no_arm, arm, Procedure, Program}
 use Rattle.grin_meaning.specs.Rewritten.{rewritten_procedure}
 use Rattle.pass_ground.specs.OpenUpdates.{tag_variable, act_update_sum, code_update_sum, arms_update_sum, procs_update_sum, one_if_some, updates_with_variable_tag}
 use Rattle.pass_ground.specs.Vectors.{IsVectorForm}
-use Rattle.copy_prop.specs.Copies.{copies_of}
-use Rattle.copy_prop.specs.Resolved.{Table, as_val, noted_copies, unless_copy, noted_act, noted_code, resolved_act, resolved_code, resolved_arms, resolved_procs, resolved}
+use Rattle.grin_rewrite.specs.WithFacts.{walk_code}
+use Rattle.grin_rewrite.specs.ByWords.{val_by}
+use Rattle.grin_rewrite.specs.Table.{nothing_known}
+use Rattle.grin_rewrite.proofs.KeptByWords.{updates_kept}
+use Rattle.grin_rewrite.proofs.FactText.{updates_fewer}
+use Rattle.copy_prop.specs.Resolved.{Standing, as_word, copies_stand, resolved}
 use Rattle.copy_prop.specs.Lean.{used_in_code, is_idle, unless, without_idle_act, without_idle_code, without_idle_arms, lean}
 use Rattle.copy_prop.specs.Copied.{Copied}
+use Rattle.copy_prop.proofs.Standing.{by_words}
 use Rattle.copy_prop.proofs.Contract.{is_copied}
 use Rattle.grin_opt.specs.Several.{MadeByPasses}
 
@@ -25,59 +30,22 @@ at_most_one : (o : Option VarId) → one_if_some o ≤ 1
 at_most_one None = omega arith
 at_most_one (Some x) = omega arith
 
-fewer_open : (k : Table) (v : Val) → opens (as_val k v) ≤ opens v
+fewer_open : (k : Standing) (v : Val) → opens (val_by (as_word k) v) ≤ opens v
 fewer_open k (NodeVar x) = omega arith
 fewer_open k (Node t ws) = omega arith
 fewer_open k (Vector []) = omega arith
 fewer_open k (Vector (Lit i ∷ ws)) = omega arith
 fewer_open k (Vector (Global i ∷ ws)) = omega arith
 fewer_open k (Vector (TagWord t ∷ ws)) = omega arith
-fewer_open k (Vector (Var x ∷ ws)) = at_most_one (tag_variable (as_val k (Vector (Var x ∷ ws))))
+fewer_open k (Vector (Var x ∷ ws)) = at_most_one (tag_variable (val_by (as_word k) (Vector (Var x ∷ ws))))
 fewer_open k (One (Lit i)) = omega arith
 fewer_open k (One (Global i)) = omega arith
 fewer_open k (One (TagWord t)) = omega arith
-fewer_open k (One (Var x)) = at_most_one (tag_variable (as_val k (One (Var x))))
+fewer_open k (One (Var x)) = at_most_one (tag_variable (val_by (as_word k) (One (Var x))))
 
-each_option : {A : Type 0} (P : Option A → Type 0) → P None → ((a : A) → P (Some a)) → (q : Option A) → P q
-each_option P none some None = none
-each_option P none some (Some a) = some a
-
-copy_or_bound : (t : Target) (o o' : Act) (c : Code) → code_update_sum opens (unless_copy (copies_of t o) (bind t o') c) ≤ act_update_sum opens o' + code_update_sum opens c
-unfolding act_update_sum
-copy_or_bound t o o' c = each_option (λ q. code_update_sum opens (unless_copy q (bind t o') c) ≤ act_update_sum opens o' + code_update_sum opens c) (omega arith) (λ a. omega arith) (copies_of t o)
-
-mutual
-  unfolding resolved_act act_update_sum
-
-  resolved_act_fewer : (k : Table) (o : Act) → act_update_sum opens (resolved_act k o) ≤ act_update_sum opens o
-  resolved_act_fewer k (case v as') = resolved_arms_fewer k as'
-  resolved_act_fewer k (nested b) = resolved_code_fewer k b
-  resolved_act_fewer k (leaf (update a v)) = fewer_open k v
-  resolved_act_fewer k (leaf (unit v)) = omega arith
-  resolved_act_fewer k (leaf (fetch a)) = omega arith
-  resolved_act_fewer k (leaf (fetch_word a i)) = omega arith
-  resolved_act_fewer k (leaf (eval a)) = omega arith
-  resolved_act_fewer k (leaf (apply v a)) = omega arith
-  resolved_act_fewer k (leaf (call f ws)) = omega arith
-  resolved_act_fewer k (leaf (prim p a b)) = omega arith
-  resolved_act_fewer k (leaf read) = omega arith
-  resolved_act_fewer k (leaf (write a)) = omega arith
-  resolved_act_fewer k (leaf fail) = omega arith
-
-  resolved_code_fewer : (k : Table) (b : Code) → code_update_sum opens (resolved_code k b) ≤ code_update_sum opens b
-  resolved_code_fewer k (end o) = resolved_act_fewer k o
-  resolved_code_fewer k (store cs b) = resolved_code_fewer k b
-  resolved_code_fewer k (bind t o b) =
-      let after : Table = noted_copies (copies_of t o) (noted_act o k) in
-      omega (arith, copy_or_bound t o (resolved_act k o) (resolved_code after b), resolved_act_fewer k o, resolved_code_fewer after b)
-
-  resolved_arms_fewer : (k : Table) (as' : Arms) → arms_update_sum opens (resolved_arms k as') ≤ arms_update_sum opens as'
-  resolved_arms_fewer k no_arm = omega arith
-  resolved_arms_fewer k (arm s b as') = omega (arith, resolved_code_fewer k b, resolved_arms_fewer (noted_code b k) as')
-
-resolved_fewer : (k : Table) (qs : List Procedure) → procs_update_sum opens (resolved_procs k qs) ≤ procs_update_sum opens qs
-resolved_fewer k [] = omega arith
-resolved_fewer k (q ∷ qs) = omega (arith, resolved_code_fewer k q.body, resolved_fewer (noted_code q.body k) qs)
+resolved_fewer : (qs : List Procedure) → procs_update_sum opens (map (rewritten_procedure (walk_code copies_stand nothing_known)) qs) ≤ procs_update_sum opens qs
+unfolding updates_kept
+resolved_fewer qs = updates_fewer copies_stand as_word nothing_known by_words opens (λ stands v v' as' bs' h k. k) fewer_open qs
 
 -- ---- idle statements
 
@@ -109,7 +77,7 @@ lean_fewer (q ∷ qs) = omega (arith, lean_code_fewer q.body, lean_fewer qs)
 
 pub made_lean : (g h k : Program) → h ≡ resolved g → k ≡ lean h → IsVectorForm g → MadeByPasses Copied g k
 made_lean g h k e f of =
-    let fewer : updates_with_variable_tag (resolved g) ≤ updates_with_variable_tag g = resolved_fewer [] g.procs in
+    let fewer : updates_with_variable_tag (resolved g) ≤ updates_with_variable_tag g = resolved_fewer g.procs in
     let fewer_again : updates_with_variable_tag (lean (resolved g)) ≤ updates_with_variable_tag (resolved g) = lean_fewer (resolved g).procs in
     let both : updates_with_variable_tag (lean (resolved g)) ≤ updates_with_variable_tag g = omega (arith, fewer, fewer_again) in
     let shape = is_copied g h k e f of in

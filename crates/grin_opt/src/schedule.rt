@@ -12,7 +12,7 @@ ghost use Rattle.grin_opt.specs.Schedule.{IsAfterInlining, IsFirstPassInput, IsO
 
 use arity_raise::Raise;
 use case_simplify::{Simplify, with_fewer_cases};
-use copy_prop::{Copies, without_copies, without_idle};
+use copy_prop::{Copies, with_copies_unused, without_idle};
 use dead_store::without_dead_stores;
 use fetch_passes::Fetches;
 use flat_blocks::Flatten;
@@ -44,7 +44,7 @@ fn copied(alloc: Global, g: Grin) -> Result<Grin, AllocError>
     ensures shape { IfOk result (λ h. MadeByPasses Copied (program_of g) (program_of h)) }
     ensures meaning { IfOk result (λ h. Keeps (program_of g) (program_of h)) }
 {
-    let h = without_copies(alloc, g)?;
+    let h = with_copies_unused(alloc, g)?;
     let k = without_idle(alloc, h)?;
     Ok(k)
 }

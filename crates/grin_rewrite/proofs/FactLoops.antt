@@ -5,7 +5,7 @@ use Rattle.grin_syntax.specs.declared.program.Val.{Val}
 use Rattle.grin_syntax.specs.declared.program.Alt.{Alt}
 use Rattle.grin_syntax.specs.declared.program.Stmt.{Stmt}
 use Rattle.grin_syntax.specs.declared.program.Op.TheVariants.{Case}
-use Rattle.grin_syntax.specs.Tree.{Code, Act, arm, case, act_of, before_of, arm_of, all_before, arms_of}
+use Rattle.grin_syntax.specs.Tree.{Code, Act, arm, act_of, before_of, arm_of, all_before, arms_of}
 use Rattle.grin_syntax.proofs.TreeOf.{act_of-Case}
 use Rattle.grin_syntax.proofs.Pieces.{all_before_push}
 use Rattle.grin_rewrite.specs.WithFacts.{WithFacts, walk_act, walk_code, walk_arms, walk_arm}

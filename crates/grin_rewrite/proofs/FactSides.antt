@@ -1,11 +1,13 @@
 -- A program and what becomes of it by what is known at each place run side by side, where words alone change but for cases.
-use Rattle.std.proofs.Common.{◌≡◌, ℕ, suc, ◌+◌, ◌≤◌, ◌&&◌, Bool, true, false, List, [], ◌∷◌, ◌++◌, length, Option, Some, None, slice_get, slice_set, refl, sym, ap, ◌∙◌, subst, arith}
+use Rattle.std.proofs.Common.{◌≡◌, ℕ, suc, ◌+◌, ◌≤◌, ◌&&◌, Bool, true, false, cond, not, List, [], ◌∷◌, ◌++◌, length, Option, Some, None, slice_get, slice_set, refl, sym, ap, ◌∙◌, subst, arith}
 use Rattle.seq.proofs.Lists.{none_is_some}
+use Rattle.seq.proofs.Truth.{and_left}
 use Rattle.seq.specs.Lists.{times}
 use Rattle.seq.proofs.Counted.{times_append}
 use Rattle.grin_syntax.specs.declared.program.Cell.{Cell}
 use Rattle.grin_syntax.specs.declared.program.Shape.{Shape}
 use Rattle.grin_syntax.specs.declared.program.Target.{Target}
+use Rattle.grin_syntax.specs.declared.program.Target.TheVariants as to
 use Rattle.grin_syntax.specs.declared.program.Val.{Val}
 use Rattle.grin_syntax.specs.declared.program.Val.TheVariants.{NodeVar, Node as Node', Vector, One}
 use Rattle.grin_syntax.specs.declared.program.Word.{Word}
@@ -14,8 +16,8 @@ use Rattle.grin_syntax.specs.Binders.{numbers_of, target_vars, shape_vars, cell_
 use Rattle.grin_syntax.specs.Formed.{AllOf, Scope, with_word_variables, with_target, params_scope, ValFormed, ActFormed, CodeFormed, ArmsFormed, ProcedureFormed, Formed}
 use Rattle.grin_meaning.specs.Values.{Datum, cell, Node, Value, words, Env, HeapCell, State, World, missing, Answer, gives, stops, need, and_then, Binding, with_vars, one_each, as_node, word_of, words_of, value_of, node_of, bindings_of}
 use Rattle.grin_meaning.specs.Run.{Calls, act_by, require_if_checked, places, cells_of, place_of}
-use Rattle.grin_meaning.specs.Checks.{is_none_or, is_filled, fills, all_fill, is_given, is_bound_well}
-use Rattle.grin_meaning.specs.Ready.{EachAct, EachCode, EachArms, PieceKind, EveryBodyIsOfKind, Inlined}
+use Rattle.grin_meaning.specs.Checks.{is_none_or, is_filled, fills, all_fill, has_block, is_fetch, is_node_target, not_delayed, is_given, is_bound_well}
+use Rattle.grin_meaning.specs.Ready.{EachAct, EachCode, EachArms, PieceKind, EveryBodyIsOfKind, Inlined, NoNodeTarget}
 use Rattle.grin_meaning.specs.Rewritten.{rewritten}
 use Rattle.grin_meaning.specs.Follows.{Same, same, HoldsInEveryState}
 use Rattle.grin_meaning.specs.Keeps.{world_of, Keeps}
@@ -165,12 +167,30 @@ module _ (s : Setting) where
       at there = bind_follows s {R = With R there} {R' = R'} {U = GaveToo o' there} {V = V} t t o o' b b' (gives_it there) k
           (λ y z. on (plainly there y) z.v z.v' z.w.cells z.bs z.values.0 (subst (λ q. Gave (h s) q o' z.v') (sym y.related.1) z.values.1) z.seen z.binds)
 
+-- ---- what a case gives
+
+no_node : (t : Target) → NoNodeTarget t → is_node_target t ≡ false
+no_node (to.Node x) n = absurd n
+no_node to.Nothing n = refl
+no_node (to.One x) n = refl
+no_node (to.Vector xs) n = refl
+
+-- any operation may give it
+well_given : (g : Program) (t : Target) (v : Val) (as' : Arms) (o : Act) (y : Value) → NoNodeTarget t → is_bound_well g t (case v as') y ≡ true → is_bound_well g t o y ≡ true
+well_given g t v as' o y n h =
+    let given : is_given g y ≡ true = and_left (is_given g y) (cond (is_node_target t && true) (not_delayed g y) true) h in
+    (λ i. cond (has_block o) (given i) true && cond (no_node t n i && not (is_fetch o)) (not_delayed g y) true) ∙ both (has_block o)
+  where
+    both : (b : Bool) → (cond b true true && true) ≡ true
+    both true = refl
+    both false = refl
+
 -- ---- variables once
 
-once_last : (scope : Scope) (xs bs : List ℕ) → Once scope (xs ++ bs) → Once scope bs
+pub once_last : (scope : Scope) (xs bs : List ℕ) → Once scope (xs ++ bs) → Once scope bs
 once_last scope xs bs once y = let o : times y scope.nodes + times y scope.words + times y (xs ++ bs) ≤ 1 = once y in let e : times y (xs ++ bs) ≡ times y xs + times y bs = times_append y xs bs in omega (arith, o, e)
 
-once_target : (t : Target) (scope : Scope) (bs : List ℕ) → Once scope (target_vars t ++ bs) → Once (with_target t scope) bs
+pub once_target : (t : Target) (scope : Scope) (bs : List ℕ) → Once scope (target_vars t ++ bs) → Once (with_target t scope) bs
 once_target t scope bs once y =
     let a : times y (with_target t scope).nodes + times y (with_target t scope).words ≡ times y (target_vars t) + (times y scope.nodes + times y scope.words) = target_adds t scope y in
     let e : times y (target_vars t ++ bs) ≡ times y (target_vars t) + times y bs = times_append y (target_vars t) bs in
@@ -179,7 +199,7 @@ once_target t scope bs once y =
 
 -- ---- the two programs
 
-module _ {F : Type 0} (R : WithFacts F) (word : F → Word → Word) (g : Program) (start : F) (p : Places R word g start) (K : PieceKind) (P : State → Type 0) where
+module _ {F : Type 0} (R : WithFacts F) (word : F → Word → Word) (g : Program) (start : F) (K : PieceKind) (p : Places R word g start K) (P : State → Type 0) where
   abbrev procs : List Procedure
   procs = procs_by R word start g.procs
 
@@ -211,11 +231,11 @@ module _ {F : Type 0} (R : WithFacts F) (word : F → Word → Word) (g : Progra
     pub bound : (f : F) (scope : Scope) (t : Target) (o : Act) (v : Value) (bs : List Binding) (c c' : List HeapCell) (env env' : Env) → p.Place f scope → Once scope (target_vars t) → K.target t → ActFormed g scope o → Gave g env' o v → bindings_of g t v ≡ Some bs
         → Holds f c env env' → Holds (R.after f t o) c' (with_vars bs env) (with_vars bs env')
     pub inlined : (o : Act) → K.operation o → Inlined o
+    pub no_nodes : (t : Target) → K.target t → NoNodeTarget t
     -- cases
     pub cases : (c c' : Calls) (cb : CallsBack P c) (cf : CallsFollow plan c c') (f : F) (scope : Scope) (v : Val) (as' bs' : Arms) → p.Place f scope
         → ((x : Here plan (Holds f)) (y : Value) → value_of g x.env v ≡ Some y → value_of g x.env' (R.value_becomes f v) ≡ Some y)
         → ArmsGo Holds (side_by_side plan c c' cb cf) f (R.value_becomes f v) as' bs' → ActFollows (side_by_side plan c c' cb cf) (Holds f) Same (case v as') (R.case_becomes f (R.value_becomes f v) bs')
-    pub case_bound : (f : F) (v v' : Val) (as' bs' : Arms) (t : Target) (y : Value) → K.target t → is_bound_well g t (case v as') y ≡ true → is_bound_well g t (R.case_becomes f v' bs') y ≡ true
 
   module _ (by : ByWords R word) (a : Holding) (c c' : Calls) (cb : CallsBack P c) (cf : CallsFollow plan c c') where
     abbrev st : Setting
@@ -333,9 +353,9 @@ module _ {F : Type 0} (R : WithFacts F) (word : F → Word → Word) (g : Progra
       arms = λ f scope v as' bs'. Good f scope (ValFormed g scope v × ArmsFormed g scope as') (EachArms K as') (arms_vars as') → ArmsGo H st f v as' bs';
       leafs = λ f scope l q. subst (Goes f (leaf l)) (sym (by.leafs f l)) (record { bound_well = λ t y k e. leaf_bound f l t y e; follows = leaf_goes f l q.kind });
       cases = λ f scope v as' bs' go q. record {
-        bound_well = λ t y k e. a.case_bound f v (R.value_becomes f v) as' bs' t y k e;
+        bound_well = λ t y k e. well_given g t v as' (R.case_becomes f (R.value_becomes f v) bs') y (a.no_nodes t k) e;
         follows = a.cases c c' cb cf f scope v as' bs' q.place (λ x y e. subst (λ u. value_of g x.env' u ≡ Some y) (sym (by.values f v)) (value_goes f v x y e))
-            (go (record { place = q.place; formed = (new_val_formed R word g start by p f scope q.place v q.formed.0, q.formed.1); kind = q.kind.2; once = q.once }));
+            (go (record { place = q.place; formed = (new_val_formed R word g start K by p f scope q.place v q.formed.0, q.formed.1); kind = q.kind.2; once = q.once }));
       };
       blocks = λ f scope b b' go q. record {
         bound_well = λ t y k e. e;
@@ -347,7 +367,7 @@ module _ {F : Type 0} (R : WithFacts F) (word : F → Word → Word) (g : Progra
           (stores_too f scope cs q.place (once_left scope (cell_vars cs) (code_vars b) q.once)));
       binds = λ f scope t o b b' go later q.
           let o' : Act = walk_act R f o in
-          let formed : ActFormed g scope o' = act_formed R word g start by p o f scope q.place q.formed.0 in
+          let formed : ActFormed g scope o' = act_formed R word g start K by p o f scope q.place q.kind.1 q.formed.0 in
           let goes : Goes f o o' = go (record { place = q.place; formed = q.formed.0; kind = q.kind.1; once = once_left scope (act_vars o) (code_vars b) (once_last scope (target_vars t) (act_vars o ++ code_vars b) q.once) }) in
           bind_gave st {R = H f} {R' = H (R.after f t o')} t o o' b b' goes.follows
           (later (record {

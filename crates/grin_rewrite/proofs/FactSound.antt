@@ -54,8 +54,8 @@ both_bodies (q ∷ qs) h k = (both_code q.body h.0 k.0, both_bodies qs h.1 k.1)
 pub record FactsAreSound {F : Type 0} (R : WithFacts F) (word : F → Word → Word) (g : Program) (start : F) (P : State → Type 0) : Type 1 where
   pub by : ByWords R word
   pub cases : (q : Kept) → CasesKeep R word q
-  pub places : Places R word g start
-  pub holding : Holding R word g start places inlined_vectors P
+  pub places : Places R word g start inlined_vectors
+  pub holding : Holding R word g start inlined_vectors places P
 
 module _ {F : Type 0} (R : WithFacts F) (word : F → Word → Word) (g : Program) (start : F) (P : State → Type 0) (sound : FactsAreSound R word g start P) (of : IsVectorForm g) (passed : (i : List ℕ) (n : ℕ) → HoldsInEveryState P (world_of (run g i n)).seen) where
   abbrev after : Program
@@ -64,8 +64,11 @@ module _ {F : Type 0} (R : WithFacts F) (word : F → Word → Word) (g : Progra
   never : CheckedRunsNeverMissing g
   never = (looking_law g of.ready.inlined).sees of.ready.never_missing of.ready.runs
 
+  of_kind : EveryBodyIsOfKind inlined_vectors g.procs
+  of_kind = both_bodies g.procs of.ready.inlined of.vectorised
+
   kept : CheckedRunsNeverMissing after × Keeps g after
-  kept = walked_kept R word g start sound.places inlined_vectors P sound.by sound.holding of.formed (both_bodies g.procs of.ready.inlined of.vectorised) never
+  kept = walked_kept R word g start inlined_vectors sound.places P sound.by sound.holding of.formed of_kind never
       (λ i n. subst (λ a. HoldsInEveryState P (world_of a).seen) (sym (look_agrees g i n (never i n))) (passed i n))
 
   stays_of_kind : (K : PieceKind) (blind : Blind K) → ((f : F) (v : Val) → (each_kept K blind).value v (val_by (word f) v)) → EveryBodyIsOfKind K g.procs → EveryBodyIsOfKind K after.procs
@@ -89,7 +92,7 @@ module _ {F : Type 0} (R : WithFacts F) (word : F → Word → Word) (g : Progra
   unfolding each_kept
   stays = record {
     of_vectors = record {
-      formed = walked_formed R word g start sound.by sound.places sound.cases of.formed;
+      formed = walked_formed R word g start inlined_vectors sound.by sound.places sound.cases of_kind of.formed;
       ready = ready;
       vectorised = stays_of_kind vectorised_kind vectorised_blind (λ f v. no_variable (word f) v) of.vectorised;
     };

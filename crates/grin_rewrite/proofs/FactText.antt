@@ -9,12 +9,12 @@ use Rattle.grin_syntax.specs.declared.program.Target.{Target}
 use Rattle.grin_syntax.specs.declared.program.Val.{Val}
 use Rattle.grin_syntax.specs.declared.program.Val.TheVariants.{NodeVar, Node, Vector, One}
 use Rattle.grin_syntax.specs.declared.program.Word.{Word}
-use Rattle.grin_syntax.specs.Tree.{Code, store, Act, Leaf, leaf, unit, fetch, fetch_word, update, eval, apply, call, prim, read, write, fail, case, Arms, Procedure, Program}
+use Rattle.grin_syntax.specs.Tree.{Code, store, Act, Leaf, leaf, unit, fetch, fetch_word, update, eval, apply, call, prim, read, write, fail, case, Arms, Procedure, Program, no_arm, arm}
 use Rattle.grin_syntax.specs.Binders.{numbers_of, shape_vars, cell_vars, code_vars, code_sites, procs_vars, procs_sites, program_sites}
 use Rattle.grin_syntax.specs.Formed.{AllOf, Scope, with_word_variables, with_target, params_scope, WordFormed, ValFormed, CellFormed, ShapeFormed, ActFormed, CodeFormed, ArmsFormed, ProcedureFormed, Formed}
 use Rattle.grin_syntax.specs.SameOutside.{names_of, DifferOnlyInBodies}
 use Rattle.grin_syntax.proofs.Scopes.{with_procs, formed_with}
-use Rattle.grin_meaning.specs.Ready.{EveryBodyIsOfKind, NarrowCode, PieceKind}
+use Rattle.grin_meaning.specs.Ready.{EachAct, EachCode, EachArms, EveryBodyIsOfKind, NarrowCode, PieceKind}
 use Rattle.grin_meaning.specs.Rewritten.{rewritten_procedure, rewritten}
 use Rattle.grin_meaning.specs.Slim.{Slim, code_weight, code_calls, code_words, procs_weight, procs_calls, procedure_words}
 use Rattle.pass_ground.specs.OpenUpdates.{code_update_sum, procs_update_sum}
@@ -25,6 +25,11 @@ use Rattle.grin_rewrite.specs.ByWords.{words_by, val_by, cells_by, leaf_by}
 use Rattle.grin_rewrite.proofs.Text.{code_again}
 use Rattle.grin_rewrite.proofs.Walked.{Relating, act_walked, code_walked}
 use Rattle.grin_rewrite.proofs.KeptByWords.{FewerArms, none, keeps, leaves, Kept, cells_bind, vars_kept, sites_kept, weight_kept, as_heavy, calls_kept, words_kept, updates_kept, Blind, each_kept, results_kept}
+
+-- the patterns of alternatives are of the kind
+abbrev pub Patterns : PieceKind → Arms → Type 0
+Patterns K no_arm = Unit {0}
+Patterns K (arm s b as') = K.pattern (shape_vars s) × Patterns K as'
 
 -- alternatives that are left stay well formed
 pub fewer_formed : (g : Program) (scope : Scope) {as' bs' : Arms} → FewerArms as' bs' → ArmsFormed g scope as' → ArmsFormed g scope bs'
@@ -150,7 +155,7 @@ module _ {F : Type 0} (R : WithFacts F) (word : F → Word → Word) where
 
   -- ---- well formed programs
 
-  module _ (g : Program) (start : F) where
+  module _ (g : Program) (start : F) (K : PieceKind) where
     -- what holds of what is known at a place, by the variables in scope there
     pub record Places : Type 1 where
       pub Place : F → Scope → Type 0
@@ -159,7 +164,7 @@ module _ {F : Type 0} (R : WithFacts F) (word : F → Word → Word) where
       pub after : (f : F) (scope : Scope) (t : Target) (o : Act) → ActFormed g scope o → Place f scope → Place (R.after f t o) (with_target t scope)
       pub inside : (f : F) (scope : Scope) (v : Val) (s : Shape) → ValFormed g scope v → ShapeFormed g s → Place f scope → Place (R.inside f v s) scope
       pub words : (f : F) (scope : Scope) → Place f scope → (a : Word) → WordFormed g scope a → WordFormed g scope (word f a)
-      pub cases : (f : F) (scope : Scope) (v : Val) (as' : Arms) → ValFormed g scope v → ArmsFormed g scope as' → ActFormed g scope (R.case_becomes f v as')
+      pub cases : (f : F) (scope : Scope) (v : Val) (as' : Arms) → ValFormed g scope v → Patterns K as' → ArmsFormed g scope as' → ActFormed g scope (R.case_becomes f v as')
 
     module _ (by : ByWords) (p : Places) where
       module _ (f : F) (scope : Scope) (at : p.Place f scope) where
@@ -200,22 +205,26 @@ module _ {F : Type 0} (R : WithFacts F) (word : F → Word → Word) where
           (subst (λ xs. AllOf (CellFormed g (with_word_variables xs scope)) (cells_by (word f) cs) × CodeFormed g (with_word_variables xs scope) b') (sym (cells_bind (word f) cs)) (cells_formed f (with_word_variables (cell_vars cs) scope) at cs h, k))
 
       formed_relating : Relating R
-      unfolding ActFormed
+      unfolding ActFormed EachAct
       formed_relating = record {
-        act = λ f scope o o'. p.Place f scope → ActFormed g scope o → ActFormed g scope o';
-        code = λ f scope b b'. p.Place f scope → CodeFormed g scope b → CodeFormed g scope b';
-        arms = λ f scope v as' bs'. p.Place f scope → ValFormed g scope v → ArmsFormed g scope as' → ArmsFormed g scope bs';
-        leafs = λ f scope l at h. subst (ActFormed g scope) (sym (by.leafs f l)) (leaf_formed f scope at l h);
-        cases = λ f scope v as' bs' k at h. p.cases f scope (R.value_becomes f v) bs' (new_val_formed f scope at v h.0) (k at (new_val_formed f scope at v h.0) h.1);
-        blocks = λ f scope b b' k. k;
-        ends = λ f scope o o' k. k;
-        stores = λ f scope cs b b' k at h. stores_formed f scope cs b' (p.stores f scope (cell_vars cs) at) h.0 (k (p.stores f scope (cell_vars cs) at) h.1);
-        binds = λ f scope t o b b' k l at h. (k at h.0, l (p.after f scope t (walk_act R f o) (k at h.0) at) h.1);
-        none_left = λ f scope v at fv h. tt;
-        more = λ f scope v s b b' as' bs' k l at fv h. (h.0, k (p.stores (R.inside f v s) scope (shape_vars s) (p.inside f scope v s fv h.0 at)) h.1, l at fv h.2);
+        act = λ f scope o o'. p.Place f scope → EachAct K o → ActFormed g scope o → ActFormed g scope o';
+        code = λ f scope b b'. p.Place f scope → EachCode K b → CodeFormed g scope b → CodeFormed g scope b';
+        arms = λ f scope v as' bs'. p.Place f scope → ValFormed g scope v → EachArms K as' → ArmsFormed g scope as' → ArmsFormed g scope bs' × Patterns K bs';
+        leafs = λ f scope l at k h. subst (ActFormed g scope) (sym (by.leafs f l)) (leaf_formed f scope at l h);
+        cases = λ f scope v as' bs' go at k h.
+            let made : ArmsFormed g scope bs' × Patterns K bs' = go at (new_val_formed f scope at v h.0) k.2 h.1 in
+            p.cases f scope (R.value_becomes f v) bs' (new_val_formed f scope at v h.0) made.1 made.0;
+        blocks = λ f scope b b' go at k h. go at k.1 h;
+        ends = λ f scope o o' go. go;
+        stores = λ f scope cs b b' go at k h. stores_formed f scope cs b' (p.stores f scope (cell_vars cs) at) h.0 (go (p.stores f scope (cell_vars cs) at) k.1 h.1);
+        binds = λ f scope t o b b' go later at k h. (go at k.1 h.0, later (p.after f scope t (walk_act R f o) (go at k.1 h.0) at) k.2 h.1);
+        none_left = λ f scope v at fv k h. (tt, tt);
+        more = λ f scope v s b b' as' bs' go later at fv k h.
+            let made : ArmsFormed g scope bs' × Patterns K bs' = later at fv k.2 h.2 in
+            ((h.0, go (p.stores (R.inside f v s) scope (shape_vars s) (p.inside f scope v s fv h.0 at)) k.1 h.1, made.0), (k.0, made.1));
       }
 
-      pub act_formed : (o : Act) (f : F) (scope : Scope) → p.Place f scope → ActFormed g scope o → ActFormed g scope (walk_act R f o)
+      pub act_formed : (o : Act) (f : F) (scope : Scope) → p.Place f scope → EachAct K o → ActFormed g scope o → ActFormed g scope (walk_act R f o)
       unfolding formed_relating
       act_formed o f scope = act_walked R formed_relating o f scope
 
@@ -225,13 +234,13 @@ module _ {F : Type 0} (R : WithFacts F) (word : F → Word → Word) where
       same_many : length procs ≡ length g.procs
       same_many = length-map g.procs (change start)
 
-      bodies_formed : (qs : List Procedure) → AllOf (ProcedureFormed g) qs → AllOf (ProcedureFormed (with_procs g procs same_many)) (procs_by start qs)
+      bodies_formed : (qs : List Procedure) → EveryBodyIsOfKind K qs → AllOf (ProcedureFormed g) qs → AllOf (ProcedureFormed (with_procs g procs same_many)) (procs_by start qs)
       unfolding formed_relating
-      bodies_formed [] h = tt
-      bodies_formed (q ∷ qs) h = (code_again g procs same_many (params_scope q) (walk_code R start q.body) (code_walked R formed_relating q.body start (params_scope q) (p.begins (params_scope q)) h.0), bodies_formed qs h.1)
+      bodies_formed [] k h = tt
+      bodies_formed (q ∷ qs) k h = (code_again g procs same_many (params_scope q) (walk_code R start q.body) (code_walked R formed_relating q.body start (params_scope q) (p.begins (params_scope q)) k.0 h.0), bodies_formed qs k.1 h.1)
 
-      pub walked_formed : ((q : Kept) → CasesKeep q) → Formed g → Formed (rewritten (walk_code R start) g)
-      walked_formed cases f = formed_with g procs same_many f (vars_once start by cases g f) (sites_once start by cases g same_many f) (bodies_formed g.procs f.procedures) (
+      pub walked_formed : ((q : Kept) → CasesKeep q) → EveryBodyIsOfKind K g.procs → Formed g → Formed (rewritten (walk_code R start) g)
+      walked_formed cases k f = formed_with g procs same_many f (vars_once start by cases g f) (sites_once start by cases g same_many f) (bodies_formed g.procs k f.procedures) (
         change start f.start.0,
         (slice_get-map (change start) g.procs g.start.0 ∙ ap (option_map (change start)) f.start.1, f.start.2),
       )

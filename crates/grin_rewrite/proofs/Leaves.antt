@@ -10,9 +10,9 @@ use Rattle.grin_syntax.specs.declared.program.Block.{Block}
 use Rattle.grin_syntax.specs.declared.program.Op.{Op, out-Op, roll-Op, roll-out-Op}
 use Rattle.grin_syntax.specs.declared.program.Op.TheVariants.{Unit as Unit', Fetch, FetchWord, Update, Eval, Apply, Call, Prim, Read, Write, Case, Nested, Fail, rolls-Unit, rolls-Fetch, rolls-FetchWord, rolls-Update, rolls-Eval, rolls-Apply, rolls-Call, rolls-Prim, rolls-Read, rolls-Write, rolls-Case, rolls-Nested, rolls-Fail}
 use Rattle.grin_syntax.specs.declared.program.Op.TheOpen as open'
-use Rattle.grin_syntax.specs.Tree.{Act, Leaf, leaf, unit, fetch, fetch_word, update, eval, apply, call, prim, read, write, fail, act_of}
+use Rattle.grin_syntax.specs.Tree.{Act, Leaf, leaf, unit, fetch, fetch_word, update, eval, apply, call, prim, read, write, fail, act_of, IsLeaf}
 use Rattle.grin_syntax.proofs.TreeOf.{act_of-Unit, act_of-Fetch, act_of-FetchWord, act_of-Update, act_of-Eval, act_of-Apply, act_of-Call, act_of-Prim, act_of-Read, act_of-Write, act_of-Case, act_of-Nested, act_of-Fail}
-use Rattle.grin_rewrite.specs.Rewriting.{IsLeaf, rewrite_act}
+use Rattle.grin_rewrite.specs.Rewriting.{rewrite_act}
 
 -- the operation of the code for one of the tree
 abbrev pub op_of : Leaf → Op

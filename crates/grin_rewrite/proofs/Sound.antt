@@ -72,7 +72,7 @@ module _ (g : Program) (P : State → Type 0) (rule : Leaf → Act) (sound : Rul
 
 -- ---- kinds that ask of operations alone
 
-all_any : {X : Type 0} (xs : List X) → AllOf (λ x. Unit {0}) xs
+pub all_any : {X : Type 0} (xs : List X) → AllOf (λ x. Unit {0}) xs
 all_any [] = tt
 all_any (x ∷ xs) = (tt, all_any xs)
 
@@ -96,7 +96,7 @@ mutual
   any_arms no_arm = tt
   any_arms (arm s b as') = (tt, any_code b, any_arms as')
 
-any_bodies : (qs : List Procedure) → EveryBodyIsOfKind any_kind qs
+pub any_bodies : (qs : List Procedure) → EveryBodyIsOfKind any_kind qs
 any_bodies [] = tt
 any_bodies (q ∷ qs) = (any_code q.body, any_bodies qs)
 

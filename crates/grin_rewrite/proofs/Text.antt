@@ -38,6 +38,18 @@ module _ (p : Program) (procs : List Procedure) (same_count : length procs ≡ l
     arms_again scope no_arm h = tt
     arms_again scope (arm s b as') h = (h.0, code_again (with_word_variables (shape_vars s) scope) b h.1, arms_again scope as' h.2)
 
+-- what is asked of blocks, targets, values of cases and stores, and patterns: what K asks, L does not ask anew
+pub record Onward (K L : PieceKind) : Type 0 where
+  pub cases : (v : Val) (as' bs' : Arms) → K.operation (case v as') → L.operation (case v bs')
+  pub blocks : (b b' : Code) → K.operation (nested b) → L.operation (nested b')
+  pub targets : (t : Target) → K.target t → L.target t
+  pub values : (v : Val) → K.value v → L.value v
+  pub patterns : (xs : List ℕ) → K.pattern xs → L.pattern xs
+
+pub all_values : (K L : PieceKind) (on : Onward K L) (cs : List Cell) → AllOf {A = Cell} (λ c. K.value c.val) cs → AllOf {A = Cell} (λ c. L.value c.val) cs
+all_values K L on [] k = tt
+all_values K L on (c ∷ cs) k = (on.values c.val k.0, all_values K L on cs k.1)
+
 -- an operation that binds no variable and has no site
 abbrev pub AddsNothing : Act → Type 0
 AddsNothing o = (act_vars o ≡ []) × (act_sites o ≡ [])
@@ -124,19 +136,7 @@ module _ (rule : Leaf → Act) where
 
   -- ---- kinds
 
-  -- what is asked of blocks, targets, values of cases and stores, and patterns: what K asks, L does not ask anew
-  pub record Onward (K L : PieceKind) : Type 0 where
-    pub cases : (v : Val) (as' bs' : Arms) → K.operation (case v as') → L.operation (case v bs')
-    pub blocks : (b b' : Code) → K.operation (nested b) → L.operation (nested b')
-    pub targets : (t : Target) → K.target t → L.target t
-    pub values : (v : Val) → K.value v → L.value v
-    pub patterns : (xs : List ℕ) → K.pattern xs → L.pattern xs
-
   module _ (K L : PieceKind) (on : Onward K L) (each : (l : Leaf) → EachAct K (leaf l) → EachAct L (rule l)) where
-    all_values : (cs : List Cell) → AllOf {A = Cell} (λ c. K.value c.val) cs → AllOf {A = Cell} (λ c. L.value c.val) cs
-    all_values [] k = tt
-    all_values (c ∷ cs) k = (on.values c.val k.0, all_values cs k.1)
-
     mutual
       unfolding rewrite_act EachAct
 
@@ -147,7 +147,7 @@ module _ (rule : Leaf → Act) where
 
       code_each : (b : Code) → EachCode K b → EachCode L (rewrite_code rule b)
       code_each (end o) h = act_each o h
-      code_each (store cs b) h = (all_values cs h.0, code_each b h.1)
+      code_each (store cs b) h = (all_values K L on cs h.0, code_each b h.1)
       code_each (bind t o b) h = (on.targets t h.0, act_each o h.1, code_each b h.2)
 
       arms_each : (as' : Arms) → EachArms K as' → EachArms L (rewrite_arms rule as')

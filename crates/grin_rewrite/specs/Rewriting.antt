@@ -2,12 +2,6 @@
 use Rattle.grin_syntax.specs.declared.program.Shape.{Shape}
 use Rattle.grin_syntax.specs.Tree.{Code, end, store, bind, Act, Leaf, leaf, case, nested, Arms, no_arm, arm}
 
--- an operation without a block
-abbrev pub IsLeaf : Act → Type 0
-IsLeaf (leaf l) = Unit {0}
-IsLeaf (case v as') = ⊥
-IsLeaf (nested b) = ⊥
-
 module _ (rule : Leaf → Act) where
   unfoldable mutual
     pub rewrite_act : Act → Act

@@ -2,8 +2,7 @@
 #![tactic(auto)]
 
 ghost use Rattle.std.specs.Prelude.{◌≡◌, ℕ, map, IfOk, OnOk};
-ghost use Rattle.grin_syntax.specs.Tree.{act_of, arm_of, arms_of};
-ghost use Rattle.grin_rewrite.specs.Rewriting.{IsLeaf};
+ghost use Rattle.grin_syntax.specs.Tree.{act_of, arm_of, arms_of, IsLeaf};
 ghost use Rattle.grin_rewrite.specs.WithFacts.{WithFacts, walk_act};
 
 use grin_syntax::{Alt, Cell, Op, Shape, Target, Val};

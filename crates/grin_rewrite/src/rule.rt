@@ -2,8 +2,8 @@
 #![tactic(auto)]
 
 ghost use Rattle.std.specs.Prelude.{◌≡◌, IfOk};
-ghost use Rattle.grin_syntax.specs.Tree.{Act, Leaf, act_of};
-ghost use Rattle.grin_rewrite.specs.Rewriting.{IsLeaf, rewrite_act};
+ghost use Rattle.grin_syntax.specs.Tree.{Act, Leaf, act_of, IsLeaf};
+ghost use Rattle.grin_rewrite.specs.Rewriting.{rewrite_act};
 
 use grin_syntax::Op;
 use std::alloc::{AllocError, Global};

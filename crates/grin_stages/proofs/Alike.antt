@@ -1,5 +1,5 @@
 -- Solutions with the same facts inline a program alike.
-use Rattle.std.proofs.Common.{◌≡◌, ℕ, zero, suc, ◌+◌, Bool, true, false, IsTrue, nat_eq, nat_le, not, ◌||◌, ◌&&◌, List, [], ◌∷◌, ◌++◌, map, length, Option, Some, None, slice_get, refl, sym, ap, ◌∙◌, subst}
+use Rattle.std.proofs.Common.{◌≡◌, ℕ, zero, suc, ◌+◌, Bool, true, false, cond, IsTrue, nat_eq, nat_le, not, ◌||◌, ◌&&◌, List, [], ◌∷◌, ◌++◌, map, length, Option, Some, None, slice_get, refl, sym, ap, ◌∙◌, subst}
 use Rattle.seq.proofs.Order.{eq_self, eq_from}
 use Rattle.seq.proofs.Truth.{true_left, true_right}
 use Rattle.grin_syntax.specs.declared.program.ProcId.{ProcId}
@@ -9,11 +9,9 @@ use Rattle.grin_syntax.specs.declared.program.Word as W
 use Rattle.grin_syntax.specs.declared.program.Word.TheVariants.{Lit, Var, Global, TagWord}
 use Rattle.grin_syntax.specs.declared.program.Val as V
 use Rattle.grin_syntax.specs.declared.program.Val.TheVariants.{NodeVar, Node as NodeVal, Vector as VectorVal, One as OneVal}
-use Rattle.grin_syntax.specs.declared.program.Target.{Target}
-use Rattle.grin_syntax.specs.declared.program.Target.TheVariants.{Node as NodeTarget}
-use Rattle.grin_syntax.specs.Tree.{Code, end, store, bind, Act, leaf, unit, fetch, fetch_word, update, eval, apply, call, prim, read, write, case, nested, fail, Arms, no_arm, arm, Procedure, Program}
-use Rattle.grin_syntax.specs.Fresh.{variable, variables, past_procs}
-use Rattle.grin_meaning.specs.Run.{is_some_and, part_from}
+use Rattle.grin_syntax.specs.Tree.{end, Leaf, leaf, unit, eval, apply, case, Arms, no_arm, Program}
+use Rattle.grin_syntax.specs.Fresh.{variable, variables}
+use Rattle.grin_meaning.specs.Run.{is_fun_kind, is_some_and, part_from}
 use Rattle.flow_system.specs.Tables.{tables}
 use Rattle.flow_system.specs.System.{system}
 use Rattle.flow_system.specs.declared.fact.Element.{Element as AbstractWord}
@@ -30,8 +28,10 @@ use Rattle.stage_names.specs.declared.PassName.{PassName}
 use Rattle.stage_names.specs.declared.PassName.TheVariants.{Translate, Eval, Apply, Vectorise, Simplify, Fetch, Copy, Update, Unbox, Raise, Flat, Known, Cells, Dead}
 use Rattle.grin_opt.specs.Schedule.{pass_relation}
 use Rattle.grin_stages.specs.Stage.{IsLeastOfTranslation, ExpandedSizeIsUnique, IsStage, translated, evaluations_inlined, both_inlined, by_pass, UpToInlining, StageIsUnique}
-use Rattle.inlining.specs.Evaluations.{any_satisfies, cells_in, site_of, sites_of, tags_of, fields_at, call_body, eval_arm, eval_arms, evaluation, eval_bound, eval_ended, eval_act, eval_code, eval_all, eval_procs, act_room, code_room, all_room, arms_room, eval_inlined}
-use Rattle.inlining.specs.Applications.{word_has, value_has, is_part_tag, part_tags_of, others_of, with_one_more, apply_body, part_body, apply_arm, apply_arms, else_fail, apply_act, apply_code, apply_all, apply_procs, apply_act_room, apply_code_room, apply_arms_room, parts_room, apply_inlined, inlined}
+use Rattle.grin_rewrite.specs.Counted.{counted}
+use Rattle.grin_rewrite.specs.Opening.{opening_arms}
+use Rattle.inlining.specs.Evaluations.{any_satisfies, cells_in, site_of, sites_of, tags_of, call_body, eval_opening, eval_arms, evaluation, arms_room, eval_room, eval_before, eval_becomes, eval_rule, eval_inlined}
+use Rattle.inlining.specs.Applications.{word_has, value_has, is_part_tag, part_tags_of, others_of, with_one_more, apply_body, part_body, apply_arms, else_fail, parts_room, apply_room, apply_becomes, apply_rule, apply_inlined, inlined}
 use Rattle.seq.specs.Lists.{those}
 
 -- two tests that imply each other are one
@@ -91,123 +91,32 @@ module _ (p : Program) (A B : Solution) (same : (q : Place) (part : Part) (u : A
   tags_same : (a : W.Word) → tags_of p A a ≡ tags_of p B a
   tags_same a = those_same _ _ (λ t. sites_same _ _ (λ s. same (site s) tags (tag t)) a) 0 (length p.tags)
 
-  fields_same : (o : Option Tag) → fields_at p A o ≡ fields_at p B o
-  fields_same None = refl
-  fields_same (Some i) = refl
-
   -- ---- evaluations
 
-  arms_room_same : (ts : List ℕ) → arms_room p A ts ≡ arms_room p B ts
-  arms_room_same [] = refl
-  arms_room_same (t ∷ ts) = rw (fields_same (slice_get p.tags t), arms_room_same ts) refl
+  call_same : (a : W.Word) (x k : ℕ) (o : Option ProcId) → call_body p A a x k o ≡ call_body p B a x k o
+  call_same a x k None = refl
+  call_same a x k (Some f) = refl
 
-  mutual
-    unfolding act_room
-
-    act_room_same : (o : Act) → act_room p A o ≡ act_room p B o
-    act_room_same (leaf (eval a)) = rw (tags_same a, arms_room_same (tags_of p B a)) refl
-    act_room_same (case v as') = all_room_same as'
-    act_room_same (nested b) = code_room_same b
-    act_room_same (leaf (unit v)) = refl
-    act_room_same (leaf (fetch a)) = refl
-    act_room_same (leaf (fetch_word a i)) = refl
-    act_room_same (leaf (update a v)) = refl
-    act_room_same (leaf (apply v a)) = refl
-    act_room_same (leaf (call f ws)) = refl
-    act_room_same (leaf (prim f a b)) = refl
-    act_room_same (leaf read) = refl
-    act_room_same (leaf (write a)) = refl
-    act_room_same (leaf fail) = refl
-
-    code_room_same : (b : Code) → code_room p A b ≡ code_room p B b
-    code_room_same (end o) = act_room_same o
-    code_room_same (store cs b) = code_room_same b
-    code_room_same (bind t o b) = rw (act_room_same o, code_room_same b) refl
-
-    all_room_same : (as' : Arms) → all_room p A as' ≡ all_room p B as'
-    all_room_same no_arm = refl
-    all_room_same (arm s b as') = rw (code_room_same b, all_room_same as') refl
-
-  eval_arm_same : (a : W.Word) (n x t : ℕ) (o : Option Tag) (as' bs : Arms) → as' ≡ bs → eval_arm p A a n x t o as' ≡ eval_arm p B a n x t o bs
-  eval_arm_same a n x t None as' bs e = e
-  eval_arm_same a n x t (Some i) as' bs e = rw (body i.proc, e) refl
-    where
-      body : (f : Option ProcId) → call_body p A a x i.fields f ≡ call_body p B a x i.fields f
-      body None = refl
-      body (Some f) = refl
-
-  eval_arms_same : (a : W.Word) (n x : ℕ) (ts : List ℕ) → eval_arms p A a n x ts ≡ eval_arms p B a n x ts
-  eval_arms_same a n x [] = refl
-  eval_arms_same a n x (t ∷ ts) =
-      let o = slice_get p.tags t in
-      eval_arm_same a n x t o _ _ (eval_arms_same a n (suc (x + fields_at p A o)) ts ∙ ap (λ k. eval_arms p B a n (suc (x + k)) ts) (fields_same o))
+  eval_opening_same : (a : W.Word) (n : ℕ) → eval_opening p A a n ≡ eval_opening p B a n
+  eval_opening_same a n = λ i. record { more = 1; body = λ x t. cond (is_fun_kind t.kind) (call_same a x t.fields t.proc i) (end (leaf (unit (NodeVar (variable n))))); last = no_arm }
 
   evaluation_same : (x : ℕ) (a : W.Word) → evaluation p A x a ≡ evaluation p B x a
-  evaluation_same x a = ap (λ as'. case (NodeVar (variable x)) as') (ap (eval_arms p A a x (suc x)) (tags_same a) ∙ eval_arms_same a x (suc x) (tags_of p B a))
+  evaluation_same x a = ap (case (NodeVar (variable x))) (ap (eval_arms p A a x (suc x)) (tags_same a) ∙ ap (λ O. opening_arms p.tags O (suc x) (tags_of p B a)) (eval_opening_same a x))
 
-  eval_bound_same : (x : ℕ) (t : Target) (o : Act) (b : Code) → eval_bound p A x t o b ≡ eval_bound p B x t o b
-  eval_bound_same x t (leaf (eval a)) b = ap (λ o. bind (NodeTarget (variable x)) (leaf (fetch a)) (bind t o b)) (evaluation_same x a)
-  eval_bound_same x t (case v as') b = refl
-  eval_bound_same x t (nested c) b = refl
-  eval_bound_same x t (leaf (unit v)) b = refl
-  eval_bound_same x t (leaf (fetch a)) b = refl
-  eval_bound_same x t (leaf (fetch_word a i)) b = refl
-  eval_bound_same x t (leaf (update a v)) b = refl
-  eval_bound_same x t (leaf (apply v a)) b = refl
-  eval_bound_same x t (leaf (call f ws)) b = refl
-  eval_bound_same x t (leaf (prim f a c)) b = refl
-  eval_bound_same x t (leaf read) b = refl
-  eval_bound_same x t (leaf (write a)) b = refl
-  eval_bound_same x t (leaf fail) b = refl
+  eval_room_same : (l : Leaf) → eval_room p A l ≡ eval_room p B l
+  eval_room_same (eval a) = ap (λ ts. suc (arms_room p A ts)) (tags_same a)
+  eval_room_same l = refl
 
-  eval_ended_same : (x : ℕ) (o : Act) → eval_ended p A x o ≡ eval_ended p B x o
-  eval_ended_same x (leaf (eval a)) = ap (λ o. bind (NodeTarget (variable x)) (leaf (fetch a)) (end o)) (evaluation_same x a)
-  eval_ended_same x (case v as') = refl
-  eval_ended_same x (nested c) = refl
-  eval_ended_same x (leaf (unit v)) = refl
-  eval_ended_same x (leaf (fetch a)) = refl
-  eval_ended_same x (leaf (fetch_word a i)) = refl
-  eval_ended_same x (leaf (update a v)) = refl
-  eval_ended_same x (leaf (apply v a)) = refl
-  eval_ended_same x (leaf (call f ws)) = refl
-  eval_ended_same x (leaf (prim f a c)) = refl
-  eval_ended_same x (leaf read) = refl
-  eval_ended_same x (leaf (write a)) = refl
-  eval_ended_same x (leaf fail) = refl
+  eval_before_same : (x : ℕ) (l : Leaf) → eval_before p A x l ≡ eval_before p B x l
+  eval_before_same x (eval a) = refl
+  eval_before_same x l = refl
 
-  mutual
-    unfolding eval_act
+  eval_becomes_same : (x : ℕ) (l : Leaf) → eval_becomes p A x l ≡ eval_becomes p B x l
+  eval_becomes_same x (eval a) = evaluation_same x a
+  eval_becomes_same x l = refl
 
-    eval_act_same : (x : ℕ) (o : Act) → eval_act p A x o ≡ eval_act p B x o
-    eval_act_same x (case v as') = ap (case v) (eval_all_same x as')
-    eval_act_same x (nested b) = ap nested (eval_code_same x b)
-    eval_act_same x (leaf (eval a)) = refl
-    eval_act_same x (leaf (unit v)) = refl
-    eval_act_same x (leaf (fetch a)) = refl
-    eval_act_same x (leaf (fetch_word a i)) = refl
-    eval_act_same x (leaf (update a v)) = refl
-    eval_act_same x (leaf (apply v a)) = refl
-    eval_act_same x (leaf (call f ws)) = refl
-    eval_act_same x (leaf (prim f a b)) = refl
-    eval_act_same x (leaf read) = refl
-    eval_act_same x (leaf (write a)) = refl
-    eval_act_same x (leaf fail) = refl
-
-    eval_code_same : (x : ℕ) (b : Code) → eval_code p A x b ≡ eval_code p B x b
-    eval_code_same x (end o) = ap (eval_ended p A x) (eval_act_same x o) ∙ eval_ended_same x (eval_act p B x o)
-    eval_code_same x (store cs b) = ap (store cs) (eval_code_same x b)
-    eval_code_same x (bind t o b) = bound_at (eval_act_same x o) (eval_code_same (x + act_room p A o) b ∙ ap (λ k. eval_code p B (x + k) b) (act_room_same o)) ∙ eval_bound_same x t (eval_act p B x o) (eval_code p B (x + act_room p B o) b)
-      where
-        bound_at : {o o' : Act} {b b' : Code} → o ≡ o' → b ≡ b' → eval_bound p A x t o b ≡ eval_bound p A x t o' b'
-        bound_at e f = λ i. eval_bound p A x t (e i) (f i)
-
-    eval_all_same : (x : ℕ) (as' : Arms) → eval_all p A x as' ≡ eval_all p B x as'
-    eval_all_same x no_arm = refl
-    eval_all_same x (arm s b as') = (λ i. arm s (eval_code_same x b i) (eval_all p A (x + code_room_same b i) as')) ∙ ap (arm s (eval_code p B x b)) (eval_all_same (x + code_room p B b) as')
-
-  eval_procs_same : (x : ℕ) (qs : List Procedure) → eval_procs p A x qs ≡ eval_procs p B x qs
-  eval_procs_same x [] = refl
-  eval_procs_same x (q ∷ qs) = (λ i. record q { body = eval_code_same x q.body i } ∷ eval_procs p A (x + code_room_same q.body i) qs) ∙ ap (λ rest. record q { body = eval_code p B x q.body } ∷ rest) (eval_procs_same (x + code_room p B q.body) qs)
+  eval_rule_same : eval_rule p A ≡ eval_rule p B
+  eval_rule_same = λ i. record { room = λ l. eval_room_same l i; before = λ x l. eval_before_same x l i; becomes = λ x l. eval_becomes_same x l i }
 
   -- ---- applications
 
@@ -230,37 +139,6 @@ module _ (p : Program) (A B : Solution) (same : (q : Place) (part : Part) (u : A
   others_same : (v : V.Val) → others_of p A v ≡ others_of p B v
   others_same v = those_same _ _ (λ t. ap (λ b. b && not (is_part_tag p A t)) (value_has_same v t)) 0 (length p.tags)
 
-  parts_room_same : (ts : List ℕ) → parts_room p A ts ≡ parts_room p B ts
-  parts_room_same [] = refl
-  parts_room_same (t ∷ ts) = rw (fields_same (slice_get p.tags t), parts_room_same ts) refl
-
-  mutual
-    unfolding apply_act_room
-
-    apply_act_room_same : (o : Act) → apply_act_room p A o ≡ apply_act_room p B o
-    apply_act_room_same (leaf (apply v a)) = ap (parts_room p A) (parts_same v) ∙ parts_room_same (part_tags_of p B v)
-    apply_act_room_same (case v as') = apply_arms_room_same as'
-    apply_act_room_same (nested b) = apply_code_room_same b
-    apply_act_room_same (leaf (eval a)) = refl
-    apply_act_room_same (leaf (unit v)) = refl
-    apply_act_room_same (leaf (fetch a)) = refl
-    apply_act_room_same (leaf (fetch_word a i)) = refl
-    apply_act_room_same (leaf (update a v)) = refl
-    apply_act_room_same (leaf (call f ws)) = refl
-    apply_act_room_same (leaf (prim f a b)) = refl
-    apply_act_room_same (leaf read) = refl
-    apply_act_room_same (leaf (write a)) = refl
-    apply_act_room_same (leaf fail) = refl
-
-    apply_code_room_same : (b : Code) → apply_code_room p A b ≡ apply_code_room p B b
-    apply_code_room_same (end o) = apply_act_room_same o
-    apply_code_room_same (store cs b) = apply_code_room_same b
-    apply_code_room_same (bind t o b) = rw (apply_act_room_same o, apply_code_room_same b) refl
-
-    apply_arms_room_same : (as' : Arms) → apply_arms_room p A as' ≡ apply_arms_room p B as'
-    apply_arms_room_same no_arm = refl
-    apply_arms_room_same (arm s b as') = rw (apply_code_room_same b, apply_arms_room_same as') refl
-
   with_one_more_same : (f : ℕ) (o : Option ℕ) (ws : List W.Word) → with_one_more p A f o ws ≡ with_one_more p B f o ws
   with_one_more_same f None ws = refl
   with_one_more_same f (Some t) ws = refl
@@ -270,54 +148,27 @@ module _ (p : Program) (A B : Solution) (same : (q : Place) (part : Part) (u : A
   apply_body_same f (suc zero) ws = refl
   apply_body_same f (suc (suc r)) ws = with_one_more_same f (part_from 0 p.tags f (suc r)) ws
 
-  apply_arm_same : (a : W.Word) (x t : ℕ) (o : Option Tag) (as' bs : Arms) → as' ≡ bs → apply_arm p A a x t o as' ≡ apply_arm p B a x t o bs
-  apply_arm_same a x t None as' bs e = e
-  apply_arm_same a x t (Some i) as' bs e = rw (body i.proc, e) refl
-    where
-      body : (f : Option ProcId) → part_body p A x a i f ≡ part_body p B x a i f
-      body None = refl
-      body (Some f) = apply_body_same f.0 i.missing (map Var (variables x i.fields) ++ a ∷ [])
+  part_same : (x : ℕ) (a : W.Word) (t : Tag) (o : Option ProcId) → part_body p A x a t o ≡ part_body p B x a t o
+  part_same x a t None = refl
+  part_same x a t (Some f) = apply_body_same f.0 t.missing (map Var (variables x t.fields) ++ a ∷ [])
 
   apply_arms_same : (a : W.Word) (x : ℕ) (ts : List ℕ) (last : Arms) → apply_arms p A a x ts last ≡ apply_arms p B a x ts last
-  apply_arms_same a x [] last = refl
-  apply_arms_same a x (t ∷ ts) last =
-      let o = slice_get p.tags t in
-      apply_arm_same a x t o _ _ (apply_arms_same a (x + fields_at p A o) ts last ∙ ap (λ k. apply_arms p B a (x + k) ts last) (fields_same o))
+  apply_arms_same a x ts last = λ i. opening_arms p.tags (record { more = 0; body = λ y t. part_same y a t t.proc i; last = last }) x ts
 
   else_same : (ts : List ℕ) → else_fail p A ts ≡ else_fail p B ts
   else_same [] = refl
   else_same (t ∷ ts) = refl
 
-  mutual
-    unfolding apply_act
+  apply_room_same : (l : Leaf) → apply_room p A l ≡ apply_room p B l
+  apply_room_same (apply v a) = ap (parts_room p A) (parts_same v)
+  apply_room_same l = refl
 
-    apply_act_same : (x : ℕ) (o : Act) → apply_act p A x o ≡ apply_act p B x o
-    apply_act_same x (leaf (apply v a)) = ap (case v) ((λ i. apply_arms p A a x (parts_same v i) (else_fail p A (others_same v i))) ∙ (ap (apply_arms p A a x (part_tags_of p B v)) (else_same (others_of p B v)) ∙ apply_arms_same a x (part_tags_of p B v) (else_fail p B (others_of p B v))))
-    apply_act_same x (case v as') = ap (case v) (apply_all_same x as')
-    apply_act_same x (nested b) = ap nested (apply_code_same x b)
-    apply_act_same x (leaf (eval a)) = refl
-    apply_act_same x (leaf (unit v)) = refl
-    apply_act_same x (leaf (fetch a)) = refl
-    apply_act_same x (leaf (fetch_word a i)) = refl
-    apply_act_same x (leaf (update a v)) = refl
-    apply_act_same x (leaf (call f ws)) = refl
-    apply_act_same x (leaf (prim f a b)) = refl
-    apply_act_same x (leaf read) = refl
-    apply_act_same x (leaf (write a)) = refl
-    apply_act_same x (leaf fail) = refl
+  apply_becomes_same : (x : ℕ) (l : Leaf) → apply_becomes p A x l ≡ apply_becomes p B x l
+  apply_becomes_same x (apply v a) = ap (case v) ((λ i. apply_arms p A a x (parts_same v i) (else_fail p A (others_same v i))) ∙ (ap (apply_arms p A a x (part_tags_of p B v)) (else_same (others_of p B v)) ∙ apply_arms_same a x (part_tags_of p B v) (else_fail p B (others_of p B v))))
+  apply_becomes_same x l = refl
 
-    apply_code_same : (x : ℕ) (b : Code) → apply_code p A x b ≡ apply_code p B x b
-    apply_code_same x (end o) = ap end (apply_act_same x o)
-    apply_code_same x (store cs b) = ap (store cs) (apply_code_same x b)
-    apply_code_same x (bind t o b) = (λ i. bind t (apply_act_same x o i) (apply_code p A (x + apply_act_room_same o i) b)) ∙ ap (bind t (apply_act p B x o)) (apply_code_same (x + apply_act_room p B o) b)
-
-    apply_all_same : (x : ℕ) (as' : Arms) → apply_all p A x as' ≡ apply_all p B x as'
-    apply_all_same x no_arm = refl
-    apply_all_same x (arm s b as') = (λ i. arm s (apply_code_same x b i) (apply_all p A (x + apply_code_room_same b i) as')) ∙ ap (arm s (apply_code p B x b)) (apply_all_same (x + apply_code_room p B b) as')
-
-  apply_procs_same : (x : ℕ) (qs : List Procedure) → apply_procs p A x qs ≡ apply_procs p B x qs
-  apply_procs_same x [] = refl
-  apply_procs_same x (q ∷ qs) = (λ i. record q { body = apply_code_same x q.body i } ∷ apply_procs p A (x + apply_code_room_same q.body i) qs) ∙ ap (λ rest. record q { body = apply_code p B x q.body } ∷ rest) (apply_procs_same (x + apply_code_room p B q.body) qs)
+  apply_rule_same : apply_rule p A ≡ apply_rule p B
+  apply_rule_same = λ i. record { room = λ l. apply_room_same l i; before = λ x l. []; becomes = λ x l. apply_becomes_same x l i }
 
 -- what one least solution has, the other has
 least_same : (p : Program) (A B : Solution) → IsLeast (tables p) (system p) A → IsLeast (tables p) (system p) B → (q : Place) (part : Part) (u : AbstractWord) → among u (A q part) ≡ among u (B q part)
@@ -333,10 +184,10 @@ record InlineAlike (p : Program) (A B : Solution) : Type 0 where
 alike : (p : Program) (A B : Solution) → IsLeast (tables p) (system p) A → IsLeast (tables p) (system p) B → InlineAlike p A B
 alike p A B a b =
     let same = least_same p A B a b in
-    let e : eval_inlined A p ≡ eval_inlined B p = ap (λ qs. record p { procs = qs }) (eval_procs_same p A B same (past_procs p.procs) p.procs) in
+    let e : eval_inlined A p ≡ eval_inlined B p = ap (λ R. counted R p) (eval_rule_same p A B same) in
     record {
       evaluations = e;
-      both = ap (apply_inlined A) e ∙ ap (λ qs. record (eval_inlined B p) { procs = qs }) (apply_procs_same (eval_inlined B p) A B same (past_procs (eval_inlined B p).procs) (eval_inlined B p).procs);
+      both = ap (apply_inlined A) e ∙ ap (λ R. counted R (eval_inlined B p)) (apply_rule_same (eval_inlined B p) A B same);
     }
 
 pub expanded_once : ExpandedSizeIsUnique

@@ -1,13 +1,11 @@
 -- What vectorising makes of a slim program is slim.
-use Rattle.std.proofs.Common.{◌≡◌, ℕ, ◌≤◌, ◌*◌, List, [], ◌∷◌, refl, subst, arith}
+use Rattle.std.proofs.Common.{ℕ, ◌≤◌, ◌*◌, List, [], ◌∷◌, subst, arith}
 use Rattle.grin_syntax.specs.Tree.{Procedure, Program}
 use Rattle.grin_syntax.specs.Formed.{AllOf}
 use Rattle.grin_meaning.specs.Slim.{Slim, procedure_words}
-use Rattle.inlining.specs.Applications.{inlined}
 use Rattle.inlining.specs.Size.{size, largest_procedure}
 use Rattle.inlining.specs.Small.{IsLinearInSize}
 use Rattle.vectorise.specs.Widened.{ProcedureWordsDoNotGrow, Widened}
-use Rattle.grin_translate.specs.Translation.{tr}
 use Rattle.stage_names.specs.declared.PassName.TheVariants.{Vectorise}
 use Rattle.grin_stages.specs.Stage.{VectorisedIsSlim}
 use Rattle.grin_stages.proofs.Stages.{from_pass}

@@ -127,7 +127,8 @@ module _ (p : Program) where
     first_line (leaf (apply v w)) = codes "apply " ++ val_text v ++ codes " " ++ word_text w
     first_line (leaf (call f ws)) =
         codes "call " ++ procedure_name (slice_get p.procs f.0) ++ spaced word_text ws
-    first_line (leaf (prim o a b)) = operator o ++ codes " " ++ word_text a ++ codes " " ++ word_text b
+    first_line (leaf (prim o a b)) =
+        operator o ++ codes " " ++ word_text a ++ codes " " ++ word_text b
     first_line (leaf read) = codes "read"
     first_line (leaf (write w)) = codes "write " ++ word_text w
     first_line (case v as') = codes "case " ++ val_text v ++ codes " of"

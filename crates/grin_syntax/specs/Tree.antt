@@ -131,3 +131,9 @@ abbrev pub as_act : Code → Act
 as_act (end o) = o
 as_act (store cs b) = nested (store cs b)
 as_act (bind t o b) = nested (bind t o b)
+
+-- an operation without a block
+abbrev pub IsLeaf : Act → Type 0
+IsLeaf (leaf l) = Unit {0}
+IsLeaf (case v as') = ⊥
+IsLeaf (nested b) = ⊥

@@ -120,7 +120,8 @@ fn copy_block(alloc: Global, block: &Block) -> Result<Block, AllocError>
     })
 }
 
-fn copy_tags(alloc: Global, tags: &[Tag]) -> Result<Seq<Tag>, AllocError>
+/// Equal tags.
+pub fn copy_tags(alloc: Global, tags: &[Tag]) -> Result<Seq<Tag>, AllocError>
     ensures { IfOk result (λ c. c ≡ tags.now) }
 {
     let mut made = Seq::new(alloc);
@@ -136,7 +137,8 @@ fn copy_tags(alloc: Global, tags: &[Tag]) -> Result<Seq<Tag>, AllocError>
     Ok(made)
 }
 
-fn copy_globals(alloc: Global, globals: &[GlobalCell]) -> Result<Seq<GlobalCell>, AllocError>
+/// Equal global cells.
+pub fn copy_globals(alloc: Global, globals: &[GlobalCell]) -> Result<Seq<GlobalCell>, AllocError>
     ensures { IfOk result (λ c. c ≡ globals.now) }
 {
     let mut made = Seq::new(alloc);

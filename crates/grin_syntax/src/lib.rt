@@ -4,7 +4,7 @@
 pub mod copies;
 pub mod fresh;
 mod listing;
-mod listing_text;
+pub mod listing_text;
 pub mod program;
 mod ranks;
 

@@ -92,7 +92,8 @@ module _ (p : Program) (base : ℕ) where
 
   abbrev pub apply_block : ℕ → Word → List Word → Code
   apply_block t x [] = end (leaf (eval x))
-  apply_block t x (a ∷ as') = bind (to.Node (temp t)) (leaf (eval x)) (give_block (suc t) (temp t) a as')
+  apply_block t x (a ∷ as') =
+      bind (to.Node (temp t)) (leaf (eval x)) (give_block (suc t) (temp t) a as')
 
   -- where the node v is a number, i is that number in the block
   abbrev pub on_number : VarId → VarId → Code → Code
@@ -104,7 +105,8 @@ module _ (p : Program) (base : ℕ) where
       (on_number (temp t) (temp (t + 1))
       (bind (to.Node (temp (t + 2))) (leaf (eval b))
       (on_number (temp (t + 2)) (temp (t + 3))
-      (bind (to.One (temp (t + 4))) (leaf (prim (operation op) (Var (temp (t + 1))) (Var (temp (t + 3)))))
+      (bind (to.One (temp (t + 4)))
+      (leaf (prim (operation op) (Var (temp (t + 1))) (Var (temp (t + 3)))))
       (end (leaf (unit (Node (tag p Number) (Var (temp (t + 4)) ∷ [])))))))))
 
   abbrev pub form_block : ℕ → Flat → Code

@@ -61,7 +61,8 @@ module _ (p : core.Program) where
     -- what follows the next byte, -1 where there is none
     abbrev pub byte_body : Code
     byte_body =
-        bind (to.Node (temp p base 1)) (leaf (unit (Node (tag p Number) (Var (temp p base 0) ∷ []))))
+        bind (to.Node (temp p base 1))
+        (leaf (unit (Node (tag p Number) (Var (temp p base 0) ∷ []))))
         (end (case (NodeVar (temp p base 1))
         (arm (shape.Int (negsuc 0)) (end (leaf (unit (Node (tag p (Constructor (nil p))) []))))
         (arm shape.Else
@@ -85,7 +86,8 @@ module _ (p : core.Program) where
     -- puts out a number, and goes on with the tail
     abbrev pub write_block : Code
     write_block =
-        bind to.Nothing (leaf (write (Var (temp p base 4)))) (end (leaf (call print (Var (temp p base 2) ∷ []))))
+        bind to.Nothing (leaf (write (Var (temp p base 4))))
+        (end (leaf (call print (Var (temp p base 2) ∷ []))))
 
     -- what is done with a head and a tail
     abbrev pub pair_block : Code

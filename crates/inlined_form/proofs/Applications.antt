@@ -12,7 +12,8 @@ use Rattle.grin_syntax.specs.Formed.{AllOf}
 use Rattle.grin_syntax.specs.Fresh.{variables, past_procs}
 use Rattle.grin_meaning.specs.Run.{is_fun_kind, is_part_kind, is_some_and, is_part, is_proc, part_from}
 use Rattle.flow_system.specs.Solution.{Solution}
-use Rattle.inlining.specs.Applications.{with_one_more, apply_body, part_body, apply_arms, part_tags_of, others_of, else_fail, apply_act, apply_code, apply_all, apply_procs, apply_act_room, apply_code_room, apply_inlined}
+use Rattle.grin_rewrite.specs.Counted.{act_room, code_room, before_act, counted_act, counted_code, counted_all, counted_procs}
+use Rattle.inlining.specs.Applications.{with_one_more, apply_body, part_body, apply_arms, part_tags_of, others_of, else_fail, apply_inlined, apply_rule}
 use Rattle.inlined_form.proofs.Sorts.{Sorts, nothing_known, sort_of, WordsFit, vars_sorted, cells_sorted, target_sorted, delayed, alternative_sorted, ActFits, CodeFits, ArmsFit, ProcedureFits, ProgramFits}
 
 -- the first tag is none of a function that lacks arguments
@@ -85,29 +86,25 @@ module _ (p : Program) (A : Solution) (first : FirstIsNoPart p.tags) where
   arms_fit v a x (t ∷ ts) last Γ h = on (λ z. arms_fit v a z ts last Γ h) (slice_get p.tags t) refl
     where
       on : ((z : ℕ) → ArmsFit p.tags ⊥ ⊥ Γ v (apply_arms p A a z ts last)) → (o : Option Tag) → slice_get p.tags t ≡ o → ArmsFit p.tags ⊥ ⊥ Γ v (apply_arms p A a x (t ∷ ts) last)
-      on later None e = rw e (later (x + 0))
-      on later (Some i) e = rw e (part_fits x a i i.proc _, later (x + i.fields))
+      on later None e = rw e (later (0 + (x + 0)))
+      on later (Some i) e = rw e (part_fits x a i i.proc _, later (0 + (x + i.fields)))
 
-  same_sort : (x : ℕ) (o : Act) → sort_of (apply_act p A x o) ≡ sort_of o
-  unfolding apply_act
+  same_sort : (x : ℕ) (o : Act) → sort_of (counted_act (apply_rule p A) x o) ≡ sort_of o
+  unfolding counted_act
   same_sort x (leaf (apply v a)) = refl
+  same_sort x (leaf l) = refl
   same_sort x (case v as') = refl
   same_sort x (nested b) = refl
-  same_sort x (leaf (unit v)) = refl
-  same_sort x (leaf (fetch a)) = refl
-  same_sort x (leaf (fetch_word a i)) = refl
-  same_sort x (leaf (update a v)) = refl
-  same_sort x (leaf (eval a)) = refl
-  same_sort x (leaf (call f ws)) = refl
-  same_sort x (leaf (prim f a b)) = refl
-  same_sort x (leaf read) = refl
-  same_sort x (leaf (write a)) = refl
-  same_sort x (leaf fail) = refl
+
+  nothing_before : (x : ℕ) (o : Act) → before_act (apply_rule p A) x o ≡ []
+  nothing_before x (leaf l) = refl
+  nothing_before x (case v as') = refl
+  nothing_before x (nested b) = refl
 
   mutual
-    unfolding ActFits apply_act
+    unfolding ActFits counted_act
 
-    act_fits : (o : Act) (x : ℕ) (Γ : Sorts) → ActFits p.tags ⊥ (Unit {0}) Γ o → ActFits p.tags ⊥ ⊥ Γ (apply_act p A x o)
+    act_fits : (o : Act) (x : ℕ) (Γ : Sorts) → ActFits p.tags ⊥ (Unit {0}) Γ o → ActFits p.tags ⊥ ⊥ Γ (counted_act (apply_rule p A) x o)
     act_fits (leaf (unit v)) x Γ h = h
     act_fits (leaf (fetch a)) x Γ h = tt
     act_fits (leaf (fetch_word a i)) x Γ h = h
@@ -122,18 +119,18 @@ module _ (p : Program) (A : Solution) (first : FirstIsNoPart p.tags) where
     act_fits (nested b) x Γ h = code_fits b x Γ h
     act_fits (leaf fail) x Γ h = tt
 
-    code_fits : (b : Code) (x : ℕ) (Γ : Sorts) → CodeFits p.tags ⊥ (Unit {0}) Γ b → CodeFits p.tags ⊥ ⊥ Γ (apply_code p A x b)
-    code_fits (end o) x Γ h = (same_sort x o ∙ h.0, act_fits o x Γ h.1)
+    code_fits : (b : Code) (x : ℕ) (Γ : Sorts) → CodeFits p.tags ⊥ (Unit {0}) Γ b → CodeFits p.tags ⊥ ⊥ Γ (counted_code (apply_rule p A) x b)
+    code_fits (end o) x Γ h = rw (nothing_before x o) (same_sort x o ∙ h.0, act_fits o x Γ h.1)
     code_fits (store cs b) x Γ h = (h.0, code_fits b x (cells_sorted cs Γ) h.1)
-    code_fits (bind t o b) x Γ h = rw (same_sort x o) (h.0, act_fits o x Γ h.1, code_fits b (x + apply_act_room p A o) (target_sorted t (sort_of o) Γ) h.2)
+    code_fits (bind t o b) x Γ h = rw (nothing_before x o, same_sort x o) (h.0, act_fits o x Γ h.1, code_fits b (x + act_room (apply_rule p A) o) (target_sorted t (sort_of o) Γ) h.2)
 
-    all_fit : (as' : Arms) (x : ℕ) (v : Val) (Γ : Sorts) → ArmsFit p.tags ⊥ (Unit {0}) Γ v as' → ArmsFit p.tags ⊥ ⊥ Γ v (apply_all p A x as')
+    all_fit : (as' : Arms) (x : ℕ) (v : Val) (Γ : Sorts) → ArmsFit p.tags ⊥ (Unit {0}) Γ v as' → ArmsFit p.tags ⊥ ⊥ Γ v (counted_all (apply_rule p A) x as')
     all_fit no_arm x v Γ h = tt
-    all_fit (arm s b as') x v Γ h = (code_fits b x (alternative_sorted p.tags s v Γ) h.0, all_fit as' (x + apply_code_room p A b) v Γ h.1)
+    all_fit (arm s b as') x v Γ h = (code_fits b x (alternative_sorted p.tags s v Γ) h.0, all_fit as' (x + code_room (apply_rule p A) b) v Γ h.1)
 
-  procs_fit : (qs : List Procedure) (x : ℕ) → AllOf (ProcedureFits p.tags ⊥ (Unit {0})) qs → AllOf (ProcedureFits p.tags ⊥ ⊥) (apply_procs p A x qs)
+  procs_fit : (qs : List Procedure) (x : ℕ) → AllOf (ProcedureFits p.tags ⊥ (Unit {0})) qs → AllOf (ProcedureFits p.tags ⊥ ⊥) (counted_procs (apply_rule p A) x qs)
   procs_fit [] x h = tt
-  procs_fit (q ∷ qs) x h = (code_fits q.body x (vars_sorted q.params nothing_known) h.0, procs_fit qs (x + apply_code_room p A q.body) h.1)
+  procs_fit (q ∷ qs) x h = (code_fits q.body x (vars_sorted q.params nothing_known) h.0, procs_fit qs (x + code_room (apply_rule p A) q.body) h.1)
 
 pub applications_fit : (p : Program) (A : Solution) → FirstIsNoPart p.tags → ProgramFits ⊥ (Unit {0}) p → ProgramFits ⊥ ⊥ (apply_inlined A p)
 applications_fit p A first h = record { procedures = procs_fit p A first p.procs (past_procs p.procs) h.procedures; globals = h.globals }

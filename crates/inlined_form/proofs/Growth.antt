@@ -4,20 +4,19 @@ use Rattle.std.proofs.Math.Nat.{mul-add, add-mul}
 use Rattle.seq.proofs.Order.{more_times}
 use Rattle.grin_syntax.specs.declared.program.ProcId.{ProcId}
 use Rattle.grin_syntax.specs.declared.program.Tag.{Tag}
-use Rattle.grin_syntax.specs.declared.program.Target.{Target}
-use Rattle.grin_syntax.specs.declared.program.Val.{Val}
 use Rattle.grin_syntax.specs.declared.program.Val.TheVariants.{NodeVar}
 use Rattle.grin_syntax.specs.declared.program.Word.{Word}
 use Rattle.grin_syntax.specs.declared.program.Word.TheVariants.{Var}
-use Rattle.grin_syntax.specs.Tree.{Code, end, store, bind, Act, leaf, unit, fetch, fetch_word, update, eval, apply, call, prim, read, write, case, nested, fail, Arms, no_arm, arm, Procedure, Program}
+use Rattle.grin_syntax.specs.Tree.{Code, end, store, bind, Act, Leaf, leaf, unit, eval, apply, case, nested, Arms, no_arm, arm, Procedure, Program}
 use Rattle.grin_syntax.specs.Fresh.{variable, variables, past_procs}
 use Rattle.grin_meaning.specs.Run.{is_fun_kind, part_from}
 use Rattle.grin_meaning.specs.Ready.{most_fields}
 use Rattle.flow_system.specs.Solution.{Solution}
 use Rattle.inlining.specs.Size.{val_size, target_size, cells_size, shape_size, act_size, code_size, arms_size, procedure_size, total, size}
-use Rattle.inlining.specs.Evaluations.{call_body, eval_body, eval_arms, evaluation, eval_bound, eval_ended, eval_act, eval_code, eval_all, eval_procs, eval_inlined, act_room, code_room, tags_of}
-use Rattle.inlining.specs.Applications.{with_one_more, apply_body, part_body, apply_arms, part_tags_of, others_of, else_fail, apply_act, apply_code, apply_all, apply_procs, apply_act_room, apply_code_room, inlined}
-use Rattle.inlining.proofs.Measured.{words_many}
+use Rattle.grin_rewrite.specs.Counted.{CountedRule, act_room, code_room, before_act, counted_act, counted_code, counted_all, counted_procs}
+use Rattle.inlining.specs.Evaluations.{call_body, eval_body, eval_arms, evaluation, eval_before, eval_becomes, eval_rule, eval_inlined, tags_of}
+use Rattle.inlining.specs.Applications.{with_one_more, apply_body, part_body, apply_arms, part_tags_of, others_of, else_fail, apply_becomes, apply_rule, inlined}
+use Rattle.inlining.proofs.Measured.{words_many, before_size, before_measured}
 use Rattle.seq.specs.Lists.{those}
 use Rattle.grin_syntax.proofs.Counted.{length_variables}
 use Rattle.grin_meaning.proofs.Fields.{field_bound}
@@ -58,6 +57,39 @@ module _ (p : Program) (A : Solution) where
   large : (n : ℕ) → n ≤ G * n
   large n = at_least G n (omega arith)
 
+  -- a rule that makes each operation larger by the factor at most does so with a program
+  module _ (R : CountedRule) (grows : (x : ℕ) (l : Leaf) → before_size (R.before x l) + act_size (R.becomes x l) ≤ G * act_size (leaf l)) where
+    mutual
+      unfolding act_size counted_act
+
+      act_grows : (o : Act) (x : ℕ) → before_size (before_act R x o) + act_size (counted_act R x o) ≤ G * act_size o
+      act_grows (leaf l) x = grows x l
+      act_grows (case v as') x = omega (arith, both_grow G (1 + val_size v) (arms_size as') _ _ (large (1 + val_size v)) (all_grow as' x))
+      act_grows (nested b) x = omega (arith, both_grow G 1 (code_size b) _ _ (large 1) (code_grows b x))
+
+      code_grows : (b : Code) (x : ℕ) → code_size (counted_code R x b) ≤ G * code_size b
+      code_grows (end o) x = omega (arith, before_measured (before_act R x o) (end (counted_act R x o)), act_grows o x)
+      code_grows (store cs b) x = both_grow G (cells_size cs) (code_size b) _ _ (large (cells_size cs)) (code_grows b x)
+      code_grows (bind t o b) x =
+          let c = counted_code R (x + act_room R o) b in
+          omega (
+            arith,
+            before_measured (before_act R x o) (bind t (counted_act R x o) c),
+            act_grows o x,
+            code_grows b (x + act_room R o),
+            large (target_size t),
+            mul-add G (target_size t + act_size o) (code_size b),
+            mul-add G (target_size t) (act_size o),
+          )
+
+      all_grow : (as' : Arms) (x : ℕ) → arms_size (counted_all R x as') ≤ G * arms_size as'
+      all_grow no_arm x = omega arith
+      all_grow (arm s b as') x = both_grow G (shape_size s + code_size b) (arms_size as') _ _ (both_grow G (shape_size s) (code_size b) _ _ (large (shape_size s)) (code_grows b x)) (all_grow as' (x + code_room R b))
+
+    procs_grow : (qs : List Procedure) (x : ℕ) → total procedure_size (counted_procs R x qs) ≤ G * total procedure_size qs
+    procs_grow [] x = omega arith
+    procs_grow (q ∷ qs) x = both_grow G (procedure_size q) (total procedure_size qs) _ _ (both_grow G (length q.params) (code_size q.body) _ _ (large (length q.params)) (code_grows q.body x)) (procs_grow qs (x + code_room R q.body))
+
   -- ---- evaluations
 
   call_size : (a : Word) (y k : ℕ) (o : Option ProcId) → code_size (call_body p A a y k o) ≤ k + 7
@@ -79,53 +111,17 @@ module _ (p : Program) (A : Solution) where
   eval_arms_size a n y (t ∷ ts) = on (slice_get p.tags t) refl (λ z. eval_arms_size a n z ts)
     where
       on : (o : Option Tag) → slice_get p.tags t ≡ o → ((z : ℕ) → arms_size (eval_arms p A a n z ts) ≤ length ts * M) → arms_size (eval_arms p A a n y (t ∷ ts)) ≤ length (t ∷ ts) * M
-      on None e later = rw e (omega (arith, one_more (length ts) M, later (suc (y + 0))))
-      on (Some i) e later = rw e (omega (arith, one_more (length ts) M, later (suc (y + i.fields)), length_variables y i.fields, eval_body_size a n y i, field_bound p.tags t i e))
+      on None e later = rw e (omega (arith, one_more (length ts) M, later (1 + (y + 0))))
+      on (Some i) e later = rw e (omega (arith, one_more (length ts) M, later (1 + (y + i.fields)), length_variables y i.fields, eval_body_size a n y i, field_bound p.tags t i e))
 
   case_size : (x : ℕ) (a : Word) → act_size (evaluation p A x a) + 3 ≤ G
   unfolding act_size
   case_size x a = omega (arith, eval_arms_size a x (suc x) (tags_of p A a), more_times (length (tags_of p A a)) (length p.tags) M (those_few _ 0 (length p.tags)))
 
-  ended_size : (x : ℕ) (o : Act) → act_size (eval_act p A x o) ≤ G * act_size o → code_size (eval_ended p A x (eval_act p A x o)) ≤ G * act_size o
-  unfolding act_size eval_act
-  ended_size x (leaf (eval a)) le = omega (arith, case_size x a, more_times 1 2 G (omega arith))
-  ended_size x o le = le
-
-  bound_size : (x : ℕ) (t : Target) (o : Act) (b b' : Code) → act_size (eval_act p A x o) ≤ G * act_size o → code_size b' ≤ G * code_size b → code_size (eval_bound p A x t (eval_act p A x o) b') ≤ G * code_size (bind t o b)
-  unfolding act_size eval_act
-  bound_size x t (leaf (eval a)) b b' le leb = omega (arith, case_size x a, large (target_size t), mul-add G (target_size t + 2) (code_size b), mul-add G (target_size t) 2, leb)
-  bound_size x t o b b' le leb = both_grow G (target_size t + act_size o) (code_size b) _ _ (both_grow G (target_size t) (act_size o) _ _ (large (target_size t)) le) leb
-
-  mutual
-    unfolding act_size eval_act
-
-    eval_act_size : (o : Act) (x : ℕ) → act_size (eval_act p A x o) ≤ G * act_size o
-    eval_act_size (leaf (unit v)) x = large (act_size (leaf (unit v)))
-    eval_act_size (leaf (fetch a)) x = large (act_size (leaf (fetch a)))
-    eval_act_size (leaf (fetch_word a i)) x = large (act_size (leaf (fetch_word a i)))
-    eval_act_size (leaf (update a v)) x = large (act_size (leaf (update a v)))
-    eval_act_size (leaf (eval a)) x = large (act_size (leaf (eval a)))
-    eval_act_size (leaf (apply v a)) x = large (act_size (leaf (apply v a)))
-    eval_act_size (leaf (call f ws)) x = large (act_size (leaf (call f ws)))
-    eval_act_size (leaf (prim f a b)) x = large (act_size (leaf (prim f a b)))
-    eval_act_size (leaf read) x = large (act_size (leaf read))
-    eval_act_size (leaf (write a)) x = large (act_size (leaf (write a)))
-    eval_act_size (case v as') x = both_grow G (1 + val_size v) (arms_size as') _ _ (large (1 + val_size v)) (eval_all_size as' x)
-    eval_act_size (nested b) x = both_grow G 1 (code_size b) _ _ (large 1) (eval_code_size b x)
-    eval_act_size (leaf fail) x = large (act_size (leaf fail))
-
-    eval_code_size : (b : Code) (x : ℕ) → code_size (eval_code p A x b) ≤ G * code_size b
-    eval_code_size (end o) x = ended_size x o (eval_act_size o x)
-    eval_code_size (store cs b) x = both_grow G (cells_size cs) (code_size b) _ _ (large (cells_size cs)) (eval_code_size b x)
-    eval_code_size (bind t o b) x = bound_size x t o b _ (eval_act_size o x) (eval_code_size b (x + act_room p A o))
-
-    eval_all_size : (as' : Arms) (x : ℕ) → arms_size (eval_all p A x as') ≤ G * arms_size as'
-    eval_all_size no_arm x = omega arith
-    eval_all_size (arm s b as') x = both_grow G (shape_size s + code_size b) (arms_size as') _ _ (both_grow G (shape_size s) (code_size b) _ _ (large (shape_size s)) (eval_code_size b x)) (eval_all_size as' (x + code_room p A b))
-
-  pub eval_procs_size : (qs : List Procedure) (x : ℕ) → total procedure_size (eval_procs p A x qs) ≤ G * total procedure_size qs
-  eval_procs_size [] x = omega arith
-  eval_procs_size (q ∷ qs) x = both_grow G (procedure_size q) (total procedure_size qs) _ _ (both_grow G (length q.params) (code_size q.body) _ _ (large (length q.params)) (eval_code_size q.body x)) (eval_procs_size qs (x + code_room p A q.body))
+  eval_grows : (x : ℕ) (l : Leaf) → before_size (eval_before p A x l) + act_size (eval_becomes p A x l) ≤ G * act_size (leaf l)
+  unfolding act_size
+  eval_grows x (eval a) = omega (arith, case_size x a, more_times 1 2 G (omega arith))
+  eval_grows x l = omega (arith, large (act_size (leaf l)))
 
   -- ---- applications
 
@@ -151,56 +147,26 @@ module _ (p : Program) (A : Solution) where
   apply_arms_size a x (t ∷ ts) last = on (slice_get p.tags t) refl (λ z. apply_arms_size a z ts last)
     where
       on : (o : Option Tag) → slice_get p.tags t ≡ o → ((z : ℕ) → arms_size (apply_arms p A a z ts last) ≤ length ts * M + arms_size last) → arms_size (apply_arms p A a x (t ∷ ts) last) ≤ length (t ∷ ts) * M + arms_size last
-      on None e later = rw e (omega (arith, one_more (length ts) M, later (x + 0)))
-      on (Some i) e later = rw e (omega (arith, one_more (length ts) M, later (x + i.fields), length_variables x i.fields, part_size x a i i.proc, field_bound p.tags t i e))
+      on None e later = rw e (omega (arith, one_more (length ts) M, later (0 + (x + 0))))
+      on (Some i) e later = rw e (omega (arith, one_more (length ts) M, later (0 + (x + i.fields)), length_variables x i.fields, part_size x a i i.proc, field_bound p.tags t i e))
 
   last_size : (ks : List ℕ) → arms_size (else_fail p A ks) ≤ 1
   unfolding act_size
   last_size [] = omega arith
   last_size (k ∷ ks) = omega arith
 
-  applied_size : (v : Val) (a : Word) (x : ℕ) → act_size (case v (apply_arms p A a x (part_tags_of p A v) (else_fail p A (others_of p A v)))) ≤ G * act_size (leaf (apply v a))
+  apply_grows : (x : ℕ) (l : Leaf) → 0 + act_size (apply_becomes p A x l) ≤ G * act_size (leaf l)
   unfolding act_size
-  applied_size v a x =
+  apply_grows x (apply v a) =
       let few = more_times (length (part_tags_of p A v)) (length p.tags) M (those_few _ 0 (length p.tags)) in
       omega (arith, apply_arms_size a x (part_tags_of p A v) (else_fail p A (others_of p A v)), last_size (others_of p A v), few, mul-add G 2 (val_size v), large (val_size v), more_times 1 2 G (omega arith))
-
-  mutual
-    unfolding act_size apply_act
-
-    apply_act_size : (o : Act) (x : ℕ) → act_size (apply_act p A x o) ≤ G * act_size o
-    apply_act_size (leaf (unit v)) x = large (act_size (leaf (unit v)))
-    apply_act_size (leaf (fetch a)) x = large (act_size (leaf (fetch a)))
-    apply_act_size (leaf (fetch_word a i)) x = large (act_size (leaf (fetch_word a i)))
-    apply_act_size (leaf (update a v)) x = large (act_size (leaf (update a v)))
-    apply_act_size (leaf (eval a)) x = large (act_size (leaf (eval a)))
-    apply_act_size (leaf (apply v a)) x = applied_size v a x
-    apply_act_size (leaf (call f ws)) x = large (act_size (leaf (call f ws)))
-    apply_act_size (leaf (prim f a b)) x = large (act_size (leaf (prim f a b)))
-    apply_act_size (leaf read) x = large (act_size (leaf read))
-    apply_act_size (leaf (write a)) x = large (act_size (leaf (write a)))
-    apply_act_size (case v as') x = both_grow G (1 + val_size v) (arms_size as') _ _ (large (1 + val_size v)) (apply_all_size as' x)
-    apply_act_size (nested b) x = both_grow G 1 (code_size b) _ _ (large 1) (apply_code_size b x)
-    apply_act_size (leaf fail) x = large (act_size (leaf fail))
-
-    apply_code_size : (b : Code) (x : ℕ) → code_size (apply_code p A x b) ≤ G * code_size b
-    apply_code_size (end o) x = apply_act_size o x
-    apply_code_size (store cs b) x = both_grow G (cells_size cs) (code_size b) _ _ (large (cells_size cs)) (apply_code_size b x)
-    apply_code_size (bind t o b) x = both_grow G (target_size t + act_size o) (code_size b) _ _ (both_grow G (target_size t) (act_size o) _ _ (large (target_size t)) (apply_act_size o x)) (apply_code_size b (x + apply_act_room p A o))
-
-    apply_all_size : (as' : Arms) (x : ℕ) → arms_size (apply_all p A x as') ≤ G * arms_size as'
-    apply_all_size no_arm x = omega arith
-    apply_all_size (arm s b as') x = both_grow G (shape_size s + code_size b) (arms_size as') _ _ (both_grow G (shape_size s) (code_size b) _ _ (large (shape_size s)) (apply_code_size b x)) (apply_all_size as' (x + apply_code_room p A b))
-
-  pub apply_procs_size : (qs : List Procedure) (x : ℕ) → total procedure_size (apply_procs p A x qs) ≤ G * total procedure_size qs
-  apply_procs_size [] x = omega arith
-  apply_procs_size (q ∷ qs) x = both_grow G (procedure_size q) (total procedure_size qs) _ _ (both_grow G (length q.params) (code_size q.body) _ _ (large (length q.params)) (apply_code_size q.body x)) (apply_procs_size qs (x + apply_code_room p A q.body))
+  apply_grows x l = omega (arith, large (act_size (leaf l)))
 
 -- each inlining makes a program larger by this factor at most
 pub inlined_grows : (p : Program) (A : Solution) → size (inlined A p) ≤ growth p.tags * (growth p.tags * size p)
 inlined_grows p A =
     let q = eval_inlined A p in
-    omega (arith, apply_procs_size q A q.procs (past_procs q.procs), mul_le (growth p.tags) (size q) (growth p.tags * size p) (eval_procs_size p A p.procs (past_procs p.procs)))
+    omega (arith, procs_grow q A (apply_rule q A) (apply_grows q A) q.procs (past_procs q.procs), mul_le (growth p.tags) (size q) (growth p.tags * size p) (procs_grow p A (eval_rule p A) (eval_grows p A) p.procs (past_procs p.procs)))
   where
     mul_le : (g a b : ℕ) → a ≤ b → g * a ≤ g * b
     mul_le zero a b le = omega arith

@@ -1,7 +1,7 @@
 -- A translated program whose evaluations and applications are inlined is ready for the passes after.
 use Rattle.std.proofs.Common.{◌≡◌, ◌≢◌, ℕ, ◌≤◌, ◌+◌, List, [], ◌∷◌, length, sym, ◌∙◌, arith}
 use Rattle.arity_check.specs.Program as core
-use Rattle.grin_syntax.specs.Tree.{Procedure, Program}
+use Rattle.grin_syntax.specs.Tree.{Procedure}
 use Rattle.grin_syntax.specs.Formed.{AllOf, Formed}
 use Rattle.grin_syntax.specs.Fresh.{past_procs}
 use Rattle.grin_meaning.specs.Values.{missing}
@@ -9,8 +9,9 @@ use Rattle.grin_meaning.specs.Run.{run}
 use Rattle.grin_meaning.specs.Keeps.{Keeps, ended, end_of}
 use Rattle.grin_meaning.specs.Ready.{most_value_fields, Ready}
 use Rattle.flow_system.specs.Solution.{Solution}
-use Rattle.inlining.specs.Evaluations.{code_room, eval_procs, eval_inlined}
-use Rattle.inlining.specs.Applications.{apply_code_room, apply_procs, inlined}
+use Rattle.grin_rewrite.proofs.CountedText.{params_stay}
+use Rattle.inlining.specs.Evaluations.{eval_rule, eval_inlined}
+use Rattle.inlining.specs.Applications.{apply_rule, inlined}
 use Rattle.grin_translate.specs.Translation.{tr}
 use Rattle.core_meaning.specs.Printing.{printed, PrintingEnd, Done, Unaccepted, Going}
 use Rattle.core_meaning.specs.WellFormed.{WellFormed}
@@ -21,8 +22,8 @@ use Rattle.translated_form.proofs.Bounds.{valid_few_words}
 use Rattle.translated_form.proofs.Limits.{valid_is_well_formed}
 use Rattle.translated_form.specs.Laws.{ValidTranslationsAreFormed}
 use Rattle.inlining.proofs.InlinedTogether.{inlining_law}
-use Rattle.inlining.proofs.ApplicationsFormed as applications
-use Rattle.inlining.proofs.EvaluationsFormed as evaluations
+use Rattle.inlining.proofs.ApplicationsText as applications
+use Rattle.inlining.proofs.EvaluationsText as evaluations
 use Rattle.inlining.proofs.Bounds.{uses_bound}
 use Rattle.flow_system.proofs.Starting.{formed_is_started}
 use Rattle.inlined_form.specs.Laws.{InlinedProgramsAreReady}
@@ -35,14 +36,6 @@ use Rattle.inlined_form.proofs.Translated.{translated_fits, first_is_no_part}
 
 abbrev FewParams : List Procedure → Type 0
 FewParams qs = AllOf (λ q. length q.params ≤ 16) qs
-
-evaluations_params : (p : Program) (A : Solution) (qs : List Procedure) (x : ℕ) → FewParams qs → FewParams (eval_procs p A x qs)
-evaluations_params p A [] x h = tt
-evaluations_params p A (q ∷ qs) x h = (h.0, evaluations_params p A qs (x + code_room p A q.body) h.1)
-
-applications_params : (p : Program) (A : Solution) (qs : List Procedure) (x : ℕ) → FewParams qs → FewParams (apply_procs p A x qs)
-applications_params p A [] x h = tt
-applications_params p A (q ∷ qs) x h = (h.0, applications_params p A qs (x + apply_code_room p A q.body) h.1)
 
 at_most_16 : (qs : List Procedure) → AllOf (λ q. length q.params ≤ 13) qs → FewParams qs
 at_most_16 [] h = tt
@@ -70,7 +63,7 @@ module _ (p : core.Program) (valid : IsValid p) (A : Solution) where
       let there = never_missing p (valid_is_well_formed p valid) in
       record {
         inlined = procs_inlined (tr p).tags h.procs fits.procedures;
-        few_params = applications_params q A q.procs (past_procs q.procs) (evaluations_params (tr p) A (tr p).procs (past_procs (tr p).procs) (at_most_16 (tr p).procs few.few_params));
+        few_params = params_stay (apply_rule q A) 16 (past_procs q.procs) q.procs (params_stay (eval_rule (tr p) A) 16 (past_procs (tr p).procs) (tr p).procs (at_most_16 (tr p).procs few.few_params));
         few_results = procs_narrow (tr p).tags (1 + most_value_fields (tr p).tags) 13 few.few_value_fields h.procs fits.procedures;
         few_fields = few.few_fields;
         never_missing = λ i n e. there i n (sym (keeps.same_end i n (there i n)) ∙ e);

@@ -7,7 +7,7 @@ use Rattle.grin_syntax.specs.Tree.{Code, end, store, bind, Act, leaf, unit, fetc
 use Rattle.grin_syntax.specs.Formed.{AllOf}
 use Rattle.grin_meaning.specs.Ready.{EachAct, EachCode, EachArms, val_width, NarrowAct, NarrowCode, NarrowArms, EveryBodyIsOfKind, inlined_kind}
 use Rattle.inlined_form.proofs.Sorts.{Sorts, nothing_known, vars_sorted, cells_sorted, target_sorted, sort_of, GivenFits, alternative_sorted, ActFits, CodeFits, ArmsFit, ProcedureFits}
-use Rattle.inlining.proofs.NoEvaluations.{any_cells}
+use Rattle.grin_rewrite.proofs.Sound.{all_any}
 
 module _ (ts : List Tag) where
   mutual
@@ -30,7 +30,7 @@ module _ (ts : List Tag) where
 
     code_inlined : (b : Code) (Γ : Sorts) → CodeFits ts ⊥ ⊥ Γ b → EachCode inlined_kind b
     code_inlined (end o) Γ h = act_inlined o Γ h.1
-    code_inlined (store cs b) Γ h = (any_cells cs, code_inlined b (cells_sorted cs Γ) h.1)
+    code_inlined (store cs b) Γ h = (all_any cs, code_inlined b (cells_sorted cs Γ) h.1)
     code_inlined (bind t o b) Γ h = (tt, act_inlined o Γ h.1, code_inlined b (target_sorted t (sort_of o) Γ) h.2)
 
     arms_inlined : (as' : Arms) (v : Val) (Γ : Sorts) → ArmsFit ts ⊥ ⊥ Γ v as' → EachArms inlined_kind as'

@@ -1,14 +1,15 @@
 -- A case over the functions that an application meets does what the application does.
-use Rattle.std.proofs.Common.{◌≡◌, ℕ, zero, suc, ◌<◌, ◌≤◌, ◌+◌, Bool, true, false, cond, not, nat_eq, ◌&&◌, List, [], ◌∷◌, ◌++◌, map, length, Option, Some, None, slice_get, refl, sym, ap, ◌∙◌, subst, ⊎_elim, arith}
-use Rattle.seq.proofs.Member.{none_in, cons_in}
+use Rattle.std.proofs.Common.{◌≡◌, ℕ, zero, suc, ◌<◌, ◌≤◌, Bool, true, false, cond, not, ◌&&◌, List, [], ◌∷◌, ◌++◌, map, length, Option, Some, None, slice_get, refl, sym, ap, ◌∙◌, subst, arith}
+use Rattle.std.proofs.lemmas.Option.{slice_get_within}
+use Rattle.seq.proofs.Member.{none_in}
 use Rattle.seq.proofs.Truth.{and_right, and_from}
-use Rattle.seq.proofs.Order.{eq_from, differs_from}
 use Rattle.grin_syntax.specs.declared.program.ProcId.{ProcId}
 use Rattle.grin_syntax.specs.declared.program.Tag.{Tag}
 use Rattle.grin_syntax.specs.declared.program.Val.{Val}
 use Rattle.grin_syntax.specs.declared.program.Word.{Word}
 use Rattle.grin_syntax.specs.declared.program.Word.TheVariants.{Var}
 use Rattle.grin_syntax.specs.Tree.{leaf, apply, case, Arms, Procedure, Program}
+use Rattle.grin_syntax.specs.Formed.{AllOf}
 use Rattle.grin_syntax.specs.Fresh.{variables as names}
 use Rattle.grin_meaning.specs.Values.{Datum, Node, Value, node, Env, State, World, gives, no_alternative, stops, need, and_then, with_vars, made_node, as_node, word_of, words_of, value_of}
 use Rattle.grin_meaning.specs.Run.{Calls, act, code, arms, is_part_kind, is_some_and, part_from, apply_node, apply_part}
@@ -19,31 +20,22 @@ use Rattle.grin_meaning.proofs.Alike.{Agree, word_same, value_same, Sim, same_ar
 use Rattle.grin_meaning.proofs.Related.{CallsFollow}
 use Rattle.flow_system.specs.Solution.{Solution}
 use Rattle.flow_system.specs.Covers.{StateIsCovered}
-use Rattle.inlining.specs.Applications.{value_has, is_part_tag, apply_body, part_body, apply_arms, part_tags_of, others_of, else_fail}
-use Rattle.inlining.proofs.EvaluationsKeep.{it, names_stand, fields_fit_named, agree_named}
+use Rattle.grin_rewrite.proofs.Opened.{names_stand, agree_named, Entered, entered, passed}
+use Rattle.inlining.specs.Applications.{value_has, is_part_tag, apply_body, part_body, apply_opening, apply_arms, part_tags_of, others_of, else_fail}
+use Rattle.inlining.proofs.EvaluationsKeep.{it}
 use Rattle.inlining.proofs.ValueTags.{Had, value_had}
 use Rattle.seq.specs.Lists.{those, In}
 use Rattle.grin_meaning.proofs.Bindings.{named}
 use Rattle.seq.proofs.Those.{those_have}
 
--- each of a list
-abbrev pub Each : (ℕ → Type 0) → List ℕ → Type 0
-Each P [] = Unit {0}
-Each P (x ∷ xs) = P x × Each P xs
-
-pub those_parts : (p : Program) (A : Solution) (test : ℕ → Bool) (i k : ℕ) → Each (λ t. is_part_tag p A t ≡ true) (those (λ t. test t && is_part_tag p A t) i k)
+pub those_parts : (p : Program) (A : Solution) (test : ℕ → Bool) (i k : ℕ) → AllOf (λ t. is_part_tag p A t ≡ true) (those (λ t. test t && is_part_tag p A t) i k)
 those_parts p A test i zero = tt
 those_parts p A test i (suc k) = on (test i && is_part_tag p A i) refl (those_parts p A test (suc i) k)
   where
-    on : (b : Bool) → (test i && is_part_tag p A i) ≡ b → Each (λ t. is_part_tag p A t ≡ true) (those (λ t. test t && is_part_tag p A t) (suc i) k)
-        → Each (λ t. is_part_tag p A t ≡ true) (cond b (i ∷ those (λ t. test t && is_part_tag p A t) (suc i) k) (those (λ t. test t && is_part_tag p A t) (suc i) k))
+    on : (b : Bool) → (test i && is_part_tag p A i) ≡ b → AllOf (λ t. is_part_tag p A t ≡ true) (those (λ t. test t && is_part_tag p A t) (suc i) k)
+        → AllOf (λ t. is_part_tag p A t ≡ true) (cond b (i ∷ those (λ t. test t && is_part_tag p A t) (suc i) k) (those (λ t. test t && is_part_tag p A t) (suc i) k))
     on true e l = (and_right (test i) (is_part_tag p A i) e, l)
     on false e l = l
-
-below : (ts : List Tag) (t : ℕ) (x : Tag) → slice_get ts t ≡ Some x → t < length ts
-below [] t x e = cc
-below (y ∷ ts) zero x e = omega arith
-below (y ∷ ts) (suc t) x e = let h : t < length ts = below ts t x e in omega arith
 
 words_more : (p : Program) (env : Env) (ws : List Word) (a : Word) (ds : List Datum) (d : Datum) → words_of p env ws ≡ Some ds → word_of p env a ≡ Some d → words_of p env (ws ++ a ∷ []) ≡ Some (ds ++ d ∷ [])
 words_more p env [] a ds d e f = let none : ds ≡ [] = cc in rw (f, none) refl
@@ -89,50 +81,10 @@ module _ (K : DepthComparison) (g : Program) (A : Solution) (x0 : ℕ) (procs : 
   proc_sim a y n x t (Some f) env' d d' w ss e dd de q full =
       body_sim a y n x f.0 t.missing env' d d' w ss e dd de (map Var (names y t.fields) ++ a ∷ []) (subst (λ k. words_of g env' (map Var (names y k) ++ a ∷ []) ≡ Some (n.fields ++ x ∷ [])) full q)
 
-  -- the alternatives, one of which has the function's tag
-  part_sim : (a : Word) (v : Value) (n : Node) (x : Datum) (t : Tag) (last : Arms) (env env' : Env) (d d' : ℕ) (w : World) (ss : List State) (e : ℕ) → WordOk Ok a → Agree Ok env env' → word_of g env a ≡ Some x
-      → as_node g v ≡ Some n → slice_get g.tags n.tag ≡ Some t → length n.fields ≡ t.fields → K.Deep d' d → K.Deep e w.depth
-      → (ks : List ℕ) (y : ℕ) → x0 ≤ y → In n.tag ks → Sim P K (need t.proc w (λ f. apply_part g c d n x f.0 t.missing w)) (arms h c' env' d' v (apply_arms g A a y ks last) (other w ss e))
+  else_sim : (v : Value) (env' : Env) (d' t : ℕ) (w : World) (ss : List State) (e : ℕ) → K.Deep e w.depth → (others : List ℕ) → In t others → Sim P K (stops no_alternative w) (arms h c' env' d' v (else_fail g A others) (other w ss e))
   unfolding act
-  part_sim a v n x t last env env' d d' w ss e ok ag at is_n is full dd de [] y fresh among = none_in among
-  part_sim a v n x t last env env' d d' w ss e ok ag at is_n is full dd de (k ∷ ks) y fresh among =
-      try (λ z le r. part_sim a v n x t last env env' d d' w ss e ok ag at is_n is full dd de ks z le r) (nat_eq n.tag k) refl (slice_get g.tags k) refl
-    where
-      same_tag : nat_eq n.tag k ≡ true → slice_get g.tags k ≡ Some t
-      same_tag p = ap (slice_get g.tags) (sym (eq_from n.tag k p)) ∙ is
-
-      later : nat_eq n.tag k ≡ false → In n.tag ks
-      later p = ⊎_elim (λ q. absurd (differs_from n.tag k p q)) (λ r. r) (cons_in k ks among)
-
-      env'' : Env
-      env'' = with_vars (named y n.fields) env'
-
-      stand : words_of g env'' (map Var (names y (length n.fields)) ++ a ∷ []) ≡ Some (n.fields ++ x ∷ [])
-      stand = words_more g env'' (map Var (names y (length n.fields))) a n.fields x (names_stand g y n.fields env') (word_same g Ok env env'' (agree_named K g A x0 procs c c' cb cf env env' y n.fields fresh ag) a ok ∙ at)
-
-      try : ((z : ℕ) → x0 ≤ z → In n.tag ks → Sim P K (need t.proc w (λ f. apply_part g c d n x f.0 t.missing w)) (arms h c' env' d' v (apply_arms g A a z ks last) (other w ss e)))
-          → (b : Bool) → nat_eq n.tag k ≡ b → (o : Option Tag) → slice_get g.tags k ≡ o
-          → Sim P K (need t.proc w (λ f. apply_part g c d n x f.0 t.missing w)) (arms h c' env' d' v (apply_arms g A a y (k ∷ ks) last) (other w ss e))
-      try next true p o q = rw (same_tag p, is_n, p, ← full, fields_fit_named y n.fields) (proc_sim a y n x t t.proc env'' d d' w _ e dd de stand full)
-      try next false p None q = rw q (next (y + 0) (omega arith) (later p))
-      try next false p (Some u) q = rw (q, is_n, p) (next (y + u.fields) (omega arith) (later p))
-
-  -- no alternative but the last has the tag
-  else_sim : (a : Word) (v : Value) (n : Node) (env' : Env) (d' : ℕ) (w : World) (ss : List State) (e : ℕ) → as_node g v ≡ Some n → is_part_tag g A n.tag ≡ false → K.Deep e w.depth
-      → (others : List ℕ) → In n.tag others → (ks : List ℕ) (y : ℕ) → Each (λ t. is_part_tag g A t ≡ true) ks → Sim P K (stops no_alternative w) (arms h c' env' d' v (apply_arms g A a y ks (else_fail g A others)) (other w ss e))
-  unfolding act
-  else_sim a v n env' d' w ss e is_n non de [] among [] y all = none_in among
-  else_sim a v n env' d' w ss e is_n non de (z ∷ zs) among [] y all = λ _. stops_too _ e de
-  else_sim a v n env' d' w ss e is_n non de others among (k ∷ ks) y all = try (λ z. else_sim a v n env' d' w ss e is_n non de others among ks z all.1) (nat_eq n.tag k) refl (slice_get g.tags k) refl
-    where
-      not_both : true ≡ false → ⊥
-      not_both z = cc
-
-      try : ((z : ℕ) → Sim P K (stops no_alternative w) (arms h c' env' d' v (apply_arms g A a z ks (else_fail g A others)) (other w ss e))) → (b : Bool) → nat_eq n.tag k ≡ b → (o : Option Tag) → slice_get g.tags k ≡ o
-          → Sim P K (stops no_alternative w) (arms h c' env' d' v (apply_arms g A a y (k ∷ ks) (else_fail g A others)) (other w ss e))
-      try next true p o q = let m : is_part_tag g A n.tag ≡ true = subst (λ t. is_part_tag g A t ≡ true) (sym (eq_from n.tag k p)) all.0 in absurd (not_both (sym m ∙ non))
-      try next false p None q = rw q (next (y + 0))
-      try next false p (Some u) q = rw (q, is_n, p) (next (y + u.fields))
+  else_sim v env' d' t w ss e de [] among = none_in among
+  else_sim v env' d' t w ss e de (z ∷ zs) among = λ _. stops_too _ e de
 
   kind_is : (n : Node) (t : Tag) (b : Bool) → slice_get g.tags n.tag ≡ Some t → is_part_kind t.kind ≡ b → is_part_tag g A n.tag ≡ b
   kind_is n t b e f = ap (λ o. is_some_and o (λ i. is_part_kind i.kind)) e ∙ f
@@ -141,7 +93,10 @@ module _ (K : DepthComparison) (g : Program) (A : Solution) (x0 : ℕ) (procs : 
       → as_node g val ≡ Some n → Had g A v n → K.Deep d' d → K.Deep e w.depth → Sim P K (apply_node g c d n x w) (arms h c' env' d' val (apply_arms g A a y (part_tags_of g A v) (else_fail g A (others_of g A v))) (other w ss e))
   known_sim y v a x val n env env' d d' w ss e fresh ok ag at is_n had dd de = go (slice_get g.tags n.tag) refl
     where
-      go : (o : Option Tag) → slice_get g.tags n.tag ≡ o → Sim P K (apply_node g c d n x w) (arms h c' env' d' val (apply_arms g A a y (part_tags_of g A v) (else_fail g A (others_of g A v))) (other w ss e))
+      last : Arms
+      last = else_fail g A (others_of g A v)
+
+      go : (o : Option Tag) → slice_get g.tags n.tag ≡ o → Sim P K (apply_node g c d n x w) (arms h c' env' d' val (apply_arms g A a y (part_tags_of g A v) last) (other w ss e))
       go None q = rw q (λ _. free)
       go (Some t) q = rw q (on (is_part_kind t.kind) refl)
         where
@@ -149,14 +104,26 @@ module _ (K : DepthComparison) (g : Program) (A : Solution) (x0 : ℕ) (procs : 
           full = let s : Some t.fields ≡ Some (length n.fields) = sym (ap (λ o. and_then o (λ i. Some i.fields)) q) ∙ had.full in cc
 
           lt : n.tag < length g.tags
-          lt = below g.tags n.tag t q
+          lt = slice_get_within g.tags n.tag t q
 
-          on : (b : Bool) → is_part_kind t.kind ≡ b → Sim P K (cond b (need t.proc w (λ f. apply_part g c d n x f.0 t.missing w)) (stops no_alternative w)) (arms h c' env' d' val (apply_arms g A a y (part_tags_of g A v) (else_fail g A (others_of g A v))) (other w ss e))
-          on true k = part_sim a val n x t (else_fail g A (others_of g A v)) env env' d d' w ss e ok ag at is_n q full dd de (part_tags_of g A v) y fresh
-              (those_have (λ t. value_has g A v t && is_part_tag g A t) n.tag (and_from _ _ had.has (kind_is n t true q k)) 0 (length g.tags) (omega arith) (omega (arith, lt)))
-          on false k = else_sim a val n env' d' w ss e is_n (kind_is n t false q k) de (others_of g A v)
-              (those_have (λ t. value_has g A v t && not (is_part_tag g A t)) n.tag (and_from _ _ had.has (ap not (kind_is n t false q k))) 0 (length g.tags) (omega arith) (omega (arith, lt)))
-              (part_tags_of g A v) y (those_parts g A (value_has g A v) 0 (length g.tags))
+          part : Entered h c' false g.tags (apply_opening g A a last) env' d' val n is_n t y (part_tags_of g A v) (other w ss e)
+              → Sim P K (need t.proc w (λ f. apply_part g c d n x f.0 t.missing w)) (arms h c' env' d' val (apply_arms g A a y (part_tags_of g A v) last) (other w ss e))
+          part en =
+              let env'' = with_vars (named en.from n.fields) env' in
+              let le : y ≤ en.from = en.later in
+              let stand : words_of g env'' (map Var (names en.from (length n.fields)) ++ a ∷ []) ≡ Some (n.fields ++ x ∷ []) =
+              words_more g env'' (map Var (names en.from (length n.fields))) a n.fields x (names_stand g en.from n.fields env') (word_same g Ok env env'' (agree_named x0 env env' en.from n.fields (omega arith) ag) a ok ∙ at) in
+              subst (Sim P K (need t.proc w (λ f. apply_part g c d n x f.0 t.missing w))) (sym en.is) (proc_sim a en.from n x t t.proc env'' d d' w _ e dd de stand full)
+
+          on : (b : Bool) → is_part_kind t.kind ≡ b → Sim P K (cond b (need t.proc w (λ f. apply_part g c d n x f.0 t.missing w)) (stops no_alternative w)) (arms h c' env' d' val (apply_arms g A a y (part_tags_of g A v) last) (other w ss e))
+          on true k = part (entered h c' false g.tags (apply_opening g A a last) env' d' val n is_n t q full (part_tags_of g A v) y (other w ss e)
+              (those_have (λ t. value_has g A v t && is_part_tag g A t) n.tag (and_from _ _ had.has (kind_is n t true q k)) 0 (length g.tags) (omega arith) (omega (arith, lt))))
+          on false k =
+              let never : is_part_tag g A n.tag ≡ true → ⊥ = λ m. let z : true ≡ false = sym m ∙ kind_is n t false q k in cc in
+              subst (Sim P K (stops no_alternative w))
+              (sym (passed h c' false g.tags (apply_opening g A a last) env' d' val n is_n (λ t. is_part_tag g A t ≡ true) never (part_tags_of g A v) y (other w ss e) (those_parts g A (value_has g A v) 0 (length g.tags))))
+              (else_sim val env' d' n.tag w ss e de (others_of g A v)
+              (those_have (λ t. value_has g A v t && not (is_part_tag g A t)) n.tag (and_from _ _ had.has (ap not (kind_is n t false q k))) 0 (length g.tags) (omega arith) (omega (arith, lt))))
 
   pub apply_sim : (y : ℕ) (v : Val) (a : Word) → x0 ≤ y → ValOk Ok v → WordOk Ok a → ActLike (it K g A x0 procs c c' cb cf) (leaf (apply v a)) (case v (apply_arms g A a y (part_tags_of g A v) (else_fail g A (others_of g A v))))
   unfolding act

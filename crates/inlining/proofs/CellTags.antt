@@ -1,6 +1,6 @@
 -- Where a state lies in a solution, the tag of a cell that a word stands for is one of the word's tags.
-use Rattle.std.proofs.Common.{◌≡◌, ◌<◌, ◌≤◌, ℕ, zero, suc, Bool, true, false, nat_eq, ◌||◌, List, [], ◌∷◌, length, Option, Some, None, slice_get, refl, sym, ap, ◌∙◌, subst, inl, inr, arith}
-use Rattle.std.proofs.lemmas.Bool.Decides.{nat_tests}
+use Rattle.std.proofs.Common.{◌≡◌, ◌<◌, ℕ, Bool, true, false, nat_eq, ◌||◌, List, [], ◌∷◌, length, Option, Some, None, slice_get, refl, sym, ap, ◌∙◌, subst, inl, inr, arith}
+use Rattle.std.proofs.lemmas.Option.{slice_get_within}
 use Rattle.seq.proofs.Order.{eq_from}
 use Rattle.seq.proofs.Truth.{or_from}
 use Rattle.grin_syntax.specs.declared.program.Tag.{Tag}
@@ -26,9 +26,6 @@ pub record Known (ts : List Tag) (tags : List ℕ) (n : Node) : Type 0 where
   pub is_tag : slice_get ts n.tag ≡ Some tag
   pub full : length n.fields ≡ tag.fields
   pub among : In n.tag tags
-
-past : (i t : ℕ) → i ≤ t → nat_eq t i ≡ false → suc i ≤ t
-past i t le q = grind (arith, nat_tests)
 
 pub some_cell : (test : ℕ → Bool) (s : ℕ) → test s ≡ true → (p : Program) (A : Solution) (us : List AbstractWord) → among (cell_of s) us ≡ true → any_satisfies test (cells_in p A us) ≡ true
 some_cell test s e p A [] m = cc
@@ -62,11 +59,6 @@ cell_known p A s lies a i c e q = known (slice_get p.tags c.node.tag) refl
     same = let f : site_at s.heap i ≡ Some c.site = ap (λ o. and_then o (λ k. Some k.site)) q in
         let g : Some place.0 ≡ Some c.site = sym place.1 ∙ f in cc
 
-    below : (ts : List Tag) (t : ℕ) (x : Tag) → slice_get ts t ≡ Some x → t < length ts
-    below [] t x e = cc
-    below (y ∷ ts) zero x e = omega arith
-    below (y ∷ ts) (suc t) x e = let h : t < length ts = below ts t x e in omega arith
-
     known : (o : Option Tag) → slice_get p.tags c.node.tag ≡ o → Known p.tags (tags_of p A a) c.node
     known None r = let h : None ≡ Some (length c.node.fields) = sym (ap (λ o. and_then o (λ i. Some i.fields)) r) ∙ at.full in cc
     known (Some t) r = record {
@@ -75,5 +67,5 @@ cell_known p A s lies a i c e q = known (slice_get p.tags c.node.tag) refl
       full = let h : Some t.fields ≡ Some (length c.node.fields) = sym (ap (λ o. and_then o (λ i. Some i.fields)) r) ∙ at.full in cc;
       among = those_have (λ t. any_satisfies (λ s. among (tag t) (A (site s) tags)) (sites_of p A a)) c.node.tag
           (some_site p A (λ s. among (tag c.node.tag) (A (site s) tags)) (subst (λ r. StandsFor (tables p) A a (cell_of r)) same place.2) c.site refl at.tag_in.there)
-          0 (length p.tags) (omega arith) (let b : c.node.tag < length p.tags = below p.tags c.node.tag t r in omega arith);
+          0 (length p.tags) (omega arith) (let b : c.node.tag < length p.tags = slice_get_within p.tags c.node.tag t r in omega arith);
     }

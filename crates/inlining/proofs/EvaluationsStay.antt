@@ -1,45 +1,47 @@
 -- Inlining of applications leaves what an evaluation became.
-use Rattle.std.proofs.Common.{◌≡◌, ℕ, suc, ◌+◌, Bool, true, false, cond, List, [], ◌∷◌, Option, Some, None, slice_get, refl}
+use Rattle.std.proofs.Common.{◌≡◌, ℕ, suc, ◌+◌, Bool, true, false, cond, List, [], Option, Some, None, refl, arith}
 use Rattle.grin_syntax.specs.declared.program.ProcId.{ProcId}
-use Rattle.grin_syntax.specs.declared.program.Tag.{Tag}
 use Rattle.grin_syntax.specs.declared.program.Word.{Word}
 use Rattle.grin_syntax.specs.declared.program.Val.TheVariants.{NodeVar}
-use Rattle.grin_syntax.specs.declared.program.Target.{Target}
 use Rattle.grin_syntax.specs.declared.program.Target.TheVariants.{Node as NodeTarget}
-use Rattle.grin_syntax.specs.declared.program.Shape.TheVariants.{Node as NodeShape}
-use Rattle.grin_syntax.specs.Tree.{Code, end, bind, leaf, unit, fetch, eval, case, arm, Program}
-use Rattle.grin_syntax.specs.Fresh.{variable as var, variables}
-use Rattle.grin_syntax.specs.Tags.{tag_id}
+use Rattle.grin_syntax.specs.Tree.{end, bind, Leaf, leaf, unit, fetch, eval, case, no_arm, Program}
+use Rattle.grin_syntax.specs.Fresh.{variable as var}
 use Rattle.grin_meaning.specs.Run.{is_fun_kind}
 use Rattle.flow_system.specs.Solution.{Solution}
-use Rattle.inlining.specs.Evaluations.{fields_at, call_body, eval_body, eval_arm, eval_arms, evaluation, eval_bound, eval_ended, tags_of, eval_inlined}
-use Rattle.inlining.specs.Applications.{apply_act, apply_code, apply_all, apply_act_room, apply_code_room}
+use Rattle.grin_rewrite.specs.Counted.{act_room, counted_act, counted_code, counted_all}
+use Rattle.grin_rewrite.proofs.CountedSides.{Both}
+use Rattle.grin_rewrite.proofs.Opened.{opened_stays}
+use Rattle.inlining.specs.Evaluations.{call_body, eval_opening, eval_arms, evaluation, eval_before, eval_rule, tags_of, eval_inlined}
+use Rattle.inlining.specs.Applications.{apply_room, apply_becomes, apply_rule}
 
 module _ (p : Program) (A : Solution) where
   abbrev e : Program
   e = eval_inlined A p
 
-  body_still : (y : ℕ) (a : Word) (n x k : ℕ) (b : Bool) (o : Option ProcId) → apply_code e A y (cond b (call_body p A a x k o) (end (leaf (unit (NodeVar (var n)))))) ≡ cond b (call_body p A a x k o) (end (leaf (unit (NodeVar (var n)))))
-  unfolding apply_act
+  body_still : (y : ℕ) (a : Word) (n x k : ℕ) (b : Bool) (o : Option ProcId) → counted_code (apply_rule e A) y (cond b (call_body p A a x k o) (end (leaf (unit (NodeVar (var n)))))) ≡ cond b (call_body p A a x k o) (end (leaf (unit (NodeVar (var n)))))
+  unfolding counted_act
   body_still y a n x k false o = refl
   body_still y a n x k true None = refl
   body_still y a n x k true (Some f) = refl
 
-  arms_still : (y : ℕ) (a : Word) (n x : ℕ) (ks : List ℕ) → apply_all e A y (eval_arms p A a n x ks) ≡ eval_arms p A a n x ks
-  unfolding apply_act
-  arms_still y a n x [] = refl
-  arms_still y a n x (k ∷ ks) = go (slice_get p.tags k) (λ z x'. arms_still z a n x' ks)
-    where
-      go : (o : Option Tag) → ((z x' : ℕ) → apply_all e A z (eval_arms p A a n x' ks) ≡ eval_arms p A a n x' ks)
-          → apply_all e A y (eval_arm p A a n x k o (eval_arms p A a n (suc (x + fields_at p A o)) ks)) ≡ eval_arm p A a n x k o (eval_arms p A a n (suc (x + fields_at p A o)) ks)
-      go None m = m y (suc (x + 0))
-      go (Some t) m = λ i. arm (NodeShape (tag_id k) (variables x t.fields)) (body_still y a n x t.fields (is_fun_kind t.kind) t.proc i)
-          (m (y + apply_code_room e A (eval_body p A a n x t)) (suc (x + t.fields)) i)
+  no_arm_still : (y : ℕ) → counted_all (apply_rule e A) y no_arm ≡ no_arm
+  unfolding counted_act
+  no_arm_still y = refl
 
-  pub ended_still : (x y : ℕ) (a : Word) → apply_code e A y (eval_ended p A x (leaf (eval a))) ≡ eval_ended p A x (leaf (eval a))
-  unfolding apply_act apply_act_room
-  ended_still x y a = λ i. bind (NodeTarget (var x)) (leaf (fetch a)) (end (case (NodeVar (var x)) (arms_still (y + 0) a x (suc x) (tags_of p A a) i)))
+  pub arms_still : (y : ℕ) (a : Word) (n x : ℕ) (ks : List ℕ) → counted_all (apply_rule e A) y (eval_arms p A a n x ks) ≡ eval_arms p A a n x ks
+  arms_still y a n x ks = opened_stays p.tags (eval_opening p A a n) (apply_rule e A) (λ z x' t. body_still z a n x' t.fields (is_fun_kind t.kind) t.proc) no_arm_still y x ks
 
-  pub bound_still : (x y : ℕ) (t : Target) (a : Word) (b : Code) → apply_code e A y (eval_bound p A x t (leaf (eval a)) b) ≡ eval_bound p A x t (leaf (eval a)) (apply_code e A (y + 0 + apply_act_room e A (evaluation p A x a)) b)
-  unfolding apply_act apply_act_room
-  bound_still x y t a b = λ i. bind (NodeTarget (var x)) (leaf (fetch a)) (bind t (case (NodeVar (var x)) (arms_still (y + 0) a x (suc x) (tags_of p A a) i)) (apply_code e A (y + 0 + apply_act_room e A (evaluation p A x a)) b))
+  unfoldable pub one_then_other : (x y : ℕ) (l : Leaf) → Both (eval_rule p A) (apply_rule e A) x y l
+  unfolding counted_act act_room
+  one_then_other x y (eval a) =
+      let still = arms_still (y + 0) a x (suc x) (tags_of p A a) in
+      let z = y + 0 + act_room (apply_rule e A) (evaluation p A x a) in
+      record {
+        before = eval_before p A x (eval a);
+        becomes = evaluation p A x a;
+        next = z;
+        later = omega arith;
+        ended = λ i. bind (NodeTarget (var x)) (leaf (fetch a)) (end (case (NodeVar (var x)) (still i)));
+        bound = λ t b i. bind (NodeTarget (var x)) (leaf (fetch a)) (bind t (case (NodeVar (var x)) (still i)) (counted_code (apply_rule e A) z b));
+      }
+  one_then_other x y l = record { before = []; becomes = apply_becomes e A y l; next = y + apply_room e A l; later = omega arith; ended = refl; bound = λ t b. refl }

@@ -7,18 +7,21 @@ use Rattle.grin_syntax.specs.declared.program.Word as W
 use Rattle.grin_syntax.specs.declared.program.Word.TheVariants.{Var}
 use Rattle.grin_syntax.specs.declared.program.Val.TheVariants.{NodeVar}
 use Rattle.grin_syntax.specs.declared.program.Target.{Target}
-use Rattle.grin_syntax.specs.Tree.{Code, end, store, bind, Act, leaf, unit, fetch, fetch_word, update, eval, apply, call, prim, read, write, case, nested, fail, Arms, no_arm, arm, Procedure, Program}
+use Rattle.grin_syntax.specs.Tree.{Code, end, store, bind, Leaf, leaf, unit, eval, apply, case, nested, Arms, no_arm, arm, Procedure, Program}
 use Rattle.grin_syntax.specs.Fresh.{variable, variables, past_procs}
 use Rattle.grin_meaning.specs.Run.{is_fun_kind, is_part_kind, is_some_and, part_from}
 use Rattle.flow_system.specs.Solution.{Solution}
 use Rattle.inlining.specs.Size.{target_size, act_size, code_size, arms_size, procedure_size, total}
-use Rattle.inlining.specs.Evaluations.{fields_at, call_body, eval_arm, eval_arms, evaluation, eval_bound, eval_ended, eval_act, eval_code, eval_all, eval_procs, act_room, code_room, tags_of, eval_inlined}
-use Rattle.inlining.specs.Applications.{is_part_tag, value_has, with_one_more, apply_body, part_body, apply_arm, apply_arms, part_tags_of, others_of, else_fail, apply_act, apply_code, apply_all, apply_procs, apply_act_room, apply_code_room, inlined_size}
-use Rattle.inlining.specs.Without.{NotEval}
-use Rattle.inlining.specs.Expanded.{eval_call_size, eval_tag_size, eval_tags_size, applied_body_size, part_body_size, part_tag_size, parts_size, else_size, expanded_act, expanded_code, expanded_arms, expanded_procedure}
+use Rattle.grin_rewrite.specs.Counted.{bound_before, act_room, code_room, all_room, counted_act, counted_code, counted_all, counted_procs}
+use Rattle.grin_rewrite.specs.Opening.{Opening, fields_at, opening_arm, opening_arms}
+use Rattle.grin_rewrite.proofs.CountedSides.{Both}
+use Rattle.grin_syntax.specs.Formed.{AllOf}
+use Rattle.inlining.specs.Evaluations.{call_body, eval_opening, eval_room, eval_rule, tags_of, eval_inlined}
+use Rattle.inlining.specs.Applications.{is_part_tag, value_has, with_one_more, apply_body, part_body, apply_opening, part_tags_of, others_of, else_fail, apply_rule, inlined_size}
+use Rattle.inlining.specs.Expanded.{eval_call_size, eval_body_size, applied_body_size, part_body_size, applied_size, tag_size, tags_size, else_size, expanded_act, expanded_code, expanded_arms, expanded_procedure}
 use Rattle.inlining.specs.Parts.{PartialTagsAreClosed}
-use Rattle.inlining.proofs.ApplicationsKeep.{Each, those_parts}
-use Rattle.inlining.proofs.EvaluationsStay.{ended_still, bound_still}
+use Rattle.inlining.proofs.ApplicationsKeep.{those_parts}
+use Rattle.inlining.proofs.EvaluationsStay.{one_then_other}
 use Rattle.grin_syntax.proofs.Counted.{length_variables}
 use Rattle.seq.specs.Lists.{is_present}
 
@@ -27,6 +30,28 @@ words_many x k = length-map (variables x k) Var ∙ length_variables x k
 
 with_argument : (x k : ℕ) (a : W.Word) → length (map Var (variables x k) ++ a ∷ []) ≡ suc k
 with_argument x k a = omega (arith, length-append (map Var (variables x k)) (a ∷ []), words_many x k)
+
+-- what is bound before a block
+abbrev pub before_size : List (Target × Leaf) → ℕ
+before_size [] = 0
+before_size (s ∷ ss) = target_size s.0 + act_size (leaf s.1) + before_size ss
+
+pub before_measured : (ss : List (Target × Leaf)) (c : Code) → code_size (bound_before ss c) ≡ before_size ss + code_size c
+unfolding act_size
+before_measured [] c = omega arith
+before_measured (s ∷ ss) c = omega (arith, before_measured ss c)
+
+-- alternatives that open a node, for tags of which something is known
+module _ (tags : List Tag) (O : Opening) (body_size : Tag → ℕ) (Known : ℕ → Type 0) (body : (x t : ℕ) (i : Tag) → slice_get tags t ≡ Some i → Known t → code_size (O.body x i) ≡ body_size i) where
+  opening_size : (x : ℕ) (ts : List ℕ) → AllOf Known ts → arms_size (opening_arms tags O x ts) ≡ tags_size body_size tags ts + arms_size O.last
+  unfolding act_size
+  opening_size x [] known = omega arith
+  opening_size x (t ∷ ts) known = go (slice_get tags t) refl (λ y. opening_size y ts known.1)
+    where
+      go : (o : Option Tag) → slice_get tags t ≡ o → ((y : ℕ) → arms_size (opening_arms tags O y ts) ≡ tags_size body_size tags ts + arms_size O.last)
+          → arms_size (opening_arm tags O x t o (opening_arms tags O (O.more + (x + fields_at o)) ts)) ≡ tag_size body_size o + tags_size body_size tags ts + arms_size O.last
+      go None is later = omega (arith, later (O.more + (x + 0)))
+      go (Some i) is later = omega (arith, length_variables x i.fields, body x t i is known.0, later (O.more + (x + i.fields)))
 
 module _ (p : Program) (A : Solution) where
   abbrev e : Program
@@ -42,18 +67,6 @@ module _ (p : Program) (A : Solution) where
   unfolding act_size
   body_size a n x t true = called a x t.fields t.proc
   body_size a n x t false = refl
-
-  eval_arm_size : (a : W.Word) (n x t : ℕ) (o : Option Tag) (as' : Arms) → arms_size (eval_arm p A a n x t o as') ≡ eval_tag_size p A o + arms_size as'
-  unfolding act_size
-  eval_arm_size a n x t None as' = omega arith
-  eval_arm_size a n x t (Some i) as' = omega (arith, length_variables x i.fields, body_size a n x i (is_fun_kind i.kind))
-
-  eval_arms_size : (a : W.Word) (n x : ℕ) (ts : List ℕ) → arms_size (eval_arms p A a n x ts) ≡ eval_tags_size p A ts
-  unfolding act_size
-  eval_arms_size a n x [] = refl
-  eval_arms_size a n x (t ∷ ts) =
-      let y = suc (x + fields_at p A (slice_get p.tags t)) in
-      omega (arith, eval_arm_size a n x t (slice_get p.tags t) (eval_arms p A a n y ts), eval_arms_size a n y ts)
 
   -- applications
   module _ (next : PartialTagsAreClosed p.tags) where
@@ -76,67 +89,51 @@ module _ (p : Program) (A : Solution) where
     part x a t i None is kind proc = refl
     part x a t i (Some f) is kind proc = applied f.0 i.missing (map Var (variables x i.fields) ++ a ∷ []) i.fields (with_argument x i.fields a) (λ r m. next t i f r is kind proc m)
 
-    apply_arm_size : (a : W.Word) (x t : ℕ) (o : Option Tag) (as' : Arms) → slice_get p.tags t ≡ o → is_part_tag p A t ≡ true → arms_size (apply_arm e A a x t o as') ≡ part_tag_size p A o + arms_size as'
-    unfolding act_size
-    apply_arm_size a x t None as' is kind = omega arith
-    apply_arm_size a x t (Some i) as' is kind = omega (arith, length_variables x i.fields, part x a t i i.proc is (ap (λ o. is_some_and o (λ i. is_part_kind i.kind)) (sym is) ∙ kind) refl)
-
-    apply_arms_size : (a : W.Word) (x : ℕ) (ts : List ℕ) (last : Arms) → Each (λ t. is_part_tag p A t ≡ true) ts → arms_size (apply_arms e A a x ts last) ≡ parts_size p A ts + arms_size last
-    apply_arms_size a x [] last h = omega arith
-    apply_arms_size a x (t ∷ ts) last h =
-        let y = x + fields_at p A (slice_get p.tags t) in
-        omega (arith, apply_arm_size a x t (slice_get p.tags t) (apply_arms e A a y ts last) refl h.0, apply_arms_size a y ts last h.1)
+  all_known : (ts : List ℕ) → AllOf (λ t. Unit {0}) ts
+  all_known [] = tt
+  all_known (t ∷ ts) = (tt, all_known ts)
 
   last_size : (ts : List ℕ) → arms_size (else_fail e A ts) ≡ else_size p A ts
   unfolding act_size
   last_size [] = refl
   last_size (t ∷ ts) = refl
 
-  -- an operation that takes a target, and one that ends a block
-  bound : (x y : ℕ) (t : Target) (o : Act) (b : Code) (n : ℕ) → (NotEval o → act_size (apply_act e A y (eval_act p A x o)) ≡ expanded_act p A o) → ((z : ℕ) → code_size (apply_code e A z b) ≡ n)
-      → code_size (apply_code e A y (eval_bound p A x t (eval_act p A x o) b)) ≡ target_size t + expanded_act p A o + n
-  unfolding eval_act apply_act act_size expanded_act
-  bound x y t (leaf (eval a)) b n f g =
-      ap code_size (bound_still p A x y t a b) ∙ omega (arith, eval_arms_size a x (suc x) (tags_of p A a), g (y + 0 + apply_act_room e A (evaluation p A x a)))
-  bound x y t o b n f g = omega (arith, f tt, g (y + apply_act_room e A (eval_act p A x o)))
-
-  ended : (x y : ℕ) (o : Act) → (NotEval o → act_size (apply_act e A y (eval_act p A x o)) ≡ expanded_act p A o) → code_size (apply_code e A y (eval_ended p A x (eval_act p A x o))) ≡ expanded_act p A o
-  unfolding eval_act apply_act act_size expanded_act
-  ended x y (leaf (eval a)) f = ap code_size (ended_still p A x y a) ∙ omega (arith, eval_arms_size a x (suc x) (tags_of p A a))
-  ended x y o f = f tt
-
   module _ (next : PartialTagsAreClosed p.tags) where
+    abbrev both : (x y : ℕ) (l : Leaf) → Both (eval_rule p A) (apply_rule e A) x y l
+    both = one_then_other p A
+
+    leaf_measured : (x y : ℕ) (l : Leaf) → before_size (both x y l).before + act_size (both x y l).becomes ≡ expanded_act p A (leaf l)
+    unfolding act_size expanded_act one_then_other
+    leaf_measured x y (eval a) = omega (arith, opening_size p.tags (eval_opening p A a x) eval_body_size (λ t. Unit {0}) (λ y t i is k. body_size a x y i (is_fun_kind i.kind)) (suc x) (tags_of p A a) (all_known (tags_of p A a)))
+    leaf_measured x y (apply v a) = omega (arith, opening_size p.tags (apply_opening e A a (else_fail e A (others_of p A v))) applied_size (λ t. is_part_tag p A t ≡ true) (λ x t i is k. part next x a t i i.proc is (ap (λ o. is_some_and o (λ i. is_part_kind i.kind)) (sym is) ∙ k) refl) y (part_tags_of p A v) (those_parts p A (value_has p A v) 0 (length p.tags)), last_size (others_of p A v))
+    leaf_measured x y l = omega arith
+
     mutual
-      unfolding eval_act apply_act act_size expanded_act
+      unfolding counted_act act_room act_size expanded_act
 
-      act_measured : (x y : ℕ) (o : Act) → NotEval o → act_size (apply_act e A y (eval_act p A x o)) ≡ expanded_act p A o
-      act_measured x y (case v as') h = omega (arith, arms_measured x y as')
-      act_measured x y (nested b) h = omega (arith, code_measured x y b)
-      act_measured x y (leaf (apply v a)) h = omega (arith, apply_arms_size next a y (part_tags_of p A v) (else_fail e A (others_of p A v)) (those_parts p A (value_has p A v) 0 (length p.tags)), last_size (others_of p A v))
-      act_measured x y (leaf (eval a)) h = absurd h
-      act_measured x y (leaf (unit v)) h = refl
-      act_measured x y (leaf (fetch a)) h = refl
-      act_measured x y (leaf (fetch_word a i)) h = refl
-      act_measured x y (leaf (update a v)) h = refl
-      act_measured x y (leaf (call f ws)) h = refl
-      act_measured x y (leaf (prim f a b)) h = refl
-      act_measured x y (leaf read) h = refl
-      act_measured x y (leaf (write a)) h = refl
-      act_measured x y (leaf fail) h = refl
-
-      code_measured : (x y : ℕ) (b : Code) → code_size (apply_code e A y (eval_code p A x b)) ≡ expanded_code p A b
-      code_measured x y (end o) = ended x y o (act_measured x y o)
+      code_measured : (x y : ℕ) (b : Code) → code_size (counted_code (apply_rule e A) y (counted_code (eval_rule p A) x b)) ≡ expanded_code p A b
+      code_measured x y (end (leaf l)) = ap code_size (both x y l).ended ∙ omega (arith, before_measured (both x y l).before (end (both x y l).becomes), leaf_measured x y l)
+      code_measured x y (end (case v as')) = omega (arith, arms_measured x y as')
+      code_measured x y (end (nested c)) = omega (arith, code_measured x y c)
       code_measured x y (store cs b) = omega (arith, code_measured x y b)
-      code_measured x y (bind t o b) = bound x y t o (eval_code p A (x + act_room p A o) b) (expanded_code p A b) (act_measured x y o) (λ z. code_measured (x + act_room p A o) z b)
+      code_measured x y (bind t (leaf l) b) =
+          let k = both x y l in
+          let r = x + eval_room p A l in
+          ap code_size (k.bound t (counted_code (eval_rule p A) r b))
+          ∙ omega (arith, before_measured k.before (bind t k.becomes (counted_code (apply_rule e A) k.next (counted_code (eval_rule p A) r b))), leaf_measured x y l, code_measured r k.next b)
+      code_measured x y (bind t (case v as') b) =
+          omega (arith, arms_measured x y as', code_measured (x + all_room (eval_rule p A) as') (y + all_room (apply_rule e A) (counted_all (eval_rule p A) x as')) b)
+      code_measured x y (bind t (nested c) b) =
+          omega (arith, code_measured x y c, code_measured (x + code_room (eval_rule p A) c) (y + code_room (apply_rule e A) (counted_code (eval_rule p A) x c)) b)
 
-      arms_measured : (x y : ℕ) (as' : Arms) → arms_size (apply_all e A y (eval_all p A x as')) ≡ expanded_arms p A as'
+      arms_measured : (x y : ℕ) (as' : Arms) → arms_size (counted_all (apply_rule e A) y (counted_all (eval_rule p A) x as')) ≡ expanded_arms p A as'
       arms_measured x y no_arm = refl
-      arms_measured x y (arm s b as') = omega (arith, code_measured x y b, arms_measured (x + code_room p A b) (y + apply_code_room e A (eval_code p A x b)) as')
+      arms_measured x y (arm s b as') = omega (arith, code_measured x y b, arms_measured (x + code_room (eval_rule p A) b) (y + code_room (apply_rule e A) (counted_code (eval_rule p A) x b)) as')
 
-    procs_measured : (x y : ℕ) (qs : List Procedure) → total procedure_size (apply_procs e A y (eval_procs p A x qs)) ≡ total (expanded_procedure p A) qs
+    procs_measured : (x y : ℕ) (qs : List Procedure) → total procedure_size (counted_procs (apply_rule e A) y (counted_procs (eval_rule p A) x qs)) ≡ total (expanded_procedure p A) qs
     procs_measured x y [] = refl
     procs_measured x y (q ∷ qs) =
-        omega (arith, code_measured x y q.body, procs_measured (x + code_room p A q.body) (y + apply_code_room e A (eval_code p A x q.body)) qs)
+        omega (arith, code_measured x y q.body, procs_measured (x + code_room (eval_rule p A) q.body) (y + code_room (apply_rule e A) (counted_code (eval_rule p A) x q.body)) qs)
 
     pub measured : inlined_size A p ≡ total (expanded_procedure p A) p.procs
     measured = procs_measured (past_procs p.procs) (past_procs e.procs) p.procs

@@ -1,22 +1,24 @@
 -- Applications become cases over the functions that a solution has for them.
-use Rattle.std.specs.Prelude.{ℕ, zero, suc, ◌+◌, Bool, false, not, ◌&&◌, ◌||◌, nat_eq, nat_le, List, [], ◌∷◌, ◌++◌, map, length, Option, Some, None, slice_get}
+use Rattle.std.specs.Prelude.{ℕ, zero, suc, Bool, false, not, ◌&&◌, ◌||◌, nat_eq, nat_le, List, [], ◌∷◌, ◌++◌, map, length, Option, Some, None, slice_get}
 use Rattle.grin_syntax.specs.declared.program.ProcId.{ProcId}
 use Rattle.grin_syntax.specs.declared.program.Tag.{Tag}
 use Rattle.grin_syntax.specs.declared.program.Word as W
 use Rattle.grin_syntax.specs.declared.program.Word.TheVariants.{Var, TagWord}
 use Rattle.grin_syntax.specs.declared.program.Val as V
 use Rattle.grin_syntax.specs.declared.program.Val.TheVariants.{NodeVar, Node as NodeVal, Vector as VectorVal, One as OneVal}
-use Rattle.grin_syntax.specs.declared.program.Shape.TheVariants.{Node as NodeShape, Else}
-use Rattle.grin_syntax.specs.Tree.{Code, end, store, bind, Act, leaf, unit, apply, call, case, nested, fail, Arms, no_arm, arm, Procedure, Program}
+use Rattle.grin_syntax.specs.declared.program.Shape.TheVariants.{Else}
+use Rattle.grin_syntax.specs.Tree.{Code, end, Act, Leaf, leaf, unit, apply, call, case, fail, Arms, no_arm, arm, Program}
 use Rattle.grin_syntax.specs.Tags.{tag_id}
-use Rattle.grin_syntax.specs.Fresh.{variables, past_procs}
+use Rattle.grin_syntax.specs.Fresh.{variables}
 use Rattle.grin_meaning.specs.Run.{is_part_kind, is_some_and, part_from}
 use Rattle.flow_system.specs.declared.fact.Element.TheVariants.{Tag as tag}
 use Rattle.flow_system.specs.declared.fact.Place.TheVariants.{Var as var}
 use Rattle.flow_system.specs.declared.fact.Part.TheVariants.{Tags as tags, Word as word}
 use Rattle.flow_system.specs.Solution.{Solution, among}
-use Rattle.inlining.specs.Evaluations.{fields_at, eval_inlined}
+use Rattle.inlining.specs.Evaluations.{eval_inlined}
 use Rattle.inlining.specs.Size.{size}
+use Rattle.grin_rewrite.specs.Counted.{CountedRule, counted}
+use Rattle.grin_rewrite.specs.Opening.{Opening, opening_arms, opening_room}
 use Rattle.seq.specs.Lists.{those}
 
 module _ (p : Program) (A : Solution) where
@@ -50,17 +52,12 @@ module _ (p : Program) (A : Solution) where
   part_body x a t None = end (leaf fail)
   part_body x a t (Some f) = apply_body f.0 t.missing (map Var (variables x t.fields) ++ a ∷ [])
 
-  abbrev pub apply_arm : W.Word → ℕ → ℕ → Option Tag → Arms → Arms
-  apply_arm a x t None as' = as'
-  apply_arm a x t (Some i) as' =
-      arm (NodeShape (tag_id t) (variables x i.fields)) (part_body x a i i.proc) as'
-
   -- `last` is an else that fails where the solution has another tag
+  abbrev pub apply_opening : W.Word → Arms → Opening
+  apply_opening a last = record { more = 0; body = λ x i. part_body x a i i.proc; last = last }
+
   abbrev pub apply_arms : W.Word → ℕ → List ℕ → Arms → Arms
-  apply_arms a x [] last = last
-  apply_arms a x (t ∷ ts) last =
-      apply_arm a x t (slice_get p.tags t)
-      (apply_arms a (x + fields_at p A (slice_get p.tags t)) ts last)
+  apply_arms a x ts last = opening_arms p.tags (apply_opening a last) x ts
 
   abbrev pub part_tags_of : V.Val → List ℕ
   part_tags_of v = those (λ t. value_has v t && is_part_tag t) 0 (length p.tags)
@@ -73,49 +70,23 @@ module _ (p : Program) (A : Solution) where
   else_fail (t ∷ ts) = arm Else (end (leaf fail)) no_arm
 
   abbrev pub parts_room : List ℕ → ℕ
-  parts_room [] = 0
-  parts_room (t ∷ ts) = fields_at p A (slice_get p.tags t) + parts_room ts
+  parts_room = opening_room p.tags 0
 
-  unfoldable mutual
-    pub apply_act_room : Act → ℕ
-    apply_act_room (leaf (apply v a)) = parts_room (part_tags_of v)
-    apply_act_room (case v as') = apply_arms_room as'
-    apply_act_room (nested b) = apply_code_room b
-    apply_act_room _ = 0
+  -- an application is that case
+  abbrev pub apply_room : Leaf → ℕ
+  apply_room (apply v a) = parts_room (part_tags_of v)
+  apply_room _ = 0
 
-    pub apply_code_room : Code → ℕ
-    apply_code_room (end o) = apply_act_room o
-    apply_code_room (store cs b) = apply_code_room b
-    apply_code_room (bind t o b) = apply_act_room o + apply_code_room b
+  abbrev pub apply_becomes : ℕ → Leaf → Act
+  apply_becomes x (apply v a) = case v (apply_arms a x (part_tags_of v) (else_fail (others_of v)))
+  apply_becomes x l = leaf l
 
-    pub apply_arms_room : Arms → ℕ
-    apply_arms_room no_arm = 0
-    apply_arms_room (arm s b as') = apply_code_room b + apply_arms_room as'
-
-  unfoldable mutual
-    pub apply_act : ℕ → Act → Act
-    apply_act x (leaf (apply v a)) = case v (apply_arms a x (part_tags_of v) (else_fail (others_of v)))
-    apply_act x (case v as') = case v (apply_all x as')
-    apply_act x (nested b) = nested (apply_code x b)
-    apply_act x o = o
-
-    pub apply_code : ℕ → Code → Code
-    apply_code x (end o) = end (apply_act x o)
-    apply_code x (store cs b) = store cs (apply_code x b)
-    apply_code x (bind t o b) = bind t (apply_act x o) (apply_code (x + apply_act_room o) b)
-
-    pub apply_all : ℕ → Arms → Arms
-    apply_all x no_arm = no_arm
-    apply_all x (arm s b as') = arm s (apply_code x b) (apply_all (x + apply_code_room b) as')
-
-  abbrev pub apply_procs : ℕ → List Procedure → List Procedure
-  apply_procs x [] = []
-  apply_procs x (q ∷ qs) =
-      record q { body = apply_code x q.body } ∷ apply_procs (x + apply_code_room q.body) qs
+  abbrev pub apply_rule : CountedRule
+  apply_rule = record { room = apply_room; before = λ x l. []; becomes = apply_becomes }
 
 -- a program with its applications inlined, and with its evaluations inlined before
 abbrev pub apply_inlined : Solution → Program → Program
-apply_inlined A p = record p { procs = apply_procs p A (past_procs p.procs) p.procs }
+apply_inlined A p = counted (apply_rule p A) p
 
 abbrev pub inlined : Solution → Program → Program
 inlined A p = apply_inlined A (eval_inlined A p)

@@ -8,16 +8,16 @@ use Rattle.grin_syntax.specs.declared.program.Word.TheVariants.{Var, Global}
 use Rattle.grin_syntax.specs.declared.program.Val.TheVariants.{NodeVar}
 use Rattle.grin_syntax.specs.declared.program.Target.{Target}
 use Rattle.grin_syntax.specs.declared.program.Target.TheVariants.{Nothing, Node as NodeTarget}
-use Rattle.grin_syntax.specs.declared.program.Shape.TheVariants.{Node as NodeShape}
-use Rattle.grin_syntax.specs.Tree.{Code, end, store, bind, Act, leaf, unit, fetch, update, eval, call, case, nested, fail, Arms, no_arm, arm, Procedure, Program}
-use Rattle.grin_syntax.specs.Tags.{tag_id}
-use Rattle.grin_syntax.specs.Fresh.{variable, variables, past_procs}
+use Rattle.grin_syntax.specs.Tree.{Code, end, bind, Act, Leaf, leaf, unit, fetch, update, eval, call, case, fail, Arms, no_arm, Program}
+use Rattle.grin_syntax.specs.Fresh.{variable, variables}
 use Rattle.grin_meaning.specs.Run.{is_fun_kind}
 use Rattle.flow_system.specs.declared.fact.Element.{Element as AbstractWord}
 use Rattle.flow_system.specs.declared.fact.Element.TheVariants.{Cell as cell_of, Tag as tag}
 use Rattle.flow_system.specs.declared.fact.Place.TheVariants.{Site as site, Var as var}
 use Rattle.flow_system.specs.declared.fact.Part.TheVariants.{Tags as tags, Word as word}
 use Rattle.flow_system.specs.Solution.{Solution, among}
+use Rattle.grin_rewrite.specs.Counted.{CountedRule, counted}
+use Rattle.grin_rewrite.specs.Opening.{Opening, opening_arms, opening_room}
 use Rattle.seq.specs.Lists.{those}
 
 abbrev pub any_satisfies : {X : Type 0} → (X → Bool) → List X → Bool
@@ -57,76 +57,38 @@ module _ (p : Program) (A : Solution) where
 
   abbrev pub eval_body : W.Word → ℕ → ℕ → Tag → Code
   eval_body a n x t =
-      cond (is_fun_kind t.kind) (call_body a x t.fields t.proc) (end (leaf (unit (NodeVar (variable n)))))
+      cond (is_fun_kind t.kind) (call_body a x t.fields t.proc)
+      (end (leaf (unit (NodeVar (variable n)))))
 
-  abbrev pub fields_at : Option Tag → ℕ
-  fields_at None = 0
-  fields_at (Some t) = t.fields
-
-  abbrev pub eval_arm : W.Word → ℕ → ℕ → ℕ → Option Tag → Arms → Arms
-  eval_arm a n x t None as' = as'
-  eval_arm a n x t (Some i) as' =
-      arm (NodeShape (tag_id t) (variables x i.fields)) (eval_body a n x i) as'
+  abbrev pub eval_opening : W.Word → ℕ → Opening
+  eval_opening a n = record { more = 1; body = eval_body a n; last = no_arm }
 
   abbrev pub eval_arms : W.Word → ℕ → ℕ → List ℕ → Arms
-  eval_arms a n x [] = no_arm
-  eval_arms a n x (t ∷ ts) =
-      eval_arm a n x t (slice_get p.tags t)
-      (eval_arms a n (suc (x + fields_at (slice_get p.tags t))) ts)
+  eval_arms a n = opening_arms p.tags (eval_opening a n)
 
   -- the fresh variables that alternatives take: the fields of each, and one for a result
   abbrev pub arms_room : List ℕ → ℕ
-  arms_room [] = 0
-  arms_room (t ∷ ts) = suc (fields_at (slice_get p.tags t)) + arms_room ts
+  arms_room = opening_room p.tags 1
 
   abbrev pub evaluation : ℕ → W.Word → Act
   evaluation x a = case (NodeVar (variable x)) (eval_arms a x (suc x) (tags_of a))
 
-  abbrev pub eval_bound : ℕ → Target → Act → Code → Code
-  eval_bound x t (leaf (eval a)) b = bind (NodeTarget (variable x)) (leaf (fetch a)) (bind t (evaluation x a) b)
-  eval_bound x t o b = bind t o b
+  -- an evaluation is a fetch and that case
+  abbrev pub eval_room : Leaf → ℕ
+  eval_room (eval a) = suc (arms_room (tags_of a))
+  eval_room _ = 0
 
-  abbrev pub eval_ended : ℕ → Act → Code
-  eval_ended x (leaf (eval a)) = bind (NodeTarget (variable x)) (leaf (fetch a)) (end (evaluation x a))
-  eval_ended x o = end o
+  abbrev pub eval_before : ℕ → Leaf → List (Target × Leaf)
+  eval_before x (eval a) = (NodeTarget (variable x), fetch a) ∷ []
+  eval_before x _ = []
 
-  unfoldable mutual
-    -- how many fresh variables are taken
-    pub act_room : Act → ℕ
-    act_room (leaf (eval a)) = suc (arms_room (tags_of a))
-    act_room (case v as') = all_room as'
-    act_room (nested b) = code_room b
-    act_room _ = 0
+  abbrev pub eval_becomes : ℕ → Leaf → Act
+  eval_becomes x (eval a) = evaluation x a
+  eval_becomes x l = leaf l
 
-    pub code_room : Code → ℕ
-    code_room (end o) = act_room o
-    code_room (store cs b) = code_room b
-    code_room (bind t o b) = act_room o + code_room b
-
-    pub all_room : Arms → ℕ
-    all_room no_arm = 0
-    all_room (arm s b as') = code_room b + all_room as'
-
-  unfoldable mutual
-    pub eval_act : ℕ → Act → Act
-    eval_act x (case v as') = case v (eval_all x as')
-    eval_act x (nested b) = nested (eval_code x b)
-    eval_act x o = o
-
-    pub eval_code : ℕ → Code → Code
-    eval_code x (end o) = eval_ended x (eval_act x o)
-    eval_code x (store cs b) = store cs (eval_code x b)
-    eval_code x (bind t o b) = eval_bound x t (eval_act x o) (eval_code (x + act_room o) b)
-
-    pub eval_all : ℕ → Arms → Arms
-    eval_all x no_arm = no_arm
-    eval_all x (arm s b as') = arm s (eval_code x b) (eval_all (x + code_room b) as')
-
-  abbrev pub eval_procs : ℕ → List Procedure → List Procedure
-  eval_procs x [] = []
-  eval_procs x (q ∷ qs) =
-      record q { body = eval_code x q.body } ∷ eval_procs (x + code_room q.body) qs
+  abbrev pub eval_rule : CountedRule
+  eval_rule = record { room = eval_room; before = eval_before; becomes = eval_becomes }
 
 -- a program with its evaluations inlined
 abbrev pub eval_inlined : Solution → Program → Program
-eval_inlined A p = record p { procs = eval_procs p A (past_procs p.procs) p.procs }
+eval_inlined A p = counted (eval_rule p A) p

@@ -35,26 +35,23 @@ abbrev pub part_body_size : Tag → Option ProcId → ℕ
 part_body_size t None = 1
 part_body_size t (Some f) = applied_body_size t.missing t.fields
 
+abbrev pub applied_size : Tag → ℕ
+applied_size t = part_body_size t t.proc
+
+-- the alternatives for tags, by the size of what is done with each
+module _ (body_size : Tag → ℕ) where
+  abbrev pub tag_size : Option Tag → ℕ
+  tag_size None = 0
+  tag_size (Some t) = t.fields + body_size t
+
+  abbrev pub tags_size : List Tag → List ℕ → ℕ
+  tags_size tags [] = 0
+  tags_size tags (t ∷ ts) = tag_size (slice_get tags t) + tags_size tags ts
+
 module _ (p : Program) (A : Solution) where
-  abbrev pub eval_tag_size : Option Tag → ℕ
-  eval_tag_size None = 0
-  eval_tag_size (Some t) = t.fields + eval_body_size t
-
-  abbrev pub eval_tags_size : List ℕ → ℕ
-  eval_tags_size [] = 0
-  eval_tags_size (t ∷ ts) = eval_tag_size (slice_get p.tags t) + eval_tags_size ts
-
   -- a fetch that binds a node variable, and the case
   abbrev pub evaluation_size : W.Word → ℕ
-  evaluation_size a = 5 + eval_tags_size (tags_of p A a)
-
-  abbrev pub part_tag_size : Option Tag → ℕ
-  part_tag_size None = 0
-  part_tag_size (Some t) = t.fields + part_body_size t t.proc
-
-  abbrev pub parts_size : List ℕ → ℕ
-  parts_size [] = 0
-  parts_size (t ∷ ts) = part_tag_size (slice_get p.tags t) + parts_size ts
+  evaluation_size a = 5 + tags_size eval_body_size p.tags (tags_of p A a)
 
   abbrev pub else_size : List ℕ → ℕ
   else_size [] = 0
@@ -62,7 +59,8 @@ module _ (p : Program) (A : Solution) where
 
   abbrev pub application_size : Val → ℕ
   application_size v =
-      1 + val_size v + parts_size (part_tags_of p A v) + else_size (others_of p A v)
+      1 + val_size v + tags_size applied_size p.tags (part_tags_of p A v)
+      + else_size (others_of p A v)
 
   unfoldable mutual
     pub expanded_act : Act → ℕ

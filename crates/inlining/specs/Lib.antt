@@ -3,7 +3,6 @@ pub mod Applications
 pub mod Before
 pub mod Evaluations
 pub mod Expanded
-pub mod InPlace
 pub mod Laws
 pub mod Parts
 pub mod Size

@@ -1,49 +1,39 @@
 -- What is asked of the rule: that what is known at a place speaks of the program and its variables, and that a word, what is bound and a case do what they did.
-use Rattle.std.proofs.Common.{◌≡◌, ℕ, ◌<◌, Bool, true, false, cond, List, length, Option, Some, None, refl, ◌∙◌, subst, arith, ◌+◌, ◌≤◌, [], sym, ap}
-use Rattle.std.specs.Prelude.{nat_lt}
-use Rattle.std.proofs.lemmas.Bool.Decides.{nat_tests}
-use Rattle.seq.proofs.Lists.{none_is_some, some_is}
-use Rattle.seq.specs.Lists.{times}
+use Rattle.std.proofs.Common.{◌≡◌, ℕ, Bool, true, false, cond, List, length, Option, Some, None, refl, ◌∙◌, subst, sym, ap}
+use Rattle.seq.proofs.Lists.{none_is_some}
 use Rattle.grin_syntax.specs.declared.program.Word.{Word}
 use Rattle.grin_syntax.specs.declared.program.Word.TheVariants.{Lit, Var, Global, TagWord}
-use Rattle.grin_syntax.specs.Tags.{tag_id}
-use Rattle.grin_syntax.specs.Tree.{Arms, no_arm, arm, Program, Act, leaf, unit, case, nested}
+use Rattle.grin_syntax.specs.Tree.{Arms, no_arm, arm, Program, case}
 use Rattle.grin_syntax.specs.Formed.{Scope, WordFormed, ActFormed, Formed}
 use Rattle.grin_syntax.specs.declared.program.Shape.{Shape}
-use Rattle.grin_syntax.specs.declared.program.Target.{Target}
 use Rattle.grin_syntax.specs.declared.program.Val.{Val}
-use Rattle.grin_syntax.specs.Binders.{target_vars, shape_vars}
-use Rattle.grin_meaning.specs.Values.{Datum, Value, Env, HeapCell, State, and_then, only_word, Binding, with_vars, fits, fit_of, word_of, value_of, bindings_of}
+use Rattle.grin_meaning.specs.Values.{Datum, Value, Env, HeapCell, State, fit_of, word_of, value_of}
 use Rattle.grin_meaning.specs.Run.{Calls}
-use Rattle.grin_meaning.specs.Ready.{NoNodeTarget}
 use Rattle.grin_meaning.specs.Follows.{Same, same}
 use Rattle.grin_meaning.proofs.Names.{Any}
 use Rattle.grin_meaning.proofs.Back.{CallsBack}
-use Rattle.grin_meaning.proofs.Rules.{Plan, Here, Setting, CallsFollow, ActFollows, ArmsFollow, FitsToo, case_follows, no_arm_follows, arm_follows}
+use Rattle.grin_meaning.proofs.Rules.{Plan, Here, Setting, CallsFollow, ActFollows, ArmsFollow, case_follows, no_arm_follows, arm_follows}
 use Rattle.grin_meaning.proofs.Procedures.{side_by_side}
-use Rattle.grin_meaning.proofs.Plain.{Has, vars_have, word_has}
+use Rattle.grin_meaning.proofs.Plain.{word_has}
 use Rattle.grin_meaning.proofs.OneSided.{arm_left}
-use Rattle.grin_meaning.proofs.Scopes.{Once}
 use Rattle.grin_meaning.proofs.Bindings.{keys}
-use Rattle.flow_system.specs.declared.fact.Place.TheVariants.{Var as var}
-use Rattle.flow_system.specs.declared.fact.Part.TheVariants.{Word as word}
 use Rattle.flow_system.specs.Solution.{Solution}
 use Rattle.pass_ground.specs.OpenUpdates.{tag_variable}
 use Rattle.grin_rewrite.proofs.KeptByWords.{FewerArms, none, keeps, leaves, Kept, fewer_kept}
 use Rattle.grin_rewrite.proofs.FactText.{fewer_formed, Places, CasesKeep}
-use Rattle.grin_rewrite.proofs.FactSides.{plan, value_too, Gave, ArmsGo, none_goes, more_go, Holding}
+use Rattle.grin_rewrite.proofs.FactSides.{plan, value_too, ArmsGo, none_goes, more_go, Holding}
 use Rattle.grin_rewrite.proofs.FactSound.{FactsAreSound, inlined_vectors}
 use Rattle.case_simplify.specs.declared.known.Known.{Known}
 use Rattle.case_simplify.specs.declared.known.Known.TheVariants.{Tag, Number}
-use Rattle.case_simplify.specs.Known.{Facts, nothing_known, known_after, facts_in_alternative}
-use Rattle.case_simplify.proofs.Held.{some_and, bindings_keys, datum_of, Holds, holds_on, noted_holds}
-use Rattle.case_simplify.proofs.Scoped.{Inside, inside_words, noted_inside, after_inside, new_unknown}
-use Rattle.case_simplify.proofs.Copied.{value_agrees, after_holds}
-use Rattle.case_simplify.proofs.Steps.{Knowing}
-use Rattle.known_words.specs.Told.{sole, only_tag, or_else, told_of, literal_of, literal_or, known_word, known_val}
+use Rattle.case_simplify.specs.Known.{Facts, nothing_known, facts_in_alternative}
+use Rattle.case_simplify.proofs.Held.{datum_of}
+use Rattle.case_simplify.proofs.Scoped.{Inside, inside_words, noted_inside, after_inside}
+use Rattle.case_simplify.proofs.Knowing.{Knowing, OnOne, knowing_on, bound, fits_both}
+use Rattle.known_words.specs.Told.{only_tag, or_else, told_of, literal_of, literal_or, known_word, known_val}
 use Rattle.known_words.specs.Needed.{arm_may_match, tags_left_after, needed_arms, tags_at}
 use Rattle.known_words.specs.Known.{literals_for_known}
 use Rattle.known_words.proofs.Sound.{Sound, AllSound, nothing_sound, noted_sound, after_sound}
+use Rattle.known_words.proofs.Soles.{IsOnlyTag, is_only_tag}
 use Rattle.known_words.proofs.Fitting.{Left, left_after, never_taken}
 use Rattle.known_words.proofs.Tells.{Tells, told_datum}
 
@@ -65,13 +55,7 @@ module _ (g : Program) (A : Solution) (formed : Formed g) where
   count = length g.tags
 
   only_sound : (x : ℕ) (k : Known) → only_tag count A x ≡ Some k → Sound g k
-  only_sound x k e =
-      let z : (t : ℕ) × (sole (A (var x) (word 0)) ≡ Some t) × (cond (nat_lt t count) (Some (Tag (tag_id t))) None ≡ Some k) = some_and (sole (A (var x) (word 0))) (λ t. cond (nat_lt t count) (Some (Tag (tag_id t))) None) k e in
-      go z.0 (nat_lt z.0 count) refl z.2
-    where
-      go : (t : ℕ) (b : Bool) → nat_lt t count ≡ b → cond b (Some (Tag (tag_id t))) None ≡ Some k → Sound g k
-      go t true q e = let lt : t < count = grind (arith, nat_tests) in subst (Sound g) (some_is e) lt
-      go t false q e = none_is_some e
+  only_sound x k e = let o : IsOnlyTag count A x k = is_only_tag count A x k e in subst (Sound g) o.is o.below
 
   told_sound : (facts : Facts) → AllSound g facts → (x : ℕ) (k : Known) → told_of count A facts x ≡ Some k → Sound g k
   told_sound facts h x k e = go (facts x) refl e
@@ -95,7 +79,7 @@ module _ (g : Program) (A : Solution) (formed : Formed g) where
       go (Some k) q = literal_formed k (told_sound facts sound x.0 k q)
 
   -- what is known at a place speaks of variables in scope, and of tags of the program
-  places : Places (literals_for_known count A) (known_word count A) g nothing_known
+  places : Places (literals_for_known count A) (known_word count A) g nothing_known inlined_vectors
   unfolding ActFormed
   places = record {
     Place = λ facts scope. Inside facts scope × AllSound g facts;
@@ -104,13 +88,13 @@ module _ (g : Program) (A : Solution) (formed : Formed g) where
     after = λ facts scope t o f h. (after_inside g facts t o scope h.0, after_sound g scope facts t o f h.1);
     inside = λ facts scope v s fv fs h. (noted_inside g scope facts v s fv h.0, noted_sound g formed facts v s fs h.1);
     words = λ facts scope h. word_formed facts scope h.1;
-    cases = λ facts scope v as' fv h. (fv, fewer_formed g scope (needed_fewer _ as') h);
+    cases = λ facts scope v as' fv k h. (fv, fewer_formed g scope (needed_fewer _ as') h);
   }
 
   -- ---- words
 
   abbrev sides : Plan
-  sides = plan (literals_for_known count A) (known_word count A) g nothing_known places inlined_vectors (Tells g A)
+  sides = plan (literals_for_known count A) (known_word count A) g nothing_known inlined_vectors places (Tells g A)
 
   word_too : (facts : Facts) (s : State) (env' : Env) → Tells g A s → Knowing g facts s.heap s.env env' → (a : Word) (d : Datum) → word_of g s.env a ≡ Some d → word_of g env' (known_word count A facts a) ≡ Some d
   word_too facts s env' tells r (Lit k) d e = e
@@ -122,30 +106,6 @@ module _ (g : Program) (A : Solution) (formed : Formed g) where
       go None q = word_has g Any s.env env' r.0 (Var x) tt d e
       go (Some k) q = literal_is g env' k ∙ ap Some (sym (told_datum g A s tells facts r.1 x k d q e))
 
-  -- ---- what is bound
-
-  -- new variables are bound alike, and what was known still is
-  knowing_on : (facts : Facts) (scope : Scope) (xs : List ℕ) (cells cells' : List HeapCell) (bs : List Binding) (env env' : Env) → Inside facts scope → Once scope xs → keys bs ≡ xs → Knowing g facts cells env env' → Knowing g facts cells' (with_vars bs env) (with_vars bs env')
-  knowing_on facts scope xs cells cells' bs env env' inside once are r = (vars_have Any bs env env' r.0, holds_on g facts bs env (λ y k f. subst (λ l. times y l ≡ 0) (sym are) (new_unknown facts scope xs inside once y k f)) r.1)
-
-  -- the second's variables hold what is known too
-  holds_too : (facts : Facts) (env env' : Env) → Has Any env env' → Holds g facts env → Holds g facts env'
-  holds_too facts env env' r h y k e =
-      let z : (v : Value) × (env y ≡ Some v) × (only_word v ≡ Some (datum_of g k)) = some_and (env y) only_word (datum_of g k) (h y k e) in
-      ap (λ o. and_then o only_word) (r y z.0 tt z.1) ∙ z.2
-
-  bound : (facts : Facts) (scope : Scope) (t : Target) (o : Act) (v : Value) (bs : List Binding) (c c' : List HeapCell) (env env' : Env) → Inside facts scope → Once scope (target_vars t) → NoNodeTarget t → ActFormed g scope o → Gave g env' o v → bindings_of g t v ≡ Some bs
-      → Knowing g facts c env env' → Knowing g (known_after t o facts) c' (with_vars bs env) (with_vars bs env')
-  unfolding ActFormed
-  bound facts scope t (leaf (unit u)) v bs c c' env env' inside once no_node formed given e r = (
-    vars_have Any bs env env' r.0,
-    after_holds g scope t u v bs facts env (value_agrees g facts env' (holds_too facts env env' r.0 r.1) u v given) e no_node formed
-        (λ y. (let n : times y scope.nodes + times y scope.words + times y (target_vars t) ≤ 1 = once y in omega (arith, n))) (new_unknown facts scope (target_vars t) inside once) r.1,
-  )
-  bound facts scope t (leaf _) v bs c c' env env' inside once no_node formed given e r = knowing_on facts scope (target_vars t) c c' bs env env' inside once (bindings_keys g t v bs e) r
-  bound facts scope t (case u as') v bs c c' env env' inside once no_node formed given e r = knowing_on facts scope (target_vars t) c c' bs env env' inside once (bindings_keys g t v bs e) r
-  bound facts scope t (nested b) v bs c c' env env' inside once no_node formed given e r = knowing_on facts scope (target_vars t) c c' bs env env' inside once (bindings_keys g t v bs e) r
-
   -- ---- cases
 
   module _ (c c' : Calls) (cb : CallsBack (Tells g A) c) (cf : CallsFollow sides c c') where
@@ -153,20 +113,11 @@ module _ (g : Program) (A : Solution) (formed : Formed g) where
     st = side_by_side sides c c' cb cf
 
     abbrev Going : Facts → Val → Arms → Arms → Type 0
-    Going = ArmsGo (literals_for_known count A) (known_word count A) g nothing_known places inlined_vectors (Tells g A) (Knowing g) st
+    Going = ArmsGo (literals_for_known count A) (known_word count A) g nothing_known inlined_vectors places (Tells g A) (Knowing g) st
 
     -- over the value of the case
-    abbrev OnOne : Facts → Val → Value → List HeapCell → Env → Env → Type 0
-    OnOne facts v y cells env env' = Knowing g facts cells env env' × (value_of g env v ≡ Some y)
-
     abbrev OnBoth : Facts → Val → Option (List ℕ) → Value → Value → List HeapCell → Env → Env → Type 0
-    OnBoth facts v left y y' cells env env' = Same y y' × OnOne facts v y cells env env' × Left g left y
-
-    fits_both : (facts : Facts) (v : Val) (s : Shape) (cells : List HeapCell) (env env' : Env) (bs : List Binding) {y y' : Value} → shape_vars s ≡ [] → Same y y' → OnOne facts v y cells env env' → fit_of g s y ≡ fits bs
-        → FitsToo st (Knowing g (facts_in_alternative v s facts)) s env env' cells y' bs
-    fits_both facts v s cells env env' bs bare (same {a = y}) r e =
-        let z : (bs ≡ []) × Holds g (facts_in_alternative v s facts) env = noted_holds g env v y r.1 facts s bs r.0.1 bare e in
-        record { bs' = bs; fit = e; related = (vars_have Any bs env env' r.0.0, subst (λ l. Holds g (facts_in_alternative v s facts) (with_vars l env)) (sym z.0) z.1) }
+    OnBoth facts v left y y' cells env env' = Same y y' × OnOne g facts v y cells env env' × Left g left y
 
     same_fit : (s : Shape) {y y' : Value} → Same y y' → fit_of g s y' ≡ fit_of g s y
     same_fit s same = refl
@@ -179,7 +130,7 @@ module _ (g : Program) (A : Solution) (formed : Formed g) where
         go : (t : Bool) → arm_may_match left s ≡ t → ArmsFollow st (OnBoth facts v (tags_left_after left s)) Same as' (needed_arms (tags_left_after left s) bs') → ArmsFollow st (OnBoth facts v left) Same as' (needed_arms left bs')
             → ArmsFollow st (OnBoth facts v left) Same (arm s b as') (cond t (arm s b' (needed_arms (tags_left_after left s) bs')) (needed_arms left bs'))
         go true e next same_left = arm_follows st {U = OnBoth facts v left} {U' = OnBoth facts v (tags_left_after left s)} {R' = Knowing g (facts_in_alternative v s facts)} s s b b' as' (needed_arms (tags_left_after left s) bs') f next
-            (λ y y' x bs e known. fits_both facts v s x.w.cells x.env x.env' bs bare x.related.0 x.related.1 e)
+            (λ y y' x bs e known. fits_both g facts v s x.w.cells x.env x.env' bs bare (Tells g A) sides.procs c c' cb cf x.related.0 x.related.1 e)
             (λ y y' x e. (same_fit s x.related.0 ∙ e, (x.related.0, x.related.1, left_after g left s y bare e x.related.2)))
         go false e next same_left = arm_left st {U = OnBoth facts v left} {U' = OnBoth facts v left} s b as' (needed_arms left bs') (λ y y' x bs q. never_taken g left s y bs bare e q x.related.2) (λ y y' x q. x.related) same_left
 
@@ -201,18 +152,18 @@ module _ (g : Program) (A : Solution) (formed : Formed g) where
       let left : Option (List ℕ) = tags_at count A (tag_variable v') in
       q.cases v v' as' (needed_arms left bs') h (q.again as' bs' (needed_arms left bs') k (fewer_kept q (needed_fewer left bs')))
 
-  holding : Holding (literals_for_known count A) (known_word count A) g nothing_known places inlined_vectors (Tells g A)
+  holding : Holding (literals_for_known count A) (known_word count A) g nothing_known inlined_vectors places (Tells g A)
   unfolding places
   holding = record {
     Holds = Knowing g;
     has = λ facts c env env' r. r.0;
     begins = λ c env. ((λ x v _ k. k), (λ x k h. none_is_some h));
     words = word_too;
-    stored = λ facts scope bs c c' env env' at once r. knowing_on facts scope (keys bs) c c' bs env env' at.0 once refl r;
-    bound = λ facts scope t o v bs c c' env env' at. bound facts scope t o v bs c c' env env' at.0;
+    stored = λ facts scope bs c c' env env' at once r. knowing_on g facts scope (keys bs) c c' bs env env' at.0 once refl r;
+    bound = λ facts scope t o v bs c c' env env' at. bound g facts scope t o v bs c c' env env' at.0;
     inlined = λ o h. h;
     cases = λ c c' cb cf facts scope v as' bs' at. case_goes c c' cb cf facts v as' bs';
-    case_bound = λ facts v v' as' bs' t y k e. e;
+    no_nodes = λ t n. n;
   }
 
   pub sound : FactsAreSound (literals_for_known count A) (known_word count A) g nothing_known (Tells g A)

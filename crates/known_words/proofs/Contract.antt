@@ -1,5 +1,5 @@
 -- That the pass meets its contract: the shape of what it makes, and that this keeps the program.
-use Rattle.std.proofs.Common.{◌≡◌, ℕ, List, length, sym, subst}
+use Rattle.std.proofs.Common.{ℕ, List, length}
 use Rattle.grin_syntax.specs.declared.program.Word.{Word}
 use Rattle.grin_syntax.specs.Tree.{Program}
 use Rattle.grin_meaning.specs.Run.{run}
@@ -16,10 +16,10 @@ use Rattle.grin_rewrite.proofs.KeptByWords.{updates_kept}
 use Rattle.grin_rewrite.proofs.FactText.{walked_slim, updates_fewer}
 use Rattle.grin_rewrite.proofs.FactSound.{FactsAreSound, stays, keeps}
 use Rattle.case_simplify.specs.Known.{Facts, nothing_known}
-use Rattle.known_words.specs.Told.{silent, known_word}
+use Rattle.known_words.specs.Told.{known_word}
 use Rattle.known_words.specs.Known.{literals_for_known, known}
-use Rattle.known_words.specs.KnownWords.{MadeByLeastSolution, KnownWordsAreLiterals, KnownWords, ToldWords}
-use Rattle.known_words.proofs.Tells.{Tells, all_tell, all_silent}
+use Rattle.known_words.specs.KnownWords.{KnownWordsAreLiterals}
+use Rattle.known_words.proofs.Tells.{Tells, all_tell}
 use Rattle.known_words.proofs.Gives.{procs_untold, opens, fewer_open}
 use Rattle.known_words.proofs.Asked.{sound}
 
@@ -33,7 +33,7 @@ module _ (g : Program) (A : Solution) (of : IsVectorForm g) (tells : (i : List �
   facts_sound : FactsAreSound R word g nothing_known (Tells g A)
   facts_sound = sound g A of.formed
 
-  whole : KnownWordsAreLiterals A g (known A g)
+  pub whole : KnownWordsAreLiterals A g (known A g)
   unfolding updates_kept
   whole = record {
     stays = stays R word g nothing_known (Tells g A) facts_sound of tells;
@@ -42,24 +42,8 @@ module _ (g : Program) (A : Solution) (of : IsVectorForm g) (tells : (i : List �
     slim = walked_slim R word nothing_known facts_sound.by facts_sound.cases g;
   }
 
-  kept : Keeps g (known A g)
+  pub kept : Keeps g (known A g)
   kept = keeps R word g nothing_known (Tells g A) facts_sound of tells
 
-by_solution : (g : Program) (A : Solution) → IsVectorForm g → IsLeast (tables g) (system g) A → (i : List ℕ) (n : ℕ) → HoldsInEveryState (Tells g A) (world_of (run g i n)).seen
+pub by_solution : (g : Program) (A : Solution) → IsVectorForm g → IsLeast (tables g) (system g) A → (i : List ℕ) (n : ℕ) → HoldsInEveryState (Tells g A) (world_of (run g i n)).seen
 by_solution g A of least i n = all_tell g A _ ((covers g A (formed_is_started g of.formed) least.solves).passed i n)
-
-pub is_known : (g h : Program) → IsVectorForm g → MadeByLeastSolution g h → KnownWords g h
-is_known g h of m = record { solution = m.solution; least = m.least; by = subst (KnownWordsAreLiterals m.solution g) (sym m.made) (whole g m.solution of (by_solution g m.solution of m.least)) }
-
-pub is_kept : (g h : Program) → IsVectorForm g → MadeByLeastSolution g h → Keeps g h
-is_kept g h of m = subst (Keeps g) (sym m.made) (kept g m.solution of (by_solution g m.solution of m.least))
-
-pub by_least : {g h : Program} {A : Solution} → IsLeast (tables g) (system g) A → h ≡ known A g → MadeByLeastSolution g h
-by_least {A = A} least e = record { solution = A; least = least; made = e }
-
--- by the alternatives alone
-pub is_told : (g h : Program) → IsVectorForm g → h ≡ known silent g → ToldWords g h
-is_told g h of e = subst (KnownWordsAreLiterals silent g) (sym e) (whole g silent of (λ i n. all_silent g _))
-
-pub told_kept : (g h : Program) → IsVectorForm g → h ≡ known silent g → Keeps g h
-told_kept g h of e = subst (Keeps g) (sym e) (kept g silent of (λ i n. all_silent g _))

@@ -1,11 +1,11 @@
 -- An alternative that is not needed is never taken.
-use Rattle.std.proofs.Common.{◌≡◌, ℕ, Bool, true, false, cond, not, nat_eq, List, [], ◌∷◌, filter, length, Option, Some, None, refl, sym, ap, ◌∙◌, subst, inl, inr}
-use Rattle.std.specs.Prelude.{◌⊎◌}
+use Rattle.std.proofs.Common.{◌≡◌, ℕ, Bool, true, false, cond, not, nat_eq, List, [], ◌∷◌, filter, length, Option, Some, None, refl, sym, ap, ◌∙◌, subst}
+use Rattle.std.specs.List.{list_any}
 use Rattle.seq.proofs.Lists.{some_is}
-use Rattle.seq.proofs.Member.{none_in, cons_in}
-use Rattle.seq.proofs.Truth.{true_not_false}
-use Rattle.seq.proofs.Counted.{among_first, among_later}
-use Rattle.seq.specs.Lists.{In, here, there, is_among}
+use Rattle.seq.proofs.Member.{none_in}
+use Rattle.seq.proofs.Order.{eq_self}
+use Rattle.seq.proofs.Truth.{true_not_false, or_left, or_right}
+use Rattle.seq.specs.Lists.{In, here, there}
 use Rattle.grin_syntax.specs.declared.program.VarId.{VarId}
 use Rattle.grin_syntax.specs.declared.program.Shape.{Shape}
 use Rattle.grin_syntax.specs.declared.program.Shape.TheVariants as shape
@@ -17,28 +17,24 @@ use Rattle.flow_system.specs.Solution.{Solution}
 use Rattle.flow_system.specs.Covers.{StateIsCovered}
 use Rattle.pass_ground.specs.OpenUpdates.{tag_variable}
 use Rattle.update_special.specs.Updates.{tags_of}
-use Rattle.grin_rewrite.proofs.OpenUpdates.{tag_there}
+use Rattle.pass_ground.proofs.OpenUpdates.{tag_there}
 use Rattle.update_special.proofs.Special.{tag_listed}
 use Rattle.case_simplify.proofs.Held.{NodeFits, node_fits, node_fits_not, IntFits, int_fits}
 use Rattle.known_words.specs.Needed.{any_tag_left, pattern_may_match, without, tags_left_by, arm_may_match, tags_left_after, if_nonempty, tags_at}
 
-in_among : (x : ℕ) (xs : List ℕ) → In x xs → is_among x xs ≡ true
-in_among x [] h = none_in h
-in_among x (y ∷ ys) h = go (cons_in y ys h) (in_among x ys)
-  where
-    go : (x ≡ y) ⊎ In x ys → (In x ys → is_among x ys ≡ true) → is_among x (y ∷ ys) ≡ true
-    go (inl e) later = subst (λ z. is_among x (z ∷ ys) ≡ true) e (among_first x ys)
-    go (inr m) later = among_later x y ys (later m)
+in_any : (x : ℕ) (xs : List ℕ) → In x xs → list_any (λ u. nat_eq u x) xs ≡ true
+in_any x [] h = none_in h
+in_any x (y ∷ ys) here = or_left (nat_eq x x) (list_any (λ u. nat_eq u x) ys) (eq_self x)
+in_any x (y ∷ ys) (there m) = or_right (nat_eq y x) (list_any (λ u. nat_eq u x) ys) (in_any x ys m)
 
 in_filter : (p : ℕ → Bool) (x : ℕ) (xs : List ℕ) → p x ≡ true → In x xs → In x (filter p xs)
 in_filter p x [] e h = none_in h
-in_filter p x (y ∷ ys) e h = go (p y) refl (cons_in y ys h) (in_filter p x ys e)
+in_filter p x (y ∷ ys) e here = subst (λ b. In x (cond b (x ∷ filter p ys) (filter p ys))) (sym e) here
+in_filter p x (y ∷ ys) e (there m) = go (p y) (in_filter p x ys e m)
   where
-    go : (b : Bool) → p y ≡ b → (x ≡ y) ⊎ In x ys → (In x ys → In x (filter p ys)) → In x (cond b (y ∷ filter p ys) (filter p ys))
-    go true q (inl s) later = subst (λ z. In x (z ∷ filter p ys)) s here
-    go true q (inr m) later = there (later m)
-    go false q (inl s) later = true_not_false (sym e ∙ ap p s ∙ q)
-    go false q (inr m) later = later m
+    go : (b : Bool) → In x (filter p ys) → In x (cond b (y ∷ filter p ys) (filter p ys))
+    go true later = there later
+    go false later = later
 
 module _ (g : Program) where
   -- the value has one of the tags that are left, and there are such
@@ -82,10 +78,10 @@ module _ (g : Program) where
   never_among tags (shape.Node t (x ∷ xs)) y bs b n e h = no_vars x xs b
   never_among tags (shape.Node t []) y bs b n e h =
       let f : NodeFits g t.0 y bs = node_fits g t y bs e in
-      true_not_false (sym (in_among t.0 tags (subst (λ k. In k tags) f.tagged (h.tag f.n f.is))) ∙ n)
+      true_not_false (sym (in_any t.0 tags (subst (λ k. In k tags) f.tagged (h.tag f.n f.is))) ∙ n)
   never_among tags (shape.Int k) y bs b n e h =
       let f : IntFits g k y bs = int_fits g k y bs e in
-      true_not_false (sym (in_among 0 tags (subst (λ k. In k tags) f.tagged (h.tag f.n f.is))) ∙ n)
+      true_not_false (sym (in_any 0 tags (subst (λ k. In k tags) f.tagged (h.tag f.n f.is))) ∙ n)
   never_among tags shape.Else y bs b n e h = h.some (none_any tags n)
 
   pub never_taken : (left : Option (List ℕ)) (s : Shape) (y : Value) (bs : List Binding) → shape_vars s ≡ [] → arm_may_match left s ≡ false → fit_of g s y ≡ fits bs → Left left y → ⊥

@@ -1,4 +1,3 @@
-pub mod Literals
 pub mod Tells
 pub mod Sound
 pub mod Asked
@@ -7,4 +6,3 @@ pub mod Contract
 pub mod Loops
 pub mod Soles
 pub mod Fitting
-pub mod Standing

@@ -1,11 +1,17 @@
--- What the loop over alternatives keeps.
-use Rattle.std.proofs.Common.{◌≡◌, ℕ, true, false, cond, List, [], ◌∷◌, ◌++◌, map, Option, refl, sym, ap, ◌∙◌}
+-- What the loops over tags and alternatives keep.
+use Rattle.std.proofs.Common.{◌≡◌, ℕ, Bool, ◌||◌, true, false, cond, List, [], ◌∷◌, ◌++◌, map, Option, refl, sym, ap, ◌∙◌}
+use Rattle.std.specs.List.{list_any}
+use Rattle.grin_syntax.specs.declared.program.TagId.{TagId}
 use Rattle.grin_syntax.specs.declared.program.Shape.{Shape}
 use Rattle.grin_syntax.specs.declared.program.Alt.{Alt}
 use Rattle.grin_syntax.specs.Tree.{Code, Arms, no_arm, arm, arm_of, code_of, arms_of}
 use Rattle.grin_syntax.proofs.TreeOf.{arm_of-parts}
 use Rattle.seq.proofs.Lists.{map_push}
 use Rattle.known_words.specs.Needed.{arm_may_match, tags_left_after, needed_arms}
+
+pub any_number : (test : ℕ → Bool) (ts : List TagId) → list_any test (map (λ (t : TagId). t.0) ts) ≡ list_any (λ (t : TagId). test t.0) ts
+any_number test [] = refl
+any_number test (t ∷ ts) = ap (λ b. test t.0 || b) (any_number test ts)
 
 -- alternatives before others
 abbrev pub before : List (Shape × Code) → Arms → Arms
@@ -26,9 +32,6 @@ before_more alts a rest = ap (λ l. before l rest) (map_push arm_of alts a) ∙ 
 -- these alternatives are what is left of those, and these tags are left to what follows
 pub record Chosen (first left : Option (List ℕ)) (made from : List Alt) : Type 0 where
   pub by : (rest : Arms) → needed_arms first (before (map arm_of from) rest) ≡ before (map arm_of made) (needed_arms left rest)
-
-pub none_chosen : (left : Option (List ℕ)) → Chosen left left [] []
-none_chosen left = record { by = λ rest. refl }
 
 module _ (first left : Option (List ℕ)) (made from : List Alt) (a : Alt) (c : Chosen first left made from) where
   one_more : (rest : Arms) → needed_arms first (before (map arm_of (from ++ a ∷ [])) rest) ≡ before (map arm_of made) (needed_arms left (arm a.pattern (code_of a.body) rest))

@@ -17,7 +17,7 @@ use Rattle.case_simplify.specs.Known.{Facts}
 use Rattle.case_simplify.proofs.Held.{datum_of, Holds}
 use Rattle.known_words.specs.Told.{silent, only_tag, or_else, told_of}
 use Rattle.known_words.specs.Needed.{if_nonempty, tags_at}
-use Rattle.known_words.proofs.Literals.{only_datum}
+use Rattle.known_words.proofs.Soles.{only_datum}
 use Rattle.known_words.proofs.Fitting.{Left, at_first}
 
 -- what a solution tells of a state holds there

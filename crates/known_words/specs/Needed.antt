@@ -1,5 +1,6 @@
 -- Which alternatives of a case a run may take, by the tags that its value may have.
 use Rattle.std.specs.Prelude.{ℕ, ◌≡◌, Bool, true, false, cond, not, nat_eq, List, [], ◌∷◌, map, filter, Option, Some, None}
+use Rattle.std.specs.List.{list_any}
 use Rattle.grin_syntax.specs.declared.program.VarId.{VarId}
 use Rattle.grin_syntax.specs.declared.program.TagId.{TagId}
 use Rattle.grin_syntax.specs.declared.program.Shape.{Shape}
@@ -7,7 +8,6 @@ use Rattle.grin_syntax.specs.declared.program.Shape.TheVariants as shape
 use Rattle.grin_syntax.specs.Tree.{Arms, no_arm, arm}
 use Rattle.flow_system.specs.Solution.{Solution}
 use Rattle.update_special.specs.Updates.{tags_of}
-use Rattle.seq.specs.Lists.{is_among}
 
 -- ---- the tags that are left to an alternative, where they are known
 
@@ -17,8 +17,8 @@ any_tag_left (t ∷ ts) = true
 
 -- a pattern fits a value with one of these tags
 abbrev pub pattern_may_match : List ℕ → Shape → Bool
-pattern_may_match tags (shape.Node t xs) = is_among t.0 tags
-pattern_may_match tags (shape.Int k) = is_among 0 tags
+pattern_may_match tags (shape.Node t xs) = list_any (λ u. nat_eq u t.0) tags
+pattern_may_match tags (shape.Int k) = list_any (λ u. nat_eq u 0) tags
 pattern_may_match tags shape.Else = any_tag_left tags
 
 abbrev pub without : ℕ → List ℕ → List ℕ

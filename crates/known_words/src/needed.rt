@@ -1,13 +1,13 @@
 // The alternatives of a case that a run may take.
 #![tactic(auto)]
 
-ghost use Rattle.std.specs.Prelude.{◌≡◌, map, IfOk};
+ghost use Rattle.std.specs.Prelude.{◌≡◌, nat_eq, map, IfOk};
+ghost use Rattle.std.specs.List.{list_any};
 ghost use Rattle.pass_ground.specs.OpenUpdates.{tag_variable};
 ghost use Rattle.points_to.specs.Found.{found};
 ghost use Rattle.update_special.specs.Updates.{tags_of};
 ghost use Rattle.known_words.specs.Needed.{pattern_may_match, without, tags_left_by, arm_may_match, tags_left_after, if_nonempty, tags_at, numbers_left};
 ghost use Rattle.known_words.specs.Telling.{known_solution};
-ghost use Rattle.seq.specs.Lists.{is_among};
 
 use crate::told::Told;
 use grin_syntax::{Shape, TagId, Val, VarId};
@@ -70,6 +70,7 @@ pub(crate) fn left_after(
 }
 
 // Whether a pattern fits a value with one of these tags.
+#[tactic(auto, using(crate::proofs::Loops::any_number))]
 fn pattern_may_match(tags: &[TagId], pattern: &Shape) -> bool
     ensures { result ≡ pattern_may_match (map (λ t. t.0) tags.now) pattern.now }
 {
@@ -81,14 +82,9 @@ fn pattern_may_match(tags: &[TagId], pattern: &Shape) -> bool
 }
 
 fn is_among(tags: &[TagId], tag: TagId) -> bool
-    ensures { result ≡ is_among tag.0 (map (λ t. t.0) tags.now) }
+    ensures { result ≡ list_any (λ t. nat_eq t.0 tag.0) tags.now }
 {
-    'tags: for other in tags {
-        if other.0 == tag.0 {
-            return true;
-        }
-    }
-    false
+    tags.iter().any(|other| other.0 == tag.0)
 }
 
 // The tags of the values that a pattern leaves to the alternatives behind it.

@@ -9,9 +9,8 @@ ghost use Rattle.known_words.specs.KnownWords.{MadeByLeastSolution, KnownWords, 
 ghost use Rattle.known_words.specs.Told.{silent, solution_or_empty};
 
 use crate::told::Told;
-use case_simplify::FactTable;
 use grin_meaning::Pass;
-use grin_rewrite::rewrite_with_facts;
+use grin_rewrite::{FactTable, rewrite_with_facts};
 use grin_syntax::Grin;
 use least_flow::least;
 use points_to::Flow;

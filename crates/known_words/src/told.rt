@@ -6,11 +6,13 @@ ghost use Rattle.std.specs.Option.{option_map};
 ghost use Rattle.flow_system.specs.declared.fact.Place.TheVariants.{Var as var};
 ghost use Rattle.flow_system.specs.declared.fact.Part.TheVariants.{Word as word};
 ghost use Rattle.points_to.specs.Found.{found};
-ghost use Rattle.case_simplify.specs.Known.{facts_of};
+ghost use Rattle.grin_rewrite.specs.Table.{facts_of};
 ghost use Rattle.known_words.specs.Telling.{known_solution};
 ghost use Rattle.known_words.specs.Told.{sole, only_tag, told_of, literal_of, known_word, known_words, known_val, known_cell, known_cells};
 
-use case_simplify::{FactTable, Known};
+use case_simplify::Known;
+use flow_system::{Part, Place};
+use grin_rewrite::FactTable;
 use grin_syntax::{Cell, TagId, Val, VarId, Word};
 use points_to::Flow;
 use seq::Seq;
@@ -26,88 +28,91 @@ pub(crate) struct Told<'a> {
 }
 
 // The tag that is all that a variable may stand for.
-fn sole(flow: &Flow, x: VarId) -> Option<TagId>
-    ensures { option_map (λ t. t.0) result ≡ sole (found flow.now (var x.0) (word 0)) }
+fn sole(alloc: Global, flow: &Flow, x: VarId) -> Result<Option<TagId>, AllocError>
+    ensures { IfOk result (λ o. option_map (λ t. t.0) o ≡ sole (found flow.now (var x.0) (word 0))) }
 {
     if flow.holds_number(x) {
-        return None;
+        return Ok(None);
     }
-    if !flow.locs_of(x).is_empty() {
-        return None;
+    let [] = flow.locs_of(x) else {
+        return Ok(None);
+    };
+    let tags = flow.tags_in(alloc, Place::Var(x.0), Part::Word(0))?;
+    let is_alone = tags.len() == 1;
+    if !is_alone {
+        return Ok(None);
     }
-    let mut sole: Option<TagId> = None;
-    'tags: for tag in flow.nodes_of(x) {
-        if flow.holds_tag(x, *tag) {
-            match sole {
-                Some(first) => {
-                    if first.0 != tag.0 {
-                        return None;
-                    }
-                }
-                None => sole = Some(*tag),
-            }
-        }
-    }
-    sole
+    Ok(Some(tags.as_slice()[0]))
 }
 
 impl Told<'_> {
     // The tag that is all that a variable may stand for, where a solution tells that.
-    fn sole(&self, x: VarId) -> Option<TagId>
-        ensures { option_map (λ t. t.0) result ≡ sole (known_solution self.now (var x.0) (word 0)) }
+    fn sole(&self, alloc: Global, x: VarId) -> Result<Option<TagId>, AllocError>
+        ensures { IfOk result (λ o. option_map (λ t. t.0) o
+            ≡ sole (known_solution self.now (var x.0) (word 0))) }
     {
         match self.flow {
-            Some(flow) => sole(flow, x),
-            None => None,
+            Some(flow) => sole(alloc, flow, x),
+            None => Ok(None),
         }
     }
 
-    fn only_tag(&self, x: VarId) -> Option<Known>
-        ensures { result ≡ only_tag self.now.count (known_solution self.now) x.0 }
+    fn only_tag(&self, alloc: Global, x: VarId) -> Result<Option<Known>, AllocError>
+        ensures { IfOk result (λ k. k ≡ only_tag self.now.count (known_solution self.now) x.0) }
     {
-        match self.sole(x) {
+        match self.sole(alloc, x)? {
             Some(tag) => {
                 if (tag.0 as usize) < self.count {
-                    Some(Known::Tag(tag))
+                    Ok(Some(Known::Tag(tag)))
                 } else {
-                    None
+                    Ok(None)
                 }
             }
-            None => None,
+            None => Ok(None),
         }
     }
 
     // What is told of a variable, where these facts are known.
-    fn told_of(&self, facts: &FactTable, x: VarId) -> Option<Known>
-        ensures { result ≡ told_of self.now.count (known_solution self.now) (facts_of facts.now)
-            x.0 }
+    fn told_of(
+        &self,
+        alloc: Global,
+        facts: &FactTable<Known>,
+        x: VarId,
+    ) -> Result<Option<Known>, AllocError>
+        ensures { IfOk result (λ k. k ≡ told_of self.now.count (known_solution self.now)
+            (facts_of facts.now) x.0) }
     {
-        match facts.told_var(x) {
-            Some(known) => Some(known),
-            None => self.only_tag(x),
+        match facts.known_of(x) {
+            Some(known) => Ok(Some(known)),
+            None => self.only_tag(alloc, x),
         }
     }
 
     /// A word, or the literal that is told of it.
-    pub(crate) fn word(&self, facts: &FactTable, word: Word) -> Word
-        ensures { result ≡ known_word self.now.count (known_solution self.now)
-            (facts_of facts.now) word }
+    pub(crate) fn word(
+        &self,
+        alloc: Global,
+        facts: &FactTable<Known>,
+        word: Word,
+    ) -> Result<Word, AllocError>
+        ensures { IfOk result (λ w. w ≡ known_word self.now.count (known_solution self.now)
+            (facts_of facts.now) word) }
     {
         match word {
-            Word::Lit(k) => Word::Lit(k),
-            Word::Var(x) => match self.told_of(facts, x) {
-                Some(known) => literal_of(known),
-                None => Word::Var(x),
+            Word::Lit(k) => Ok(Word::Lit(k)),
+            Word::Var(x) => match self.told_of(alloc, facts, x)? {
+                Some(known) => Ok(literal_of(known)),
+                None => Ok(Word::Var(x)),
             },
-            Word::Global(i) => Word::Global(i),
-            Word::TagWord(t) => Word::TagWord(t),
+            Word::Global(i) => Ok(Word::Global(i)),
+            Word::TagWord(t) => Ok(Word::TagWord(t)),
         }
     }
 
     pub(crate) fn words(
         &self,
         alloc: Global,
-        facts: &FactTable,
+        facts: &FactTable<Known>,
         words: &[Word],
     ) -> Result<Seq<Word>, AllocError>
         ensures { IfOk result (λ ws. ws ≡ known_words self.now.count (known_solution self.now)
@@ -115,12 +120,17 @@ impl Told<'_> {
     {
         let mut made = Seq::new(alloc);
         'words: for word in words {
-            made.push(self.word(facts, *word))?;
+            made.push(self.word(alloc, facts, *word)?)?;
         }
         Ok(made)
     }
 
-    pub(crate) fn val(&self, alloc: Global, facts: &FactTable, v: Val) -> Result<Val, AllocError>
+    pub(crate) fn val(
+        &self,
+        alloc: Global,
+        facts: &FactTable<Known>,
+        v: Val,
+    ) -> Result<Val, AllocError>
         ensures { IfOk result (λ u. u ≡ known_val self.now.count (known_solution self.now)
             (facts_of facts.now) v) }
     {
@@ -128,14 +138,14 @@ impl Told<'_> {
             Val::NodeVar(x) => Ok(Val::NodeVar(x)),
             Val::Node(t, words) => { Ok(Val::Node(t, self.words(alloc, facts, words.as_slice())?)) }
             Val::Vector(words) => Ok(Val::Vector(self.words(alloc, facts, words.as_slice())?)),
-            Val::One(word) => Ok(Val::One(self.word(facts, word))),
+            Val::One(word) => Ok(Val::One(self.word(alloc, facts, word)?)),
         }
     }
 
     pub(crate) fn known_cells(
         &self,
         alloc: Global,
-        facts: &FactTable,
+        facts: &FactTable<Known>,
         cells: Seq<Cell>,
     ) -> Result<Seq<Cell>, AllocError>
         ensures { IfOk result (λ cs. cs ≡ known_cells self.now.count (known_solution self.now)
@@ -148,7 +158,7 @@ impl Told<'_> {
         Ok(made)
     }
 
-    fn cell(&self, alloc: Global, facts: &FactTable, cell: Cell) -> Result<Cell, AllocError>
+    fn cell(&self, alloc: Global, facts: &FactTable<Known>, cell: Cell) -> Result<Cell, AllocError>
         ensures { IfOk result (λ c. c ≡ known_cell self.now.count (known_solution self.now)
             (facts_of facts.now) cell) }
     {

@@ -6,7 +6,7 @@ use Rattle.grin_syntax.specs.declared.program.Word as W
 use Rattle.grin_syntax.specs.declared.program.Val as V
 use Rattle.grin_syntax.specs.Formed.{AllOf}
 use Rattle.grin_syntax.specs.Tree as grin_tree
-use Rattle.grin_syntax.specs.Tree.{Act, leaf, unit, fetch, fetch_word, update, eval, apply, call, prim, read, write, case, nested, fail}
+use Rattle.grin_syntax.specs.Tree.{Act, leaf, unit, fetch, fetch_word, update, eval, apply, call, prim, read, write, case, nested, fail, IsLeaf}
 use Rattle.grin_meaning.specs.Values as grin
 use Rattle.grin_meaning.specs.Values.{Datum, Node, Value, node, words_of, value_of}
 use Rattle.grin_meaning.specs.Run as grin_run
@@ -31,7 +31,6 @@ use Rattle.low_translate.proofs.Matches.{free, Match, missed, fails, ran_out, gi
 use Rattle.low_translate.proofs.PlainRuns as plain
 use Rattle.seq.specs.Lists.{numbers_from, times}
 use Rattle.seq.proofs.Counted.{length_numbers}
-use Rattle.low_translate.proofs.Leaves.{IsLeaf}
 
 -- goes through variables of its own
 abbrev pub IsThrough : Act → Type 0

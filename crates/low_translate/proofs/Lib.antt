@@ -1,7 +1,6 @@
 pub mod Items
 pub mod Emitting
 pub mod Alternatives
-pub mod Leaves
 pub mod Operations
 pub mod Parents
 pub mod LastOps

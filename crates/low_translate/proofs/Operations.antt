@@ -20,7 +20,7 @@ use Rattle.grin_syntax.specs.declared.program.Stmt.TheVariants as stmt
 use Rattle.grin_syntax.specs.Binders.{numbers_of, target_vars, cell_vars}
 use Rattle.grin_syntax.specs.Formed.{AllOf}
 use Rattle.grin_syntax.specs.Tree as grin
-use Rattle.grin_syntax.specs.Tree.{Act, leaf, call, case, nested, fail, act_of, before_of, code_of, all_before}
+use Rattle.grin_syntax.specs.Tree.{Act, leaf, call, case, nested, fail, act_of, before_of, code_of, all_before, IsLeaf}
 use Rattle.grin_syntax.proofs.TreeOf as grin_tree
 use Rattle.low_code.specs.declared.program.LowStmt.{LowStmt}
 use Rattle.low_code.specs.declared.program.LowStmt.TheVariants as low_stmt
@@ -36,7 +36,6 @@ use Rattle.low_translate.specs.Emitted.{emitted, AppendsBefore, PlainDone, ActDo
 use Rattle.low_translate.proofs.Emitting.{adds_then}
 use Rattle.seq.specs.Lists.{numbers_from}
 use Rattle.seq.proofs.Counted.{length_numbers}
-use Rattle.low_translate.proofs.Leaves.{IsLeaf}
 
 -- the first variable, then the others
 pub first_done : (a b c : List LowStmt) (x : ℕ) (xs rest : List ℕ) (e : ℕ → low.Code → low.Code) → xs ≡ x ∷ rest → AppendsBefore a b (e x) → AppendsBefore b c (set_all rest []) → AppendsBefore a c (to_first xs e)

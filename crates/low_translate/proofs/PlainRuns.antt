@@ -6,7 +6,7 @@ use Rattle.grin_syntax.specs.declared.program.ProcId.{ProcId}
 use Rattle.grin_syntax.specs.declared.program.Word as W
 use Rattle.grin_syntax.specs.Formed.{AllOf}
 use Rattle.grin_syntax.specs.Tree as grin_tree
-use Rattle.grin_syntax.specs.Tree.{Act, leaf, unit, fetch, fetch_word, update, eval, apply, call, prim, read, write, case, nested, fail}
+use Rattle.grin_syntax.specs.Tree.{Act, leaf, unit, fetch, fetch_word, update, eval, apply, call, prim, read, write, case, nested, fail, IsLeaf}
 use Rattle.grin_meaning.specs.Values as grin
 use Rattle.grin_meaning.specs.Values.{Datum, Value, words_of}
 use Rattle.grin_meaning.specs.Run as grin_run
@@ -27,7 +27,6 @@ use Rattle.low_translate.proofs.Matches as m
 use Rattle.low_translate.proofs.Matches.{free, Match, missed, fails, ran_out, given, CallsMatch}
 use Rattle.low_translate.proofs.Singles as one
 use Rattle.seq.specs.Lists.{numbers_from, times}
-use Rattle.low_translate.proofs.Leaves.{IsLeaf}
 
 module _ (g : grin_tree.Program) (p : low_tree.Program) (fw : ℕ → ℕ) (most : ℕ) (rs : List ℕ) (first : ℕ) (same_globals : length p.globals ≡ length g.globals) (width : ℕ) (wide : width ≡ 1 + most_fields g.tags)
     (gcalls : grin_run.Calls) (lcalls : Calls) (calls_match : CallsMatch g p fw most rs first same_globals width wide gcalls lcalls) (top : ℕ) (under : Option ℕ) where

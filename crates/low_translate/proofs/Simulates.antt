@@ -4,7 +4,7 @@ use Rattle.std.specs.Prelude.{max}
 use Rattle.seq.proofs.Truth.{false_not_true}
 use Rattle.grin_syntax.specs.Binders.{target_vars, shape_vars, cell_vars, act_vars, code_vars, arms_vars}
 use Rattle.grin_syntax.specs.Tree as grin_tree
-use Rattle.grin_syntax.specs.Tree.{Act, leaf, call, case, nested, Code, end, store, bind, Arms, no_arm, arm}
+use Rattle.grin_syntax.specs.Tree.{Act, leaf, call, case, nested, Code, end, store, bind, Arms, no_arm, arm, IsLeaf}
 use Rattle.grin_meaning.specs.Values as grin
 use Rattle.grin_meaning.specs.Values.{Value}
 use Rattle.grin_meaning.specs.Run as grin_run
@@ -29,7 +29,6 @@ use Rattle.low_translate.proofs.EndRuns as ends
 use Rattle.low_translate.proofs.BoundRuns as binds
 use Rattle.low_translate.proofs.Choices as choices
 use Rattle.seq.specs.Lists.{times}
-use Rattle.low_translate.proofs.Leaves.{IsLeaf}
 
 module _ (g : grin_tree.Program) (rs : List ℕ) (width most first : ℕ) where
   -- what is known of the text of a piece, whose further numbers begin at n

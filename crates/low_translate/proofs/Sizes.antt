@@ -6,7 +6,7 @@ use Rattle.grin_syntax.specs.declared.program.Cell as C
 use Rattle.grin_syntax.specs.Binders.{target_vars, cell_vars}
 use Rattle.grin_syntax.specs.Formed.{AllOf}
 use Rattle.grin_syntax.specs.Tree as grin
-use Rattle.grin_syntax.specs.Tree.{Act, leaf, unit, fetch, fetch_word, update, eval, apply, call, prim, read, write, case, nested, fail, end, store, bind, no_arm, arm}
+use Rattle.grin_syntax.specs.Tree.{Act, leaf, unit, fetch, fetch_word, update, eval, apply, call, prim, read, write, case, nested, fail, end, store, bind, no_arm, arm, IsLeaf}
 use Rattle.grin_meaning.specs.Ready.{EachAct, EachCode, EachArms, narrow_kind}
 use Rattle.grin_meaning.specs.Slim.{target_weight, act_weight, code_weight, arms_weight, procs_weight}
 use Rattle.low_code.specs.declared.program.Operand.{Operand}
@@ -20,7 +20,6 @@ use Rattle.low_translate.proofs.Parts.{words_many, sets_size, word_size, loads_s
 use Rattle.seq.specs.Lists.{numbers_from}
 use Rattle.seq.proofs.Counted.{length_numbers}
 use Rattle.grin_syntax.proofs.Counted.{length_numbers as numbers_many}
-use Rattle.low_translate.proofs.Leaves.{IsLeaf}
 
 cells_many : (cs : List C.Cell) → length (cell_vars cs) ≡ length cs
 cells_many [] = refl

@@ -1,7 +1,6 @@
 -- What the walk from a block's end keeps.
-use Rattle.std.proofs.Common.{◌≡◌, ℕ, Bool, List, [], ◌∷◌, ◌++◌, map, length, drop, Option, None, refl, sym, ap, ◌∙◌}
+use Rattle.std.proofs.Common.{◌≡◌, ℕ, List, [], ◌∷◌, ◌++◌, map, length, drop, refl, sym, ap, ◌∙◌}
 use mathlib.Core.List.{reverse, reverse_aux}
-use Rattle.std.proofs.lemmas.List.{reverse-reverse}
 use Rattle.seq.proofs.Lists.{append_again, append_nil, map_push}
 use Rattle.grin_syntax.specs.declared.program.Val.{Val}
 use Rattle.grin_syntax.specs.declared.program.Alt.{Alt}

@@ -1,14 +1,13 @@
 -- A program without words that nobody reads stays well formed.
-use Rattle.std.proofs.Common.{◌≡◌, ℕ, zero, suc, ◌+◌, ◌≤◌, Bool, true, false, cond, nat_eq, List, [], ◌∷◌, ◌++◌, map, length, Option, Some, None, refl, sym, ap, ◌∙◌, subst, arith}
+use Rattle.std.proofs.Common.{◌≡◌, ℕ, zero, suc, ◌+◌, ◌≤◌, Bool, true, false, cond, nat_eq, List, [], ◌∷◌, ◌++◌, map, length, Some, None, refl, sym, ap, ◌∙◌, subst, arith}
 use Rattle.std.proofs.lemmas.List.{length-map}
 use Rattle.std.proofs.lemmas.Option.{slice_get-map}
 use Rattle.std.specs.Option.{option_map}
 use Rattle.seq.specs.Lists.{times, is_among}
 use Rattle.seq.proofs.Order.{eq_from}
-use Rattle.seq.proofs.Truth.{not_both, true_not_false}
-use Rattle.seq.proofs.Counted.{times_fewer, times_append, among_first, counts}
+use Rattle.seq.proofs.Truth.{true_not_false}
+use Rattle.seq.proofs.Counted.{times_fewer, times_append, counts}
 use Rattle.grin_syntax.specs.declared.program.VarId.{VarId}
-use Rattle.grin_syntax.specs.declared.program.Cell.{Cell}
 use Rattle.grin_syntax.specs.declared.program.Target.{Target}
 use Rattle.grin_syntax.specs.declared.program.Target.TheVariants as to
 use Rattle.grin_syntax.specs.declared.program.Word as W
@@ -16,17 +15,15 @@ use Rattle.grin_syntax.specs.declared.program.Val as V
 use Rattle.grin_syntax.specs.declared.program.Val.TheVariants.{NodeVar, Node, Vector, One}
 use Rattle.grin_syntax.specs.Tree.{Code, end, store, bind, Act, leaf, unit, fetch, fetch_word, update, eval, apply, call, prim, read, write, case, nested, fail, Arms, no_arm, arm, Procedure, Program}
 use Rattle.grin_syntax.specs.Binders.{numbers_of, target_vars, shape_vars, cell_vars, act_vars, code_vars, arms_vars, procs_vars, act_sites, code_sites, arms_sites, procs_sites}
-use Rattle.grin_syntax.specs.Formed.{AllOf, Scope, InScope, with_word_variables, with_target, params_scope, WordFormed, ValFormed, CellFormed, ActFormed, CodeFormed, ArmsFormed, ProcedureFormed, Formed}
+use Rattle.grin_syntax.specs.Formed.{AllOf, Scope, InScope, with_word_variables, params_scope, WordFormed, ValFormed, ActFormed, CodeFormed, ArmsFormed, ProcedureFormed, Formed}
 use Rattle.grin_syntax.specs.SameOutside.{names_of, DifferOnlyInBodies}
 use Rattle.grin_syntax.proofs.Scopes.{with_procs, known_again, shape_stays, same_sites, formed_with}
 use Rattle.grin_meaning.specs.Ready.{NoNodeTarget, NoNodeVar, EachAct, EachCode, EachArms, EveryBodyIsOfKind, vectorised_kind}
 use Rattle.grin_meaning.specs.Rewritten.{rewritten_procedure}
-use Rattle.grin_meaning.proofs.Scopes.{among_in}
 use Rattle.flow_system.specs.Solution.{Solution}
-use Rattle.copy_prop.specs.Lean.{used_in_word, used_in_words, used_in_val, used_in_cells, used_in_act, used_in_code, used_in_arms}
-use Rattle.copy_prop.proofs.Held.{as_scope, target_scope}
+use Rattle.copy_prop.specs.Lean.{used_in_word, used_in_val, used_in_cells, used_in_act, used_in_code, used_in_arms}
 use Rattle.copy_prop.proofs.LeanSimulated.{Covers, covers_left, covers_right}
-use Rattle.copy_prop.proofs.LeanFormed.{Carried, carried_more, word_formed, words_formed, val_formed, cells_formed}
+use Rattle.copy_prop.proofs.LeanFormed.{as_scope, target_scope, Carried, carried_more, word_formed, words_formed, val_formed, cells_formed}
 use Rattle.narrow_vectors.specs.Picked.{picked, stay}
 use Rattle.narrow_vectors.specs.Narrow.{WordSelection, picked_val, picked_target, act_fits, word_selection, narrow_act, narrow_code, narrow_arms, narrow}
 

@@ -1,15 +1,15 @@
 -- Words that stay, in a run.
-use Rattle.std.proofs.Common.{◌≡◌, ℕ, zero, suc, ◌+◌, ◌<◌, ◌≤◌, Bool, true, false, cond, not, ◌&&◌, nat_eq, nat_le, List, [], ◌∷◌, length, drop, take, map, Option, Some, None, slice_get, refl, sym, ap, ◌∙◌, subst, arith}
+use Rattle.std.proofs.Common.{◌≡◌, ℕ, zero, suc, ◌≤◌, Bool, true, false, cond, not, ◌&&◌, nat_eq, nat_le, List, [], ◌∷◌, length, drop, take, Option, Some, None, slice_get, refl, sym, ap, ◌∙◌, subst, arith}
 use Rattle.std.proofs.lemmas.Bool.Decides.{nat_tests}
 use Rattle.seq.proofs.Lists.{none_is_some, some_is}
-use Rattle.seq.proofs.Truth.{and_left, and_right, true_not_false, not_true}
+use Rattle.seq.proofs.Truth.{and_left, and_right, true_not_false}
 use Rattle.seq.proofs.Order.{eq_from}
 use Rattle.grin_syntax.specs.declared.program.VarId.{VarId}
 use Rattle.grin_syntax.specs.declared.program.Tag.{Tag}
 use Rattle.grin_syntax.specs.declared.program.Word as W
 use Rattle.grin_syntax.specs.Tree.{Program}
-use Rattle.grin_meaning.specs.Values.{Datum, number, tag, cell, Node, Value, node, words, Env, and_then, Binding, with_vars, one_each, word_of, words_of, as_node}
-use Rattle.grin_meaning.specs.Checks.{is_some_and, is_none_or, is_zero, all_zero, number_then_zeros, plain_after, plain_number, is_delayed, not_delayed, is_given, is_filled}
+use Rattle.grin_meaning.specs.Values.{Datum, number, tag, cell, Node, Value, words, Env, and_then, Binding, with_vars, one_each, word_of, words_of}
+use Rattle.grin_meaning.specs.Checks.{is_none_or, is_zero, all_zero, number_then_zeros, plain_after, is_delayed, not_delayed, is_given, is_filled}
 use Rattle.grin_meaning.proofs.Plain.{Has}
 use Rattle.seq.specs.Lists.{is_among}
 use Rattle.narrow_vectors.specs.Picked.{picked, stay}

@@ -1,9 +1,7 @@
 -- A program without words that nobody reads does what the program does.
-use Rattle.std.proofs.Common.{◌≡◌, ℕ, suc, Bool, true, false, cond, not, ◌&&◌, List, [], ◌∷◌, ◌++◌, map, length, Option, Some, None, refl, sym, ap, ◌∙◌, subst, slice_get}
+use Rattle.std.proofs.Common.{◌≡◌, ℕ, suc, Bool, true, false, cond, ◌&&◌, List, [], ◌∷◌, map, length, Option, Some, None, refl, sym, ap, ◌∙◌, subst, slice_get}
 use Rattle.seq.proofs.Lists.{none_is_some, some_is}
 use Rattle.seq.proofs.Truth.{and_left, and_right, true_not_false}
-use Rattle.seq.proofs.Counted.{among_first}
-use Rattle.seq.specs.Lists.{is_among}
 use Rattle.grin_syntax.specs.declared.program.Cell.{Cell}
 use Rattle.grin_syntax.specs.declared.program.Tag.{Tag}
 use Rattle.grin_syntax.specs.declared.program.VarId.{VarId}
@@ -15,11 +13,11 @@ use Rattle.grin_syntax.specs.declared.program.Val as V
 use Rattle.grin_syntax.specs.declared.program.Val.TheVariants.{NodeVar, Node, Vector, One}
 use Rattle.grin_syntax.specs.Tree.{Code, end, store, bind, Act, Leaf, leaf, unit, fetch, fetch_word, update, eval, apply, call, prim, read, write, case, nested, fail, Arms, no_arm, arm, Procedure, Program}
 use Rattle.grin_syntax.specs.Formed.{Formed}
-use Rattle.grin_meaning.specs.Values.{Datum, Value, words, Env, HeapCell, State, and_then, Binding, with_vars, one_each, value_of, words_of, bindings_of}
+use Rattle.grin_meaning.specs.Values.{Datum, Value, words, Env, HeapCell, and_then, Binding, with_vars, one_each, value_of, words_of, bindings_of}
 use Rattle.grin_meaning.specs.Run.{Calls}
-use Rattle.grin_meaning.specs.Checks.{has_block, is_fetch, is_node_target, not_delayed, is_given, is_bound_well, fills, is_filled, is_none_or}
+use Rattle.grin_meaning.specs.Checks.{has_block, is_fetch, is_given, is_bound_well, fills, is_filled, is_none_or}
 use Rattle.grin_meaning.specs.Follows.{Same, same, HoldsInEveryState}
-use Rattle.grin_meaning.specs.Names.{ActOk, WordsOk}
+use Rattle.grin_meaning.specs.Names.{ActOk}
 use Rattle.grin_meaning.specs.Rewritten.{rewritten_procedure}
 use Rattle.grin_meaning.specs.Keeps.{Keeps, world_of}
 use Rattle.grin_meaning.specs.Looking.{checked_run, CheckedRunsNeverMissing}

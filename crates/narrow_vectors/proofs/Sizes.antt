@@ -1,5 +1,5 @@
 -- A program without words that nobody reads is no larger.
-use Rattle.std.proofs.Common.{◌≡◌, ℕ, ◌+◌, ◌≤◌, Bool, List, [], ◌∷◌, map, length, Option, Some, None, refl, arith}
+use Rattle.std.proofs.Common.{◌≡◌, ℕ, ◌+◌, ◌≤◌, List, [], ◌∷◌, map, length, Some, None, refl, arith}
 use Rattle.grin_syntax.specs.declared.program.Target.{Target}
 use Rattle.grin_syntax.specs.declared.program.Target.TheVariants as to
 use Rattle.grin_syntax.specs.declared.program.Val as V
@@ -9,7 +9,6 @@ use Rattle.grin_syntax.specs.Formed.{AllOf}
 use Rattle.grin_meaning.specs.Slim.{val_weight, target_weight, act_weight, code_weight, arms_weight, procs_weight, act_calls, code_calls, arms_calls, procs_calls, node_words, end_words, inner_words, code_words, arms_words, procedure_words}
 use Rattle.flow_system.specs.Solution.{Solution}
 use Rattle.copy_prop.specs.Lean.{used_in_code}
-use Rattle.narrow_vectors.specs.Picked.{picked}
 use Rattle.narrow_vectors.specs.Narrow.{WordSelection, picked_val, picked_target, word_selection, narrow_act, narrow_code, narrow_arms}
 use Rattle.narrow_vectors.proofs.Picks.{picked_shorter}
 use Rattle.narrow_vectors.proofs.Gives.{change}

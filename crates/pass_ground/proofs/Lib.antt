@@ -1,3 +1,4 @@
+pub mod OpenUpdates
 pub mod Tests
 pub mod Bound
 pub mod Mentions

@@ -1,7 +1,7 @@
 // A program with copies and idle statements.
 
 use crate::listings::listing_in;
-use copy_prop::{without_copies, without_idle};
+use copy_prop::{with_copies_unused, without_idle};
 use grin_syntax::list;
 use grin_text::program;
 use std::test::Fail;
@@ -91,7 +91,7 @@ fn copies_and_idle_statements_go(rt: HostRuntime) -> Result<(), Fail> {
         let g = program(rt.alloc(), text)?;
         let listing = list(rt.alloc(), &g)?;
         assert_eq!(rt; listing.as_slice(), listing_in(text));
-        let h = without_idle(rt.alloc(), without_copies(rt.alloc(), g)?)?;
+        let h = without_idle(rt.alloc(), with_copies_unused(rt.alloc(), g)?)?;
         assert_eq!(rt; list(rt.alloc(), &h)?.as_slice(), after.as_bytes());
     }
     Ok(())

@@ -8,7 +8,7 @@ ghost use Rattle.flow_system.specs.Tables.{fields_of};
 ghost use Rattle.points_to.specs.Stored.{source_value, value_in, value_at, values_in, tables_in};
 
 use flow_system::inclusion::{FlowSystem, Inclusion, Source};
-use grin_syntax::copies::copy_val;
+use grin_syntax::copies::{copy_globals, copy_tags, copy_val};
 use grin_syntax::program::{GlobalCell, Tag, Val, VarId};
 use seq::Seq;
 use std::alloc::{AllocError, Global};
@@ -72,36 +72,6 @@ impl ProgramTables {
             None => None,
         }
     }
-}
-
-fn copy_tags(alloc: Global, tags: &[Tag]) -> Result<Seq<Tag>, AllocError>
-    ensures { IfOk result (λ c. c ≡ tags.now) }
-{
-    let mut made = Seq::new(alloc);
-    for tag in tags {
-        made.push(Tag {
-            kind: tag.kind,
-            name: Seq::from_slice(alloc, tag.name.as_slice())?,
-            missing: tag.missing,
-            fields: tag.fields,
-            proc: tag.proc,
-        })?;
-    }
-    Ok(made)
-}
-
-fn copy_globals(alloc: Global, globals: &[GlobalCell]) -> Result<Seq<GlobalCell>, AllocError>
-    ensures { IfOk result (λ c. c ≡ globals.now) }
-{
-    let mut made = Seq::new(alloc);
-    for global in globals {
-        made.push(GlobalCell {
-            name: Seq::from_slice(alloc, global.name.as_slice())?,
-            site: global.site,
-            tag: global.tag,
-        })?;
-    }
-    Ok(made)
 }
 
 fn copy_params(alloc: Global, params: &[Seq<VarId>]) -> Result<Seq<Seq<VarId>>, AllocError>

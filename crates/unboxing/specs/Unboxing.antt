@@ -9,7 +9,7 @@ use Rattle.grin_syntax.specs.declared.program.Target as T
 use Rattle.grin_syntax.specs.declared.program.Target.TheVariants as to
 use Rattle.grin_syntax.specs.declared.program.Shape.{Shape}
 use Rattle.grin_syntax.specs.Tags.{tag_id}
-use Rattle.grin_syntax.specs.Tree.{Code, end, store, bind, Act, Leaf, leaf, unit, fetch, fetch_word, update, eval, apply, call, prim, read, write, case, nested, fail, Arms, no_arm, arm, Procedure, Program}
+use Rattle.grin_syntax.specs.Tree.{Code, end, store, bind, Act, Leaf, leaf, unit, case, nested, Arms, no_arm, arm, Procedure, Program}
 use Rattle.unboxing.specs.Ends.{Procedures, act_calls}
 
 -- ---- the number of a value

@@ -10,10 +10,10 @@ use Rattle.flow_system.proofs.Covered.{covers}
 use Rattle.flow_system.proofs.Starting.{formed_is_started}
 use Rattle.pass_ground.specs.OpenUpdates.{tag_variable, one_if_some, updates_with_variable_tag}
 use Rattle.pass_ground.specs.Vectors.{IsVectorForm}
-use Rattle.grin_rewrite.proofs.OpenUpdates.{sum_at_most}
+use Rattle.pass_ground.proofs.OpenUpdates.{sum_at_most}
 use Rattle.grin_rewrite.proofs.Sound.{RuleIsSound, stays, keeps, expansion_is_sound, bodies_asked, bodies_count}
 use Rattle.update_special.specs.Updates.{tags_of, special, update_leaf, updated}
-use Rattle.update_special.specs.Updated.{one_if_wide, many_tag_updates, TagIsLiteralOrMany, Updated, MadeByLeastSolution}
+use Rattle.update_special.specs.Updated.{one_if_wide, many_tag_updates, TagIsLiteralOrMany, Updated}
 use Rattle.update_special.proofs.Special.{expands, literal_or_many, counts, wide_open}
 
 module _ (g : Program) (A : Solution) (of : IsVectorForm g) (least : IsLeast (tables g) (system g) A) where
@@ -26,7 +26,7 @@ module _ (g : Program) (A : Solution) (of : IsVectorForm g) (least : IsLeast (ta
   left : updates_with_variable_tag (updated A g) ≡ many_tag_updates A g
   left = bodies_count (special T) (λ v. one_if_some (tag_variable v)) (λ v. one_if_wide T (tag_variable v)) (counts T) g.procs
 
-  whole : Updated g (updated A g)
+  pub whole : Updated g (updated A g)
   whole = record {
     stays = stays g (StateIsCovered g A) (update_leaf T) sound of (covers g A (formed_is_started g of.formed) least.solves).passed;
     solution = A;
@@ -38,14 +38,5 @@ module _ (g : Program) (A : Solution) (of : IsVectorForm g) (least : IsLeast (ta
     };
   }
 
-  kept : Keeps g (updated A g)
+  pub kept : Keeps g (updated A g)
   kept = keeps g (StateIsCovered g A) (update_leaf T) sound of (covers g A (formed_is_started g of.formed) least.solves).passed
-
-pub is_updated : (g h : Program) → IsVectorForm g → MadeByLeastSolution g h → Updated g h
-is_updated g h of m = subst (Updated g) (sym m.made) (whole g m.solution of m.least)
-
-pub is_kept : (g h : Program) → IsVectorForm g → MadeByLeastSolution g h → Keeps g h
-is_kept g h of m = subst (Keeps g) (sym m.made) (kept g m.solution of m.least)
-
-pub by_least : {g h : Program} {A : Solution} → IsLeast (tables g) (system g) A → h ≡ updated A g → MadeByLeastSolution g h
-by_least {A = A} least e = record { solution = A; least = least; made = e }

@@ -9,14 +9,17 @@ use Rattle.grin_syntax.specs.declared.program.Word.{Word}
 use Rattle.grin_syntax.specs.declared.program.Word.TheVariants.{Var}
 use Rattle.grin_syntax.specs.Tree.{Leaf, update, Program}
 use Rattle.grin_syntax.specs.Formed.{Scope, ValFormed, ActFormed}
-use Rattle.grin_meaning.specs.Values.{Datum, tag, Node, Value, node, words, Env, State, and_then, only_word, word_of}
+use Rattle.grin_meaning.specs.Values.{Datum, tag, Node, Env, State, and_then, only_word, word_of}
 use Rattle.grin_meaning.specs.Ready.{EachAct, NarrowAct, NoNodeVar}
+use Rattle.flow_system.specs.declared.fact.Element.{Element as AbstractWord}
 use Rattle.flow_system.specs.declared.fact.Place.TheVariants.{Var as var}
-use Rattle.flow_system.specs.Solution.{Solution, At}
-use Rattle.flow_system.specs.Covers.{StateIsCovered, ValueIn}
-use Rattle.flow_system.proofs.Lying.{from_some}
+use Rattle.flow_system.specs.declared.fact.Part.TheVariants.{Word as word}
+use Rattle.flow_system.specs.Tables.{tables}
+use Rattle.flow_system.specs.Solution.{Solution, At, StandsFor, variable}
+use Rattle.flow_system.specs.Covers.{StateIsCovered, DatumIn}
+use Rattle.flow_system.proofs.Lying.{from_some, datum_mono, word_lies}
 use Rattle.pass_ground.specs.OpenUpdates.{tag_variable, act_update_sum, one_if_some}
-use Rattle.grin_rewrite.proofs.OpenUpdates.{head_of, TagThere, tag_there}
+use Rattle.pass_ground.proofs.OpenUpdates.{head_of, TagThere, tag_there}
 use Rattle.grin_rewrite.specs.Expanding.{Expansion}
 use Rattle.grin_rewrite.proofs.Expanded.{by_update, ValsAlike, words_alike, alike, update_alike, update_given, Expands}
 use Rattle.grin_rewrite.proofs.Sound.{Asked, Counts}
@@ -49,22 +52,17 @@ tag_alike p env (Vector (a ∷ ws)) x t e q = (sym q ∙ ap (word_of p env) (sym
 tag_alike p env (One a) x t e q = sym q ∙ ap (word_of p env) (sym (head_of a x e))
 tag_alike p env _ x t e q = cc
 
--- the tag is in the set of the variable
-pub tag_listed : (p : Program) (A : Solution) (s : State) → StateIsCovered p A s → (x : VarId) (n : Node) → TagThere p s.env x n → In n.tag (tags_of (length p.tags) A x.0)
-tag_listed p A s lies x n h = those_have (may_have_tag A x.0) n.tag (go (s.env x.0) refl h.there) 0 (length p.tags) (omega arith) (let k : n.tag < length p.tags = h.known in omega arith)
+-- the word that a variable holds is in its set
+pub word_at : (p : Program) (A : Solution) (s : State) → StateIsCovered p A s → (x : ℕ) (d : Datum) → and_then (s.env x) only_word ≡ Some d → DatumIn s.heap (At A (var x) (word 0)) d
+word_at p A s lies x d e =
+    let a : Word = Var (record { 0 = x }) in
+    datum_mono s.heap (StandsFor (tables p) A a) (At A (var x) (word 0)) in_set d (from_some (DatumIn s.heap (StandsFor (tables p) A a)) (word_of p s.env a) d (word_lies p s.heap A lies.globals s.env lies.variables a) e)
   where
-    one : (ds : List Datum) → s.env x.0 ≡ Some (words ds) → only_word (words ds) ≡ Some (tag n.tag) → may_have_tag A x.0 n.tag ≡ true
-    one [] q e = cc
-    one (d ∷ d' ∷ ds) q e = cc
-    one (d ∷ []) q e =
-        let same : d ≡ tag n.tag = cc in
-        let at : ValueIn p s.heap (At A (var x.0)) (words (tag n.tag ∷ [])) = from_some (ValueIn p s.heap (At A (var x.0))) (s.env x.0) (words (tag n.tag ∷ [])) (lies.variables x.0) (q ∙ ap (λ d. Some (words (d ∷ []))) same) in
-        at.0.there
+    in_set : (u : AbstractWord) → StandsFor (tables p) A (Var (record { 0 = x })) u → At A (var x) (word 0) u
+    in_set u (variable h) = h
 
-    go : (o : Option Value) → s.env x.0 ≡ o → and_then o only_word ≡ Some (tag n.tag) → may_have_tag A x.0 n.tag ≡ true
-    go None q e = cc
-    go (Some (node m)) q e = cc
-    go (Some (words ds)) q e = one ds q e
+pub tag_listed : (p : Program) (A : Solution) (s : State) → StateIsCovered p A s → (x : VarId) (n : Node) → TagThere p s.env x n → In n.tag (tags_of (length p.tags) A x.0)
+tag_listed p A s lies x n h = those_have (may_have_tag A x.0) n.tag (word_at p A s lies x.0 (tag n.tag) h.there).there 0 (length p.tags) (omega arith) (let k : n.tag < length p.tags = h.known in omega arith)
 
 -- ---- updates
 
@@ -138,10 +136,6 @@ module _ (T : ℕ → List ℕ) where
   pub wide_open : (v : Val) → one_if_wide T (tag_variable v) ≤ one_if_some (tag_variable v)
   wide_open v = go (tag_variable v)
     where
-      at : (b : Bool) → cond b 0 1 ≤ 1
-      at true = omega arith
-      at false = omega arith
-
       go : (o : Option VarId) → one_if_wide T o ≤ one_if_some o
       go None = omega arith
-      go (Some x) = at (nat_le (length (T x.0)) max_case_tags)
+      go (Some x) = grind arith

@@ -1,12 +1,12 @@
 // Blocks in which the updates have literal tags.
 #![tactic(auto, using(grin_syntax::proofs::TreeOf::tree_of), unfolding(grin_rewrite::specs::Rewriting::rewrite_act))]
 
-ghost use Rattle.std.specs.Prelude.{◌≡◌, ◌&&◌, [], map, nat_lt, IfOk};
+ghost use Rattle.std.specs.Prelude.{◌≡◌, ◌&&◌, [], map, length, nat_lt, nat_le, IfOk};
 ghost use Rattle.grin_syntax.specs.Tree.{act_of, arm_of};
 ghost use Rattle.points_to.specs.Found.{found};
 ghost use Rattle.pass_ground.specs.OpenUpdates.{variable_of, tag_variable};
 ghost use Rattle.update_special.specs.Known.{tags_by_solution};
-ghost use Rattle.update_special.specs.Updates.{may_have_tag, with_literal_tag, over_tags, if_few, by_variable, update_leaf};
+ghost use Rattle.update_special.specs.Updates.{may_have_tag, with_literal_tag, max_case_tags, over_tags, if_few, by_variable, update_leaf};
 ghost use Rattle.grin_rewrite.specs.Expanding.{alternative, expanded};
 ghost use Rattle.grin_syntax.specs.Tree.{update};
 
@@ -82,7 +82,7 @@ fn over_tags(alloc: Global, word: Word, value: Val, tags: Seq<TagId>) -> Result<
     ensures { IfOk result (λ o. act_of o
         ≡ expanded (update word value) (if_few word value (map (λ t. t.0) tags))) }
 {
-    if tags.len() > MOST_TAGS {
+    if !are_few(&tags) {
         return Ok(Op::Update(word, value));
     }
     let update = OpenUpdate {
@@ -91,6 +91,12 @@ fn over_tags(alloc: Global, word: Word, value: Val, tags: Seq<TagId>) -> Result<
     };
     let alts = alternatives(alloc, &update, &tags)?;
     Ok(Op::Case(value, alts))
+}
+
+fn are_few(tags: &Seq<TagId>) -> bool
+    ensures { result ≡ nat_le (length (map (λ t. t.0) tags.now)) max_case_tags }
+{
+    tags.len() <= MOST_TAGS
 }
 
 // An update whose tag is a variable.

@@ -1,4 +1,4 @@
-use Rattle.std.proofs.Common.{◌≡◌, length, arith, sym, ◌∙◌}
+use Rattle.std.proofs.Common.{arith, sym, ◌∙◌}
 use Rattle.copy_prop.proofs.Taken.{zeros_next, zeros_done}
 use Rattle.copy_prop.proofs.copies.node_words.Goals as goal
 

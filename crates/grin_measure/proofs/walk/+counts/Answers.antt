@@ -1,5 +1,5 @@
 use Rattle.std.proofs.Common.{◌≤◌, ap, refl, sym, ◌∙◌, subst, take, length}
-use Rattle.grin_syntax.specs.Tree.{act_of, before_of, code_of}
+use Rattle.grin_syntax.specs.Tree.{act_of, before_of}
 use Rattle.grin_meaning.specs.Slim.{node_words, end_words}
 use Rattle.grin_measure.specs.Counts.{counts, sum, of_cells, of_act, of_code, of_pattern, of_target}
 use Rattle.grin_measure.proofs.Loops.{Statements, no_statements, statement_more, block_counted, store_counted, bind_counted, Alternatives, no_alternatives, alternative_more, arms_counted}

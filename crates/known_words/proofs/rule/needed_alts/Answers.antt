@@ -5,12 +5,12 @@ use Rattle.seq.proofs.Lists.{map_same}
 use Rattle.known_words.proofs.Loops.{one_chosen, one_dropped, all_chosen}
 use Rattle.known_words.proofs.rule.needed_alts.Goals as goal
 
-pub loop-alt-preserved-in-Continue-branch-3 : goal.loop-alt-preserved-in-Continue-branch-3
-loop-alt-preserved-in-Continue-branch-3 c =
-    rw c.in_ok-push.ensures.ok (one_chosen _ _ _ _ _ c.loop-alt.invariant _ (sym c.is_arm_needed.ensures ∙ c.if-is_arm_needed.true) c.in_ok-left-2.ensures)
-
 pub loop-alt-preserved : goal.loop-alt-preserved
-loop-alt-preserved c = one_dropped _ _ _ _ _ c.loop-alt.invariant (sym c.is_arm_needed.ensures ∙ c.if-is_arm_needed.false)
+loop-alt-preserved c =
+    rw c.in_ok-push.ensures.ok (one_chosen _ _ _ _ _ c.loop-alt.invariant _ (sym c.is_arm_needed.ensures ∙ c.if-not-is_arm_needed.false) c.in_ok-left-2.ensures)
+
+pub loop-alt-preserved-then-not-is_arm_needed : goal.loop-alt-preserved-then-not-is_arm_needed
+loop-alt-preserved-then-not-is_arm_needed c = one_dropped _ _ _ _ _ c.loop-alt.invariant (sym c.is_arm_needed.ensures ∙ c.if-not-is_arm_needed.true)
 
 pub returns : goal.returns
 returns c =

@@ -1,4 +1,4 @@
-use Rattle.std.proofs.Common.{rules, arith, refl, sym, ap, ◌∙◌, ◌+◌, pos}
+use Rattle.std.proofs.Common.{rules, arith, refl, ap, ◌∙◌, ◌+◌}
 use Rattle.narrow_vectors.proofs.Loops.{picked_first, one_stays, one_goes, all_picked_now}
 use Rattle.narrow_vectors.proofs.picked.picked_vars.Goals as goal
 use Rattle.narrow_vectors.proofs.picked.picked_vars.Goals.{then-stays_at+in_ok-push, else-stays_at}

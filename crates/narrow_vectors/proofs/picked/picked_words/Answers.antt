@@ -1,4 +1,4 @@
-use Rattle.std.proofs.Common.{rules, arith, refl, sym, ap, ◌∙◌, ◌+◌, pos}
+use Rattle.std.proofs.Common.{rules, arith, refl, ap, ◌∙◌, ◌+◌, pos}
 use Rattle.grin_syntax.specs.declared.program.Word.TheVariants.{Lit}
 use Rattle.narrow_vectors.proofs.Loops.{picked_first, one_stays, one_goes, all_picked_now}
 use Rattle.narrow_vectors.proofs.picked.picked_words.Goals as goal

@@ -1,10 +1,9 @@
 use Rattle.std.proofs.Common.{map, sym, ap, ◌∙◌}
-use Rattle.std.specs.List.{filter}
 use Rattle.grin_syntax.specs.Tree.{program_of}
 use Rattle.points_to.specs.Found.{found}
+use Rattle.grin_rewrite.proofs.OpenedLoop.{kept_all}
 use Rattle.apply_inline.specs.Applied.{is_nonempty, meets_other}
 use Rattle.apply_inline.proofs.Filtered.{others_filtered}
-use Rattle.apply_inline.proofs.Placed.{map_all}
 use Rattle.apply_inline.proofs.Loops.{some_kept}
 use Rattle.apply_inline.proofs.known.Known.has_other.Goals as goal
 
@@ -22,4 +21,4 @@ returns c =
     let A = found c.args.self.now.flow.now in
     let ts = c.candidates-t-items.result.now in
     sym (ap is_nonempty (others_filtered p A c.args.v.now (map (λ t. t.0) ts) c.candidates-t-items.ensures
-    ∙ ap (filter (meets_other p A c.args.v.now)) (sym (map_all (λ t. t.0) ts c.loop-t.t-index c.loop-t-test.false)) ∙ c.loop-t.invariant))
+    ∙ sym (kept_all (meets_other p A c.args.v.now) ts c.loop-t.t-index c.loop-t-test.false) ∙ c.loop-t.invariant))

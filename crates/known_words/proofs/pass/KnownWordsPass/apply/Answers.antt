@@ -1,8 +1,10 @@
-use Rattle.known_words.proofs.Contract.{is_known, is_kept}
+use Rattle.known_words.proofs.Contract.{whole, kept, by_solution}
 use Rattle.known_words.proofs.pass.KnownWordsPass.apply.Goals as goal
 
 pub returns-clause-shape : goal.returns-clause-shape
-returns-clause-shape c = is_known _ _ c.requires c.in_ok-h.ensures
+returns-clause-shape c =
+    let m = c.in_ok-h.ensures in
+    record { solution = m.solution; least = m.least; by = rw m.made (whole _ m.solution c.requires (by_solution _ _ c.requires m.least)) }
 
 pub returns-clause-meaning : goal.returns-clause-meaning
-returns-clause-meaning c = is_kept _ _ c.requires c.in_ok-h.ensures
+returns-clause-meaning c = let m = c.in_ok-h.ensures in rw m.made (kept _ m.solution c.requires (by_solution _ _ c.requires m.least))

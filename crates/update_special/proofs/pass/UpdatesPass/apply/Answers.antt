@@ -1,8 +1,8 @@
-use Rattle.update_special.proofs.Contract.{is_updated, is_kept}
+use Rattle.update_special.proofs.Contract.{whole, kept}
 use Rattle.update_special.proofs.pass.UpdatesPass.apply.Goals as goal
 
 pub returns-clause-shape : goal.returns-clause-shape
-returns-clause-shape c = is_updated _ _ c.requires c.in_ok-h.ensures
+returns-clause-shape c = rw c.in_ok-h.ensures.made (whole _ _ c.requires c.in_ok-h.ensures.least)
 
 pub returns-clause-meaning : goal.returns-clause-meaning
-returns-clause-meaning c = is_kept _ _ c.requires c.in_ok-h.ensures
+returns-clause-meaning c = rw c.in_ok-h.ensures.made (kept _ _ c.requires c.in_ok-h.ensures.least)

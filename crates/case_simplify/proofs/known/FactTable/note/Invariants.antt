@@ -1,6 +1,0 @@
-use Rattle.std.proofs.Common.{◌≡◌, length}
-use Rattle.case_simplify.specs.Table.{TableMatchesFacts}
-use Rattle.case_simplify.proofs.known.FactTable.note.Given as goal
-
-abbrev pub invariant-loop : goal.invariant-loop
-invariant-loop l = record { many : length l.self-inside.table.items ≡ l.counter; same : l.self-inside.facts ≡ l.initial.self-inside.facts; table : TableMatchesFacts l.self-inside.facts.items l.self-inside.table.items }
