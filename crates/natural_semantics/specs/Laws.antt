@@ -1,0 +1,47 @@
+-- What the relation says, and that the evaluator with a bound on its units says the same.
+use Rattle.std.specs.Prelude.{◌≡◌, ◌≢◌, ◌↔◌, ℕ, List}
+use Rattle.arity_check.specs.Program.{Program}
+use Rattle.arity_check.specs.Accepted.{IsValid}
+use Rattle.core_meaning.specs.Heap.{Value, Env, Delayed}
+use Rattle.core_meaning.specs.Printing.{PrintingEnd, Going, printed}
+use Rattle.headline.specs.Carries.{IsPrefixOf}
+use Rattle.arity_check.specs.Program.{Term}
+use Rattle.natural_semantics.specs.Natural.{World, Forces, Runs, Evaluates}
+use Rattle.natural_semantics.specs.Stuck.{ForceSticks, RunSticks, EvaluationSticks}
+use Rattle.natural_semantics.specs.Prints.{Prints, ProgramPrints}
+
+-- one value and one heap at most; and where there is one, nothing is met that nothing accepts
+pub record EvaluationIsFunction : Type 0 where
+  pub one_value : (p : Program) (w w' w'' : World) (env : Env) (e : Term) (u v : Value)
+      → Evaluates p w env e u w' → Evaluates p w env e v w'' → (u ≡ v) × (w' ≡ w'')
+  pub never_both : (p : Program) (w w' : World) (env : Env) (e : Term) (v : Value)
+      → Evaluates p w env e v w' → EvaluationSticks p w env e → ⊥
+
+-- a program has one output and one end at most
+abbrev pub PrintingIsFunction : Type 0
+PrintingIsFunction =
+    (p : Program) (i out out' : List ℕ) (end end' : PrintingEnd) → end ≢ Going → end' ≢ Going
+    → ProgramPrints p i out end → ProgramPrints p i out' end' → (out ≡ out') × (end ≡ end')
+
+-- Within some number of units a valid program has this output and this end exactly where the
+-- relation says so.
+abbrev pub EndsAreThoseOfTheRelation : Type 0
+EndsAreThoseOfTheRelation =
+    (p : Program) → IsValid p → (i out : List ℕ) (end : PrintingEnd) → end ≢ Going
+    → ((n : ℕ) × ((printed p i n).out ≡ out) × ((printed p i n).end ≡ end))
+    ↔ ProgramPrints p i out end
+
+-- What is put out within some number of units is derived, and what is derived is put out, or the
+-- beginning of what is, within some number of units.
+pub record OutputIsThatOfTheRelation : Type 0 where
+  pub derived : (p : Program) → IsValid p → (i : List ℕ) (n : ℕ)
+      → ProgramPrints p i (printed p i n).out Going
+  pub met : (p : Program) → IsValid p → (i out : List ℕ) → ProgramPrints p i out Going
+      → (n : ℕ) × IsPrefixOf out (printed p i n).out
+
+-- a program goes on for every number of units exactly where the relation has no end of it
+abbrev pub GoesOnWithoutDerivation : Type 0
+GoesOnWithoutDerivation =
+    (p : Program) → IsValid p → (i : List ℕ)
+    → ((n : ℕ) → (printed p i n).end ≡ Going)
+    ↔ ((out : List ℕ) (end : PrintingEnd) → end ≢ Going → ProgramPrints p i out end → ⊥)

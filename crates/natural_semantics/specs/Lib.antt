@@ -1,0 +1,4 @@
+pub mod Natural
+pub mod Stuck
+pub mod Prints
+pub mod Laws

@@ -1,0 +1,43 @@
+//! Evaluation by need as a relation, in the manner of a natural semantics, and laws that it says
+//! what the evaluator of `core_meaning` says, whose bound on units it doesn't have.
+//!
+//! It has definitions and their laws, and no call of the compiler. The laws stand in the contracts
+//! of functions without a body.
+#![tactic(auto)]
+
+ghost use Rattle.natural_semantics.specs.Laws.{EvaluationIsFunction, PrintingIsFunction, EndsAreThoseOfTheRelation, OutputIsThatOfTheRelation, GoesOnWithoutDerivation};
+
+use core_meaning::no_lookup_fails;
+
+/// An expression has one value and one heap after it at most, and where it has one, its evaluation
+/// meets nothing that nothing accepts.
+pub fn evaluation_is_function()
+    ensures { EvaluationIsFunction }
+{}
+
+/// A program has one output and one end at most.
+pub fn printing_is_function()
+    ensures { PrintingIsFunction }
+{}
+
+/// A program ends within some number of units exactly where the relation derives this output and
+/// this end.
+pub fn ends_are_those_of_the_relation()
+    ensures { EndsAreThoseOfTheRelation }
+{
+    no_lookup_fails();
+}
+
+/// What is put out within a number of units is derived, and what is derived is put out.
+pub fn output_is_that_of_the_relation()
+    ensures { OutputIsThatOfTheRelation }
+{
+    no_lookup_fails();
+}
+
+/// A program goes on within every number of units exactly where the relation derives no end.
+pub fn goes_on_without_derivation()
+    ensures { GoesOnWithoutDerivation }
+{
+    no_lookup_fails();
+}
