@@ -1,5 +1,5 @@
 -- That the pass meets its contract: the shape of what it makes, and that this keeps the program.
-use Rattle.std.proofs.Common.{◌≡◌, ℕ, ◌≤◌, sym, subst, arith}
+use Rattle.std.proofs.Common.{◌≡◌, ℕ, ◌≤◌, refl, sym, subst, arith}
 use Rattle.grin_syntax.specs.declared.program.Val.{Val}
 use Rattle.grin_syntax.specs.Tree.{Program}
 use Rattle.grin_meaning.specs.Keeps.{Keeps}
@@ -18,6 +18,7 @@ use Rattle.case_simplify.proofs.Gives.{procs_simple}
 pub is_simplified : (g h : Program) → h ≡ simplified g → IsVectorForm g → Simplified g h
 is_simplified g h e of = subst (Simplified g) (sym e) (record {
   stays = stays simplifying unchanged g nothing_known AnyState (sound g) of (λ i n. every_any _);
+  made = refl;
   simple = procs_simple g.procs;
 })
 

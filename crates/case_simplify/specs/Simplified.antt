@@ -10,6 +10,7 @@ use Rattle.grin_syntax.specs.Formed.{AllOf}
 use Rattle.pass_ground.specs.Vectors.{StaysVectorForm}
 use Rattle.case_simplify.specs.Known.{Known, Tag, Facts, nothing_known, known_first_word, known_second_word, known_after, facts_in_alternative}
 use Rattle.case_simplify.specs.Choice.{Verdict, Takes, Passes, Open, verdict}
+use Rattle.case_simplify.specs.Simple.{simplified}
 
 -- ---- cases on a known tag
 
@@ -66,7 +67,8 @@ unfoldable mutual
   SimpleArms facts v (arm s b as') =
       SimpleCode (facts_in_alternative v s facts) b × SimpleArms facts v as'
 
--- what simplifying makes of g
+-- h is g simplified, and as good an input for a pass as g
 pub record Simplified (g h : Program) : Type 0 where
   pub stays : StaysVectorForm g h
+  pub made : h ≡ simplified g
   pub simple : AllOf (λ q. SimpleCode nothing_known q.body) h.procs

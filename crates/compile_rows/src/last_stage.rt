@@ -7,9 +7,9 @@ ghost use Rattle.grin_syntax.specs.Tree.{program_of};
 ghost use Rattle.grin_meaning.specs.Slim.{Slim};
 ghost use Rattle.grin_compile.specs.Lowerable.{IsLowerable};
 
-use crate::tests::{CELLS, STACK, checked, compiled};
+use crate::tests::{CELLS, STACK, built, checked, compiled};
 use arity_check::normal::Checked;
-use grin_compile::layers_below;
+use grin_compile::{Options, build, layers_below};
 use grin_measure::{Sizes, is_slim, sizes_of};
 use grin_opt::PassName;
 use grin_stages::stage;
@@ -17,6 +17,7 @@ use grin_syntax::Grin;
 use std::alloc::Global;
 use std::test::Fail;
 use vectorised_form::vectorise_takes_inlined;
+use worked_texts::QUEENS;
 
 /// Whether a program is slim beside one of these sizes, and not too large.
 fn is_small(g: &Grin, sizes: Sizes) -> bool
@@ -69,14 +70,38 @@ fn code_of_last_stage(alloc: Global, text: &str) -> Result<Vec<u32>, Fail> {
     Ok(layers.code)
 }
 
+/// The words of the image that is built of a text.
+fn built_code(alloc: Global, text: &str) -> Result<Vec<u32>, Fail> {
+    let p = checked(alloc, text)?;
+    let options = Options {
+        cells: CELLS,
+        stack: STACK,
+    };
+    match build(alloc, &p, options) {
+        Ok(built) => Ok(built.code),
+        Err(refusal) => Err(refusal.into()),
+    }
+}
+
 #[test]
 fn code_is_that_of_the_last_stage(rt: HostRuntime) -> Result<(), Fail> {
     let alloc = rt.alloc();
     let code = code_of_last_stage(alloc, HEAD)?;
+    let built = built_code(alloc, HEAD)?;
+    assert_eq!(rt; built.as_slice(), code.as_slice());
     let made = compiled(alloc, HEAD)?;
     assert_eq!(rt; made.code.as_slice(), code.as_slice());
     // The stage before has one parameter here.
     let first = made.low.procs.get(0).ok_or("no procedure")?;
     assert_eq!(rt; first.params.len(), 2);
+    Ok(())
+}
+
+#[test]
+fn code_of_the_queens_is_that_of_their_last_stage(rt: HostRuntime) -> Result<(), Fail> {
+    let alloc = rt.alloc();
+    let code = code_of_last_stage(alloc, QUEENS)?;
+    let made = built(alloc, QUEENS)?;
+    assert_eq!(rt; made.code.as_slice(), code.as_slice());
     Ok(())
 }

@@ -8,7 +8,7 @@ use crate::listing::listed;
 use arity_check::check::check;
 use arity_check::normal::Checked;
 use core_reader::read;
-use grin_compile::{Compiled, Options, compile};
+use grin_compile::{Built, Compiled, Options, build, compile};
 use low_code::Low;
 use std::alloc::Global;
 use std::test::Fail;
@@ -233,6 +233,19 @@ fn kept(compiled: Compiled) -> Made {
     Made {
         low: compiled.low,
         code: compiled.code,
+    }
+}
+
+/// The image of a text, as the program makes it.
+pub(crate) fn built(alloc: Global, text: &str) -> Result<Built, Fail> {
+    let p = checked(alloc, text)?;
+    let options = Options {
+        cells: CELLS,
+        stack: STACK,
+    };
+    match build(alloc, &p, options) {
+        Ok(built) => Ok(built),
+        Err(refusal) => Err(refusal.into()),
     }
 }
 

@@ -1,8 +1,10 @@
 -- That the pass meets its contract: the shape of what it makes, and that this keeps the program.
-use Rattle.std.proofs.Common.{◌≡◌, ◌+◌, ◌∙◌, sym, ap, subst}
-use Rattle.grin_syntax.specs.Tree.{Program}
+use Rattle.std.proofs.Common.{◌≡◌, ℕ, ◌≤◌, List, [], ◌∷◌, ◌+◌, ◌∙◌, refl, sym, ap, subst, arith}
+use Rattle.grin_syntax.specs.Binders.{code_sites, procs_sites}
+use Rattle.grin_syntax.specs.Tree.{Procedure, Program}
 use Rattle.grin_meaning.specs.Ready.{most_value_fields, Ready, inlined_kind, without_node_fetches, vectorised_kind, narrow_kind}
 use Rattle.grin_meaning.specs.Keeps.{Keeps}
+use Rattle.grin_meaning.specs.Follows.{Same}
 use Rattle.grin_meaning.specs.Looking.{CheckedRunsNeverMissing}
 use Rattle.grin_meaning.proofs.Bodies.{AnyState, every_any}
 use Rattle.grin_meaning.proofs.Looked.{looking_law}
@@ -10,13 +12,20 @@ use Rattle.grin_meaning.proofs.Kept.{keeps_again}
 use Rattle.pass_ground.specs.Vectors.{IsVectorForm, StaysVectorForm}
 use Rattle.pass_ground.proofs.Vectors.{stays_again}
 use Rattle.grin_rewrite.specs.Table.{nothing_known}
+use Rattle.grin_rewrite.specs.WithFacts.{walk_code}
+use Rattle.grin_rewrite.proofs.KeptByWords.{sites_kept}
+use Rattle.grin_rewrite.proofs.FactText.{procs_by, kept}
 use Rattle.grin_rewrite.proofs.FactSound.{stays, keeps}
+use Rattle.seq.specs.Lists.{times}
+use Rattle.seq.proofs.Counted.{times_fewer}
 use Rattle.copy_prop.specs.Resolved.{as_word, copies_stand, resolved}
 use Rattle.copy_prop.specs.Lean.{lean}
-use Rattle.copy_prop.specs.Copied.{Copied}
-use Rattle.copy_prop.proofs.LeanSimulated.{lean_kept}
+use Rattle.copy_prop.specs.Copied.{SameHeaps, Copied}
+use Rattle.copy_prop.proofs.LeanSimulated.{lean_kept, lean_heaps}
 use Rattle.copy_prop.proofs.LeanFormed as leaned
 use Rattle.copy_prop.proofs.Standing.{sound}
+use Rattle.copy_prop.proofs.EndHeaps.{same_end_heaps}
+use Rattle.copy_prop.proofs.ResolvedRuns.{goes_likewise}
 use Rattle.copy_prop.proofs.Unused.{procs_unused}
 
 -- ---- copies
@@ -28,11 +37,30 @@ module _ (g : Program) (g_is : IsVectorForm g) where
   resolved_keeps : Keeps g (resolved g)
   resolved_keeps = keeps copies_stand as_word g nothing_known AnyState (sound g) g_is (λ i n. every_any _)
 
+  resolved_heaps : SameHeaps g (resolved g)
+  resolved_heaps i n =
+      let before = g_is.ready in let after = resolved_stays.of_vectors.ready in
+      same_end_heaps g (resolved g) i n Same (goes_likewise g g_is i n)
+      ((looking_law g before.inlined).sees before.never_missing before.runs i n)
+      ((looking_law (resolved g) after.inlined).sees after.never_missing after.runs i n)
+
+  abbrev procs_resolved : List Procedure → List Procedure
+  procs_resolved = procs_by copies_stand as_word nothing_known
+
+  no_store_new : (s : ℕ) (qs : List Procedure) → times s (procs_sites (procs_resolved qs)) ≤ times s (procs_sites qs)
+  unfolding sites_kept
+  no_store_new s [] = omega arith
+  no_store_new s (q ∷ qs) = times_fewer s (code_sites (walk_code copies_stand nothing_known q.body)) (procs_sites (procs_resolved qs)) (code_sites q.body) (procs_sites qs)
+      (kept copies_stand as_word (sound g).by (sites_kept s) ((sound g).cases (sites_kept s)) (λ f v. tt) nothing_known q.body) (no_store_new s qs)
+
 -- ---- idle statements
 
 module _ (g : Program) (g_is : IsVectorForm g) where
   lean_both : CheckedRunsNeverMissing (lean g) × Keeps g (lean g)
   lean_both = lean_kept g ((looking_law g g_is.ready.inlined).sees g_is.ready.never_missing g_is.ready.runs)
+
+  heaps_stay : SameHeaps g (lean g)
+  heaps_stay = lean_heaps g ((looking_law g g_is.ready.inlined).sees g_is.ready.never_missing g_is.ready.runs)
 
   lean_ready : Ready (lean g)
   lean_ready =
@@ -65,7 +93,10 @@ copied_program g g_is =
     let first : StaysVectorForm g (resolved g) = resolved_stays g g_is in
     record {
       stays = stays_again g (resolved g) (lean (resolved g)) first (lean_stays (resolved g) first.of_vectors);
+      made = refl;
       needed = leaned.procs_needed (resolved g).procs (procs_unused g g.procs g_is.formed.procedures g_is.vectorised g_is.formed.variables_once);
+      no_new_stores = λ s. subst (λ l. times s l ≤ times s (procs_sites g.procs)) (sym (leaned.sites_stay (resolved g).procs)) (no_store_new g g_is s g.procs);
+      heaps = λ i n. heaps_stay (resolved g) first.of_vectors i n ∙ resolved_heaps g g_is i n;
     }
 
 copied_keeps : (g : Program) → IsVectorForm g → Keeps g (lean (resolved g))

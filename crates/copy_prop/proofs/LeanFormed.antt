@@ -308,7 +308,7 @@ mutual
   arms_sites_stay no_arm = refl
   arms_sites_stay (arm s b as') = λ i. code_sites_stay b i ++ arms_sites_stay as' i
 
-sites_stay : (qs : List Procedure) → procs_sites (map (rewritten_procedure without_idle_code) qs) ≡ procs_sites qs
+pub sites_stay : (qs : List Procedure) → procs_sites (map (rewritten_procedure without_idle_code) qs) ≡ procs_sites qs
 sites_stay [] = refl
 sites_stay (q ∷ qs) = λ i. code_sites_stay q.body i ++ sites_stay qs i
 

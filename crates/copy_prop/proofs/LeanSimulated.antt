@@ -24,7 +24,9 @@ use Rattle.grin_meaning.proofs.Procedures.{BodiesFollow, no_more, one_more, side
 use Rattle.grin_meaning.proofs.Plain.{Has, IsPlain, On, having, leaf_follows, store_same, bind_same, case_same, no_arm_same, arm_same}
 use Rattle.grin_meaning.proofs.Bodies.{AnyState, every_any}
 use Rattle.grin_meaning.proofs.KeptBy.{likewise_kept, looking_kept}
+use Rattle.copy_prop.proofs.EndHeaps.{same_end_heaps}
 use Rattle.grin_meaning.proofs.OneSided.{left_follows}
+use Rattle.copy_prop.specs.Copied.{SameHeaps}
 use Rattle.copy_prop.specs.Lean.{used_in_word, used_in_words, used_in_val, used_in_cells, used_in_act, used_in_code, used_in_arms, has_no_effect, is_idle, unless, without_idle_act, without_idle_code, without_idle_arms, lean}
 use Rattle.copy_prop.proofs.Used.{none_absent}
 use Rattle.copy_prop.proofs.Bound.{others_stay, names_target}
@@ -182,3 +184,6 @@ module _ (g : Program) where
 
   pub lean_kept : CheckedRunsNeverMissing g → CheckedRunsNeverMissing (lean g) × Keeps g (lean g)
   lean_kept never = looking_kept g (lean g) never (λ i n. likewise_kept no_deeper Same (checked_run g i n) (checked_run (lean g) i n) (goes_likewise i n))
+
+  pub lean_heaps : CheckedRunsNeverMissing g → SameHeaps g (lean g)
+  lean_heaps never i n = same_end_heaps g (lean g) i n Same (goes_likewise i n) (never i n) ((lean_kept never).0 i n)

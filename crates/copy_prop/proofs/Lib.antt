@@ -1,10 +1,12 @@
 pub mod Taken
 pub mod Used
 pub mod Bound
+pub mod EndHeaps
 pub mod LeanSimulated
 pub mod Noted
 pub mod Standing
 pub mod Unused
 pub mod LeanFormed
+pub mod ResolvedRuns
 pub mod Contract
 pub mod Backward

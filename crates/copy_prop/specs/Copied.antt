@@ -1,15 +1,20 @@
 -- The shape of a program without copies and idle statements.
-use Rattle.std.specs.Prelude.{ℕ, ◌≡◌, ◌≢◌, ◌<◌, length}
+use Rattle.std.specs.Prelude.{ℕ, ◌≡◌, ◌≢◌, ◌<◌, ◌≤◌, List, length}
 use Rattle.grin_syntax.specs.declared.program.Val as V
 use Rattle.grin_syntax.specs.declared.program.Val.TheVariants.{Node, Vector, One}
 use Rattle.grin_syntax.specs.declared.program.Target.{Target}
 use Rattle.grin_syntax.specs.declared.program.Target.TheVariants as to
-use Rattle.grin_syntax.specs.Binders.{target_vars}
+use Rattle.grin_syntax.specs.Binders.{target_vars, procs_sites}
 use Rattle.grin_syntax.specs.Tree.{Code, end, store, bind, Act, leaf, unit, case, nested, Arms, no_arm, arm, Program}
 use Rattle.grin_syntax.specs.Formed.{AllOf}
 use Rattle.grin_meaning.specs.Names.{CodeOk}
+use Rattle.grin_meaning.specs.Run.{run}
+use Rattle.grin_meaning.specs.Keeps.{world_of}
 use Rattle.pass_ground.specs.Vectors.{StaysVectorForm}
 use Rattle.grin_meaning.specs.Pieces.{HasNoEffect}
+use Rattle.seq.specs.Lists.{times}
+use Rattle.copy_prop.specs.Resolved.{resolved}
+use Rattle.copy_prop.specs.Lean.{lean}
 
 -- A value has a word for each variable of a target. A vector takes a node too: its tag, its fields
 -- and then zeros. Where the words are too many or too few, a run of the statement is missing.
@@ -53,7 +58,15 @@ module _ (Ok : Target → Act → Code → Type 0) where
     BoundArms no_arm = Unit {0}
     BoundArms (arm s b as') = BoundCode b × BoundArms as'
 
--- each statement of h is needed, and h is as good an input for a pass as g
+-- the heaps are the same at the ends of runs
+abbrev pub SameHeaps : Program → Program → Type 0
+SameHeaps g h = (i : List ℕ) (n : ℕ) → (world_of (run h i n)).cells ≡ (world_of (run g i n)).cells
+
+-- h is g without its copies and idle statements. So each statement of h is needed, no store is new,
+-- the heaps are those of g, and it is as good an input for a pass
 pub record Copied (g h : Program) : Type 0 where
   pub stays : StaysVectorForm g h
+  pub made : h ≡ lean (resolved g)
   pub needed : AllOf (λ q. BoundCode IsNeeded q.body) h.procs
+  pub no_new_stores : (s : ℕ) → times s (procs_sites h.procs) ≤ times s (procs_sites g.procs)
+  pub heaps : SameHeaps g h

@@ -13,9 +13,9 @@ use Rattle.dead_store.specs.Reads.{act_reads, code_reads, arms_reads, reads_of}
 use Rattle.dead_store.specs.Without.{cells_left, act_left, code_left, arms_left, left_of}
 use Rattle.pass_ground.proofs.Walked.{Folds, all, procs_next}
 
-pub reads : (stored : ℕ → Bool) → Folds (act_reads stored) (code_reads stored) (arms_reads stored)
+pub reads : (updates_count : Bool) → Folds (act_reads updates_count) (code_reads updates_count) (arms_reads updates_count)
 unfolding act_reads
-reads stored = record { of_end = λ o. refl; of_bind = λ t o b. refl; of_none = refl; of_arm = λ s b as'. refl }
+reads updates_count = record { of_end = λ o. refl; of_bind = λ t o b. refl; of_none = refl; of_arm = λ s b as'. refl }
 
 pub left : (stays : ℕ → Bool) → Folds (act_left stays) (code_left stays) (arms_left stays)
 unfolding act_left
@@ -45,12 +45,12 @@ module _ (stays : ℕ → Bool) where
 
 -- ---- procedures
 
-read_all : (stored : ℕ → Bool) (qs : List Procedure) → all (reads stored) qs ≡ reads_of stored qs
-read_all stored [] = refl
-read_all stored (q ∷ qs) = ap (λ l. code_reads stored q.body ++ l) (read_all stored qs)
+read_all : (updates_count : Bool) (qs : List Procedure) → all (reads updates_count) qs ≡ reads_of updates_count qs
+read_all updates_count [] = refl
+read_all updates_count (q ∷ qs) = ap (λ l. code_reads updates_count q.body ++ l) (read_all updates_count qs)
 
-pub reads_next : (stored : ℕ → Bool) (ps : List Proc) (i : ℕ) (p : Proc) (old new : List Word) → i < length ps → p ≡ get_or ps i p → new ≡ old ++ code_reads stored (code_of p.body) → old ≡ reads_of stored (map procedure_of (take i ps)) → new ≡ reads_of stored (map procedure_of (take (i + 1) ps))
-reads_next stored ps i p old new lt e n o = procs_next (reads stored) ps i p old new lt e n (o ∙ sym (read_all stored (map procedure_of (take i ps)))) ∙ read_all stored (map procedure_of (take (i + 1) ps))
+pub reads_next : (updates_count : Bool) (ps : List Proc) (i : ℕ) (p : Proc) (old new : List Word) → i < length ps → p ≡ get_or ps i p → new ≡ old ++ code_reads updates_count (code_of p.body) → old ≡ reads_of updates_count (map procedure_of (take i ps)) → new ≡ reads_of updates_count (map procedure_of (take (i + 1) ps))
+reads_next updates_count ps i p old new lt e n o = procs_next (reads updates_count) ps i p old new lt e n (o ∙ sym (read_all updates_count (map procedure_of (take i ps)))) ∙ read_all updates_count (map procedure_of (take (i + 1) ps))
 
 left_all : (stays : ℕ → Bool) (qs : List Procedure) → all (left stays) qs ≡ left_of stays qs
 left_all stays [] = refl

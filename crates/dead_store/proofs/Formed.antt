@@ -19,14 +19,13 @@ use Rattle.grin_syntax.proofs.Scopes.{with_procs, known_again, shape_stays, form
 use Rattle.grin_meaning.specs.Rewritten.{rewritten_procedure}
 use Rattle.flow_system.specs.Solution.{Solution}
 use Rattle.seq.specs.Lists.{times}
-use Rattle.seq.proofs.Counted.{times_append, times_fewer}
+use Rattle.seq.proofs.Counted.{times_fewer}
 use Rattle.seq.proofs.Order.{eq_from}
 use Rattle.seq.proofs.Truth.{not_both}
-use Rattle.dead_store.specs.Reads.{is_one_of}
-use Rattle.dead_store.specs.Without.{without_word, without_val, kept_cell, updates_gone, leaves, kept_cells, store_if_any, without_act, without_code, without_arms, without_procs, is_gone, without, is_bound_by_store}
+use Rattle.dead_store.specs.Without.{without_word, without_val, kept_cell, kept_cells, store_if_any, without_act, without_code, without_arms, without_procs, is_gone, without}
 use Rattle.dead_store.proofs.Fine.{CellFine, ActFine, CodeFine, ArmsFine}
 use Rattle.dead_store.proofs.Unique.{ProcFine}
-use Rattle.dead_store.proofs.Gives.{either, names_stay}
+use Rattle.dead_store.proofs.Gives.{names_stay}
 
 module _ (stays gone : ℕ → Bool) where
   -- ---- no variable and no site is new
@@ -52,12 +51,6 @@ module _ (stays gone : ℕ → Bool) where
     store_sites (c ∷ cs) b = refl
 
     -- what is counted in the last part
-    in_last : (xs ys zs ws : List ℕ) → times y ws ≤ times y zs → times y ws ≤ times y (xs ++ (ys ++ zs))
-    in_last xs ys zs ws l =
-        let e : times y (xs ++ (ys ++ zs)) ≡ times y xs + times y (ys ++ zs) = times_append y xs (ys ++ zs) in
-        let k : times y (ys ++ zs) ≡ times y ys + times y zs = times_append y ys zs in
-        omega (arith, e, k, l)
-
     mutual
       unfolding without_act act_vars
 
@@ -67,7 +60,7 @@ module _ (stays gone : ℕ → Bool) where
       act_vars_fewer (leaf (unit v)) = omega arith
       act_vars_fewer (leaf (fetch a)) = omega arith
       act_vars_fewer (leaf (fetch_word a i)) = omega arith
-      act_vars_fewer (leaf (update a v)) = either (λ o. times y (act_vars o) ≤ 0) (is_one_of gone a) (leaf (unit (Vector []))) (leaf (update (without_word gone a) (without_val gone v))) (omega arith) (omega arith)
+      act_vars_fewer (leaf (update a v)) = omega arith
       act_vars_fewer (leaf (eval a)) = omega arith
       act_vars_fewer (leaf (apply v a)) = omega arith
       act_vars_fewer (leaf (call f ws)) = omega arith
@@ -80,10 +73,9 @@ module _ (stays gone : ℕ → Bool) where
       code_vars_fewer (end o) = act_vars_fewer o
       code_vars_fewer (store cs b) = subst (λ n. n ≤ times y (cell_vars cs ++ code_vars b)) (sym (store_vars (kept_cells stays gone cs) (without_code stays gone b)))
           (times_fewer y (cell_vars (kept_cells stays gone cs)) (code_vars (without_code stays gone b)) (cell_vars cs) (code_vars b) (cells_fewer (λ c. c.var.0) (λ c. refl) cs) (code_vars_fewer b))
-      code_vars_fewer (bind t o b) = either (λ c. times y (code_vars c) ≤ times y (target_vars t ++ (act_vars o ++ code_vars b))) (leaves gone t o) (without_code stays gone b) (bind t (without_act stays gone o) (without_code stays gone b))
-          (in_last (target_vars t) (act_vars o) (code_vars b) (code_vars (without_code stays gone b)) (code_vars_fewer b))
-          (times_fewer y (target_vars t) (act_vars (without_act stays gone o) ++ code_vars (without_code stays gone b)) (target_vars t) (act_vars o ++ code_vars b) (omega arith)
-          (times_fewer y (act_vars (without_act stays gone o)) (code_vars (without_code stays gone b)) (act_vars o) (code_vars b) (act_vars_fewer o) (code_vars_fewer b)))
+      code_vars_fewer (bind t o b) =
+          times_fewer y (target_vars t) (act_vars (without_act stays gone o) ++ code_vars (without_code stays gone b)) (target_vars t) (act_vars o ++ code_vars b) (omega arith)
+          (times_fewer y (act_vars (without_act stays gone o)) (code_vars (without_code stays gone b)) (act_vars o) (code_vars b) (act_vars_fewer o) (code_vars_fewer b))
 
       arms_vars_fewer : (as' : Arms) → times y (arms_vars (without_arms stays gone as')) ≤ times y (arms_vars as')
       arms_vars_fewer no_arm = omega arith
@@ -99,7 +91,7 @@ module _ (stays gone : ℕ → Bool) where
       act_sites_fewer (leaf (unit v)) = omega arith
       act_sites_fewer (leaf (fetch a)) = omega arith
       act_sites_fewer (leaf (fetch_word a i)) = omega arith
-      act_sites_fewer (leaf (update a v)) = either (λ o. times y (act_sites o) ≤ 0) (is_one_of gone a) (leaf (unit (Vector []))) (leaf (update (without_word gone a) (without_val gone v))) (omega arith) (omega arith)
+      act_sites_fewer (leaf (update a v)) = omega arith
       act_sites_fewer (leaf (eval a)) = omega arith
       act_sites_fewer (leaf (apply v a)) = omega arith
       act_sites_fewer (leaf (call f ws)) = omega arith
@@ -112,9 +104,8 @@ module _ (stays gone : ℕ → Bool) where
       code_sites_fewer (end o) = act_sites_fewer o
       code_sites_fewer (store cs b) = subst (λ n. n ≤ times y (map (λ c. c.site.0) cs ++ code_sites b)) (sym (store_sites (kept_cells stays gone cs) (without_code stays gone b)))
           (times_fewer y (map (λ c. c.site.0) (kept_cells stays gone cs)) (code_sites (without_code stays gone b)) (map (λ c. c.site.0) cs) (code_sites b) (cells_fewer (λ c. c.site.0) (λ c. refl) cs) (code_sites_fewer b))
-      code_sites_fewer (bind t o b) = either (λ c. times y (code_sites c) ≤ times y (act_sites o ++ code_sites b)) (leaves gone t o) (without_code stays gone b) (bind t (without_act stays gone o) (without_code stays gone b))
-          (in_last [] (act_sites o) (code_sites b) (code_sites (without_code stays gone b)) (code_sites_fewer b))
-          (times_fewer y (act_sites (without_act stays gone o)) (code_sites (without_code stays gone b)) (act_sites o) (code_sites b) (act_sites_fewer o) (code_sites_fewer b))
+      code_sites_fewer (bind t o b) =
+          times_fewer y (act_sites (without_act stays gone o)) (code_sites (without_code stays gone b)) (act_sites o) (code_sites b) (act_sites_fewer o) (code_sites_fewer b)
 
       arms_sites_fewer : (as' : Arms) → times y (arms_sites (without_arms stays gone as')) ≤ times y (arms_sites as')
       arms_sites_fewer no_arm = omega arith
@@ -208,27 +199,19 @@ module _ (stays gone : ℕ → Bool) where
     store_formed scope [] b h k = k
     store_formed scope (c ∷ cs) b h k = (h, k)
 
-    -- an update that leaves binds nothing
-    bind_formed : (scope : Scope) (t : Target) (o o' : Act) (b' : Code) → ActFormed after scope o' → CodeFormed after (with_target t scope) b' → CodeFormed after scope (cond (leaves gone t o) b' (bind t o' b'))
-    unfolding ActFormed
-    bind_formed scope to.Nothing o o' b' h k = either (CodeFormed after scope) (updates_gone gone o) b' (bind to.Nothing o' b') k (h, k)
-    bind_formed scope (to.Node x) o o' b' h k = (h, k)
-    bind_formed scope (to.One x) o o' b' h k = (h, k)
-    bind_formed scope (to.Vector xs) o o' b' h k = (h, k)
-
-    module _ (A : Solution) (g : Program) (stored : ℕ → Bool) where
-      vars_fit : (cs : List Cell) → AllOf (CellFine A g stays gone stored) cs → AllOf VarFits cs
+    module _ (A : Solution) (g : Program) where
+      vars_fit : (cs : List Cell) → AllOf (CellFine A g stays gone) cs → AllOf VarFits cs
       vars_fit [] h = tt
       vars_fit (c ∷ cs) h = (h.0.0, vars_fit cs h.1)
 
       mutual
         unfolding without_act ActFormed ActFine
 
-        act_formed : (scope scope' : Scope) → Fits scope scope' → (o : Act) → ActFine A g stays gone stored o → ActFormed p scope o → ActFormed after scope' (without_act stays gone o)
+        act_formed : (scope scope' : Scope) → Fits scope scope' → (o : Act) → ActFine A g stays gone o → ActFormed p scope o → ActFormed after scope' (without_act stays gone o)
         act_formed scope scope' w (leaf (unit v)) ok h = val_formed scope scope' w v h
         act_formed scope scope' w (leaf (fetch a)) ok h = absurd ok
         act_formed scope scope' w (leaf (fetch_word a i)) ok h = word_formed scope scope' w a h
-        act_formed scope scope' w (leaf (update a v)) ok h = either (ActFormed after scope') (is_one_of gone a) (leaf (unit (Vector []))) (leaf (update (without_word gone a) (without_val gone v))) tt (word_formed scope scope' w a h.0, val_formed scope scope' w v h.1)
+        act_formed scope scope' w (leaf (update a v)) ok h = (word_formed scope scope' w a h.0, val_formed scope scope' w v h.1)
         act_formed scope scope' w (leaf (eval a)) ok h = absurd ok
         act_formed scope scope' w (leaf (apply v a)) ok h = absurd ok
         act_formed scope scope' w (leaf (call f ws)) ok h = (known_again p procs same_count f h.0, words_formed scope scope' w ws h.1)
@@ -239,16 +222,16 @@ module _ (stays gone : ℕ → Bool) where
         act_formed scope scope' w (nested b) ok h = code_formed scope scope' w b ok h
         act_formed scope scope' w (leaf fail) ok h = tt
 
-        code_formed : (scope scope' : Scope) → Fits scope scope' → (b : Code) → CodeFine A g stays gone stored b → CodeFormed p scope b → CodeFormed after scope' (without_code stays gone b)
+        code_formed : (scope scope' : Scope) → Fits scope scope' → (b : Code) → CodeFine A g stays gone b → CodeFormed p scope b → CodeFormed after scope' (without_code stays gone b)
         code_formed scope scope' w (end o) ok h = act_formed scope scope' w o ok h
         code_formed scope scope' w (store cs b) ok h =
             let more : Fits (with_word_variables (cell_vars cs) scope) (with_word_variables (cell_vars (kept_cells stays gone cs)) scope') = fits_cells cs scope scope' (vars_fit cs ok.0) w in
             store_formed scope' (kept_cells stays gone cs) (without_code stays gone b)
             (cells_formed (with_word_variables (cell_vars cs) scope) (with_word_variables (cell_vars (kept_cells stays gone cs)) scope') more cs h.0)
             (code_formed (with_word_variables (cell_vars cs) scope) (with_word_variables (cell_vars (kept_cells stays gone cs)) scope') more b ok.1 h.1)
-        code_formed scope scope' w (bind t o b) ok h = bind_formed scope' t o (without_act stays gone o) (without_code stays gone b) (act_formed scope scope' w o ok.1 h.0) (code_formed (with_target t scope) (with_target t scope') (fits_target t scope scope' w) b ok.2 h.1)
+        code_formed scope scope' w (bind t o b) ok h = (act_formed scope scope' w o ok.1 h.0, code_formed (with_target t scope) (with_target t scope') (fits_target t scope scope' w) b ok.2 h.1)
 
-        arms_formed : (scope scope' : Scope) → Fits scope scope' → (as' : Arms) → ArmsFine A g stays gone stored as' → ArmsFormed p scope as' → ArmsFormed after scope' (without_arms stays gone as')
+        arms_formed : (scope scope' : Scope) → Fits scope scope' → (as' : Arms) → ArmsFine A g stays gone as' → ArmsFormed p scope as' → ArmsFormed after scope' (without_arms stays gone as')
         arms_formed scope scope' w no_arm ok h = tt
         arms_formed scope scope' w (arm s b as') ok h = (
           shape_stays p procs same_count s h.0,
@@ -256,7 +239,7 @@ module _ (stays gone : ℕ → Bool) where
           arms_formed scope scope' w as' ok.2 h.2,
         )
 
-      bodies_formed : (qs : List Procedure) → AllOf (ProcFine A g stays gone stored) qs → AllOf (ProcedureFormed p) qs → AllOf (ProcedureFormed after) (without_procs stays gone qs)
+      bodies_formed : (qs : List Procedure) → AllOf (ProcFine A g stays gone) qs → AllOf (ProcedureFormed p) qs → AllOf (ProcedureFormed after) (without_procs stays gone qs)
       bodies_formed [] ok h = tt
       bodies_formed (q ∷ qs) ok h = (code_formed (params_scope q) (params_scope q) (record { nodes = λ x i. i; words = λ x i n. i }) q.body ok.0.body h.0, bodies_formed qs ok.1 h.1)
 
@@ -264,10 +247,7 @@ module _ (A : Solution) (g : Program) (stays : ℕ → Bool) where
   abbrev gone : ℕ → Bool
   gone = is_gone stays g.procs
 
-  abbrev stored : ℕ → Bool
-  stored = is_bound_by_store g.procs
-
-  pub without_formed : AllOf (ProcFine A g stays gone stored) g.procs → Formed g → Formed (without stays g)
+  pub without_formed : AllOf (ProcFine A g stays gone) g.procs → Formed g → Formed (without stays g)
   without_formed ok f =
       let procs : List Procedure = without_procs stays gone g.procs in
       let count : length procs ≡ length g.procs = length-map g.procs (rewritten_procedure (without_code stays gone)) in
@@ -278,7 +258,7 @@ module _ (A : Solution) (g : Program) (stays : ℕ → Bool) where
       let l : times s (map (λ c. c.site.0) g.globals ++ procs_sites procs) ≤ times s (map (λ c. c.site.0) g.globals ++ procs_sites g.procs)
       = times_fewer s (map (λ c. c.site.0) g.globals) (procs_sites procs) (map (λ c. c.site.0) g.globals) (procs_sites g.procs) (omega arith) (procs_sites_fewer stays gone s g.procs) in
       omega (arith, o, l))
-      (bodies_formed stays gone g procs count A g stored g.procs ok f.procedures) (
+      (bodies_formed stays gone g procs count A g g.procs ok f.procedures) (
         rewritten_procedure (without_code stays gone) f.start.0,
         (slice_get-map (rewritten_procedure (without_code stays gone)) g.procs g.start.0 ∙ ap (option_map (rewritten_procedure (without_code stays gone))) f.start.1, f.start.2),
       )

@@ -11,29 +11,18 @@ use Rattle.grin_syntax.specs.Tree.{Code, end, store, bind, Act, leaf, unit, fetc
 use Rattle.grin_syntax.specs.Formed.{AllOf}
 use Rattle.grin_syntax.specs.SameOutside.{names_of}
 use Rattle.grin_meaning.specs.Ready.{EachAct, EachCode, EachArms, NoNodeVar, NarrowAct, NarrowCode, NarrowArms, val_width, PieceKind, EveryBodyIsOfKind, inlined_kind, without_node_fetches, vectorised_kind, narrow_kind}
-use Rattle.grin_meaning.specs.Slim.{val_weight, target_weight, cells_weight, act_weight, code_weight, arms_weight, procs_weight, act_calls, code_calls, arms_calls, procs_calls, node_words, end_words, inner_words, code_words, arms_words, procedure_words}
+use Rattle.grin_meaning.specs.Slim.{val_weight, cells_weight, act_weight, code_weight, arms_weight, procs_weight, act_calls, code_calls, arms_calls, procs_calls, node_words, end_words, inner_words, code_words, arms_words, procedure_words}
 use Rattle.pass_ground.specs.OpenUpdates.{variable_of, tag_variable, act_update_sum, code_update_sum, arms_update_sum, procs_update_sum, one_if_some}
 use Rattle.grin_syntax.specs.Binders.{act_sites, code_sites, arms_sites, procs_sites}
 use Rattle.seq.proofs.Lists.{all_append}
-use Rattle.dead_store.specs.Reads.{is_one_of}
-use Rattle.dead_store.specs.Without.{without_word, without_val, kept_cell, leaves, kept_cells, store_if_any, without_act, without_code, without_arms, without_procs}
-
--- what holds of two things holds of the one that a test takes
-pub either : {X : Type 0} (P : X → Type 0) (b : Bool) (x y : X) → P x → P y → P (cond b x y)
-either P true x y h k = h
-either P false x y h k = k
+use Rattle.dead_store.specs.Without.{without_word, without_val, kept_cell, kept_cells, store_if_any, without_act, without_code, without_arms, without_procs}
 
 module _ (stays gone : ℕ → Bool) where
-  -- an update, or nothing in its place
-  abbrev updated : Word → Val → Bool → Act
-  updated a v b = cond b (leaf (unit (Vector []))) (leaf (update (without_word gone a) (without_val gone v)))
-
   -- ---- what is asked of each operation and each value stays so
 
   record Stays (K : PieceKind) : Type 0 where
     pub operations : (o : Act) → K.operation o → K.operation (without_act stays gone o)
     pub values : (v : Val) → K.value v → K.value (without_val gone v)
-    pub nothing : K.value (Vector [])
 
   module _ (K : PieceKind) (s : Stays K) where
     cells_each : (cs : List Cell) → AllOf (λ c. K.value c.val) cs → AllOf (λ c. K.value c.val) (kept_cells stays gone cs)
@@ -49,11 +38,6 @@ module _ (stays gone : ℕ → Bool) where
     store_each [] b h k = k
     store_each (c ∷ cs) b h k = (h, k)
 
-    update_each : (a : Word) (v : Val) (b : Bool) → K.operation (updated a v b) → K.value (without_val gone v) → EachAct K (updated a v b)
-    unfolding EachAct
-    update_each a v true h k = (h, s.nothing)
-    update_each a v false h k = (h, k)
-
     mutual
       unfolding without_act EachAct
 
@@ -61,7 +45,7 @@ module _ (stays gone : ℕ → Bool) where
       act_each (case v as') h = (s.operations (case v as') h.0, s.values v h.1, arms_each as' h.2)
       act_each (nested b) h = (s.operations (nested b) h.0, code_each b h.1)
       act_each (leaf (unit v)) h = (s.operations (leaf (unit v)) h.0, s.values v h.1)
-      act_each (leaf (update a v)) h = update_each a v (is_one_of gone a) (s.operations (leaf (update a v)) h.0) (s.values v h.1)
+      act_each (leaf (update a v)) h = (s.operations (leaf (update a v)) h.0, s.values v h.1)
       act_each (leaf (apply v a)) h = (s.operations (leaf (apply v a)) h.0, s.values v h.1)
       act_each (leaf (fetch a)) h = s.operations (leaf (fetch a)) h
       act_each (leaf (fetch_word a i)) h = s.operations (leaf (fetch_word a i)) h
@@ -75,7 +59,7 @@ module _ (stays gone : ℕ → Bool) where
       code_each : (b : Code) → EachCode K b → EachCode K (without_code stays gone b)
       code_each (end o) h = act_each o h
       code_each (store cs b) h = store_each (kept_cells stays gone cs) (without_code stays gone b) (cells_each cs h.0) (code_each b h.1)
-      code_each (bind t o b) h = either (EachCode K) (leaves gone t o) (without_code stays gone b) (bind t (without_act stays gone o) (without_code stays gone b)) (code_each b h.2) (h.0, act_each o h.1, code_each b h.2)
+      code_each (bind t o b) h = (h.0, act_each o h.1, code_each b h.2)
 
       arms_each : (as' : Arms) → EachArms K as' → EachArms K (without_arms stays gone as')
       arms_each no_arm h = tt
@@ -87,13 +71,13 @@ module _ (stays gone : ℕ → Bool) where
 
   inlined_stays : Stays inlined_kind
   unfolding without_act
-  inlined_stays = record { operations = go; values = λ v h. h; nothing = tt }
+  inlined_stays = record { operations = go; values = λ v h. h }
     where
       go : (o : Act) → inlined_kind.operation o → inlined_kind.operation (without_act stays gone o)
       go (leaf (unit v)) h = tt
       go (leaf (fetch a)) h = tt
       go (leaf (fetch_word a i)) h = tt
-      go (leaf (update a v)) h = either inlined_kind.operation (is_one_of gone a) (leaf (unit (Vector []))) (leaf (update (without_word gone a) (without_val gone v))) tt tt
+      go (leaf (update a v)) h = tt
       go (leaf (eval a)) h = h
       go (leaf (apply v a)) h = h
       go (leaf (call f ws)) h = tt
@@ -106,13 +90,13 @@ module _ (stays gone : ℕ → Bool) where
 
   words_stay : Stays without_node_fetches
   unfolding without_act
-  words_stay = record { operations = go; values = λ v h. h; nothing = tt }
+  words_stay = record { operations = go; values = λ v h. h }
     where
       go : (o : Act) → without_node_fetches.operation o → without_node_fetches.operation (without_act stays gone o)
       go (leaf (unit v)) h = tt
       go (leaf (fetch a)) h = h
       go (leaf (fetch_word a i)) h = tt
-      go (leaf (update a v)) h = either without_node_fetches.operation (is_one_of gone a) (leaf (unit (Vector []))) (leaf (update (without_word gone a) (without_val gone v))) tt tt
+      go (leaf (update a v)) h = tt
       go (leaf (eval a)) h = tt
       go (leaf (apply v a)) h = tt
       go (leaf (call f ws)) h = tt
@@ -136,10 +120,10 @@ module _ (stays gone : ℕ → Bool) where
   procs_by_words = procs_each without_node_fetches words_stay
 
   pub procs_vectorised : (qs : List Procedure) → EveryBodyIsOfKind vectorised_kind qs → EveryBodyIsOfKind vectorised_kind (without_procs stays gone qs)
-  procs_vectorised = procs_each vectorised_kind (record { operations = λ o h. tt; values = no_node_var; nothing = tt })
+  procs_vectorised = procs_each vectorised_kind (record { operations = λ o h. tt; values = no_node_var })
 
   pub procs_narrow : (most : ℕ) (qs : List Procedure) → EveryBodyIsOfKind (narrow_kind most) qs → EveryBodyIsOfKind (narrow_kind most) (without_procs stays gone qs)
-  procs_narrow most = procs_each (narrow_kind most) (record { operations = λ o h. tt; values = λ v h. tt; nothing = tt })
+  procs_narrow most = procs_each (narrow_kind most) (record { operations = λ o h. tt; values = λ v h. tt })
 
   -- ---- how many words are given
 
@@ -162,7 +146,7 @@ module _ (stays gone : ℕ → Bool) where
       act_gives (leaf (unit v)) h = subst (λ n. n ≤ most) (sym (width_stays k v)) h
       act_gives (leaf (fetch a)) h = h
       act_gives (leaf (fetch_word a i)) h = tt
-      act_gives (leaf (update a v)) h = either (NarrowAct k most) (is_one_of gone a) (leaf (unit (Vector []))) (leaf (update (without_word gone a) (without_val gone v))) (omega arith) tt
+      act_gives (leaf (update a v)) h = tt
       act_gives (leaf (eval a)) h = tt
       act_gives (leaf (apply v a)) h = tt
       act_gives (leaf (call f ws)) h = tt
@@ -176,7 +160,7 @@ module _ (stays gone : ℕ → Bool) where
       code_gives : (b : Code) → NarrowCode k most b → NarrowCode k most (without_code stays gone b)
       code_gives (end o) h = act_gives o h
       code_gives (store cs b) h = store_gives (kept_cells stays gone cs) (without_code stays gone b) (code_gives b h)
-      code_gives (bind t o b) h = either (NarrowCode k most) (leaves gone t o) (without_code stays gone b) (bind t (without_act stays gone o) (without_code stays gone b)) (code_gives b h) (code_gives b h)
+      code_gives (bind t o b) h = code_gives b h
 
       arms_give : (as' : Arms) → NarrowArms k most as' → NarrowArms k most (without_arms stays gone as')
       arms_give no_arm h = tt
@@ -225,7 +209,7 @@ module _ (stays gone : ℕ → Bool) where
     unfolding without_act act_update_sum
 
     act_counts : (o : Act) → act_update_sum count (without_act stays gone o) ≤ act_update_sum count o
-    act_counts (leaf (update a v)) = either (λ o. act_update_sum count o ≤ count v) (is_one_of gone a) (leaf (unit (Vector []))) (leaf (update (without_word gone a) (without_val gone v))) (omega arith) (val_counts v)
+    act_counts (leaf (update a v)) = val_counts v
     act_counts (case v as') = arms_count as'
     act_counts (nested b) = code_counts b
     act_counts (leaf (unit v)) = omega arith
@@ -245,8 +229,7 @@ module _ (stays gone : ℕ → Bool) where
     code_counts (bind t o b) =
         let l : act_update_sum count (without_act stays gone o) ≤ act_update_sum count o = act_counts o in
         let k : code_update_sum count (without_code stays gone b) ≤ code_update_sum count b = code_counts b in
-        either (λ c. code_update_sum count c ≤ act_update_sum count o + code_update_sum count b) (leaves gone t o) (without_code stays gone b) (bind t (without_act stays gone o) (without_code stays gone b))
-        (omega (arith, k)) (omega (arith, l, k))
+        omega (arith, l, k)
 
     arms_count : (as' : Arms) → arms_update_sum count (without_arms stays gone as') ≤ arms_update_sum count as'
     arms_count no_arm = omega arith
@@ -291,7 +274,7 @@ module _ (stays gone : ℕ → Bool) where
     act_lighter (leaf (unit v)) = let e : val_weight (without_val gone v) ≡ val_weight v = weight_stays v in omega (arith, e)
     act_lighter (leaf (fetch a)) = omega arith
     act_lighter (leaf (fetch_word a i)) = omega arith
-    act_lighter (leaf (update a v)) = let e : val_weight (without_val gone v) ≡ val_weight v = weight_stays v in either (λ o. act_weight o ≤ 17 + val_weight v) (is_one_of gone a) (leaf (unit (Vector []))) (leaf (update (without_word gone a) (without_val gone v))) (omega arith) (omega (arith, e))
+    act_lighter (leaf (update a v)) = let e : val_weight (without_val gone v) ≡ val_weight v = weight_stays v in omega (arith, e)
     act_lighter (leaf (eval a)) = omega arith
     act_lighter (leaf (apply v a)) = let e : val_weight (without_val gone v) ≡ val_weight v = weight_stays v in omega (arith, e)
     act_lighter (leaf (call f ws)) = let e : length (map (without_word gone) ws) ≡ length ws = length-map ws (without_word gone) in omega (arith, e)
@@ -315,8 +298,7 @@ module _ (stays gone : ℕ → Bool) where
     code_lighter (bind t o b) =
         let k : act_weight (without_act stays gone o) ≤ act_weight o = act_lighter o in
         let l : code_weight (without_code stays gone b) ≤ code_weight b = code_lighter b in
-        either (λ c. code_weight c ≤ target_weight t + act_weight o + code_weight b) (leaves gone t o) (without_code stays gone b) (bind t (without_act stays gone o) (without_code stays gone b))
-        (omega (arith, l)) (omega (arith, k, l))
+        omega (arith, k, l)
 
     arms_lighter : (as' : Arms) → arms_weight (without_arms stays gone as') ≤ arms_weight as'
     arms_lighter no_arm = omega arith
@@ -344,7 +326,7 @@ module _ (stays gone : ℕ → Bool) where
     act_calls_fewer (leaf (unit v)) = omega arith
     act_calls_fewer (leaf (fetch a)) = omega arith
     act_calls_fewer (leaf (fetch_word a i)) = omega arith
-    act_calls_fewer (leaf (update a v)) = either (λ o. act_calls o ≤ 0) (is_one_of gone a) (leaf (unit (Vector []))) (leaf (update (without_word gone a) (without_val gone v))) (omega arith) (omega arith)
+    act_calls_fewer (leaf (update a v)) = omega arith
     act_calls_fewer (leaf (eval a)) = omega arith
     act_calls_fewer (leaf (apply v a)) = omega arith
     act_calls_fewer (leaf (call f ws)) = omega arith
@@ -361,8 +343,7 @@ module _ (stays gone : ℕ → Bool) where
     code_calls_fewer (bind t o b) =
         let k : act_calls (without_act stays gone o) ≤ act_calls o = act_calls_fewer o in
         let l : code_calls (without_code stays gone b) ≤ code_calls b = code_calls_fewer b in
-        either (λ c. code_calls c ≤ act_calls o + code_calls b) (leaves gone t o) (without_code stays gone b) (bind t (without_act stays gone o) (without_code stays gone b))
-        (omega (arith, l)) (omega (arith, k, l))
+        omega (arith, k, l)
 
     arms_calls_fewer : (as' : Arms) → arms_calls (without_arms stays gone as') ≤ arms_calls as'
     arms_calls_fewer no_arm = omega arith
@@ -396,7 +377,7 @@ module _ (stays gone : ℕ → Bool) where
   node_words_stay (leaf (unit v)) = (refl, refl)
   node_words_stay (leaf (fetch a)) = (refl, refl)
   node_words_stay (leaf (fetch_word a i)) = (refl, refl)
-  node_words_stay (leaf (update a v)) = either (λ o. (node_words o ≡ 0) × (end_words o ≡ 1)) (is_one_of gone a) (leaf (unit (Vector []))) (leaf (update (without_word gone a) (without_val gone v))) (refl, refl) (refl, refl)
+  node_words_stay (leaf (update a v)) = (refl, refl)
   node_words_stay (leaf (eval a)) = (refl, refl)
   node_words_stay (leaf (apply v a)) = (refl, refl)
   node_words_stay (leaf (call f ws)) = (refl, refl)
@@ -416,7 +397,7 @@ module _ (stays gone : ℕ → Bool) where
     act_fewer (leaf (unit v)) = omega arith
     act_fewer (leaf (fetch a)) = omega arith
     act_fewer (leaf (fetch_word a i)) = omega arith
-    act_fewer (leaf (update a v)) = either (λ o. inner_words o ≤ 0) (is_one_of gone a) (leaf (unit (Vector []))) (leaf (update (without_word gone a) (without_val gone v))) (omega arith) (omega arith)
+    act_fewer (leaf (update a v)) = omega arith
     act_fewer (leaf (eval a)) = omega arith
     act_fewer (leaf (apply v a)) = omega arith
     act_fewer (leaf (call f ws)) = omega arith
@@ -439,8 +420,7 @@ module _ (stays gone : ℕ → Bool) where
         let e : node_words (without_act stays gone o) ≡ node_words o = (node_words_stay o).0 in
         let k : inner_words (without_act stays gone o) ≤ inner_words o = act_fewer o in
         let l : code_words (without_code stays gone b) ≤ code_words b = code_fewer b in
-        either (λ c. code_words c ≤ target_weight t + node_words o + inner_words o + code_words b) (leaves gone t o) (without_code stays gone b) (bind t (without_act stays gone o) (without_code stays gone b))
-        (omega (arith, l)) (omega (arith, e, k, l))
+        omega (arith, e, k, l)
 
     arms_fewer : (as' : Arms) → arms_words (without_arms stays gone as') ≤ arms_words as'
     arms_fewer no_arm = omega arith
@@ -485,7 +465,7 @@ module _ (stays gone : ℕ → Bool) where
     act_sites_stay (leaf (unit v)) = tt
     act_sites_stay (leaf (fetch a)) = tt
     act_sites_stay (leaf (fetch_word a i)) = tt
-    act_sites_stay (leaf (update a v)) = either (λ o. AllOf StaysAt (act_sites o)) (is_one_of gone a) (leaf (unit (Vector []))) (leaf (update (without_word gone a) (without_val gone v))) tt tt
+    act_sites_stay (leaf (update a v)) = tt
     act_sites_stay (leaf (eval a)) = tt
     act_sites_stay (leaf (apply v a)) = tt
     act_sites_stay (leaf (call f ws)) = tt
@@ -497,8 +477,8 @@ module _ (stays gone : ℕ → Bool) where
     code_sites_stay : (b : Code) → AllOf StaysAt (code_sites (without_code stays gone b))
     code_sites_stay (end o) = act_sites_stay o
     code_sites_stay (store cs b) = store_stays (kept_cells stays gone cs) (without_code stays gone b) (cells_left_stay cs) (code_sites_stay b)
-    code_sites_stay (bind t o b) = either (λ c. AllOf StaysAt (code_sites c)) (leaves gone t o) (without_code stays gone b) (bind t (without_act stays gone o) (without_code stays gone b))
-        (code_sites_stay b) (all_append StaysAt (act_sites (without_act stays gone o)) (code_sites (without_code stays gone b)) (act_sites_stay o) (code_sites_stay b))
+    code_sites_stay (bind t o b) =
+        all_append StaysAt (act_sites (without_act stays gone o)) (code_sites (without_code stays gone b)) (act_sites_stay o) (code_sites_stay b)
 
     arms_sites_stay : (as' : Arms) → AllOf StaysAt (arms_sites (without_arms stays gone as'))
     arms_sites_stay no_arm = tt

@@ -96,14 +96,6 @@ module _ (stays : ℕ → Bool) where
         go true r = ap (λ l. cell_to c ∷ l) r
         go false r = r
 
-    -- what a cell that leaves holds isn't kept
-    pub left_set : (h : List HeapCell) (i : ℕ) (y : HeapCell) (n : Node) → slice_get h i ≡ Some y → stays y.site ≡ false → kept_with stays f (slice_set h i (record { site = y.site; node = n })) ≡ kept_with stays f h
-    left_set [] i y n e s = none_is_some e
-    left_set (c ∷ h) zero y n e s =
-        ap (λ b. cond b (cell_to (record { site = y.site; node = n }) ∷ kept_with stays f h) (kept_with stays f h)) s
-        ∙ sym (ap (λ b. cond b (cell_to c ∷ kept_with stays f h) (kept_with stays f h)) (ap (λ z. stays z.site) (some_is e) ∙ s))
-    left_set (c ∷ h) (suc i) y n e s = ap (λ l. cond (stays c.site) (cell_to c ∷ l) l) (left_set h i y n e s)
-
   pub stays_get : (h F : List HeapCell) (i : ℕ) (y : HeapCell) → Begins h F → slice_get h i ≡ Some y → stays_at stays F i ≡ stays y.site
   stays_get [] F i y b e = none_is_some e
   stays_get (c ∷ h) [] i y b e = absurd b

@@ -1,5 +1,5 @@
 -- The blocks of a procedure do the same in both programs.
-use Rattle.std.proofs.Common.{◌≡◌, ℕ, true, false, cond, not, nat_eq, ◌≤◌, Bool, List, [], ◌∷◌, ◌++◌, map, length, Option, Some, None, slice_get, slice_set, refl, sym, ap, ◌∙◌, subst, ⊎_elim}
+use Rattle.std.proofs.Common.{◌≡◌, ℕ, true, false, cond, not, nat_eq, ◌≤◌, Bool, List, [], ◌∷◌, ◌++◌, map, length, Option, Some, None, slice_get, slice_set, refl, sym, ap, ◌∙◌, subst}
 use Rattle.std.specs.Prelude.{ℤ, pos}
 use Rattle.numbers.specs.Numbers.{same_number}
 use Rattle.grin_syntax.specs.declared.program.Cell.{Cell}
@@ -10,12 +10,11 @@ use Rattle.grin_syntax.specs.declared.program.Shape.TheVariants as shape
 use Rattle.grin_syntax.specs.declared.program.Target.{Target}
 use Rattle.grin_syntax.specs.declared.program.Target.TheVariants as to
 use Rattle.grin_syntax.specs.declared.program.Val.{Val}
-use Rattle.grin_syntax.specs.declared.program.Val.TheVariants.{Vector}
 use Rattle.grin_syntax.specs.declared.program.Word.{Word}
 use Rattle.grin_syntax.specs.Tree.{Code, end, store, bind, Act, leaf, unit, fetch, fetch_word, update, eval, apply, call, prim, read, write, case, nested, fail, Arms, no_arm, arm, Procedure, Program}
 use Rattle.grin_syntax.specs.Binders.{target_vars, shape_vars}
 use Rattle.grin_syntax.specs.Formed.{AllOf}
-use Rattle.grin_meaning.specs.Values.{Datum, number, tag, cell, Node, Value, node, words, bindings_of, Env, HeapCell, World, gives, need, and_then, Binding, with_vars, fits, fits_not, number_fit, node_fit, int_fit, fit_of, word_of, as_node}
+use Rattle.grin_meaning.specs.Values.{Datum, number, tag, cell, Node, Value, node, words, Env, HeapCell, World, gives, need, and_then, Binding, with_vars, fits, fits_not, number_fit, node_fit, int_fit, fit_of, word_of, as_node}
 use Rattle.grin_meaning.specs.Run.{Calls, act_by, places, cells_of, place_of, number_of, apply_arithmetic, node_word}
 use Rattle.grin_meaning.specs.Checks.{all_fill, has_block, is_fetch}
 use Rattle.grin_meaning.specs.Follows.{Same, same}
@@ -34,17 +33,13 @@ use Rattle.flow_system.proofs.Covered.{site_is}
 use Rattle.pass_ground.proofs.Bound.{names_of, bound_names}
 use Rattle.std.proofs.lemmas.List.{append-nil}
 use Rattle.seq.proofs.Lists.{some_is, none_is_some}
-use Rattle.seq.proofs.Truth.{false_not_true}
-use Rattle.dead_store.proofs.Gives.{either}
 use Rattle.dead_store.specs.Kept.{rank, stays_at, kept_with}
-use Rattle.dead_store.specs.Reads.{is_one_of}
-use Rattle.dead_store.specs.Without.{without_word, without_val, updates_gone, leaves, kept_cells, store_if_any, without_act, without_code, without_arms}
+use Rattle.dead_store.specs.Without.{without_word, without_val, kept_cells, store_if_any, without_act, without_code, without_arms}
 use Rattle.dead_store.proofs.Renaming.{f, node_to, value_to, bindings_to, word_renamed, bindings_renamed, fit_renamed, number_renamed, bound_renamed}
-use Rattle.dead_store.proofs.Heaps.{Begins, cell_to, kept_append, kept_fewer, kept_get, kept_set, left_set, rank_length, stays_get}
+use Rattle.dead_store.proofs.Heaps.{Begins, cell_to, kept_append, kept_fewer, kept_get, kept_set, rank_length, stays_get}
 use Rattle.dead_store.proofs.Related.{Related, related_bind, GlobalsStay, word_too, words_too, value_too, node_too, fills_too, node_fills, cells_too, all_fill_too, VarFine, made_sites, places_related}
-use Rattle.dead_store.proofs.Owned.{Owned, owned_bind, owned_places, own_stays, gone_leaves}
-use Rattle.dead_store.proofs.OneStores.{store_left, DoneAlone, update_alone, unit_left, bind_left}
-use Rattle.dead_store.proofs.Fine.{WordStays, IsThere, IsOther, UpdateFine, CellFine, ActFine, CodeFine, ArmsFine}
+use Rattle.dead_store.proofs.OneStores.{store_left}
+use Rattle.dead_store.proofs.Fine.{WordStays, IsThere, CellFine, ActFine, CodeFine, ArmsFine}
 
 -- ---- a pattern without variables binds nothing
 
@@ -84,7 +79,7 @@ unfolding without_act
 block_stays stays gone (leaf (unit v)) = refl
 block_stays stays gone (leaf (fetch a)) = refl
 block_stays stays gone (leaf (fetch_word a i)) = refl
-block_stays stays gone (leaf (update a v)) = either (λ o. has_block o ≡ false) (is_one_of gone a) (leaf (unit (Vector []))) (leaf (update (without_word gone a) (without_val gone v))) refl refl
+block_stays stays gone (leaf (update a v)) = refl
 block_stays stays gone (leaf (eval a)) = refl
 block_stays stays gone (leaf (apply v a)) = refl
 block_stays stays gone (leaf (call p ws)) = refl
@@ -100,7 +95,7 @@ unfolding without_act
 fetch_stays stays gone (leaf (unit v)) = refl
 fetch_stays stays gone (leaf (fetch a)) = refl
 fetch_stays stays gone (leaf (fetch_word a i)) = refl
-fetch_stays stays gone (leaf (update a v)) = either (λ o. is_fetch o ≡ false) (is_one_of gone a) (leaf (unit (Vector []))) (leaf (update (without_word gone a) (without_val gone v))) refl refl
+fetch_stays stays gone (leaf (update a v)) = refl
 fetch_stays stays gone (leaf (eval a)) = refl
 fetch_stays stays gone (leaf (apply v a)) = refl
 fetch_stays stays gone (leaf (call p ws)) = refl
@@ -141,9 +136,9 @@ module _ (g : Program) (A : Solution) (stays gone : ℕ → Bool) (F : List Heap
   abbrev after : Program
   after = record g { procs = procs }
 
-  module _ (stored : ℕ → Bool) (globals : GlobalsStay stays gone F g) (c c' : Calls) (cb : CallsBack plan.P c) (cf : CallsFollow plan c c') where
+  module _ (globals : GlobalsStay stays gone F g) (c c' : Calls) (cb : CallsBack plan.P c) (cf : CallsFollow plan c c') where
     abbrev pub R : Relation
-    R = λ cells env env'. Related stays gone F env env' × Owned stays gone F stored env
+    R = λ cells env env'. Related stays gone F env env'
 
     -- over the values of a case
     abbrev pub RV : Value → Value → Relation
@@ -172,7 +167,7 @@ module _ (g : Program) (A : Solution) (stays gone : ℕ → Bool) (F : List Heap
       where
         go : (o : Option Datum) → word_of g x.env a ≡ o → and_then o place_of ≡ Some i → and_then (word_of after x.env' (without_word gone a)) place_of ≡ Some (rank stays F i)
         go None q e = none_is_some e
-        go (Some d) q e = ap (λ o. and_then o place_of) (word_too stays gone F g procs globals x.env x.env' x.related.0 a d q) ∙ place_becomes i d (f stays F d) e s refl
+        go (Some d) q e = ap (λ o. and_then o place_of) (word_too stays gone F g procs globals x.env x.env' x.related a d q) ∙ place_becomes i d (f stays F d) e s refl
 
     its_site_stays : (x : Here plan R) (a : Word) → WordStays A g stays a → (i : ℕ) (y : HeapCell) → and_then (word_of g x.env a) place_of ≡ Some i → slice_get x.w.cells i ≡ Some y → stays y.site ≡ true
     its_site_stays x a ok i y e q = ok y.site (subst (λ s. StandsFor (tables g) A a (cell_of s)) (site_is x.w.cells i at.0 y at.1 q) at.2)
@@ -196,9 +191,9 @@ module _ (g : Program) (A : Solution) (stays gone : ℕ → Bool) (F : List Heap
 
     unit_like : (v : Val) → NoNodeVar v → ActLike (leaf (unit v)) (leaf (unit (without_val gone v)))
     unit_like v ok = unit_follows it v (without_val gone v) (λ x y e seen. (
-      λ l. fills_too stays gone F g procs globals x.env x.env' x.related.0 v y e (seen l),
+      λ l. fills_too stays gone F g procs globals x.env x.env' x.related v y e (seen l),
       value_to stays F y,
-      value_too stays gone F g procs globals x.env x.env' x.related.0 v ok y e,
+      value_too stays gone F g procs globals x.env x.env' x.related v ok y e,
       same,
     ))
 
@@ -208,33 +203,20 @@ module _ (g : Program) (A : Solution) (stays gone : ℕ → Bool) (F : List Heap
       subst (λ d. Same (words (f stays F (node_word y.node k) ∷ [])) (words (d ∷ []))) (sym (word_renamed stays F y.node k)) same,
     ))
 
-    -- an update of a cell that stays
-    update_kept : (a : Word) (v : Val) → UpdateFine A g stays gone stored a → is_one_of gone a ≡ false → NoNodeVar v → ActLike (leaf (update a v)) (leaf (update (without_word gone a) (without_val gone v)))
-    update_kept a v ok there okv = update_follows it a (without_word gone a) v (without_val gone v) same (λ x i y e q.
-        let s : stays y.site ≡ true = ⊎_elim (λ o. sym (stays_get stays x.w.cells F i y x.known.1 q) ∙ own_stays stays gone F stored g x.env a i x.related.1 e o there) (λ w. its_site_stays x a w i y e q) ok in (
+    update_like : (a : Word) (v : Val) → WordStays A g stays a → NoNodeVar v → ActLike (leaf (update a v)) (leaf (update (without_word gone a) (without_val gone v)))
+    update_like a v ok okv = update_follows it a (without_word gone a) v (without_val gone v) same (λ x i y e q.
+        let s : stays y.site ≡ true = its_site_stays x a ok i y e q in (
           cell_at x a i y s e q,
           λ n m seen. record {
             n' = node_to stays F n;
-            made = node_too stays gone F g procs globals x.env x.env' x.related.0 v okv n m;
-            seen = λ l. node_fills stays gone F g procs globals x.env x.env' x.related.0 v n m (seen l);
+            made = node_too stays gone F g procs globals x.env x.env' x.related v okv n m;
+            seen = λ l. node_fills stays gone F g procs globals x.env x.env' x.related v n m (seen l);
             heaps = ap (λ l. slice_set l (rank stays F i) (record { site = y.site; node = node_to stays F n })) x.b.heaps ∙ sym (kept_set stays (f stays F) x.w.cells F i y n x.known.1 q s);
           },
         ))
 
-    -- and of one that leaves
-    update_goes : (a : Word) (v : Val) → is_one_of gone a ≡ true → DoneAlone it R V (leaf (update a v))
-    update_goes a v goes = update_alone it {R = R} {V = V} a v same (λ x i y e q n.
-        x.b.heaps ∙ sym (left_set stays (f stays F) x.w.cells i y n q (sym (stays_get stays x.w.cells F i y x.known.1 q) ∙ gone_leaves stays gone F g x.env x.env' a i x.related.0 e goes)))
-
-    update_like : (a : Word) (v : Val) → UpdateFine A g stays gone stored a → NoNodeVar v → ActLike (leaf (update a v)) (cond (is_one_of gone a) (leaf (unit (Vector []))) (leaf (update (without_word gone a) (without_val gone v))))
-    update_like a v ok okv = go (is_one_of gone a) refl
-      where
-        go : (b : Bool) → is_one_of gone a ≡ b → ActLike (leaf (update a v)) (cond b (leaf (unit (Vector []))) (leaf (update (without_word gone a) (without_val gone v))))
-        go true e = unit_left it {R = R} {V = V} (leaf (update a v)) (update_goes a v e)
-        go false e = update_kept a v ok e okv
-
     call_like : (p : ProcId) (ws : List Word) → ActLike (leaf (call p ws)) (leaf (call p (map (without_word gone) ws)))
-    call_like p ws = call_follows it p ws (map (without_word gone) ws) (λ x xs e. (map (f stays F) xs, words_too stays gone F g procs globals x.env x.env' x.related.0 ws xs e, same))
+    call_like p ws = call_follows it p ws (map (without_word gone) ws) (λ x xs e. (map (f stays F) xs, words_too stays gone F g procs globals x.env x.env' x.related ws xs e, same))
 
     numbers_like : (p : PrimOp) (y z : Datum) (w : World) (b : Beside compared w) → Sim plan.P compared V (need (apply_arithmetic p y z) w (λ v. gives v w)) (need (apply_arithmetic p (f stays F y) (f stays F z)) (beside b) (λ v. gives v (beside b)))
     numbers_like p (number i) (number j) w b = λ _. gives_too b same
@@ -248,10 +230,10 @@ module _ (g : Program) (A : Solution) (stays gone : ℕ → Bool) (F : List Heap
     prim_like p a b = record {
       by = λ x. need_sim plan.P compared V (word_of g x.env a) (word_of after x.env' (without_word gone a)) x.w (beside x.b) _ _ (λ y e. (
         f stays F y,
-        word_too stays gone F g procs globals x.env x.env' x.related.0 a y e,
+        word_too stays gone F g procs globals x.env x.env' x.related a y e,
         need_sim plan.P compared V (word_of g x.env b) (word_of after x.env' (without_word gone b)) x.w (beside x.b) _ _ (λ z e'. (
           f stays F z,
-          word_too stays gone F g procs globals x.env x.env' x.related.0 b z e',
+          word_too stays gone F g procs globals x.env x.env' x.related b z e',
           numbers_like p y z x.w x.b,
         )),
       ));
@@ -262,7 +244,7 @@ module _ (g : Program) (A : Solution) (stays gone : ℕ → Bool) (F : List Heap
       where
         go : (o : Option Datum) → word_of g x.env a ≡ o → and_then o number_of ≡ Some k → and_then (word_of after x.env' (without_word gone a)) number_of ≡ Some k
         go None q e = none_is_some e
-        go (Some d) q e = ap (λ o. and_then o number_of) (word_too stays gone F g procs globals x.env x.env' x.related.0 a d q) ∙ number_renamed stays F d k e
+        go (Some d) q e = ap (λ o. and_then o number_of) (word_too stays gone F g procs globals x.env x.env' x.related a d q) ∙ number_renamed stays F d k e
 
     write_like : (a : Word) → ActLike (leaf (write a)) (leaf (write (without_word gone a)))
     unfolding act_by
@@ -280,20 +262,15 @@ module _ (g : Program) (A : Solution) (stays gone : ℕ → Bool) (F : List Heap
     kept_of = kept_with stays (f stays F)
 
     -- the variables of a group, once its cells are made
-    group_related : (cs : List Cell) → AllOf (CellFine A g stays gone stored) cs → (x : Here plan R) (y : Stored it R cs x)
+    group_related : (cs : List Cell) → AllOf (CellFine A g stays gone) cs → (x : Here plan R) (y : Stored it R cs x)
         → Related stays gone F (with_vars (places (length x.w.cells) cs) x.env) (with_vars (places (length x.b.cells) (kept_cells stays gone cs)) x.env')
     group_related cs ok x y =
         let e0 : Env = with_vars (places (length x.w.cells) cs) x.env in
         let many : rank stays F (length x.w.cells) ≡ length x.b.cells = rank_length stays (f stays F) x.w.cells F x.known.1 ∙ ap length (sym x.b.heaps) in
         subst (λ k. Related stays gone F e0 (with_vars (places k (kept_cells stays gone cs)) x.env')) many
-        (places_related stays gone F g e0 cs x.w.cells y.hs (length x.w.cells) x.env x.env' refl (made_sites stays gone F g e0 cs y.hs y.cells) y.next.1 (fine_vars stays gone F cs ok).0 x.related.0)
+        (places_related stays gone F g e0 cs x.w.cells y.hs (length x.w.cells) x.env x.env' refl (made_sites stays gone F g e0 cs y.hs y.cells) y.next.1 (fine_vars stays gone F cs ok).0 x.related)
 
-    group_owned : (cs : List Cell) → AllOf (CellFine A g stays gone stored) cs → (x : Here plan R) (y : Stored it R cs x) → Owned stays gone F stored (with_vars (places (length x.w.cells) cs) x.env)
-    group_owned cs ok x y =
-        let e0 : Env = with_vars (places (length x.w.cells) cs) x.env in
-        owned_places stays gone F stored g e0 cs x.w.cells y.hs (length x.w.cells) x.env refl (made_sites stays gone F g e0 cs y.hs y.cells) y.next.1 (fine_vars stays gone F cs ok).0 x.related.1
-
-    group_there : (cs : List Cell) → AllOf (CellFine A g stays gone stored) cs → (x : Here plan R) (y : Stored it R cs x)
+    group_there : (cs : List Cell) → AllOf (CellFine A g stays gone) cs → (x : Here plan R) (y : Stored it R cs x)
         → cells_of after (with_vars (places (length x.b.cells) (kept_cells stays gone cs)) x.env') (kept_cells stays gone cs) ≡ Some (kept_of y.hs)
     group_there cs ok x y = cells_too stays gone F g procs globals (with_vars (places (length x.w.cells) cs) x.env) (with_vars (places (length x.b.cells) (kept_cells stays gone cs)) x.env')
         (group_related cs ok x y) cs (fine_vars stays gone F cs ok).1 y.hs y.cells
@@ -301,7 +278,7 @@ module _ (g : Program) (A : Solution) (stays gone : ℕ → Bool) (F : List Heap
     group_kept : (x : Here plan R) (hs : List HeapCell) → x.b.cells ++ kept_of hs ≡ kept_of (x.w.cells ++ hs)
     group_kept x hs = ap (λ l. l ++ kept_of hs) x.b.heaps ∙ sym (kept_append stays (f stays F) x.w.cells hs)
 
-    store_like : (cs : List Cell) (b b' : Code) → AllOf (CellFine A g stays gone stored) cs → CodeLike b b' → CodeLike (store cs b) (store_if_any (kept_cells stays gone cs) b')
+    store_like : (cs : List Cell) (b b' : Code) → AllOf (CellFine A g stays gone) cs → CodeLike b b' → CodeLike (store cs b) (store_if_any (kept_cells stays gone cs) b')
     store_like cs b b' ok k = go (kept_cells stays gone cs) refl
       where
         go : (ks : List Cell) → kept_cells stays gone cs ≡ ks → CodeLike (store cs b) (store_if_any ks b')
@@ -309,7 +286,7 @@ module _ (g : Program) (A : Solution) (stays gone : ℕ → Bool) (F : List Heap
             let none : kept_of y.hs ≡ [] = some_is (sym (group_there cs ok x y) ∙ ap (λ l. cells_of after (with_vars (places (length x.b.cells) l) x.env') l) q) in
             record {
               heaps = sym (append-nil x.b.cells) ∙ ap (λ l. x.b.cells ++ l) (sym none) ∙ group_kept x y.hs;
-              related = (subst (λ l. Related stays gone F (with_vars (places (length x.w.cells) cs) x.env) (with_vars (places (length x.b.cells) l) x.env')) q (group_related cs ok x y), group_owned cs ok x y);
+              related = subst (λ l. Related stays gone F (with_vars (places (length x.w.cells) cs) x.env) (with_vars (places (length x.b.cells) l) x.env')) q (group_related cs ok x y);
             })
         go (c1 ∷ ks) q = store_follows it {R = R} {R' = R} {V = V} cs (c1 ∷ ks) b b' k (λ x y. record {
           hs' = kept_of y.hs;
@@ -317,74 +294,37 @@ module _ (g : Program) (A : Solution) (stays gone : ℕ → Bool) (F : List Heap
           seen = λ l. subst (λ l. all_fill after (with_vars (places (length x.b.cells) l) x.env') l ≡ true) q
               (all_fill_too stays gone F g procs globals (with_vars (places (length x.w.cells) cs) x.env) (with_vars (places (length x.b.cells) (kept_cells stays gone cs)) x.env') (group_related cs ok x y) cs y.hs y.cells (y.seen l));
           heaps = group_kept x y.hs;
-          related = (subst (λ l. Related stays gone F (with_vars (places (length x.w.cells) cs) x.env) (with_vars (places (length x.b.cells) l) x.env')) q (group_related cs ok x y), group_owned cs ok x y);
+          related = subst (λ l. Related stays gone F (with_vars (places (length x.w.cells) cs) x.env) (with_vars (places (length x.b.cells) l) x.env')) q (group_related cs ok x y);
         })
 
     -- ---- what targets and patterns bind
 
-    binds : (t : Target) (o o' : Act) → has_block o' ≡ has_block o → is_fetch o' ≡ is_fetch o → AllOf (IsThere A g stays gone stored) (target_vars t) × AllOf (IsOther A g stays gone stored) (target_vars t)
+    binds : (t : Target) (o o' : Act) → has_block o' ≡ has_block o → is_fetch o' ≡ is_fetch o → AllOf (IsThere A g stays gone) (target_vars t)
         → (x : Here plan R) (y : Given it R V t o x) → BindsToo it R t o' x.env x.env' y.w.cells y.v' y.bs
     binds t o o' m n ok x y = go y.values
       where
-        names : AllOf (IsThere A g stays gone stored) (names_of y.bs) × AllOf (IsOther A g stays gone stored) (names_of y.bs)
-        names = subst (λ xs. AllOf (IsThere A g stays gone stored) xs × AllOf (IsOther A g stays gone stored) xs) (sym (bound_names g t y.v y.bs y.binds)) ok
+        names : AllOf (IsThere A g stays gone) (names_of y.bs)
+        names = subst (AllOf (IsThere A g stays gone)) (sym (bound_names g t y.v y.bs y.binds)) ok
 
         go : {v' : Value} → Same (value_to stays F y.v) v' → BindsToo it R t o' x.env x.env' y.w.cells v' y.bs
         go same = record {
           seen = λ l. bound_renamed stays F g t o o' y.v m n (y.seen l);
           bs' = bindings_to stays F y.bs;
           binds = bindings_renamed stays F g t y.v y.bs y.binds;
-          related = (related_bind stays gone F y.bs x.env x.env' names.0 x.related.0, owned_bind stays gone F stored y.bs x.env names.1 x.related.1);
+          related = related_bind stays gone F y.bs x.env x.env' names x.related;
         }
 
-    -- an operation that gives no words binds nothing
-    binds_nothing : (v : Value) (bs : List Binding) → bindings_of g to.Nothing v ≡ Some bs → [] ≡ bs
-    binds_nothing (node n) bs e = none_is_some e
-    binds_nothing (words []) bs e = some_is e
-    binds_nothing (words (d ∷ ds)) bs e = none_is_some e
-
-    -- a statement that leaves
-    bind_goes : (o : Act) (b b' : Code) → updates_gone gone o ≡ true → CodeLike b b' → CodeLike (bind to.Nothing o b) b'
-    bind_goes (leaf (update a v)) b b' e k = bind_left it {R = R} {R' = R} {U = V} {V = V} to.Nothing (leaf (update a v)) b b' (update_goes a v e) k
-        (λ x cells w bs q. subst (λ bs. R cells (with_vars bs x.env) x.env') (binds_nothing w bs q) x.related)
-    bind_goes (leaf (unit v)) b b' e k = false_not_true e
-    bind_goes (leaf (fetch a)) b b' e k = false_not_true e
-    bind_goes (leaf (fetch_word a i)) b b' e k = false_not_true e
-    bind_goes (leaf (eval a)) b b' e k = false_not_true e
-    bind_goes (leaf (apply v a)) b b' e k = false_not_true e
-    bind_goes (leaf (call p ws)) b b' e k = false_not_true e
-    bind_goes (leaf (prim p a d)) b b' e k = false_not_true e
-    bind_goes (leaf read) b b' e k = false_not_true e
-    bind_goes (leaf (write a)) b b' e k = false_not_true e
-    bind_goes (case v as') b b' e k = false_not_true e
-    bind_goes (nested d) b b' e k = false_not_true e
-    bind_goes (leaf fail) b b' e k = false_not_true e
-
-    bind_like : (t : Target) (o o' : Act) (b b' : Code) → has_block o' ≡ has_block o → is_fetch o' ≡ is_fetch o → AllOf (IsThere A g stays gone stored) (target_vars t) × AllOf (IsOther A g stays gone stored) (target_vars t)
-        → ActLike o o' → CodeLike b b' → CodeLike (bind t o b) (cond (leaves gone t o) b' (bind t o' b'))
-    bind_like t o o' b b' m n ok u k = go t ok
-      where
-        stays_there : (t : Target) → AllOf (IsThere A g stays gone stored) (target_vars t) × AllOf (IsOther A g stays gone stored) (target_vars t) → CodeLike (bind t o b) (bind t o' b')
-        stays_there t ok = bind_follows it {R = R} {R' = R} {U = V} {V = V} t t o o' b b' u k (binds t o o' m n ok)
-
-        by : (s : Bool) → updates_gone gone o ≡ s → CodeLike (bind to.Nothing o b) (cond s b' (bind to.Nothing o' b'))
-        by true e = bind_goes o b b' e k
-        by false e = stays_there to.Nothing (tt, tt)
-
-        go : (t : Target) → AllOf (IsThere A g stays gone stored) (target_vars t) × AllOf (IsOther A g stays gone stored) (target_vars t) → CodeLike (bind t o b) (cond (leaves gone t o) b' (bind t o' b'))
-        go to.Nothing ok = by (updates_gone gone o) refl
-        go (to.Node x) ok = stays_there (to.Node x) ok
-        go (to.One x) ok = stays_there (to.One x) ok
-        go (to.Vector xs) ok = stays_there (to.Vector xs) ok
+    bind_like : (t : Target) (o o' : Act) (b b' : Code) → has_block o' ≡ has_block o → is_fetch o' ≡ is_fetch o → AllOf (IsThere A g stays gone) (target_vars t) → ActLike o o' → CodeLike b b' → CodeLike (bind t o b) (bind t o' b')
+    bind_like t o o' b b' m n ok u k = bind_follows it {R = R} {R' = R} {U = V} {V = V} t t o o' b b' u k (binds t o o' m n ok)
 
     case_like : (v : Val) (as' bs' : Arms) → NoNodeVar v → ArmsFollow it RV V as' bs' → ActLike (case v as') (case (without_val gone v) bs')
-    case_like v as' bs' ok k = case_follows it {R = R} {U = RV} {V = V} v (without_val gone v) as' bs' k (λ x y e. (value_to stays F y, value_too stays gone F g procs globals x.env x.env' x.related.0 v ok y e, (same, x.related)))
+    case_like v as' bs' ok k = case_follows it {R = R} {U = RV} {V = V} v (without_val gone v) as' bs' k (λ x y e. (value_to stays F y, value_too stays gone F g procs globals x.env x.env' x.related v ok y e, (same, x.related)))
 
     fits_too : (s : Shape) → shape_vars s ≡ [] → (cells : List HeapCell) (env env' : Env) (v : Value) (bs : List Binding) {v' : Value} → V v v' → R cells env env' → fit_of g s v ≡ fits bs → FitsToo it R s env env' cells v' bs
     fits_too s none cells env env' v bs same r e = record {
       bs' = bindings_to stays F bs;
       fit = fit_renamed stays F g s v (fits bs) e tt;
-      related = (related_bind stays gone F bs env env' (no_variables (IsThere A g stays gone stored) g s v bs none e) r.0, owned_bind stays gone F stored bs env (no_variables (IsOther A g stays gone stored) g s v bs none e) r.1);
+      related = related_bind stays gone F bs env env' (no_variables (IsThere A g stays gone) g s v bs none e) r;
     }
 
     fits_neither : (s : Shape) (v : Value) {v' : Value} → V v v' → fit_of g s v ≡ fits_not → fit_of g s v' ≡ fits_not
@@ -400,7 +340,7 @@ module _ (g : Program) (A : Solution) (stays gone : ℕ → Bool) (F : List Heap
     mutual
       unfolding without_act ActFine
 
-      act_like : (o : Act) → ActFine A g stays gone stored o → ActLike o (without_act stays gone o)
+      act_like : (o : Act) → ActFine A g stays gone o → ActLike o (without_act stays gone o)
       act_like (leaf (unit v)) ok = unit_like v ok
       act_like (leaf (fetch a)) ok = absurd ok
       act_like (leaf (fetch_word a i)) ok = fetch_like a i ok
@@ -415,11 +355,11 @@ module _ (g : Program) (A : Solution) (stays gone : ℕ → Bool) (F : List Heap
       act_like (nested b) ok = nested_follows it {R = R} {V = V} b (without_code stays gone b) (code_like b ok)
       act_like (leaf fail) ok = fail_follows it {R = R} {V = V}
 
-      pub code_like : (b : Code) → CodeFine A g stays gone stored b → CodeLike b (without_code stays gone b)
+      pub code_like : (b : Code) → CodeFine A g stays gone b → CodeLike b (without_code stays gone b)
       code_like (end o) ok = end_follows it {R = R} {V = V} o (without_act stays gone o) (act_like o ok)
       code_like (store cs b) ok = store_like cs b (without_code stays gone b) ok.0 (code_like b ok.1)
       code_like (bind t o b) ok = bind_like t o (without_act stays gone o) b (without_code stays gone b) (block_stays stays gone o) (fetch_stays stays gone o) ok.0 (act_like o ok.1) (code_like b ok.2)
 
-      arms_like : (as' : Arms) → ArmsFine A g stays gone stored as' → ArmsFollow it RV V as' (without_arms stays gone as')
+      arms_like : (as' : Arms) → ArmsFine A g stays gone as' → ArmsFollow it RV V as' (without_arms stays gone as')
       arms_like no_arm ok = no_arm_follows it {U = RV} {V = V} no_arm
       arms_like (arm s b as') ok = arm_like s b (without_code stays gone b) as' (without_arms stays gone as') ok.0 (code_like b ok.1) (arms_like as' ok.2)

@@ -12,7 +12,7 @@ use Rattle.grin_syntax.specs.declared.program.Val.{Val}
 use Rattle.grin_syntax.specs.Tree.{Code, bind, case, arm, act_of, before_of, arm_of, all_before, arms_of}
 use Rattle.grin_syntax.proofs.TreeOf.{act_of-Case, before_of-Store, before_of-Bind}
 use Rattle.grin_syntax.proofs.Pieces.{all_before_push}
-use Rattle.dead_store.specs.Without.{without_val, kept_cell, leaves, kept_cells, store_if_any, without_act, without_code, without_arms, without_arm}
+use Rattle.dead_store.specs.Without.{without_val, kept_cell, kept_cells, store_if_any, without_act, without_code, without_arms, without_arm}
 
 -- ---- a group is put behind statements, where it has a cell
 
@@ -50,21 +50,12 @@ module _ (stays gone : ℕ → Bool) where
   pub one_more_becomes : (made more from : List Stmt) (s : Stmt) → Become made from → ((c : Code) → all_before (map before_of more) (without_code stays gone c) ≡ all_before (map before_of made) (without_code stays gone (before_of s c))) → Become more (from ++ s ∷ [])
   one_more_becomes made more from s u h = record { by = λ c. h c ∙ u.by (before_of s c) ∙ ap (without_code stays gone) (sym (all_before_push from s c)) }
 
-  -- an update that leaves
-  pub update_becomes : (made : List Stmt) (s : Stmt) (t : Target) (o : Op) (c : Code) → s ≡ Bind t o → leaves gone t (act_of o) ≡ true
-      → all_before (map before_of made) (without_code stays gone c) ≡ all_before (map before_of made) (without_code stays gone (before_of s c))
-  unfolding without_act
-  update_becomes made s t o c q n =
-      ap (λ b. all_before (map before_of made) (cond b (without_code stays gone c) (bind t (without_act stays gone (act_of o)) (without_code stays gone c)))) (sym n)
-      ∙ ap (λ f. all_before (map before_of made) (without_code stays gone (f c))) (sym (before_of-Bind t o)) ∙ ap (λ s. all_before (map before_of made) (without_code stays gone (before_of s c))) (sym q)
-
-  pub bind_becomes : (made more : List Stmt) (s : Stmt) (t : Target) (m o : Op) (c : Code) → s ≡ Bind t o → leaves gone t (act_of o) ≡ false → act_of m ≡ without_act stays gone (act_of o) → more ≡ made ++ Bind t m ∷ []
+  pub bind_becomes : (made more : List Stmt) (s : Stmt) (t : Target) (m o : Op) (c : Code) → s ≡ Bind t o → act_of m ≡ without_act stays gone (act_of o) → more ≡ made ++ Bind t m ∷ []
       → all_before (map before_of more) (without_code stays gone c) ≡ all_before (map before_of made) (without_code stays gone (before_of s c))
   unfolding without_act
-  bind_becomes made more s t m o c q n e p =
+  bind_becomes made more s t m o c q e p =
       ap (λ l. all_before (map before_of l) (without_code stays gone c)) p ∙ all_before_push made (Bind t m) (without_code stays gone c)
       ∙ ap (λ f. all_before (map before_of made) (f (without_code stays gone c))) (before_of-Bind t m) ∙ ap (λ o. all_before (map before_of made) (bind t o (without_code stays gone c))) e
-      ∙ ap (λ b. all_before (map before_of made) (cond b (without_code stays gone c) (bind t (without_act stays gone (act_of o)) (without_code stays gone c)))) (sym n)
       ∙ ap (λ f. all_before (map before_of made) (without_code stays gone (f c))) (sym (before_of-Bind t o)) ∙ ap (λ s. all_before (map before_of made) (without_code stays gone (before_of s c))) (sym q)
 
   store_is : (made : List Stmt) (s : Stmt) (cs : List Cell) (c : Code) → s ≡ Store cs → all_before (map before_of made) (store_if_any (kept_cells stays gone cs) (without_code stays gone c)) ≡ all_before (map before_of made) (without_code stays gone (before_of s c))

@@ -5,7 +5,7 @@ use Rattle.grin_syntax.specs.declared.program.GlobalCell.{GlobalCell}
 use Rattle.grin_syntax.specs.Formed.{AllOf, ArgumentKnown}
 use Rattle.grin_syntax.specs.Tree.{Procedure, Program}
 use Rattle.grin_meaning.specs.Values.{Datum, cell, number, Value, HeapCell, State, Binding, with_vars, one_each}
-use Rattle.grin_meaning.specs.Run.{Calls, global_cells, start_words}
+use Rattle.grin_meaning.specs.Run.{Calls, run, global_cells, start_words}
 use Rattle.grin_meaning.specs.Checks.{is_given}
 use Rattle.grin_meaning.specs.Rewritten.{rewritten_procedure}
 use Rattle.grin_meaning.specs.Ready.{IsFetchedByWords}
@@ -20,6 +20,7 @@ use Rattle.grin_meaning.proofs.KeptBy.{likewise_kept, looking_kept}
 use Rattle.grin_meaning.proofs.Looked.{looking_law}
 use Rattle.grin_meaning.proofs.LooksBack.{look_agrees}
 use Rattle.grin_meaning.proofs.Paired.{nothing}
+use Rattle.dead_store.proofs.EndHeaps.{end_heaps}
 use Rattle.flow_system.specs.Tables.{tables}
 use Rattle.flow_system.specs.System.{system}
 use Rattle.flow_system.specs.Solution.{Solution, Solves}
@@ -30,28 +31,22 @@ use Rattle.pass_ground.specs.Vectors.{IsVectorForm}
 use Rattle.pass_ground.proofs.Bound.{one_each_names}
 use Rattle.seq.specs.Lists.{In, here, there}
 use Rattle.seq.proofs.Lists.{some_is, none_is_some, some_at, map_get}
-use Rattle.dead_store.specs.Kept.{rank, stays_at, kept_with, kept}
+use Rattle.dead_store.specs.Kept.{rank, stays_at, kept_with}
 use Rattle.dead_store.specs.Reads.{reads_of}
 use Rattle.dead_store.specs.Staying.{AreStaying}
 use Rattle.dead_store.specs.Stored.{HeapKeepsStayingCells}
-use Rattle.dead_store.specs.Without.{without_code, is_gone, without, is_bound_by_store}
+use Rattle.dead_store.specs.Without.{without_code, is_gone, without}
 use Rattle.dead_store.proofs.Renaming.{f, bindings_to, one_each_renamed, given_renamed}
 use Rattle.dead_store.proofs.Heaps.{Begins, kept_one, stays_get, rank_same}
 use Rattle.dead_store.proofs.Growing.{all_begin, start_begins}
 use Rattle.dead_store.proofs.Related.{Related, related_bind, GlobalsStay}
-use Rattle.dead_store.proofs.Owned.{Owned, owned_bind}
-use Rattle.dead_store.proofs.OneStores.{likewise_heaps}
-use Rattle.dead_store.proofs.Fine.{WordStays}
+use Rattle.dead_store.proofs.Fine.{of_each, WordStays}
 use Rattle.dead_store.proofs.Unique.{ProcFine, all_fine}
 use Rattle.dead_store.proofs.Likeness.{compared, V, plan, R, it, code_like}
 
 every_both : (P Q : State → Type 0) (ss : List State) → HoldsInEveryState P ss → HoldsInEveryState Q ss → HoldsInEveryState (λ s. P s × Q s) ss
 every_both P Q [] h k = tt
 every_both P Q (s ∷ ss) h k = ((h.0, k.0), every_both P Q ss h.1 k.1)
-
-of_each : {X : Type 0} (P : X → Type 0) (xs : List X) → ((x : X) → In x xs → P x) → AllOf P xs
-of_each P [] h = tt
-of_each P (x ∷ xs) h = (h x here, of_each P xs (λ y k. h y (there k)))
 
 -- a global cell at the start
 abbrev made_global : GlobalCell → HeapCell
@@ -70,19 +65,16 @@ module _ (g : Program) (A : Solution) (stays : ℕ → Bool) (of : IsVectorForm 
   abbrev gone : ℕ → Bool
   gone = is_gone stays g.procs
 
-  abbrev stored : ℕ → Bool
-  stored = is_bound_by_store g.procs
-
   abbrev after : Program
   after = without stays g
 
   global_stays : (s : ℕ) → In s (map (λ c. c.site.0) g.globals) → stays s ≡ true
   global_stays s i = (decided s).1 (inl i)
 
-  reads_stay : AllOf (WordStays A g stays) (reads_of stored g.procs)
-  reads_stay = of_each (WordStays A g stays) (reads_of stored g.procs) (λ a i s st. (decided s).1 (inr (a, i, st)))
+  reads_stay : AllOf (WordStays A g stays) (reads_of true g.procs)
+  reads_stay = of_each (WordStays A g stays) (reads_of true g.procs) (λ a i s st. (decided s).1 (inr (a, i, st)))
 
-  pub fine : AllOf (ProcFine A g stays gone stored) g.procs
+  pub fine : AllOf (ProcFine A g stays gone) g.procs
   fine = all_fine A g stays of.formed.variables_once of.ready.inlined worded of.vectorised reads_stay
 
   -- ---- the global cells
@@ -103,28 +95,25 @@ module _ (g : Program) (A : Solution) (stays : ℕ → Bool) (of : IsVectorForm 
   -- ---- the procedures
 
   module _ (F : List HeapCell) (globals : GlobalsStay stays gone F g) (c c' : Calls) (cb : CallsBack (plan g A stays gone F).P c) (cf : CallsFollow (plan g A stays gone F) c c') where
-    enters_too : (q : Procedure) → ProcFine A g stays gone stored q → (xs : List Datum) (bs : List Binding) {xs' : List Datum} → Same (map (f stays F) xs) xs' → one_each q.params xs ≡ Some bs
-        → (bs' : List Binding) × (one_each q.params xs' ≡ Some bs') × (Related stays gone F (with_vars bs nothing) (with_vars bs' nothing) × Owned stays gone F stored (with_vars bs nothing))
+    enters_too : (q : Procedure) → ProcFine A g stays gone q → (xs : List Datum) (bs : List Binding) {xs' : List Datum} → Same (map (f stays F) xs) xs' → one_each q.params xs ≡ Some bs
+        → (bs' : List Binding) × (one_each q.params xs' ≡ Some bs') × Related stays gone F (with_vars bs nothing) (with_vars bs' nothing)
     enters_too q ok xs bs same e = (
       bindings_to stays F bs,
       one_each_renamed stays F q.params xs bs e,
-      (
-        related_bind stays gone F bs nothing nothing (subst (AllOf (λ x. gone x ≡ false)) (sym (one_each_names q.params xs bs e)) ok.params.0)
-            (record { same = λ x v k n. none_is_some k; left = λ x v k n. none_is_some k }),
-        owned_bind stays gone F stored bs nothing (subst (AllOf (λ x. stored x ≡ false)) (sym (one_each_names q.params xs bs e)) ok.params.1) (record { by = λ x i k o. none_is_some k }),
-      ),
+      related_bind stays gone F bs nothing nothing (subst (AllOf (λ x. gone x ≡ false)) (sym (one_each_names q.params xs bs e)) ok.params)
+          (record { same = λ x v k n. none_is_some k; left = λ x v k n. none_is_some k }),
     )
 
     given_too : (v : Value) {v' : Value} → V g A stays gone F v v' → Seen true (is_given g v) → Seen true (is_given g v') × V g A stays gone F v v'
     given_too v same seen = (λ l. given_renamed stays F g v (seen l), same)
 
-    bodies_follow : (p : ℕ) (qs : List Procedure) → AllOf (ProcFine A g stays gone stored) qs → BodiesFollow (it g A stays gone F stored globals c c' cb cf) p qs (map (rewritten_procedure (without_code stays gone)) qs)
+    bodies_follow : (p : ℕ) (qs : List Procedure) → AllOf (ProcFine A g stays gone) qs → BodiesFollow (it g A stays gone F globals c c' cb cf) p qs (map (rewritten_procedure (without_code stays gone)) qs)
     bodies_follow p [] ok = no_more
     bodies_follow p (q ∷ qs) ok = one_more {f = p} {q = q} {r = rewritten_procedure (without_code stays gone) q} (record {
-      R = R g A stays gone F stored globals c c' cb cf;
+      R = R g A stays gone F globals c c' cb cf;
       V = V g A stays gone F;
       enters = λ cells xs xs' bs a e lies. enters_too q ok.0 xs bs a e;
-      body = code_like g A stays gone F stored globals c c' cb cf q.body ok.0.body;
+      body = code_like g A stays gone F globals c c' cb cf q.body ok.0.body;
       given = λ v v' u seen. given_too v u seen;
     }) (bodies_follow (suc p) qs ok.1)
 
@@ -151,6 +140,6 @@ module _ (g : Program) (A : Solution) (stays : ℕ → Bool) (of : IsVectorForm 
 
   pub heaps_kept : HeapKeepsStayingCells stays g after
   heaps_kept i m =
-      let looked : (world_of (checked_run after i m)).cells ≡ kept stays (world_of (checked_run g i m)).cells
-      = likewise_heaps (compared g A stays gone (at_end i m)) (V g A stays gone (at_end i m)) (checked_run g i m) (checked_run after i m) (goes_likewise i m) (never i m) in
-      ap (λ a. (world_of a).cells) (sym (look_agrees after i m (kept_too.0 i m))) ∙ looked ∙ ap (λ a. kept stays (world_of a).cells) (look_agrees g i m (never i m))
+      let same_end : at_end i m ≡ (world_of (run g i m)).cells = ap (λ a. (world_of a).cells) (look_agrees g i m (never i m)) in
+      end_heaps g after i m (compared g A stays gone (at_end i m)) (V g A stays gone (at_end i m)) (goes_likewise i m) (never i m) (kept_too.0 i m)
+      ∙ ap (λ F. kept_with stays (f stays F) (world_of (run g i m)).cells) same_end

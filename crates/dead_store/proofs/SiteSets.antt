@@ -1,13 +1,12 @@
--- The sites whose cells stay, as a set of them grows.
-use Rattle.std.proofs.Common.{◌≡◌, ℕ, zero, suc, ◌+◌, ◌<◌, ◌≤◌, List, [], ◌∷◌, ◌++◌, map, take, length, get_or, Some, slice_get, refl, sym, ap, ◌∙◌, subst, inl, inr, ⊎_elim}
+-- The sites whose cells are read, as a set of them grows.
+use Rattle.std.proofs.Common.{◌≡◌, ℕ, Bool, zero, suc, ◌+◌, ◌<◌, ◌≤◌, List, [], ◌∷◌, ◌++◌, map, take, length, get_or, Some, slice_get, refl, sym, ap, ◌∙◌, subst, inl, inr, ⊎_elim}
 use Rattle.std.specs.Prelude.{◌⊎◌}
 use Rattle.std.proofs.lemmas.List.{take_more, take_all}
 use Rattle.grin_syntax.specs.declared.program.GlobalCell.{GlobalCell}
 use Rattle.grin_syntax.specs.declared.program.VarId.{VarId}
 use Rattle.grin_syntax.specs.declared.program.Word as W
 use Rattle.grin_syntax.specs.declared.program.Word.TheVariants.{Lit, Var, Global, TagWord}
-use Rattle.grin_syntax.specs.declared.program.Proc.{Proc}
-use Rattle.grin_syntax.specs.Tree.{Program, procedure_of}
+use Rattle.grin_syntax.specs.Tree.{Program}
 use Rattle.flow_system.specs.declared.fact.Element.TheVariants.{Cell as cell_of}
 use Rattle.flow_system.specs.declared.fact.Place.TheVariants.{Var as var}
 use Rattle.flow_system.specs.declared.fact.Part.TheVariants.{Word as word}
@@ -19,8 +18,7 @@ use Rattle.seq.proofs.Lists.{none_is_some, some_is, map_push}
 use Rattle.seq.proofs.Member.{none_in, one_in, in_split, in_left, in_right}
 use Rattle.dead_store.specs.Holding.{set_holds}
 use Rattle.dead_store.specs.Reads.{reads_of}
-use Rattle.dead_store.specs.Without.{is_bound_by_store}
-use Rattle.dead_store.specs.Staying.{IsGlobalSite, IsReadBy, AreStaying, HasCell, CellsJoin}
+use Rattle.dead_store.specs.Staying.{IsGlobalSite, IsReadBy, AreReadSites, HasCell, CellsJoin}
 use Rattle.dead_store.proofs.Numbers.{holds_in, in_holds}
 
 -- ---- numbers of things in a row
@@ -72,13 +70,7 @@ module _ (A : Solution) where
       go : (x : VarId) → ◌≡◌ {A = W.Word} (TagWord t) (Var x) → ⊥
       go x q = cc
 
--- ---- the words that are read
-
--- by a set of the variables that stores bind
-pub stored_reads : (keys : List ℕ) (qs ps : List Proc) → qs ≡ ps → ((x : ℕ) → set_holds keys x ≡ is_bound_by_store (map procedure_of qs) x) → reads_of (set_holds keys) (map procedure_of qs) ≡ reads_of (is_bound_by_store (map procedure_of ps)) (map procedure_of ps)
-stored_reads keys qs ps e h = ap (λ k. reads_of k (map procedure_of qs)) (λ i x. h x i) ∙ ap (λ ps. reads_of (is_bound_by_store (map procedure_of ps)) (map procedure_of ps)) e
-
--- ---- the sites that stay
+-- ---- the sites that are read
 
 module _ (A : Solution) (g : Program) where
   -- a set has the global sites, and those of the cells of these words
@@ -120,7 +112,7 @@ module _ (A : Solution) (g : Program) where
   in_set ws sites u s a h (variable {x = x} k) = u.put s (Var x) h (x, refl, k)
   in_set ws sites u s a h (global {i = i} {c = c} k) = u.globals c.site.0 (global_in g.globals i c k)
 
-  pub sites_done : (ws : List W.Word) (i : ℕ) (sites : List ℕ) → ws ≡ reads_of (is_bound_by_store g.procs) g.procs → length ws ≤ i → SitesSoFar (take i ws) sites → AreStaying A g (set_holds sites)
-  sites_done ws i sites e le u =
-      let v : SitesSoFar (reads_of (is_bound_by_store g.procs) g.procs) sites = subst (λ l. SitesSoFar l sites) (take_all i ws le ∙ e) u in
-      λ s. (λ h. v.only s (holds_in s sites h), λ h. in_holds s sites (⊎_elim (λ k. v.globals s k) (λ r. in_set (reads_of (is_bound_by_store g.procs) g.procs) sites v s r.0 r.1 r.2) h))
+  pub sites_done : (updates_count : Bool) (ws : List W.Word) (i : ℕ) (sites : List ℕ) → ws ≡ reads_of updates_count g.procs → length ws ≤ i → SitesSoFar (take i ws) sites → AreReadSites A g updates_count (set_holds sites)
+  sites_done updates_count ws i sites e le u =
+      let v : SitesSoFar (reads_of updates_count g.procs) sites = subst (λ l. SitesSoFar l sites) (take_all i ws le ∙ e) u in
+      λ s. (λ h. v.only s (holds_in s sites h), λ h. in_holds s sites (⊎_elim (λ k. v.globals s k) (λ r. in_set (reads_of updates_count g.procs) sites v s r.0 r.1 r.2) h))

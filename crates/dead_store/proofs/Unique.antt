@@ -1,5 +1,5 @@
 -- The pieces of a well-formed program are fine: variables are bound once, and each cell of a site that leaves is never read.
-use Rattle.std.proofs.Common.{◌≡◌, ℕ, ◌+◌, ◌≤◌, Bool, true, false, cond, not, nat_eq, List, [], ◌∷◌, ◌++◌, refl, sym, ap, ◌∙◌, inl, inr, ⊎_elim, arith}
+use Rattle.std.proofs.Common.{◌≡◌, ℕ, ◌+◌, ◌≤◌, Bool, true, false, cond, not, nat_eq, List, [], ◌∷◌, ◌++◌, refl, sym, ap, ◌∙◌, ⊎_elim, arith}
 use Rattle.grin_syntax.specs.declared.program.Cell.{Cell}
 use Rattle.grin_syntax.specs.declared.program.Word.{Word}
 use Rattle.grin_syntax.specs.Tree.{Code, end, store, bind, Act, leaf, unit, fetch, fetch_word, update, eval, apply, call, prim, read, write, case, nested, fail, Arms, no_arm, arm, Procedure, Program}
@@ -12,9 +12,9 @@ use Rattle.std.specs.Prelude.{◌||◌}
 use Rattle.seq.specs.Lists.{times, is_among}
 use Rattle.seq.proofs.Counted.{times_append, times_fewer, one_at, not_among_times}
 use Rattle.seq.proofs.Truth.{two_ways, false_not_true}
-use Rattle.dead_store.specs.Reads.{is_one_of, update_reads, act_reads, code_reads, arms_reads, reads_of}
-use Rattle.dead_store.specs.Without.{cells_left, act_left, code_left, arms_left, left_of, is_gone, is_bound_by_store}
-use Rattle.dead_store.proofs.Fine.{WordStays, IsThere, IsOther, UpdateFine, CellFine, ActFine, CodeFine, ArmsFine}
+use Rattle.dead_store.specs.Reads.{act_reads, code_reads, arms_reads, reads_of}
+use Rattle.dead_store.specs.Without.{cells_left, act_left, code_left, arms_left, left_of, is_gone}
+use Rattle.dead_store.proofs.Fine.{WordStays, IsThere, CellFine, ActFine, CodeFine, ArmsFine}
 
 among_times : (x : ℕ) (xs : List ℕ) → is_among x xs ≡ true → 1 ≤ times x xs
 among_times x [] h = false_not_true h
@@ -27,7 +27,7 @@ among_times x (y ∷ ys) h = go (nat_eq x y) (among_times x ys) h
 times_among : (x : ℕ) (xs : List ℕ) → 1 ≤ times x xs → is_among x xs ≡ true
 times_among x xs h = ⊎_elim (λ t. t) (λ n. absurd (let z : times x xs ≡ 0 = not_among_times x xs n in omega (arith, z, h))) (two_ways (is_among x xs))
 
-all_in : (P : ℕ → Type 0) (xs : List ℕ) → ((y : ℕ) → 1 ≤ times y xs → P y) → AllOf P xs
+pub all_in : (P : ℕ → Type 0) (xs : List ℕ) → ((y : ℕ) → 1 ≤ times y xs → P y) → AllOf P xs
 all_in P [] h = tt
 all_in P (x ∷ xs) h = (h x (let o : cond (nat_eq x x) 1 0 ≡ 1 = one_at x in omega (arith, o)), all_in P xs (λ y k. h y (omega (arith, k))))
 
@@ -84,10 +84,6 @@ module _ (stays : ℕ → Bool) (y : ℕ) where
       let k : times y (numbers_of q.params ++ code_vars q.body) ≡ times y (numbers_of q.params) + times y (code_vars q.body) = times_append y (numbers_of q.params) (code_vars q.body) in
       omega (arith, l, e, f, k)
 
--- no cell stays
-abbrev none : ℕ → Bool
-none s = false
-
 module _ (gone : ℕ → Bool) where
   -- a piece that binds these variables, those `left` of cells that leave; elsewhere a variable of a cell that leaves stands so often
   record Parted (vars left : List ℕ) : Type 0 where
@@ -133,32 +129,13 @@ module _ (gone : ℕ → Bool) where
           let k : 1 ≤ times y ls + p.elsewhere y = p.gone_are y n in
           omega (arith, e, o, f, k, h)
 
--- the variables of cells that leave, and those that are stored, which would leave if no cell stayed
-module _ (gone stored : ℕ → Bool) where
-  record Both (vars left own : List ℕ) : Type 0 where
-    pub leaving : Parted gone vars left
-    pub owned : Parted stored vars own
-
-  both_front : (us vs ls ms ks ns : List ℕ) → ((y : ℕ) → times y ms ≤ times y vs) → ((y : ℕ) → times y ns ≤ times y vs) → Both (us ++ vs) (ls ++ ms) (ks ++ ns) → Both us ls ks
-  both_front us vs ls ms ks ns f f' p = record { leaving = parted_front gone us vs ls ms f p.leaving; owned = parted_front stored us vs ks ns f' p.owned }
-
-  both_back : (us vs ls ms ks ns : List ℕ) → ((y : ℕ) → times y ls ≤ times y us) → ((y : ℕ) → times y ks ≤ times y us) → Both (us ++ vs) (ls ++ ms) (ks ++ ns) → Both vs ms ns
-  both_back us vs ls ms ks ns f f' p = record { leaving = parted_back gone us vs ls ms f p.leaving; owned = parted_back stored us vs ks ns f' p.owned }
-
-  both_later : (us vs ls ks : List ℕ) → Both (us ++ vs) ls ks → Both vs ls ks
-  both_later us vs ls ks p = record { leaving = parted_later gone us vs ls p.leaving; owned = parted_later stored us vs ks p.owned }
-
-module _ (A : Solution) (g : Program) (stays gone stored : ℕ → Bool) where
-  -- variables that something else than a store binds
-  others : (us vs ls ks : List ℕ) → ((y : ℕ) → times y ls ≤ times y vs) → ((y : ℕ) → times y ks ≤ times y vs) → Both gone stored (us ++ vs) ls ks → AllOf (IsThere A g stays gone stored) us × AllOf (IsOther A g stays gone stored) us
-  others us vs ls ks f f' p = (all_in (IsThere A g stays gone stored) us (they_stay gone us vs ls f p.leaving), all_in (IsOther A g stays gone stored) us (they_stay stored us vs ks f' p.owned))
-
-  cells_fine : (cs : List Cell) → Parted gone (cell_vars cs) (cells_left stays cs) → AllOf (λ c. NoNodeVar c.val) cs → AllOf (CellFine A g stays gone stored) cs
+module _ (A : Solution) (g : Program) (stays gone : ℕ → Bool) where
+  cells_fine : (cs : List Cell) → Parted gone (cell_vars cs) (cells_left stays cs) → AllOf (λ c. NoNodeVar c.val) cs → AllOf (CellFine A g stays gone) cs
   cells_fine [] p n = tt
   cells_fine (c ∷ cs) p n = go (stays c.site.0) refl p (λ p. cells_fine cs p n.1)
     where
       go : (b : Bool) → stays c.site.0 ≡ b → Parted gone (c.var.0 ∷ cell_vars cs) (cond b (cells_left stays cs) (c.var.0 ∷ cells_left stays cs))
-          → (Parted gone (cell_vars cs) (cells_left stays cs) → AllOf (CellFine A g stays gone stored) cs) → AllOf (CellFine A g stays gone stored) (c ∷ cs)
+          → (Parted gone (cell_vars cs) (cells_left stays cs) → AllOf (CellFine A g stays gone) cs) → AllOf (CellFine A g stays gone) (c ∷ cs)
       go true q p rest = (
         (they_stay gone (c.var.0 ∷ []) (cell_vars cs) (cells_left stays cs) (λ y. cells_fewer stays y cs) p c.var.0 (let o : cond (nat_eq c.var.0 c.var.0) 1 0 ≡ 1 = one_at c.var.0 in omega (arith, o)) ∙ sym (ap not q), n.0),
         rest (parted_later gone (c.var.0 ∷ []) (cell_vars cs) (cells_left stays cs) p),
@@ -171,24 +148,17 @@ module _ (A : Solution) (g : Program) (stays gone stored : ℕ → Bool) where
   abbrev pub Read : List Word → Type 0
   Read = AllOf (WordStays A g stays)
 
-  update_fine : (a : Word) → Read (update_reads stored a) → UpdateFine A g stays gone stored a
-  update_fine a r = go (is_one_of stored a) refl r
-    where
-      go : (b : Bool) → is_one_of stored a ≡ b → Read (cond b [] (a ∷ [])) → UpdateFine A g stays gone stored a
-      go true e r = inl e
-      go false e r = inr r.0
-
-  abbrev Parts : (vars left own : List ℕ) → Type 0
-  Parts = Both gone stored
+  abbrev Parts : (vars left : List ℕ) → Type 0
+  Parts = Parted gone
 
   mutual
     unfolding act_reads act_left act_vars EachAct ActFine
 
-    act_fine : (o : Act) → EachAct inlined_kind o → EachAct without_node_fetches o → EachAct vectorised_kind o → Read (act_reads stored o) → Parts (act_vars o) (act_left stays o) (act_left none o) → ActFine A g stays gone stored o
+    act_fine : (o : Act) → EachAct inlined_kind o → EachAct without_node_fetches o → EachAct vectorised_kind o → Read (act_reads true o) → Parts (act_vars o) (act_left stays o) → ActFine A g stays gone o
     act_fine (leaf (unit v)) i w n r p = n.1
     act_fine (leaf (fetch a)) i w n r p = w
     act_fine (leaf (fetch_word a k)) i w n r p = r.0
-    act_fine (leaf (update a v)) i w n r p = (update_fine a r, n.1)
+    act_fine (leaf (update a v)) i w n r p = (r.0, n.1)
     act_fine (leaf (eval a)) i w n r p = i
     act_fine (leaf (apply v a)) i w n r p = i.0
     act_fine (leaf (call f ws)) i w n r p = tt
@@ -199,70 +169,65 @@ module _ (A : Solution) (g : Program) (stays gone stored : ℕ → Bool) where
     act_fine (nested b) i w n r p = code_fine b i.1 w.1 n.1 r p
     act_fine (leaf fail) i w n r p = tt
 
-    code_fine : (b : Code) → EachCode inlined_kind b → EachCode without_node_fetches b → EachCode vectorised_kind b → Read (code_reads stored b) → Parts (code_vars b) (code_left stays b) (code_left none b) → CodeFine A g stays gone stored b
+    code_fine : (b : Code) → EachCode inlined_kind b → EachCode without_node_fetches b → EachCode vectorised_kind b → Read (code_reads true b) → Parts (code_vars b) (code_left stays b) → CodeFine A g stays gone b
     code_fine (end o) i w n r p = act_fine o i w n r p
     code_fine (store cs b) i w n r p = (
-      cells_fine cs (parted_front gone (cell_vars cs) (code_vars b) (cells_left stays cs) (code_left stays b) (λ y. code_fewer stays y b) p.leaving) n.0,
-      code_fine b i.1 w.1 n.1 r (both_back gone stored (cell_vars cs) (code_vars b) (cells_left stays cs) (code_left stays b) (cells_left none cs) (code_left none b) (λ y. cells_fewer stays y cs) (λ y. cells_fewer none y cs) p),
+      cells_fine cs (parted_front gone (cell_vars cs) (code_vars b) (cells_left stays cs) (code_left stays b) (λ y. code_fewer stays y b) p) n.0,
+      code_fine b i.1 w.1 n.1 r (parted_back gone (cell_vars cs) (code_vars b) (cells_left stays cs) (code_left stays b) (λ y. cells_fewer stays y cs) p),
     )
     code_fine (bind t o b) i w n r p =
-        let rest : Parts (act_vars o ++ code_vars b) (act_left stays o ++ code_left stays b) (act_left none o ++ code_left none b)
-        = both_later gone stored (target_vars t) (act_vars o ++ code_vars b) (act_left stays o ++ code_left stays b) (act_left none o ++ code_left none b) p in (
-          others (target_vars t) (act_vars o ++ code_vars b) (act_left stays o ++ code_left stays b) (act_left none o ++ code_left none b)
-              (λ y. times_fewer y (act_left stays o) (code_left stays b) (act_vars o) (code_vars b) (act_fewer stays y o) (code_fewer stays y b))
-              (λ y. times_fewer y (act_left none o) (code_left none b) (act_vars o) (code_vars b) (act_fewer none y o) (code_fewer none y b)) p,
-          act_fine o i.1 w.1 n.1 (all_front (WordStays A g stays) (act_reads stored o) (code_reads stored b) r)
-              (both_front gone stored (act_vars o) (code_vars b) (act_left stays o) (code_left stays b) (act_left none o) (code_left none b) (λ y. code_fewer stays y b) (λ y. code_fewer none y b) rest),
-          code_fine b i.2 w.2 n.2 (all_back (WordStays A g stays) (act_reads stored o) (code_reads stored b) r)
-              (both_back gone stored (act_vars o) (code_vars b) (act_left stays o) (code_left stays b) (act_left none o) (code_left none b) (λ y. act_fewer stays y o) (λ y. act_fewer none y o) rest),
+        let rest : Parts (act_vars o ++ code_vars b) (act_left stays o ++ code_left stays b)
+        = parted_later gone (target_vars t) (act_vars o ++ code_vars b) (act_left stays o ++ code_left stays b) p in (
+          all_in (IsThere A g stays gone) (target_vars t) (they_stay gone (target_vars t) (act_vars o ++ code_vars b) (act_left stays o ++ code_left stays b)
+              (λ y. times_fewer y (act_left stays o) (code_left stays b) (act_vars o) (code_vars b) (act_fewer stays y o) (code_fewer stays y b)) p),
+          act_fine o i.1 w.1 n.1 (all_front (WordStays A g stays) (act_reads true o) (code_reads true b) r)
+              (parted_front gone (act_vars o) (code_vars b) (act_left stays o) (code_left stays b) (λ y. code_fewer stays y b) rest),
+          code_fine b i.2 w.2 n.2 (all_back (WordStays A g stays) (act_reads true o) (code_reads true b) r)
+              (parted_back gone (act_vars o) (code_vars b) (act_left stays o) (code_left stays b) (λ y. act_fewer stays y o) rest),
         )
 
-    arms_fine : (as' : Arms) → EachArms inlined_kind as' → EachArms without_node_fetches as' → EachArms vectorised_kind as' → Read (arms_reads stored as') → Parts (arms_vars as') (arms_left stays as') (arms_left none as') → ArmsFine A g stays gone stored as'
+    arms_fine : (as' : Arms) → EachArms inlined_kind as' → EachArms without_node_fetches as' → EachArms vectorised_kind as' → Read (arms_reads true as') → Parts (arms_vars as') (arms_left stays as') → ArmsFine A g stays gone as'
     arms_fine no_arm i w n r p = tt
     arms_fine (arm s b as') i w n r p =
-        let rest : Parts (code_vars b ++ arms_vars as') (code_left stays b ++ arms_left stays as') (code_left none b ++ arms_left none as')
-        = both_later gone stored (shape_vars s) (code_vars b ++ arms_vars as') (code_left stays b ++ arms_left stays as') (code_left none b ++ arms_left none as') p in (
+        let rest : Parts (code_vars b ++ arms_vars as') (code_left stays b ++ arms_left stays as')
+        = parted_later gone (shape_vars s) (code_vars b ++ arms_vars as') (code_left stays b ++ arms_left stays as') p in (
           n.0,
-          code_fine b i.1 w.1 n.1 (all_front (WordStays A g stays) (code_reads stored b) (arms_reads stored as') r)
-              (both_front gone stored (code_vars b) (arms_vars as') (code_left stays b) (arms_left stays as') (code_left none b) (arms_left none as') (λ y. arms_fewer stays y as') (λ y. arms_fewer none y as') rest),
-          arms_fine as' i.2 w.2 n.2 (all_back (WordStays A g stays) (code_reads stored b) (arms_reads stored as') r)
-              (both_back gone stored (code_vars b) (arms_vars as') (code_left stays b) (arms_left stays as') (code_left none b) (arms_left none as') (λ y. code_fewer stays y b) (λ y. code_fewer none y b) rest),
+          code_fine b i.1 w.1 n.1 (all_front (WordStays A g stays) (code_reads true b) (arms_reads true as') r)
+              (parted_front gone (code_vars b) (arms_vars as') (code_left stays b) (arms_left stays as') (λ y. arms_fewer stays y as') rest),
+          arms_fine as' i.2 w.2 n.2 (all_back (WordStays A g stays) (code_reads true b) (arms_reads true as') r)
+              (parted_back gone (code_vars b) (arms_vars as') (code_left stays b) (arms_left stays as') (λ y. code_fewer stays y b) rest),
         )
 
-  -- a procedure: something else than a store binds its parameters, and its body is fine
+  -- a procedure: its parameters stay, and its body is fine
   pub record ProcFine (q : Procedure) : Type 0 where
-    pub params : AllOf (IsThere A g stays gone stored) (numbers_of q.params) × AllOf (IsOther A g stays gone stored) (numbers_of q.params)
-    pub body : CodeFine A g stays gone stored q.body
+    pub params : AllOf (IsThere A g stays gone) (numbers_of q.params)
+    pub body : CodeFine A g stays gone q.body
 
-  body_fewer : (stays : ℕ → Bool) (q : Procedure) (y : ℕ) → times y (code_left stays q.body) ≤ times y (numbers_of q.params ++ code_vars q.body)
-  body_fewer stays q y =
+  body_fewer : (q : Procedure) (y : ℕ) → times y (code_left stays q.body) ≤ times y (numbers_of q.params ++ code_vars q.body)
+  body_fewer q y =
       let e : times y (numbers_of q.params ++ code_vars q.body) ≡ times y (numbers_of q.params) + times y (code_vars q.body) = times_append y (numbers_of q.params) (code_vars q.body) in
       let l : times y (code_left stays q.body) ≤ times y (code_vars q.body) = code_fewer stays y q.body in
       omega (arith, e, l)
 
-  procs_fine : (qs : List Procedure) → EveryBodyIsOfKind inlined_kind qs → EveryBodyIsOfKind without_node_fetches qs → EveryBodyIsOfKind vectorised_kind qs → Read (reads_of stored qs) → Parts (procs_vars qs) (left_of stays qs) (left_of none qs) → AllOf ProcFine qs
+  procs_fine : (qs : List Procedure) → EveryBodyIsOfKind inlined_kind qs → EveryBodyIsOfKind without_node_fetches qs → EveryBodyIsOfKind vectorised_kind qs → Read (reads_of true qs) → Parts (procs_vars qs) (left_of stays qs) → AllOf ProcFine qs
   procs_fine [] i w n r p = tt
   procs_fine (q ∷ qs) i w n r p =
-      let here : Parts (numbers_of q.params ++ code_vars q.body) (code_left stays q.body) (code_left none q.body)
-      = both_front gone stored (numbers_of q.params ++ code_vars q.body) (procs_vars qs) (code_left stays q.body) (left_of stays qs) (code_left none q.body) (left_of none qs) (λ y. procs_fewer stays y qs) (λ y. procs_fewer none y qs) p in (
+      let here : Parts (numbers_of q.params ++ code_vars q.body) (code_left stays q.body)
+      = parted_front gone (numbers_of q.params ++ code_vars q.body) (procs_vars qs) (code_left stays q.body) (left_of stays qs) (λ y. procs_fewer stays y qs) p in (
         record {
-          params = others (numbers_of q.params) (code_vars q.body) (code_left stays q.body) (code_left none q.body) (λ y. code_fewer stays y q.body) (λ y. code_fewer none y q.body) here;
-          body = code_fine q.body i.0 w.0 n.0 (all_front (WordStays A g stays) (code_reads stored q.body) (reads_of stored qs) r) (both_later gone stored (numbers_of q.params) (code_vars q.body) (code_left stays q.body) (code_left none q.body) here);
+          params = all_in (IsThere A g stays gone) (numbers_of q.params) (they_stay gone (numbers_of q.params) (code_vars q.body) (code_left stays q.body) (λ y. code_fewer stays y q.body) here);
+          body = code_fine q.body i.0 w.0 n.0 (all_front (WordStays A g stays) (code_reads true q.body) (reads_of true qs) r) (parted_later gone (numbers_of q.params) (code_vars q.body) (code_left stays q.body) here);
         },
-        procs_fine qs i.1 w.1 n.1 (all_back (WordStays A g stays) (code_reads stored q.body) (reads_of stored qs) r)
-            (both_back gone stored (numbers_of q.params ++ code_vars q.body) (procs_vars qs) (code_left stays q.body) (left_of stays qs) (code_left none q.body) (left_of none qs) (body_fewer stays q) (body_fewer none q) p),
+        procs_fine qs i.1 w.1 n.1 (all_back (WordStays A g stays) (code_reads true q.body) (reads_of true qs) r)
+            (parted_back gone (numbers_of q.params ++ code_vars q.body) (procs_vars qs) (code_left stays q.body) (left_of stays qs) (body_fewer q) p),
       )
 
--- the variables of a program are parted by those of the cells that leave
-all_parted : (g : Program) (stays : ℕ → Bool) → ((y : ℕ) → times y (procs_vars g.procs) ≤ 1) → Parted (is_gone stays g.procs) (procs_vars g.procs) (left_of stays g.procs)
-all_parted g stays once = record {
+-- the procedures of a program, where the variables of cells that leave are gone
+pub all_fine : (A : Solution) (g : Program) (stays : ℕ → Bool) → ((y : ℕ) → times y (procs_vars g.procs) ≤ 1) → EveryBodyIsOfKind inlined_kind g.procs → EveryBodyIsOfKind without_node_fetches g.procs → EveryBodyIsOfKind vectorised_kind g.procs → AllOf (WordStays A g stays) (reads_of true g.procs)
+    → AllOf (ProcFine A g stays (is_gone stays g.procs)) g.procs
+all_fine A g stays once i w n r = procs_fine A g stays (is_gone stays g.procs) g.procs i w n r (record {
   elsewhere = λ y. 0;
   once = λ y. let o : times y (procs_vars g.procs) ≤ 1 = once y in omega (arith, o);
   gone_are = λ y h. let l : 1 ≤ times y (left_of stays g.procs) = among_times y (left_of stays g.procs) h in omega (arith, l);
   left_are = λ y h. times_among y (left_of stays g.procs) h;
-}
-
--- the procedures of a program, where the variables of cells that leave are gone
-pub all_fine : (A : Solution) (g : Program) (stays : ℕ → Bool) → ((y : ℕ) → times y (procs_vars g.procs) ≤ 1) → EveryBodyIsOfKind inlined_kind g.procs → EveryBodyIsOfKind without_node_fetches g.procs → EveryBodyIsOfKind vectorised_kind g.procs → AllOf (WordStays A g stays) (reads_of (is_bound_by_store g.procs) g.procs)
-    → AllOf (ProcFine A g stays (is_gone stays g.procs) (is_bound_by_store g.procs)) g.procs
-all_fine A g stays once i w n r = procs_fine A g stays (is_gone stays g.procs) (is_bound_by_store g.procs) g.procs i w n r (record { leaving = all_parted g stays once; owned = all_parted g none once })
+})

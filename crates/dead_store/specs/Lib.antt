@@ -3,4 +3,5 @@ pub mod Staying
 pub mod Without
 pub mod Kept
 pub mod Holding
+pub mod Unread
 pub mod Stored

@@ -1,21 +1,12 @@
--- The words that stand for the cells that a piece of a program reads. An update counts as a read,
--- but where its word is the variable of a store: it goes where the cell of this store goes.
-use Rattle.std.specs.Prelude.{ℕ, Bool, false, cond, List, [], ◌∷◌, ◌++◌}
+-- The words that stand for the cells that a piece of a program reads: the operands of its fetches,
+-- and of its updates where these count as reads.
+use Rattle.std.specs.Prelude.{Bool, cond, List, [], ◌∷◌, ◌++◌}
 use Rattle.grin_syntax.specs.declared.program.Word as W
-use Rattle.grin_syntax.specs.declared.program.Word.TheVariants.{Lit, Var, Global, TagWord}
 use Rattle.grin_syntax.specs.Tree.{Code, end, store, bind, Act, leaf, fetch, fetch_word, update, case, nested, Arms, no_arm, arm, Procedure}
 
--- the word is one of these variables
-abbrev pub is_one_of : (ℕ → Bool) → W.Word → Bool
-is_one_of xs (Var x) = xs x.0
-is_one_of xs (Lit k) = false
-is_one_of xs (Global i) = false
-is_one_of xs (TagWord t) = false
-
--- stores bind these variables
-module _ (stored : ℕ → Bool) where
+module _ (updates_count : Bool) where
   abbrev pub update_reads : W.Word → List W.Word
-  update_reads a = cond (is_one_of stored a) [] (a ∷ [])
+  update_reads a = cond updates_count (a ∷ []) []
 
   unfoldable mutual
     pub act_reads : Act → List W.Word

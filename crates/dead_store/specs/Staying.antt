@@ -1,5 +1,5 @@
--- The sites whose cells stay.
-use Rattle.std.specs.Prelude.{ℕ, ◌≡◌, ◌↔◌, ◌⊎◌, Bool, true, List, map}
+-- The sites whose cells are read, and so stay.
+use Rattle.std.specs.Prelude.{ℕ, ◌≡◌, ◌↔◌, ◌⊎◌, Bool, true, false, List, map}
 use Rattle.grin_syntax.specs.declared.program.VarId.{VarId}
 use Rattle.grin_syntax.specs.declared.program.Word.{Word}
 use Rattle.grin_syntax.specs.declared.program.Word.TheVariants.{Var}
@@ -11,7 +11,6 @@ use Rattle.flow_system.specs.declared.fact.Place.TheVariants.{Var as var}
 use Rattle.flow_system.specs.declared.fact.Part.TheVariants.{Word as word}
 use Rattle.flow_system.specs.Solution.{Solution, At, StandsFor}
 use Rattle.dead_store.specs.Reads.{reads_of}
-use Rattle.dead_store.specs.Without.{is_bound_by_store}
 
 abbrev pub IsGlobalSite : Program → ℕ → Type 0
 IsGlobalSite g s = In s (map (λ c. c.site.0) g.globals)
@@ -21,17 +20,22 @@ module _ (A : Solution) (g : Program) where
   abbrev pub IsReadBy : List Word → ℕ → Type 0
   IsReadBy ws s = (a : Word) × In a ws × StandsFor (tables g) A a (cell_of s)
 
-  -- a fetch of the program may go to a cell of the site, or an update on another word than the
-  -- variable of a store
-  abbrev pub IsRead : ℕ → Type 0
-  IsRead = IsReadBy (reads_of (is_bound_by_store g.procs) g.procs)
+  module _ (updates_count : Bool) where
+    -- the cells of a site are global, or a fetch of the program may go to one of them, or an update
+    -- where these count
+    abbrev pub IsGlobalOrRead : ℕ → Type 0
+    IsGlobalOrRead s = IsGlobalSite g s ⊎ IsReadBy (reads_of updates_count g.procs) s
 
-  -- the cells of a site stay where they are global or read
-  abbrev pub Stays : ℕ → Type 0
-  Stays s = IsGlobalSite g s ⊎ IsRead s
+    abbrev pub AreReadSites : (ℕ → Bool) → Type 0
+    AreReadSites sites = (s : ℕ) → (sites s ≡ true) ↔ IsGlobalOrRead s
 
+  -- the cells of a site stay where they are global or at the operand of a fetch or of an update
   abbrev pub AreStaying : (ℕ → Bool) → Type 0
-  AreStaying stays = (s : ℕ) → (stays s ≡ true) ↔ Stays s
+  AreStaying = AreReadSites true
+
+  -- updates are left aside
+  abbrev pub AreFetched : (ℕ → Bool) → Type 0
+  AreFetched = AreReadSites false
 
 -- the sites of the cells that a word stands for as a variable are put into a set
 module _ (A : Solution) (a : Word) where

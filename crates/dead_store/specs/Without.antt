@@ -1,17 +1,14 @@
 -- A program without the cells of some sites.
-use Rattle.std.specs.Prelude.{ℕ, pos, Bool, false, cond, List, [], ◌∷◌, ◌++◌, map}
+use Rattle.std.specs.Prelude.{ℕ, pos, Bool, cond, List, [], ◌∷◌, ◌++◌, map}
 use Rattle.grin_syntax.specs.declared.program.Word as W
 use Rattle.grin_syntax.specs.declared.program.Word.TheVariants.{Lit, Var, Global, TagWord}
 use Rattle.grin_syntax.specs.declared.program.Val as V
 use Rattle.grin_syntax.specs.declared.program.Val.TheVariants.{NodeVar, Node, Vector, One}
 use Rattle.grin_syntax.specs.declared.program.Cell.{Cell}
 use Rattle.grin_syntax.specs.declared.program.Shape.{Shape}
-use Rattle.grin_syntax.specs.declared.program.Target.{Target}
-use Rattle.grin_syntax.specs.declared.program.Target.TheVariants as to
 use Rattle.grin_syntax.specs.Tree.{Code, end, store, bind, Act, leaf, unit, fetch, fetch_word, update, eval, apply, call, prim, read, write, case, nested, fail, Arms, no_arm, arm, Procedure, Program}
 use Rattle.grin_meaning.specs.Rewritten.{rewritten_procedure}
 use Rattle.seq.specs.Lists.{is_among}
-use Rattle.dead_store.specs.Reads.{is_one_of}
 
 -- where the cells of some variables are gone, the number 0 stands for these variables
 module _ (gone : ℕ → Bool) where
@@ -29,18 +26,6 @@ module _ (gone : ℕ → Bool) where
 
   abbrev pub kept_cell : Cell → Cell
   kept_cell c = record { var = c.var; site = c.site; val = without_val c.val }
-
-  -- an update of a cell that is gone
-  abbrev pub updates_gone : Act → Bool
-  updates_gone (leaf (update a v)) = is_one_of gone a
-  updates_gone _ = false
-
-  -- as a statement, it leaves its block
-  abbrev pub leaves : Target → Act → Bool
-  leaves to.Nothing o = updates_gone o
-  leaves (to.Node x) o = false
-  leaves (to.One x) o = false
-  leaves (to.Vector xs) o = false
 
 -- a group of cells before a block, where there is a cell
 abbrev pub store_if_any : List Cell → Code → Code
@@ -84,8 +69,7 @@ module _ (stays : ℕ → Bool) where
       without_act (leaf (fetch a)) = leaf (fetch (without_word gone a))
       without_act (leaf (fetch_word a i)) = leaf (fetch_word (without_word gone a) i)
       without_act (leaf (update a v)) =
-          cond (is_one_of gone a) (leaf (unit (Vector [])))
-          (leaf (update (without_word gone a) (without_val gone v)))
+          leaf (update (without_word gone a) (without_val gone v))
       without_act (leaf (eval a)) = leaf (eval (without_word gone a))
       without_act (leaf (apply v a)) = leaf (apply (without_val gone v) (without_word gone a))
       without_act (leaf (call f ws)) = leaf (call f (map (without_word gone) ws))
@@ -99,8 +83,7 @@ module _ (stays : ℕ → Bool) where
       pub without_code : Code → Code
       without_code (end o) = end (without_act o)
       without_code (store cs b) = store_if_any (kept_cells cs) (without_code b)
-      without_code (bind t o b) =
-          cond (leaves gone t o) (without_code b) (bind t (without_act o) (without_code b))
+      without_code (bind t o b) = bind t (without_act o) (without_code b)
 
       pub without_arms : Arms → Arms
       without_arms no_arm = no_arm
@@ -117,11 +100,6 @@ module _ (stays : ℕ → Bool) where
   is_gone qs x = is_among x (left_of qs)
 
   -- the cells of all other sites leave their groups, a group that loses all of them leaves its
-  -- block, as do the updates on their variables (where an update ends a block it gives way to what
-  -- it gives, no words), and the number 0 stands wherever else these variables stood
+  -- block, and the number 0 stands wherever their variables stood
   abbrev pub without : Program → Program
   without g = record g { procs = without_procs (is_gone g.procs) g.procs }
-
--- stores of the program bind these variables: they'd be gone if no cell stayed
-abbrev pub is_bound_by_store : List Procedure → ℕ → Bool
-is_bound_by_store = is_gone (λ s. false)

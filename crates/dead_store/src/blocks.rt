@@ -2,12 +2,11 @@
 #![tactic(auto, using(grin_syntax::proofs::TreeOf::tree_of), unfolding(crate::specs::Without::without_act))]
 
 ghost use Rattle.std.specs.Prelude.{◌≡◌, ◌++◌, [], ◌∷◌, map, IfOk, OnOk};
-ghost use Rattle.grin_syntax.specs.Tree.{Code, leaf, update, act_of, before_of, arm_of, code_of, all_before};
+ghost use Rattle.grin_syntax.specs.Tree.{Code, act_of, before_of, arm_of, code_of, all_before};
 ghost use Rattle.dead_store.specs.Holding.{set_holds};
-ghost use Rattle.dead_store.specs.Without.{without_word, without_val, kept_cell, updates_gone, leaves, kept_cells, store_if_any, without_act, without_code, without_arm};
+ghost use Rattle.dead_store.specs.Without.{without_word, without_val, kept_cell, kept_cells, store_if_any, without_act, without_code, without_arm};
 
-use crate::reads::is_one_of;
-use grin_syntax::{Alt, Block, Cell, Op, Stmt, Target, Val, Word};
+use grin_syntax::{Alt, Block, Cell, Op, Stmt, Val, Word};
 use seq::Seq;
 use std::alloc::{AllocError, Global};
 use std::collections::BTreeSet;
@@ -106,49 +105,6 @@ impl DeadCellRemover<'_> {
         Ok(made)
     }
 
-    // An update, but where the cell is gone.
-    fn update(&self, alloc: Global, word: Word, val: Val) -> Result<Op, AllocError>
-        ensures { IfOk result (λ o. act_of o ≡ without_act (set_holds self.now.sites.now.keys)
-            (set_holds self.now.gone.now.keys) (leaf (update word val))) }
-    {
-        if is_one_of(self.gone, word) {
-            return Ok(Op::Unit(Val::Vector(Seq::new(alloc))));
-        }
-        Ok(Op::Update(self.word(word), self.val(alloc, val)?))
-    }
-
-    fn updates_gone(&self, op: &Op) -> bool
-        ensures { result ≡ updates_gone (set_holds self.now.gone.now.keys) (act_of op.now) }
-    {
-        match op {
-            Op::Update(word, _) => is_one_of(self.gone, *word),
-            Op::Unit(_) => false,
-            Op::Fetch(_) => false,
-            Op::FetchWord(_, _) => false,
-            Op::Eval(_) => false,
-            Op::Apply(_, _) => false,
-            Op::Call(_, _) => false,
-            Op::Prim(_, _, _) => false,
-            Op::Read => false,
-            Op::Write(_) => false,
-            Op::Case(_, _) => false,
-            Op::Nested(_) => false,
-            Op::Fail => false,
-        }
-    }
-
-    // Whether a statement is an update of a cell that is gone.
-    fn leaves(&self, target: &Target, op: &Op) -> bool
-        ensures { result ≡ leaves (set_holds self.now.gone.now.keys) target.now (act_of op.now) }
-    {
-        match target {
-            Target::Nothing => self.updates_gone(op),
-            Target::Node(_) => false,
-            Target::One(_) => false,
-            Target::Vector(_) => false,
-        }
-    }
-
     #[cycle(leave)]
     #[tactic(auto, using(grin_syntax::proofs::TreeOf::tree_of, crate::proofs::Rewriting::case_without), unfolding(crate::specs::Without::without_act))]
     fn op(&self, alloc: Global, op: Op) -> Result<Op, AllocError>
@@ -159,7 +115,7 @@ impl DeadCellRemover<'_> {
             Op::Unit(v) => Ok(Op::Unit(self.val(alloc, v)?)),
             Op::Fetch(a) => Ok(Op::Fetch(self.word(a))),
             Op::FetchWord(a, i) => Ok(Op::FetchWord(self.word(a), i)),
-            Op::Update(a, v) => self.update(alloc, a, v),
+            Op::Update(a, v) => Ok(Op::Update(self.word(a), self.val(alloc, v)?)),
             Op::Eval(a) => Ok(Op::Eval(self.word(a))),
             Op::Apply(v, a) => Ok(Op::Apply(self.val(alloc, v)?, self.word(a))),
             Op::Call(f, words) => Ok(Op::Call(f, self.words(alloc, words)?)),
@@ -193,7 +149,7 @@ impl DeadCellRemover<'_> {
         })
     }
 
-    // A statement, but for a group that loses all its cells and an update of a cell that is gone.
+    // A statement, but for a group that loses all its cells.
     #[cycle(leave)]
     fn stmt(&self, alloc: Global, stmt: Stmt, made: &mut Seq<Stmt>) -> Result<(), AllocError>
         ensures { OnOk result ((c : Code) → all_before (map before_of made.new)
@@ -208,9 +164,6 @@ impl DeadCellRemover<'_> {
                 Ok(())
             }
             Stmt::Bind(target, op) => {
-                if self.leaves(&target, &op) {
-                    return Ok(());
-                }
                 let bound = self.op(alloc, op)?;
                 made.push(Stmt::Bind(target, bound))?;
                 Ok(())

@@ -5,7 +5,7 @@ ghost use Rattle.std.specs.Prelude.{◌≡◌, ◌++◌, [], ◌∷◌, ℕ, map
 ghost use Rattle.grin_syntax.specs.Tree.{Code, act_of, before_of, arms_of, arm_of, code_of, procedure_of};
 ghost use Rattle.seq.specs.Lists.{is_among};
 ghost use Rattle.dead_store.specs.Holding.{set_holds};
-ghost use Rattle.dead_store.specs.Without.{cells_left, act_left, code_left, arms_left, left_of, is_gone, is_bound_by_store};
+ghost use Rattle.dead_store.specs.Without.{cells_left, act_left, code_left, arms_left, left_of, is_gone};
 
 use grin_syntax::{Alt, Block, Cell, Op, Proc, Stmt};
 use seq::Seq;
@@ -136,14 +136,4 @@ pub(crate) fn removed_variables(
     let left = procs_left(alloc, sites, procs)?;
     let gone = set_of(alloc, left.as_slice())?;
     Ok(gone)
-}
-
-/// A set of the variables that stores of these procedures bind.
-pub(crate) fn stored_variables(alloc: Global, procs: &[Proc]) -> Result<BTreeSet<u32>, AllocError>
-    ensures { IfOk result (λ stored. (x : ℕ) → set_holds stored.keys x
-        ≡ is_bound_by_store (map procedure_of procs.now) x) }
-{
-    let none = BTreeSet::new(alloc);
-    let stored = removed_variables(alloc, &none, procs)?;
-    Ok(stored)
 }

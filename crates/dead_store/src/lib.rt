@@ -1,4 +1,4 @@
-//! A pass: cells that nothing fetches from are not made, and not updated.
+//! Cells that nobody reads: a pass that makes them no more, and before it one on their updates.
 #![tactic(auto)]
 
 mod blocks;
@@ -6,5 +6,7 @@ mod left;
 mod pass;
 mod reads;
 mod sites;
+mod updates;
 
 pub use pass::{DeadStores, without_dead_stores};
+pub use updates::without_unread_updates;

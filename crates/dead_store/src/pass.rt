@@ -16,7 +16,7 @@ ghost use Rattle.dead_store.specs.Without.{without, without_procs};
 
 use crate::blocks::DeadCellRemover;
 use crate::left::removed_variables;
-use crate::sites::staying_sites;
+use crate::sites::read_sites;
 use grin_meaning::Pass;
 use grin_syntax::{Grin, Proc};
 use least_flow::least;
@@ -25,10 +25,9 @@ use seq::Seq;
 use std::alloc::{AllocError, Global};
 use std::collections::BTreeSet;
 
-/// A cell that no fetch of the program reaches, by the least solution of the program's own flow
-/// system, and no update but one on the variable of its own store, is not made. Its group leaves
-/// its block where it loses all its cells, these updates go with it, and the number 0 stands
-/// wherever else its variable stood. Global cells stay.
+/// A cell that no fetch and no update of the program reaches, by the least solution of the program's
+/// own flow system, is not made. Its group leaves its block where it loses all its cells, and the
+/// number 0 stands wherever its variable stood. Global cells stay.
 pub struct DeadStores;
 
 impl Pass for DeadStores {
@@ -59,7 +58,7 @@ pub fn without_dead_stores(alloc: Global, g: Grin, flow: &Flow) -> Result<Grin, 
 fn without_unread(alloc: Global, g: Grin, flow: &Flow) -> Result<Grin, AllocError>
     ensures { IfOk result (λ h. KeepsOnlyStayingCells (found flow.now) (program_of g) (program_of h)) }
 {
-    let sites = staying_sites(alloc, &g, flow)?;
+    let sites = read_sites(alloc, true, &g, flow)?;
     let h = with_cells_of(alloc, g, &sites)?;
     Ok(h)
 }

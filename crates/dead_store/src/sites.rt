@@ -1,4 +1,4 @@
-// The sites whose cells stay.
+// The sites whose cells are read.
 #![tactic(auto)]
 
 ghost use Rattle.std.specs.Prelude.{[], ◌∷◌, map, IfOk, OnOk};
@@ -6,9 +6,8 @@ ghost use Rattle.grin_syntax.specs.Tree.{program_of};
 ghost use Rattle.points_to.specs.Found.{found};
 ghost use Rattle.points_to.specs.Joined.{Joined};
 ghost use Rattle.dead_store.specs.Holding.{set_holds};
-ghost use Rattle.dead_store.specs.Staying.{AreStaying, CellsJoin};
+ghost use Rattle.dead_store.specs.Staying.{AreReadSites, CellsJoin};
 
-use crate::left::stored_variables;
 use crate::reads::words_read;
 use grin_syntax::{GlobalCell, Grin, Site, Word};
 use points_to::Flow;
@@ -56,18 +55,19 @@ fn put_word(flow: &Flow, word: Word, sites: &mut BTreeSet<u32>) -> Result<(), Al
     }
 }
 
-/// The sites whose cells stay: those of the global cells, and those that the program reads.
-pub(crate) fn staying_sites(
+/// The sites of the global cells, and of those that the program fetches from, or updates where
+/// updates count.
+pub(crate) fn read_sites(
     alloc: Global,
+    updates_count: bool,
     g: &Grin,
     flow: &Flow,
 ) -> Result<BTreeSet<u32>, AllocError>
     ensures { IfOk result (λ sites.
-        AreStaying (found flow.now) (program_of g.now) (set_holds sites.keys)) }
+        AreReadSites (found flow.now) (program_of g.now) updates_count (set_holds sites.keys)) }
 {
     let procs = g.procs.as_slice();
-    let stored = stored_variables(alloc, procs)?;
-    let words = words_read(alloc, &stored, procs)?;
+    let words = words_read(alloc, updates_count, procs)?;
     let mut sites = BTreeSet::new(alloc);
     put_globals(g.globals.as_slice(), &mut sites)?;
     for word in words.as_slice() {

@@ -3,6 +3,7 @@
 use crate::outside::{LISTS, Object, Outside};
 use rv32_isa::{decode, show};
 use std::alloc::{AllocError, Global};
+use std::process::Abort;
 use std::test::Fail;
 use worked_texts::QUEENS;
 
@@ -67,7 +68,14 @@ fn parts_of_an_image(rt: HostRuntime) -> Result<(), Fail> {
         let part = image.get(at..).ok_or("a short image")?;
         assert!(rt; part.starts_with(bytes), "{at}");
     }
-    // Each put takes 4,096 bytes or what is left.
+    are_cut_short(&rt, rt.alloc(), &words, &image)?;
+    let image = put_out(rt.alloc(), GREETS, &BUILD)?;
+    are_cut_short(&rt, rt.alloc(), &BUILD, &image)
+}
+
+/// These words build this image. Each put takes 4,096 bytes or what is left, so nothing of it is put
+/// where the first put fails, and 4,096 bytes where the second does.
+fn are_cut_short(rt: &impl Abort, alloc: Global, words: &[&str], image: &[u8]) -> Result<(), Fail> {
     for (call, bytes) in [(0, 0), (1, 4096)] {
         let outside = Outside {
             file: GREETS.as_bytes(),
@@ -75,7 +83,7 @@ fn parts_of_an_image(rt: HostRuntime) -> Result<(), Fail> {
             failing: Some((Object::Out, call)),
         };
         let front = image.get(..bytes).ok_or("a short image")?;
-        let is_so = outside.answers_bytes(rt.alloc(), &words, 10, front, "grinc: write fault\n")?;
+        let is_so = outside.answers_bytes(alloc, words, 10, front, "grinc: write fault\n")?;
         assert!(rt; is_so, "{call}");
     }
     Ok(())

@@ -9,7 +9,30 @@ const CHECK: [&str; 3] = ["grinc", "check", "a"];
 #[test]
 fn refused_texts(rt: HostRuntime) -> Result<(), Fail> {
     let spaces = vec![in rt.alloc(); b' '; 1_048_577]?;
-    let rows: [(&[u8], &str); 6] = [
+    let rows: [(&[u8], &str); 14] = [
+        (&[0xFF], "grinc: refused 1 at 0\n"),
+        (b"data Nil 0; data Cons 2", "grinc: refused 2 at 23\n"),
+        (
+            b"data Nil 0; data Cons 2; main = case",
+            "grinc: refused 2 at 36\n",
+        ),
+        (
+            b"data Nil 0; data Cons 2; main = - 1;",
+            "grinc: refused 1 at 32\n",
+        ),
+        (
+            b"data Nil 0; data Cons 2; data T 2147483648;",
+            "grinc: refused 3 at 32\n",
+        ),
+        (
+            b"data Nil 0; data Cons 2; data T 13;",
+            "grinc: refused 34 at 30\n",
+        ),
+        (b"data Nil 0; data Nil 0;", "grinc: refused 11 at 17\n"),
+        (
+            b"data Nil 0; data Cons 2; main = Cons 1 Nil; main = Nil;",
+            "grinc: refused 12 at 44\n",
+        ),
         (
             b"data Nil 0; data Cons 2; main = foo;",
             "grinc: refused 14 at 32\n",

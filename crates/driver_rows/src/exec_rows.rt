@@ -92,6 +92,30 @@ fn other_images(rt: HostRuntime) -> Result<(), Fail> {
 }
 
 #[test]
+fn images_with_other_bytes(rt: HostRuntime) -> Result<(), Fail> {
+    let rows: [(usize, &[u8], u8, &str); 12] = [
+        (0, &[0x00], 1, "grinc: refused 42 at 0\n"),
+        (4, &[0x02], 1, "grinc: refused 43 at 0\n"),
+        (42, &[0x1F], 1, "grinc: refused 43 at 0\n"),
+        (28, &[0xFF; 4], 1, "grinc: refused 44 at 0\n"),
+        (44, &[0xFF; 2], 1, "grinc: refused 44 at 0\n"),
+        (60, &[0xFC, 0xFF, 0xFF, 0xFF], 1, "grinc: refused 45 at 0\n"),
+        (72, &[0x08], 1, "grinc: refused 45 at 0\n"),
+        (24, &[0x00; 4], 1, "grinc: refused 47 at 0\n"),
+        (76, &[0x04], 1, "grinc: refused 47 at 0\n"),
+        (44, &[0x00], 1, "grinc: refused 47 at 0\n"),
+        (72, &[0x01, 0x00, 0x00, 0x80], 1, "grinc: refused 48 at 0\n"),
+        (24, &[0x55], 7, "grinc: trap misaligned-jump at 65621\n"),
+    ];
+    for (offset, bytes, code, err) in rows {
+        let image = changed(rt.alloc(), offset, bytes)?;
+        let is_so = Outside::of(&image).answers(rt.alloc(), &EXEC, code, "", err)?;
+        assert!(rt; is_so, "{offset} {err}");
+    }
+    Ok(())
+}
+
+#[test]
 fn steps_of_an_image(rt: HostRuntime) -> Result<(), Fail> {
     // jal x0, 0
     let endless = changed(rt.alloc(), 84, &[0x6F, 0x00, 0x00, 0x00])?;

@@ -1,5 +1,5 @@
 -- That the pass meets its contract: the shape of what it makes, and that this keeps the program.
-use Rattle.std.proofs.Common.{◌≡◌, ℕ, ◌≤◌, ◌*◌, ◌+◌, sym, subst, arith}
+use Rattle.std.proofs.Common.{◌≡◌, ℕ, ◌≤◌, ◌*◌, ◌+◌, refl, sym, subst, arith}
 use Rattle.grin_syntax.specs.Tree.{Program}
 use Rattle.grin_meaning.specs.Ready.{Ready, most_value_fields, inlined_kind, without_node_fetches, vectorised_kind, narrow_kind}
 use Rattle.grin_meaning.specs.Keeps.{Keeps}
@@ -46,7 +46,8 @@ module _ (g : Program) (of : IsVectorForm g) where
       narrow = λ most. procs_each (narrow_kind most) (λ v as' bs' h. tt) g.procs;
       by_words = procs_each without_node_fetches (λ v as' bs' h. tt) g.procs;
     };
-    flat = procs_flat g.procs;
+    made = refl;
+    none_nested = procs_flat g.procs;
     same_open = procs_sums (λ v. one_if_some (tag_variable v)) g.procs;
     slim = slim;
   }

@@ -25,8 +25,8 @@ use Rattle.rv32_items.proofs.LastStep.{items_leave, stops_are_behind, stops_are_
 use Rattle.rv32_select.specs.Selects as select
 use Rattle.rv32_select.specs.Selects.{Selects, BelowHeap, start_point}
 use Rattle.grin_compile.specs.Limits.{HeapIsExceeded, FramesAreExceeded, StackIsExceeded}
-use Rattle.grin_compile.specs.Code.{TellsLastStep, Runs, IsCodeFor}
-use Rattle.grin_compile.specs.Layers.{LowCodeIsCarried, LayersCompose}
+use Rattle.grin_compile.specs.Code.{TellsLastStep, HasStops, Runs, IsCodeFor}
+use Rattle.grin_compile.specs.Layers.{LowCodeIsCarried, LayersCompose, CodeHasStops}
 use Rattle.grin_compile.proofs.Composed.{reaches_kept, comes_kept}
 use Rattle.grin_compile.proofs.Selected.{comes, reaches}
 use Rattle.grin_compile.proofs.Images.{starts, code_ends, below_heap, different, in_code}
@@ -45,11 +45,8 @@ whole xs ys b l = b.1 ∙ ap (λ z. xs ++ z) (none b.0 (omega (arith, added xs b
     nothing_more : (xs : List ℕ) → xs ++ [] ≡ xs
     nothing_more xs = grind (arith, common_steps)
 
-module _ (told : Meaning) (entered : List ℕ → ℕ → List ℕ) (StackFull : MeaningResult → Type 0) (l : Program) (a : Assignment) (cells stack : ℕ) (items : List Item) (words : List ℕ)
-    (tells : (i : List ℕ) → IsBytes i → (n : ℕ) → MeaningRefines (told i n) (meaning_of_low l (words_at a) i n))
-    (enters : (i : List ℕ) → IsBytes i → (n : ℕ) → entered_by_low l (words_at a) i n ≡ entered i n)
-    (frames : (i : List ℕ) → IsBytes i → (n : ℕ) → FramesAreExceeded stack (meaning_of_low l (words_at a) i n) → StackFull (told i n))
-    (never : NeverMissing l) (s : Selects l a cells stack items) (placed : Placed items words) (few : length words ≤ 268435456) where
+module _ (l : Program) (a : Assignment) (cells stack : ℕ) (items : List Item) (words : List ℕ)
+    (s : Selects l a cells stack items) (placed : Placed items words) (few : length words ≤ 268435456) where
   abbrev lay : Layout
   lay = placed.lay
 
@@ -62,52 +59,10 @@ module _ (told : Meaning) (entered : List ℕ → ℕ → List ℕ) (StackFull :
   below : BelowHeap lay
   below = below_heap items words placed few
 
-  module _ (i : List ℕ) (bytes : IsBytes i) where
-    never_traps : NeverTrapsOn lay items i start
-    never_traps n kind e = subst (select.EndsLikeRun i (limited l (words_at a) cells stack i (length (procedures_at s.begins (course lay items n i start).passed))) (course lay items n i start)) e (s.follows lay placed.rises below i bytes n).finish
-
-    meets : (m : ℕ) → (n : ℕ) × MachineMeetsItems lay items s.begins i start m n
-    meets m = items_enter items words placed start i s.begins (_, refl) never_traps refl s.stand s.flows.instruction_behind m
-
-    kept : (n : ℕ) → HeapIsExceeded cells (meaning_of_low l (words_at a) i n) → HeapIsExceeded cells (told i n)
-    kept n h = let t = (tells i bytes n).cells in omega (arith, h, t)
-
-    framed : (n : ℕ) → FramesAreExceeded stack (meaning_of_low l (words_at a) i n) → StackFull (told i n)
-    framed n h = frames i bytes n h
-
-    -- what so many steps show is what as many units tell as procedures were met
-    shown : (m : ℕ) → Comes (HeapIsExceeded cells) StackFull (told i) (length (procedures_at addresses (trace m i (state_at lay items start)))) (observed_machine (state_at lay items start) i m)
-    shown m =
-        let k = meets m in
-        let c = course lay items k.0 i start in
-        let n = length (procedures_at s.begins c.passed) in
-        let low = comes l a cells stack never i bytes s.begins c (s.follows lay placed.rises below i bytes k.0) in
-        let up = comes_kept (told i) (meaning_of_low l (words_at a) i) (HeapIsExceeded cells) StackFull (HeapIsExceeded cells) (FramesAreExceeded stack) n (observed_items lay items start i k.0) (tells i bytes) (kept n) (framed n) low in
-        let count : n ≡ length (procedures_at addresses (trace m i (state_at lay items start))) = ap length (sym k.1.entered) in
-        subst (λ j. Comes (HeapIsExceeded cells) StackFull (told i) j (observed_machine (state_at lay items start) i m)) count
-        (subst (Comes (HeapIsExceeded cells) StackFull (told i) n) (sym k.1.seen) up)
-
-    -- the procedures that were met are those that low code enters
-    met : (m : ℕ) → let ps = procedures_at addresses (trace m i (state_at lay items start)) in ps ≡ entered i (length ps)
-    met m =
-        let k = meets m in
-        let c = course lay items k.0 i start in
-        let n = length (procedures_at s.begins c.passed) in
-        let f = s.follows lay placed.rises below i bytes k.0 in
-        let within = (limits_only_stop l (words_at a) cells stack i n).0 in
-        let all = one_entry_a_unit l (words_at a) (record { cells = None; stack = None }) i n in
-        let many : length (world_of (limited l (words_at a) cells stack i n)).entered ≡ n = ap length (sym f.entered) in
-        let same : (world_of (run l (words_at a) i n)).entered ≡ (world_of (limited l (words_at a) cells stack i n)).entered =
-        whole _ _ within.entered (omega (arith, all, many)) in
-        let ps : procedures_at s.begins c.passed ≡ entered i n = f.entered ∙ sym same ∙ enters i bytes n in
-        subst (λ qs. qs ≡ entered i (length qs)) (sym k.1.entered) ps
-
-    reached : (n : ℕ) → (m : ℕ) × ReachesResult (told i n) (observed_machine (state_at lay items start) i m)
-    reached n =
-        let r = s.arrives lay placed.rises below i bytes n in
-        let low = reaches l a cells stack never i bytes s.begins n (course lay items r.0 i start) r.1 in
-        let m = items_are_reached items words placed start i (_, refl) never_traps r.0 in
-        (m.0, subst (ReachesResult (told i n)) (sym m.1.1) (reaches_kept (told i n) (meaning_of_low l (words_at a) i n) (observed_items lay items start i r.0) (tells i bytes n) low))
+  never_traps : (i : List ℕ) → IsBytes i → NeverTrapsOn lay items i start
+  never_traps i bytes n kind e = subst (select.EndsLikeRun i
+      (limited l (words_at a) cells stack i (length (procedures_at s.begins (course lay items n i start).passed)))
+      (course lay items n i start)) e (s.follows lay placed.rises below i bytes n).finish
 
   abbrev image : State
   image = start_of (program words (4 * l.width * cells) stack)
@@ -115,36 +70,116 @@ module _ (told : Meaning) (entered : List ℕ → ℕ → List ℕ) (StackFull :
   begun : state_at lay items start ≡ image
   begun = sym (starts items words placed l.width cells stack)
 
-  pub code_for : IsCodeFor (HeapIsExceeded cells) StackFull told entered (length l.procs) words image addresses
-  code_for = record {
-    one_each = length_map _ s.begins ∙ s.one_each;
-    different = different items words placed s.begins s.stand s.flows.instruction_behind s.different;
-    in_code = in_code items words placed s.begins s.stand s.flows.instruction_behind;
+  pub has_stops : HasStops words image addresses
+  has_stops = record {
     stops = lay.address s.flows.stops;
-    nine_stop = let last = stops_are_last items words placed s.begins s.flows in omega (arith, s.nine_stop, code_ends items words placed);
+    nine_stop = let last = stops_are_last items words placed s.begins s.flows
+        in omega (arith, s.nine_stop, code_ends items words placed);
     before_stops = stops_are_behind items words placed s.begins s.stand s.flows;
     tells_last = λ i bytes m. subst (λ t. TellsLastStep (lay.address s.flows.stops) t i m) begun
-        (items_leave items words placed start i s.flows.stops 5 3 (_, refl) (never_traps i bytes) (s.leaves lay placed.rises below i bytes) m);
-    carries = subst (λ t. Carries (HeapIsExceeded cells) StackFull told (observed_machine t)) begun (record {
-      reaches = reached;
-      comes = λ i bytes m. (length (procedures_at addresses (trace m i (state_at lay items start))), shown i bytes m);
-    });
-    runs = λ i bytes m. subst (λ t. Runs (HeapIsExceeded cells) StackFull told entered addresses t i m) begun (record {
-      enters = met i bytes m;
-      comes = shown i bytes m;
-      forward = items_go_forward items words placed start i s.begins (_, refl) refl (λ n. s.home lay placed.rises below i bytes n) s.stand s.flows m;
-    });
+        (items_leave items words placed start i s.flows.stops 5 3 (_, refl) (never_traps i bytes)
+        (s.leaves lay placed.rises below i bytes) m);
   }
+
+  module _ (told : Meaning) (entered : List ℕ → ℕ → List ℕ) (StackFull : MeaningResult → Type 0)
+      (tells : (i : List ℕ) → IsBytes i → (n : ℕ) → MeaningRefines (told i n) (meaning_of_low l (words_at a) i n))
+      (enters : (i : List ℕ) → IsBytes i → (n : ℕ) → entered_by_low l (words_at a) i n ≡ entered i n)
+      (frames : (i : List ℕ) → IsBytes i → (n : ℕ) → FramesAreExceeded stack (meaning_of_low l (words_at a) i n)
+      → StackFull (told i n))
+      (never : NeverMissing l) where
+    module _ (i : List ℕ) (bytes : IsBytes i) where
+      meets : (m : ℕ) → (n : ℕ) × MachineMeetsItems lay items s.begins i start m n
+      meets m = items_enter items words placed start i s.begins (_, refl)
+          (never_traps i bytes) refl s.stand s.flows.instruction_behind m
+
+      kept : (n : ℕ) → HeapIsExceeded cells (meaning_of_low l (words_at a) i n) → HeapIsExceeded cells (told i n)
+      kept n h = let t = (tells i bytes n).cells in omega (arith, h, t)
+
+      framed : (n : ℕ) → FramesAreExceeded stack (meaning_of_low l (words_at a) i n) → StackFull (told i n)
+      framed n h = frames i bytes n h
+
+      -- what so many steps show is what as many units tell as procedures were met
+      shown : (m : ℕ) → Comes (HeapIsExceeded cells) StackFull (told i)
+          (length (procedures_at addresses (trace m i (state_at lay items start))))
+          (observed_machine (state_at lay items start) i m)
+      shown m =
+          let k = meets m in
+          let c = course lay items k.0 i start in
+          let n = length (procedures_at s.begins c.passed) in
+          let low = comes l a cells stack never i bytes s.begins c (s.follows lay placed.rises below i bytes k.0) in
+          let up = comes_kept (told i) (meaning_of_low l (words_at a) i) (HeapIsExceeded cells) StackFull
+          (HeapIsExceeded cells) (FramesAreExceeded stack) n (observed_items lay items start i k.0) (tells i bytes)
+          (kept n) (framed n) low in
+          let count : n ≡ length (procedures_at addresses (trace m i (state_at lay items start))) = ap length
+          (sym k.1.entered) in
+          subst (λ j. Comes (HeapIsExceeded cells) StackFull (told i) j
+          (observed_machine (state_at lay items start) i m)) count
+          (subst (Comes (HeapIsExceeded cells) StackFull (told i) n) (sym k.1.seen) up)
+
+      -- the procedures that were met are those that low code enters
+      met : (m : ℕ) → let ps = procedures_at addresses (trace m i (state_at lay items start))
+          in ps ≡ entered i (length ps)
+      met m =
+          let k = meets m in
+          let c = course lay items k.0 i start in
+          let n = length (procedures_at s.begins c.passed) in
+          let f = s.follows lay placed.rises below i bytes k.0 in
+          let within = (limits_only_stop l (words_at a) cells stack i n).0 in
+          let all = one_entry_a_unit l (words_at a) (record { cells = None; stack = None }) i n in
+          let many : length (world_of (limited l (words_at a) cells stack i n)).entered ≡ n = ap length (sym f.entered)
+          in
+          let same : (world_of (run l (words_at a) i n)).entered ≡
+          (world_of (limited l (words_at a) cells stack i n)).entered =
+          whole _ _ within.entered (omega (arith, all, many)) in
+          let ps : procedures_at s.begins c.passed ≡ entered i n = f.entered ∙ sym same ∙ enters i bytes n in
+          subst (λ qs. qs ≡ entered i (length qs)) (sym k.1.entered) ps
+
+      reached : (n : ℕ) → (m : ℕ) × ReachesResult (told i n) (observed_machine (state_at lay items start) i m)
+      reached n =
+          let r = s.arrives lay placed.rises below i bytes n in
+          let low = reaches l a cells stack never i bytes s.begins n (course lay items r.0 i start) r.1 in
+          let m = items_are_reached items words placed start i (_, refl) (never_traps i bytes) r.0 in (
+            m.0,
+            subst (ReachesResult (told i n)) (sym m.1.1)
+                (reaches_kept (told i n) (meaning_of_low l (words_at a) i n) (observed_items lay items start i r.0)
+                (tells i bytes n) low),
+          )
+
+    pub code_for : IsCodeFor (HeapIsExceeded cells) StackFull told entered (length l.procs) words image addresses
+    code_for = record {
+      one_each = length_map _ s.begins ∙ s.one_each;
+      different = different items words placed s.begins s.stand s.flows.instruction_behind s.different;
+      in_code = in_code items words placed s.begins s.stand s.flows.instruction_behind;
+      carries = subst (λ t. Carries (HeapIsExceeded cells) StackFull told (observed_machine t)) begun (record {
+        reaches = reached;
+        comes = λ i bytes m. (
+          length (procedures_at addresses (trace m i (state_at lay items start))),
+          shown i bytes
+              m,
+        );
+      });
+      runs = λ i bytes m. subst (λ t. Runs (HeapIsExceeded cells) StackFull told entered addresses t i m) begun
+          (record {
+            enters = met i bytes m;
+            comes = shown i bytes m;
+            forward = items_go_forward items words placed start i s.begins (_, refl) refl
+                (λ n. s.home lay placed.rises below i bytes n) s.stand s.flows m;
+          });
+    }
 
 pub low_code_is_carried : LowCodeIsCarried
 low_code_is_carried l a cells stack items words never s placed few =
-    code_for (meaning_of_low l (words_at a)) (entered_by_low l (words_at a)) (FramesAreExceeded stack) l a cells stack items words
-    (λ i bytes n. tells_itself (meaning_of_low l (words_at a) i n)) (λ i bytes n. refl) (λ i bytes n h. h) never s placed few
+    code_for l a cells stack items words s placed few (meaning_of_low l (words_at a)) (entered_by_low l (words_at a))
+    (FramesAreExceeded stack)
+    (λ i bytes n. tells_itself (meaning_of_low l (words_at a) i n)) (λ i bytes n. refl) (λ i bytes n h. h) never
   where
     tells_itself : (t : MeaningResult) → MeaningRefines t t
     tells_itself t = record { out = refl; end = refl; used = refl; cells = omega arith }
 
+pub code_has_stops : CodeHasStops
+code_has_stops l a cells stack items words s placed few = has_stops l a cells stack items words s placed few
+
 pub layers_compose : LayersCompose
 layers_compose told entered l a frame cells stack items words tells enters frames never s placed few =
-    code_for told entered (StackIsExceeded frame stack) l a cells stack items words tells enters
-    (λ i bytes n h. let f = frames i bytes n in omega (arith, h, f)) never s placed few
+    code_for l a cells stack items words s placed few told entered (StackIsExceeded frame stack) tells enters
+    (λ i bytes n h. let f = frames i bytes n in omega (arith, h, f)) never

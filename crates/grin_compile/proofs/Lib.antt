@@ -2,11 +2,15 @@ pub mod Composed
 pub mod Selected
 pub mod Images
 pub mod Layered
+pub mod WordsLeft
+pub mod WordsDone
+pub mod ProcedureWords
 pub mod Paced
 pub mod Tells
 pub mod Frames
 pub mod Sizes
 pub mod FromLayers
+pub mod Bounds
 pub mod Narrow
 pub mod Passed
 pub mod Stepped

@@ -16,13 +16,6 @@ image_start_state code heap_bytes stack = start_of (program code heap_bytes stac
 abbrev pub IsInCode : (code : List ℕ) → ℕ → Type 0
 IsInCode code b = (code_start ≤ b) × (b < code_start + 4 * length code)
 
--- where a run has exited since it found no alternative, x5 is 4 behind the last of its steps that
--- stood before `stops`
-abbrev pub TellsLastStep : (stops : ℕ) → (start : State) → (i : List ℕ) → (m : ℕ) → Type 0
-TellsLastStep stops start i m =
-    (s : State) → (run m i start).end ≡ Exited 3 s
-    → IsLastBefore stops (trace m i start) (s.regs 5 - 4)
-
 -- a meaning, and the procedures that it enters; and when what it tells needs more than was given
 module _ (HeapFull StackFull : MeaningResult → Type 0) (told : Meaning)
     (entered : List ℕ → ℕ → List ℕ) where
@@ -42,11 +35,22 @@ module _ (HeapFull StackFull : MeaningResult → Type 0) (told : Meaning)
     pub one_each : length addresses ≡ procs
     pub different : AllDifferent addresses
     pub in_code : (b : ℕ) → is_one_of addresses b ≡ true → IsInCode code b
-    -- where the code of procedures ends: the last nine instructions are those by which an image
-    -- stops early
-    pub stops : ℕ
-    pub nine_stop : stops + 4 * 9 ≡ code_start + 4 * length code
-    pub before_stops : (b : ℕ) → is_one_of addresses b ≡ true → b < stops
-    pub tells_last : (i : List ℕ) → IsBytes i → (m : ℕ) → TellsLastStep stops start i m
     pub carries : Carries HeapFull StackFull told (observed_machine start)
     pub runs : (i : List ℕ) → IsBytes i → (m : ℕ) → Runs addresses start i m
+
+-- ---- the early stops of an image
+
+-- where a run has exited since it found no alternative, x5 is 4 behind the last of its steps that
+-- stood before `stops`
+abbrev pub TellsLastStep : (stops : ℕ) → (start : State) → (i : List ℕ) → (m : ℕ) → Type 0
+TellsLastStep stops start i m =
+    (s : State) → (run m i start).end ≡ Exited 3 s
+    → IsLastBefore stops (trace m i start) (s.regs 5 - 4)
+
+-- where the code of procedures ends: the last nine instructions are those by which an image stops
+-- early, and they tell the last step before them
+pub record HasStops (code : List ℕ) (start : State) (addresses : List ℕ) : Type 0 where
+  pub stops : ℕ
+  pub nine_stop : stops + 4 * 9 ≡ code_start + 4 * length code
+  pub before_stops : (b : ℕ) → is_one_of addresses b ≡ true → b < stops
+  pub tells_last : (i : List ℕ) → IsBytes i → (m : ℕ) → TellsLastStep stops start i m

@@ -1,6 +1,6 @@
 -- How the contracts of the layers below the stages compose.
 use Rattle.std.specs.Prelude.{◌≡◌, ℕ, ◌+◌, ◌*◌, ◌≤◌, List, length}
-use Rattle.headline.specs.Carries.{IsBytes, Meaning, Comes, Carries, KeepsPace, MeaningRefines}
+use Rattle.headline.specs.Carries.{IsBytes, Meaning, Comes, Carries, MeaningRefines}
 use Rattle.arity_check.specs.Accepted.{IsValid}
 use Rattle.arity_check.specs.Program as core
 use Rattle.elf32.specs.File.{file_of, program}
@@ -18,14 +18,15 @@ use Rattle.register_alloc.specs.Assignment.{Assignment, words_at}
 use Rattle.register_alloc.specs.Fits.{Fits}
 use Rattle.rv32_items.specs.declared.Item.{Item}
 use Rattle.rv32_items.specs.Course.{Layout, course}
-use Rattle.rv32_items.specs.Placed.{size_of, AddressesRise, Placed}
+use Rattle.rv32_items.specs.Placed.{AddressesRise, Placed}
 use Rattle.rv32_items.specs.Told.{observed_items}
 use Rattle.rv32_items.specs.Laws.{addresses_of}
 use Rattle.rv32_steps.specs.Seen.{observed_machine}
 use Rattle.rv32_steps.specs.Trace.{procedures_at}
 use Rattle.rv32_select.specs.Selects.{Selects, BelowHeap, start_point}
 use Rattle.grin_compile.specs.Limits.{HeapIsExceeded, FramesAreExceeded, StackIsExceeded, heap_bytes}
-use Rattle.grin_compile.specs.Code.{image_start_state, IsCodeFor}
+use Rattle.grin_compile.specs.Code.{image_start_state, IsCodeFor, HasStops}
+use Rattle.grin_compile.specs.Words.{start_words, code_words, StepsAreWithinWords, KeepsPaceByWords}
 use Rattle.grin_compile.specs.Stages.{passes, AreStages, IsLastSlim}
 use Rattle.grin_compile.specs.Made.{IsImageOf}
 use Rattle.limits.specs.Limits.{largest_program, most_code}
@@ -57,6 +58,15 @@ LowCodeIsCarried =
     (entered_by_low l (words_at a)) (length l.procs) words
     (image_start_state words (4 * l.width * cells) stack) (addresses_of placed.lay items s.begins)
 
+-- they end with the stops, by which an image ends early,
+abbrev pub CodeHasStops : Type 0
+CodeHasStops =
+    (l : Program) (a : Assignment) (cells stack : ℕ) (items : List Item) (words : List ℕ)
+    → (s : Selects l a cells stack items) → (placed : Placed items words)
+    → length words ≤ most_code
+    → HasStops words (image_start_state words (4 * l.width * cells) stack)
+    (addresses_of placed.lay items s.begins)
+
 -- and for what tells the same and enters the same, where the frames are within a bound for each
 -- level of nesting
 abbrev pub LayersCompose : Type 0
@@ -74,17 +84,29 @@ LayersCompose =
     told entered (length l.procs) words
     (image_start_state words (4 * l.width * cells) stack) (addresses_of placed.lay items s.begins)
 
--- the machine keeps pace with what the low code tells, where all items take no more words than
--- there are steps for the start and for each unit
+-- the machine does no more steps than there are words, those of each procedure as often as it is
+-- entered,
 abbrev pub LayersBoundSteps : Type 0
 LayersBoundSteps =
-    (told : Meaning) (l : Program) (a : Assignment) (cells stack steps : ℕ) (items : List Item)
-    (words : List ℕ)
+    (l : Program) (a : Assignment) (cells stack : ℕ) (items : List Item) (words : List ℕ)
+    → (s : Selects l a cells stack items) → (placed : Placed items words)
+    → length words ≤ most_code
+    → StepsAreWithinWords words (addresses_of placed.lay items s.begins)
+    (image_start_state words (4 * l.width * cells) stack)
+
+-- and keeps pace to the word with what tells the same and enters the same
+abbrev pub LayersKeepPace : Type 0
+LayersKeepPace =
+    (told : Meaning) (entered : List ℕ → ℕ → List ℕ) (l : Program) (a : Assignment)
+    (cells stack : ℕ) (items : List Item) (words : List ℕ)
     → ((i : List ℕ) → IsBytes i → (n : ℕ)
     → MeaningRefines (told i n) (meaning_of_low l (words_at a) i n))
-    → NeverMissing l → Selects l a cells stack items → Placed items words
-    → length words ≤ most_code → size_of items ≤ steps
-    → KeepsPace steps told (observed_machine (image_start_state words (4 * l.width * cells) stack))
+    → ((i : List ℕ) → IsBytes i → (n : ℕ) → entered_by_low l (words_at a) i n ≡ entered i n)
+    → NeverMissing l → (s : Selects l a cells stack items) → (placed : Placed items words)
+    → length words ≤ most_code →
+    let addresses = addresses_of placed.lay items s.begins in
+    KeepsPaceByWords (start_words words addresses) (code_words words addresses) told entered
+    (observed_machine (image_start_state words (4 * l.width * cells) stack))
 
 -- what the layers below GRIN make of a program of GRIN: low code, places for its variables, items,
 -- and words
@@ -107,5 +129,5 @@ MadeFromLayers =
     → (made : AreLayers g l a cells stack items words)
     → file ≡ file_of words (heap_bytes g cells) stack
     → Loads file (program words (heap_bytes g cells) stack)
-    → IsImageOf p A g cells stack words
+    → IsImageOf p A g l a.frames cells stack words
     (addresses_of made.placed.lay items made.selects.begins) file

@@ -1,10 +1,13 @@
 pub mod Limits
 pub mod Code
+pub mod Words
 pub mod Stages
 pub mod Passed
 pub mod Made
+pub mod Bounds
 pub mod Layers
 pub mod Lowerable
+pub mod Provenance
 pub mod Compilation
 pub mod Parts
 pub mod Built

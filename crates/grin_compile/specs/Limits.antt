@@ -1,5 +1,5 @@
 -- How much room an image has, and when that is too little.
-use Rattle.std.specs.Prelude.{ℕ, ◌+◌, ◌*◌, ◌/◌, ◌≤◌, ◌<◌}
+use Rattle.std.specs.Prelude.{ℕ, ◌+◌, ◌*◌, ◌/◌, ◌≤◌, ◌<◌, max, List, [], ◌∷◌, slice_index_or}
 use Rattle.headline.specs.Carries.{MeaningResult}
 use Rattle.arity_check.specs.Program as core
 use Rattle.grin_syntax.specs.Tree.{Program}
@@ -21,6 +21,19 @@ FramesAreExceeded stack t = stack < 4 * t.depth
 -- the nesting, the outermost level counted, times the bound of a frame is more than the stack
 abbrev pub StackIsExceeded : (frame stack : ℕ) → MeaningResult → Type 0
 StackIsExceeded frame stack t = stack < frame * (t.depth + 1)
+
+-- the greatest of these numbers, and zero where there is none
+abbrev pub greatest : List ℕ → ℕ
+greatest [] = 0
+greatest (n ∷ ns) = max n (greatest ns)
+
+-- the words of the frame of a procedure, where these are the words of each one's
+abbrev pub frame_words : (frames : List ℕ) → (proc : ℕ) → ℕ
+frame_words frames f = slice_index_or frames f 0
+
+-- the bytes of the largest of frames of so many words
+abbrev pub largest_frame : (frames : List ℕ) → ℕ
+largest_frame frames = 4 * greatest frames
 
 -- no frame has more bytes than this: a word for the return address, and at most twenty for each
 -- unit of the size of the largest procedure, once evaluations and applications are inlined

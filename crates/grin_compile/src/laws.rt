@@ -1,6 +1,7 @@
 // Laws on the layers, about definitions alone: functions without a body.
 
-ghost use Rattle.grin_compile.specs.Layers.{LayersCompose, LayersBoundSteps, LowCodeIsCarried, MadeFromLayers, SelectionCarriesLowCode};
+ghost use Rattle.grin_compile.specs.Bounds.{ImageIsWithinBounds};
+ghost use Rattle.grin_compile.specs.Layers.{LayersCompose, LayersBoundSteps, LayersKeepPace, LowCodeIsCarried, MadeFromLayers, SelectionCarriesLowCode, CodeHasStops};
 ghost use Rattle.grin_translate.specs.Same.{ValidTranslationPreservesRuns};
 
 use grin_translate::translation_refines;
@@ -16,14 +17,25 @@ pub fn low_code_is_carried()
     ensures { LowCodeIsCarried }
 {}
 
-/// They are code for each meaning that the low code tells, where its frames are within a bound.
+/// They end with the stops, which tell the last step before them where no alternative was found.
+pub fn code_has_stops()
+    ensures { CodeHasStops }
+{}
+
+/// Such words are code for each meaning that the low code tells, where its frames are within a bound.
 pub fn layers_compose()
     ensures { LayersCompose }
 {}
 
-/// The machine does no more steps for the start and for each unit than all items take words.
+/// The machine does no more steps than there are words before the procedures, in each one that was
+/// entered, each time, and behind them.
 pub fn layers_bound_steps()
     ensures { LayersBoundSteps }
+{}
+
+/// So many steps are enough for what the low code tells with the units that are these entries.
+pub fn layers_keep_pace()
+    ensures { LayersKeepPace }
 {}
 
 /// What the layers below GRIN make of the last slim stage of a program is an image of the program.
@@ -32,3 +44,8 @@ pub fn made_from_layers()
 {
     translation_refines();
 }
+
+/// What an image needs is within the bounds that are known of its program alone.
+pub fn image_is_within_bounds()
+    ensures { ImageIsWithinBounds }
+{}

@@ -23,7 +23,7 @@ use Rattle.grin_driver.proofs.Outcomes.{not_run_long}
 -- the text whose program this is an image of
 pub image_of : (text : List ℕ) (cells stack : ℕ) (source : tree.Program) (p : Program) → IsAccepted text source p → Fits p
     → (b : Built) → IsBuilt p cells (whole_words stack) b → IsImageOf text cells stack b.image.items
-image_of text cells stack source p accepted fits b built = record { source = source; program = p; accepted = accepted; fits = fits; made = built.made }
+image_of text cells stack source p accepted fits b built = record { source = source; program = p; accepted = accepted; fits = fits; made = built.made; stops = built.through.stops }
 
 pub code_of : (text : List ℕ) (cells stack : ℕ) (source : tree.Program) (p : Program) → IsAccepted text source p → Fits p
     → (b : Built) → IsBuilt p cells (whole_words stack) b → IsCodeOf text cells stack b.code.items
@@ -32,7 +32,7 @@ code_of text cells stack source p accepted fits b built = record {
   file = b.image.items;
   from = image_of text cells stack source p accepted fits b built;
   is_code = sym built.code;
-  decode = built.decode;
+  decode = subst AllDecode (sym built.code) built.through.decode;
 }
 
 -- what is kept of it

@@ -12,7 +12,8 @@ use Rattle.rv32_machine.specs.Runs.{run, pieces}
 use Rattle.rv32_machine.proofs.Loops.{pieces_are_the_output}
 use Rattle.rv32_machine.specs.declared.machine.Stop.{Stop}
 use Rattle.rv32_machine.specs.declared.machine.Stop.TheVariants.{Steps, Exit, Trap}
-use Rattle.grin_compile.specs.Limits.{HeapIsExceeded, StackIsExceeded, frame_bound, steps_per_unit}
+use Rattle.grin_compile.specs.Limits.{HeapIsExceeded, StackIsExceeded, largest_frame}
+use Rattle.grin_compile.specs.Words.{most_steps}
 use Rattle.text_commands.specs.declared.status.Status.{Status}
 use Rattle.text_commands.specs.declared.status.Status.TheVariants.{Done, Refused, NoAlternative, HeapFull, StackFull, StepLimit, OutOfMemory, ReadFault, WriteFault}
 use Rattle.grin_driver.specs.Execution.{OfGiven, Stops, Execution, status_of}
@@ -56,16 +57,16 @@ module _ (text file : List ℕ) (from : IsDefaultImageOf text file) (rest : List
     few : length (seen_of image).out ≤ 4096
     few = subst (λ (l : List ℕ). length l ≤ 4096) (pieces_are_the_output 1000000000 [] (start_of image)) held.room
 
-    told : (n : ℕ) × Comes (HeapIsExceeded 1000000) (StackIsExceeded (frame_bound from.program from.made.solution) 1048576) (core_program_meaning from.program []) n (seen_of image)
+    told : (n : ℕ) × Comes (HeapIsExceeded 1000000) (StackIsExceeded (largest_frame from.made.frames) 1048576) (core_program_meaning from.program []) n (seen_of image)
     told = (carried text 1000000 1048576 file from image loads).comes [] tt 1000000000
 
-    reaches : (n : ℕ) → steps_per_unit from.program from.made.solution * (n + 1) ≤ 1000000000 → ReachesResult (core_program_meaning from.program [] n) (seen_of image)
+    reaches : (n : ℕ) → most_steps from.made.code from.made.addresses * (n + 1) ≤ 1000000000 → ReachesResult (core_program_meaning from.program [] n) (seen_of image)
     reaches n enough = paced text 1000000 1048576 file from image loads [] tt n 1000000000 enough
 
-    finish : Finishes (HeapIsExceeded 1000000) (StackIsExceeded (frame_bound from.program from.made.solution) 1048576) (core_program_meaning from.program []) told.0 (seen_of image) (finish_by stop)
+    finish : Finishes (HeapIsExceeded 1000000) (StackIsExceeded (largest_frame from.made.frames) 1048576) (core_program_meaning from.program []) told.0 (seen_of image) (finish_by stop)
     finish =
-        finishes input sink (HeapIsExceeded 1000000) (StackIsExceeded (frame_bound from.program from.made.solution) 1048576) (core_program_meaning from.program []) image 1000000000 [] given told
-        (steps_per_unit from.program from.made.solution) reaches stop
+        finishes input sink (HeapIsExceeded 1000000) (StackIsExceeded (largest_frame from.made.frames) 1048576) (core_program_meaning from.program []) image 1000000000 [] given told
+        (most_steps from.made.code from.made.addresses) reaches stop
         (stops.stands [] begun_with).0
 
     ended : (status : Status) → status_by (finish_by stop) ≡ Some status → EndsWithStatus from status

@@ -25,7 +25,8 @@ use Rattle.rv32_machine.specs.declared.machine.Stop.TheVariants.{Steps, Exit, Tr
 use Rattle.rv32_steps.specs.Seen.{observed_image, finish_of}
 use Rattle.rv32_steps.specs.Trace.{trace, IsLastBefore}
 use Rattle.grin_compile.specs.Code.{TellsLastStep}
-use Rattle.grin_compile.specs.Limits.{heap_bytes, HeapIsExceeded, StackIsExceeded, frame_bound, steps_per_unit, whole_words}
+use Rattle.grin_compile.specs.Limits.{heap_bytes, HeapIsExceeded, StackIsExceeded, largest_frame, whole_words}
+use Rattle.grin_compile.specs.Words.{most_steps}
 use Rattle.text_commands.specs.declared.status.Status.{Status}
 use Rattle.text_commands.specs.declared.status.Status.TheVariants.{Refused, NoAlternative, Exited, OutOfMemory, ReadFault, WriteFault}
 use Rattle.grin_driver.specs.Listing.{IsListFailure}
@@ -89,17 +90,17 @@ loadable file image k at loads u = loads.unbroken u.refusal (rule_below u.refusa
 
 -- whatever a text's file loads as carries the text's program
 pub carried : (text : List ℕ) (cells stack : ℕ) (file : List ℕ) (from : IsImageOf text cells stack file) (image : Image) → Loads file image
-    → Carries (HeapIsExceeded cells) (StackIsExceeded (frame_bound from.program from.made.solution) (whole_words stack)) (core_program_meaning from.program) (observed_image image)
+    → Carries (HeapIsExceeded cells) (StackIsExceeded (largest_frame from.made.frames) (whole_words stack)) (core_program_meaning from.program) (observed_image image)
 carried text cells stack file from image loads =
-    subst (λ b. Carries (HeapIsExceeded cells) (StackIsExceeded (frame_bound from.program from.made.solution) (whole_words stack)) (core_program_meaning from.program) (observed_image b))
+    subst (λ b. Carries (HeapIsExceeded cells) (StackIsExceeded (largest_frame from.made.frames) (whole_words stack)) (core_program_meaning from.program) (observed_image b))
     (from.made.image.loads.program ∙ sym loads.program) from.made.image.code_for.carries
 
 -- and where it exits with 3, x5 tells its last step in the code of the procedures
 tells_last : (text : List ℕ) (cells stack : ℕ) (file : List ℕ) (from : IsImageOf text cells stack file) (image : Image) → Loads file image
-    → (bytes : List ℕ) → IsBytes bytes → (m : ℕ) → TellsLastStep from.made.image.code_for.stops (start_of image) bytes m
+    → (bytes : List ℕ) → IsBytes bytes → (m : ℕ) → TellsLastStep from.stops.stops (start_of image) bytes m
 tells_last text cells stack file from image loads bytes are m =
-    subst (λ b. TellsLastStep from.made.image.code_for.stops (start_of b) bytes m)
-    (from.made.image.loads.program ∙ sym loads.program) (from.made.image.code_for.tells_last bytes are m)
+    subst (λ b. TellsLastStep from.stops.stops (start_of b) bytes m)
+    (from.made.image.loads.program ∙ sym loads.program) (from.stops.tells_last bytes are m)
 
 told_by : (e : MachineEnd) (stops : ℕ) (way : List ℕ) (x5 : ℕ) → ((s : State) → e ≡ exited 3 s → IsLastBefore stops way (s.regs 5 - 4)) → stop_at e ≡ Exit 3 → reg (state_at e) 5 ≡ x5
     → IsLastBefore stops way (x5 - 4)
@@ -122,9 +123,9 @@ exits_with_3 (Trap kind pc) e = cc
 
 -- and keeps pace with it
 pub paced : (text : List ℕ) (cells stack : ℕ) (file : List ℕ) (from : IsImageOf text cells stack file) (image : Image) → Loads file image
-    → KeepsPace (steps_per_unit from.program from.made.solution) (core_program_meaning from.program) (observed_image image)
+    → KeepsPace (most_steps from.made.code from.made.addresses) (core_program_meaning from.program) (observed_image image)
 paced text cells stack file from image loads =
-    subst (λ b. KeepsPace (steps_per_unit from.program from.made.solution) (core_program_meaning from.program) (observed_image b))
+    subst (λ b. KeepsPace (most_steps from.made.code from.made.addresses) (core_program_meaning from.program) (observed_image b))
     (from.made.image.loads.program ∙ sym loads.program) from.made.image.paced
 
 -- where a machine runs on, what it has come to has no end
@@ -262,18 +263,18 @@ module _ {I K : Type 0} (i : SourceChange I) (o : SinkChange K) (text : List ℕ
   abbrev Said : (given : List ℕ) → (ended : Bool) → Status → Type 0
   Said given ended status =
       (bytes : List ℕ) → BeginsWith given ended bytes → IsBytes bytes
-      → Says i o (HeapIsExceeded cells) (StackIsExceeded (frame_bound from.program from.made.solution) (whole_words stack)) (core_program_meaning from.program bytes) given
-      (steps_per_unit from.program from.made.solution) steps status
+      → Says i o (HeapIsExceeded cells) (StackIsExceeded (largest_frame from.made.frames) (whole_words stack)) (core_program_meaning from.program bytes) given
+      (most_steps from.made.code from.made.addresses) steps status
 
   module _ (image : Image) (loads : Loads file image) (given : List ℕ) (ended : Bool) where
     said : (stop : Stop) → Stops i o image steps stop given ended → Said given ended (status_of_exit (status_of stop))
     said stop stops bytes begins are =
         let c = (carried text cells stack file from image loads).comes bytes are steps in
         let s = stops.stands bytes begins in
-        let each = steps_per_unit from.program from.made.solution in
+        let each = most_steps from.made.code from.made.addresses in
         let reaches = λ (n : ℕ) (enough : each * (n + 1) ≤ steps). paced text cells stack file from image loads bytes are n steps enough in
         let Heap = HeapIsExceeded cells in
-        let Stack = StackIsExceeded (frame_bound from.program from.made.solution) (whole_words stack) in
+        let Stack = StackIsExceeded (largest_frame from.made.frames) (whole_words stack) in
         says_stopped i o Heap Stack (core_program_meaning from.program bytes) image steps bytes given c each reaches stop
         (finish_is i o Heap Stack (core_program_meaning from.program bytes) image steps bytes given c each reaches stop s.0)
         (finishes i o Heap Stack (core_program_meaning from.program bytes) image steps bytes given c each reaches stop s.0) (stops.took bytes begins) s.1
@@ -302,8 +303,8 @@ module _ {I K : Type 0} (i : SourceChange I) (o : SinkChange K) (text : List ℕ
     }
 
     -- no program says this of the bytes that were given
-    never : (status : Status) → ReadExactly i given ended → Said given ended status → Says i o (HeapIsExceeded cells) (StackIsExceeded (frame_bound from.program from.made.solution) (whole_words stack)) (core_program_meaning from.program given) given
-        (steps_per_unit from.program from.made.solution) steps status
+    never : (status : Status) → ReadExactly i given ended → Said given ended status → Says i o (HeapIsExceeded cells) (StackIsExceeded (largest_frame from.made.frames) (whole_words stack)) (core_program_meaning from.program given) given
+        (most_steps from.made.code from.made.addresses) steps status
     never status gave says = says given (itself given ended) (are_bytes i.gives i.old i.new given ended gave.reads)
 
     -- the run stopped
@@ -320,9 +321,9 @@ module _ {I K : Type 0} (i : SourceChange I) (o : SinkChange K) (text : List ℕ
 
     -- where its last step in the code of the procedures stood
     stood : (stop : Stop) → Stops i o image steps stop given ended → (c : RunCounts) → AreCounts image steps given ended c → status_of_exit (status_of stop) ≡ NoAlternative
-        → (bytes : List ℕ) → BeginsWith given ended bytes → IsBytes bytes → IsLastBefore from.made.image.code_for.stops (trace steps bytes (start_of image)) (c.link - 4)
+        → (bytes : List ℕ) → BeginsWith given ended bytes → IsBytes bytes → IsLastBefore from.stops.stops (trace steps bytes (start_of image)) (c.link - 4)
     stood stop ran c are is bytes begins all =
-        told_by (run steps bytes (start_of image)).end from.made.image.code_for.stops (trace steps bytes (start_of image)) c.link
+        told_by (run steps bytes (start_of image)).end from.stops.stops (trace steps bytes (start_of image)) c.link
         (tells_last text cells stack file from image loads bytes all steps) ((ran.stands bytes begins).0 ∙ exits_with_3 stop is) (are.x5 bytes begins)
 
     -- what it cost
@@ -371,7 +372,7 @@ module _ {I K : Type 0} (i : SourceChange I) (o : SinkChange K) (text : List ℕ
   -- a call failed
   broken : (fault : Fault) (image : Image) → Loads file image → (given : List ℕ) (ended : Bool) → IsBytes given → (f : Fails i o image steps fault given ended)
       → (bytes : List ℕ) → BeginsWith given ended bytes → IsBytes bytes
-      → Breaks i o (HeapIsExceeded cells) (StackIsExceeded (frame_bound from.program from.made.solution) (whole_words stack)) (core_program_meaning from.program bytes) given
+      → Breaks i o (HeapIsExceeded cells) (StackIsExceeded (largest_frame from.made.frames) (whole_words stack)) (core_program_meaning from.program bytes) given
   broken fault image loads given ended are f bytes begins all =
       let c = (carried text cells stack file from image loads).comes bytes all steps in
       record { units = c.0; took = took_front i o steps bytes (start_of image) fault (core_program_meaning from.program bytes c.0).out (f.puts bytes begins) c.1.output; gave = let uses = f.uses bytes begins in let most = c.1.used in omega (arith, uses, most) }

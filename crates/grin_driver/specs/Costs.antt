@@ -126,7 +126,7 @@ module _ {I K : Type 0} (i : SourceChange I) (o : SinkChange K) where
     pub are : AreCounts runs.image steps runs.given runs.ended counts
     pub at : ℕ
     pub stood : status ≡ NoAlternative → StoodLast runs.image steps runs.given runs.ended
-        runs.from.made.image.code_for.stops at
+        runs.from.stops.stops at
     pub cost_is :
         IsRunCost (heap_bytes runs.from.made.g 1) cells runs.from.made.addresses
         (names_of runs.from.made.g.procs) status at counts cost

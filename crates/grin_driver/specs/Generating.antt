@@ -8,7 +8,8 @@ use Rattle.elf32.specs.Rules.{Loads}
 use Rattle.headline.specs.Carries.{MachineStatus, runs, exits, MachineObservation, Comes, ReachesResult}
 use Rattle.rv32_steps.specs.Seen.{observed_image}
 use Rattle.grin_io.specs.Changes.{SinkChange, TookExactly, PutFailed}
-use Rattle.grin_compile.specs.Limits.{HeapIsExceeded, StackIsExceeded, frame_bound, steps_per_unit}
+use Rattle.grin_compile.specs.Limits.{HeapIsExceeded, StackIsExceeded, largest_frame}
+use Rattle.grin_compile.specs.Words.{most_steps}
 use Rattle.text_commands.specs.declared.status.Status.{Status}
 use Rattle.text_commands.specs.declared.status.Status.TheVariants.{Done, Refused, NoAlternative, HeapFull, StackFull, StepLimit, OutOfMemory, WriteFault}
 use Rattle.grin_driver.specs.Outcome.{IsRunRefusal, IsImageOf}
@@ -45,12 +46,12 @@ pub record EndsWithStatus {text file : List ℕ} (from : IsDefaultImageOf text f
   pub units : ℕ
   pub comes :
       Comes (HeapIsExceeded default_cells)
-      (StackIsExceeded (frame_bound from.program from.made.solution) default_stack)
+      (StackIsExceeded (largest_frame from.made.frames) default_stack)
       (core_program_meaning from.program []) units (seen_of image)
   -- for whatever number of units the steps are enough, the run has come as far as the program
   -- does within them
   pub keeps_pace :
-      (n : ℕ) → steps_per_unit from.program from.made.solution * (n + 1) ≤ default_steps
+      (n : ℕ) → most_steps from.made.code from.made.addresses * (n + 1) ≤ default_steps
       → ReachesResult (core_program_meaning from.program [] n) (seen_of image)
 
 -- the run of the image wrote more

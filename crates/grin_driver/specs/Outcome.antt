@@ -11,8 +11,9 @@ use Rattle.grin_io.specs.declared.outside.Fault.TheVariants.{Read, Write}
 use Rattle.headline.specs.Carries.{End, going, done, no_alternative, MeaningResult as Telling, IsBytes, IsPrefixOf, ExtendsShorterRun}
 use Rattle.rv32_machine.specs.declared.machine.Stop.TheVariants.{Steps, Exit}
 use Rattle.grin_stages.specs.Stage.{Fits}
-use Rattle.grin_compile.specs.Limits.{HeapIsExceeded, StackIsExceeded, frame_bound, steps_per_unit, whole_words}
-use Rattle.grin_compile.specs.Made.{Made}
+use Rattle.grin_compile.specs.Limits.{HeapIsExceeded, StackIsExceeded, largest_frame, whole_words}
+use Rattle.grin_compile.specs.Words.{most_steps}
+use Rattle.grin_compile.specs.Made.{Made, EndsWithStops}
 use Rattle.text_commands.specs.declared.status.Status.{Status}
 use Rattle.text_commands.specs.declared.status.Status.TheVariants.{Done, Refused, NoAlternative, HeapFull, StackFull, StepLimit, Exited, OutOfMemory, ReadFault, WriteFault}
 use Rattle.text_commands.specs.Text.{IsRefusedBy, IsAccepted}
@@ -29,13 +30,14 @@ IsRunRefusal text rule number =
     IsRefusedBy text rule number ⊎ ((rule ≡ 36) × IsLargeText text number)
 
 -- The text breaks no rule, and this is the file of an image that is made of its program, with so
--- many cells and so many bytes of stack, of which whole words are used.
+-- many cells and so many bytes of stack, of which whole words are used. Its code ends with the stops.
 pub record IsImageOf (text : List ℕ) (cells stack : ℕ) (file : List ℕ) : Type 0 where
   pub source : tree.Program
   pub program : Program
   pub accepted : IsAccepted text source program
   pub fits : Fits program
   pub made : Made program cells (whole_words stack) file
+  pub stops : EndsWithStops made
 
 -- why no image is made of a text
 abbrev pub IsBuildFailure : (text : List ℕ) → Status → Type 0
@@ -133,9 +135,9 @@ module _ {I K : Type 0} (i : SourceChange I) (o : SinkChange K) where
     pub unread : params from.program from.program.main ≡ 0 → i.new ≡ i.old
     pub ran : RunsTo image steps status given ended
     pub says : (bytes : List ℕ) → BeginsWith given ended bytes → IsBytes bytes
-        → Says (HeapIsExceeded cells) (StackIsExceeded (frame_bound from.program from.made.solution)
+        → Says (HeapIsExceeded cells) (StackIsExceeded (largest_frame from.made.frames)
         (whole_words stack)) (core_program_meaning from.program bytes) given
-        (steps_per_unit from.program from.made.solution) steps status
+        (most_steps from.made.code from.made.addresses) steps status
 
   -- The status of a text, with so many cells, bytes of stack and steps. At a refusal and for want
   -- of memory nothing was touched.

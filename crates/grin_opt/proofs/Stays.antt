@@ -4,11 +4,13 @@ use Rattle.grin_syntax.specs.Tree.{Program}
 use Rattle.grin_meaning.specs.Ready.{IsInlined}
 use Rattle.pass_ground.specs.OpenUpdates.{updates_with_variable_tag}
 use Rattle.stage_names.specs.declared.PassName.{PassName}
-use Rattle.stage_names.specs.declared.PassName.TheVariants.{Translate, Eval, Apply, Vectorise, Update}
+use Rattle.fetch_passes.specs.Placed.{HasNoWordFetches}
+use Rattle.stage_names.specs.declared.PassName.TheVariants.{Translate, Eval, Apply, Vectorise, Simplify, Update}
 use Rattle.grin_opt.specs.Schedule.{IsPass, IsFirstPassInput, before, pass_relation, IsOptimised, itself, by_pass}
 use Rattle.grin_opt.specs.Staying.{place, IsStageFrom, ComesOfStage, the_same, by_one_more, ComesOfUpdateStage, WhatIsOutStaysOut}
 use Rattle.grin_opt.proofs.Gives.{gives}
 use Rattle.grin_opt.proofs.Steps.{of_vectors, by_words}
+use Rattle.grin_opt.proofs.WholeFetches.{first_whole, stays_whole}
 
 from_vectors : (k : PassName) → IsStageFrom Vectorise k → IsPass k
 from_vectors Translate from = omega (arith, from)
@@ -19,6 +21,10 @@ from_vectors _ from = tt
 stays_inlined : (g h : Program) (k : PassName) → IsFirstPassInput g → IsOptimised g k h → IsInlined h
 stays_inlined g h k taken itself = taken.1.inlined
 stays_inlined g h k taken (by_pass {h = b} o s keeps) = (gives k b h s).of_vectors.ready.inlined
+
+whole_fetches : (g h : Program) (k : PassName) → IsFirstPassInput g → IsStageFrom k Simplify → IsOptimised g k h → HasNoWordFetches h
+whole_fetches g h k taken up itself = first_whole g taken.2
+whole_fetches g h k taken up (by_pass {h = b} o s keeps) = stays_whole k b h up s (λ up. whole_fetches g b (before k) taken up o)
 
 before_comes_first : (k : PassName) → place (before k) ≤ place k
 before_comes_first Translate = omega arith
@@ -48,6 +54,7 @@ pub stays_out : WhatIsOutStaysOut
 stays_out = record {
   inlined = stays_inlined;
   vectorised = λ g h k from o. (of_vectors g h k (from_vectors k from) o).vectorised;
+  whole_fetches = whole_fetches;
   by_words = λ g h k from o. by_words g h k from o;
   from_updates = comes_of;
   updates = no_more;

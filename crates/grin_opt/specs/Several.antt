@@ -1,6 +1,11 @@
 -- Stages that several passes make, one after another.
-use Rattle.std.specs.Prelude.{◌≤◌}
+use Rattle.std.specs.Prelude.{◌≡◌, ℕ, ◌≤◌, Bool, true, List}
+use Rattle.grin_syntax.specs.Binders.{procs_sites}
+use Rattle.grin_syntax.specs.Formed.{AllOf}
 use Rattle.grin_syntax.specs.Tree.{Program}
+use Rattle.grin_meaning.specs.Values.{HeapCell}
+use Rattle.grin_meaning.specs.Run.{run}
+use Rattle.grin_meaning.specs.Keeps.{world_of}
 use Rattle.flow_system.specs.Tables.{tables}
 use Rattle.flow_system.specs.System.{system}
 use Rattle.flow_system.specs.Solution.{Solution, IsLeast}
@@ -12,9 +17,13 @@ use Rattle.flat_blocks.specs.Flattened.{Flattened}
 use Rattle.known_words.specs.KnownWords.{KnownWords, ToldWords}
 use Rattle.narrow_vectors.specs.NarrowBy.{NarrowBy}
 use Rattle.own_cells.specs.Unknown.{RefetchesNothing}
+use Rattle.dead_store.specs.Kept.{kept}
+use Rattle.dead_store.specs.Staying.{AreFetched, AreStaying}
+use Rattle.dead_store.specs.Unread.{AgreeWhereFetched, UnreadUpdatesRemovedBy}
 use Rattle.dead_store.specs.Stored.{DeadStoresRemovedBy}
 
--- what two passes make, one after the other, by what each of them makes
+-- What two passes make, one after the other, by what each of them makes. Each makes one program of
+-- its input, so the program between is that one.
 pub record Composed (First Second : Program → Program → Type 0) (g h : Program) : Type 0 where
   pub between : Program
   pub first : First g between
@@ -48,12 +57,29 @@ AfterKnownWords = MadeByPasses (Composed LiteralsThenTidied KnownWordsThenTidied
 abbrev pub AfterOwnCells : Program → Program → Type 0
 AfterOwnCells = MadeByPasses (Composed RefetchesNothing Tidied)
 
--- By the least solution of g words that nobody reads are gone from vectors. It still solves what is
--- made, and by it cells that nothing reads are gone too; and then copies go.
+-- what these passes make, one after another, by one solution
+abbrev pub UnreadBy : Solution → Program → Program → Type 0
+UnreadBy A =
+    Composed (NarrowBy A)
+    (Composed (UnreadUpdatesRemovedBy A) (Composed (DeadStoresRemovedBy A) Copied))
+
+-- By the least solution of g words that nobody reads are gone from vectors, then updates of cells
+-- that no fetch reads, and then cells that nothing reads; it still solves what is made each time.
+-- At the end copies go. So no store of h has a site that nobody reads, and at the end of each run
+-- its cells are, in order, those of the run of g whose site stays. Each that a fetch may read has
+-- the same tag and words, with cells by this order, and cells that left as 0.
 pub record UnreadLeftOut (g h : Program) : Type 0 where
   pub solution : Solution
   pub least : IsLeast (tables g) (system g) solution
-  pub by : Composed (NarrowBy solution) (Composed (DeadStoresRemovedBy solution) Copied) g h
+  pub by : UnreadBy solution g h
+  pub fetched : ℕ → Bool
+  pub stays : ℕ → Bool
+  pub are_fetched : AreFetched solution by.between fetched
+  pub are_staying : AreStaying solution by.second.between stays
+  pub all_stay : AllOf (λ s. stays s ≡ true) (procs_sites h.procs)
+  pub heaps : (i : List ℕ) (n : ℕ)
+      → (c : List HeapCell) × AgreeWhereFetched fetched (world_of (run g i n)).cells c
+      × ((world_of (run h i n)).cells ≡ kept stays c)
 
 abbrev pub AfterDeadStores : Program → Program → Type 0
 AfterDeadStores = MadeByPasses UnreadLeftOut

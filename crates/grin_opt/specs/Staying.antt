@@ -2,6 +2,7 @@
 use Rattle.std.specs.Prelude.{ℕ, ◌≤◌}
 use Rattle.grin_syntax.specs.Tree.{Program}
 use Rattle.grin_meaning.specs.Ready.{IsInlined, IsVectorised, IsFetchedByWords}
+use Rattle.fetch_passes.specs.Placed.{HasNoWordFetches}
 use Rattle.pass_ground.specs.OpenUpdates.{updates_with_variable_tag}
 use Rattle.stage_names.specs.declared.PassName.{PassName}
 use Rattle.stage_names.specs.declared.PassName.TheVariants.{Translate, Eval, Apply, Vectorise, Simplify, Fetch, Copy, Update, Unbox, Raise, Flat, Known, Cells, Dead}
@@ -43,12 +44,15 @@ pub record ComesOfUpdateStage (g : Program) (k : PassName) (h : Program) : Type 
 
 -- At the stage of a pass and at every later one: no eval and no apply, from the inlining on; no
 -- node variable, from vectorising on; no fetch of a whole node, from the splitting of fetches on;
--- and no more updates without a literal tag than the stage of updates has.
+-- and no more updates without a literal tag than the stage of updates has. Up to simplifying, of
+-- which the splitting of fetches takes the programs, no word is fetched by itself.
 pub record WhatIsOutStaysOut : Type 0 where
   pub inlined : (g h : Program) (k : PassName) → IsFirstPassInput g
       → IsOptimised g k h → IsInlined h
   pub vectorised : (g h : Program) (k : PassName) → IsStageFrom Vectorise k → IsOptimised g k h
       → IsVectorised h
+  pub whole_fetches : (g h : Program) (k : PassName) → IsFirstPassInput g → IsStageFrom k Simplify
+      → IsOptimised g k h → HasNoWordFetches h
   pub by_words : (g h : Program) (k : PassName) → IsStageFrom Fetch k → IsOptimised g k h
       → IsFetchedByWords h
   pub from_updates : (g h : Program) (k : PassName) → IsStageFrom Update k → IsOptimised g k h

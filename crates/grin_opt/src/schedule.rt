@@ -13,7 +13,7 @@ ghost use Rattle.grin_opt.specs.Schedule.{IsAfterInlining, IsFirstPassInput, IsO
 use arity_raise::Raise;
 use case_simplify::{Simplify, with_fewer_cases};
 use copy_prop::{Copies, with_copies_unused, without_idle};
-use dead_store::without_dead_stores;
+use dead_store::{without_dead_stores, without_unread_updates};
 use fetch_passes::Fetches;
 use flat_blocks::Flatten;
 use grin_meaning::Pass;
@@ -105,8 +105,9 @@ fn without_own_fetches(alloc: Global, g: Grin) -> Result<Grin, AllocError>
     Ok(made)
 }
 
-// Words that nobody reads go, then cells that nothing reads, and then copies. Both ask one
-// solution: what solves the flow system with those words solves it without them.
+// Words that nobody reads go, then updates of cells that no fetch reads, then cells that nothing
+// reads, and then copies. All ask one solution: what solves the flow system with those words and
+// updates solves it without them.
 fn without_unread(alloc: Global, g: Grin) -> Result<Grin, AllocError>
     requires { IsVectorForm (program_of g) × IsFetchedByWords (program_of g) }
     ensures shape { IfOk result (λ h. AfterDeadStores (program_of g) (program_of h)) }
@@ -114,7 +115,8 @@ fn without_unread(alloc: Global, g: Grin) -> Result<Grin, AllocError>
 {
     let flow = least(alloc, &g)?;
     let narrow = without_unread_words(alloc, g, &flow)?;
-    let stored = without_dead_stores(alloc, narrow, &flow)?;
+    let read = without_unread_updates(alloc, narrow, &flow)?;
+    let stored = without_dead_stores(alloc, read, &flow)?;
     let made = copied(alloc, stored)?;
     Ok(made)
 }

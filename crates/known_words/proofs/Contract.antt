@@ -1,5 +1,5 @@
 -- That the pass meets its contract: the shape of what it makes, and that this keeps the program.
-use Rattle.std.proofs.Common.{ℕ, List, length}
+use Rattle.std.proofs.Common.{ℕ, List, length, refl}
 use Rattle.grin_syntax.specs.declared.program.Word.{Word}
 use Rattle.grin_syntax.specs.Tree.{Program}
 use Rattle.grin_meaning.specs.Run.{run}
@@ -37,6 +37,7 @@ module _ (g : Program) (A : Solution) (of : IsVectorForm g) (tells : (i : List �
   unfolding updates_kept
   whole = record {
     stays = stays R word g nothing_known (Tells g A) facts_sound of tells;
+    made = refl;
     known = procs_untold (length g.tags) A g.procs of.vectorised;
     no_more_open = updates_fewer R word nothing_known facts_sound.by (opens (length g.tags) A) (facts_sound.cases (updates_kept (opens (length g.tags) A))) (fewer_open (length g.tags) A) g.procs;
     slim = walked_slim R word nothing_known facts_sound.by facts_sound.cases g;

@@ -45,11 +45,13 @@ pub record MadeByLeastSolution (g h : Program) : Type 0 where
   pub least : IsLeast (tables g) (system g) solution
   pub made : h ≡ known solution g
 
--- In h no variable is named of which the alternatives around it, or the solution, tell what it
--- holds, and no alternative of a case is outside the solution. h is as good an input for a pass as
--- g, with no more updates without a literal tag, and no larger.
+-- h is what is made of g by the solution A. In it no variable is named of which the alternatives
+-- around it, or the solution, tell what it holds, and no alternative of a case is outside the
+-- solution. h is as good an input for a pass as g, with no more updates without a literal tag, and
+-- no larger.
 pub record KnownWordsAreLiterals (A : Solution) (g h : Program) : Type 0 where
   pub stays : StaysVectorForm g h
+  pub made : h ≡ known A g
   pub known : AllOf (λ q. KnownCode (length g.tags) A nothing_known q.body) h.procs
   pub no_more_open : updates_with_variable_tag h ≤ updates_with_variable_tag g
   pub slim : (size most : ℕ) → Slim size most g → Slim size most h

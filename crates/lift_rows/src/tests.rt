@@ -25,7 +25,15 @@ fn lifted(alloc: Global, text: &str) -> Result<Result<Vec<u8>, (u8, u32)>, Fail>
 }
 
 /// Texts behind the declarations of lists, each with what it is lifted to behind these.
-const LIFTED: [(&str, &str); 17] = [
+const LIFTED: [(&str, &str); 19] = [
+    (
+        "main = let y = 66; g x = Cons y x in g Nil;",
+        "main = let y = 66; g = lift'0 y in g Nil;\nlift'0 y x = Cons y x;\n",
+    ),
+    (
+        "main = (\\x -> Cons x Nil) 65;",
+        "main = (lift'0) 65;\nlift'0 x = Cons x Nil;\n",
+    ),
     ("main = Nil;", "main = Nil;\n"),
     (
         "f x = (\\x -> Cons x Nil) x; main = f 65;",

@@ -13,7 +13,7 @@ use Rattle.pass_ground.specs.Vectors.{IsVectorForm}
 use Rattle.pass_ground.specs.OpenUpdates.{tag_variable, one_if_some}
 use Rattle.narrow_vectors.specs.Narrow.{narrow}
 use Rattle.narrow_vectors.specs.NarrowBy.{NarrowBy}
-use Rattle.narrow_vectors.proofs.Simulated.{narrow_kept}
+use Rattle.narrow_vectors.proofs.Simulated.{narrow_kept, narrow_heaps}
 use Rattle.narrow_vectors.proofs.Gives.{procs_inlined, procs_by_words, procs_vectorised, procs_narrow, procs_give, procs_params, procs_read, procs_update}
 use Rattle.narrow_vectors.proofs.Sizes.{procs_lighter, procs_calls_stay, procs_words}
 use Rattle.narrow_vectors.proofs.Solved.{still_solves}
@@ -56,6 +56,7 @@ module _ (g : Program) (A : Solution) (of : IsVectorForm g) (solves : Solves (ta
     still_solves = still_solves g A solves;
     same_open = procs_update count A (λ v. one_if_some (tag_variable v)) g.procs;
     slim = slim;
+    heaps = narrow_heaps g A of.formed ((looking_law g of.ready.inlined).sees of.ready.never_missing of.ready.runs) solves;
   }
 
 pub is_narrow : (g h : Program) (A : Solution) → IsVectorForm g → Solves (tables g) (system g) A → h ≡ narrow A g → NarrowBy A g h

@@ -27,6 +27,8 @@ use Rattle.grin_meaning.proofs.Rules.{Plan, Here, Setting, CallsFollow, ActFollo
 use Rattle.grin_meaning.proofs.Procedures.{BodiesFollow, no_more, one_more, side_by_side, run_follows}
 use Rattle.grin_meaning.proofs.Plain.{Has, IsPlain, On, having, words_have, leaf_follows, store_same, bind_same, case_same, no_arm_same, arm_same}
 use Rattle.grin_meaning.proofs.KeptBy.{likewise_kept, looking_kept}
+use Rattle.copy_prop.specs.Copied.{SameHeaps}
+use Rattle.copy_prop.proofs.EndHeaps.{same_end_heaps}
 use Rattle.grin_meaning.proofs.LooksBack.{look_agrees}
 use Rattle.grin_meaning.proofs.Paired.{nothing}
 use Rattle.flow_system.specs.Tables.{tables}
@@ -302,3 +304,6 @@ module _ (g : Program) (A : Solution) (formed : Formed g) (never : CheckedRunsNe
 
   pub narrow_kept : CheckedRunsNeverMissing (narrow A g) × Keeps g (narrow A g)
   narrow_kept = looking_kept g (narrow A g) never (λ i n. likewise_kept no_deeper Same (checked_run g i n) (checked_run (narrow A g) i n) (goes_likewise i n))
+
+  pub narrow_heaps : SameHeaps g (narrow A g)
+  narrow_heaps i n = same_end_heaps g (narrow A g) i n Same (goes_likewise i n) (never i n) (narrow_kept.0 i n)

@@ -12,7 +12,7 @@ use Rattle.flow_system.specs.Solution.{Solution, Solves}
 use Rattle.pass_ground.specs.OpenUpdates.{updates_with_variable_tag}
 use Rattle.pass_ground.specs.Vectors.{StaysVectorForm}
 use Rattle.copy_prop.specs.Lean.{used_in_code}
-use Rattle.copy_prop.specs.Copied.{BoundCode}
+use Rattle.copy_prop.specs.Copied.{BoundCode, SameHeaps}
 use Rattle.seq.specs.Lists.{is_among}
 use Rattle.narrow_vectors.specs.Picked.{stay}
 use Rattle.narrow_vectors.specs.Narrow.{act_fits, narrow}
@@ -28,7 +28,7 @@ module _ (count : ℕ) (A : Solution) where
 
 -- h is what is made of g by its solution A. In h each word of a vector that is bound is read, where
 -- A allows it to go. A solves the flow system of h too. h is as good an input for a pass as g, with
--- as many updates without a literal tag, and no larger.
+-- as many updates without a literal tag, and no larger, and its heaps are those of g.
 pub record NarrowBy (A : Solution) (g h : Program) : Type 0 where
   pub stays : StaysVectorForm g h
   pub made : h ≡ narrow A g
@@ -36,3 +36,4 @@ pub record NarrowBy (A : Solution) (g h : Program) : Type 0 where
   pub still_solves : Solves (tables h) (system h) A
   pub same_open : updates_with_variable_tag h ≡ updates_with_variable_tag g
   pub slim : (size most : ℕ) → Slim size most g → Slim size most h
+  pub heaps : SameHeaps g h

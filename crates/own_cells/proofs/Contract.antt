@@ -1,5 +1,5 @@
 -- That the pass meets its contract: the shape of what it makes, and that this keeps the program.
-use Rattle.std.proofs.Common.{◌≡◌, ℕ, ◌≤◌, ◌*◌, ◌+◌, sym, subst, arith}
+use Rattle.std.proofs.Common.{◌≡◌, ℕ, ◌≤◌, ◌*◌, ◌+◌, refl, sym, subst, arith}
 use Rattle.grin_syntax.specs.Tree.{Program}
 use Rattle.grin_meaning.specs.Ready.{Ready, most_value_fields, inlined_kind, without_node_fetches, vectorised_kind, narrow_kind}
 use Rattle.grin_meaning.specs.Keeps.{Keeps}
@@ -45,6 +45,7 @@ module _ (g : Program) (of : IsVectorForm g) where
       narrow = λ most. procs_each (narrow_kind most) (λ w. tt) (λ w. tt) (λ v as' bs' h. tt) (λ b c h. tt) g.procs;
       by_words = procs_each without_node_fetches (λ w. tt) (λ w. tt) (λ v as' bs' h. tt) (λ b c h. tt) g.procs;
     };
+    made = refl;
     unknown = procs_unknown g.procs;
     same_open = sums_stay (λ v. one_if_some (tag_variable v)) g.procs;
     slim = slim;

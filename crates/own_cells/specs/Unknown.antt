@@ -6,7 +6,7 @@ use Rattle.grin_meaning.specs.Slim.{Slim}
 use Rattle.pass_ground.specs.Vectors.{StaysVectorForm}
 use Rattle.pass_ground.specs.OpenUpdates.{updates_with_variable_tag}
 use Rattle.own_cells.specs.Memory.{KnownCellContents, none, after_act, after_store, remembered_word_of}
-use Rattle.own_cells.specs.Remembered.{is_own_cell_variable}
+use Rattle.own_cells.specs.Remembered.{is_own_cell_variable, remembered}
 
 -- no word that a piece fetches is remembered on the way to its fetch
 module _ (own : ℕ → Bool) where
@@ -29,10 +29,11 @@ module _ (own : ℕ → Bool) where
 abbrev pub FetchesOnlyUnknown : Program → Type 0
 FetchesOnlyUnknown p = AllOf (λ q. CodeUnknown (is_own_cell_variable q.body) none q.body) p.procs
 
--- h fetches no word that is remembered. It is as good an input for a pass as g, with as many
--- updates without a literal tag, and no larger
+-- h is g with remembered words in place of their fetches, and fetches none that is. It is as good
+-- an input for a pass as g, with as many updates without a literal tag, and no larger
 pub record RefetchesNothing (g h : Program) : Type 0 where
   pub stays : StaysVectorForm g h
+  pub made : h ≡ remembered g
   pub unknown : FetchesOnlyUnknown h
   pub same_open : updates_with_variable_tag h ≡ updates_with_variable_tag g
   pub slim : (size most : ℕ) → Slim size most g → Slim size most h

@@ -168,6 +168,20 @@ fn programs_have_a_size_once_inlined(rt: HostRuntime) -> Result<(), Fail> {
 }
 
 #[test]
+fn a_large_program_has_its_applications_inlined(rt: HostRuntime) -> Result<(), Fail> {
+    let alloc = rt.alloc();
+    let text = many_delayed(alloc, 84)?;
+    let p = checked(alloc, text.as_str())?;
+    // Its 86 functions, and the procedure that prints.
+    match stage(alloc, &p, PassName::Apply) {
+        Ok(applied) => assert_eq!(rt; applied.procs.len(), 87),
+        Err(CompileRefusal::Memory(error)) => return Err(Fail::from(error)),
+        Err(CompileRefusal::ExpandedTooLarge(size)) => assert_eq!(rt; size, 64722),
+    }
+    Ok(())
+}
+
+#[test]
 fn a_program_that_grows_too_large_has_no_later_stage(rt: HostRuntime) -> Result<(), Fail> {
     let alloc = rt.alloc();
     let text = many_delayed(alloc, 120)?;

@@ -1,6 +1,6 @@
 -- That the pass meets its contract: what it makes is what the law of unboxing speaks of, by the least
 -- solution.
-use Rattle.std.proofs.Common.{◌≡◌, sym, subst}
+use Rattle.std.proofs.Common.{◌≡◌, refl, sym, subst}
 use Rattle.grin_syntax.specs.Tree.{Program}
 use Rattle.grin_meaning.specs.Keeps.{Keeps}
 use Rattle.flow_system.specs.Tables.{tables}
@@ -25,6 +25,7 @@ module _ (g : Program) (A : Solution) (M : Procedures) (of : IsVectorForm g) (le
     least = least;
     members = M;
     are_members = are;
+    made = refl;
     one_word = kept.one_word;
     same_updates = kept.same_updates;
   }

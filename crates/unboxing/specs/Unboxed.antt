@@ -85,14 +85,15 @@ updates_of (q ∷ qs) = code_updates q.body ++ updates_of qs
 
 -- ---- the whole
 
--- the members, by the least solution of the flow system of g. Each gives one word in h, which has
--- the updates of g
+-- h is g with its members unboxed, which the least solution of the flow system of g tells. Each
+-- gives one word in h, which has the updates of g
 pub record Unboxed (g h : Program) : Type 0 where
   pub stays : StaysVectorForm g h
   pub solution : Solution
   pub least : IsLeast (tables g) (system g) solution
   pub members : Procedures
   pub are_members : IsGreatestClosedSet solution g members
+  pub made : h ≡ unboxed members g
   pub one_word : OneWordFrom members 0 h.procs
   pub same_updates : updates_of h.procs ≡ updates_of g.procs
 

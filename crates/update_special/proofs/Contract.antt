@@ -1,5 +1,5 @@
 -- That the pass meets its contract: the shape of what it makes, and that this keeps the program.
-use Rattle.std.proofs.Common.{◌≡◌, ℕ, ◌≤◌, List, length, sym, subst}
+use Rattle.std.proofs.Common.{◌≡◌, ℕ, ◌≤◌, List, length, refl, sym, subst}
 use Rattle.grin_syntax.specs.Tree.{Program}
 use Rattle.grin_meaning.specs.Keeps.{Keeps}
 use Rattle.flow_system.specs.Tables.{tables}
@@ -31,6 +31,7 @@ module _ (g : Program) (A : Solution) (of : IsVectorForm g) (least : IsLeast (ta
     stays = stays g (StateIsCovered g A) (update_leaf T) sound of (covers g A (formed_is_started g of.formed) least.solves).passed;
     solution = A;
     least = least;
+    made = refl;
     updates = record {
       literal = bodies_asked (special T) (TagIsLiteralOrMany T) (λ v as'. tt) (λ b. tt) (literal_or_many T) g.procs;
       left = left;

@@ -45,11 +45,12 @@ pub record UpdatesByTags (A : Solution) (g h : Program) : Type 0 where
   pub left : updates_with_variable_tag h ≡ many_tag_updates A g
   pub no_more : updates_with_variable_tag h ≤ updates_with_variable_tag g
 
--- by the least solution of the flow system of g
+-- h is what is made of g by the least solution of its flow system
 pub record Updated (g h : Program) : Type 0 where
   pub stays : StaysVectorForm g h
   pub solution : Solution
   pub least : IsLeast (tables g) (system g) solution
+  pub made : h ≡ updated solution g
   pub updates : UpdatesByTags solution g h
 
 -- h is what the pass makes of g, whatever program this is

@@ -85,6 +85,7 @@ module _ (g : Program) (formed : Formed g) where
 
     pub vectorised_widened : Widened g (vectorised g)
     vectorised_widened = record {
+      made = refl;
       formed = vectorised_formed;
       ready = vectorised_ready;
       vectorised = procs_gone l K g.procs;

@@ -9,6 +9,7 @@ use Rattle.grin_syntax.specs.SameOutside.{DifferOnlyInBodies}
 use Rattle.grin_meaning.specs.Checks.{is_fetch}
 use Rattle.grin_meaning.specs.Ready.{most_fields, most_value_fields, IsVectorised, Ready}
 use Rattle.grin_meaning.specs.Slim.{procs_weight, procs_calls, procedure_words}
+use Rattle.vectorise.specs.Vectors.{vectorised}
 
 -- where the longest node has `most` fields, and the longest that is a value `most_value`
 module _ (most most_value : ℕ) where
@@ -52,10 +53,11 @@ ProcedureWordsDoNotGrow (q ∷ qs) (r ∷ rs) =
     (procedure_words r ≤ procedure_words q) × ProcedureWordsDoNotGrow qs rs
 ProcedureWordsDoNotGrow _ _ = ⊥
 
--- what vectorising makes of g: no node variable is left, and each is a vector of the width that its
+-- h is g vectorised: no node variable is left, and each is a vector of the width that its
 -- place asks for; what comes after takes it; and neither its weight, nor its calls, nor the words
 -- of a procedure are more
 pub record Widened (g h : Program) : Type 0 where
+  pub made : h ≡ vectorised g
   pub formed : Formed h
   pub ready : Ready h
   pub vectorised : IsVectorised h

@@ -1,8 +1,7 @@
 use Rattle.std.proofs.Common.{◌≡◌, map, take}
 use Rattle.grin_syntax.specs.Tree.{procedure_of}
-use Rattle.dead_store.specs.Holding.{set_holds}
 use Rattle.dead_store.specs.Reads.{reads_of}
 use Rattle.dead_store.proofs.reads.words_read.Given as goal
 
 abbrev pub invariant-loop-proc : goal.invariant-loop-proc
-invariant-loop-proc l = l.words ≡ reads_of (set_holds l.stored.keys) (map procedure_of (take l.proc-index l.procs))
+invariant-loop-proc l = l.words ≡ reads_of l.updates_count (map procedure_of (take l.proc-index l.procs))

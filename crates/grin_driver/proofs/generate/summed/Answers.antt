@@ -28,6 +28,7 @@ returns-in_err-sink-clause-unsummed c =
       accepted = a.accepted;
       fits = c.in-Ok.ensures.fits;
       made = c.in-Ok.ensures.built.made;
+      stops = c.in-Ok.ensures.built.through.stops;
     } in
     let undone = subst (λ (l : List ℕ). (text : List ℕ) → (from : IsDefaultImageOf text l) → IsUndone from c.in_err-sink.field-0.0) c.as_slice.ensures.value c.in_err-sink.ensures.undone in
     let q = err_from_is_err_and c.from_residual-in_err-sink.result c.from_residual-in_err-sink.ensures.1 in
@@ -42,6 +43,7 @@ summary-requires c =
       accepted = a.accepted;
       fits = c.in-Ok.ensures.fits;
       made = c.in-Ok.ensures.built.made;
+      stops = c.in-Ok.ensures.built.through.stops;
     } in
     let done = subst (λ (l : List ℕ). (text : List ℕ) → (from : IsDefaultImageOf text l) → IsOutput from c.in_ok-sink.sink.taken × (length c.in_ok-sink.sink.taken ≤ 4096)) c.as_slice.ensures.value c.in_ok-sink.ensures.done in
     subst (λ (l : List ℕ). length l ≤ 4096) (sym c.taken.ensures.taken) (done c.args.text.now from).1
@@ -55,6 +57,7 @@ returns-clause-summed c =
       accepted = a.accepted;
       fits = c.in-Ok.ensures.fits;
       made = c.in-Ok.ensures.built.made;
+      stops = c.in-Ok.ensures.built.through.stops;
     } in
     let done = subst (λ (l : List ℕ). (text : List ℕ) → (from : IsDefaultImageOf text l) → IsOutput from c.in_ok-sink.sink.taken × (length c.in_ok-sink.sink.taken ≤ 4096)) c.as_slice.ensures.value c.in_ok-sink.ensures.done in
     summary_from c.args.text.now c.in-Ok.built.image.items c.summary.result c.in_ok-sink.sink.taken c.in_ok-accepted.accepted a from refl refl
