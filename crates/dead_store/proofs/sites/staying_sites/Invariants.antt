@@ -1,8 +1,0 @@
-use Rattle.std.proofs.Common.{take}
-use Rattle.grin_syntax.specs.Tree.{program_of}
-use Rattle.points_to.specs.Found.{found}
-use Rattle.dead_store.proofs.SiteSets.{SitesSoFar}
-use Rattle.dead_store.proofs.sites.staying_sites.Given as goal
-
-abbrev pub invariant-loop-word : goal.invariant-loop-word
-invariant-loop-word l = SitesSoFar (found l.flow) (program_of l.g) (take l.word-index l.word-items) l.sites.keys
