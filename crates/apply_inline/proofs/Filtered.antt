@@ -21,14 +21,23 @@ and_swap false false = refl
 
 module _ (p : Program) (A : Solution) (v : Val) (ts : List ℕ) (c : Candidates p A v ts) where
   -- of functions that lack arguments, or of others
-  filtered : (of_kind : Bool → Bool) → those (λ t. value_has p A v t && of_kind (is_part_tag p A t)) 0 (length p.tags) ≡ filter (λ t. is_some_and (slice_get p.tags t) (λ i. of_kind (is_part_kind i.kind) && fits p A v t i)) ts
-  filtered of_kind = those_filtered _ _ (length p.tags) 0 (length p.tags) ts (omega arith) (ascends ts c.ascending) (λ t lt h le. c.all t (and_left (value_has p A v t) (of_kind (is_part_tag p A t)) h)) same
-      (λ t m le. ap (λ o. is_some_and o (λ i. of_kind (is_part_kind i.kind) && fits p A v t i)) (slice_get_past p.tags t le))
+  filtered : (of_kind : Bool → Bool) → those (λ t. value_has p A v t && of_kind (is_part_tag p A t))
+      0 (length p.tags) ≡ filter
+      (λ t. is_some_and (slice_get p.tags t) (λ i. of_kind (is_part_kind i.kind) && fits p A v t i))
+      ts
+  filtered of_kind = those_filtered _ _ (length p.tags) 0 (length p.tags) ts (omega arith)
+      (ascends ts c.ascending)
+      (λ t lt h le. c.all t (and_left (value_has p A v t) (of_kind (is_part_tag p A t)) h)) same
+      (λ t m le. ap (λ o. is_some_and o (λ i. of_kind (is_part_kind i.kind) && fits p A v t i))
+      (slice_get_past p.tags t le))
     where
-      same : (t : ℕ) → In t ts → t < length p.tags → is_some_and (slice_get p.tags t) (λ i. of_kind (is_part_kind i.kind) && fits p A v t i) ≡ (value_has p A v t && of_kind (is_part_tag p A t))
+      same : (t : ℕ) → In t ts → t < length p.tags → is_some_and (slice_get p.tags t)
+          (λ i. of_kind (is_part_kind i.kind) && fits p A v t i) ≡
+          (value_has p A v t && of_kind (is_part_tag p A t))
       same t m lt =
           let w = some_at p.tags t lt in
-          rw w.1 (ap (λ b. of_kind (is_part_kind w.0.kind) && b) (c.fitting t w.0 m w.1) ∙ and_swap (of_kind (is_part_kind w.0.kind)) (value_has p A v t))
+          rw w.1 (ap (λ b. of_kind (is_part_kind w.0.kind) && b) (c.fitting t w.0 m w.1) ∙ and_swap
+          (of_kind (is_part_kind w.0.kind)) (value_has p A v t))
 
   pub parts_filtered : part_tags_of p A v ≡ filter (meets_part p A v) ts
   parts_filtered = filtered (λ b. b)

@@ -11,11 +11,14 @@ abbrev pub before_branches : List (Branches → Branches) → Branches → Branc
 before_branches [] rest = rest
 before_branches (branch ∷ branches) rest = branch (before_branches branches rest)
 
-pub alts_snoc : (alts : List (Alts → Alts)) (alt : Alts → Alts) (rest : Alts) → before_alts (alts ++ alt ∷ []) rest ≡ before_alts alts (alt rest)
+pub alts_snoc : (alts : List (Alts → Alts)) (alt : Alts → Alts) (rest : Alts)
+    → before_alts (alts ++ alt ∷ []) rest ≡ before_alts alts (alt rest)
 alts_snoc [] alt rest = refl
 alts_snoc (a ∷ alts) alt rest = ap a (alts_snoc alts alt rest)
 
-pub branches_snoc : (branches : List (Branches → Branches)) (branch : Branches → Branches) (rest : Branches) → before_branches (branches ++ branch ∷ []) rest ≡ before_branches branches (branch rest)
+pub branches_snoc : (branches : List (Branches → Branches)) (branch : Branches → Branches)
+    (rest : Branches) → before_branches (branches ++ branch ∷ []) rest ≡ before_branches branches
+    (branch rest)
 branches_snoc [] branch rest = refl
 branches_snoc (b ∷ branches) branch rest = ap b (branches_snoc branches branch rest)
 
@@ -23,6 +26,7 @@ pub all_alts : (alts : List (Alts → Alts)) → before_alts alts NoAlts ≡ alt
 all_alts [] = refl
 all_alts (a ∷ alts) = ap a (all_alts alts)
 
-pub all_branches : (branches : List (Branches → Branches)) → before_branches branches NoMore ≡ branches_of branches
+pub all_branches : (branches : List (Branches → Branches))
+    → before_branches branches NoMore ≡ branches_of branches
 all_branches [] = refl
 all_branches (b ∷ branches) = ap b (all_branches branches)

@@ -18,12 +18,16 @@ module _ {X : Type 0} (f : X → ℕ) where
   in_place (x ∷ xs) zero d lt = here
   in_place (x ∷ xs) (suc i) d lt = there (in_place xs i d (omega (arith, lt)))
 
-  pub one_more_holds : (P : ℕ → Type 0) (xs : List X) (i : ℕ) (d : X) → i < length xs → Each P (map f (take i xs)) → P (f (get_or xs i d)) → Each P (map f (take (i + 1) xs))
+  pub one_more_holds : (P : ℕ → Type 0) (xs : List X) (i : ℕ) (d : X) → i < length xs
+      → Each P (map f (take i xs)) → P (f (get_or xs i d)) → Each P (map f (take (i + 1) xs))
   one_more_holds P xs i d lt e h =
-      let more : map f (take (i + 1) xs) ≡ map f (take i xs) ++ f (get_or xs i d) ∷ [] = ap (map f) (take_more xs i d lt) ∙ map_push f (take i xs) (get_or xs i d) in
+      let more : map f (take (i + 1) xs) ≡ map f (take i xs) ++ f (get_or xs i d) ∷ []
+      = ap (map f) (take_more xs i d lt) ∙ map_push f (take i xs) (get_or xs i d) in
       subst (Each P) (sym more) (record {
-        by = λ n k. ⊎_elim (λ a. e.by n a) (λ b. subst P (sym (one_in (f (get_or xs i d)) b)) h) (in_split (map f (take i xs)) (f (get_or xs i d) ∷ []) k);
+        by = λ n k. ⊎_elim (λ a. e.by n a) (λ b. subst P (sym (one_in (f (get_or xs i d)) b)) h)
+            (in_split (map f (take i xs)) (f (get_or xs i d) ∷ []) k);
       })
 
-  pub all_hold : (P : ℕ → Type 0) (xs : List X) (i : ℕ) → length xs ≤ i → Each P (map f (take i xs)) → Each P (map f xs)
+  pub all_hold : (P : ℕ → Type 0) (xs : List X) (i : ℕ) → length xs ≤ i → Each P (map f (take i xs))
+      → Each P (map f xs)
   all_hold P xs i le e = subst (λ l. Each P (map f l)) (take_all i xs le) e

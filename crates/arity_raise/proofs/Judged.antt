@@ -33,7 +33,8 @@ module _ (A : Solution) (x : ℕ) where
   tag_among t at alone = alone (tag t) at
 
   pub cells_alone : (ts : List ℕ) → (At A (var x) (word 0) num → ⊥)
-      → ((t : ℕ) → (In t ts → At A (var x) tags (tag t) ⊎ At A (var x) (word 0) (tag t)) × (At A (var x) tags (tag t) ⊎ At A (var x) (word 0) (tag t) → In t ts))
+      → ((t : ℕ) → (In t ts → At A (var x) tags (tag t) ⊎ At A (var x) (word 0) (tag t))
+      × (At A (var x) tags (tag t) ⊎ At A (var x) (word 0) (tag t) → In t ts))
       → Each (λ t. At A (var x) (word 0) (tag t) → ⊥) ts → CellsAlone A x
   cells_alone ts n exact e (cell_of s) at = tt
   cells_alone ts n exact e (tag t) at = e.by t ((exact t).1 (inr at)) at
@@ -41,28 +42,37 @@ module _ (A : Solution) (x : ℕ) where
 
   -- the sites of the cells that x stands for
   abbrev pub Cells : List ℕ → Type 0
-  Cells ss = (s : ℕ) → (In s ss → At A (var x) (word 0) (cell_of s)) × (At A (var x) (word 0) (cell_of s) → In s ss)
+  Cells ss = (s : ℕ) → (In s ss → At A (var x) (word 0) (cell_of s))
+      × (At A (var x) (word 0) (cell_of s) → In s ss)
 
-  pub no_tags : (ss : List ℕ) → Cells ss → Each (λ s. (t : ℕ) → At A (site s) tags (tag t) → ⊥) ss → (t : ℕ) → HasTag A x t → ⊥
+  pub no_tags : (ss : List ℕ) → Cells ss → Each (λ s. (t : ℕ) → At A (site s) tags (tag t) → ⊥) ss
+      → (t : ℕ) → HasTag A x t → ⊥
   no_tags ss exact e t h = e.by h.cell ((exact h.cell).1 h.there) t h.has_tag
 
   pub only_one : (ss : List ℕ) (t : ℕ) → Cells ss → Each (λ s. SiteHasOnly A s t) ss → HasOnly A x t
   only_one ss t exact e s u there' at = e.by s ((exact s).1 there') u at
 
-  pub others_too : (ss : List ℕ) (s t : ℕ) → Cells ss → In s ss → (SiteHasOnly A s t → ⊥) → HasOnly A x t → ⊥
+  pub others_too : (ss : List ℕ) (s t : ℕ) → Cells ss → In s ss → (SiteHasOnly A s t → ⊥)
+      → HasOnly A x t → ⊥
   others_too ss s t exact i n h = n (λ u at. h s u ((exact s).0 i) at)
 
 module _ (A : Solution) (g : Program) where
-  pub changed : (x s : ℕ) (ss : List ℕ) (sites : BTreeSet ℕ) → UpdatedSites A g sites → Cells A x ss → In s ss → In s sites.keys → Unchanged A g x → ⊥
+  pub changed : (x s : ℕ) (ss : List ℕ) (sites : BTreeSet ℕ) → UpdatedSites A g sites → Cells A x ss
+      → In s ss → In s sites.keys → Unchanged A g x → ⊥
   changed x s ss sites u exact i h never = u.within s h (never s ((exact s).0 i))
 
-  pub never_changed : (x : ℕ) (ss : List ℕ) → Cells A x ss → Each (NeverUpdated A g) ss → Unchanged A g x
+  pub never_changed : (x : ℕ) (ss : List ℕ) → Cells A x ss → Each (NeverUpdated A g) ss
+      → Unchanged A g x
   never_changed x ss exact e s at = e.by s ((exact s).1 at)
 
   -- the node of the tag that was met
-  pub node_from : (x : ℕ) (t : TagId) (o : Option Node) → CellsAlone A x → Unchanged A g x → HasTag A x t.0 → HasOnly A x t.0
-      → MatchOption o ((k : ℕ) → IsValueTag A g t.0 k → ⊥) (λ n. (n.tag ≡ t) × IsValueTag A g t.0 n.fields) → MatchOption o ((t k : ℕ) → Fixed A g x t k → ⊥) (λ n. Fixed A g x n.tag.0 n.fields)
+  pub node_from : (x : ℕ) (t : TagId) (o : Option Node) → CellsAlone A x → Unchanged A g x
+      → HasTag A x t.0 → HasOnly A x t.0
+      → MatchOption o ((k : ℕ) → IsValueTag A g t.0 k → ⊥)
+      (λ n. (n.tag ≡ t) × IsValueTag A g t.0 n.fields)
+      → MatchOption o ((t k : ℕ) → Fixed A g x t k → ⊥) (λ n. Fixed A g x n.tag.0 n.fields)
   node_from x t None a u h o m = λ t' k f.
       let e : t.0 ≡ t' = f.only h.cell t.0 h.there h.has_tag in
       m k (subst (λ s. IsValueTag A g s k) (sym e) f.value)
-  node_from x t (Some n) a u h o m = subst (λ s. Fixed A g x s.0 n.fields) (sym m.0) (record { alone = a; unchanged = u; has = h; only = o; value = m.1 })
+  node_from x t (Some n) a u h o m = subst (λ s. Fixed A g x s.0 n.fields) (sym m.0)
+      (record { alone = a; unchanged = u; has = h; only = o; value = m.1 })

@@ -1,4 +1,5 @@
--- The sites of the cells that updates may go to, and the words that the walk over procedures collects.
+-- The sites of the cells that updates may go to, and the words that the walk over procedures
+-- collects.
 use Rattle.std.proofs.Common.{◌≡◌, ℕ, ◌+◌, ◌<◌, ◌≤◌, Bool, true, ◌||◌, List, [], ◌∷◌, ◌++◌, map, take, length, get_or, Some, slice_get, refl, sym, ap, ◌∙◌, subst, inl, inr, ⊎_elim, arith}
 use Rattle.std.specs.BTreeSet.{BTreeSet}
 use Rattle.std.specs.BTreeMap.{is_at}
@@ -39,10 +40,13 @@ all_updated : (qs : List Procedure) → all updated qs ≡ updated_of qs
 all_updated [] = refl
 all_updated (q ∷ qs) = ap (λ l. code_updated q.body ++ l) (all_updated qs)
 
-pub proc_words_next : (ps : List Proc) (i : ℕ) (p : Proc) (old new : List W.Word) → i < length ps → p ≡ get_or ps i p → new ≡ old ++ code_updated (code_of p.body) → old ≡ updated_of (map procedure_of (take i ps))
+pub proc_words_next : (ps : List Proc) (i : ℕ) (p : Proc) (old new : List W.Word) → i < length ps
+    → p ≡ get_or ps i p → new ≡ old ++ code_updated (code_of p.body)
+    → old ≡ updated_of (map procedure_of (take i ps))
     → new ≡ updated_of (map procedure_of (take (i + 1) ps))
 proc_words_next ps i p old new lt e n o =
-    procs_next updated ps i p old new lt e n (o ∙ sym (all_updated (map procedure_of (take i ps)))) ∙ all_updated (map procedure_of (take (i + 1) ps))
+    procs_next updated ps i p old new lt e n (o ∙ sym (all_updated (map procedure_of (take i ps))))
+    ∙ all_updated (map procedure_of (take (i + 1) ps))
 
 -- ---- numbers in a set
 
@@ -53,7 +57,8 @@ any_in : (n : ℕ) (ks : List ℕ) → list_any (is_at (nat_cmp n)) ks ≡ true 
 any_in n [] e = cc
 any_in n (k ∷ ks) e = go (any_in n ks) (nat_cmp n k) refl e
   where
-    go : (list_any (is_at (nat_cmp n)) ks ≡ true → In n ks) → (o : Ordering) → nat_cmp n k ≡ o → (is_eq o || list_any (is_at (nat_cmp n)) ks) ≡ true → In n (k ∷ ks)
+    go : (list_any (is_at (nat_cmp n)) ks ≡ true → In n ks) → (o : Ordering) → nat_cmp n k ≡ o
+        → (is_eq o || list_any (is_at (nat_cmp n)) ks) ≡ true → In n (k ∷ ks)
     go again Less q e = there (again e)
     go again Equal q e = subst (λ j. In n (j ∷ ks)) (nat_equal n k q) here
     go again Greater q e = there (again e)
@@ -61,44 +66,62 @@ any_in n (k ∷ ks) e = go (any_in n ks) (nat_cmp n k) refl e
 in_any : (n : ℕ) (ks : List ℕ) → In n ks → list_any (is_at (nat_cmp n)) ks ≡ true
 in_any n [] h = none_in h
 in_any n (k ∷ ks) h = ⊎_elim
-    (λ e. subst (λ j. (is_eq (nat_cmp n j) || list_any (is_at (nat_cmp n)) ks) ≡ true) e (ap (λ b. b || list_any (is_at (nat_cmp n)) ks) (nat_self n)))
+    (λ e. subst (λ j. (is_eq (nat_cmp n j) || list_any (is_at (nat_cmp n)) ks) ≡ true) e
+    (ap (λ b. b || list_any (is_at (nat_cmp n)) ks) (nat_self n)))
     (λ t. ap (λ b. is_eq (nat_cmp n k) || b) (in_any n ks t) ∙ or_true (is_eq (nat_cmp n k)))
     (cons_in k ks h)
 
-pub has_number : (n : ℕ) (ks : List ℕ) (b : Bool) → b ≡ list_any (is_at (nat_cmp n)) ks → (b ≡ true → In n ks) × (In n ks → b ≡ true)
+pub has_number : (n : ℕ) (ks : List ℕ) (b : Bool) → b ≡ list_any (is_at (nat_cmp n)) ks
+    → (b ≡ true → In n ks) × (In n ks → b ≡ true)
 has_number n ks b e = (λ t. any_in n ks (sym e ∙ t), λ h. e ∙ in_any n ks h)
 
-pub joins_next : (f : Site → ℕ) (xs : List Site) (i : ℕ) (d : Site) (first old new : List ℕ) → i < length xs → Joined first (map f (take i xs)) old → Joined old (f (get_or xs i d) ∷ []) new → Joined first (map f (take (i + 1) xs)) new
+pub joins_next : (f : Site → ℕ) (xs : List Site) (i : ℕ) (d : Site) (first old new : List ℕ)
+    → i < length xs → Joined first (map f (take i xs)) old → Joined old (f (get_or xs i d) ∷ []) new
+    → Joined first (map f (take (i + 1) xs)) new
 joins_next f xs i d first old new lt u v =
-    let more : map f (take (i + 1) xs) ≡ map f (take i xs) ++ f (get_or xs i d) ∷ [] = ap (map f) (take_more xs i d lt) ∙ map_push f (take i xs) (get_or xs i d) in
+    let more : map f (take (i + 1) xs) ≡ map f (take i xs) ++ f (get_or xs i d) ∷ []
+    = ap (map f) (take_more xs i d lt) ∙ map_push f (take i xs) (get_or xs i d) in
     subst (λ l. Joined first l new) (sym more) (record {
       kept = λ n h. v.kept n (u.kept n h);
-      put = λ n h. ⊎_elim (λ a. v.kept n (u.put n a)) (λ b. v.put n b) (in_split (map f (take i xs)) (f (get_or xs i d) ∷ []) h);
-      only = λ n h. ⊎_elim (λ a. ⊎_elim (λ b. inl b) (λ c. inr (in_left (map f (take i xs)) (f (get_or xs i d) ∷ []) c)) (u.only n a)) (λ b. inr (in_right (map f (take i xs)) (f (get_or xs i d) ∷ []) b)) (v.only n h);
+      put = λ n h. ⊎_elim (λ a. v.kept n (u.put n a)) (λ b. v.put n b)
+          (in_split (map f (take i xs)) (f (get_or xs i d) ∷ []) h);
+      only = λ n h. ⊎_elim
+          (λ a. ⊎_elim (λ b. inl b)
+          (λ c. inr (in_left (map f (take i xs)) (f (get_or xs i d) ∷ []) c)) (u.only n a))
+          (λ b. inr (in_right (map f (take i xs)) (f (get_or xs i d) ∷ []) b)) (v.only n h);
     })
 
-pub joins_all : (f : Site → ℕ) (xs : List Site) (i : ℕ) (first new : List ℕ) → length xs ≤ i → Joined first (map f (take i xs)) new → Joined first (map f xs) new
+pub joins_all : (f : Site → ℕ) (xs : List Site) (i : ℕ) (first new : List ℕ) → length xs ≤ i
+    → Joined first (map f (take i xs)) new → Joined first (map f xs) new
 joins_all f xs i first new le u = subst (λ l. Joined first (map f l) new) (take_all i xs le) u
 
 -- ---- the sites of words
 
 module _ (A : Solution) (g : Program) where
-  var_stands : (x : VarId) (a : W.Word) (s : ℕ) → a ≡ Var x → StandsFor (tables g) A a (cell_of s) → At A (var x.0) (word 0) (cell_of s)
-  var_stands x a s e (variable {x = y} h) = subst (λ z. At A (var z.0) (word 0) (cell_of s)) (let q : y ≡ x = cc in q) h
+  var_stands : (x : VarId) (a : W.Word) (s : ℕ) → a ≡ Var x → StandsFor (tables g) A a (cell_of s)
+      → At A (var x.0) (word 0) (cell_of s)
+  var_stands x a s e (variable {x = y} h) = subst (λ z. At A (var z.0) (word 0) (cell_of s))
+      (let q : y ≡ x = cc in q) h
   var_stands x a s e (global {i = i} h) = absurd (let q : ⊥ = cc in q)
 
-  global_stands : (i : ℕ) (a : W.Word) (s : ℕ) → a ≡ Global i → StandsFor (tables g) A a (cell_of s) → (c : GlobalCell) × (slice_get g.globals i ≡ Some c) × (s ≡ c.site.0)
+  global_stands : (i : ℕ) (a : W.Word) (s : ℕ) → a ≡ Global i → StandsFor (tables g) A a (cell_of s)
+      → (c : GlobalCell) × (slice_get g.globals i ≡ Some c) × (s ≡ c.site.0)
   global_stands i a s e (variable {x = y} h) = absurd (let q : ⊥ = cc in q)
-  global_stands i a s e (global {i = j} {c = c} h) = (c, subst (λ k. slice_get g.globals k ≡ Some c) (let q : j ≡ i = cc in q) h, refl)
+  global_stands i a s e (global {i = j} {c = c} h) =
+      (c, subst (λ k. slice_get g.globals k ≡ Some c) (let q : j ≡ i = cc in q) h, refl)
 
-  pub joins_var : (a : W.Word) (x : VarId) (sites old new : List ℕ) → a ≡ Var x → ((s : ℕ) → (In s sites → At A (var x.0) (word 0) (cell_of s)) × (At A (var x.0) (word 0) (cell_of s) → In s sites)) → Joined old sites new → SitesJoin A g a old new
+  pub joins_var : (a : W.Word) (x : VarId) (sites old new : List ℕ) → a ≡ Var x
+      → ((s : ℕ) → (In s sites → At A (var x.0) (word 0) (cell_of s))
+      × (At A (var x.0) (word 0) (cell_of s) → In s sites)) → Joined old sites new
+      → SitesJoin A g a old new
   joins_var a x sites old new e exact u = subst (λ w. SitesJoin A g w old new) (sym e) (record {
     kept = u.kept;
     put = λ s h. u.put s ((exact s).1 (var_stands x (Var x) s refl h));
     only = λ s h. ⊎_elim (λ a. inl a) (λ b. inr (variable ((exact s).0 b))) (u.only s h);
   })
 
-  pub joins_global : (a : W.Word) (i : ℕ) (c : GlobalCell) (old new : List ℕ) → a ≡ Global i → slice_get g.globals i ≡ Some c → Joined old (c.site.0 ∷ []) new → SitesJoin A g a old new
+  pub joins_global : (a : W.Word) (i : ℕ) (c : GlobalCell) (old new : List ℕ) → a ≡ Global i
+      → slice_get g.globals i ≡ Some c → Joined old (c.site.0 ∷ []) new → SitesJoin A g a old new
   joins_global a i c old new e there' u = subst (λ w. SitesJoin A g w old new) (sym e) (record {
     kept = u.kept;
     put = λ s h.
@@ -106,7 +129,10 @@ module _ (A : Solution) (g : Program) where
         let same : Some c ≡ Some r.0 = sym there' ∙ r.1 in
         let cell : c ≡ r.0 = cc in
         u.put s (subst (λ k. In k (c.site.0 ∷ [])) (ap (λ d. d.site.0) cell ∙ sym r.2) here);
-    only = λ s h. ⊎_elim (λ a. inl a) (λ b. inr (subst (λ k. StandsFor (tables g) A (Global i) (cell_of k)) (sym (one_in c.site.0 b)) (global there'))) (u.only s h);
+    only = λ s h. ⊎_elim (λ a. inl a)
+        (λ b. inr
+        (subst (λ k. StandsFor (tables g) A (Global i) (cell_of k)) (sym (one_in c.site.0 b))
+        (global there'))) (u.only s h);
   })
 
   -- the sites of these words
@@ -117,14 +143,20 @@ module _ (A : Solution) (g : Program) where
   pub no_sites : (sites : List ℕ) → sites ≡ [] → SitesSoFar [] sites
   no_sites sites e = record { put = λ s a h k. none_in h; only = λ s h. none_in (subst (In s) e h) }
 
-  pub sites_next : (ws : List W.Word) (i : ℕ) (d : W.Word) (old new : List ℕ) → i < length ws → SitesSoFar (take i ws) old → SitesJoin A g (get_or ws i d) old new → SitesSoFar (take (i + 1) ws) new
-  sites_next ws i d old new lt u v = subst (λ l. SitesSoFar l new) (sym (take_more ws i d lt)) (record {
-    put = λ s a h k. ⊎_elim (λ b. v.kept s (u.put s a b k)) (λ b. v.put s (subst (λ w. StandsFor (tables g) A w (cell_of s)) (one_in (get_or ws i d) b) k)) (in_split (take i ws) (get_or ws i d ∷ []) h);
-    only = λ s h. ⊎_elim
-        (λ b. let r = u.only s b in (r.0, in_left (take i ws) (get_or ws i d ∷ []) r.1, r.2))
-        (λ b. (get_or ws i d, in_right (take i ws) (get_or ws i d ∷ []) here, b))
-        (v.only s h);
-  })
+  pub sites_next : (ws : List W.Word) (i : ℕ) (d : W.Word) (old new : List ℕ) → i < length ws
+      → SitesSoFar (take i ws) old → SitesJoin A g (get_or ws i d) old new
+      → SitesSoFar (take (i + 1) ws) new
+  sites_next ws i d old new lt u v = subst (λ l. SitesSoFar l new) (sym (take_more ws i d lt))
+      (record {
+        put = λ s a h k. ⊎_elim (λ b. v.kept s (u.put s a b k))
+            (λ b. v.put s
+            (subst (λ w. StandsFor (tables g) A w (cell_of s)) (one_in (get_or ws i d) b) k))
+            (in_split (take i ws) (get_or ws i d ∷ []) h);
+        only = λ s h. ⊎_elim
+            (λ b. let r = u.only s b in (r.0, in_left (take i ws) (get_or ws i d ∷ []) r.1, r.2))
+            (λ b. (get_or ws i d, in_right (take i ws) (get_or ws i d ∷ []) here, b))
+            (v.only s h);
+      })
 
   of_each : (P : W.Word → Type 0) (ws : List W.Word) → ((a : W.Word) → In a ws → P a) → AllOf P ws
   of_each P [] h = tt
@@ -132,15 +164,21 @@ module _ (A : Solution) (g : Program) where
 
   to_each : (P : W.Word → Type 0) (ws : List W.Word) (a : W.Word) → AllOf P ws → In a ws → P a
   to_each P [] a h k = none_in k
-  to_each P (b ∷ ws) a h k = ⊎_elim (λ e. subst P (sym e) h.0) (λ t. to_each P ws a h.1 t) (cons_in b ws k)
+  to_each P (b ∷ ws) a h k = ⊎_elim (λ e. subst P (sym e) h.0) (λ t. to_each P ws a h.1 t)
+      (cons_in b ws k)
 
-  pub sites_done : (ws : List W.Word) (i : ℕ) (sites : BTreeSet ℕ) → ws ≡ updated_of g.procs → length ws ≤ i → SitesSoFar (take i ws) sites.keys → UpdatedSites A g sites
+  pub sites_done : (ws : List W.Word) (i : ℕ) (sites : BTreeSet ℕ) → ws ≡ updated_of g.procs
+      → length ws ≤ i → SitesSoFar (take i ws) sites.keys → UpdatedSites A g sites
   sites_done ws i sites e le u =
-      let v : SitesSoFar (updated_of g.procs) sites.keys = subst (λ l. SitesSoFar l sites.keys) (take_all i ws le ∙ e) u in
+      let v : SitesSoFar (updated_of g.procs) sites.keys
+      = subst (λ l. SitesSoFar l sites.keys) (take_all i ws le ∙ e) u in
       record {
-        within = λ s h n. let r = v.only s h in to_each (λ a. StandsFor (tables g) A a (cell_of s) → ⊥) (updated_of g.procs) r.0 n r.1 r.2;
+        within = λ s h n. let r = v.only s h in to_each
+            (λ a. StandsFor (tables g) A a (cell_of s) → ⊥) (updated_of g.procs) r.0 n r.1 r.2;
         others = λ s h a k l. h (v.put s a k l);
       }
 
-  pub never_updated : (sites : BTreeSet ℕ) (s : ℕ) → UpdatedSites A g sites → (In s sites.keys → ⊥) → NeverUpdated A g s
-  never_updated sites s u h = of_each (λ a. StandsFor (tables g) A a (cell_of s) → ⊥) (updated_of g.procs) (u.others s h)
+  pub never_updated : (sites : BTreeSet ℕ) (s : ℕ) → UpdatedSites A g sites → (In s sites.keys → ⊥)
+      → NeverUpdated A g s
+  never_updated sites s u h = of_each (λ a. StandsFor (tables g) A a (cell_of s) → ⊥)
+      (updated_of g.procs) (u.others s h)

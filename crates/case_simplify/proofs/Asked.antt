@@ -1,4 +1,5 @@
--- What is asked of the rule: what is known speaks of variables in scope, and a case does what becomes of it, by what its alternatives do.
+-- What is asked of the rule: what is known speaks of variables in scope, and a case does what
+-- becomes of it, by what its alternatives do.
 use Rattle.std.proofs.Common.{◌≡◌, true, Some, refl, ◌∙◌, subst}
 use Rattle.seq.proofs.Lists.{none_is_some, some_is}
 use Rattle.seq.proofs.Truth.{and_left, and_right}
@@ -51,9 +52,12 @@ module _ (g : Program) where
   fail_formed scope = tt
 
   -- patterns bind nothing, so an alternative is well formed where its case stands
-  split_formed : (scope : Scope) (s : Shape) (b : Code) (as' : Arms) → Patterns inlined_vectors (arm s b as') × ArmsFormed g scope (arm s b as') → CodeFormed g scope b × (Patterns inlined_vectors as' × ArmsFormed g scope as')
+  split_formed : (scope : Scope) (s : Shape) (b : Code) (as' : Arms)
+      → Patterns inlined_vectors (arm s b as') × ArmsFormed g scope (arm s b as')
+      → CodeFormed g scope b × (Patterns inlined_vectors as' × ArmsFormed g scope as')
   unfolding ActFormed
-  split_formed scope s b as' h = (subst (λ xs. CodeFormed g (with_word_variables xs scope) b) h.0.0 h.1.1, (h.0.1, h.1.2))
+  split_formed scope s b as' h =
+      (subst (λ xs. CodeFormed g (with_word_variables xs scope) b) h.0.0 h.1.1, (h.0.1, h.1.2))
 
   pub places : Places simplifying unchanged g nothing_known inlined_vectors
   unfolding ActFormed
@@ -64,7 +68,9 @@ module _ (g : Program) where
     after = λ facts scope t o f. after_inside g facts t o scope;
     inside = λ facts scope v s fv fs. noted_inside g scope facts v s fv;
     words = λ facts scope at a f. f;
-    cases = λ facts scope v as' fv k h. case_has (ActFormed g scope) (CodeFormed g scope) (λ bs. Patterns inlined_vectors bs × ArmsFormed g scope bs) (block_formed scope) (fail_formed scope) (split_formed scope) facts v as' (k, h) (fv, h);
+    cases = λ facts scope v as' fv k h. case_has (ActFormed g scope) (CodeFormed g scope)
+        (λ bs. Patterns inlined_vectors bs × ArmsFormed g scope bs) (block_formed scope)
+        (fail_formed scope) (split_formed scope) facts v as' (k, h) (fv, h);
   }
 
   abbrev pub sides : Plan
@@ -75,7 +81,8 @@ module _ (g : Program) where
     it = side_by_side sides c c' cb cf
 
     abbrev Going : Facts → V.Val → Arms → Arms → Type 0
-    Going = ArmsGo simplifying unchanged g nothing_known inlined_vectors places AnyState (Knowing g) it
+    Going = ArmsGo simplifying unchanged g nothing_known inlined_vectors places AnyState (Knowing g)
+        it
 
     abbrev OnBoth : Facts → V.Val → Value → Value → Relation
     OnBoth facts v y y' c env env' = Same y y' × OnOne g facts v y c env env'
@@ -87,55 +94,95 @@ module _ (g : Program) where
     same_fit s same = refl
 
     -- a case that stays
-    case_stays : (facts : Facts) (v : V.Val) {as' bs' : Arms} → Going facts v as' bs' → ArmsFollow it (OnBoth facts v) Same as' bs'
+    case_stays : (facts : Facts) (v : V.Val) {as' bs' : Arms} → Going facts v as' bs'
+        → ArmsFollow it (OnBoth facts v) Same as' bs'
     case_stays facts v none_goes = no_arm_follows it no_arm
-    case_stays facts v (more_go s b b' as' bs' bare f k) = arm_follows it {U = OnBoth facts v} {U' = OnBoth facts v} {R' = Knowing g (facts_in_alternative v s facts)} s s b b' as' bs' f (case_stays facts v k)
-        (λ y y' x bs e known. fits_both g facts v s x.w.cells x.env x.env' bs bare AnyState sides.procs c c' cb cf x.related.0 x.related.1 e)
+    case_stays facts v (more_go s b b' as' bs' bare f k)
+        = arm_follows it {U = OnBoth facts v} {U' = OnBoth facts v}
+        {R' = Knowing g (facts_in_alternative v s facts)} s s b b' as' bs' f (case_stays facts v k)
+        (λ y y' x bs e known. fits_both g facts v s x.w.cells x.env x.env' bs bare AnyState
+        sides.procs c c' cb cf x.related.0 x.related.1 e)
         (λ y y' x e. (same_fit s x.related.0 ∙ e, x.related))
 
     -- a case that becomes an alternative
-    takes_one : (facts : Facts) (v : V.Val) (t : TagId) → known_first_word facts v ≡ Some (Tag t) → {as' bs' : Arms} → Going facts v as' bs' → (b' : Code) → selected_block t (known_second_word facts v) bs' ≡ Some b' → ArmsBecome it (OnOne g facts v) Same as' b'
+    takes_one : (facts : Facts) (v : V.Val) (t : TagId) → known_first_word facts v ≡ Some (Tag t)
+        → {as' bs' : Arms} → Going facts v as' bs' → (b' : Code)
+        → selected_block t (known_second_word facts v) bs' ≡ Some b'
+        → ArmsBecome it (OnOne g facts v) Same as' b'
     takes_one facts v t known none_goes d e = none_taken it d
-    takes_one facts v t known (more_go s b b' as' bs' bare f k) d e = go (takes_one facts v t known k d) (verdict t (known_second_word facts v) s) refl e
+    takes_one facts v t known (more_go s b b' as' bs' bare f k) d e
+        = go (takes_one facts v t known k d) (verdict t (known_second_word facts v) s) refl e
       where
-        go : (selected_block t (known_second_word facts v) bs' ≡ Some d → ArmsBecome it (OnOne g facts v) Same as' d) → (r : Verdict) → verdict t (known_second_word facts v) s ≡ r → by_verdict r b' (selected_block t (known_second_word facts v) bs') ≡ Some d → ArmsBecome it (OnOne g facts v) Same (arm s b as') d
-        go later Takes r e = subst (λ k. ArmsBecome it (OnOne g facts v) Same (arm s b as') k) (some_is e)
-            (arm_taken it {U = OnOne g facts v} {U' = λ y. never} {R' = Knowing g (facts_in_alternative v s facts)} s b as' b' f (record { by = λ y x. absurd x.related })
-            (λ y x bs f known. fits_knowing g facts v s x.w.cells x.env x.env' bs bare y x.related f)
-            (λ y x f. subst (λ r. Says g r (fit_of g s y)) r (says g x.env v y x.related.1 facts x.related.0.1 t known s bare) f))
-        go later Passes r e = arm_taken it {U = OnOne g facts v} {U' = OnOne g facts v} {R' = never} s b as' d (record { by = λ x. absurd x.related }) (later e)
-            (λ y x bs f p. subst (λ r. Says g r (fit_of g s y)) r (says g x.env v y x.related.1 facts x.related.0.1 t known s bare) bs f)
+        go : (selected_block t (known_second_word facts v) bs' ≡ Some d
+            → ArmsBecome it (OnOne g facts v) Same as' d) → (r : Verdict)
+            → verdict t (known_second_word facts v) s ≡ r
+            → by_verdict r b' (selected_block t (known_second_word facts v) bs') ≡ Some d
+            → ArmsBecome it (OnOne g facts v) Same (arm s b as') d
+        go later Takes r e = subst (λ k. ArmsBecome it (OnOne g facts v) Same (arm s b as') k)
+            (some_is e)
+            (arm_taken it {U = OnOne g facts v} {U' = λ y. never}
+            {R' = Knowing g (facts_in_alternative v s facts)} s b as' b' f
+            (record { by = λ y x. absurd x.related })
+            (λ y x bs f known. fits_knowing g facts v s x.w.cells x.env x.env' bs bare y x.related
+            f)
+            (λ y x f. subst (λ r. Says g r (fit_of g s y)) r
+            (says g x.env v y x.related.1 facts x.related.0.1 t known s bare) f))
+        go later Passes r e = arm_taken it {U = OnOne g facts v} {U' = OnOne g facts v} {R' = never}
+            s b as' d (record { by = λ x. absurd x.related }) (later e)
+            (λ y x bs f p. subst (λ r. Says g r (fit_of g s y)) r
+            (says g x.env v y x.related.1 facts x.related.0.1 t known s bare) bs f)
             (λ y x f. x.related)
         go later Open r e = none_is_some e
 
     -- a case that becomes a unit
-    gives_one : (facts : Facts) (v u : V.Val) {as' bs' : Arms} → Going facts v as' bs' → all_arms_return u bs' ≡ true → ArmsBecome it (OnOne g facts v) Same as' (end (leaf (unit u)))
+    gives_one : (facts : Facts) (v u : V.Val) {as' bs' : Arms} → Going facts v as' bs'
+        → all_arms_return u bs' ≡ true → ArmsBecome it (OnOne g facts v) Same as'
+        (end (leaf (unit u)))
     gives_one facts v u none_goes e = none_taken it (end (leaf (unit u)))
-    gives_one facts v u (more_go s b b' as' bs' bare f k) e = arm_taken it {U = OnOne g facts v} {U' = OnOne g facts v} {R' = Knowing g (facts_in_alternative v s facts)} s b as' (end (leaf (unit u)))
-        (subst (CodeFollows it (Knowing g (facts_in_alternative v s facts)) Same b) (gives_val_is u b' (and_left (returns_val u b') (all_arms_return u bs') e)) f)
+    gives_one facts v u (more_go s b b' as' bs' bare f k) e
+        = arm_taken it {U = OnOne g facts v} {U' = OnOne g facts v}
+        {R' = Knowing g (facts_in_alternative v s facts)} s b as' (end (leaf (unit u)))
+        (subst (CodeFollows it (Knowing g (facts_in_alternative v s facts)) Same b)
+        (gives_val_is u b' (and_left (returns_val u b') (all_arms_return u bs') e)) f)
         (gives_one facts v u k (and_right (returns_val u b') (all_arms_return u bs') e))
         (λ y x bs f known. fits_knowing g facts v s x.w.cells x.env x.env' bs bare y x.related f)
         (λ y x f. x.related)
 
-    as_act_follows : {R : Relation} (o : Act) (b : Code) → ActFollows it R Same o (nested b) → ActFollows it R Same o (as_act b)
+    as_act_follows : {R : Relation} (o : Act) (b : Code) → ActFollows it R Same o (nested b)
+        → ActFollows it R Same o (as_act b)
     unfolding act_by
     as_act_follows o (end o') f = record { by = λ x. f.by x }
     as_act_follows o (store cs b) f = f
     as_act_follows o (bind t o' b) f = f
 
-    becomes : (facts : Facts) (v : V.Val) (as' : Arms) (b : Code) → ArmsBecome it (OnOne g facts v) Same as' b → ActFollows it (Knowing g facts) Same (case v as') (as_act b)
-    becomes facts v as' b f = as_act_follows (case v as') b (case_becomes it {R = Knowing g facts} {U = OnOne g facts v} v as' b f (λ x y e. (x.related, e)))
+    becomes : (facts : Facts) (v : V.Val) (as' : Arms) (b : Code)
+        → ArmsBecome it (OnOne g facts v) Same as' b
+        → ActFollows it (Knowing g facts) Same (case v as') (as_act b)
+    becomes facts v as' b f = as_act_follows (case v as') b
+        (case_becomes it {R = Knowing g facts} {U = OnOne g facts v} v as' b f
+        (λ x y e. (x.related, e)))
 
-    pub case_goes : (facts : Facts) (v : V.Val) (as' bs' : Arms) → Going facts v as' bs' → ActFollows it (Knowing g facts) Same (case v as') (simple_case facts v bs')
-    case_goes facts v as' bs' k = case_by facts v bs' (ActFollows it (Knowing g facts) Same (case v as'))
+    pub case_goes : (facts : Facts) (v : V.Val) (as' bs' : Arms) → Going facts v as' bs'
+        → ActFollows it (Knowing g facts) Same (case v as') (simple_case facts v bs')
+    case_goes facts v as' bs' k = case_by facts v bs'
+        (ActFollows it (Knowing g facts) Same (case v as'))
         (λ t b q e. becomes facts v as' b (takes_one facts v t q k b e))
         (λ u e q. becomes facts v as' (end (leaf (unit u))) (gives_one facts v u k q))
-        (λ n q. case_follows it {R = Knowing g facts} {U = OnBoth facts v} v v as' bs' (case_stays facts v k) (λ x y e. (y, value_has g Any x.env x.env' x.related.0 v (any_val v) y e, (same, (x.related, e)))))
+        (λ n q. case_follows it {R = Knowing g facts} {U = OnBoth facts v} v v as' bs'
+        (case_stays facts v k)
+        (λ x y e. (
+          y,
+          value_has g Any x.env x.env' x.related.0 v (any_val v) y e,
+          (same, (x.related, e)),
+        )))
 
   -- ---- the whole rule
 
   cases_keep : (q : Kept) → CasesKeep simplifying unchanged q
-  cases_keep q facts v v' as' bs' h k = case_has (q.act (case v as')) (λ b. q.act (case v as') (as_act b)) (q.arms as') (λ b h. h) (q.fails v as') (λ s b bs h. (q.takes v as' s b bs h, q.passes as' s b bs h)) facts v' bs' k (q.cases v v' as' bs' h k)
+  cases_keep q facts v v' as' bs' h k = case_has (q.act (case v as'))
+      (λ b. q.act (case v as') (as_act b)) (q.arms as') (λ b h. h) (q.fails v as')
+      (λ s b bs h. (q.takes v as' s b bs h, q.passes as' s b bs h)) facts v' bs' k
+      (q.cases v v' as' bs' h k)
 
   holding : Holding simplifying unchanged g nothing_known inlined_vectors places AnyState
   unfolding places
@@ -144,7 +191,8 @@ module _ (g : Program) where
     has = λ facts c env env' r. r.0;
     begins = λ c env. ((λ x v _ k. k), (λ x k h. none_is_some h));
     words = λ facts s env' p r a d. word_has g Any s.env env' r.0 a (any_val (One a)) d;
-    stored = λ facts scope bs c c' env env' at once. knowing_on g facts scope (keys bs) c c' bs env env' at once refl;
+    stored = λ facts scope bs c c' env env' at once. knowing_on g facts scope (keys bs) c c' bs env
+        env' at once refl;
     bound = bound g;
     inlined = λ o h. h;
     no_nodes = λ t n. n;
@@ -152,4 +200,10 @@ module _ (g : Program) where
   }
 
   pub sound : FactsAreSound simplifying unchanged g nothing_known AnyState
-  sound = record { by = words_stay simplifying (λ facts l. refl) (λ facts v. refl) (λ facts cs. refl); cases = cases_keep; places = places; holding = holding }
+  sound = record {
+    by = words_stay simplifying (λ facts l. refl) (λ facts v. refl) (λ facts cs. refl);
+    cases
+        = cases_keep;
+    places = places;
+    holding = holding;
+  }

@@ -23,10 +23,14 @@ is_simplified g h e of = subst (Simplified g) (sym e) (record {
 })
 
 pub is_kept : (g h : Program) → h ≡ simplified g → IsVectorForm g → Keeps g h
-is_kept g h e of = subst (Keeps g) (sym e) (keeps simplifying unchanged g nothing_known AnyState (sound g) of (λ i n. every_any _))
+is_kept g h e of = subst (Keeps g) (sym e)
+    (keeps simplifying unchanged g nothing_known AnyState (sound g) of (λ i n. every_any _))
 
-pub fewer_updates : (count : Val → ℕ) (g : Program) → procs_update_sum count (simplified g).procs ≤ procs_update_sum count g.procs
+pub fewer_updates : (count : Val → ℕ) (g : Program)
+    → procs_update_sum count (simplified g).procs ≤ procs_update_sum count g.procs
 unfolding updates_kept
 fewer_updates count g =
     let asked = sound g in
-    updates_fewer simplifying unchanged nothing_known asked.by count (asked.cases (updates_kept count)) (λ facts v. subst (λ u. count u ≤ count v) (asked.by.values facts v) (omega arith)) g.procs
+    updates_fewer simplifying unchanged nothing_known asked.by count
+    (asked.cases (updates_kept count))
+    (λ facts v. subst (λ u. count u ≤ count v) (asked.by.values facts v) (omega arith)) g.procs

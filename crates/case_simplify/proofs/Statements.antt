@@ -15,7 +15,8 @@ use Rattle.case_simplify.specs.Known.{Known}
 use Rattle.case_simplify.specs.Choice.{Verdict, verdict, by_verdict, selected_block}
 use Rattle.case_simplify.specs.Simple.{returned_value, returns_val, all_arms_return}
 
-module _ (P : Code → Type 0) (stores : (cs : List Cell) (b : Code) → P (store cs b)) (binds : (t : Target) (o : Act) (b : Code) → P (bind t o b)) where
+module _ (P : Code → Type 0) (stores : (cs : List Cell) (b : Code) → P (store cs b))
+    (binds : (t : Target) (o : Act) (b : Code) → P (bind t o b)) where
   before_is : (s : Stmt) (c : Code) → P (before_of s c)
   before_is (Store cells) c = rw before_of-Store (stores cells c)
   before_is (Bind t o) c = rw before_of-Bind (binds t (act_of o) c)
@@ -36,22 +37,35 @@ none_given = block_is (λ c. returned_value c ≡ None) (λ cs b. refl) (λ t o 
 
 -- ---- alternatives, one after the other
 
-pub taken_at : (t : TagId) (second : Option Known) (alts : List Alt) (i : ℕ) (a : Alt) (r : Verdict) → i < length alts → a ≡ get_or alts i a → r ≡ verdict t second a.pattern
-    → selected_block t second (arms_of (map arm_of (drop i alts))) ≡ by_verdict r (code_of a.body) (selected_block t second (arms_of (map arm_of (drop (i + 1) alts))))
+pub taken_at : (t : TagId) (second : Option Known) (alts : List Alt) (i : ℕ) (a : Alt) (r : Verdict)
+    → i < length alts → a ≡ get_or alts i a → r ≡ verdict t second a.pattern
+    → selected_block t second (arms_of (map arm_of (drop i alts))) ≡ by_verdict r (code_of a.body)
+    (selected_block t second (arms_of (map arm_of (drop (i + 1) alts))))
 taken_at t second alts i a r lt at e =
-    ap (λ l. selected_block t second (arms_of (map arm_of l))) (drop_at alts i a lt ∙ (λ j. sym at j ∷ drop (sym (add-one i) j) alts))
-    ∙ ap (λ p. by_verdict (verdict t second p.0) p.1 (selected_block t second (arms_of (map arm_of (drop (i + 1) alts))))) (arm_of-parts a)
-    ∙ ap (λ v. by_verdict v (code_of a.body) (selected_block t second (arms_of (map arm_of (drop (i + 1) alts))))) (sym e)
+    ap (λ l. selected_block t second (arms_of (map arm_of l)))
+    (drop_at alts i a lt ∙ (λ j. sym at j ∷ drop (sym (add-one i) j) alts))
+    ∙ ap (λ p. by_verdict (verdict t second p.0) p.1
+    (selected_block t second (arms_of (map arm_of (drop (i + 1) alts))))) (arm_of-parts a)
+    ∙ ap (λ v. by_verdict v (code_of a.body)
+    (selected_block t second (arms_of (map arm_of (drop (i + 1) alts))))) (sym e)
 
-pub taken_over : (t : TagId) (second : Option Known) (alts : List Alt) (i : ℕ) → length alts ≤ i → selected_block t second (arms_of (map arm_of (drop i alts))) ≡ Some (end (leaf fail))
-taken_over t second alts i le = ap (λ l. selected_block t second (arms_of (map arm_of l))) (drop_past alts i le)
+pub taken_over : (t : TagId) (second : Option Known) (alts : List Alt) (i : ℕ) → length alts ≤ i
+    → selected_block t second (arms_of (map arm_of (drop i alts))) ≡ Some (end (leaf fail))
+taken_over t second alts i le = ap (λ l. selected_block t second (arms_of (map arm_of l)))
+    (drop_past alts i le)
 
-pub returned_at : (u : Val) (alts : List Alt) (i : ℕ) (a : Alt) (b r : Bool) → i < length alts → a ≡ get_or alts i a → b ≡ returns_val u (code_of a.body) → b ≡ r
-    → all_arms_return u (arms_of (map arm_of (drop i alts))) ≡ (r && all_arms_return u (arms_of (map arm_of (drop (i + 1) alts))))
+pub returned_at : (u : Val) (alts : List Alt) (i : ℕ) (a : Alt) (b r : Bool) → i < length alts
+    → a ≡ get_or alts i a → b ≡ returns_val u (code_of a.body) → b ≡ r
+    → all_arms_return u (arms_of (map arm_of (drop i alts))) ≡
+    (r && all_arms_return u (arms_of (map arm_of (drop (i + 1) alts))))
 returned_at u alts i a b r lt at e p =
-    ap (λ l. all_arms_return u (arms_of (map arm_of l))) (drop_at alts i a lt ∙ (λ j. sym at j ∷ drop (sym (add-one i) j) alts))
-    ∙ ap (λ c. returns_val u c.1 && all_arms_return u (arms_of (map arm_of (drop (i + 1) alts)))) (arm_of-parts a)
+    ap (λ l. all_arms_return u (arms_of (map arm_of l)))
+    (drop_at alts i a lt ∙ (λ j. sym at j ∷ drop (sym (add-one i) j) alts))
+    ∙ ap (λ c. returns_val u c.1 && all_arms_return u (arms_of (map arm_of (drop (i + 1) alts))))
+    (arm_of-parts a)
     ∙ ap (λ q. q && all_arms_return u (arms_of (map arm_of (drop (i + 1) alts)))) (sym e ∙ p)
 
-pub returned_over : (u : Val) (alts : List Alt) (i : ℕ) → length alts ≤ i → all_arms_return u (arms_of (map arm_of (drop i alts))) ≡ true
-returned_over u alts i le = ap (λ l. all_arms_return u (arms_of (map arm_of l))) (drop_past alts i le)
+pub returned_over : (u : Val) (alts : List Alt) (i : ℕ) → length alts ≤ i
+    → all_arms_return u (arms_of (map arm_of (drop i alts))) ≡ true
+returned_over u alts i le = ap (λ l. all_arms_return u (arms_of (map arm_of l)))
+    (drop_past alts i le)

@@ -11,8 +11,11 @@ differs name word other = go (bytes_eq name word) refl where
   go false is = refl
 
 -- a name that none of the forms has
-pub other_name : (ask : Form → Option CommandLine) (name : List ℕ) → name ≢ codes "run" → name ≢ codes "check" → name ≢ codes "list"
-    → name ≢ codes "build" → name ≢ codes "exec" → name ≢ codes "gen" → name ≢ codes "lift" → name ≢ codes "match" → name ≢ codes "types" → name ≢ codes "sides" → name ≢ codes "points" → None ≡ by_name ask name
+pub other_name : (ask : Form → Option CommandLine) (name : List ℕ) → name ≢ codes "run"
+    → name ≢ codes "check" → name ≢ codes "list"
+    → name ≢ codes "build" → name ≢ codes "exec" → name ≢ codes "gen" → name ≢ codes "lift"
+    → name ≢ codes "match" → name ≢ codes "types" → name ≢ codes "sides" → name ≢ codes "points"
+    → None ≡ by_name ask name
 other_name ask name run check list build exec gen lift equations types sides points =
     rw (
       differs name (codes "run") run,

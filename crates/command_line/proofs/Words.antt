@@ -13,7 +13,8 @@ plain_word (b ∷ c ∷ bs) other = by_first (b == 45) refl where
   by_first false is = rw is refl
 
 -- one dash and more behind it
-pub unknown_word : (text dashed : List ℕ) → text ≡ 45 ∷ dashed → length dashed ≢ 0 → ((rest : List ℕ) → dashed ≢ 45 ∷ rest) → Unknown ≡ word_of text
+pub unknown_word : (text dashed : List ℕ) → text ≡ 45 ∷ dashed → length dashed ≢ 0
+    → ((rest : List ℕ) → dashed ≢ 45 ∷ rest) → Unknown ≡ word_of text
 unknown_word text [] is some other = absurd (some refl)
 unknown_word text (c ∷ bs) is some other = by_second (c == 45) refl where
   by_second : (is_dash : Bool) → (c == 45) ≡ is_dash → Unknown ≡ word_of text

@@ -13,27 +13,36 @@ use Rattle.grin_meaning.specs.Values.{Datum, number, tag, cell, Node, Value, nod
 use Rattle.seq.specs.Lists.{is_among}
 use Rattle.grin_meaning.proofs.Bindings.{fits_is, keys}
 
-pub others_stay : (bs : List Binding) (env : Env) (x : ℕ) → is_among x (keys bs) ≡ false → with_vars bs env x ≡ env x
+pub others_stay : (bs : List Binding) (env : Env) (x : ℕ) → is_among x (keys bs) ≡ false
+    → with_vars bs env x ≡ env x
 others_stay [] env x h = refl
-others_stay (b ∷ bs) env x h = others_stay bs _ x (neither_right (nat_eq x b.0) (is_among x (keys bs)) h) ∙ ap (λ t. cond t (Some b.1) (env x)) (neither_left (nat_eq x b.0) (is_among x (keys bs)) h)
+others_stay (b ∷ bs) env x h = others_stay bs _ x
+    (neither_right (nat_eq x b.0) (is_among x (keys bs)) h) ∙ ap (λ t. cond t (Some b.1) (env x))
+    (neither_left (nat_eq x b.0) (is_among x (keys bs)) h)
 
-pub names_each : (xs : List VarId) (ds : List Datum) (bs : List Binding) → one_each xs ds ≡ Some bs → keys bs ≡ numbers_of xs
+pub names_each : (xs : List VarId) (ds : List Datum) (bs : List Binding) → one_each xs ds ≡ Some bs
+    → keys bs ≡ numbers_of xs
 names_each [] [] bs e = ap keys (sym (some_is e))
 names_each [] (d ∷ ds) bs e = cc
 names_each (x ∷ xs) [] bs e = cc
 names_each (x ∷ xs) (d ∷ ds) bs e = go (one_each xs ds) refl e (names_each xs ds)
   where
-    go : (o : Option (List Binding)) → one_each xs ds ≡ o → and_then o (λ cs. Some ((x.0, words (d ∷ [])) ∷ cs)) ≡ Some bs → ((cs : List Binding) → one_each xs ds ≡ Some cs → keys cs ≡ numbers_of xs) → keys bs ≡ numbers_of (x ∷ xs)
+    go : (o : Option (List Binding)) → one_each xs ds ≡ o
+        → and_then o (λ cs. Some ((x.0, words (d ∷ [])) ∷ cs)) ≡ Some bs
+        → ((cs : List Binding) → one_each xs ds ≡ Some cs → keys cs ≡ numbers_of xs)
+        → keys bs ≡ numbers_of (x ∷ xs)
     go None q e k = cc
     go (Some cs) q e k = ap keys (sym (some_is e)) ∙ ap (λ l. x.0 ∷ l) (k cs q)
 
-pub names_target : (g : Program) (t : Target) (v : Value) (bs : List Binding) → bindings_of g t v ≡ Some bs → keys bs ≡ target_vars t
+pub names_target : (g : Program) (t : Target) (v : Value) (bs : List Binding)
+    → bindings_of g t v ≡ Some bs → keys bs ≡ target_vars t
 names_target g to.Nothing (words []) bs e = ap keys (sym (some_is e))
 names_target g to.Nothing (words (d ∷ ds)) bs e = cc
 names_target g to.Nothing (node n) bs e = cc
 names_target g (to.Node x) v bs e = go (as_node g v) e
   where
-    go : (o : Option Node) → and_then o (λ n. Some ((x.0, node n) ∷ [])) ≡ Some bs → keys bs ≡ x.0 ∷ []
+    go : (o : Option Node) → and_then o (λ n. Some ((x.0, node n) ∷ [])) ≡ Some bs
+        → keys bs ≡ x.0 ∷ []
     go None e = cc
     go (Some n) e = ap keys (sym (some_is e))
 names_target g (to.One x) (words []) bs e = cc
@@ -41,11 +50,13 @@ names_target g (to.One x) (words (d ∷ [])) bs e = ap keys (sym (some_is e))
 names_target g (to.One x) (words (d ∷ (d' ∷ ds))) bs e = cc
 names_target g (to.One x) (node n) bs e = cc
 names_target g (to.Vector xs) (words ds) bs e = names_each xs ds bs e
-names_target g (to.Vector xs) (node n) bs e = names_each xs (padded (length xs) (tag n.tag ∷ n.fields)) bs e
+names_target g (to.Vector xs) (node n) bs e = names_each xs
+    (padded (length xs) (tag n.tag ∷ n.fields)) bs e
 
 -- a pattern without variables binds nothing
 
-pub binds_nothing : (g : Program) (s : Shape) (v : Value) (bs : List Binding) → shape_vars s ≡ [] → fit_of g s v ≡ fits bs → bs ≡ []
+pub binds_nothing : (g : Program) (s : Shape) (v : Value) (bs : List Binding) → shape_vars s ≡ []
+    → fit_of g s v ≡ fits bs → bs ≡ []
 binds_nothing g (shape.Node t []) v bs h e = go (as_node g v) e
   where
     go : (o : Option Node) → node_fit t.0 [] o ≡ fits bs → bs ≡ []

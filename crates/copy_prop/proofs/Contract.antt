@@ -32,10 +32,12 @@ use Rattle.copy_prop.proofs.Unused.{procs_unused}
 
 module _ (g : Program) (g_is : IsVectorForm g) where
   resolved_stays : StaysVectorForm g (resolved g)
-  resolved_stays = stays copies_stand as_word g nothing_known AnyState (sound g) g_is (λ i n. every_any _)
+  resolved_stays = stays copies_stand as_word g nothing_known AnyState (sound g) g_is
+      (λ i n. every_any _)
 
   resolved_keeps : Keeps g (resolved g)
-  resolved_keeps = keeps copies_stand as_word g nothing_known AnyState (sound g) g_is (λ i n. every_any _)
+  resolved_keeps = keeps copies_stand as_word g nothing_known AnyState (sound g) g_is
+      (λ i n. every_any _)
 
   resolved_heaps : SameHeaps g (resolved g)
   resolved_heaps i n =
@@ -47,20 +49,25 @@ module _ (g : Program) (g_is : IsVectorForm g) where
   abbrev procs_resolved : List Procedure → List Procedure
   procs_resolved = procs_by copies_stand as_word nothing_known
 
-  no_store_new : (s : ℕ) (qs : List Procedure) → times s (procs_sites (procs_resolved qs)) ≤ times s (procs_sites qs)
+  no_store_new : (s : ℕ) (qs : List Procedure) → times s (procs_sites (procs_resolved qs)) ≤ times s
+      (procs_sites qs)
   unfolding sites_kept
   no_store_new s [] = omega arith
-  no_store_new s (q ∷ qs) = times_fewer s (code_sites (walk_code copies_stand nothing_known q.body)) (procs_sites (procs_resolved qs)) (code_sites q.body) (procs_sites qs)
-      (kept copies_stand as_word (sound g).by (sites_kept s) ((sound g).cases (sites_kept s)) (λ f v. tt) nothing_known q.body) (no_store_new s qs)
+  no_store_new s (q ∷ qs) = times_fewer s (code_sites (walk_code copies_stand nothing_known q.body))
+      (procs_sites (procs_resolved qs)) (code_sites q.body) (procs_sites qs)
+      (kept copies_stand as_word (sound g).by (sites_kept s) ((sound g).cases (sites_kept s))
+      (λ f v. tt) nothing_known q.body) (no_store_new s qs)
 
 -- ---- idle statements
 
 module _ (g : Program) (g_is : IsVectorForm g) where
   lean_both : CheckedRunsNeverMissing (lean g) × Keeps g (lean g)
-  lean_both = lean_kept g ((looking_law g g_is.ready.inlined).sees g_is.ready.never_missing g_is.ready.runs)
+  lean_both = lean_kept g
+      ((looking_law g g_is.ready.inlined).sees g_is.ready.never_missing g_is.ready.runs)
 
   heaps_stay : SameHeaps g (lean g)
-  heaps_stay = lean_heaps g ((looking_law g g_is.ready.inlined).sees g_is.ready.never_missing g_is.ready.runs)
+  heaps_stay = lean_heaps g
+      ((looking_law g g_is.ready.inlined).sees g_is.ready.never_missing g_is.ready.runs)
 
   lean_ready : Ready (lean g)
   lean_ready =
@@ -68,7 +75,8 @@ module _ (g : Program) (g_is : IsVectorForm g) where
       record {
         inlined = inl;
         few_params = leaned.procs_params 16 g.procs g_is.ready.few_params;
-        few_results = leaned.procs_narrow (1 + most_value_fields g.tags) 13 g.procs g_is.ready.few_results;
+        few_results = leaned.procs_narrow (1 + most_value_fields g.tags) 13 g.procs
+            g_is.ready.few_results;
         few_fields = g_is.ready.few_fields;
         never_missing = (looking_law (lean g) inl).never_missing lean_both.0;
         runs = (looking_law (lean g) inl).runs_well lean_both.0;
@@ -92,15 +100,20 @@ copied_program : (g : Program) → IsVectorForm g → Copied g (lean (resolved g
 copied_program g g_is =
     let first : StaysVectorForm g (resolved g) = resolved_stays g g_is in
     record {
-      stays = stays_again g (resolved g) (lean (resolved g)) first (lean_stays (resolved g) first.of_vectors);
+      stays = stays_again g (resolved g) (lean (resolved g)) first
+          (lean_stays (resolved g) first.of_vectors);
       made = refl;
-      needed = leaned.procs_needed (resolved g).procs (procs_unused g g.procs g_is.formed.procedures g_is.vectorised g_is.formed.variables_once);
-      no_new_stores = λ s. subst (λ l. times s l ≤ times s (procs_sites g.procs)) (sym (leaned.sites_stay (resolved g).procs)) (no_store_new g g_is s g.procs);
+      needed = leaned.procs_needed (resolved g).procs
+          (procs_unused g g.procs g_is.formed.procedures g_is.vectorised
+          g_is.formed.variables_once);
+      no_new_stores = λ s. subst (λ l. times s l ≤ times s (procs_sites g.procs))
+          (sym (leaned.sites_stay (resolved g).procs)) (no_store_new g g_is s g.procs);
       heaps = λ i n. heaps_stay (resolved g) first.of_vectors i n ∙ resolved_heaps g g_is i n;
     }
 
 copied_keeps : (g : Program) → IsVectorForm g → Keeps g (lean (resolved g))
-copied_keeps g g_is = keeps_again g (resolved g) (lean (resolved g)) (resolved_keeps g g_is) (lean_both (resolved g) (resolved_stays g g_is).of_vectors).1
+copied_keeps g g_is = keeps_again g (resolved g) (lean (resolved g)) (resolved_keeps g g_is)
+    (lean_both (resolved g) (resolved_stays g g_is).of_vectors).1
 
 pub is_copied : (g h k : Program) → h ≡ resolved g → k ≡ lean h → IsVectorForm g → Copied g k
 is_copied g h k e f o = subst (Copied g) (sym (f ∙ ap lean e)) (copied_program g o)

@@ -18,7 +18,11 @@ module _ (g : Program) (of : IsVectorForm g) where
   of_kind : EveryBodyIsOfKind inlined_vectors g.procs
   of_kind = both_bodies g.procs of.ready.inlined of.vectorised
 
-  pub goes_likewise : (i : List ℕ) (n : ℕ) → Likewise no_deeper Same (checked_run g i n) (checked_run (resolved g) i n)
-  goes_likewise i n = run_follows (plan copies_stand as_word g nothing_known inlined_vectors (sound g).places AnyState)
-      (λ c c' cb cf. bodies_go copies_stand as_word g nothing_known inlined_vectors (sound g).places AnyState (sound g).by (sound g).holding c c' cb cf 0 g.procs of.formed.procedures of_kind of.formed.variables_once)
+  pub goes_likewise : (i : List ℕ) (n : ℕ) → Likewise no_deeper Same (checked_run g i n)
+      (checked_run (resolved g) i n)
+  goes_likewise i n = run_follows
+      (plan copies_stand as_word g nothing_known inlined_vectors (sound g).places AnyState)
+      (λ c c' cb cf. bodies_go copies_stand as_word g nothing_known inlined_vectors (sound g).places
+      AnyState (sound g).by (sound g).holding c c' cb cf 0 g.procs of.formed.procedures of_kind
+      of.formed.variables_once)
       i n same same (every_any _)

@@ -44,7 +44,8 @@ use Rattle.core_link.proofs.Transfer.{no_other}
 use Rattle.core_link.proofs.Turned.{same_turned}
 
 -- the rule of a `main`
-lacks_main : (p : Program) (k at : ℕ) → program.Broken p k at → k ≡ 19 → (i : ℕ) (f : tree.Function) → slice_get p.functions i ≡ Some f → is_named p (codes "main") f.name ≡ false
+lacks_main : (p : Program) (k at : ℕ) → program.Broken p k at → k ≡ 19 → (i : ℕ) (f : tree.Function)
+    → slice_get p.functions i ≡ Some f → is_named p (codes "main") f.name ≡ false
 lacks_main p k at (program.NoMain e) h = e
 lacks_main p k at (program.DuplicateConstructor l e f s) h = absurd (omega (arith, h))
 lacks_main p k at (program.DuplicateFunction l e f s) h = absurd (omega (arith, h))
@@ -71,10 +72,14 @@ lacks_main p k at (program.TooManyArguments b e f) h = absurd (omega (arith, h))
 lacks_main p k at (program.TooManyFields i e f) h = absurd (omega (arith, h))
 lacks_main p k at (program.CoreTooLarge e) h = absurd (omega (arith, h))
 
--- ---- a normal form of a program is one of a program with other names, but for the names of functions
+-- ---- a normal form of a program is one of a program with other names, but for the names of
+-- functions
 
-module _ (p q : Program) {S : Type 0} (enter : List Binder → List Binder → S → S) (OfBinder OfCon : ℕ → ℕ → Type 0) (OfUse : S → ℕ → ℕ → Type 0) (OfFunction : ℕ → ℕ → Type 0) (Fits : S → Scope → Scope → Type 0) (start : S)
-    (means : MeansTheSame p q enter OfBinder OfCon OfUse Fits) (fits : Fits start [] []) (readable : IsReadable q) where
+module _ (p q : Program) {S : Type 0} (enter : List Binder → List Binder → S → S)
+    (OfBinder OfCon : ℕ → ℕ → Type 0) (OfUse : S → ℕ → ℕ → Type 0) (OfFunction : ℕ → ℕ → Type 0)
+    (Fits : S → Scope → Scope → Type 0) (start : S)
+    (means : MeansTheSame p q enter OfBinder OfCon OfUse Fits) (fits : Fits start [] [])
+    (readable : IsReadable q) where
   record Carries (r : normal.Program) : Type 0 where
     form : normal.Program
     is : IsNormalForm q form
@@ -82,7 +87,10 @@ module _ (p q : Program) {S : Type 0} (enter : List Binder → List Binder → S
     main : r.main ≡ form.main
     funs : AllZip SameBody r.funs form.funs
 
-  functions_carried : (fs gs : List tree.Function) → AllZip (RenamedFunction enter OfBinder OfCon OfUse OfFunction start) fs gs → All (ReadableFunction q.names) gs → (us : List normal.Function) → Pairwise (IsFunction p) fs us
+  functions_carried : (fs gs : List tree.Function) → AllZip
+      (RenamedFunction enter OfBinder OfCon OfUse OfFunction start) fs gs
+      → All (ReadableFunction q.names) gs → (us : List normal.Function)
+      → Pairwise (IsFunction p) fs us
       → (vs : List normal.Function) × Pairwise (IsFunction q) gs vs × AllZip SameBody us vs
   functions_carried [] [] z h [] w = ([], tt, tt)
   functions_carried [] [] z h (u ∷ us) w = absurd w
@@ -91,37 +99,61 @@ module _ (p q : Program) {S : Type 0} (enter : List Binder → List Binder → S
   functions_carried (f ∷ fs) (g ∷ gs) z h [] w = absurd w
   functions_carried (f ∷ fs) (g ∷ gs) z h (u ∷ us) w =
       let name = (All-head (ReadableFunction q.names) g gs h).0 in
-      let first = function_carried p q enter OfBinder OfCon OfUse Fits means OfFunction start f g u name.0 fits z.0 name.1 w.0 in
-      let rest = functions_carried fs gs z.1 (All-tail (ReadableFunction q.names) g gs h) us w.1 in
-      (record { name = name.0; params = u.params; body = u.body } ∷ rest.0, (first, rest.1), ((refl, refl), rest.2))
+      let first = function_carried p q enter OfBinder OfCon OfUse Fits means OfFunction start f g u
+      name.0 fits z.0 name.1 w.0 in
+      let rest = functions_carried fs gs z.1 (All-tail (ReadableFunction q.names) g gs h) us w.1 in (
+        record { name = name.0; params = u.params; body = u.body } ∷ rest.0,
+        (first, rest.1),
+        ((refl, refl), rest.2),
+      )
 
-  constructors_carried : ((n k : ℕ) → OfCon n k → slice_get p.names n ≡ slice_get q.names k) → (ds es : List Data) → AllZip (RenamedData enter OfBinder OfCon OfUse) ds es → (cs : List con.Con) → Pairwise (IsConstructor p) ds cs → Pairwise (IsConstructor q) es cs
+  constructors_carried : ((n k : ℕ) → OfCon n k → slice_get p.names n ≡ slice_get q.names k)
+      → (ds es : List Data) → AllZip (RenamedData enter OfBinder OfCon OfUse) ds es
+      → (cs : List con.Con) → Pairwise (IsConstructor p) ds cs → Pairwise (IsConstructor q) es cs
   constructors_carried text [] [] z [] w = tt
   constructors_carried text [] [] z (c ∷ cs) w = absurd w
   constructors_carried text [] (e ∷ es) z cs w = absurd z
   constructors_carried text (d ∷ ds) [] z cs w = absurd z
   constructors_carried text (d ∷ ds) (e ∷ es) z [] w = absurd w
-  constructors_carried text (d ∷ ds) (e ∷ es) z (c ∷ cs) w = (record { name = sym (text d.name e.name z.0.0) ∙ w.0.name; fields = w.0.fields ∙ z.0.1 }, constructors_carried text ds es z.1 cs w.1)
+  constructors_carried text (d ∷ ds) (e ∷ es) z (c ∷ cs) w
+      = (
+        record { name = sym (text d.name e.name z.0.0) ∙ w.0.name; fields = w.0.fields ∙ z.0.1 },
+        constructors_carried text ds es z.1 cs w.1,
+      )
 
-  carries : AllZip (RenamedData enter OfBinder OfCon OfUse) p.constructors q.constructors → AllZip (RenamedFunction enter OfBinder OfCon OfUse OfFunction start) p.functions q.functions
-      → ((n k : ℕ) → OfCon n k → slice_get p.names n ≡ slice_get q.names k) → ((n k : ℕ) → OfFunction n k → is_named p (codes "main") n ≡ is_named q (codes "main") k) → (r : normal.Program) → IsNormalForm p r → Carries r
+  carries : AllZip (RenamedData enter OfBinder OfCon OfUse) p.constructors q.constructors
+      → AllZip (RenamedFunction enter OfBinder OfCon OfUse OfFunction start) p.functions q.functions
+      → ((n k : ℕ) → OfCon n k → slice_get p.names n ≡ slice_get q.names k)
+      → ((n k : ℕ) → OfFunction n k → is_named p (codes "main") n ≡ is_named q (codes "main") k)
+      → (r : normal.Program) → IsNormalForm p r → Carries r
   carries ds fs text main r is =
       let w = functions_carried p.functions q.functions fs readable.functions r.funs is.funs in
-      let place = positions_aligned (λ (f : tree.Function). is_named p (codes "main") f.name) (λ (f : tree.Function). is_named q (codes "main") f.name) p.functions q.functions
-      (zip_map (RenamedFunction enter OfBinder OfCon OfUse OfFunction start) (λ f g. is_named p (codes "main") f.name ≡ is_named q (codes "main") g.name) (λ f g r. main f.name g.name r.0) p.functions q.functions fs) in
+      let place = positions_aligned (λ (f : tree.Function). is_named p (codes "main") f.name)
+      (λ (f : tree.Function). is_named q (codes "main") f.name) p.functions q.functions
+      (zip_map (RenamedFunction enter OfBinder OfCon OfUse OfFunction start)
+      (λ f g. is_named p (codes "main") f.name ≡ is_named q (codes "main") g.name)
+      (λ f g r. main f.name g.name r.0) p.functions q.functions fs) in
       record {
         form = record { cons = r.cons; funs = w.0; main = r.main };
-        is = record { cons = constructors_carried text p.constructors q.constructors ds r.cons is.cons; funs = w.1; main = sym place ∙ is.main };
+        is = record {
+          cons = constructors_carried text p.constructors q.constructors ds r.cons is.cons;
+          funs
+              = w.1;
+          main = sym place ∙ is.main;
+        };
         cons = refl;
         main = refl;
         funs = w.2;
       }
 
-  carried_printed : NormalFormIsUnique → (r : normal.Program) → Carries r → (d : normal.Program) → IsNormalForm q d → (i : List ℕ) (n : ℕ) → printed r i n ≡ printed d i n
-  carried_printed one r w d is i n = same_printed 0 NoAlternative r w.form w.cons w.main w.funs i n ∙ ap (λ x. printed x i n) (one q w.form d w.is is)
+  carried_printed : NormalFormIsUnique → (r : normal.Program) → Carries r → (d : normal.Program)
+      → IsNormalForm q d → (i : List ℕ) (n : ℕ) → printed r i n ≡ printed d i n
+  carried_printed one r w d is i n = same_printed 0 NoAlternative r w.form w.cons w.main w.funs i n
+      ∙ ap (λ x. printed x i n) (one q w.form d w.is is)
 
 -- Programs that are the same, the places and the numbers of the names aside, put out the same.
-pub same_programs_print_the_same : NormalFormIsUnique → (p q : Program) → SameProgram p q → IsReadable p → IsReadable q → (r d : normal.Program) → IsNormalForm p r → IsNormalForm q d
+pub same_programs_print_the_same : NormalFormIsUnique → (p q : Program) → SameProgram p q
+    → IsReadable p → IsReadable q → (r d : normal.Program) → IsNormalForm p r → IsNormalForm q d
     → (i : List ℕ) (n : ℕ) → printed r i n ≡ printed d i n
 same_programs_print_the_same one p q same_program here own r d is_r is_d i n =
     let E = same.NoScope p q same_program here own in
@@ -131,53 +163,76 @@ same_programs_print_the_same one p q same_program here own r d is_r is_d i n =
     let F = same.OfFunction p q same_program here own in
     let Fits = same.Fits p q same_program here own in
     let there = carries p q E B C U F Fits tt (same.means_the_same p q same_program here own) tt own
-    (same.constructors p q same_program here own) (same.functions p q same_program here own) (λ n k b. b.1) (λ n k b. same_named p q n k (codes "main") b.1) r is_r in
-    carried_printed p q E B C U F Fits tt (same.means_the_same p q same_program here own) tt own one r there d is_d i n
+    (same.constructors p q same_program here own) (same.functions p q same_program here own)
+    (λ n k b. b.1) (λ n k b. same_named p q n k (codes "main") b.1) r is_r in
+    carried_printed p q E B C U F Fits tt (same.means_the_same p q same_program here own) tt own one
+    r there d is_d i n
 
 -- ---- the module, its declarations by themselves, and the program
 
-module _ (one : NormalFormIsUnique) (some : NormalFormExists) (m : Module) (p c : Program) (u : IsUnion (m ∷ []) c) (sound : IsSound (m ∷ [])) (main : LacksMain (m ∷ []) → ⊥) (named : name_of m ≡ codes "Main") (no_imports : m.imports ≡ [])
-    (same_program : SameProgram (body m) p) (own : IsReadable p) (ok : accepted.BreaksNoRule p) (readable : IsReadable c) where
+module _ (one : NormalFormIsUnique) (some : NormalFormExists) (m : Module) (p c : Program)
+    (u : IsUnion (m ∷ []) c) (sound : IsSound (m ∷ [])) (main : LacksMain (m ∷ []) → ⊥)
+    (named : name_of m ≡ codes "Main") (no_imports : m.imports ≡ [])
+    (same_program : SameProgram (body m) p) (own : IsReadable p) (ok : accepted.BreaksNoRule p)
+    (readable : IsReadable c) where
   here : IsReadable (body m)
   here = (sound.good 0 m refl).readable
 
   turned : SameProgram p (body m)
   turned = same_turned (body m) p same_program
 
-  lacks : ((i : ℕ) (f : tree.Function) → slice_get m.functions i ≡ Some f → is_named (body m) (codes "main") f.name ≡ false) → LacksMain (m ∷ [])
+  lacks : ((i : ℕ) (f : tree.Function) → slice_get m.functions i ≡ Some f
+      → is_named (body m) (codes "main") f.name ≡ false) → LacksMain (m ∷ [])
   lacks none zero x e d = by x (one_item (Some m) m x refl e) d
     where
       by : (x : Module) → m ≡ x → DeclaresMain x → ⊥
       by x same d =
           let f : tree.Function = d.function in
-          let is : slice_get m.functions d.number ≡ Some f = ap (λ (y : Module). slice_get y.functions d.number) same ∙ d.is in
+          let is : slice_get m.functions d.number ≡ Some f
+          = ap (λ (y : Module). slice_get y.functions d.number) same ∙ d.is in
           let text : text_in m f.name ≡ codes "main" = ap (λ y. text_in y f.name) same ∙ d.main in
-          let name = (all_at (ReadableFunction m.names) m.functions here.functions d.number f is).0 in
-          not_both (is_named (body m) (codes "main") f.name) (named_at (body m) f.name name.0 (codes "main") name.1 ∙ (bytes_eq-Decides name.0 (codes "main")).1 (sym (text_is m f.name name.0 name.1) ∙ text)) (none d.number f is)
+          let name = (all_at (ReadableFunction m.names) m.functions here.functions d.number f is).0
+          in
+          not_both (is_named (body m) (codes "main") f.name)
+          (named_at (body m) f.name name.0 (codes "main") name.1 ∙
+          (bytes_eq-Decides name.0 (codes "main")).1
+          (sym (text_is m f.name name.0 name.1) ∙ text)) (none d.number f is)
   lacks none (suc i) x e d = none_is_some e
 
   no_name_rule : (k at : ℕ) → IsRuleOfNames k → program.Broken (body m) k at → ⊥
-  no_name_rule k at (inl e) b = sound.own 0 m refl 58 at (AgainConstructor (subst (λ k. program.Broken (body m) k at) e b))
-  no_name_rule k at (inr (inl e)) b = sound.own 0 m refl 58 at (AgainFunction (subst (λ k. program.Broken (body m) k at) e b))
-  no_name_rule k at (inr (inr (inl e))) b = sound.between 57 0 at (UnknownName refl (subst (λ p. program.Broken p 14 at) (sym (seen_alone m no_imports)) (subst (λ k. program.Broken (body m) k at) e b)))
+  no_name_rule k at (inl e) b = sound.own 0 m refl 58 at
+      (AgainConstructor (subst (λ k. program.Broken (body m) k at) e b))
+  no_name_rule k at (inr (inl e)) b = sound.own 0 m refl 58 at
+      (AgainFunction (subst (λ k. program.Broken (body m) k at) e b))
+  no_name_rule k at (inr (inr (inl e))) b = sound.between 57 0 at
+      (UnknownName refl
+      (subst (λ p. program.Broken p 14 at) (sym (seen_alone m no_imports))
+      (subst (λ k. program.Broken (body m) k at) e b)))
   no_name_rule k at (inr (inr (inr (inl e)))) b = main (lacks (lacks_main (body m) k at b e))
-  no_name_rule k at (inr (inr (inr (inr e)))) b = sound.own 0 m refl 22 at (ReservedName (subst (λ k. program.Broken (body m) k at) e b))
+  no_name_rule k at (inr (inr (inr (inr e)))) b = sound.own 0 m refl 22 at
+      (ReservedName (subst (λ k. program.Broken (body m) k at) e b))
 
   body_unbroken : accepted.BreaksNoRule (body m)
   body_unbroken k at b =
-      elim (no_other p (body m) (same.NoScope p (body m) turned own here) (same.OfBinder p (body m) turned own here) (same.OfCon p (body m) turned own here) (same.OfUse p (body m) turned own here) (same.OfFunction p (body m) turned own here) tt (same.go_together p (body m) turned own here) ok k at b) [
+      elim (no_other p (body m) (same.NoScope p (body m) turned own here)
+      (same.OfBinder p (body m) turned own here) (same.OfCon p (body m) turned own here)
+      (same.OfUse p (body m) turned own here) (same.OfFunction p (body m) turned own here) tt
+      (same.go_together p (body m) turned own here) ok k at b) [
         | inl h ↦ no_name_rule k at h b
         | inr h ↦ h
       ]
 
   pub program_unbroken : accepted.BreaksNoRule c
   program_unbroken k at b =
-      elim (no_other (body m) c (enter c.names m) (OfBinder c.names m) (OfCon c.names m) (OfUse c.names m) (OfFunction c.names m) [] (alone.go_together m c u sound readable named no_imports) body_unbroken k at b) [
+      elim (no_other (body m) c (enter c.names m) (OfBinder c.names m) (OfCon c.names m)
+      (OfUse c.names m) (OfFunction c.names m) []
+      (alone.go_together m c u sound readable named no_imports) body_unbroken k at b) [
         | inl h ↦ unbroken (m ∷ []) c u sound readable main k at h b
         | inr h ↦ h
       ]
 
-  pub program_printed : (q d : normal.Program) → IsNormalForm p q → IsNormalForm c d → (i : List ℕ) (n : ℕ) → printed d i n ≡ printed q i n
+  pub program_printed : (q d : normal.Program) → IsNormalForm p q → IsNormalForm c d
+      → (i : List ℕ) (n : ℕ) → printed d i n ≡ printed q i n
   program_printed q d is_q is_d i n =
       let r = some (body m) here body_unbroken in
       let B = OfBinder c.names m in
@@ -185,19 +240,27 @@ module _ (one : NormalFormIsUnique) (some : NormalFormExists) (m : Module) (p c 
       let U = OfUse c.names m in
       let F = OfFunction c.names m in
       let Fits = alone.FitsSame m c u sound readable named no_imports in
-      let there = carries (body m) c (enter c.names m) B C U F Fits [] (alone.means_the_same m c u sound readable named no_imports) tt readable
-      (alone.constructors m c u sound readable named no_imports) (alone.functions m c u sound readable named no_imports) (alone.con_same m c u sound readable named no_imports) (alone.main_same m c u sound readable named no_imports) r.0 r.1 in
-      sym (carried_printed (body m) c (enter c.names m) B C U F Fits [] (alone.means_the_same m c u sound readable named no_imports) tt readable one r.0 there d is_d i n)
+      let there = carries (body m) c (enter c.names m) B C U F Fits []
+      (alone.means_the_same m c u sound readable named no_imports) tt readable
+      (alone.constructors m c u sound readable named no_imports)
+      (alone.functions m c u sound readable named no_imports)
+      (alone.con_same m c u sound readable named no_imports)
+      (alone.main_same m c u sound readable named no_imports) r.0 r.1 in
+      sym (carried_printed (body m) c (enter c.names m) B C U F Fits []
+      (alone.means_the_same m c u sound readable named no_imports) tt readable one r.0 there d
+      is_d i n)
       ∙ same_programs_print_the_same one (body m) p same_program here own r.0 q r.1 is_q i n
 
 is_main : (w : List ℕ) → (w ≡ codes "Main" → ⊥) ⊎ (w ≡ codes "Main")
 is_main w = elim (two_ways (bytes_eq w (codes "Main"))) [
   | inl y ↦ inr ((bytes_eq-Decides w (codes "Main")).0 y)
-  | inr n ↦ inl (λ e. not_both (bytes_eq w (codes "Main")) ((bytes_eq-Decides w (codes "Main")).1 e) n)
+  | inr n ↦ inl
+      (λ e. not_both (bytes_eq w (codes "Main")) ((bytes_eq-Decides w (codes "Main")).1 e) n)
 ]
 
 -- the only module of texts that break no rule has the name that a program starts from
-named_main : (m : Module) → (LacksMain (m ∷ []) → ⊥) → (name_of m ≡ codes "Main" → ⊥) ⊎ (name_of m ≡ codes "Main") → name_of m ≡ codes "Main"
+named_main : (m : Module) → (LacksMain (m ∷ []) → ⊥) → (name_of m ≡ codes "Main" → ⊥)
+    ⊎ (name_of m ≡ codes "Main") → name_of m ≡ codes "Main"
 named_main m main (inr e) = e
 named_main m main (inl n) = absurd (main lacks_it)
   where
@@ -206,12 +269,14 @@ named_main m main (inl n) = absurd (main lacks_it)
     lacks_it (suc i) x e d = none_is_some e
 
 pub one_module_keeps : NormalFormIsUnique → NormalFormExists → SingleModuleKeepsMeaning
-one_module_keeps one some text m c broken is no_imports linked readable = (each_has_program text m read is, keeps)
+one_module_keeps one some text m c broken is no_imports linked readable
+    = (each_has_program text m read is, keeps)
   where
     read : BreaksNoReadingRule text
     read k at b = broken Reading k 0 at (InFile refl (Unread b))
 
-    keeps : (rest : List ℕ) (p : Program) → SplitsAtHeader text rest m → IsText rest p → KeepsMeaning p c
+    keeps : (rest : List ℕ) (p : Program) → SplitsAtHeader text rest m → IsText rest p
+        → KeepsMeaning p c
     keeps rest p split stands ok =
         let ms : linked.modules ≡ m ∷ [] = only_module text m linked.modules is linked.read in
         let z : AllZip IsModuleText (text ∷ []) (m ∷ []) = (is, tt) in
@@ -221,6 +286,7 @@ one_module_keeps one some text m c broken is no_imports linked readable = (each_
         let named = named_main m main (is_main (name_of m)) in
         let same_program = same_behind text rest m p is split stands in
         let own = readable_behind text m read rest p split stands in (
-          program_unbroken one some m p c u sound main named no_imports same_program own ok readable,
+          program_unbroken one some m p c u sound main named no_imports same_program own ok
+              readable,
           program_printed one some m p c u sound main named no_imports same_program own ok readable,
         )

@@ -17,7 +17,8 @@ use Rattle.core_link.proofs.OfModules.{IsGood, of_text}
 use Rattle.core_link.proofs.AnyOrder.{same_name}
 use Rattle.core_link.proofs.Items.{among, belongs, Belongs}
 
-pub all_at : {X : Type 0} (P : X → Type 0) (xs : List X) → All P xs → (i : ℕ) (x : X) → slice_get xs i ≡ Some x → P x
+pub all_at : {X : Type 0} (P : X → Type 0) (xs : List X) → All P xs → (i : ℕ) (x : X)
+    → slice_get xs i ≡ Some x → P x
 all_at P [] h i x e = none_is_some e
 all_at P (y ∷ xs) h zero x e = let same : y ≡ x = cc in subst P same (All-head P y xs h)
 all_at P (y ∷ xs) h (suc i) x e = all_at P xs (All-tail P y xs h) i x e
@@ -32,25 +33,33 @@ pub record IsSound (ms : List Module) : Type 0 where
   pub own : (i : ℕ) (m : Module) → slice_get ms i ≡ Some m → (k at : ℕ) → BreaksOwnRule m k at → ⊥
   pub between : (k file at : ℕ) → BreaksInterModuleRule ms k file at → ⊥
 
-pub sound_of : (texts : List (List ℕ)) (ms : List Module) → IsUnbroken texts → AllZip IsModuleText texts ms → IsSound ms
+pub sound_of : (texts : List (List ℕ)) (ms : List Module) → IsUnbroken texts
+    → AllZip IsModuleText texts ms → IsSound ms
 sound_of texts ms u z = record {
-  good = λ i m e. let t = beside_back IsModuleText texts ms z i m e in of_text t.0 m (λ k at b. u Reading k i at (InFile t.1 (Unread b))) t.2;
-  own = λ i m e k at o. let t = beside_back IsModuleText texts ms z i m e in u OwnRule k i at (InFile t.1 (OfModule m t.2 o));
+  good = λ i m e. let t = beside_back IsModuleText texts ms z i m e
+      in of_text t.0 m (λ k at b. u Reading k i at (InFile t.1 (Unread b))) t.2;
+  own = λ i m e k at o. let t = beside_back IsModuleText texts ms z i m e
+      in u OwnRule k i at (InFile t.1 (OfModule m t.2 o));
   between = λ k file at b. u Files k file at (OfFiles ms z b);
 }
 
 module _ (ms : List Module) (c : Program) (u : IsUnion ms c) where
   -- each declaration of a module is one of the program
-  pub function_there : (m : Module) → In m ms → (f : Function) → In f m.functions → (i : ℕ) × (g : Function) × (slice_get c.functions i ≡ Some g) × FunctionBecomes c.names m f g
+  pub function_there : (m : Module) → In m ms → (f : Function) → In f m.functions → (i : ℕ)
+      × (g : Function) × (slice_get c.functions i ≡ Some g) × FunctionBecomes c.names m f g
   function_there m h f g =
       let a = among (λ m. m.functions) u.sorted m f (u.all m h) g in
-      let w = beside (λ x g. FunctionBecomes c.names x.0 x.1 g) (with_module (λ m. m.functions) u.sorted) c.functions u.functions a.0 (m, f) a.1 in
+      let w = beside (λ x g. FunctionBecomes c.names x.0 x.1 g)
+      (with_module (λ m. m.functions) u.sorted) c.functions u.functions a.0 (m, f) a.1 in
       (a.0, w.0, w.1, w.2)
 
-  pub constructor_there : (m : Module) → In m ms → (d : Data) → In d m.constructors → (i : ℕ) × (e : Data) × (slice_get c.constructors i ≡ Some e) × ConstructorBecomes c.names m d e
+  pub constructor_there : (m : Module) → In m ms → (d : Data) → In d m.constructors → (i : ℕ)
+      × (e : Data) × (slice_get c.constructors i ≡ Some e) × ConstructorBecomes c.names m d e
   constructor_there m h d g =
       let a = among (λ m. m.constructors) u.sorted m d (u.all m h) g in
-      let w = beside (λ x e. ConstructorBecomes c.names x.0 x.1 e) (with_module (λ m. m.constructors) u.sorted) c.constructors u.constructors a.0 (m, d) a.1 in
+      let w = beside (λ x e. ConstructorBecomes c.names x.0 x.1 e)
+      (with_module (λ m. m.constructors) u.sorted) c.constructors u.constructors a.0 (m, d) a.1
+      in
       (a.0, w.0, w.1, w.2)
 
   -- each function of the program is one of a module
@@ -65,10 +74,21 @@ module _ (ms : List Module) (c : Program) (u : IsUnion ms c) where
 
   pub of_module : (i : ℕ) (g : Function) → slice_get c.functions i ≡ Some g → OfModuleIs g
   of_module i g e =
-      let w = beside_back (λ x g. FunctionBecomes c.names x.0 x.1 g) (with_module (λ m. m.functions) u.sorted) c.functions u.functions i g e in
-      let b : Belongs (λ m. m.functions) u.sorted w.0 = belongs (λ m. m.functions) u.sorted i w.0 w.1 in
+      let w = beside_back (λ x g. FunctionBecomes c.names x.0 x.1 g)
+      (with_module (λ m. m.functions) u.sorted) c.functions u.functions i g e in
+      let b : Belongs (λ m. m.functions) u.sorted w.0
+      = belongs (λ m. m.functions) u.sorted i w.0 w.1 in
       let p = place_in ms (u.only w.0.0 (in_place u.sorted b.file b.owner)) in
-      record { owner = w.0.0; file = p.0; is_module = p.1; function = w.0.1; number = b.number; is = b.item; becomes = w.2 }
+      record {
+        owner = w.0.0;
+        file = p.0;
+        is_module = p.1;
+        function = w.0.1;
+        number = b.number;
+        is
+            = b.item;
+        becomes = w.2;
+      }
 
   pub record OfModuleData (e : Data) : Type 0 where
     pub owner : Module
@@ -81,10 +101,21 @@ module _ (ms : List Module) (c : Program) (u : IsUnion ms c) where
 
   pub of_module_data : (i : ℕ) (d : Data) → slice_get c.constructors i ≡ Some d → OfModuleData d
   of_module_data i d e =
-      let w = beside_back (λ x d. ConstructorBecomes c.names x.0 x.1 d) (with_module (λ m. m.constructors) u.sorted) c.constructors u.constructors i d e in
-      let b : Belongs (λ m. m.constructors) u.sorted w.0 = belongs (λ m. m.constructors) u.sorted i w.0 w.1 in
+      let w = beside_back (λ x d. ConstructorBecomes c.names x.0 x.1 d)
+      (with_module (λ m. m.constructors) u.sorted) c.constructors u.constructors i d e in
+      let b : Belongs (λ m. m.constructors) u.sorted w.0
+      = belongs (λ m. m.constructors) u.sorted i w.0 w.1 in
       let p = place_in ms (u.only w.0.0 (in_place u.sorted b.file b.owner)) in
-      record { owner = w.0.0; file = p.0; is_module = p.1; data_of = w.0.1; number = b.number; is = b.item; becomes = w.2 }
+      record {
+        owner = w.0.0;
+        file = p.0;
+        is_module = p.1;
+        data_of = w.0.1;
+        number = b.number;
+        is
+            = b.item;
+        becomes = w.2;
+      }
 
 module _ (ms : List Module) (sound : IsSound ms) where
   -- the module that an import names
@@ -95,23 +126,37 @@ module _ (ms : List Module) (sound : IsSound ms) where
     pub there : slice_get ms file ≡ Some other
     pub named : name_of other ≡ text_in m i.0.name.0
 
-  pub has_source : (n : ℕ) (m : Module) (i : Binder × Binder) → slice_get ms n ≡ Some m → In i (imported m) → HasSource m i
+  pub has_source : (n : ℕ) (m : Module) (i : Binder × Binder) → slice_get ms n ≡ Some m
+      → In i (imported m) → HasSource m i
   has_source n m i e h = go (source ms m i.0) refl
     where
       go : (o : Option Module) → source ms m i.0 ≡ o → HasSource m i
       go (Some other) f =
           let w = found (λ m'. bytes_eq (name_of m') (text_in m i.0.name.0)) ms other f in
-          record { other = other; is = f; file = w.0; there = w.1; named = same_name other (text_in m i.0.name.0) w.2 }
+          record {
+            other = other;
+            is = f;
+            file = w.0;
+            there = w.1;
+            named
+                = same_name other (text_in m i.0.name.0) w.2;
+          }
       go None f =
           let w = flat_in (λ (x : Import). map (λ b. (x.from, b)) x.names) m.imports h in
           let b = map_in (λ b. (w.0.from, b)) w.0.names w.2 in
           let p = place_in m.imports w.1 in
           let from : i.0 ≡ w.0.from = ap (λ (y : Binder × Binder). y.0) b.2 in
-          absurd (sound.between 53 n w.0.from.at (UnknownModule p.0 e p.1 (ap (source ms m) (sym from) ∙ f)))
+          absurd (sound.between 53 n w.0.from.at
+          (UnknownModule p.0 e p.1 (ap (source ms m) (sym from) ∙ f)))
 
   -- what is imported is declared there
-  pub is_declared_there : (n : ℕ) (m : Module) (i : Binder × Binder) → slice_get ms n ≡ Some m → In i (imported m) → (w : HasSource m i)
-      → ((b : Binder) → IsDeclared w.other b.name.0 → text_in w.other b.name.0 ≡ text_in m i.1.name.0 → ⊥) → ⊥
+  pub is_declared_there : (n : ℕ) (m : Module) (i : Binder × Binder) → slice_get ms n ≡ Some m
+      → In i (imported m) → (w : HasSource m i)
+      → ((b : Binder) → IsDeclared w.other b.name.0
+      → text_in w.other b.name.0 ≡ text_in m i.1.name.0 → ⊥) → ⊥
   is_declared_there n m i e h w never =
       let p = place_in (imported m) h in
-      sound.between 54 n i.1.at (NotExported p.0 e p.1 w.is (λ x. sound.own w.file w.other w.there 55 x.export.at (ExportUnknown x.number x.is (λ d. never x.export d x.same))))
+      sound.between 54 n i.1.at
+      (NotExported p.0 e p.1 w.is
+      (λ x. sound.own w.file w.other w.there 55 x.export.at
+      (ExportUnknown x.number x.is (λ d. never x.export d x.same))))

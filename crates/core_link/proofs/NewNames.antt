@@ -25,7 +25,12 @@ abbrev NotLower : Option TokenKind → Type 0
 NotLower (Some Lower) = ⊥
 NotLower o = Unit {0}
 
-sign_by : (a b c d e f : Bool) → NotLower (cond a (Some (Sign Semicolon)) (cond b (Some (Sign Equals)) (cond c (Some (Sign OpenBrace)) (cond d (Some (Sign CloseBrace)) (cond e (Some (Sign Open)) (cond f (Some (Sign Close)) None))))))
+sign_by : (a b c d e f : Bool) → NotLower
+    (cond a (Some (Sign Semicolon))
+    (cond b (Some (Sign Equals))
+    (cond c (Some (Sign OpenBrace))
+    (cond d (Some (Sign CloseBrace))
+    (cond e (Some (Sign Open)) (cond f (Some (Sign Close)) None))))))
 sign_by true b c d e f = tt
 sign_by false true c d e f = tt
 sign_by false false true d e f = tt
@@ -52,9 +57,14 @@ either_not false o p h k = k
 
 minus_not : (bs : List ℕ) → NotLower (after_minus bs)
 minus_not [] = tt
-minus_not (c ∷ bs) = either_not (c == 62) (arrow bs) (cond (is_digit c && every is_digit bs) (Some Digits) None) (arrow_not bs) (digits_not (is_digit c && every is_digit bs))
+minus_not (c ∷ bs) = either_not (c == 62) (arrow bs)
+    (cond (is_digit c && every is_digit bs) (Some Digits) None) (arrow_not bs)
+    (digits_not (is_digit c && every is_digit bs))
 
-lower_by : (l u g m e d : Bool) (a o : Option TokenKind) → NotLower a → NotLower o → cond l (cond e (Some Lower) None) (cond u (cond e (Some Upper) None) (cond g (cond d (Some Digits) None) (cond m a o))) ≡ Some Lower → (l ≡ true) × (e ≡ true)
+lower_by : (l u g m e d : Bool) (a o : Option TokenKind) → NotLower a → NotLower o
+    → cond l (cond e (Some Lower) None)
+    (cond u (cond e (Some Upper) None) (cond g (cond d (Some Digits) None) (cond m a o))) ≡ Some
+    Lower → (l ≡ true) × (e ≡ true)
 lower_by true u g m true d a o h k q = (refl, refl)
 lower_by true u g m false d a o h k q = absurd cc
 lower_by false true g m true d a o h k q = absurd cc
@@ -64,14 +74,19 @@ lower_by false false true m e false a o h k q = absurd cc
 lower_by false false false true e d a o h k q = absurd (subst NotLower q h)
 lower_by false false false false e d a o h k q = absurd (subst NotLower q k)
 
-lower_parts : (b : ℕ) (bs : List ℕ) → kind_of (b ∷ bs) ≡ Some Lower → (is_lower b ≡ true) × (every is_inner bs ≡ true)
-lower_parts b bs e = lower_by (is_lower b) (is_upper b) (is_digit b) (b == 45) (every is_inner bs) (every is_digit bs) (after_minus bs) (of_one Core b bs) (minus_not bs) (sign_not b bs) e
+lower_parts : (b : ℕ) (bs : List ℕ) → kind_of (b ∷ bs) ≡ Some Lower → (is_lower b ≡ true)
+    × (every is_inner bs ≡ true)
+lower_parts b bs e = lower_by (is_lower b) (is_upper b) (is_digit b) (b == 45) (every is_inner bs)
+    (every is_digit bs) (after_minus bs) (of_one Core b bs) (minus_not bs) (sign_not b bs) e
 
-every_append : (p : ℕ → Bool) (xs ys : List ℕ) → every p xs ≡ true → every p ys ≡ true → every p (xs ++ ys) ≡ true
+every_append : (p : ℕ → Bool) (xs ys : List ℕ) → every p xs ≡ true → every p ys ≡ true
+    → every p (xs ++ ys) ≡ true
 every_append p [] ys h k = k
-every_append p (x ∷ xs) ys h k = let r = and_parts (p x) (every p xs) h in and_from (p x) (every p (xs ++ ys)) r.0 (every_append p xs ys r.1 k)
+every_append p (x ∷ xs) ys h k = let r = and_parts (p x) (every p xs) h
+    in and_from (p x) (every p (xs ++ ys)) r.0 (every_append p xs ys r.1 k)
 
-longer_lower : (w v : List ℕ) → kind_of w ≡ Some Lower → every is_inner v ≡ true → kind_of (w ++ v) ≡ Some Lower
+longer_lower : (w v : List ℕ) → kind_of w ≡ Some Lower → every is_inner v ≡ true
+    → kind_of (w ++ v) ≡ Some Lower
 longer_lower [] v e h = absurd cc
 longer_lower (b ∷ bs) v e h =
     let r = lower_parts b bs e in
@@ -113,13 +128,18 @@ quoted_no_keyword w h =
 -- ---- the new names
 
 quoted_name : (f n : List ℕ) → IsName f → every is_inner n ≡ true → IsName (f ++ 39 ∷ n)
-quoted_name f n h k = (longer_lower f (39 ∷ n) h.0 (and_from (is_inner 39) (every is_inner n) refl k), quoted_no_keyword (f ++ 39 ∷ n) (quoted f n))
+quoted_name f n h k = (
+  longer_lower f (39 ∷ n) h.0 (and_from (is_inner 39) (every is_inner n) refl k),
+  quoted_no_keyword (f ++ 39 ∷ n) (quoted f n),
+)
 
 plain_inner : (n : List ℕ) → IsPlain n → every is_inner n ≡ true
 plain_inner [] h = refl
 plain_inner (b ∷ n) h =
     let r = and_parts (is_alphanumeric b) (list_all is_alphanumeric n) h in
-    and_from (is_inner b) (every is_inner n) (and_left (is_inner b) (not (b == 95)) (and_left (is_inner b && not (b == 95)) (not (b == 39)) r.0)) (plain_inner n r.1)
+    and_from (is_inner b) (every is_inner n)
+    (and_left (is_inner b) (not (b == 95))
+    (and_left (is_inner b && not (b == 95)) (not (b == 39)) r.0)) (plain_inner n r.1)
 
 global_by : (f n w : List ℕ) → IsName f → IsPlain n → GlobalIs f n w → IsName w
 global_by f n w h k (Kept a b e) = subst IsName (sym e) h

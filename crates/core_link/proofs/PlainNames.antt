@@ -20,19 +20,27 @@ second_same a b c d us vs e = cc
 con_same : (a b : NameId) → word.Con a ≡ word.Con b → a ≡ b
 con_same a b e = cc
 
-plain_by : (m : Module) (pieces : List Piece) → IsModule unlimited_nesting m pieces → IsPlain (name_of m)
+plain_by : (m : Module) (pieces : List Piece) → IsModule unlimited_nesting m pieces
+    → IsPlain (name_of m)
 plain_by m [] h = absurd h.named
 plain_by m (k ∷ []) h = absurd h.named
 plain_by m (k ∷ c ∷ ps) h =
     let s = h.spelled.spelled in
     let head = s.2 in
     let tokens = s.4 ∙ ap (λ u. u ++ s.1) head.6 in
-    let second = second_same _ (said Modules m.names c) _ (lexeme m.name.at (word.Con m.name.name)) _ _ tokens in
-    let token : said_by Modules m.names c.bytes (kind_of Modules c.bytes) ≡ word.Con m.name.name = ap (λ (x : Lexeme). x.token) second in
+    let second = second_same _ (said Modules m.names c) _ (lexeme m.name.at (word.Con m.name.name))
+    _ _ tokens in
+    let token : said_by Modules m.names c.bytes (kind_of Modules c.bytes) ≡ word.Con m.name.name
+    = ap (λ (x : Lexeme). x.token) second in
     let upper : kind_of Modules c.bytes ≡ Some Upper = con_is m.names c m.name.name token in
-    let number : name_id (number_in m.names c.bytes) ≡ m.name.name = con_same (name_id (number_in m.names c.bytes)) m.name.name (sym (ap (said_by Modules m.names c.bytes) upper) ∙ token) in
-    let at : slice_get m.names (number_in m.names c.bytes) ≡ Some c.bytes = subst (λ v. slice_get v (number_in v c.bytes) ≡ Some c.bytes) (sym h.spelled.names) (second_name k c ps upper) in
-    let text : name_of m ≡ c.bytes = ap (λ (n : NameId). or_empty (slice_get m.names n.0)) (sym number) ∙ ap or_empty at in
+    let number : name_id (number_in m.names c.bytes) ≡ m.name.name
+    = con_same (name_id (number_in m.names c.bytes)) m.name.name
+    (sym (ap (said_by Modules m.names c.bytes) upper) ∙ token) in
+    let at : slice_get m.names (number_in m.names c.bytes) ≡ Some c.bytes
+    = subst (λ v. slice_get v (number_in v c.bytes) ≡ Some c.bytes) (sym h.spelled.names)
+    (second_name k c ps upper) in
+    let text : name_of m ≡ c.bytes = ap (λ (n : NameId). or_empty (slice_get m.names n.0))
+    (sym number) ∙ ap or_empty at in
     subst IsPlain (sym text) h.named
 
 pub plain_name : (text : List ℕ) (m : Module) → IsModuleText text m → IsPlain (name_of m)

@@ -28,11 +28,13 @@ module _ (n : Numbers) (k : Known) where
     terms_as_large s NoTerms = refl
     terms_as_large s (AndTerm a xs) = λ i. term_as_large s a i + terms_as_large s xs i
 
-  binds_as_large : (s : Scope) (bs : List Bind) → sum_by bind_size (map (renamed_bind n k s) bs) ≡ sum_by bind_size bs
+  binds_as_large : (s : Scope) (bs : List Bind) → sum_by bind_size (map (renamed_bind n k s) bs) ≡
+      sum_by bind_size bs
   binds_as_large s [] = refl
   binds_as_large s (b ∷ bs) =
       sum_by-cons bind_size (renamed_bind n k s b) (map (renamed_bind n k s) bs)
-      ∙ (λ i. (1 + term_as_large s b.app.head i + terms_as_large s b.app.args i) + binds_as_large s bs i)
+      ∙ (λ i. (1 + term_as_large s b.app.head i + terms_as_large s b.app.args i) + binds_as_large s
+      bs i)
       ∙ sym (sum_by-cons bind_size b bs)
 
   pattern_as_large : (p : Pattern) → pattern_size (renamed_pattern n p) ≡ pattern_size p
@@ -50,12 +52,16 @@ module _ (n : Numbers) (k : Known) where
 
     alts_as_large : (s : Scope) (alts : Alts) → alts_size (renamed_alts n k s alts) ≡ alts_size alts
     alts_as_large s NoAlts = refl
-    alts_as_large s (AndAlt p e alts) = λ i. pattern_as_large p i + expr_as_large (all_entered k (bound_by p) s) e i + alts_as_large s alts i
+    alts_as_large s (AndAlt p e alts) = λ i. pattern_as_large p i + expr_as_large
+        (all_entered k (bound_by p) s) e i + alts_as_large s alts i
 
-  function_as_large : (g : ℕ) (f : Function) → function_size (renamed_function n k g f) ≡ function_size f
-  function_as_large g f = λ i. 1 + length_map (renamed_binder n) f.params i + expr_as_large (all_entered k f.params []) f.body i
+  function_as_large : (g : ℕ) (f : Function) → function_size (renamed_function n k g f) ≡
+      function_size f
+  function_as_large g f = λ i. 1 + length_map (renamed_binder n) f.params i + expr_as_large
+      (all_entered k f.params []) f.body i
 
-  pub functions_as_large : (g : ℕ) (fs : List Function) → sum_by function_size (renamed_functions n k g fs) ≡ sum_by function_size fs
+  pub functions_as_large : (g : ℕ) (fs : List Function)
+      → sum_by function_size (renamed_functions n k g fs) ≡ sum_by function_size fs
   functions_as_large g [] = refl
   functions_as_large g (f ∷ fs) =
       sum_by-cons function_size (renamed_function n k g f) (renamed_functions n k (g + 1) fs)

@@ -1,4 +1,5 @@
--- Where one program is the same as another, the places and the numbers of the names aside, the other
+-- Where one program is the same as another, the places and the numbers of the names aside, the
+-- other
 -- is the same as the one.
 use Rattle.std.proofs.Common.{ℕ, List, [], ◌∷◌, refl, sym, ◌∙◌}
 use Rattle.std.specs.List.{AllZip}
@@ -30,7 +31,8 @@ module _ (names : List (List ℕ)) where
   binders_itself = zip_itself (SameBinder names names) (λ b. refl)
 
   binds_itself : (bs : List Bind) → AllZip (SameBind names names) bs bs
-  binds_itself = zip_itself (SameBind names names) (λ b. (refl, (term_itself b.app.head, terms_itself b.app.args)))
+  binds_itself = zip_itself (SameBind names names)
+      (λ b. (refl, (term_itself b.app.head, terms_itself b.app.args)))
 
   pattern_itself : (p : Pattern) → SamePattern names names p p
   pattern_itself (pattern.Con c fields) = (refl, binders_itself fields)
@@ -60,7 +62,9 @@ module _ (names others : List (List ℕ)) where
   abbrev Fits : Unit {0} → Unit {0} → Unit {0} → Type 0
   Fits s t v = Unit {0}
 
-  join : Join Alone (SameName names others) (SameName names others) (Use names others) Alone (SameName names names) (SameName names names) (Use names names) Alone (SameName others names) (SameName others names) (Use others names) Fits
+  join : Join Alone (SameName names others) (SameName names others) (Use names others) Alone
+      (SameName names names) (SameName names names) (Use names names) Alone (SameName others names)
+      (SameName others names) (Use others names) Fits
   join = record {
     binder = λ x y z h g. sym h ∙ g;
     con = λ x y z h g. sym h ∙ g;
@@ -69,13 +73,21 @@ module _ (names others : List (List ℕ)) where
   }
 
   data_turned : (a b : Data) → SameData names others a b → SameData others names b a
-  data_turned a b r = data_joined Alone (SameName names others) (SameName names others) (Use names others) Alone (SameName names names) (SameName names names) (Use names names) Alone (SameName others names) (SameName others names) (Use others names) Fits join a b a r (refl, refl)
+  data_turned a b r = data_joined Alone (SameName names others) (SameName names others)
+      (Use names others) Alone (SameName names names) (SameName names names) (Use names names) Alone
+      (SameName others names) (SameName others names) (Use others names) Fits join a b a r
+      (refl, refl)
 
   function_turned : (f g : Function) → SameFunction names others f g → SameFunction others names g f
-  function_turned f g r = function_joined Alone (SameName names others) (SameName names others) (Use names others) Alone (SameName names names) (SameName names names) (Use names names) Alone (SameName others names) (SameName others names) (Use others names) Fits join
-      (SameName names others) (SameName names names) (SameName others names) (λ x y z h g. sym h ∙ g) tt tt tt tt f g f r (function_itself names f)
+  function_turned f g r = function_joined Alone (SameName names others) (SameName names others)
+      (Use names others) Alone (SameName names names) (SameName names names) (Use names names) Alone
+      (SameName others names) (SameName others names) (Use others names) Fits join
+      (SameName names others) (SameName names names) (SameName others names)
+      (λ x y z h g. sym h ∙ g) tt tt tt tt f g f r (function_itself names f)
 
-zip_turned : {X Y : Type 0} (R : X → Y → Type 0) (Q : Y → X → Type 0) → ((x : X) (y : Y) → R x y → Q y x) → (xs : List X) (ys : List Y) → AllZip R xs ys → AllZip Q ys xs
+zip_turned : {X Y : Type 0} (R : X → Y → Type 0) (Q : Y → X → Type 0)
+    → ((x : X) (y : Y) → R x y → Q y x) → (xs : List X) (ys : List Y) → AllZip R xs ys
+    → AllZip Q ys xs
 zip_turned R Q f [] [] z = tt
 zip_turned R Q f [] (y ∷ ys) z = absurd z
 zip_turned R Q f (x ∷ xs) [] z = absurd z
@@ -83,6 +95,8 @@ zip_turned R Q f (x ∷ xs) (y ∷ ys) z = (f x y z.0, zip_turned R Q f xs ys z.
 
 pub same_turned : (p q : Program) → SameProgram p q → SameProgram q p
 same_turned p q s = record {
-  constructors = zip_turned (SameData p.names q.names) (SameData q.names p.names) (data_turned p.names q.names) p.constructors q.constructors s.constructors;
-  functions = zip_turned (SameFunction p.names q.names) (SameFunction q.names p.names) (function_turned p.names q.names) p.functions q.functions s.functions;
+  constructors = zip_turned (SameData p.names q.names) (SameData q.names p.names)
+      (data_turned p.names q.names) p.constructors q.constructors s.constructors;
+  functions = zip_turned (SameFunction p.names q.names) (SameFunction q.names p.names)
+      (function_turned p.names q.names) p.functions q.functions s.functions;
 }

@@ -8,19 +8,24 @@ use Rattle.core_meaning.specs.Heap.{Global, Waiting}
 use Rattle.core_meaning.specs.Evaluation.{global, globals}
 use Rattle.core_meaning.specs.WellFormed.{HasParams}
 
-from_one : (k a : ℕ) (gs : List Function) → fold (λ a g. a + cond (nat_eq g.params 0) 1 0) (k + a) gs ≡ k + fold (λ a g. a + cond (nat_eq g.params 0) 1 0) a gs
+from_one : (k a : ℕ) (gs : List Function) → fold (λ a g. a + cond (nat_eq g.params 0) 1 0) (k + a)
+    gs ≡ k + fold (λ a g. a + cond (nat_eq g.params 0) 1 0) a gs
 from_one k a [] = refl
 from_one k a (g ∷ gs) =
-    let e : k + a + cond (nat_eq g.params 0) 1 0 ≡ k + (a + cond (nat_eq g.params 0) 1 0) = omega arith in
+    let e : k + a + cond (nat_eq g.params 0) 1 0 ≡ k + (a + cond (nat_eq g.params 0) 1 0)
+    = omega arith in
     rw e (from_one k (a + cond (nat_eq g.params 0) 1 0) gs)
 
-pub count_more : (g : Function) (gs : List Function) → count_by (λ g. nat_eq g.params 0) (g ∷ gs) ≡ cond (nat_eq g.params 0) 1 0 + count_by (λ g. nat_eq g.params 0) gs
+pub count_more : (g : Function) (gs : List Function)
+    → count_by (λ g. nat_eq g.params 0) (g ∷ gs) ≡ cond (nat_eq g.params 0) 1 0 + count_by
+    (λ g. nat_eq g.params 0) gs
 count_more g gs =
     let e : 0 + cond (nat_eq g.params 0) 1 0 ≡ cond (nat_eq g.params 0) 1 0 + 0 = omega arith in
     rw e (from_one (cond (nat_eq g.params 0) 1 0) 0 gs)
 
 module _ (p : Program) where
-  global_from : (gs : List Function) (k f : ℕ) (fun : Function) → slice_get gs f ≡ Some fun → fun.params ≡ 0 → count_by (λ g. nat_eq g.params 0) (take f gs) < length (globals p gs k)
+  global_from : (gs : List Function) (k f : ℕ) (fun : Function) → slice_get gs f ≡ Some fun
+      → fun.params ≡ 0 → count_by (λ g. nat_eq g.params 0) (take f gs) < length (globals p gs k)
   global_from [] k f fun e z = absurd (none-some fun e)
   global_from (g ∷ gs) k zero fun e z =
       let same : g ≡ fun = same_Some g fun e in
@@ -30,7 +35,9 @@ module _ (p : Program) where
       let less = global_from gs (suc k) f fun e z in
       rw more (by_test (nat_eq g.params 0) less)
     where
-      by_test : (b : Bool) → count_by (λ g. nat_eq g.params 0) (take f gs) < length (globals p gs (suc k)) → cond b 1 0 + count_by (λ g. nat_eq g.params 0) (take f gs) < length (cond b (Waiting (Global k) ∷ []) [] ++ globals p gs (suc k))
+      by_test : (b : Bool) → count_by (λ g. nat_eq g.params 0) (take f gs) < length
+          (globals p gs (suc k)) → cond b 1 0 + count_by (λ g. nat_eq g.params 0) (take f gs) <
+          length (cond b (Waiting (Global k) ∷ []) [] ++ globals p gs (suc k))
       by_test true lt = omega (arith, lt)
       by_test false lt = omega (arith, lt)
 

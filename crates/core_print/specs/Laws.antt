@@ -27,6 +27,12 @@ CanonicalTextReadsBack =
     (p : Program) → IsReadable p → length (canonical p) ≤ most_bytes
     → program_depth p ≤ most_open → TextStandsForProgram (canonical p) p
 
+-- Whatever it is that a canonical text stands for is the same program, however long the text is and
+-- however deep the program.
+abbrev pub CanonicalTextIsOfOneProgram : Type 0
+CanonicalTextIsOfOneProgram =
+    (p q : Program) → IsReadable p → IsText (canonical p) q → SameProgram p q
+
 abbrev pub IsMemory : ReadRefusal → Type 0
 IsMemory (refusal.Memory e) = Unit {0}
 IsMemory refused = ⊥

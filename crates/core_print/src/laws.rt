@@ -5,7 +5,7 @@ ghost use Rattle.core_reader.specs.Tree.{program};
 ghost use Rattle.core_reader.specs.Readable.{IsReadable};
 ghost use Rattle.core_print.specs.Canonical.{canonical};
 ghost use Rattle.core_print.specs.Depth.{program_depth};
-ghost use Rattle.core_print.specs.Laws.{CanonicalTextReadsBack, RereadsSameProgram};
+ghost use Rattle.core_print.specs.Laws.{CanonicalTextReadsBack, CanonicalTextIsOfOneProgram, RereadsSameProgram};
 ghost use Rattle.limits.specs.Limits.{most_bytes, most_open};
 
 use crate::printer::print;
@@ -17,6 +17,12 @@ use std::alloc::Global;
 /// is the same, the places and the numbers of the names aside.
 pub fn canonical_text_reads_back()
     ensures { CanonicalTextReadsBack }
+{}
+
+/// Whatever it is that the canonical text of a readable program stands for, of whatever length and
+/// nesting, is the same program, the places and the numbers of the names aside.
+pub fn canonical_text_is_of_one_program()
+    ensures { CanonicalTextIsOfOneProgram }
 {}
 
 /// What `read` answers to the text that `print` gives: within the limits of length (1,048,576

@@ -25,7 +25,8 @@ constructor = piece (codes "A")
 pub closing : Cont → List Piece
 closing Outermost = []
 closing (LetBody k binds) = closing k
-closing (Scrutinee k) = piece (codes "of") ∷ piece (codes "{") ∷ constructor ∷ piece (codes "->") ∷ constructor ∷ piece (codes "}") ∷ closing k
+closing (Scrutinee k) = piece (codes "of") ∷ piece (codes "{") ∷ constructor ∷ piece (codes "->") ∷
+    constructor ∷ piece (codes "}") ∷ closing k
 closing (AltBody k s alts p) = piece (codes "}") ∷ closing k
 
 -- after a whole application
@@ -36,12 +37,17 @@ closing_frame (Inside k held at) = piece (codes ")") ∷ closing_frame k
 
 pub ending : State → List Piece
 ending (Apply k held) = constructor ∷ closing_frame k
-ending (BindName k binds) = piece (codes "a") ∷ piece (codes "=") ∷ constructor ∷ piece (codes "in") ∷ constructor ∷ closing k
-ending (BindEquals k binds n p) = piece (codes "=") ∷ constructor ∷ piece (codes "in") ∷ constructor ∷ closing k
+ending (BindName k binds) = piece (codes "a") ∷ piece (codes "=") ∷ constructor ∷ piece (codes "in")
+    ∷ constructor ∷ closing k
+ending (BindEquals k binds n p) = piece (codes "=") ∷ constructor ∷ piece (codes "in") ∷ constructor
+    ∷ closing k
 ending (Ended k e) = closing k
-ending (Brace k e) = piece (codes "{") ∷ constructor ∷ piece (codes "->") ∷ constructor ∷ piece (codes "}") ∷ closing k
-ending (AltStart k s alts) = constructor ∷ piece (codes "->") ∷ constructor ∷ piece (codes "}") ∷ closing k
-ending (AltNames k s alts n p names) = piece (codes "->") ∷ constructor ∷ piece (codes "}") ∷ closing k
+ending (Brace k e) = piece (codes "{") ∷ constructor ∷ piece (codes "->") ∷ constructor ∷ piece
+    (codes "}") ∷ closing k
+ending (AltStart k s alts) = constructor ∷ piece (codes "->") ∷ constructor ∷ piece (codes "}") ∷
+    closing k
+ending (AltNames k s alts n p names) = piece (codes "->") ∷ constructor ∷ piece (codes "}") ∷
+    closing k
 ending (AltArrow k s alts p) = piece (codes "->") ∷ constructor ∷ piece (codes "}") ∷ closing k
 
 IsMore : Terms → Type 0
@@ -60,7 +66,8 @@ no_keyword dialect.Lambdas = refl
 no_keyword dialect.Types = refl
 
 -- with the words and signs of any dialect, before a token that goes on with no application
-module _ (d : Dialect) (names : List (List ℕ)) (x : Lexeme) (rest : List Lexeme) (other : starts_atom x.token ≡ false) where
+module _ (d : Dialect) (names : List (List ℕ)) (x : Lexeme) (rest : List Lexeme)
+    (other : starts_atom x.token ≡ false) where
   abbrev before : List Piece → List Lexeme
   before us = map (said d names) us ++ x ∷ rest
 
@@ -82,26 +89,33 @@ module _ (d : Dialect) (names : List (List ℕ)) (x : Lexeme) (rest : List Lexem
       (r.0, let_ends l k binds e (before (closing k)) ∙ r.1)
   ends_cont l (Scrutinee k) e =
       let first = name_id (number_in names (codes "A")) in
-      ends_cont l k (Case e (AndAlt (pattern.Con (record { name = first; at = 0 }) []) (applied (tree.Con first.0 0) NoTerms) NoAlts))
+      ends_cont l k
+      (Case e (AndAlt (pattern.Con (record { name = first; at = 0 }) [])
+      (applied (tree.Con first.0 0) NoTerms) NoAlts))
   ends_cont l (AltBody k s alts p) e = ends_cont l k (Case s (alts ⊹ AndAlt p e NoAlts))
 
-  begins : (l : NestingLimit) (k : Cont) → Reaches l (Apply (InBody k) NoTerms) (before (constructor ∷ closing k))
+  begins : (l : NestingLimit) (k : Cont) → Reaches l (Apply (InBody k) NoTerms)
+      (before (constructor ∷ closing k))
   unfolding run
   begins l k =
       let head = tree.Con (number_in names (codes "A")) 0 in
       let r = ends_cont l k (applied head NoTerms) in
       (r.0, ended_app l k head NoTerms (before (closing k)) (closing_ends k) ∙ r.1)
 
-  ends_frame : (l : NestingLimit) (k : Frame) (xs : Terms) → IsMore xs → Reaches l (Apply k xs) (before (closing_frame k))
+  ends_frame : (l : NestingLimit) (k : Frame) (xs : Terms) → IsMore xs
+      → Reaches l (Apply k xs) (before (closing_frame k))
   unfolding run closing closing_frame IsMore
   ends_frame l k NoTerms h = absurd h
   ends_frame l (InBody k) (AndTerm a xs) h =
       let r = ends_cont l k (applied a xs) in
       (r.0, ended_app l k a xs (before (closing k)) (closing_ends k) ∙ r.1)
-  ends_frame l (InBind k binds n p) (AndTerm a xs) h = begins l (LetBody k (binds ++ binding n p a xs ∷ []))
-  ends_frame l (Inside k held at) (AndTerm a xs) h = ends_frame l k (with_last held (tree.Bracket a xs at)) (more_last held (tree.Bracket a xs at))
+  ends_frame l (InBind k binds n p) (AndTerm a xs) h
+      = begins l (LetBody k (binds ++ binding n p a xs ∷ []))
+  ends_frame l (Inside k held at) (AndTerm a xs) h = ends_frame l k
+      (with_last held (tree.Bracket a xs at)) (more_last held (tree.Bracket a xs at))
 
-  ends_app_of : (l : NestingLimit) (k : Frame) (held : Terms) → Reaches l (Apply k held) (before (constructor ∷ closing_frame k))
+  ends_app_of : (l : NestingLimit) (k : Frame) (held : Terms)
+      → Reaches l (Apply k held) (before (constructor ∷ closing_frame k))
   unfolding run closing closing_frame
   ends_app_of l k held =
       let head = tree.Con (number_in names (codes "A")) 0 in
@@ -112,11 +126,17 @@ module _ (d : Dialect) (names : List (List ℕ)) (x : Lexeme) (rest : List Lexem
   ends l (Apply k held) = ends_app_of l k held
   ends l (BindName k binds) =
       let rest = piece (codes "=") ∷ constructor ∷ piece (codes "in") ∷ constructor ∷ closing k in
-      subst (λ o. Reaches l (BindName k binds) (lexeme 0 (keyword_or_name names (codes "a") o) ∷ before rest)) (sym (no_keyword d))
+      subst (λ o. Reaches l (BindName k binds)
+      (lexeme 0 (keyword_or_name names (codes "a") o) ∷ before rest)) (sym (no_keyword d))
       (ends_app_of l (InBind k binds (name_id (number_in names (codes "a"))) 0) NoTerms)
   ends l (BindEquals k binds n p) = ends_app_of l (InBind k binds n p) NoTerms
   ends l (Ended k e) = ends_cont l k e
-  ends l (Brace k e) = begins l (AltBody k e NoAlts (pattern.Con (record { name = name_id (number_in names (codes "A")); at = 0 }) []))
-  ends l (AltStart k s alts) = begins l (AltBody k s alts (pattern.Con (record { name = name_id (number_in names (codes "A")); at = 0 }) []))
-  ends l (AltNames k s alts n p params) = begins l (AltBody k s alts (pattern.Con (record { name = n; at = p }) params))
+  ends l (Brace k e) = begins l
+      (AltBody k e NoAlts
+      (pattern.Con (record { name = name_id (number_in names (codes "A")); at = 0 }) []))
+  ends l (AltStart k s alts) = begins l
+      (AltBody k s alts
+      (pattern.Con (record { name = name_id (number_in names (codes "A")); at = 0 }) []))
+  ends l (AltNames k s alts n p params) = begins l
+      (AltBody k s alts (pattern.Con (record { name = n; at = p }) params))
   ends l (AltArrow k s alts p) = begins l (AltBody k s alts p)

@@ -16,7 +16,8 @@ use Rattle.core_reader.proofs.ReadingOf.{ReadsLanguage}
 use Rattle.core_reader.proofs.CoreReading.{core_reads}
 use Rattle.core_reader.proofs.Unique.{goes_on, stuck}
 
-places : (k at k' at' : ℕ) → (at < at') ⊎ ((at ≡ at') × (k ≤ k')) → (at' < at) ⊎ ((at' ≡ at) × (k' ≤ k)) → (k ≡ k') × (at ≡ at')
+places : (k at k' at' : ℕ) → (at < at') ⊎ ((at ≡ at') × (k ≤ k')) → (at' < at)
+    ⊎ ((at' ≡ at) × (k' ≤ k)) → (k ≡ k') × (at ≡ at')
 places k at k' at' (inl h) (inl g) = absurd (omega arith)
 places k at k' at' (inl h) (inr g) = absurd (omega (arith, g.0))
 places k at k' at' (inr h) (inl g) = absurd (omega (arith, h.0))
@@ -31,17 +32,23 @@ module _ {P : Type 0} {d : Dialect} {Derives : Language P} where
   at_five text k at (TooDeep _ h) e = absurd (omega (arith, e))
   at_five text k at (TextTooLong h) e = refl
 
-  either_way : (text : List ℕ) (k at k' at' : ℕ) → IsUnread d Derives text k at → IsUnread d Derives text k' at' → IsNoLaterFault k at k' at' → IsNoLaterFault k' at' k at → (k ≡ k') × (at ≡ at')
-  either_way text k at k' at' b c (inl h) (inl g) = (h ∙ sym g, at_five text k at b h ∙ sym (at_five text k' at' c g))
+  either_way : (text : List ℕ) (k at k' at' : ℕ) → IsUnread d Derives text k at
+      → IsUnread d Derives text k' at' → IsNoLaterFault k at k' at' → IsNoLaterFault k' at' k at
+      → (k ≡ k') × (at ≡ at')
+  either_way text k at k' at' b c (inl h) (inl g) =
+      (h ∙ sym g, at_five text k at b h ∙ sym (at_five text k' at' c g))
   either_way text k at k' at' b c (inl h) (inr g) = absurd (g.0 h)
   either_way text k at k' at' b c (inr h) (inl g) = absurd (h.0 g)
   either_way text k at k' at' b c (inr h) (inr g) = places k at k' at' h.1 g.1
 
-  pub one_first : (text : List ℕ) (k at k' at' : ℕ) → IsFirstUnread d Derives text k at → IsFirstUnread d Derives text k' at' → (k ≡ k') × (at ≡ at')
-  one_first text k at k' at' h g = either_way text k at k' at' h.broken g.broken (h.first k' at' g.broken) (g.first k at h.broken)
+  pub one_first : (text : List ℕ) (k at k' at' : ℕ) → IsFirstUnread d Derives text k at
+      → IsFirstUnread d Derives text k' at' → (k ≡ k') × (at ≡ at')
+  one_first text k at k' at' h g = either_way text k at k' at' h.broken g.broken
+      (h.first k' at' g.broken) (g.first k at h.broken)
 
 -- A text of a dialect has one longest-token reading.
-pub one_tokens : {d : Dialect} (text : List ℕ) (us vs : List Piece) → IsTokens d text us → IsTokens d text vs → us ≡ vs
+pub one_tokens : {d : Dialect} (text : List ℕ) (us vs : List Piece) → IsTokens d text us
+    → IsTokens d text vs → us ≡ vs
 one_tokens text us vs r s =
     let g = goes_on r (inl refl) s in
     g.1 ∙ ap (λ w. vs ++ w) (stuck g.2 (inl refl)).0 ∙ append-nil vs
@@ -56,17 +63,25 @@ one_answer : {A : Type 0} (a b : A) (r : Result A ReadRefusal) → r ≡ Ok a �
 one_answer a b r h g = cc
 
 -- A text stands for one thing at most, where a reading owes the laws.
-module _ {P : Type 0} {d : Dialect} {r : Reading} {Derives : Language P} (w : ReadsLanguage d r Derives) where
-  derived_once : (ps : List Piece) (p q : P) → Derives unlimited_nesting p ps → Derives unlimited_nesting q ps → p ≡ q
+module _ {P : Type 0} {d : Dialect} {r : Reading} {Derives : Language P}
+    (w : ReadsLanguage d r Derives) where
+  derived_once : (ps : List Piece) (p q : P) → Derives unlimited_nesting p ps
+      → Derives unlimited_nesting q ps → p ≡ q
   derived_once ps p q h g =
       let ts = map (said d (names_of d ps)) ps in
       let a = w.tree unlimited_nesting p ps h in
       let b = w.tree unlimited_nesting q ps g in
-      let one : a ≡ b = one_answer a b (run_of r.step unlimited_nesting r.start (ts ++ lexeme 0 word.End ∷ [])) (w.laws.whole unlimited_nesting a ts 0 [] (w.spelled unlimited_nesting p ps h)) (w.laws.whole unlimited_nesting b ts 0 [] (w.spelled unlimited_nesting q ps g)) in
+      let one : a ≡ b = one_answer a b
+      (run_of r.step unlimited_nesting r.start (ts ++ lexeme 0 word.End ∷ []))
+      (w.laws.whole unlimited_nesting a ts 0 [] (w.spelled unlimited_nesting p ps h))
+      (w.laws.whole unlimited_nesting b ts 0 [] (w.spelled unlimited_nesting q ps g)) in
       w.same unlimited_nesting p q ps h g one
 
-  pub one_thing : (text : List ℕ) (p q : P) → IsText d Derives text p → IsText d Derives text q → p ≡ q
-  one_thing text p q h g = derived_once g.pieces p q (subst (Derives unlimited_nesting p) (one_tokens text h.pieces g.pieces h.tokens g.tokens) h.program) g.program
+  pub one_thing : (text : List ℕ) (p q : P) → IsText d Derives text p → IsText d Derives text q
+      → p ≡ q
+  one_thing text p q h g = derived_once g.pieces p q
+      (subst (Derives unlimited_nesting p) (one_tokens text h.pieces g.pieces h.tokens g.tokens)
+      h.program) g.program
 
 pub one_program : ProgramIsUnique
 one_program text p q h g = one_thing core_reads text p q h g

@@ -15,13 +15,19 @@ use Rattle.core_reader.proofs.Answers.{few}
 
 -- ---- a number that isn't out of range is in range
 
-positive : (n : ℕ) → ((IsInRange (pos n) → ⊥) → ⊥) → (b : Bool) → nat_lt 2147483647 n ≡ b → IsInRange (pos n)
-positive n h true e = absurd (h (λ r. let lt : 2147483647 < n = grind (arith, nat_tests) in omega (arith, ints, r.1)))
-positive n h false e = let le : n ≤ 2147483647 = grind (arith, nat_tests) in (omega (arith, ints), omega (arith, ints))
+positive : (n : ℕ) → ((IsInRange (pos n) → ⊥) → ⊥) → (b : Bool) → nat_lt 2147483647 n ≡ b
+    → IsInRange (pos n)
+positive n h true e = absurd
+    (h (λ r. let lt : 2147483647 < n = grind (arith, nat_tests) in omega (arith, ints, r.1)))
+positive n h false e = let le : n ≤ 2147483647 = grind (arith, nat_tests)
+    in (omega (arith, ints), omega (arith, ints))
 
-negative : (n : ℕ) → ((IsInRange (negsuc n) → ⊥) → ⊥) → (b : Bool) → nat_lt 2147483647 n ≡ b → IsInRange (negsuc n)
-negative n h true e = absurd (h (λ r. let lt : 2147483647 < n = grind (arith, nat_tests) in omega (arith, ints, r.0)))
-negative n h false e = let le : n ≤ 2147483647 = grind (arith, nat_tests) in (omega (arith, ints), omega (arith, ints))
+negative : (n : ℕ) → ((IsInRange (negsuc n) → ⊥) → ⊥) → (b : Bool) → nat_lt 2147483647 n ≡ b
+    → IsInRange (negsuc n)
+negative n h true e = absurd
+    (h (λ r. let lt : 2147483647 < n = grind (arith, nat_tests) in omega (arith, ints, r.0)))
+negative n h false e = let le : n ≤ 2147483647 = grind (arith, nat_tests)
+    in (omega (arith, ints), omega (arith, ints))
 
 in_range : (k : ℤ) → ((IsInRange k → ⊥) → ⊥) → IsInRange k
 in_range (pos n) h = positive n h (nat_lt 2147483647 n) refl
@@ -29,7 +35,8 @@ in_range (negsuc n) h = negative n h (nat_lt 2147483647 n) refl
 
 -- ---- of a whole text
 
-all_in_range : (text : List ℕ) → IsUnbroken text → (us vs : List Piece) → IsTokens text (us ++ vs) → AreInRange vs
+all_in_range : (text : List ℕ) → IsUnbroken text → (us vs : List Piece) → IsTokens text (us ++ vs)
+    → AreInRange vs
 all_in_range text u us [] r = tt
 all_in_range text u us (x ∷ vs) r = (
   λ digits. in_range (written_number x.bytes) (λ outside. u 3 x.at (NumberRange x.at (record {
@@ -42,7 +49,8 @@ all_in_range text u us (x ∷ vs) r = (
   all_in_range text u (us ++ x ∷ []) vs (subst (IsTokens text) (sym (one_last us x vs)) r),
 )
 
-short : (text : List ℕ) → IsUnbroken text → (b : Bool) → nat_lt 1048576 (length text) ≡ b → length text ≤ 1048576
+short : (text : List ℕ) → IsUnbroken text → (b : Bool) → nat_lt 1048576 (length text) ≡ b
+    → length text ≤ 1048576
 short text u true e = absurd (u 5 1048576 (TextTooLong (grind (arith, nat_tests))))
 short text u false e = grind (arith, nat_tests)
 

@@ -32,25 +32,39 @@ module _ (fetched : ℕ → Bool) where
     pub site : y'.site ≡ y.site
     pub same : fetched y.site ≡ true → y'.node ≡ y.node
 
-  pub agree_get : (h h' : List HeapCell) (i : ℕ) (y : HeapCell) → Agree h h' → slice_get h i ≡ Some y → Beside y h' i
+  pub agree_get : (h h' : List HeapCell) (i : ℕ) (y : HeapCell) → Agree h h'
+      → slice_get h i ≡ Some y → Beside y h' i
   agree_get [] h' i y a e = none_is_some e
   agree_get (c ∷ h) [] i y a e = absurd a
   agree_get (c ∷ h) (c' ∷ h') zero y a e =
       let same : c ≡ y = some_is e in
-      record { y' = c'; there = refl; site = a.0 ∙ ap (λ z. z.site) same; same = λ f. a.1 (ap (λ z. fetched z.site) same ∙ f) ∙ ap (λ z. z.node) same }
-  agree_get (c ∷ h) (c' ∷ h') (suc i) y a e = let b : Beside y h' i = agree_get h h' i y a.2 e in record { y' = b.y'; there = b.there; site = b.site; same = b.same }
+      record {
+        y' = c';
+        there = refl;
+        site = a.0 ∙ ap (λ z. z.site) same;
+        same
+            = λ f. a.1 (ap (λ z. fetched z.site) same ∙ f) ∙ ap (λ z. z.node) same;
+      }
+  agree_get (c ∷ h) (c' ∷ h') (suc i) y a e = let b : Beside y h' i = agree_get h h' i y a.2 e
+      in record { y' = b.y'; there = b.there; site = b.site; same = b.same }
 
   -- both get a node
-  pub agree_set : (h h' : List HeapCell) (i : ℕ) (y y' : HeapCell) (n : Node) → Agree h h' → slice_get h i ≡ Some y → slice_get h' i ≡ Some y' → y'.site ≡ y.site
-      → Agree (slice_set h i (record { site = y.site; node = n })) (slice_set h' i (record { site = y'.site; node = n }))
+  pub agree_set : (h h' : List HeapCell) (i : ℕ) (y y' : HeapCell) (n : Node) → Agree h h'
+      → slice_get h i ≡ Some y → slice_get h' i ≡ Some y' → y'.site ≡ y.site
+      → Agree (slice_set h i (record { site = y.site; node = n }))
+      (slice_set h' i (record { site = y'.site; node = n }))
   agree_set [] h' i y y' n a e e' s = none_is_some e
   agree_set (c ∷ h) [] i y y' n a e e' s = absurd a
   agree_set (c ∷ h) (c' ∷ h') zero y y' n a e e' s = (s, λ f. refl, a.2)
-  agree_set (c ∷ h) (c' ∷ h') (suc i) y y' n a e e' s = (a.0, a.1, agree_set h h' i y y' n a.2 e e' s)
+  agree_set (c ∷ h) (c' ∷ h') (suc i) y y' n a e e' s
+      = (a.0, a.1, agree_set h h' i y y' n a.2 e e' s)
 
   -- the first alone gets one, where nothing is fetched from the cell
-  pub agree_left : (h h' : List HeapCell) (i : ℕ) (y : HeapCell) (n : Node) → Agree h h' → slice_get h i ≡ Some y → fetched y.site ≡ false → Agree (slice_set h i (record { site = y.site; node = n })) h'
+  pub agree_left : (h h' : List HeapCell) (i : ℕ) (y : HeapCell) (n : Node) → Agree h h'
+      → slice_get h i ≡ Some y → fetched y.site ≡ false
+      → Agree (slice_set h i (record { site = y.site; node = n })) h'
   agree_left [] h' i y n a e u = none_is_some e
   agree_left (c ∷ h) [] i y n a e u = absurd a
-  agree_left (c ∷ h) (c' ∷ h') zero y n a e u = (a.0 ∙ ap (λ z. z.site) (some_is e), λ f. not_both (fetched y.site) f u, a.2)
+  agree_left (c ∷ h) (c' ∷ h') zero y n a e u =
+      (a.0 ∙ ap (λ z. z.site) (some_is e), λ f. not_both (fetched y.site) f u, a.2)
   agree_left (c ∷ h) (c' ∷ h') (suc i) y n a e u = (a.0, a.1, agree_left h h' i y n a.2 e u)

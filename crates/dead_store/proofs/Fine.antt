@@ -1,4 +1,5 @@
--- What the cells that are left ask of the pieces of a program: nothing is fetched from a cell that leaves, or put into it; and the variables of such cells alone are gone.
+-- What the cells that are left ask of the pieces of a program: nothing is fetched from a cell that
+-- leaves, or put into it; and the variables of such cells alone are gone.
 use Rattle.std.proofs.Common.{◌≡◌, ℕ, Bool, true, false, not, List, [], ◌∷◌}
 use Rattle.grin_syntax.specs.declared.program.Cell.{Cell}
 use Rattle.grin_syntax.specs.declared.program.Word.{Word}

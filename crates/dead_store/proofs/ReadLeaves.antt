@@ -10,7 +10,9 @@ use Rattle.grin_rewrite.specs.Rewriting.{rewrite_act}
 use Rattle.grin_rewrite.proofs.Leaves.{op_of, stays}
 use Rattle.dead_store.specs.Unread.{read_leaf}
 
-pub other_stays : (A : Solution) (fetched : ℕ → Bool) (op : Op) → IsLeaf (act_of op) → ((a : Word) (v : Val) → op ≡ Update a v → ⊥) → act_of op ≡ rewrite_act (read_leaf A fetched) (act_of op)
+pub other_stays : (A : Solution) (fetched : ℕ → Bool) (op : Op) → IsLeaf (act_of op)
+    → ((a : Word) (v : Val) → op ≡ Update a v → ⊥) → act_of op ≡ rewrite_act (read_leaf A fetched)
+    (act_of op)
 other_stays A fetched op h differs = stays (read_leaf A fetched) op h go
   where
     go : (l : Leaf) → op ≡ op_of l → read_leaf A fetched l ≡ leaf l

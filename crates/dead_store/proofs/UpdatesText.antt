@@ -21,7 +21,9 @@ module _ (A : Solution) (fetched : ℕ → Bool) where
   rule = read_leaf A fetched
 
   -- what holds of a leaf that stays, and of a unit of no words in the place of an update
-  by_leaf : (P : Leaf → Act → Type 0) → ((l : Leaf) → P l (leaf l)) → ((a : Word) (v : Val) → P (update a v) (leaf (unit (Vector [])))) → (l : Leaf) → P l (rule l)
+  by_leaf : (P : Leaf → Act → Type 0) → ((l : Leaf) → P l (leaf l))
+      → ((a : Word) (v : Val) → P (update a v) (leaf (unit (Vector [])))) → (l : Leaf)
+      → P l (rule l)
   by_leaf P stays goes (update a v) = go (is_unread A fetched a)
     where
       go : (b : Bool) → P (update a v) (cond b (leaf (unit (Vector []))) (leaf (update a v)))
@@ -42,17 +44,23 @@ module _ (A : Solution) (fetched : ℕ → Bool) where
   unfolding act_vars act_sites
   adds = by_leaf (λ l o. AddsNothing o) (λ l. (refl, refl)) (λ a v. (refl, refl))
 
-  pub leaf_formed : (g : Program) (scope : Scope) (l : Leaf) → ActFormed g scope (leaf l) → ActFormed g scope (rule l)
+  pub leaf_formed : (g : Program) (scope : Scope) (l : Leaf) → ActFormed g scope (leaf l)
+      → ActFormed g scope (rule l)
   unfolding ActFormed
-  leaf_formed g scope = by_leaf (λ l o. ActFormed g scope (leaf l) → ActFormed g scope o) (λ l h. h) (λ a v h. tt)
+  leaf_formed g scope = by_leaf (λ l o. ActFormed g scope (leaf l) → ActFormed g scope o) (λ l h. h)
+      (λ a v h. tt)
 
-  pub leaf_of_kind : (K : PieceKind) → K.operation (leaf (unit (Vector []))) → K.value (Vector []) → (l : Leaf) → EachAct K (leaf l) → EachAct K (rule l)
+  pub leaf_of_kind : (K : PieceKind) → K.operation (leaf (unit (Vector []))) → K.value (Vector [])
+      → (l : Leaf) → EachAct K (leaf l) → EachAct K (rule l)
   unfolding EachAct
-  leaf_of_kind K ok none = by_leaf (λ l o. EachAct K (leaf l) → EachAct K o) (λ l h. h) (λ a v h. (ok, none))
+  leaf_of_kind K ok none = by_leaf (λ l o. EachAct K (leaf l) → EachAct K o) (λ l h. h)
+      (λ a v h. (ok, none))
 
-  pub leaf_gives : (width most : ℕ) (l : Leaf) → NarrowAct width most (leaf l) → NarrowAct width most (rule l)
+  pub leaf_gives : (width most : ℕ) (l : Leaf) → NarrowAct width most (leaf l)
+      → NarrowAct width most (rule l)
   unfolding NarrowAct
-  leaf_gives width most = by_leaf (λ l o. NarrowAct width most (leaf l) → NarrowAct width most o) (λ l h. h) (λ a v h. omega arith)
+  leaf_gives width most = by_leaf (λ l o. NarrowAct width most (leaf l) → NarrowAct width most o)
+      (λ l h. h) (λ a v h. omega arith)
 
   -- ---- an update that stays may be read
 
@@ -60,7 +68,8 @@ module _ (A : Solution) (fetched : ℕ → Bool) where
   unfolding EachAct
   leaf_read (update a v) h = go (is_unread A fetched a) refl
     where
-      go : (b : Bool) → is_unread A fetched a ≡ b → EachAct (read_update_kind A fetched) (cond b (leaf (unit (Vector []))) (leaf (update a v)))
+      go : (b : Bool) → is_unread A fetched a ≡ b → EachAct (read_update_kind A fetched)
+          (cond b (leaf (unit (Vector []))) (leaf (update a v)))
       go true e = (tt, tt)
       go false e = (read_then fetched A a e, tt)
   leaf_read (unit v) h = (tt, tt)
@@ -74,9 +83,17 @@ module _ (A : Solution) (fetched : ℕ → Bool) where
   leaf_read (write a) h = tt
   leaf_read fail h = tt
 
-  pub procs_read : (qs : List Procedure) → EveryBodyIsOfKind (read_update_kind A fetched) (procs_by rule qs)
+  pub procs_read : (qs : List Procedure) → EveryBodyIsOfKind (read_update_kind A fetched)
+      (procs_by rule qs)
   procs_read qs = bodies_each rule any_kind (read_update_kind A fetched)
-      (record { cases = λ v as' bs' h. tt; blocks = λ b b' h. tt; targets = λ t h. tt; values = λ v h. tt; patterns = λ xs h. tt })
+      (record {
+        cases = λ v as' bs' h. tt;
+        blocks = λ b b' h. tt;
+        targets = λ t h. tt;
+        values
+            = λ v h. tt;
+        patterns = λ xs h. tt;
+      })
       leaf_read qs (any_bodies qs)
 
   -- ---- updates
@@ -84,7 +101,8 @@ module _ (A : Solution) (fetched : ℕ → Bool) where
   module _ (count : Val → ℕ) where
     leaf_counts : (l : Leaf) → act_update_sum count (rule l) ≤ act_update_sum count (leaf l)
     unfolding act_update_sum
-    leaf_counts = by_leaf (λ l o. act_update_sum count o ≤ act_update_sum count (leaf l)) (λ l. omega arith) (λ a v. omega arith)
+    leaf_counts = by_leaf (λ l o. act_update_sum count o ≤ act_update_sum count (leaf l))
+        (λ l. omega arith) (λ a v. omega arith)
 
     mutual
       unfolding rewrite_act act_update_sum
@@ -94,16 +112,19 @@ module _ (A : Solution) (fetched : ℕ → Bool) where
       act_counts (case v as') = arms_count as'
       act_counts (nested b) = code_counts b
 
-      code_counts : (b : Code) → code_update_sum count (rewrite_code rule b) ≤ code_update_sum count b
+      code_counts : (b : Code) → code_update_sum count (rewrite_code rule b) ≤ code_update_sum count
+          b
       code_counts (end o) = act_counts o
       code_counts (store cs b) = code_counts b
       code_counts (bind t o b) = omega (arith, act_counts o, code_counts b)
 
-      arms_count : (as' : Arms) → arms_update_sum count (rewrite_arms rule as') ≤ arms_update_sum count as'
+      arms_count : (as' : Arms) → arms_update_sum count (rewrite_arms rule as') ≤ arms_update_sum
+          count as'
       arms_count no_arm = omega arith
       arms_count (arm s b as') = omega (arith, code_counts b, arms_count as')
 
-    pub procs_count : (qs : List Procedure) → procs_update_sum count (procs_by rule qs) ≤ procs_update_sum count qs
+    pub procs_count : (qs : List Procedure) → procs_update_sum count (procs_by rule qs) ≤
+        procs_update_sum count qs
     procs_count [] = omega arith
     procs_count (q ∷ qs) = omega (arith, code_counts q.body, procs_count qs)
 
@@ -111,7 +132,8 @@ module _ (A : Solution) (fetched : ℕ → Bool) where
 
   leaf_lighter : (l : Leaf) → act_weight (rule l) ≤ act_weight (leaf l)
   unfolding act_weight
-  leaf_lighter = by_leaf (λ l o. act_weight o ≤ act_weight (leaf l)) (λ l. omega arith) (λ a v. omega arith)
+  leaf_lighter = by_leaf (λ l o. act_weight o ≤ act_weight (leaf l)) (λ l. omega arith)
+      (λ a v. omega arith)
 
   mutual
     unfolding rewrite_act act_weight
@@ -138,7 +160,8 @@ module _ (A : Solution) (fetched : ℕ → Bool) where
 
   leaf_calls : (l : Leaf) → act_calls (rule l) ≤ act_calls (leaf l)
   unfolding act_calls
-  leaf_calls = by_leaf (λ l o. act_calls o ≤ act_calls (leaf l)) (λ l. omega arith) (λ a v. omega arith)
+  leaf_calls = by_leaf (λ l o. act_calls o ≤ act_calls (leaf l)) (λ l. omega arith)
+      (λ a v. omega arith)
 
   mutual
     unfolding rewrite_act act_calls
@@ -163,11 +186,16 @@ module _ (A : Solution) (fetched : ℕ → Bool) where
 
   -- ---- the words
 
-  leaf_words : (l : Leaf) → (node_words (rule l) ≡ node_words (leaf l)) × (end_words (rule l) ≡ end_words (leaf l)) × (inner_words (rule l) ≡ inner_words (leaf l))
+  leaf_words : (l : Leaf) → (node_words (rule l) ≡ node_words (leaf l))
+      × (end_words (rule l) ≡ end_words (leaf l)) × (inner_words (rule l) ≡ inner_words (leaf l))
   unfolding inner_words
-  leaf_words = by_leaf (λ l o. (node_words o ≡ node_words (leaf l)) × (end_words o ≡ end_words (leaf l)) × (inner_words o ≡ inner_words (leaf l))) (λ l. (refl, refl, refl)) (λ a v. (refl, refl, refl))
+  leaf_words = by_leaf
+      (λ l o. (node_words o ≡ node_words (leaf l)) × (end_words o ≡ end_words (leaf l))
+      × (inner_words o ≡ inner_words (leaf l))) (λ l. (refl, refl, refl))
+      (λ a v. (refl, refl, refl))
 
-  own_words : (o : Act) → (node_words (rewrite_act rule o) ≡ node_words o) × (end_words (rewrite_act rule o) ≡ end_words o)
+  own_words : (o : Act) → (node_words (rewrite_act rule o) ≡ node_words o)
+      × (end_words (rewrite_act rule o) ≡ end_words o)
   unfolding rewrite_act
   own_words (leaf l) = let w = leaf_words l in (w.0, w.1)
   own_words (case v as') = (refl, refl)
@@ -190,13 +218,19 @@ module _ (A : Solution) (fetched : ℕ → Bool) where
     arms_fewer no_arm = omega arith
     arms_fewer (arm s b as') = omega (arith, code_fewer b, arms_fewer as')
 
-  procs_words : (most : ℕ) (qs : List Procedure) → AllOf (λ q. procedure_words q ≤ most) qs → AllOf (λ q. procedure_words q ≤ most) (procs_by rule qs)
+  procs_words : (most : ℕ) (qs : List Procedure) → AllOf (λ q. procedure_words q ≤ most) qs
+      → AllOf (λ q. procedure_words q ≤ most) (procs_by rule qs)
   procs_words most [] h = tt
   procs_words most (q ∷ qs) h = (omega (arith, code_fewer q.body, h.0), procs_words most qs h.1)
 
-  pub stays_slim : (g : Program) (size most : ℕ) → Slim size most g → Slim size most (with_read_updates A fetched g)
+  pub stays_slim : (g : Program) (size most : ℕ) → Slim size most g
+      → Slim size most (with_read_updates A fetched g)
   stays_slim g size most s = record {
-    light = let l : procs_weight (with_read_updates A fetched g).procs ≤ procs_weight g.procs = procs_lighter g.procs in let k : procs_weight g.procs ≤ 48 * size = s.light in omega (arith, l, k);
-    few_calls = let l : procs_calls (with_read_updates A fetched g).procs ≤ procs_calls g.procs = procs_calls_fewer g.procs in let k : procs_calls g.procs ≤ size = s.few_calls in omega (arith, l, k);
+    light = let l : procs_weight (with_read_updates A fetched g).procs ≤ procs_weight g.procs
+        = procs_lighter g.procs in let k : procs_weight g.procs ≤ 48 * size = s.light
+        in omega (arith, l, k);
+    few_calls = let l : procs_calls (with_read_updates A fetched g).procs ≤ procs_calls g.procs
+        = procs_calls_fewer g.procs in let k : procs_calls g.procs ≤ size = s.few_calls
+        in omega (arith, l, k);
     few_words = procs_words (20 * most) g.procs s.few_words;
   }

@@ -19,24 +19,31 @@ back : (n : ℕ) → n < 2 ^ 32 → little_number 4 (little_bytes 4 n) ≡ n
 back n lt = little_number-reads_back 4 n [] lt
 
 abbrev code_header : ℕ → ProgramHeader
-code_header n = record { kind = 1; offset = 4096; addr = 0x00010000; file_size = n; memory_size = n; flags = 5 }
+code_header n = record
+    { kind = 1; offset = 4096; addr = 0x00010000; file_size = n; memory_size = n; flags = 5 }
 
 abbrev data_header : (addr size : ℕ) → ProgramHeader
-data_header addr size = record { kind = 1; offset = 0; addr = addr; file_size = 0; memory_size = size; flags = 6 }
+data_header addr size = record
+    { kind = 1; offset = 0; addr = addr; file_size = 0; memory_size = size; flags = 6 }
 
 abbrev three : (n h s : ℕ) → List ProgramHeader
 three n h s = code_header n ∷ data_header 0x50000000 h ∷ data_header (0x78000000 - s) s ∷ []
 
-first : (n h s : ℕ) (rest : List ℕ) → n < 2 ^ 32 → header_at (headers n h s ++ rest) 52 ≡ code_header n
+first : (n h s : ℕ) (rest : List ℕ) → n < 2 ^ 32 → header_at (headers n h s ++ rest) 52 ≡
+    code_header n
 first n h s rest lt = let e = back n lt in λ k. code_header (e k)
 
-second : (n h s : ℕ) (rest : List ℕ) → h < 2 ^ 32 → header_at (headers n h s ++ rest) 84 ≡ data_header 0x50000000 h
+second : (n h s : ℕ) (rest : List ℕ) → h < 2 ^ 32 → header_at (headers n h s ++ rest) 84 ≡
+    data_header 0x50000000 h
 second n h s rest lt = let e = back h lt in λ k. data_header 0x50000000 (e k)
 
-third : (n h s : ℕ) (rest : List ℕ) → s < 2 ^ 32 → header_at (headers n h s ++ rest) 116 ≡ data_header (0x78000000 - s) s
-third n h s rest lt = let e = back s lt in let a = back (0x78000000 - s) (omega arith) in λ k. data_header (a k) (e k)
+third : (n h s : ℕ) (rest : List ℕ) → s < 2 ^ 32 → header_at (headers n h s ++ rest) 116 ≡
+    data_header (0x78000000 - s) s
+third n h s rest lt = let e = back s lt in let a = back (0x78000000 - s) (omega arith)
+    in λ k. data_header (a k) (e k)
 
-listed : (n h s : ℕ) (rest : List ℕ) → n < 2 ^ 32 → h < 2 ^ 32 → s < 2 ^ 32 → headers_of (headers n h s ++ rest) ≡ three n h s
+listed : (n h s : ℕ) (rest : List ℕ) → n < 2 ^ 32 → h < 2 ^ 32 → s < 2 ^ 32
+    → headers_of (headers n h s ++ rest) ≡ three n h s
 unfolding headers_of
 listed n h s rest ln lh ls =
     let e1 = first n h s rest ln in
@@ -50,7 +57,8 @@ record Regions (n h s : ℕ) : Type 0 where
   pub code : n ≤ 1073741824
   pub memory : 0x50000000 + h + s ≤ 0x78000000
 
-inside : (n h s i : ℕ) → Regions n h s → SegmentIsOutOfBounds (4096 + n) (header (three n h s) i) → ⊥
+inside : (n h s i : ℕ) → Regions n h s → SegmentIsOutOfBounds (4096 + n) (header (three n h s) i)
+    → ⊥
 inside n h s zero r (load, inl past) = omega arith
 inside n h s zero r (load, inr (inl more)) = omega arith
 inside n h s zero r (load, inr (inr high)) = omega arith
@@ -63,7 +71,8 @@ inside n h s (suc (suc zero)) r (load, inr (inr high)) = omega arith
 inside n h s (suc (suc (suc i))) r (load, past) = cc
 
 abbrev Region : (s i a : ℕ) → Type 0
-Region s i a = ((i ≡ 0) × (a < 0x50000000)) ⊎ (((i ≡ 1) × (0x50000000 ≤ a) × (a + s < 0x78000000)) ⊎ ((i ≡ 2) × (0x78000000 ≤ a + s)))
+Region s i a = ((i ≡ 0) × (a < 0x50000000)) ⊎
+    (((i ≡ 1) × (0x50000000 ≤ a) × (a + s < 0x78000000)) ⊎ ((i ≡ 2) × (0x78000000 ≤ a + s)))
 
 region : (n h s i a : ℕ) → Regions n h s → Covers (header (three n h s) i) a → Region s i a
 region n h s zero a r c = inl (refl, omega arith)
@@ -100,7 +109,8 @@ tail code = replicate 3948 0 ++ words code
 length_headers : (n h s : ℕ) → length (headers n h s) ≡ 148
 length_headers n h s = refl
 
-length_file : (n h s : ℕ) (code : List ℕ) → length (headers n h s ++ tail code) ≡ 4096 + 4 * length code
+length_file : (n h s : ℕ) (code : List ℕ) → length (headers n h s ++ tail code) ≡ 4096 + 4 * length
+    code
 length_file n h s code =
     let e1 = length-append (headers n h s) (tail code) in
     let e2 = length_headers n h s in
@@ -120,45 +130,66 @@ code_part n h s code =
     ap (drop 4096) (sym (append_assoc (headers n h s) (replicate 3948 0) (words code)))
     ∙ subst (λ (k : ℕ). drop k (front ++ words code) ≡ words code) long cut
 
-kept : (h s : ℕ) (code : List ℕ) → Regions (4 * length code) h s → KeepsBelow 49 (headers (4 * length code) h s ++ tail code)
+kept : (h s : ℕ) (code : List ℕ) → Regions (4 * length code) h s
+    → KeepsBelow 49 (headers (4 * length code) h s ++ tail code)
 kept h s code r =
     let n = 4 * length code in
     let file = headers n h s ++ tail code in
     let long = length_file n h s code in
     let same = listed n h s (tail code) (omega arith) (omega arith) (omega arith) in
     let b42 = below42 file (below41 file (omega (arith, long))) (omega (arith, long)) in
-    let b44 = below44 file (below43 file b42 refl) (record { class = refl; order = refl; type = refl; machine = refl; headers = λ _. refl }) in
+    let b44 = below44 file (below43 file b42 refl)
+    (record { class = refl; order = refl; type = refl; machine = refl; headers = λ _. refl }) in
     let b45 = below45 file b44 (λ p. let past = p.1 in omega (arith, long, past)) in
-    let b46 = below46 file b45 (subst (λ (hs : List ProgramHeader). (i : ℕ) → SegmentIsOutOfBounds (length file) (header hs i) → ⊥) (sym same)
-    (subst (λ (l : ℕ). (i : ℕ) → SegmentIsOutOfBounds l (header (three n h s) i) → ⊥) (sym long) (λ i. inside n h s i r))) in
-    let b47 = below47 file b46 (subst (λ (hs : List ProgramHeader). (j : ℕ) → Overlaps hs j → ⊥) (sym same) (λ j. apart n h s j r)) in
-    let b48 = below48 file b47 (subst (λ (hs : List ProgramHeader). Any (IsExecutableAtEntry (entry_of file)) hs) (sym same) (entered n h s r)) in
-    below49 file b48 (subst (λ (hs : List ProgramHeader). loaded_size hs ≤ 2147483648) (sym same) (small n h s r))
+    let b46 = below46 file b45
+    (subst (λ (hs : List ProgramHeader). (i : ℕ)
+    → SegmentIsOutOfBounds (length file) (header hs i) → ⊥) (sym same)
+    (subst (λ (l : ℕ). (i : ℕ) → SegmentIsOutOfBounds l (header (three n h s) i) → ⊥) (sym long)
+    (λ i. inside n h s i r))) in
+    let b47 = below47 file b46
+    (subst (λ (hs : List ProgramHeader). (j : ℕ) → Overlaps hs j → ⊥) (sym same)
+    (λ j. apart n h s j r)) in
+    let b48 = below48 file b47
+    (subst (λ (hs : List ProgramHeader). Any (IsExecutableAtEntry (entry_of file)) hs)
+    (sym same) (entered n h s r)) in
+    below49 file b48
+    (subst (λ (hs : List ProgramHeader). loaded_size hs ≤ 2147483648) (sym same)
+    (small n h s r))
 
-image : (h s : ℕ) (code : List ℕ) → Regions (4 * length code) h s → program code h s ≡ image_of (headers (4 * length code) h s ++ tail code)
+image : (h s : ℕ) (code : List ℕ) → Regions (4 * length code) h s
+    → program code h s ≡ image_of (headers (4 * length code) h s ++ tail code)
 image h s code r =
     let n = 4 * length code in
     let file = headers n h s ++ tail code in
     let same = listed n h s (tail code) (omega arith) (omega arith) (omega arith) in
     let whole = take_all n (words code) (let e = length_words code in omega (arith, e)) in
-    let code_bytes : take n (drop 4096 file) ≡ words code = ap (take n) (code_part n h s code) ∙ whole in
-    let parts : map (part_of file) (filter is_loadable (three n h s)) ≡ (program code h s).segments =
+    let code_bytes : take n (drop 4096 file) ≡ words code
+    = ap (take n) (code_part n h s code) ∙ whole in
+    let parts : map (part_of file) (filter is_loadable (three n h s)) ≡ (program code h s).segments
+    =
     λ k. record { addr = 0x00010000; size = n; bytes = code_bytes k; write = false; exec = true }
     ∷ record { addr = 0x50000000; size = h; bytes = []; write = true; exec = false }
     ∷ record { addr = 0x78000000 - s; size = s; bytes = []; write = true; exec = false }
     ∷ [] in
-    let all : map (part_of file) (filter is_loadable (headers_of file)) ≡ (program code h s).segments =
+    let all : map (part_of file) (filter is_loadable (headers_of file)) ≡
+    (program code h s).segments =
     ap (λ (hs : List ProgramHeader). map (part_of file) (filter is_loadable hs)) same ∙ parts in
     let turned = sym all in
     λ k. record { entry = 0x00010000; segments = turned k }
 
-pub loads : (code : List ℕ) (h s : ℕ) → SizesFitLayout code h s → Loads (file_of code h s) (program code h s)
+pub loads : (code : List ℕ) (h s : ℕ) → SizesFitLayout code h s
+    → Loads (file_of code h s) (program code h s)
 unfolding file_of
 loads code h s fits =
-    let r : Regions (4 * length code) h s = let a = fits.some in let b = fits.code_fits in let d = fits.data_fits in record { some = omega arith; code = omega arith; memory = omega arith } in
-    subst (λ (file : List ℕ). Loads file (program code h s)) (sym (append_assoc (headers (4 * length code) h s) (replicate 3948 0) (words code)))
+    let r : Regions (4 * length code) h s = let a = fits.some in let b = fits.code_fits in let d
+    = fits.data_fits in record { some = omega arith; code = omega arith; memory = omega arith }
+    in
+    subst (λ (file : List ℕ). Loads file (program code h s))
+    (sym (append_assoc (headers (4 * length code) h s) (replicate 3948 0) (words code)))
     (record { unbroken = kept h s code r; program = image h s code r })
 
-pub pieces : (code : List ℕ) (h s : ℕ) (f1 f2 f3 : List ℕ) → f1 ≡ headers (4 * length code) h s → f2 ≡ f1 ++ replicate (4096 - length f1) 0 → f3 ≡ f2 ++ words code → f3 ≡ file_of code h s
+pub pieces : (code : List ℕ) (h s : ℕ) (f1 f2 f3 : List ℕ) → f1 ≡ headers (4 * length code) h s
+    → f2 ≡ f1 ++ replicate (4096 - length f1) 0 → f3 ≡ f2 ++ words code → f3 ≡ file_of code h s
 unfolding file_of
-pieces code h s f1 f2 f3 e1 e2 e3 = e3 ∙ ap (λ (f : List ℕ). f ++ words code) (e2 ∙ ap (λ (f : List ℕ). f ++ replicate (4096 - length f) 0) e1)
+pieces code h s f1 f2 f3 e1 e2 e3 = e3 ∙ ap (λ (f : List ℕ). f ++ words code)
+    (e2 ∙ ap (λ (f : List ℕ). f ++ replicate (4096 - length f) 0) e1)

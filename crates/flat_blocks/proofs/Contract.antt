@@ -17,7 +17,8 @@ use Rattle.flat_blocks.proofs.Formed.{flat_formed, flat_outside}
 
 module _ (g : Program) (of : IsVectorForm g) where
   kept : CheckedRunsNeverMissing (flat g) × Keeps g (flat g)
-  kept = flat_kept g of.formed of.vectorised ((looking_law g of.ready.inlined).sees of.ready.never_missing of.ready.runs)
+  kept = flat_kept g of.formed of.vectorised
+      ((looking_law g of.ready.inlined).sees of.ready.never_missing of.ready.runs)
 
   ready : Ready (flat g)
   ready =
@@ -33,7 +34,8 @@ module _ (g : Program) (of : IsVectorForm g) where
 
   slim : (size most : ℕ) → Slim size most g → Slim size most (flat g)
   slim size most s = record {
-    light = let l : procs_weight (flat g).procs ≤ procs_weight g.procs = procs_lighter g.procs in let k : procs_weight g.procs ≤ 48 * size = s.light in omega (arith, l, k);
+    light = let l : procs_weight (flat g).procs ≤ procs_weight g.procs = procs_lighter g.procs
+        in let k : procs_weight g.procs ≤ 48 * size = s.light in omega (arith, l, k);
     few_calls = subst (λ n. n ≤ size) (sym (procs_calls_stay g.procs)) s.few_calls;
     few_words = procs_words (20 * most) g.procs s.few_words;
   }
@@ -41,7 +43,12 @@ module _ (g : Program) (of : IsVectorForm g) where
   whole : Flattened g (flat g)
   whole = record {
     stays = record {
-      of_vectors = record { formed = flat_formed g of.formed; ready = ready; vectorised = procs_each vectorised_kind (λ v as' bs' h. tt) g.procs of.vectorised };
+      of_vectors = record {
+        formed = flat_formed g of.formed;
+        ready = ready;
+        vectorised
+            = procs_each vectorised_kind (λ v as' bs' h. tt) g.procs of.vectorised;
+      };
       outside = flat_outside g;
       narrow = λ most. procs_each (narrow_kind most) (λ v as' bs' h. tt) g.procs;
       by_words = procs_each without_node_fetches (λ v as' bs' h. tt) g.procs;

@@ -10,25 +10,33 @@ use Rattle.flat_blocks.proofs.Gives.{flat_procedure}
 
 -- ---- the weight
 
-weight_splice : (c : Code) (t : Target) (k : Code) → code_weight (spliced c t k) ≡ code_weight c + (target_weight t + code_weight k)
+weight_splice : (c : Code) (t : Target) (k : Code) → code_weight (spliced c t k) ≡ code_weight c +
+    (target_weight t + code_weight k)
 unfolding spliced act_weight
 weight_splice (end o) t k = omega arith
-weight_splice (store cs c) t k = let e : code_weight (spliced c t k) ≡ code_weight c + (target_weight t + code_weight k) = weight_splice c t k in omega (arith, e)
-weight_splice (bind u o c) t k = let e : code_weight (spliced c t k) ≡ code_weight c + (target_weight t + code_weight k) = weight_splice c t k in omega (arith, e)
+weight_splice (store cs c) t k = let e : code_weight (spliced c t k) ≡ code_weight c +
+    (target_weight t + code_weight k) = weight_splice c t k in omega (arith, e)
+weight_splice (bind u o c) t k = let e : code_weight (spliced c t k) ≡ code_weight c +
+    (target_weight t + code_weight k) = weight_splice c t k in omega (arith, e)
 
 mutual
   unfolding flat_act act_weight
 
   act_lighter : (o : Act) → code_weight (flat_act o) ≤ act_weight o
-  act_lighter (case v as') = let l : arms_weight (flat_arms as') ≤ arms_weight as' = arms_lighter as' in omega (arith, l)
-  act_lighter (nested b) = let l : code_weight (flat_code b) ≤ code_weight b = code_lighter b in omega (arith, l)
+  act_lighter (case v as') = let l : arms_weight (flat_arms as') ≤ arms_weight as'
+      = arms_lighter as' in omega (arith, l)
+  act_lighter (nested b) = let l : code_weight (flat_code b) ≤ code_weight b = code_lighter b
+      in omega (arith, l)
   act_lighter (leaf l) = omega arith
 
   code_lighter : (b : Code) → code_weight (flat_code b) ≤ code_weight b
   code_lighter (end o) = act_lighter o
-  code_lighter (store cs b) = let l : code_weight (flat_code b) ≤ code_weight b = code_lighter b in omega (arith, l)
+  code_lighter (store cs b) = let l : code_weight (flat_code b) ≤ code_weight b = code_lighter b
+      in omega (arith, l)
   code_lighter (bind t o b) =
-      let e : code_weight (spliced (flat_act o) t (flat_code b)) ≡ code_weight (flat_act o) + (target_weight t + code_weight (flat_code b)) = weight_splice (flat_act o) t (flat_code b) in
+      let e : code_weight (spliced (flat_act o) t (flat_code b)) ≡ code_weight (flat_act o) +
+      (target_weight t + code_weight (flat_code b)) = weight_splice (flat_act o) t (flat_code b)
+      in
       let k : code_weight (flat_act o) ≤ act_weight o = act_lighter o in
       let l : code_weight (flat_code b) ≤ code_weight b = code_lighter b in
       omega (arith, e, k, l)
@@ -49,11 +57,13 @@ procs_lighter (q ∷ qs) =
 
 -- ---- the calls
 
-calls_splice : (c : Code) (t : Target) (k : Code) → code_calls (spliced c t k) ≡ code_calls c + code_calls k
+calls_splice : (c : Code) (t : Target) (k : Code) → code_calls (spliced c t k) ≡ code_calls c +
+    code_calls k
 unfolding spliced act_calls
 calls_splice (end o) t k = refl
 calls_splice (store cs c) t k = calls_splice c t k
-calls_splice (bind u o c) t k = let e : code_calls (spliced c t k) ≡ code_calls c + code_calls k = calls_splice c t k in omega (arith, e)
+calls_splice (bind u o c) t k = let e : code_calls (spliced c t k) ≡ code_calls c + code_calls k
+    = calls_splice c t k in omega (arith, e)
 
 mutual
   unfolding flat_act act_calls
@@ -66,7 +76,8 @@ mutual
   code_calls_stay : (b : Code) → code_calls (flat_code b) ≡ code_calls b
   code_calls_stay (end o) = act_calls_stay o
   code_calls_stay (store cs b) = code_calls_stay b
-  code_calls_stay (bind t o b) = calls_splice (flat_act o) t (flat_code b) ∙ (λ i. act_calls_stay o i + code_calls_stay b i)
+  code_calls_stay (bind t o b) = calls_splice (flat_act o) t (flat_code b) ∙
+      (λ i. act_calls_stay o i + code_calls_stay b i)
 
   arms_calls_stay : (as' : Arms) → arms_calls (flat_arms as') ≡ arms_calls as'
   arms_calls_stay no_arm = refl
@@ -84,11 +95,14 @@ inside_words (end o) = node_words o + inner_words o
 inside_words (store cs c) = length cs + inside_words c
 inside_words (bind u o c) = target_weight u + node_words o + inner_words o + inside_words c
 
-words_splice : (c : Code) (t : Target) (k : Code) → code_words (spliced c t k) ≡ inside_words c + (target_weight t + code_words k)
+words_splice : (c : Code) (t : Target) (k : Code) → code_words (spliced c t k) ≡ inside_words c +
+    (target_weight t + code_words k)
 unfolding spliced inner_words
 words_splice (end o) t k = omega arith
-words_splice (store cs c) t k = let e : code_words (spliced c t k) ≡ inside_words c + (target_weight t + code_words k) = words_splice c t k in omega (arith, e)
-words_splice (bind u o c) t k = let e : code_words (spliced c t k) ≡ inside_words c + (target_weight t + code_words k) = words_splice c t k in omega (arith, e)
+words_splice (store cs c) t k = let e : code_words (spliced c t k) ≡ inside_words c +
+    (target_weight t + code_words k) = words_splice c t k in omega (arith, e)
+words_splice (bind u o c) t k = let e : code_words (spliced c t k) ≡ inside_words c +
+    (target_weight t + code_words k) = words_splice c t k in omega (arith, e)
 
 node_end : (o : Act) → node_words o ≤ end_words o
 node_end (case v as') = omega arith
@@ -108,19 +122,24 @@ node_end (leaf fail) = omega arith
 inside_fewer : (c : Code) → inside_words c ≤ code_words c
 unfolding inner_words
 inside_fewer (end o) = let l : node_words o ≤ end_words o = node_end o in omega (arith, l)
-inside_fewer (store cs c) = let l : inside_words c ≤ code_words c = inside_fewer c in omega (arith, l)
-inside_fewer (bind u o c) = let l : inside_words c ≤ code_words c = inside_fewer c in omega (arith, l)
+inside_fewer (store cs c) = let l : inside_words c ≤ code_words c = inside_fewer c
+    in omega (arith, l)
+inside_fewer (bind u o c) = let l : inside_words c ≤ code_words c = inside_fewer c
+    in omega (arith, l)
 
 mutual
   unfolding flat_act inner_words
 
   act_words : (o : Act) → code_words (flat_act o) ≤ end_words o + inner_words o
-  act_words (case v as') = let l : arms_words (flat_arms as') ≤ arms_words as' = arms_fewer as' in omega (arith, l)
-  act_words (nested b) = let l : code_words (flat_code b) ≤ code_words b = code_fewer b in omega (arith, l)
+  act_words (case v as') = let l : arms_words (flat_arms as') ≤ arms_words as' = arms_fewer as'
+      in omega (arith, l)
+  act_words (nested b) = let l : code_words (flat_code b) ≤ code_words b = code_fewer b
+      in omega (arith, l)
   act_words (leaf l) = omega arith
 
   bound_words : (o : Act) → inside_words (flat_act o) ≤ node_words o + inner_words o
-  bound_words (case v as') = let l : arms_words (flat_arms as') ≤ arms_words as' = arms_fewer as' in omega (arith, l)
+  bound_words (case v as') = let l : arms_words (flat_arms as') ≤ arms_words as' = arms_fewer as'
+      in omega (arith, l)
   bound_words (nested b) =
       let l : code_words (flat_code b) ≤ code_words b = code_fewer b in
       let k : inside_words (flat_code b) ≤ code_words (flat_code b) = inside_fewer (flat_code b) in
@@ -129,9 +148,12 @@ mutual
 
   code_fewer : (b : Code) → code_words (flat_code b) ≤ code_words b
   code_fewer (end o) = act_words o
-  code_fewer (store cs b) = let l : code_words (flat_code b) ≤ code_words b = code_fewer b in omega (arith, l)
+  code_fewer (store cs b) = let l : code_words (flat_code b) ≤ code_words b = code_fewer b
+      in omega (arith, l)
   code_fewer (bind t o b) =
-      let e : code_words (spliced (flat_act o) t (flat_code b)) ≡ inside_words (flat_act o) + (target_weight t + code_words (flat_code b)) = words_splice (flat_act o) t (flat_code b) in
+      let e : code_words (spliced (flat_act o) t (flat_code b)) ≡ inside_words (flat_act o) +
+      (target_weight t + code_words (flat_code b)) = words_splice (flat_act o) t (flat_code b)
+      in
       let k : inside_words (flat_act o) ≤ node_words o + inner_words o = bound_words o in
       let l : code_words (flat_code b) ≤ code_words b = code_fewer b in
       omega (arith, e, k, l)
@@ -143,7 +165,8 @@ mutual
       let l : arms_words (flat_arms as') ≤ arms_words as' = arms_fewer as' in
       omega (arith, k, l)
 
-pub procs_words : (most : ℕ) (qs : List Procedure) → AllOf (λ q. procedure_words q ≤ most) qs → AllOf (λ q. procedure_words q ≤ most) (map flat_procedure qs)
+pub procs_words : (most : ℕ) (qs : List Procedure) → AllOf (λ q. procedure_words q ≤ most) qs
+    → AllOf (λ q. procedure_words q ≤ most) (map flat_procedure qs)
 procs_words most [] h = tt
 procs_words most (q ∷ qs) h =
     let k : code_words (flat_code q.body) ≤ code_words q.body = code_fewer q.body in

@@ -1,4 +1,5 @@
--- A block binds what its statements bind, one after the other, and then its last operation; a case binds what its alternatives do.
+-- A block binds what its statements bind, one after the other, and then its last operation; a case
+-- binds what its alternatives do.
 use Rattle.std.proofs.Common.{◌≡◌, ℕ, List, [], ◌∷◌, ◌++◌, map, refl, sym, ap, ◌∙◌, append_assoc}
 use Rattle.std.specs.List.{flat_map}
 use Rattle.grin_syntax.specs.declared.program.Stmt.{Stmt}
@@ -16,28 +17,40 @@ use Rattle.grin_syntax.proofs.TreeOf.{before_of-Store, before_of-Bind, code_of-p
 use Rattle.flow_listing.specs.declared.binder.Binder.{Binder}
 use Rattle.flow_listing.specs.Binders.{target_binders, shape_binders, act_binders, code_binders, arms_binders, stmt_binders, alt_binders}
 
-before_binders : (s : Stmt) (c : Code) → code_binders (before_of s c) ≡ stmt_binders s ++ code_binders c
+before_binders : (s : Stmt) (c : Code) → code_binders (before_of s c) ≡ stmt_binders s
+    ++ code_binders c
 unfolding act_binders
 before_binders (Store cells) c = λ i. code_binders (before_of-Store cells i c)
-before_binders (Bind t o) c = (λ i. code_binders (before_of-Bind t o i c)) ∙ sym (append_assoc (target_binders t) (act_binders (act_of o)) (code_binders c))
+before_binders (Bind t o) c = (λ i. code_binders (before_of-Bind t o i c)) ∙ sym
+    (append_assoc (target_binders t) (act_binders (act_of o)) (code_binders c))
 
-all_before_binders : (ss : List Stmt) (c : Code) → code_binders (all_before (map before_of ss) c) ≡ flat_map stmt_binders ss ++ code_binders c
+all_before_binders : (ss : List Stmt) (c : Code) → code_binders (all_before (map before_of ss) c) ≡
+    flat_map stmt_binders ss ++ code_binders c
 all_before_binders [] c = refl
-all_before_binders (s ∷ ss) c = before_binders s (all_before (map before_of ss) c) ∙ ap (λ t. stmt_binders s ++ t) (all_before_binders ss c) ∙ sym (append_assoc (stmt_binders s) (flat_map stmt_binders ss) (code_binders c))
+all_before_binders (s ∷ ss) c = before_binders s (all_before (map before_of ss) c) ∙ ap
+    (λ t. stmt_binders s ++ t) (all_before_binders ss c) ∙ sym
+    (append_assoc (stmt_binders s) (flat_map stmt_binders ss) (code_binders c))
 
-pub block_binders : (b : Block) → code_binders (code_of b) ≡ flat_map stmt_binders b.stmts ++ act_binders (act_of b.last.value)
+pub block_binders : (b : Block) → code_binders (code_of b) ≡ flat_map stmt_binders b.stmts
+    ++ act_binders (act_of b.last.value)
 unfolding act_binders
-block_binders b = ap code_binders (code_of-parts b) ∙ all_before_binders b.stmts (end (act_of b.last.value))
+block_binders b = ap code_binders (code_of-parts b) ∙ all_before_binders b.stmts
+    (end (act_of b.last.value))
 
-all_arms_binders : (as' : List Alt) → arms_binders (arms_of (map arm_of as')) ≡ flat_map alt_binders as'
+all_arms_binders : (as' : List Alt) → arms_binders (arms_of (map arm_of as')) ≡ flat_map alt_binders
+    as'
 unfolding act_binders
 all_arms_binders [] = refl
 all_arms_binders (a ∷ as') =
-    (λ i. shape_binders (arm_of-parts a i).0 ++ (code_binders (arm_of-parts a i).1 ++ arms_binders (arms_of (map arm_of as'))))
-    ∙ ap (λ t. shape_binders a.pattern ++ (code_binders (code_of a.body) ++ t)) (all_arms_binders as')
-    ∙ sym (append_assoc (shape_binders a.pattern) (code_binders (code_of a.body)) (flat_map alt_binders as'))
+    (λ i. shape_binders (arm_of-parts a i).0 ++
+    (code_binders (arm_of-parts a i).1 ++ arms_binders (arms_of (map arm_of as'))))
+    ∙ ap (λ t. shape_binders a.pattern ++ (code_binders (code_of a.body) ++ t))
+    (all_arms_binders as')
+    ∙ sym (append_assoc (shape_binders a.pattern) (code_binders (code_of a.body))
+    (flat_map alt_binders as'))
 
-pub case_binders : (v : Val) (as' : List Alt) → act_binders (act_of (Case v as')) ≡ flat_map alt_binders as'
+pub case_binders : (v : Val) (as' : List Alt) → act_binders (act_of (Case v as')) ≡ flat_map
+    alt_binders as'
 unfolding act_binders
 case_binders v as' = ap act_binders (act_of-Case v as') ∙ all_arms_binders as'
 
@@ -86,11 +99,16 @@ unfolding act_binders
 binders-Fail = ap act_binders act_of-Fail
 
 -- a block after the variables of its statements and of its last operation are noted
-pub block_noted : (b : Block) (xs : List Stmt) (o : Op) (t0 t1 t2 : List Binder) → t1 ≡ t0 ++ flat_map stmt_binders xs → xs ≡ b.stmts → o ≡ b.last.value → t2 ≡ t1 ++ act_binders (act_of o) → t2 ≡ t0 ++ code_binders (code_of b)
+pub block_noted : (b : Block) (xs : List Stmt) (o : Op) (t0 t1 t2 : List Binder) → t1 ≡ t0
+    ++ flat_map stmt_binders xs → xs ≡ b.stmts → o ≡ b.last.value → t2 ≡ t1
+    ++ act_binders (act_of o) → t2 ≡ t0 ++ code_binders (code_of b)
 block_noted b xs o t0 t1 t2 e1 ex eo e2 =
-    e2 ∙ (λ i. e1 i ++ act_binders (act_of (eo i))) ∙ (λ i. (t0 ++ flat_map stmt_binders (ex i)) ++ act_binders (act_of b.last.value))
-    ∙ append_assoc t0 (flat_map stmt_binders b.stmts) (act_binders (act_of b.last.value)) ∙ ap (λ t. t0 ++ t) (sym (block_binders b))
+    e2 ∙ (λ i. e1 i ++ act_binders (act_of (eo i))) ∙
+    (λ i. (t0 ++ flat_map stmt_binders (ex i)) ++ act_binders (act_of b.last.value))
+    ∙ append_assoc t0 (flat_map stmt_binders b.stmts) (act_binders (act_of b.last.value)) ∙ ap
+    (λ t. t0 ++ t) (sym (block_binders b))
 
 -- the pieces of all of a list
-pub all_pieces : {A : Type 0} (f : A → List Binder) (xs ys : List A) (t0 t : List Binder) → xs ≡ ys → t ≡ t0 ++ flat_map f xs → t ≡ t0 ++ flat_map f ys
+pub all_pieces : {A : Type 0} (f : A → List Binder) (xs ys : List A) (t0 t : List Binder) → xs ≡ ys
+    → t ≡ t0 ++ flat_map f xs → t ≡ t0 ++ flat_map f ys
 all_pieces f xs ys t0 t e h = h ∙ (λ i. t0 ++ flat_map f (e i))

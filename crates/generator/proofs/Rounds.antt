@@ -21,6 +21,7 @@ lines_after seed n state text text' round at drawn old put =
     (append_assoc first_lines (rounds seed n) (round_lines (round_from (state_at seed n)) n))
 
 -- three pieces, one put after the other
-pub three_pieces : (a x y z b c d : List ℕ) → b ≡ a ++ x → c ≡ b ++ y → d ≡ c ++ z → d ≡ a ++ (x ++ y ++ z)
+pub three_pieces : (a x y z b c d : List ℕ) → b ≡ a ++ x → c ≡ b ++ y → d ≡ c ++ z → d ≡ a
+    ++ (x ++ y ++ z)
 three_pieces a x y z b c d first second third =
     rw (third, second, first) (ap (λ t. t ++ z) (append_assoc a x y) ∙ append_assoc a (x ++ y) z)

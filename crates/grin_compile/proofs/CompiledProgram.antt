@@ -40,23 +40,29 @@ sizes_of cells stack r = record {
 
 -- a heap of cells of at most fourteen words
 pub small_heap : (width cells : ℕ) → width ≤ 14 → cells ≤ 8000000 → 4 * width * cells ≤ 448000000
-small_heap width cells few cells_few = omega (arith, more_times (4 * width) 56 cells (omega (arith, few)), cells_few)
+small_heap width cells few cells_few = omega
+    (arith, more_times (4 * width) 56 cells (omega (arith, few)), cells_few)
 
-pub narrow_cells : (g : grin.Program) (m : Layers) (cells stack : ℕ) → IsLowerable g → HasLayers g cells stack m
+pub narrow_cells : (g : grin.Program) (m : Layers) (cells stack : ℕ) → IsLowerable g
+    → HasLayers g cells stack m
     → (low.program_of m.low).width ≤ 14
-narrow_cells g m cells stack lowerable layers = omega (arith, layers.made.lowers.width, lowerable.ready.few_fields)
+narrow_cells g m cells stack lowerable layers = omega
+    (arith, layers.made.lowers.width, lowerable.ready.few_fields)
 
-pub fits_layout : (code : List ℕ) (width cells stack : ℕ) → 0 < length code → length code ≤ 268435456 → width ≤ 14
+pub fits_layout : (code : List ℕ) (width cells stack : ℕ) → 0 < length code
+    → length code ≤ 268435456 → width ≤ 14
     → AreSizes cells stack
     → SizesFitLayout code (4 * width * cells) stack
 fits_layout code width cells stack some few narrow sizes = record {
   some = some;
   code_fits = few;
-  data_fits = omega (arith, small_heap width cells narrow sizes.range.few_cells, sizes.range.small_stack);
+  data_fits = omega
+      (arith, small_heap width cells narrow sizes.range.few_cells, sizes.range.small_stack);
 }
 
 -- the bytes of one cell
-cell_bytes : (g : grin.Program) (width : ℕ) → width ≡ 1 + most_fields g.tags → heap_bytes g 1 ≡ 4 * width
+cell_bytes : (g : grin.Program) (width : ℕ) → width ≡ 1 + most_fields g.tags
+    → heap_bytes g 1 ≡ 4 * width
 cell_bytes g width is = omega (arith, is)
 
 -- the layers below a compiled program's last stage
@@ -73,7 +79,8 @@ lowered c = record {
 }
 
 -- the image of a stage
-module _ (does : ValidTranslationPreservesRuns) (p : core.Program) (valid : IsValid p) (cells stack : ℕ)
+module _ (does : ValidTranslationPreservesRuns) (p : core.Program) (valid : IsValid p)
+    (cells stack : ℕ)
     (a : grin.Program) (hs : List grin.Program) (g : grin.Program)
     (later : HasLast p a hs g) (m : Lowered) (has : HasImage g cells stack m) where
   abbrev l : low.Program
@@ -88,11 +95,14 @@ module _ (does : ValidTranslationPreservesRuns) (p : core.Program) (valid : IsVa
   abbrev starts : List ℕ
   starts = m.layers.starts.items
 
-  pub is_image : IsImageOf p later.solution g l m.layers.places.frames cells stack code starts m.image.items
+  pub is_image : IsImageOf p later.solution g l m.layers.places.frames cells stack code starts
+      m.image.items
   is_image =
-      subst (λ as'. IsImageOf p later.solution g l m.layers.places.frames cells stack code as' m.image.items)
+      subst (λ as'. IsImageOf p later.solution g l m.layers.places.frames cells stack code as'
+      m.image.items)
       (sym has.layers.starts)
-      (image does p later.solution hs g l m.layers.places cells stack has.layers.items code m.image.items valid
+      (image does p later.solution hs g l m.layers.places cells stack has.layers.items code
+      m.image.items valid
       later.fits later.stages later.last made has.is_file has.loads)
 
   pub is_made_through : IsMadeThrough p later.solution g l m.layers.places cells stack code starts
@@ -103,11 +113,13 @@ module _ (does : ValidTranslationPreservesRuns) (p : core.Program) (valid : IsVa
     layers = made;
     decode = has.layers.decode;
     uses = has.layers.uses;
-    small_frames = λ f. omega (arith, few_frame_words _ _ g l m.layers.places later.last.slim made.small made.fits f);
+    small_frames = λ f. omega
+        (arith, few_frame_words _ _ g l m.layers.places later.last.slim made.small made.fits f);
     starts = has.layers.starts;
     stops = subst (λ as'. HasStops code (image_start_state code (heap_bytes g cells) stack) as')
         (sym has.layers.starts)
-        (has_stops does p later.solution hs g l m.layers.places cells stack has.layers.items code m.image.items valid
+        (has_stops does p later.solution hs g l m.layers.places cells stack has.layers.items code
+        m.image.items valid
         later.fits later.stages later.last made has.is_file has.loads);
   }
 
@@ -146,9 +158,11 @@ stages_are_later : (p : core.Program) (c : Compiled) → HasStages p c.stages
     → map grin.program_of c.stages.later.items ≡ later c
 stages_are_later p c stages =
     let hs = map grin.program_of c.stages.later.items in
-    sym (by_places hs (grin.program_of c.stages.applied) (as_many p passes _ hs stages.later.stages))
+    sym (by_places hs (grin.program_of c.stages.applied)
+    (as_many p passes _ hs stages.later.stages))
 
-pub compilation : ValidTranslationPreservesRuns → (p : core.Program) → IsValid p → (cells stack : ℕ) → (c : Compiled)
+pub compilation : ValidTranslationPreservesRuns → (p : core.Program) → IsValid p → (cells stack : ℕ)
+    → (c : Compiled)
     → HasStages p c.stages
     → HasImage (lowered_stage c.stages) cells stack (lowered c) → IsCompilation p cells stack c
 compilation does p valid cells stack c stages has =
@@ -164,7 +178,8 @@ compilation does p valid cells stack c stages has =
       stages = subst (λ h. AreStages p passes h (later c)) (sym chosen.applied) chosen.stages;
       g = g;
       last = chosen.last;
-      formed_stages = subst (λ hs. AllOf Formed (after c Translate ∷ after c Eval ∷ after c Apply ∷ hs)) is
+      formed_stages = subst
+          (λ hs. AllOf Formed (after c Translate ∷ after c Eval ∷ after c Apply ∷ hs)) is
           stages.formed;
       names = has.layers.names;
       image = is_image does p valid cells stack _ (later c) g chosen (lowered c) has;

@@ -29,10 +29,13 @@ few_variables most [] [] all pairs f r e = cc
 few_variables most [] (l ∷ ls) all pairs f r e = absurd pairs
 few_variables most (q ∷ gs) [] all pairs f r e = absurd pairs
 few_variables most (q ∷ gs) (l ∷ ls) all pairs zero r e =
-    let same : l ≡ r = cc in subst (λ z. length (variables z) ≤ most) same (omega (arith, all.0, pairs.0))
-few_variables most (q ∷ gs) (l ∷ ls) all pairs (suc f) r e = few_variables most gs ls all.1 pairs.1 f r e
+    let same : l ≡ r = cc in subst (λ z. length (variables z) ≤ most) same
+    (omega (arith, all.0, pairs.0))
+few_variables most (q ∷ gs) (l ∷ ls) all pairs (suc f) r e
+    = few_variables most gs ls all.1 pairs.1 f r e
 
-nothing_past : {A : Type 0} (qs : List A) (ws : List ℕ) (f : ℕ) → length ws ≡ length qs → slice_get qs f ≡ None
+nothing_past : {A : Type 0} (qs : List A) (ws : List ℕ) (f : ℕ) → length ws ≡ length qs
+    → slice_get qs f ≡ None
     → slice_index_or ws f 0 ≡ 0
 nothing_past [] [] f l e = refl
 nothing_past [] (w ∷ ws) f l e = absurd (omega (arith, l))
@@ -40,7 +43,8 @@ nothing_past (q ∷ qs) [] f l e = refl
 nothing_past (q ∷ qs) (w ∷ ws) zero l e = cc
 nothing_past (q ∷ qs) (w ∷ ws) (suc f) l e = nothing_past qs ws f (omega (arith, l)) e
 
-pub few_frame_words : (size most : ℕ) (g : grin.Program) (l : low.Program) (a : Assignment) → Slim size most g
+pub few_frame_words : (size most : ℕ) (g : grin.Program) (l : low.Program) (a : Assignment)
+    → Slim size most g
     → LoweredIsSmall g l → Fits l a
     → (f : ℕ) → words_at a f ≤ 1 + 20 * most
 few_frame_words size most g l a slim small fits f = go (slice_get l.procs f) refl
@@ -61,6 +65,7 @@ at_most_greatest [] f = omega arith
 at_most_greatest (n ∷ ns) zero = omega arith
 at_most_greatest (n ∷ ns) (suc f) = omega (arith, at_most_greatest ns f)
 
-pub greatest_within : (ns : List ℕ) (most : ℕ) → ((f : ℕ) → frame_words ns f ≤ most) → greatest ns ≤ most
+pub greatest_within : (ns : List ℕ) (most : ℕ) → ((f : ℕ) → frame_words ns f ≤ most)
+    → greatest ns ≤ most
 greatest_within [] most all = omega arith
 greatest_within (n ∷ ns) most all = omega (arith, all 0, greatest_within ns most (λ f. all (suc f)))

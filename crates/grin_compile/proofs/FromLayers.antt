@@ -38,7 +38,8 @@ use Rattle.translated_form.proofs.Limits.{valid_is_limited}
 use Rattle.grin_compile.proofs.Layered.{code_for, low_code_is_carried, code_has_stops}
 use Rattle.grin_compile.proofs.Paced.{keeps_pace, few_code_steps, steps_within, layers_keep_pace}
 
-module _ (does : ValidTranslationPreservesRuns) (p : core.Program) (A : Solution) (stages : List grin.Program)
+module _ (does : ValidTranslationPreservesRuns) (p : core.Program) (A : Solution)
+    (stages : List grin.Program)
     (g : grin.Program) (l : Program)
     (a : Assignment) (cells stack : ℕ) (items : List Item) (words file : List ℕ)
     (valid : IsValid p) (fits : inlined_size A (tr p) ≤ 131072)
@@ -54,18 +55,21 @@ module _ (does : ValidTranslationPreservesRuns) (p : core.Program) (A : Solution
 
   parts : FewParts (inlined A (tr p)) (length p.funs) l
   parts = few_parts p (inlined A (tr p)) g l _ refl
-      (stages_outside p passes (inlined A (tr p)) stages are last.at g last.there) last.slim made.lowers made.small
+      (stages_outside p passes (inlined A (tr p)) stages are last.at g last.there) last.slim
+      made.lowers made.small
 
   pub few : length words ≤ 268435456
   few =
-      let globals : length l.globals ≤ 4096 = omega (arith, parts.globals, (valid_is_limited p valid).few_functions) in
+      let globals : length l.globals ≤ 4096 = omega
+      (arith, parts.globals, (valid_is_limited p valid).few_functions) in
       few_words _ _ _ _ _ _ _ fits parts.procs globals parts.light parts.calls
       (made.selects.few made.small.few_tests) made.placed.few
 
   few_items : size_of items ≤ steps_per_unit p A
   few_items =
       let functions = functions_inlined p A in
-      let most = few_steps (length l.procs) (length l.globals) (program_size l) (calls_of l) (inlined_size A (tr p))
+      let most = few_steps (length l.procs) (length l.globals) (program_size l) (calls_of l)
+      (inlined_size A (tr p))
       (size_of items) parts.procs (omega (arith, parts.globals, functions)) parts.light parts.calls
       (made.selects.few made.small.few_tests) in
       omega (arith, most)
@@ -78,17 +82,21 @@ module _ (does : ValidTranslationPreservesRuns) (p : core.Program) (A : Solution
   )
 
   -- where the frames are more than the stack, the largest one for each level of nesting is
-  full_stage : (i : List ℕ) → IsBytes i → (n : ℕ) → FramesAreExceeded stack (meaning_of_low l (words_at a) i n)
+  full_stage : (i : List ℕ) → IsBytes i → (n : ℕ) → FramesAreExceeded stack
+      (meaning_of_low l (words_at a) i n)
       → StackIsExceeded (largest_frame a.frames) stack (meaning_of_grin g i n)
   full_stage i bytes n h =
-      let f = made.lowers.frames (words_at a) (greatest a.frames) (at_most_greatest a.frames) i bytes n in
+      let f = made.lowers.frames (words_at a) (greatest a.frames) (at_most_greatest a.frames) i
+      bytes n in
       over stack (meaning_of_low l (words_at a) i n).depth ((meaning_of_grin g i n).depth + 1)
       ((meaning_of_grin g i n).depth + 1) (greatest a.frames) h f (omega arith)
 
-  full : (i : List ℕ) → IsBytes i → (n : ℕ) → FramesAreExceeded stack (meaning_of_low l (words_at a) i n)
+  full : (i : List ℕ) → IsBytes i → (n : ℕ) → FramesAreExceeded stack
+      (meaning_of_low l (words_at a) i n)
       → StackIsExceeded (largest_frame a.frames) stack (core_program_meaning p i n)
   full i bytes n h =
-      let f = made.lowers.frames (words_at a) (greatest a.frames) (at_most_greatest a.frames) i bytes n in
+      let f = made.lowers.frames (words_at a) (greatest a.frames) (at_most_greatest a.frames) i
+      bytes n in
       over stack (meaning_of_low l (words_at a) i n).depth ((meaning_of_grin g i n).depth + 1)
       ((core_program_meaning p i n).depth + 1) (greatest a.frames) h f
       (omega (arith, stage_no_deeper does p valid g keeps i n))
@@ -107,7 +115,8 @@ module _ (does : ValidTranslationPreservesRuns) (p : core.Program) (A : Solution
 
   tells : (i : List ℕ) → IsBytes i → (n : ℕ)
       → MeaningRefines (core_program_meaning p i n) (meaning_of_low l (words_at a) i n)
-  tells i bytes n = tells_both (core_program_meaning p i n) (meaning_of_grin g i n) (meaning_of_low l (words_at a) i n)
+  tells i bytes n = tells_both (core_program_meaning p i n) (meaning_of_grin g i n)
+      (meaning_of_low l (words_at a) i n)
       (stage_tells does p valid g keeps i n) (made.lowers.tells (words_at a) i bytes n)
 
   -- code that enters as many procedures as low code has is code of the stage
@@ -116,14 +125,17 @@ module _ (does : ValidTranslationPreservesRuns) (p : core.Program) (A : Solution
       (image_start_state words (4 * l.width * cells) stack) addresses
       → IsCodeOfStage g cells stack words addresses StackFull told entered
   of_stage StackFull told entered h =
-      subst (λ m. IsCodeFor (HeapIsExceeded cells) StackFull told entered m words start addresses) made.lowers.procs
-      (subst (λ s. IsCodeFor (HeapIsExceeded cells) StackFull told entered (length l.procs) words s addresses) begun h)
+      subst (λ m. IsCodeFor (HeapIsExceeded cells) StackFull told entered m words start addresses)
+      made.lowers.procs
+      (subst (λ s. IsCodeFor (HeapIsExceeded cells) StackFull told entered (length l.procs) words s
+      addresses) begun h)
 
   pub has_stops : HasStops words start addresses
   has_stops = subst (λ s. HasStops words s addresses) begun
       (code_has_stops l a cells stack items words made.selects made.placed few)
 
-  enters : (i : List ℕ) → IsBytes i → (n : ℕ) → entered_by_low l (words_at a) i n ≡ entered_by_grin g i n
+  enters : (i : List ℕ) → IsBytes i → (n : ℕ) → entered_by_low l (words_at a) i n ≡ entered_by_grin
+      g i n
   enters i bytes n = made.lowers.enters (words_at a) i bytes n
 
   -- each entry is a unit
@@ -135,12 +147,14 @@ module _ (does : ValidTranslationPreservesRuns) (p : core.Program) (A : Solution
     ap length (enters i bytes n),
   )
 
-  by_words : KeepsPaceByWords (start_words words addresses) (code_words words addresses) (core_program_meaning p)
+  by_words : KeepsPaceByWords (start_words words addresses) (code_words words addresses)
+      (core_program_meaning p)
       (entered_by_grin g) (observed_machine start)
   by_words = subst (λ s. KeepsPaceByWords (start_words words addresses) (code_words words addresses)
       (core_program_meaning p) (entered_by_grin g) (observed_machine s)) begun
       (layers_keep_pace (core_program_meaning p)
-      (entered_by_grin g) l a cells stack items words tells enters never_missing made.selects made.placed few)
+      (entered_by_grin g) l a cells stack items words tells enters never_missing made.selects
+      made.placed few)
 
   pub image : IsImageOf p A g l a.frames cells stack words addresses file
   image = record {
@@ -150,16 +164,22 @@ module _ (does : ValidTranslationPreservesRuns) (p : core.Program) (A : Solution
     one_frame_each = made.fits.covers.frames ∙ made.lowers.procs;
     small_frame = small_frame;
     lowers = made.lowers;
-    code_for = of_stage (StackIsExceeded (largest_frame a.frames) stack) (core_program_meaning p) (entered_by_grin g)
-        (code_for l a cells stack items words made.selects made.placed few (core_program_meaning p) (entered_by_grin g)
+    code_for = of_stage (StackIsExceeded (largest_frame a.frames) stack) (core_program_meaning p)
+        (entered_by_grin g)
+        (code_for l a cells stack items words made.selects made.placed few (core_program_meaning p)
+        (entered_by_grin g)
         (StackIsExceeded (largest_frame a.frames) stack)
         tells enters full never_missing);
-    of_stage = of_stage (StackIsExceeded (largest_frame a.frames) stack) (meaning_of_grin g) (entered_by_grin g)
-        (code_for l a cells stack items words made.selects made.placed few (meaning_of_grin g) (entered_by_grin g)
+    of_stage = of_stage (StackIsExceeded (largest_frame a.frames) stack) (meaning_of_grin g)
+        (entered_by_grin g)
+        (code_for l a cells stack items words made.selects made.placed few (meaning_of_grin g)
+        (entered_by_grin g)
         (StackIsExceeded (largest_frame a.frames) stack)
         (λ i bytes n. made.lowers.tells (words_at a) i bytes n) enters full_stage never_missing);
-    within_frames = of_stage (FramesAreExceeded stack) (meaning_of_low l (words_at a)) (entered_by_low l (words_at a))
-        (low_code_is_carried l a cells stack items words never_missing made.selects made.placed few);
+    within_frames = of_stage (FramesAreExceeded stack) (meaning_of_low l (words_at a))
+        (entered_by_low l (words_at a))
+        (low_code_is_carried l a cells stack items words never_missing made.selects made.placed
+        few);
     steps_within = subst (λ s. StepsAreWithinWords words addresses s) begun
         (steps_within l a cells stack items words made.selects made.placed few);
     few_steps = omega (
@@ -169,10 +189,12 @@ module _ (does : ValidTranslationPreservesRuns) (p : core.Program) (A : Solution
       few_items,
     );
     paced_by_words = by_words;
-    paced = keeps_pace (start_words words addresses) (code_words words addresses) (core_program_meaning p)
+    paced = keeps_pace (start_words words addresses) (code_words words addresses)
+        (core_program_meaning p)
         (entered_by_grin g) (observed_machine start) one_each by_words;
   }
 
 pub made_from_layers : ValidTranslationPreservesRuns → MadeFromLayers
-made_from_layers does p A stages g l a cells stack items words file valid least fits are last made is_file loads =
+made_from_layers does p A stages g l a cells stack items words file valid least fits are last made
+    is_file loads =
     image does p A stages g l a cells stack items words file valid fits are last made is_file loads

@@ -33,7 +33,8 @@ use Rattle.grin_compile.proofs.Images.{starts, code_ends, below_heap, different,
 
 -- a front that is as long as the whole
 whole : (xs ys : List ℕ) → IsPrefixOf xs ys → length ys ≤ length xs → ys ≡ xs
-whole xs ys b l = b.1 ∙ ap (λ z. xs ++ z) (none b.0 (omega (arith, added xs b.0, ap length b.1, l))) ∙ nothing_more xs
+whole xs ys b l = b.1 ∙ ap (λ z. xs ++ z) (none b.0 (omega (arith, added xs b.0, ap length b.1, l)))
+    ∙ nothing_more xs
   where
     none : (zs : List ℕ) → length zs ≡ 0 → zs ≡ []
     none [] h = refl
@@ -46,7 +47,8 @@ whole xs ys b l = b.1 ∙ ap (λ z. xs ++ z) (none b.0 (omega (arith, added xs b
     nothing_more xs = grind (arith, common_steps)
 
 module _ (l : Program) (a : Assignment) (cells stack : ℕ) (items : List Item) (words : List ℕ)
-    (s : Selects l a cells stack items) (placed : Placed items words) (few : length words ≤ 268435456) where
+    (s : Selects l a cells stack items) (placed : Placed items words)
+    (few : length words ≤ 268435456) where
   abbrev lay : Layout
   lay = placed.lay
 
@@ -61,7 +63,8 @@ module _ (l : Program) (a : Assignment) (cells stack : ℕ) (items : List Item) 
 
   never_traps : (i : List ℕ) → IsBytes i → NeverTrapsOn lay items i start
   never_traps i bytes n kind e = subst (select.EndsLikeRun i
-      (limited l (words_at a) cells stack i (length (procedures_at s.begins (course lay items n i start).passed)))
+      (limited l (words_at a) cells stack i
+      (length (procedures_at s.begins (course lay items n i start).passed)))
       (course lay items n i start)) e (s.follows lay placed.rises below i bytes n).finish
 
   abbrev image : State
@@ -82,9 +85,12 @@ module _ (l : Program) (a : Assignment) (cells stack : ℕ) (items : List Item) 
   }
 
   module _ (told : Meaning) (entered : List ℕ → ℕ → List ℕ) (StackFull : MeaningResult → Type 0)
-      (tells : (i : List ℕ) → IsBytes i → (n : ℕ) → MeaningRefines (told i n) (meaning_of_low l (words_at a) i n))
-      (enters : (i : List ℕ) → IsBytes i → (n : ℕ) → entered_by_low l (words_at a) i n ≡ entered i n)
-      (frames : (i : List ℕ) → IsBytes i → (n : ℕ) → FramesAreExceeded stack (meaning_of_low l (words_at a) i n)
+      (tells : (i : List ℕ) → IsBytes i → (n : ℕ) → MeaningRefines (told i n)
+      (meaning_of_low l (words_at a) i n))
+      (enters : (i : List ℕ) → IsBytes i → (n : ℕ) → entered_by_low l (words_at a) i n ≡ entered i
+      n)
+      (frames : (i : List ℕ) → IsBytes i → (n : ℕ) → FramesAreExceeded stack
+      (meaning_of_low l (words_at a) i n)
       → StackFull (told i n))
       (never : NeverMissing l) where
     module _ (i : List ℕ) (bytes : IsBytes i) where
@@ -92,10 +98,12 @@ module _ (l : Program) (a : Assignment) (cells stack : ℕ) (items : List Item) 
       meets m = items_enter items words placed start i s.begins (_, refl)
           (never_traps i bytes) refl s.stand s.flows.instruction_behind m
 
-      kept : (n : ℕ) → HeapIsExceeded cells (meaning_of_low l (words_at a) i n) → HeapIsExceeded cells (told i n)
+      kept : (n : ℕ) → HeapIsExceeded cells (meaning_of_low l (words_at a) i n)
+          → HeapIsExceeded cells (told i n)
       kept n h = let t = (tells i bytes n).cells in omega (arith, h, t)
 
-      framed : (n : ℕ) → FramesAreExceeded stack (meaning_of_low l (words_at a) i n) → StackFull (told i n)
+      framed : (n : ℕ) → FramesAreExceeded stack (meaning_of_low l (words_at a) i n)
+          → StackFull (told i n)
       framed n h = frames i bytes n h
 
       -- what so many steps show is what as many units tell as procedures were met
@@ -106,11 +114,15 @@ module _ (l : Program) (a : Assignment) (cells stack : ℕ) (items : List Item) 
           let k = meets m in
           let c = course lay items k.0 i start in
           let n = length (procedures_at s.begins c.passed) in
-          let low = comes l a cells stack never i bytes s.begins c (s.follows lay placed.rises below i bytes k.0) in
-          let up = comes_kept (told i) (meaning_of_low l (words_at a) i) (HeapIsExceeded cells) StackFull
-          (HeapIsExceeded cells) (FramesAreExceeded stack) n (observed_items lay items start i k.0) (tells i bytes)
+          let low = comes l a cells stack never i bytes s.begins c
+          (s.follows lay placed.rises below i bytes k.0) in
+          let up = comes_kept (told i) (meaning_of_low l (words_at a) i) (HeapIsExceeded cells)
+          StackFull
+          (HeapIsExceeded cells) (FramesAreExceeded stack) n (observed_items lay items start i k.0)
+          (tells i bytes)
           (kept n) (framed n) low in
-          let count : n ≡ length (procedures_at addresses (trace m i (state_at lay items start))) = ap length
+          let count : n ≡ length (procedures_at addresses (trace m i (state_at lay items start)))
+          = ap length
           (sym k.1.entered) in
           subst (λ j. Comes (HeapIsExceeded cells) StackFull (told i) j
           (observed_machine (state_at lay items start) i m)) count
@@ -126,39 +138,49 @@ module _ (l : Program) (a : Assignment) (cells stack : ℕ) (items : List Item) 
           let f = s.follows lay placed.rises below i bytes k.0 in
           let within = (limits_only_stop l (words_at a) cells stack i n).0 in
           let all = one_entry_a_unit l (words_at a) (record { cells = None; stack = None }) i n in
-          let many : length (world_of (limited l (words_at a) cells stack i n)).entered ≡ n = ap length (sym f.entered)
+          let many : length (world_of (limited l (words_at a) cells stack i n)).entered ≡ n
+          = ap length (sym f.entered)
           in
           let same : (world_of (run l (words_at a) i n)).entered ≡
           (world_of (limited l (words_at a) cells stack i n)).entered =
           whole _ _ within.entered (omega (arith, all, many)) in
-          let ps : procedures_at s.begins c.passed ≡ entered i n = f.entered ∙ sym same ∙ enters i bytes n in
+          let ps : procedures_at s.begins c.passed ≡ entered i n
+          = f.entered ∙ sym same ∙ enters i bytes n in
           subst (λ qs. qs ≡ entered i (length qs)) (sym k.1.entered) ps
 
-      reached : (n : ℕ) → (m : ℕ) × ReachesResult (told i n) (observed_machine (state_at lay items start) i m)
+      reached : (n : ℕ) → (m : ℕ) × ReachesResult (told i n)
+          (observed_machine (state_at lay items start) i m)
       reached n =
           let r = s.arrives lay placed.rises below i bytes n in
-          let low = reaches l a cells stack never i bytes s.begins n (course lay items r.0 i start) r.1 in
-          let m = items_are_reached items words placed start i (_, refl) (never_traps i bytes) r.0 in (
+          let low = reaches l a cells stack never i bytes s.begins n (course lay items r.0 i start)
+          r.1 in
+          let m = items_are_reached items words placed start i (_, refl) (never_traps i bytes) r.0
+          in (
             m.0,
             subst (ReachesResult (told i n)) (sym m.1.1)
-                (reaches_kept (told i n) (meaning_of_low l (words_at a) i n) (observed_items lay items start i r.0)
+                (reaches_kept (told i n) (meaning_of_low l (words_at a) i n)
+                (observed_items lay items start i r.0)
                 (tells i bytes n) low),
           )
 
-    pub code_for : IsCodeFor (HeapIsExceeded cells) StackFull told entered (length l.procs) words image addresses
+    pub code_for : IsCodeFor (HeapIsExceeded cells) StackFull told entered (length l.procs) words
+        image addresses
     code_for = record {
       one_each = length_map _ s.begins ∙ s.one_each;
-      different = different items words placed s.begins s.stand s.flows.instruction_behind s.different;
+      different = different items words placed s.begins s.stand s.flows.instruction_behind
+          s.different;
       in_code = in_code items words placed s.begins s.stand s.flows.instruction_behind;
-      carries = subst (λ t. Carries (HeapIsExceeded cells) StackFull told (observed_machine t)) begun (record {
-        reaches = reached;
-        comes = λ i bytes m. (
-          length (procedures_at addresses (trace m i (state_at lay items start))),
-          shown i bytes
-              m,
-        );
-      });
-      runs = λ i bytes m. subst (λ t. Runs (HeapIsExceeded cells) StackFull told entered addresses t i m) begun
+      carries = subst (λ t. Carries (HeapIsExceeded cells) StackFull told (observed_machine t))
+          begun (record {
+            reaches = reached;
+            comes = λ i bytes m. (
+              length (procedures_at addresses (trace m i (state_at lay items start))),
+              shown i bytes
+                  m,
+            );
+          });
+      runs = λ i bytes m. subst
+          (λ t. Runs (HeapIsExceeded cells) StackFull told entered addresses t i m) begun
           (record {
             enters = met i bytes m;
             comes = shown i bytes m;
@@ -169,17 +191,22 @@ module _ (l : Program) (a : Assignment) (cells stack : ℕ) (items : List Item) 
 
 pub low_code_is_carried : LowCodeIsCarried
 low_code_is_carried l a cells stack items words never s placed few =
-    code_for l a cells stack items words s placed few (meaning_of_low l (words_at a)) (entered_by_low l (words_at a))
+    code_for l a cells stack items words s placed few (meaning_of_low l (words_at a))
+    (entered_by_low l (words_at a))
     (FramesAreExceeded stack)
-    (λ i bytes n. tells_itself (meaning_of_low l (words_at a) i n)) (λ i bytes n. refl) (λ i bytes n h. h) never
+    (λ i bytes n. tells_itself (meaning_of_low l (words_at a) i n)) (λ i bytes n. refl)
+    (λ i bytes n h. h) never
   where
     tells_itself : (t : MeaningResult) → MeaningRefines t t
     tells_itself t = record { out = refl; end = refl; used = refl; cells = omega arith }
 
 pub code_has_stops : CodeHasStops
-code_has_stops l a cells stack items words s placed few = has_stops l a cells stack items words s placed few
+code_has_stops l a cells stack items words s placed few
+    = has_stops l a cells stack items words s placed few
 
 pub layers_compose : LayersCompose
-layers_compose told entered l a frame cells stack items words tells enters frames never s placed few =
-    code_for l a cells stack items words s placed few told entered (StackIsExceeded frame stack) tells enters
+layers_compose told entered l a frame cells stack items words tells enters frames never s placed few
+    =
+    code_for l a cells stack items words s placed few told entered (StackIsExceeded frame stack)
+    tells enters
     (λ i bytes n h. let f = frames i bytes n in omega (arith, h, f)) never

@@ -1,8 +1,11 @@
 -- Placed items that were selected for low code keep pace with it.
 --
--- For any number of units there is a moment of the items at which they have come where the low code comes with these units, and have
--- passed only procedures that are entered with them. The machine comes to that moment in no more steps than there are words before
--- the procedures, in each of these, and behind them. And what it has come to by then it has come to after any more steps.
+-- For any number of units there is a moment of the items at which they have come where the low code
+-- comes with these units, and have
+-- passed only procedures that are entered with them. The machine comes to that moment in no more
+-- steps than there are words before
+-- the procedures, in each of these, and behind them. And what it has come to by then it has come to
+-- after any more steps.
 use Rattle.std.proofs.Common.{◌≡◌, inl, inr, ℕ, ◌+◌, ◌-◌, ◌*◌, ◌≤◌, max, List, [], ◌++◌, length, slice_index_or, refl, sym, ap, ◌∙◌, subst, append_assoc, arith}
 use Rattle.std.specs.Prelude.{true}
 use Rattle.std.proofs.Math.Nat.{mul_comm}
@@ -41,7 +44,8 @@ use Rattle.grin_compile.proofs.ProcedureWords.{weighs, starts_with, few_steps, f
 -- ---- later moments of a machine
 
 -- where a machine runs on, it has not come to an end, and goes on to write more
-running_on : (t : MeaningResult) (s s' : MachineObservation) → s.finish ≡ runs → IsPrefixOf s.out s'.out
+running_on : (t : MeaningResult) (s s' : MachineObservation) → s.finish ≡ runs
+    → IsPrefixOf s.out s'.out
     → ReachesResult t s → ReachesResult t s'
 running_on t s s' on more (inl r) = inl (
   (
@@ -62,7 +66,8 @@ running_on t s s' on more (inr (inr five, b)) = let no : exits 5 ≡ runs = sym 
 
 -- what a machine has come to after some steps it has come to after more
 pub reaches_later : (start : State) (i : List ℕ) (t : MeaningResult) (m d : ℕ)
-    → ReachesResult t (observed_machine start i m) → ReachesResult t (observed_machine start i (m + d))
+    → ReachesResult t (observed_machine start i m) → ReachesResult t
+    (observed_machine start i (m + d))
 reaches_later start i t m d h = by_end (run m i start).end refl
   where
     seen_of : Run → MachineObservation
@@ -71,8 +76,10 @@ reaches_later start i t m d h = by_end (run m i start).end refl
     ended : has_ended (run m i start).end ≡ true → ReachesResult t (seen_of (run (m + d) i start))
     ended e = subst (λ r. ReachesResult t (seen_of r)) (sym (end_stays m d i start e)) h
 
-    by_end : (e : MachineEnd) → (run m i start).end ≡ e → ReachesResult t (seen_of (run (m + d) i start))
-    by_end (Going s) e = running_on t (seen_of (run m i start)) (seen_of (run (m + d) i start)) (ap finish_of e)
+    by_end : (e : MachineEnd) → (run m i start).end ≡ e
+        → ReachesResult t (seen_of (run (m + d) i start))
+    by_end (Going s) e = running_on t (seen_of (run m i start)) (seen_of (run (m + d) i start))
+        (ap finish_of e)
         (output_grows m d i start) h
     by_end (Exited code s) e = ended (ap has_ended e)
     by_end (Stopped kind s) e = ended (ap has_ended e)
@@ -85,19 +92,24 @@ both_times a b c d first second =
     let right = more_times c d b second in
     omega (arith, left, right, mul_comm b c, mul_comm b d)
 
--- where each entry is one of the units, the most steps that the start or a unit takes are enough for each
-pub keeps_pace : (start : ℕ) (words : List ℕ) (told : Meaning) (entered : List ℕ → ℕ → List ℕ) (seen : Machine)
+-- where each entry is one of the units, the most steps that the start or a unit takes are enough
+-- for each
+pub keeps_pace : (start : ℕ) (words : List ℕ) (told : Meaning) (entered : List ℕ → ℕ → List ℕ)
+    (seen : Machine)
     → ((i : List ℕ) → IsBytes i → (n : ℕ) → length (entered i n) ≤ n)
-    → KeepsPaceByWords start words told entered seen → KeepsPace (max (start + 9) (greatest words)) told seen
+    → KeepsPaceByWords start words told entered seen
+    → KeepsPace (max (start + 9) (greatest words)) told seen
 keeps_pace start words told entered seen few paced i bytes n m le =
     let most = max (start + 9) (greatest words) in
     let all = few_entered words (entered i n) in
-    let product = both_times (greatest words) most (length (entered i n)) n (omega arith) (few i bytes n) in
+    let product = both_times (greatest words) most (length (entered i n)) n (omega arith)
+    (few i bytes n) in
     let units : most * (n + 1) ≡ most * n + most = omega arith in
     paced i bytes n m (omega (arith, le, all, product, units))
 
 module _ (l : Program) (a : Assignment) (cells stack : ℕ) (items : List Item) (words : List ℕ)
-    (s : Selects l a cells stack items) (placed : Placed items words) (few : length words ≤ 268435456) where
+    (s : Selects l a cells stack items) (placed : Placed items words)
+    (few : length words ≤ 268435456) where
   abbrev lay : Layout
   lay = placed.lay
 
@@ -137,7 +149,8 @@ module _ (l : Program) (a : Assignment) (cells stack : ℕ) (items : List Item) 
   begun = sym (starts items words placed l.width cells stack)
 
   -- the words that are left at the start
-  first_left : left_at items words placed s.begins s.stand s.flows 0 ≤ 4 * (start_words words addresses + 9)
+  first_left : left_at items words placed s.begins s.stand s.flows 0 ≤ 4 *
+      (start_words words addresses + 9)
   first_left =
       let first = left_most items words placed s.begins s.stand s.flows 0 in
       let begun = starts_with items words placed s.begins s.stand s.flows stops_at in
@@ -152,8 +165,10 @@ module _ (l : Program) (a : Assignment) (cells stack : ℕ) (items : List Item) 
       (procedures_at addresses (trace m i t)) + 9) begun (omega (arith, h, first_left))
 
   module _ (told : Meaning) (entered : List ℕ → ℕ → List ℕ)
-      (tells : (i : List ℕ) → IsBytes i → (n : ℕ) → MeaningRefines (told i n) (meaning_of_low l (words_at a) i n))
-      (enters : (i : List ℕ) → IsBytes i → (n : ℕ) → entered_by_low l (words_at a) i n ≡ entered i n)
+      (tells : (i : List ℕ) → IsBytes i → (n : ℕ) → MeaningRefines (told i n)
+      (meaning_of_low l (words_at a) i n))
+      (enters : (i : List ℕ) → IsBytes i → (n : ℕ) → entered_by_low l (words_at a) i n ≡ entered i
+      n)
       (never : NeverMissing l) where
     module _ (i : List ℕ) (bytes : IsBytes i) (n : ℕ) where
       -- the moment at which the items have come where the low code comes with n units
@@ -164,18 +179,22 @@ module _ (l : Program) (a : Assignment) (cells stack : ℕ) (items : List Item) 
           let r = s.arrives lay placed.rises below i bytes n in
           let c = course lay items r.0 i start in
           let low = reaches l a cells stack never i bytes s.begins n c r.1 in
-          let up = reaches_kept (told i n) (meaning_of_low l (words_at a) i n) (observed_items lay items start i r.0)
+          let up = reaches_kept (told i n) (meaning_of_low l (words_at a) i n)
+          (observed_items lay items start i r.0)
           (tells i bytes n) low in
           let q = paced items words placed s.begins s.stand s.flows (λ f. slice_index_or each f 0)
           (weighs items words placed s.begins s.stand s.flows stops_at) r.0 i start [] (_, refl)
           (λ k. s.home lay placed.rises below i bytes k) in
           let within = (limits_only_stop l (words_at a) cells stack i n).0.entered in
           let all : entered_words each (entered i n) ≡ entered_words each
-          ((world_of (limited l (words_at a) cells stack i n)).entered ++ within.0) = ap (entered_words each)
+          ((world_of (limited l (words_at a) cells stack i n)).entered ++ within.0)
+          = ap (entered_words each)
           (sym (enters i bytes n) ∙ within.1) in
-          let more = more_entered each (world_of (limited l (words_at a) cells stack i n)).entered within.0 in
+          let more = more_entered each (world_of (limited l (words_at a) cells stack i n)).entered
+          within.0 in
           let passed : entered_words each (procedures_at s.begins c.passed) ≡ entered_words each
-          (world_of (limited l (words_at a) cells stack i n)).entered = ap (entered_words each) r.1.entered in (
+          (world_of (limited l (words_at a) cells stack i n)).entered
+          = ap (entered_words each) r.1.entered in (
             q.count,
             (
               omega (arith, q.few, first_left, passed, more, all),
@@ -189,11 +208,14 @@ module _ (l : Program) (a : Assignment) (cells stack : ℕ) (items : List Item) 
       enough m le =
           let h = arrived in
           let more : h.0 + (m - h.0) ≡ m = omega (arith, h.1.0, le) in
-          subst (λ k. ReachesResult (told i n) (observed_machine (state_at lay items start) i k)) more
+          subst (λ k. ReachesResult (told i n) (observed_machine (state_at lay items start) i k))
+          more
           (reaches_later (state_at lay items start) i (told i n) h.0 (m - h.0) h.1.1)
 
-    pub keeps_pace_by_words : KeepsPaceByWords (start_words words addresses) each told entered (observed_machine image)
-    keeps_pace_by_words i bytes n m le = subst (λ t. ReachesResult (told i n) (observed_machine t i m)) begun
+    pub keeps_pace_by_words : KeepsPaceByWords (start_words words addresses) each told entered
+        (observed_machine image)
+    keeps_pace_by_words i bytes n m le = subst
+        (λ t. ReachesResult (told i n) (observed_machine t i m)) begun
         (enough i bytes n m le)
 
 pub layers_keep_pace : LayersKeepPace
@@ -201,4 +223,5 @@ layers_keep_pace told entered l a cells stack items words tells enters never s p
     keeps_pace_by_words l a cells stack items words s placed few told entered tells enters never
 
 pub layers_bound_steps : LayersBoundSteps
-layers_bound_steps l a cells stack items words s placed few = steps_within l a cells stack items words s placed few
+layers_bound_steps l a cells stack items words s placed few
+    = steps_within l a cells stack items words s placed few

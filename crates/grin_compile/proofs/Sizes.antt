@@ -30,14 +30,23 @@ use Rattle.seq.proofs.Counted.{length_numbers}
 -- ---- the procedures and global cells of a stage
 
 outside_itself : (g : Program) → DifferOnlyInBodies g g
-outside_itself g = record { same_tags = refl; same_globals = refl; same_start = refl; same_argument = refl; same_names = refl }
+outside_itself g = record {
+  same_tags = refl;
+  same_globals = refl;
+  same_start = refl;
+  same_argument = refl;
+  same_names
+      = refl;
+}
 
-pub stages_outside : (p : core.Program) (ks : List PassName) (g : Program) (hs : List Program) → AreStages p ks g hs
+pub stages_outside : (p : core.Program) (ks : List PassName) (g : Program) (hs : List Program)
+    → AreStages p ks g hs
     → (k : ℕ) (h : Program) → slice_get hs k ≡ Some h → DifferOnlyInBodies g h
 stages_outside p [] g [] are k h there = cc
 stages_outside p [] g (x ∷ hs) are k h there = absurd are
 stages_outside p (a ∷ ks) g [] are k h there = absurd are
-stages_outside p (a ∷ ks) g (x ∷ hs) are zero h there = let e : x ≡ h = cc in subst (DifferOnlyInBodies g) e (gives a g x are.1.0).outside
+stages_outside p (a ∷ ks) g (x ∷ hs) are zero h there = let e : x ≡ h = cc
+    in subst (DifferOnlyInBodies g) e (gives a g x are.1.0).outside
 stages_outside p (a ∷ ks) g (x ∷ hs) are (suc k) h there =
     outside_again g x h (gives a g x are.1.0).outside (stages_outside p ks x hs are.1.1 k h there)
 
@@ -48,14 +57,18 @@ as_many_procs g h s = sym (named h.procs) ∙ ap length s.same_names ∙ named g
     named [] = refl
     named (q ∷ qs) = ap suc (named qs)
 
-one_more : {A : Type 0} (b : Bool) (x : A) (rest : List A) → length ((if b then x ∷ [] else []) ++ rest) ≤ 1 + length rest
+one_more : {A : Type 0} (b : Bool) (x : A) (rest : List A)
+    → length ((if b then x ∷ [] else []) ++ rest) ≤ 1 + length rest
 one_more true x rest = omega arith
 one_more false x rest = omega arith
 
-pub few_globals : (p : core.Program) (fs : List core.Function) (f : ℕ) → length (global_cells p fs f) ≤ length fs
+pub few_globals : (p : core.Program) (fs : List core.Function) (f : ℕ)
+    → length (global_cells p fs f) ≤ length fs
 few_globals p [] f = omega arith
 few_globals p (g ∷ gs) f =
-    let here = one_more (g.params == 0) (record { name = g.name; site = record { 0 = f }; tag = tag p (Waits (Calls f)) }) (global_cells p gs (suc f)) in
+    let here = one_more (g.params == 0)
+    (record { name = g.name; site = record { 0 = f }; tag = tag p (Waits (Calls f)) })
+    (global_cells p gs (suc f)) in
     omega (arith, here, few_globals p gs (suc f))
 
 -- ---- sizes
@@ -95,7 +108,8 @@ largest_is_small g = largest_below g.procs
 
 -- ---- functions
 
-delayed_length : (p : core.Program) (base : ℕ) (ds : List Delay) → length (delayed_procs p base ds) ≡ length ds
+delayed_length : (p : core.Program) (base : ℕ) (ds : List Delay)
+    → length (delayed_procs p base ds) ≡ length ds
 delayed_length p base [] = refl
 delayed_length p base (d ∷ ds) = ap suc (delayed_length p (base + span p d) ds)
 
@@ -105,12 +119,14 @@ front_shorter xs ys = omega (arith, length-append xs ys)
 function_delays : (p : core.Program) → length p.funs ≤ length (delays p)
 unfolding delays
 function_delays p =
-    let n : length (map Calls (numbers_from 0 (length p.funs))) ≤ length (delays p) = front_shorter (map Calls (numbers_from 0 (length p.funs))) _ in
+    let n : length (map Calls (numbers_from 0 (length p.funs))) ≤ length (delays p)
+    = front_shorter (map Calls (numbers_from 0 (length p.funs))) _ in
     let m = length-map (numbers_from 0 (length p.funs)) Calls in
     omega (arith, n, m, length_numbers 0 (length p.funs))
 
 -- each function has a procedure, and there is one more
-pub functions_inlined : (p : core.Program) (A : Solution) → suc (length p.funs) ≤ size (inlined A (tr p))
+pub functions_inlined : (p : core.Program) (A : Solution)
+    → suc (length p.funs) ≤ size (inlined A (tr p))
 functions_inlined p A =
     let g = tr p in
     let h = eval_inlined A g in
@@ -128,25 +144,33 @@ pub record FewParts (inlined : Program) (functions : ℕ) (l : low.Program) : Ty
   pub light : program_size l ≤ 192 * size inlined
   pub calls : calls_of l ≤ size inlined
 
-pub few_parts : (p : core.Program) (inlined g : Program) (l : low.Program) (most : ℕ) → inlined.globals ≡ (tr p).globals
-    → DifferOnlyInBodies inlined g → Slim (size inlined) most g → Lowers g l → LoweredIsSmall g l → FewParts inlined (length p.funs) l
+pub few_parts : (p : core.Program) (inlined g : Program) (l : low.Program) (most : ℕ)
+    → inlined.globals ≡ (tr p).globals
+    → DifferOnlyInBodies inlined g → Slim (size inlined) most g → Lowers g l → LoweredIsSmall g l
+    → FewParts inlined (length p.funs) l
 few_parts p inlined g l most same outside slim lowers small = record {
   procs = omega (arith, lowers.procs, as_many_procs inlined g outside, few_procs inlined.procs);
   globals =
-      let n : length l.globals ≡ length g.globals = ap length lowers.globals ∙ length-map g.globals _ in
+      let n : length l.globals ≡ length g.globals = ap length lowers.globals ∙ length-map g.globals
+      _ in
       let m : length g.globals ≡ length (tr p).globals = ap length (outside.same_globals ∙ same) in
       omega (arith, n, m, few_globals p p.funs 0);
   light = omega (arith, small.light, slim.light);
   calls = omega (arith, small.few_calls, slim.few_calls);
 }
 
-pub few_words : (procs globals program_size calls size : ℕ) (words items : ℕ) → size ≤ 131072 → procs ≤ size → globals ≤ 4096
+pub few_words : (procs globals program_size calls size : ℕ) (words items : ℕ) → size ≤ 131072
+    → procs ≤ size → globals ≤ 4096
     → program_size ≤ 192 * size → calls ≤ size
-    → items ≤ 64 * (procs + globals + 1) + 8 * program_size + 256 * calls → words ≤ items → words ≤ 268435456
-few_words procs globals program_size calls size words items fits some few light called bound placed =
+    → items ≤ 64 * (procs + globals + 1) + 8 * program_size + 256 * calls → words ≤ items
+    → words ≤ 268435456
+few_words procs globals program_size calls size words items fits some few light called bound placed
+    =
     omega (arith, fits, some, few, light, called, bound, placed)
 
 -- at most 1,920 for each unit of the size
-pub few_steps : (procs globals program_size calls size items : ℕ) → procs ≤ size → globals + 1 ≤ size → program_size ≤ 192 * size → calls ≤ size
+pub few_steps : (procs globals program_size calls size items : ℕ) → procs ≤ size
+    → globals + 1 ≤ size → program_size ≤ 192 * size → calls ≤ size
     → items ≤ 64 * (procs + globals + 1) + 8 * program_size + 256 * calls → items ≤ 1920 * size
-few_steps procs globals program_size calls size items some few light called bound = omega (arith, some, few, light, called, bound)
+few_steps procs globals program_size calls size items some few light called bound
+    = omega (arith, some, few, light, called, bound)

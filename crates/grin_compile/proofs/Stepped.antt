@@ -18,12 +18,14 @@ use Rattle.grin_compile.specs.Stages.{passes, AreStages}
 use Rattle.grin_compile.proofs.Narrow.{narrow}
 use Rattle.pass_ground.proofs.Vectors.{outside_again}
 
-pub in_all : (P : Program → Type 0) (hs : List Program) (k : ℕ) (h : Program) → AllOf P hs → slice_get hs k ≡ Some h → P h
+pub in_all : (P : Program → Type 0) (hs : List Program) (k : ℕ) (h : Program) → AllOf P hs
+    → slice_get hs k ≡ Some h → P h
 in_all P [] k h all there = cc
 in_all P (x ∷ hs) zero h all there = let e : x ≡ h = cc in subst P e all.0
 in_all P (x ∷ hs) (suc k) h all there = in_all P hs k h all.1 there
 
-pub are_stages : (p : core.Program) (ks : List PassName) (g : Program) (hs : List Program) → Keeps (tr p) g → AreResultsOfPasses ks g hs → AreStages p ks g hs
+pub are_stages : (p : core.Program) (ks : List PassName) (g : Program) (hs : List Program)
+    → Keeps (tr p) g → AreResultsOfPasses ks g hs → AreStages p ks g hs
 are_stages p [] g [] kept passed = tt
 are_stages p [] g (h ∷ hs) kept passed = absurd passed
 are_stages p (k ∷ ks) g [] kept passed = absurd passed
@@ -37,7 +39,8 @@ pub record CanBeLowered (a h : Program) : Type 0 where
   pub narrow : NarrowTargets 14 h
   pub outside : DifferOnlyInBodies a h
 
-next : (k : PassName) (a g h : Program) → IsStageFrom Simplify k → pass_relation k g h → CanBeLowered a g → CanBeLowered a h
+next : (k : PassName) (a g h : Program) → IsStageFrom Simplify k → pass_relation k g h
+    → CanBeLowered a g → CanBeLowered a h
 next k a g h from shape can =
     let given = gives k g h shape in
     record {
@@ -46,22 +49,27 @@ next k a g h from shape can =
       outside = outside_again a g h can.outside given.outside;
     }
 
-all_next : (p : core.Program) (ks : List PassName) (a g : Program) (hs : List Program) → AllOf (IsStageFrom Simplify) ks → CanBeLowered a g → AreStages p ks g hs → AllOf (CanBeLowered a) hs
+all_next : (p : core.Program) (ks : List PassName) (a g : Program) (hs : List Program)
+    → AllOf (IsStageFrom Simplify) ks → CanBeLowered a g → AreStages p ks g hs
+    → AllOf (CanBeLowered a) hs
 all_next p [] a g [] from can are = tt
 all_next p [] a g (h ∷ hs) from can are = absurd are
 all_next p (k ∷ ks) a g [] from can are = absurd are
-all_next p (k ∷ ks) a g (h ∷ hs) from can are = let here = next k a g h from.0 are.1.0 can in (here, all_next p ks a h hs from.1 here are.1.1)
+all_next p (k ∷ ks) a g (h ∷ hs) from can are = let here = next k a g h from.0 are.1.0 can
+    in (here, all_next p ks a h hs from.1 here are.1.1)
 
 -- the passes after the first one
 all_later : AllOf (IsStageFrom Simplify) (drop 1 passes)
 all_later = search rules
 
-pub can_be_lowered : (p : core.Program) (a : Program) → IsFirstPassInput a → (hs : List Program) → AreStages p passes a hs → AllOf (CanBeLowered a) hs
+pub can_be_lowered : (p : core.Program) (a : Program) → IsFirstPassInput a → (hs : List Program)
+    → AreStages p passes a hs → AllOf (CanBeLowered a) hs
 can_be_lowered p a taken [] are = absurd are
 can_be_lowered p a taken (h ∷ hs) are =
     let wide = are.1.0 in
     let first : CanBeLowered a h = record {
-      of_vectors = record { formed = wide.formed; ready = wide.ready; vectorised = wide.vectorised };
+      of_vectors = record
+          { formed = wide.formed; ready = wide.ready; vectorised = wide.vectorised };
       narrow = narrow a h taken.1 taken.2 wide;
       outside = wide.outside;
     } in

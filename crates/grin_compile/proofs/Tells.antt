@@ -22,7 +22,8 @@ use Rattle.low_code.specs.Told as low_told
 use Rattle.low_translate.specs.Lowers.{Lowers}
 use Rattle.grin_compile.specs.Stages.{AreStages}
 
-pub tells_both : (t u v : told.MeaningResult) → MeaningRefines t u → MeaningRefines u v → MeaningRefines t v
+pub tells_both : (t u v : told.MeaningResult) → MeaningRefines t u → MeaningRefines u v
+    → MeaningRefines t v
 tells_both t u v a b = record {
   out = b.out ∙ a.out;
   end = b.end ∙ a.end;
@@ -41,12 +42,14 @@ never Unaccepted h = cc
 never Going h = cc
 
 -- each of the stages does what the translation does
-pub stages_keep : (p : core.Program) (ks : List PassName) (g : Program) (hs : List Program) → AreStages p ks g hs
+pub stages_keep : (p : core.Program) (ks : List PassName) (g : Program) (hs : List Program)
+    → AreStages p ks g hs
     → (k : ℕ) (h : Program) → slice_get hs k ≡ Some h → Keeps (tr p) h
 stages_keep p [] g [] are k h there = cc
 stages_keep p [] g (x ∷ hs) are k h there = absurd are
 stages_keep p (a ∷ ks) g [] are k h there = absurd are
-stages_keep p (a ∷ ks) g (x ∷ hs) are zero h there = let e : x ≡ h = cc in subst (Keeps (tr p)) e are.0
+stages_keep p (a ∷ ks) g (x ∷ hs) are zero h there = let e : x ≡ h = cc
+    in subst (Keeps (tr p)) e are.0
 stages_keep p (a ∷ ks) g (x ∷ hs) are (suc k) h there = stages_keep p ks x hs are.1.1 k h there
 
 module _ (does : ValidTranslationPreservesRuns) (p : core.Program) (valid : IsValid p) where
@@ -58,7 +61,8 @@ module _ (does : ValidTranslationPreservesRuns) (p : core.Program) (valid : IsVa
     stage_never_missing i n h = not_missing i n (sym (keeps.same_end i n (not_missing i n)) ∙ h)
 
     -- a stage tells what evaluation by need tells
-    pub stage_tells : (i : List ℕ) (n : ℕ) → MeaningRefines (core_program_meaning p i n) (meaning_of_grin g i n)
+    pub stage_tells : (i : List ℕ) (n : ℕ) → MeaningRefines (core_program_meaning p i n)
+        (meaning_of_grin g i n)
     stage_tells i n =
         let d = does p valid i n in
         let m = not_missing i n in
@@ -70,8 +74,10 @@ module _ (does : ValidTranslationPreservesRuns) (p : core.Program) (valid : IsVa
         }
 
     -- and goes no deeper
-    pub stage_no_deeper : (i : List ℕ) (n : ℕ) → (meaning_of_grin g i n).depth ≤ (core_program_meaning p i n).depth
-    stage_no_deeper i n = omega (arith, keeps.no_deeper i n (not_missing i n), (does p valid i n).no_deeper)
+    pub stage_no_deeper : (i : List ℕ) (n : ℕ) → (meaning_of_grin g i n).depth ≤
+        (core_program_meaning p i n).depth
+    stage_no_deeper i n = omega
+        (arith, keeps.no_deeper i n (not_missing i n), (does p valid i n).no_deeper)
 
 is_missing : (e : RunEnd) → told_end e ≡ told.missing → e ≡ ended missing
 is_missing done h = cc
@@ -80,7 +86,9 @@ is_missing (ended out_of_units) h = cc
 is_missing (ended missing) h = refl
 
 -- low code of a program that is never missing is never missing
-pub low_never_missing : (g : Program) (l : low.Program) → Lowers g l → ((i : List ℕ) (n : ℕ) → end_of (run g i n) ≢ ended missing) → low_run.NeverMissing l
+pub low_never_missing : (g : Program) (l : low.Program) → Lowers g l
+    → ((i : List ℕ) (n : ℕ) → end_of (run g i n) ≢ ended missing) → low_run.NeverMissing l
 low_never_missing g l lowers never frame_words i bytes n h =
-    let e : low_told.told_end (low_run.end_of (low_run.run l frame_words i n)) ≡ told.missing = ap low_told.told_end h in
+    let e : low_told.told_end (low_run.end_of (low_run.run l frame_words i n)) ≡ told.missing
+    = ap low_told.told_end h in
     never i n (is_missing (end_of (run g i n)) (sym (lowers.tells frame_words i bytes n).end ∙ e))

@@ -1,9 +1,13 @@
 -- How soon the machine has done so many items, to the word.
 --
--- What is left to do at a point has a bound in bytes of code that falls by four with each step: what stands from the point on to
--- the end of its procedure, for each open call what stands from its return on to the end of its own, and what stands behind the
--- procedures. An item goes on in its procedure, to where a procedure begins, or to the stops. A call leaves what is behind it to
--- its return. A return goes to what its call left. Only where a procedure begins is there more to do again, and that is its code.
+-- What is left to do at a point has a bound in bytes of code that falls by four with each step:
+-- what stands from the point on to
+-- the end of its procedure, for each open call what stands from its return on to the end of its
+-- own, and what stands behind the
+-- procedures. An item goes on in its procedure, to where a procedure begins, or to the stops. A
+-- call leaves what is behind it to
+-- its return. A return goes to what its call left. Only where a procedure begins is there more to
+-- do again, and that is its code.
 use Rattle.std.proofs.Common.{◌≡◌, ℕ, zero, suc, ◌+◌, ◌-◌, ◌*◌, ◌%◌, ◌<◌, ◌≤◌, ◌⊎◌, min, Bool, true, false, nat_eq, nat_lt, List, [], ◌∷◌, ◌++◌, map, length, drop, Option, Some, None, slice_get, inl, inr, refl, sym, ap, ◌∙◌, subst, append_assoc, arith}
 use Rattle.std.specs.Prelude.{if◌then◌else◌}
 use Rattle.std.proofs.lemmas.Bool.{true≢false, cases_lt, eqb-true}
@@ -40,7 +44,8 @@ unfolding step
 aligned s t h = go (nat_eq (s.pc % 4) 0) refl h
   where
     go : (b : Bool) → nat_eq (s.pc % 4) 0 ≡ b
-        → (if b then fetch_and_execute s (access Execute s.memory s.pc 4) else Trapped' MisalignedJump) ≡ Next' t
+        → (if b then fetch_and_execute s (access Execute s.memory s.pc 4)
+        else Trapped' MisalignedJump) ≡ Next' t
         → s.pc % 4 ≡ 0
     go true e h = eqb-true (s.pc % 4) 0 e
     go false e h = cc
@@ -102,13 +107,16 @@ pub sums : (weight : ℕ → ℕ) (xs ys : List ℕ)
 sums weight [] ys = omega arith
 sums weight (x ∷ xs) ys = omega (arith, sums weight xs ys)
 
-joined : (begins xs ys : List ℕ) → procedures_at begins (xs ++ ys) ≡ procedures_at begins xs ++ procedures_at begins ys
+joined : (begins xs ys : List ℕ) → procedures_at begins (xs ++ ys) ≡ procedures_at begins xs
+    ++ procedures_at begins ys
 joined begins [] ys = refl
 joined begins (x ∷ xs) ys = ap (λ r. procedure_from 0 begins x ++ r) (joined begins xs ys)
-    ∙ sym (append_assoc (procedure_from 0 begins x) (procedures_at begins xs) (procedures_at begins ys))
+    ∙ sym (append_assoc (procedure_from 0 begins x) (procedures_at begins xs)
+    (procedures_at begins ys))
 
 module _ (items : List Item) (words : List ℕ) (placed : Placed items words) (begins : List ℕ)
-    (stand : (b : ℕ) → is_one_of begins b ≡ true → times b items ≡ 1) (flows : HasStructuredFlow begins items) where
+    (stand : (b : ℕ) → is_one_of begins b ≡ true → times b items ≡ 1)
+    (flows : HasStructuredFlow begins items) where
   abbrev pub lay : Layout
   lay = placed.lay
 
@@ -126,7 +134,8 @@ module _ (items : List Item) (words : List ℕ) (placed : Placed items words) (b
 
   -- ---- where the code of a procedure ends
 
-  -- the first of the next d items at which a procedure begins, and the item behind them where there is none
+  -- the first of the next d items at which a procedure begins, and the item behind them where there
+  -- is none
   abbrev pub first_end : ℕ → ℕ → ℕ
   first_end zero n = n
   first_end (suc d) n = if begins_at n then n else first_end d (suc n)
@@ -139,7 +148,8 @@ module _ (items : List Item) (words : List ℕ) (placed : Placed items words) (b
   end_bounds (suc d) n = go (begins_at n) (end_bounds d (suc n))
     where
       go : (b : Bool) → (suc n ≤ first_end d (suc n)) × (first_end d (suc n) ≤ suc n + d)
-          → (n ≤ (if b then n else first_end d (suc n))) × ((if b then n else first_end d (suc n)) ≤ n + suc d)
+          → (n ≤ (if b then n else first_end d (suc n)))
+          × ((if b then n else first_end d (suc n)) ≤ n + suc d)
       go true r = (omega arith, omega arith)
       go false r = (omega (arith, r.0), omega (arith, r.1))
 
@@ -147,7 +157,8 @@ module _ (items : List Item) (words : List ℕ) (placed : Placed items words) (b
   end_is zero n = inr (omega arith)
   end_is (suc d) n = go (begins_at n) refl (end_is d (suc n))
     where
-      go : (b : Bool) → begins_at n ≡ b → (begins_at (first_end d (suc n)) ≡ true) ⊎ (first_end d (suc n) ≡ suc n + d)
+      go : (b : Bool) → begins_at n ≡ b → (begins_at (first_end d (suc n)) ≡ true)
+          ⊎ (first_end d (suc n) ≡ suc n + d)
           → (begins_at (if b then n else first_end d (suc n)) ≡ true)
           ⊎ ((if b then n else first_end d (suc n)) ≡ n + suc d)
       go true e r = inl e
@@ -166,10 +177,12 @@ module _ (items : List Item) (words : List ℕ) (placed : Placed items words) (b
       go true e rest = inl le
       go false e rest = elim (cases_lt n q) [
         | inl lt ↦ shifted (rest (omega arith))
-        | inr ge ↦ let same : n ≡ q = omega arith in absurd (true≢false (sym b ∙ ap begins_at (sym same) ∙ e))
+        | inr ge ↦ let same : n ≡ q = omega arith in absurd
+            (true≢false (sym b ∙ ap begins_at (sym same) ∙ e))
       ]
         where
-          shifted : first_end d (suc n) ≤ q ⊎ (suc n + d < q) → first_end d (suc n) ≤ q ⊎ (n + suc d < q)
+          shifted : first_end d (suc n) ≤ q ⊎ (suc n + d < q) → first_end d (suc n) ≤ q
+              ⊎ (n + suc d < q)
           shifted (inl h) = inl h
           shifted (inr h) = inr (omega (arith, h))
 
@@ -189,7 +202,8 @@ module _ (items : List Item) (words : List ℕ) (placed : Placed items words) (b
       go (inr h) = let lt = flows.procedures_before q b in absurd (omega (arith, h, lt))
 
   -- and behind all items of which none begins one
-  end_past : (n t : ℕ) → n ≤ t → t < stops → ((q : ℕ) → n ≤ q → q ≤ t → begins_at q ≡ false) → t < end_at n
+  end_past : (n t : ℕ) → n ≤ t → t < stops → ((q : ℕ) → n ≤ q → q ≤ t → begins_at q ≡ false)
+      → t < end_at n
   end_past n t le lt none = elim (cases_lt t (end_at n)) [
     | inl past ↦ past
     | inr within ↦ absurd (go (end_is (stops - n) n) within)
@@ -229,10 +243,12 @@ module _ (items : List Item) (words : List ℕ) (placed : Placed items words) (b
   left_behind (c ∷ calls) = left_in c + left_behind calls
 
   left_before : (n : ℕ) → n < stops → left_at n ≡ left_in n + tail
-  left_before n lt = let h : nat_lt n stops ≡ true = grind (arith, nat_tests) in ap (λ b. left_by b n) h
+  left_before n lt = let h : nat_lt n stops ≡ true = grind (arith, nat_tests)
+      in ap (λ b. left_by b n) h
 
   left_past : (n : ℕ) → stops ≤ n → left_at n ≡ min tail (end_of lay.code - lay.address n)
-  left_past n le = let h : nat_lt n stops ≡ false = grind (arith, nat_tests) in ap (λ b. left_by b n) h
+  left_past n le = let h : nat_lt n stops ≡ false = grind (arith, nat_tests)
+      in ap (λ b. left_by b n) h
 
   pub left_most : (n : ℕ) → left_at n ≤ left_in n + tail
   left_most n = elim (cases_lt n stops) [
@@ -260,12 +276,14 @@ module _ (items : List Item) (words : List ℕ) (placed : Placed items words) (b
           (λ q lo hi. let same : n ≡ q = omega arith in ap begins_at (sym same) ∙ none)
 
       to_end : lay.address (suc n) ≤ lay.address (end_at n)
-      to_end = rise (suc n) (end_at n) behind_it (omega (arith, end_before n (omega arith), stops_within))
+      to_end = rise (suc n) (end_at n) behind_it
+          (omega (arith, end_before n (omega arith), stops_within))
 
       -- its own words, and what is left in its procedure
       rest_left : (4 * k + left_in (suc n)) + tail ≤ left_at n
       rest_left =
-          let less = rise (end_at (suc n)) (end_at n) (end_kept n (suc n) (omega arith) lt behind_it)
+          let less = rise (end_at (suc n)) (end_at n)
+          (end_kept n (suc n) (omega arith) lt behind_it)
           (omega (arith, end_before n (omega arith), stops_within)) in
           omega (arith, left_before n lt, few, to_end, less)
 
@@ -291,7 +309,8 @@ module _ (items : List Item) (words : List ℕ) (placed : Placed items words) (b
         | inr past ↦ stop_left (suc n) past
       ]
 
-      way_left : (i : Item) (t : ℕ) → Way items words placed begins stand flows i n t → 4 * k + left_at t ≤ left_at n
+      way_left : (i : Item) (t : ℕ) → Way items words placed begins stand flows i n t
+          → 4 * k + left_at t ≤ left_at n
       way_left i t w = by_way w.0
         where
           by_way : (t ≡ suc n) ⊎ ((t ≤ length items) × IsForwardTransfer begins items stops n t)
@@ -299,7 +318,8 @@ module _ (items : List Item) (words : List ℕ) (placed : Placed items words) (b
           by_way (inl e) = subst (λ t. 4 * k + left_at t ≤ left_at n) (sym e) next_left
           by_way (inr (top, inl on)) = elim (cases_lt t stops) [
             | inl before ↦ on_left t (omega (arith, on.0)) before
-                (let past = end_past n t (omega (arith, on.0)) before (λ q lo hi. here q lo (λ less. on.1 q less hi))
+                (let past = end_past n t (omega (arith, on.0)) before
+                (λ q lo hi. here q lo (λ less. on.1 q less hi))
                 in omega arith)
             | inr past ↦ stop_left t past
           ]
@@ -317,7 +337,15 @@ module _ (items : List Item) (words : List ℕ) (placed : Placed items words) (b
     past_left le top =
         let from = rise stops n le (omega (arith, top)) in
         let end = rise (suc n) (length items) (omega (arith, top)) (omega arith) in
-        omega (arith, left_past n le, left_past (suc n) (omega arith), few, from, end, placed.rises.last)
+        omega (
+          arith,
+          left_past n le,
+          left_past (suc n) (omega arith),
+          few,
+          from,
+          end,
+          placed.rises.last,
+        )
 
   -- ---- one item, and then the rest
 
@@ -325,21 +353,24 @@ module _ (items : List Item) (words : List ℕ) (placed : Placed items words) (b
   Home input p calls = (n : ℕ) → ReturnsHome lay items n input p calls
 
   -- the words of a procedure are those from its label on to its end
-  module _ (weight : ℕ → ℕ) (weighs : (n l : ℕ) → slice_get items n ≡ Some (Label l) → is_one_of begins l ≡ true
+  module _ (weight : ℕ → ℕ)
+      (weighs : (n l : ℕ) → slice_get items n ≡ Some (Label l) → is_one_of begins l ≡ true
       → left_in (suc n) ≤ 4 * sum_of (map weight (procedure_from 0 begins l))) where
     -- the words of the procedures that are passed
     abbrev pub passed_words : (labels : List ℕ) → ℕ
     passed_words labels = sum_of (map weight (procedures_at begins labels))
 
     passed_more : (o : Option Item) (c : Course)
-        → passed_words (after [] (label_of o) c).passed ≡ passed_words (label_of o) + passed_words c.passed
+        → passed_words (after [] (label_of o) c).passed ≡ passed_words (label_of o) + passed_words
+        c.passed
     passed_more o c =
         ap (λ ps. sum_of (map weight ps)) (joined begins (label_of o) c.passed)
         ∙ sums weight (procedures_at begins (label_of o)) (procedures_at begins c.passed)
 
     pub record PacedAt (n : ℕ) (input : List ℕ) (p : Point) (calls : List ℕ) : Type 0 where
       pub count : ℕ
-      pub few : 4 * count ≤ (left_at p.item + left_behind calls) + 4 * passed_words (course lay items n input p).passed
+      pub few : 4 * count ≤ (left_at p.item + left_behind calls) + 4 * passed_words
+          (course lay items n input p).passed
       pub same : Same (run count input (state_at lay items p)) (course lay items n input p)
 
     -- ---- what is left behind an item
@@ -352,7 +383,8 @@ module _ (items : List Item) (words : List ℕ) (placed : Placed items words) (b
           (left_at from + left_behind calls) + 4 * passed_words (label_of (slice_get items from))
 
     -- a plain item that is no return goes to the item behind it
-    plain_next : (p q : Point) (outcome : Outcome) → behind_plain lay items p outcome ≡ Next q → q.item ≡ suc p.item
+    plain_next : (p q : Point) (outcome : Outcome) → behind_plain lay items p outcome ≡ Next q
+        → q.item ≡ suc p.item
     plain_next p q (Next' s) h = let same : behind p.item s ≡ q = cc in ap (λ r. r.item) (sym same)
     plain_next p q (Written' a len bytes s) h = cc
     plain_next p q (Asked' a) h = cc
@@ -367,7 +399,8 @@ module _ (items : List Item) (words : List ℕ) (placed : Placed items words) (b
       no_begin : is_instruction (Some i) ≡ true → begins_at p.item ≡ false
       no_begin is = ap (begins_procedure begins) e ∙ go i is
         where
-          go : (i : Item) → is_instruction (Some i) ≡ true → begins_procedure begins (Some i) ≡ false
+          go : (i : Item) → is_instruction (Some i) ≡ true
+              → begins_procedure begins (Some i) ≡ false
           go (Label l) is = absurd (true≢false (sym is))
           go (Plain x) is = refl
           go (Branch c a b l) is = refl
@@ -389,7 +422,8 @@ module _ (items : List Item) (words : List ℕ) (placed : Placed items words) (b
       ]
         where
           by_begin : (b : Bool) → begins_at p.item ≡ b → p.item < stops
-              → 4 * k + left_at (suc p.item) ≤ left_at p.item + 4 * passed_words (label_of (slice_get items p.item))
+              → 4 * k + left_at (suc p.item) ≤ left_at p.item + 4 * passed_words
+              (label_of (slice_get items p.item))
           by_begin false b lt = omega (arith, next_left p.item k few lt b)
           by_begin true b lt =
               let l = begin_item items words placed begins stand flows (slice_get items p.item) b in
@@ -397,30 +431,40 @@ module _ (items : List Item) (words : List ℕ) (placed : Placed items words) (b
               let stays = placed.rises.labels p.item l.0 l.1.0 in
               let due : passed_words (label_of (slice_get items p.item)) ≡ sum_of
               (map weight (procedure_from 0 begins l.0)) + 0 =
-              ap (λ o. passed_words (label_of o)) l.1.0 ∙ sums weight (procedure_from 0 begins l.0) [] in
+              ap (λ o. passed_words (label_of o)) l.1.0 ∙ sums weight (procedure_from 0 begins l.0)
+              [] in
               omega (arith, w, stays, due, few, left_before p.item lt, left_most (suc p.item))
 
-      module _ (q : Point) (way : returns (Some i) ≡ false → Way items words placed begins stand flows i p.item q.item)
+      module _ (q : Point)
+          (way : returns (Some i) ≡ false → Way items words placed begins stand flows i p.item
+          q.item)
           (next : is_instruction (Some i) ≡ false → q.item ≡ suc p.item)
           (stop_next : IsStopItem i → q.item ≡ suc p.item) where
         -- a step that goes on
-        on_by : returns (Some i) ≡ false → 4 * k + left_at q.item ≤ left_at p.item + 4 * passed_words
+        on_by : returns (Some i) ≡ false → 4 * k + left_at q.item ≤ left_at p.item + 4 *
+            passed_words
             (label_of (slice_get items p.item))
         on_by r = elim (cases_lt p.item stops) [
           | inr ge ↦ subst (λ t. 4 * k + left_at t ≤ left_at p.item + 4 * passed_words
-              (label_of (slice_get items p.item))) (sym (stop_next (flows.all_stop p.item i ge e))) item_left
+              (label_of (slice_get items p.item))) (sym (stop_next (flows.all_stop p.item i ge e)))
+              item_left
           | inl lt ↦ by_instruction (is_instruction (Some i)) refl lt
         ]
           where
             by_instruction : (b : Bool) → is_instruction (Some i) ≡ b → p.item < stops
-                → 4 * k + left_at q.item ≤ left_at p.item + 4 * passed_words (label_of (slice_get items p.item))
+                → 4 * k + left_at q.item ≤ left_at p.item + 4 * passed_words
+                (label_of (slice_get items p.item))
             by_instruction false b lt = subst
-                (λ t. 4 * k + left_at t ≤ left_at p.item + 4 * passed_words (label_of (slice_get items p.item)))
+                (λ t. 4 * k + left_at t ≤ left_at p.item + 4 * passed_words
+                (label_of (slice_get items p.item)))
                 (sym (next b)) item_left
-            by_instruction true b lt = omega (arith, way_left p.item k few lt (no_begin b) i q.item (way r))
+            by_instruction true b lt = omega
+                (arith, way_left p.item k few lt (no_begin b) i q.item (way r))
 
-        pub by_kind : (closes opens : Bool) → returns (Some i) ≡ closes → is_call (Some i) ≡ opens → (calls : List ℕ)
-            → ((n : ℕ) → home_by lay items (λ q c. ReturnsHome lay items n input q c) p.item calls opens closes q)
+        pub by_kind : (closes opens : Bool) → returns (Some i) ≡ closes → is_call (Some i) ≡ opens
+            → (calls : List ℕ)
+            → ((n : ℕ) → home_by lay items (λ q c. ReturnsHome lay items n input q c) p.item calls
+            opens closes q)
             → Behind input p.item k calls q
         by_kind false false r c calls h =
             record { open_calls = calls; home = h; less = omega (arith, on_by r) }
@@ -439,7 +483,8 @@ module _ (items : List Item) (words : List ℕ) (placed : Placed items words) (b
             let before = before_stops (no_stop_return i r) in
             let none = no_begin (return_is i r) in
             let there = (h 0).0 in
-            let at : left_at q.item ≤ left_in x + tail = subst (λ y. left_at q.item ≤ left_in y + tail) there
+            let at : left_at q.item ≤ left_in x + tail
+            = subst (λ y. left_at q.item ≤ left_in y + tail) there
             (left_most q.item) in
             record {
               open_calls = calls;
@@ -449,18 +494,21 @@ module _ (items : List Item) (words : List ℕ) (placed : Placed items words) (b
             }
         by_kind true true r c calls h = absurd (not_both i r c)
 
-    abbrev course_by : (n : ℕ) (input : List ℕ) (p : Point) (o : Option Item) (t : Turn) → slice_get items p.item ≡ o
+    abbrev course_by : (n : ℕ) (input : List ℕ) (p : Point) (o : Option Item) (t : Turn)
+        → slice_get items p.item ≡ o
         → turn lay items p ≡ t → course lay items (suc n) input p ≡ after [] (label_of o)
         (onward lay items (course lay items n) input p t)
     course_by = course_is items words placed begins stand flows.instruction_behind
 
     -- one item more: its steps, and those of the rest
     one_more : (p : Point) (calls : List ℕ) (k m left : ℕ) (c : Course)
-        → (4 * k + left) ≤ (left_at p.item + left_behind calls) + 4 * passed_words (label_of (slice_get items p.item))
+        → (4 * k + left) ≤ (left_at p.item + left_behind calls) + 4 * passed_words
+        (label_of (slice_get items p.item))
         → 4 * m ≤ left + 4 * passed_words c.passed
         → 4 * (k + m) ≤ (left_at p.item + left_behind calls) + 4 * passed_words
         (after [] (label_of (slice_get items p.item)) c).passed
-    one_more p calls k m left c here rest = omega (arith, here, rest, passed_more (slice_get items p.item) c)
+    one_more p calls k m left c here rest = omega
+        (arith, here, rest, passed_more (slice_get items p.item) c)
 
     by_steps : (n : ℕ) (input : List ℕ) (p : Point) (calls : List ℕ) (m : ℕ) (r : Run) (c : Course)
         → 4 * m ≤ (left_at p.item + left_behind calls) + 4 * passed_words
@@ -470,8 +518,10 @@ module _ (items : List Item) (words : List ℕ) (placed : Placed items words) (b
         → Same r (after [] (label_of (slice_get items p.item)) c) → PacedAt (suc n) input p calls
     by_steps n input p calls m r c few er ec h = record {
       count = m;
-      few = subst (λ v. 4 * m ≤ (left_at p.item + left_behind calls) + 4 * passed_words v.passed) (sym ec) few;
-      same = subst (λ v. Same v (course lay items (suc n) input p)) (sym er) (subst (λ v. Same r v) (sym ec) h);
+      few = subst (λ v. 4 * m ≤ (left_at p.item + left_behind calls) + 4 * passed_words v.passed)
+          (sym ec) few;
+      same = subst (λ v. Same v (course lay items (suc n) input p)) (sym er)
+          (subst (λ v. Same r v) (sym ec) h);
     }
 
     abbrev Paced : ℕ → Type 0
@@ -482,12 +532,14 @@ module _ (items : List Item) (words : List ℕ) (placed : Placed items words) (b
         → WayTurn items words placed begins stand flows i p (turn_of lay items p (Some i))
     any_way p (Label l) e = λ other. (inl refl, λ call. absurd (true≢false (sym call)))
     any_way p (Plain x) e = turn_way items words placed begins stand flows p (Plain x) e refl
-    any_way p (Branch c a b l) e = turn_way items words placed begins stand flows p (Branch c a b l) e refl
+    any_way p (Branch c a b l) e = turn_way items words placed begins stand flows p (Branch c a b l)
+        e refl
     any_way p (Jump k l) e = turn_way items words placed begins stand flows p (Jump k l) e refl
 
     pub stop_way : (p q : Point) (i : Item) → turn_of lay items p (Some i) ≡ Next q → IsStopItem i
         → q.item ≡ suc p.item
-    stop_way p q (Label l) t is = let same : record { regs = p.regs; item = suc p.item; memory = p.memory } ≡ q = cc
+    stop_way p q (Label l) t is = let same : record
+        { regs = p.regs; item = suc p.item; memory = p.memory } ≡ q = cc
         in ap (λ r. r.item) (sym same)
     stop_way p q (Plain x) t is =
         plain_next p q (act (state_at lay items p) x)
@@ -497,56 +549,76 @@ module _ (items : List Item) (words : List ℕ) (placed : Placed items words) (b
     stop_way p q (Branch c a b l) t is = absurd is
     stop_way p q (Jump k l) t is = absurd is
 
-    pub label_way : (p q : Point) (i : Item) → turn_of lay items p (Some i) ≡ Next q → is_instruction (Some i) ≡ false
+    pub label_way : (p q : Point) (i : Item) → turn_of lay items p (Some i) ≡ Next q
+        → is_instruction (Some i) ≡ false
         → q.item ≡ suc p.item
-    label_way p q (Label l) t is = let same : record { regs = p.regs; item = suc p.item; memory = p.memory } ≡ q = cc
+    label_way p q (Label l) t is = let same : record
+        { regs = p.regs; item = suc p.item; memory = p.memory } ≡ q = cc
         in ap (λ r. r.item) (sym same)
     label_way p q (Plain x) t is = absurd (true≢false is)
     label_way p q (Branch c a b l) t is = absurd (true≢false is)
     label_way p q (Jump k l) t is = absurd (true≢false is)
 
     -- the steps of an item are no more than its words
-    pub some_words : (n : ℕ) (i : Item) → slice_get items n ≡ Some i → (k : ℕ) → k ≤ size i → k ≤ 1 → Within n k
+    pub some_words : (n : ℕ) (i : Item) → slice_get items n ≡ Some i → (k : ℕ) → k ≤ size i → k ≤ 1
+        → Within n k
     some_words n (Label l) e k most one = omega (arith, most, placed.rises.labels n l e)
-    some_words n (Plain x) e k most one = omega (arith, one, placed.rises.rises n (ap is_instruction e))
-    some_words n (Branch c a b l) e k most one = omega (arith, one, placed.rises.rises n (ap is_instruction e))
-    some_words n (Jump j l) e k most one = omega (arith, one, placed.rises.rises n (ap is_instruction e))
+    some_words n (Plain x) e k most one = omega
+        (arith, one, placed.rises.rises n (ap is_instruction e))
+    some_words n (Branch c a b l) e k most one = omega
+        (arith, one, placed.rises.rises n (ap is_instruction e))
+    some_words n (Jump j l) e k most one = omega
+        (arith, one, placed.rises.rises n (ap is_instruction e))
 
-    pub next_words : (p q : Point) (i : Item) → slice_get items p.item ≡ Some i → (k : ℕ) → k ≤ size i
-        → StepsAtRisingPcs i k (lay.address (suc p.item)) (state_at lay items p) (state_at lay items q)
+    pub next_words : (p q : Point) (i : Item) → slice_get items p.item ≡ Some i → (k : ℕ)
+        → k ≤ size i
+        → StepsAtRisingPcs i k (lay.address (suc p.item)) (state_at lay items p)
+        (state_at lay items q)
         → Within p.item k
     next_words p q i e zero most d = some_words p.item i e 0 most (omega arith)
-    next_words p q i e (suc k) most d = (climbs_words i (lay.address (suc p.item)) (state_at lay items q)
+    next_words p q i e (suc k) most d =
+        (climbs_words i (lay.address (suc p.item)) (state_at lay items q)
         (placed.rises.fours (suc p.item)) k (state_at lay items p) d).1
 
-    pub paced : (n : ℕ) (input : List ℕ) (p : Point) (calls : List ℕ) → HasCode lay p → Home input p calls
+    pub paced : (n : ℕ) (input : List ℕ) (p : Point) (calls : List ℕ) → HasCode lay p
+        → Home input p calls
         → PacedAt n input p calls
     paced zero input p calls code home = record {
       count = 0;
       few = omega arith;
-      same = subst (λ r. Same r (course lay items 0 input p)) (sym (run_none input (state_at lay items p)))
-          (subst (λ c. Same (stands' input (Going' (state_at lay items p))) c) (sym (course_none lay items input p))
+      same = subst (λ r. Same r (course lay items 0 input p))
+          (sym (run_none input (state_at lay items p)))
+          (subst (λ c. Same (stands' input (Going' (state_at lay items p))) c)
+          (sym (course_none lay items input p))
           (record { out = refl; left = refl; finish = refl }));
     }
-    paced (suc n) input p calls code home = by_item (slice_get items p.item) refl (λ i q c h k. paced n i q c h k)
+    paced (suc n) input p calls code home = by_item (slice_get items p.item) refl
+        (λ i q c h k. paced n i q c h k)
       where
-        by_turn : Paced n → (i : Item) → slice_get items p.item ≡ Some i → (t : Turn) → turn lay items p ≡ t
+        by_turn : Paced n → (i : Item) → slice_get items p.item ≡ Some i → (t : Turn)
+            → turn lay items p ≡ t
             → GoodTurn items lay placed.rises [] (none_behind items words placed) p t
             → WayTurn items words placed begins stand flows i p t → (k : ℕ) → k ≤ size i
             → Does lay items p.item i k (state_at lay items p) t → PacedAt (suc n) input p calls
         by_turn rest i e (Next q) t g way k few d =
             let is = sym (turn_is lay items p (Some i) e) ∙ t in
-            let there : (m : ℕ) → home_by lay items (λ q c. ReturnsHome lay items m input q c) p.item calls
+            let there : (m : ℕ) → home_by lay items (λ q c. ReturnsHome lay items m input q c)
+            p.item calls
             (is_call (Some i)) (returns (Some i)) q =
-            λ m. subst (λ o. home_by lay items (λ q c. ReturnsHome lay items m input q c) p.item calls (is_call o)
+            λ m. subst
+            (λ o. home_by lay items (λ q c. ReturnsHome lay items m input q c) p.item calls
+            (is_call o)
             (returns o) q) e (home_step lay items m input p calls (Next q) t (home (suc m))) in
-            let b = by_kind input p i e k (next_words p q i e k few d) q way (label_way p q i is) (stop_way p q i is)
+            let b = by_kind input p i e k (next_words p q i e k few d) q way (label_way p q i is)
+            (stop_way p q i is)
             (returns (Some i)) (is_call (Some i)) refl refl calls there in
             let h = rest input q b.open_calls g.code b.home in
             let c = course lay items n input q in
             by_steps n input p calls (k + h.count) (run h.count input (state_at lay items q)) c
-            (one_more p calls k h.count (left_at q.item + left_behind b.open_calls) c (omega (arith, b.less)) h.few)
-            (climbs_run i (lay.address (suc p.item)) (state_at lay items q) k (state_at lay items p) d h.count input)
+            (one_more p calls k h.count (left_at q.item + left_behind b.open_calls) c
+            (omega (arith, b.less)) h.few)
+            (climbs_run i (lay.address (suc p.item)) (state_at lay items q) k (state_at lay items p)
+            d h.count input)
             (course_by n input p (slice_get items p.item) (Next q) refl t)
             (record { out = h.same.out; left = h.same.left; finish = h.same.finish })
         by_turn rest i e (Written a len bytes q) t g way k few d =
@@ -556,7 +628,8 @@ module _ (items : List Item) (words : List ℕ) (placed : Placed items words) (b
             let less = subst (λ x. 4 * k + left_at x ≤ left_at p.item + 4 * passed_words
             (label_of (slice_get items p.item))) (sym way)
             (item_left input p i e k (some_words p.item i e k few (omega (arith, d.0)))) in
-            by_steps n input p calls (suc h.count) (after' bytes (run h.count input (state_at lay items q))) c
+            by_steps n input p calls (suc h.count)
+            (after' bytes (run h.count input (state_at lay items q))) c
             (omega (
               arith,
               one_more p calls k h.count (left_at q.item + left_behind calls) c
@@ -566,7 +639,12 @@ module _ (items : List Item) (words : List ℕ) (placed : Placed items words) (b
             (run_more h.count input (state_at lay items p)
             ∙ ap (onward' (run h.count) input (state_at lay items p)) d.1)
             (course_by n input p (slice_get items p.item) (Written a len bytes q) refl t)
-            (record { out = ap (λ o. bytes ++ o) h.same.out; left = h.same.left; finish = h.same.finish })
+            (record {
+              out = ap (λ o. bytes ++ o) h.same.out;
+              left = h.same.left;
+              finish
+                  = h.same.finish;
+            })
         by_turn rest i e (Asked a) t g way k few d =
             let byte = slice_get input 0 in
             let left = drop 1 input in
@@ -583,7 +661,8 @@ module _ (items : List Item) (words : List ℕ) (placed : Placed items words) (b
               d.0,
             ))
             (run_more h.count input (state_at lay items p)
-            ∙ ap (onward' (run h.count) input (state_at lay items p)) d.1 ∙ ap (run h.count left) (sym (g byte).1))
+            ∙ ap (onward' (run h.count) input (state_at lay items p)) d.1 ∙ ap (run h.count left)
+            (sym (g byte).1))
             (course_by n input p (slice_get items p.item) (Asked a) refl t)
             (record { out = h.same.out; left = h.same.left; finish = h.same.finish })
         by_turn rest i e (Ended code) t g way k few d =
@@ -591,18 +670,22 @@ module _ (items : List Item) (words : List ℕ) (placed : Placed items words) (b
             let less = item_left input p i e k (some_words p.item i e k few (omega (arith, d.0))) in
             by_steps n input p calls 1 (stands' input (Exited' code (state_at lay items p))) c
             (omega (arith, one_more p calls k 0 0 c (omega (arith, less)) (omega arith), d.0))
-            (run_more 0 input (state_at lay items p) ∙ ap (onward' (run 0) input (state_at lay items p)) d.1)
+            (run_more 0 input (state_at lay items p) ∙ ap
+            (onward' (run 0) input (state_at lay items p)) d.1)
             (course_by n input p (slice_get items p.item) (Ended code) refl t)
             (record { out = refl; left = refl; finish = refl })
         by_turn rest i e (Trapped kind) t g way k few d = absurd
             (home_step lay items 0 input p calls (Trapped kind) t (home 1))
 
-        by_item : (o : Option Item) → slice_get items p.item ≡ o → Paced n → PacedAt (suc n) input p calls
-        by_item None e rest = absurd (home_step lay items 0 input p calls _ (turn_is lay items p None e) (home 1))
+        by_item : (o : Option Item) → slice_get items p.item ≡ o → Paced n
+            → PacedAt (suc n) input p calls
+        by_item None e rest = absurd
+            (home_step lay items 0 input p calls _ (turn_is lay items p None e) (home 1))
         by_item (Some i) e rest =
             let d = placed.does p i code.0 code.1 e in
             let few = steps_size (state_at lay items p) i in
             let most = d.1.0 in
             let way = subst (λ t. WayTurn items words placed begins stand flows i p t)
             (sym (turn_is lay items p (Some i) e)) (any_way p i e) in
-            by_turn rest i e (turn lay items p) refl (turns items words placed p i e code) way d.0 (omega arith) d.1.1
+            by_turn rest i e (turn lay items p) refl (turns items words placed p i e code) way d.0
+            (omega arith) d.1.1

@@ -22,13 +22,16 @@ use Rattle.grin_meaning.proofs.Related.{CallsFollow, Setting, ActFollows, CodeFo
 abbrev pub Agree : (ℕ → Type 0) → Env → Env → Type 0
 Agree Ok env env' = (x : ℕ) → Ok x → env' x ≡ env x
 
-vars_agree_one : (y : ℕ) (b : Binding) (env env' : Env) (t : Bool) → env' y ≡ env y → cond t (Some b.1) (env' y) ≡ cond t (Some b.1) (env y)
+vars_agree_one : (y : ℕ) (b : Binding) (env env' : Env) (t : Bool) → env' y ≡ env y
+    → cond t (Some b.1) (env' y) ≡ cond t (Some b.1) (env y)
 vars_agree_one y b env env' true h = refl
 vars_agree_one y b env env' false h = h
 
-pub vars_agree : (Ok : ℕ → Type 0) (bs : List Binding) (env env' : Env) → Agree Ok env env' → Agree Ok (with_vars bs env) (with_vars bs env')
+pub vars_agree : (Ok : ℕ → Type 0) (bs : List Binding) (env env' : Env) → Agree Ok env env'
+    → Agree Ok (with_vars bs env) (with_vars bs env')
 vars_agree Ok [] env env' h = h
-vars_agree Ok (b ∷ bs) env env' h = vars_agree Ok bs _ _ (λ y k. vars_agree_one y b env env' (nat_eq y b.0) (h y k))
+vars_agree Ok (b ∷ bs) env env' h = vars_agree Ok bs _ _
+    (λ y k. vars_agree_one y b env env' (nat_eq y b.0) (h y k))
 
 module _ (g : Program) (Ok : ℕ → Type 0) (env env' : Env) (agree : Agree Ok env env') where
   pub word_same : (a : Word) → WordOk Ok a → word_of g env' a ≡ word_of g env a
@@ -39,11 +42,13 @@ module _ (g : Program) (Ok : ℕ → Type 0) (env env' : Env) (agree : Agree Ok 
 
   pub words_same : (ws : List Word) → WordsOk Ok ws → words_of g env' ws ≡ words_of g env ws
   words_same [] h = refl
-  words_same (a ∷ ws) h = λ i. and_then (word_same a h.0 i) (λ b. and_then (words_same ws h.1 i) (λ bs. Some (b ∷ bs)))
+  words_same (a ∷ ws) h = λ i. and_then (word_same a h.0 i)
+      (λ b. and_then (words_same ws h.1 i) (λ bs. Some (b ∷ bs)))
 
   pub value_same : (v : Val) → ValOk Ok v → value_of g env' v ≡ value_of g env v
   value_same (NodeVar x) h = agree x.0 h
-  value_same (Node' t ws) h = λ i. and_then (words_same ws h i) (λ ds. and_then (made_node g t.0 ds) (λ n. Some (node n)))
+  value_same (Node' t ws) h = λ i. and_then (words_same ws h i)
+      (λ ds. and_then (made_node g t.0 ds) (λ n. Some (node n)))
   value_same (Vector ws) h = λ i. and_then (words_same ws h i) (λ ds. Some (words ds))
   value_same (One a) h = λ i. and_then (word_same a h i) (λ d. Some (words (d ∷ [])))
 
@@ -52,7 +57,9 @@ module _ (g : Program) (Ok : ℕ → Type 0) (env env' : Env) (agree : Agree Ok 
 
   pub cells_same : (cs : List Cell) → CellsOk Ok cs → cells_of g env' cs ≡ cells_of g env cs
   cells_same [] h = refl
-  cells_same (c ∷ cs) h = λ i. and_then (and_then (node_same c.val h.0 i) (λ n. Some (record { site = c.site.0; node = n }))) (λ b. and_then (cells_same cs h.1 i) (λ bs. Some (b ∷ bs)))
+  cells_same (c ∷ cs) h = λ i. and_then
+      (and_then (node_same c.val h.0 i) (λ n. Some (record { site = c.site.0; node = n })))
+      (λ b. and_then (cells_same cs h.1 i) (λ bs. Some (b ∷ bs)))
 
 abbrev pub same_args : ℕ → List Datum → List Datum → Type 0
 same_args f = Same
@@ -73,29 +80,49 @@ pub record Plain : Type 1 where
   pub follow : CallsFollow P K same_args same_result c c'
 
 abbrev pub setting : Plain → Setting
-setting s = record { P = s.P; K = s.K; Args = same_args; Result = same_result; g = s.g; procs = s.procs; c = s.c; c' = s.c'; back = s.back; follow = s.follow }
+setting s = record {
+  P = s.P;
+  K = s.K;
+  Args = same_args;
+  Result = same_result;
+  g = s.g;
+  procs = s.procs;
+  c
+      = s.c;
+  c' = s.c';
+  back = s.back;
+  follow = s.follow;
+}
 
 module _ (P : State → Type 0) (K : DepthComparison) where
   abbrev pub Sim : Answer → Answer → Type 0
   Sim = related.Sim P K Same
 
-  pub need_sim : {A : Type 0} (o : Option A) (w w' : World) (k k' : A → Answer) → ((a : A) → Sim (k a) (k' a)) → Sim (need o w k) (need o w' k')
+  pub need_sim : {A : Type 0} (o : Option A) (w w' : World) (k k' : A → Answer)
+      → ((a : A) → Sim (k a) (k' a)) → Sim (need o w k) (need o w' k')
   need_sim = related.need_sim P K Same
 
-  pub cond_sim : (b : Bool) (x y x' y' : Answer) → Sim x x' → Sim y y' → Sim (cond b x y) (cond b x' y')
+  pub cond_sim : (b : Bool) (x y x' y' : Answer) → Sim x x' → Sim y y'
+      → Sim (cond b x y) (cond b x' y')
   cond_sim = related.cond_sim P K Same
 
-  pub choose_sim : (f : MatchOutcome) (w w' : World) (k k' : List Binding → Answer) (x x' : Answer) → ((bs : List Binding) → Sim (k bs) (k' bs)) → Sim x x' → Sim (choose f w k x) (choose f w' k' x')
+  pub choose_sim : (f : MatchOutcome) (w w' : World) (k k' : List Binding → Answer) (x x' : Answer)
+      → ((bs : List Binding) → Sim (k bs) (k' bs)) → Sim x x'
+      → Sim (choose f w k x) (choose f w' k' x')
   choose_sim (fits bs) w w' k k' x x' h hx = h bs
   choose_sim fits_not w w' k k' x x' h hx = hx
   choose_sim unclear w w' k k' x x' h hx = λ _. free
 
-  as_same : {v v' : Value} (k k' : Value → World → Answer) (w : World) (ss : List State) (e : ℕ) → Same v v' → Sim (k v w) (k' v (other w ss e)) → Sim (k v w) (k' v' (other w ss e))
+  as_same : {v v' : Value} (k k' : Value → World → Answer) (w : World) (ss : List State) (e : ℕ)
+      → Same v v' → Sim (k v w) (k' v (other w ss e)) → Sim (k v w) (k' v' (other w ss e))
   as_same k k' w ss e same h = h
 
-  pub then_sim : (a a' : Answer) (k k' : Value → World → Answer) → ((v : Value) (w : World) → Back P w (k v w)) → Sim a a'
-      → ((v : Value) (w : World) (ss : List State) (e : ℕ) → K.Deep e w.depth → Sim (k v w) (k' v (other w ss e))) → Sim (then_do a k) (then_do a' k')
-  then_sim a a' k k' b s h = related.then_sim P K Same Same a a' k k' b s (λ v v' w ss e u de. as_same k k' w ss e u (h v w ss e de))
+  pub then_sim : (a a' : Answer) (k k' : Value → World → Answer)
+      → ((v : Value) (w : World) → Back P w (k v w)) → Sim a a'
+      → ((v : Value) (w : World) (ss : List State) (e : ℕ) → K.Deep e w.depth
+      → Sim (k v w) (k' v (other w ss e))) → Sim (then_do a k) (then_do a' k')
+  then_sim a a' k k' b s h = related.then_sim P K Same Same a a' k k' b s
+      (λ v v' w ss e u de. as_same k k' w ss e u (h v w ss e de))
 
 module _ (s : Plain) where
   open s use {P, K, Ok, g, procs, c, c', back as cb, follow as cf}
@@ -112,57 +139,79 @@ module _ (s : Plain) where
   abbrev pub ArmsLike : Arms → Arms → Type 0
   ArmsLike = ArmsFollow (setting s) (Agree Ok) Same Same
 
-  pub enter : (b b' : Code) → CodeLike b b' → (env env' : Env) (d d' : ℕ) (w : World) (ss : List State) (e : ℕ) → Agree Ok env env' → K.Deep d' d → K.Deep e w.depth
-      → Sim P K (code g c env d b (with_state_seen env w)) (code after c' env' d' b' (with_state_seen env' (other w ss e)))
+  pub enter : (b b' : Code) → CodeLike b b' → (env env' : Env) (d d' : ℕ) (w : World)
+      (ss : List State) (e : ℕ) → Agree Ok env env' → K.Deep d' d → K.Deep e w.depth
+      → Sim P K (code g c env d b (with_state_seen env w))
+      (code after c' env' d' b' (with_state_seen env' (other w ss e)))
   enter b b' f = related.enter (setting s) (Agree Ok) Same b b' f
 
   pub unit_follows : (v : Val) → ValOk Ok v → ActLike (leaf (unit v)) (leaf (unit v))
   unfolding act
-  unit_follows v h = record { by = λ env env' d d' w ss e ag dd de at. rw (value_same g Ok env env' ag v h) (need_sim P K (value_of g env v) w (other w ss e) _ _ (λ x _. gives_too ss e same de)) }
+  unit_follows v h = record {
+    by = λ env env' d d' w ss e ag dd de at. rw (value_same g Ok env env' ag v h)
+        (need_sim P K (value_of g env v) w (other w ss e) _ _ (λ x _. gives_too ss e same de));
+  }
 
   pub fetch_follows : (a : Word) → WordOk Ok a → ActLike (leaf (fetch a)) (leaf (fetch a))
   unfolding act
   fetch_follows a h = record {
     by = λ env env' d d' w ss e ag dd de at. rw (word_same g Ok env env' ag a h)
-        (need_sim P K (and_then (word_of g env a) place_of) w (other w ss e) _ _ (λ i. need_sim P K (slice_get w.cells i) w (other w ss e) _ _ (λ x _. gives_too ss e same de)));
+        (need_sim P K (and_then (word_of g env a) place_of) w (other w ss e) _ _
+        (λ i. need_sim P K (slice_get w.cells i) w (other w ss e) _ _
+        (λ x _. gives_too ss e same de)));
   }
 
-  pub fetch_word_follows : (a : Word) (k : ℕ) → WordOk Ok a → ActLike (leaf (fetch_word a k)) (leaf (fetch_word a k))
+  pub fetch_word_follows : (a : Word) (k : ℕ) → WordOk Ok a
+      → ActLike (leaf (fetch_word a k)) (leaf (fetch_word a k))
   unfolding act
   fetch_word_follows a k h = record {
     by = λ env env' d d' w ss e ag dd de at. rw (word_same g Ok env env' ag a h)
-        (need_sim P K (and_then (word_of g env a) place_of) w (other w ss e) _ _ (λ i. need_sim P K (slice_get w.cells i) w (other w ss e) _ _ (λ x _. gives_too ss e same de)));
+        (need_sim P K (and_then (word_of g env a) place_of) w (other w ss e) _ _
+        (λ i. need_sim P K (slice_get w.cells i) w (other w ss e) _ _
+        (λ x _. gives_too ss e same de)));
   }
 
-  pub update_follows : (a : Word) (v : Val) → WordOk Ok a → ValOk Ok v → ActLike (leaf (update a v)) (leaf (update a v))
+  pub update_follows : (a : Word) (v : Val) → WordOk Ok a → ValOk Ok v
+      → ActLike (leaf (update a v)) (leaf (update a v))
   unfolding act
   update_follows a v h k = record {
-    by = λ env env' d d' w ss e ag dd de at. rw (word_same g Ok env env' ag a h, node_same g Ok env env' ag v k)
-        (need_sim P K (and_then (word_of g env a) place_of) w (other w ss e) _ _ (λ i. need_sim P K (slice_get w.cells i) w (other w ss e) _ _ (λ x.
+    by = λ env env' d d' w ss e ag dd de at.
+        rw (word_same g Ok env env' ag a h, node_same g Ok env env' ag v k)
+        (need_sim P K (and_then (word_of g env a) place_of) w (other w ss e) _ _
+        (λ i. need_sim P K (slice_get w.cells i) w (other w ss e) _ _ (λ x.
         need_sim P K (node_of g env v) w (other w ss e) _ _ (λ n _. gives_too ss e same de))));
   }
 
-  updated_sim : (a : ℕ) (v : Value) (w : World) (ss : List State) (e : ℕ) → K.Deep e w.depth → Sim P K (updated g c a v w) (updated after c' a v (other w ss e))
-  updated_sim a v w ss e de = need_sim P K (as_node g v) w (other w ss e) _ _ (λ n. need_sim P K (slice_get w.cells a) w (other w ss e) _ _ (λ x.
+  updated_sim : (a : ℕ) (v : Value) (w : World) (ss : List State) (e : ℕ) → K.Deep e w.depth
+      → Sim P K (updated g c a v w) (updated after c' a v (other w ss e))
+  updated_sim a v w ss e de = need_sim P K (as_node g v) w (other w ss e) _ _
+      (λ n. need_sim P K (slice_get w.cells a) w (other w ss e) _ _ (λ x.
       cond_sim P K (is_evaluated g n) _ _ _ _ (λ _. gives_too ss e same de) (λ _. free)))
 
-  pub call_follows : (f : ProcId) (ws : List Word) → WordsOk Ok ws → ActLike (leaf (call f ws)) (leaf (call f ws))
+  pub call_follows : (f : ProcId) (ws : List Word) → WordsOk Ok ws
+      → ActLike (leaf (call f ws)) (leaf (call f ws))
   unfolding act
   call_follows f ws h = record {
     by = λ env env' d d' w ss e ag dd de at. rw (words_same g Ok env env' ag ws h)
-        (need_sim P K (words_of g env ws) w (other w ss e) _ _ (λ xs. cf.by f.0 xs xs d d' w ss e same dd de));
+        (need_sim P K (words_of g env ws) w (other w ss e) _ _
+        (λ xs. cf.by f.0 xs xs d d' w ss e same dd de));
   }
 
-  pub prim_follows : (f : PrimOp) (a b : Word) → WordOk Ok a → WordOk Ok b → ActLike (leaf (prim f a b)) (leaf (prim f a b))
+  pub prim_follows : (f : PrimOp) (a b : Word) → WordOk Ok a → WordOk Ok b
+      → ActLike (leaf (prim f a b)) (leaf (prim f a b))
   unfolding act
   prim_follows f a b h k = record {
-    by = λ env env' d d' w ss e ag dd de at. rw (word_same g Ok env env' ag a h, word_same g Ok env env' ag b k)
-        (need_sim P K (word_of g env a) w (other w ss e) _ _ (λ x. need_sim P K (word_of g env b) w (other w ss e) _ _ (λ y.
-        need_sim P K (apply_arithmetic f x y) w (other w ss e) _ _ (λ v _. gives_too ss e same de))));
+    by = λ env env' d d' w ss e ag dd de at.
+        rw (word_same g Ok env env' ag a h, word_same g Ok env env' ag b k)
+        (need_sim P K (word_of g env a) w (other w ss e) _ _
+        (λ x. need_sim P K (word_of g env b) w (other w ss e) _ _ (λ y.
+        need_sim P K (apply_arithmetic f x y) w (other w ss e) _ _
+        (λ v _. gives_too ss e same de))));
   }
 
   read_sim : (i : List ℕ) (w : World) (ss : List State) (e : ℕ) → K.Deep e w.depth
-      → Sim P K (gives (words (number (byte_or_end i) ∷ [])) (after_read i w)) (gives (words (number (byte_or_end i) ∷ [])) (after_read i (other w ss e)))
+      → Sim P K (gives (words (number (byte_or_end i) ∷ [])) (after_read i w))
+      (gives (words (number (byte_or_end i) ∷ [])) (after_read i (other w ss e)))
   read_sim [] w ss e de = λ _. gives_too ss e same de
   read_sim (k ∷ rest) w ss e de = λ _. gives_too ss e same de
 
@@ -174,87 +223,124 @@ module _ (s : Plain) where
   unfolding act
   write_follows a h = record {
     by = λ env env' d d' w ss e ag dd de at. rw (word_same g Ok env env' ag a h)
-        (need_sim P K (and_then (word_of g env a) number_of) w (other w ss e) _ _ (λ k _. gives_too ss e same de));
+        (need_sim P K (and_then (word_of g env a) number_of) w (other w ss e) _ _
+        (λ k _. gives_too ss e same de));
   }
 
   pub fail_follows : ActLike (leaf fail) (leaf fail)
   unfolding act
   fail_follows = record { by = λ env env' d d' w ss e ag dd de at _. stops_too ss e de }
 
-  part_sim : (d d' : ℕ) (n : Node) (x : Datum) (f r : ℕ) (w : World) (ss : List State) (e : ℕ) → K.Deep d' d → K.Deep e w.depth → Sim P K (apply_part g c d n x f r w) (apply_part after c' d' n x f r (other w ss e))
+  part_sim : (d d' : ℕ) (n : Node) (x : Datum) (f r : ℕ) (w : World) (ss : List State) (e : ℕ)
+      → K.Deep d' d → K.Deep e w.depth → Sim P K (apply_part g c d n x f r w)
+      (apply_part after c' d' n x f r (other w ss e))
   part_sim d d' n x f zero w ss e dd de = λ _. free
-  part_sim d d' n x f (suc zero) w ss e dd de = cf.by f (n.fields ++ x ∷ []) (n.fields ++ x ∷ []) d d' w ss e same dd de
-  part_sim d d' n x f (suc (suc r)) w ss e dd de = need_sim P K (part_from 0 g.tags f (suc r)) w (other w ss e) _ _ (λ t. need_sim P K (made_node g t (n.fields ++ x ∷ [])) w (other w ss e) _ _ (λ m _. gives_too ss e same de))
+  part_sim d d' n x f (suc zero) w ss e dd de = cf.by f (n.fields ++ x ∷ []) (n.fields ++ x ∷ []) d
+      d' w ss e same dd de
+  part_sim d d' n x f (suc (suc r)) w ss e dd de = need_sim P K (part_from 0 g.tags f (suc r)) w
+      (other w ss e) _ _
+      (λ t. need_sim P K (made_node g t (n.fields ++ x ∷ [])) w (other w ss e) _ _
+      (λ m _. gives_too ss e same de))
 
-  pub apply_follows : (v : Val) (a : Word) → ValOk Ok v → WordOk Ok a → ActLike (leaf (apply v a)) (leaf (apply v a))
+  pub apply_follows : (v : Val) (a : Word) → ValOk Ok v → WordOk Ok a
+      → ActLike (leaf (apply v a)) (leaf (apply v a))
   unfolding act
   apply_follows v a h k = record {
-    by = λ env env' d d' w ss e ag dd de at. rw (node_same g Ok env env' ag v h, word_same g Ok env env' ag a k)
-        (need_sim P K (node_of g env v) w (other w ss e) _ _ (λ n. need_sim P K (word_of g env a) w (other w ss e) _ _ (λ x.
-        need_sim P K (slice_get g.tags n.tag) w (other w ss e) _ _ (λ t. cond_sim P K (is_part_kind t.kind) _ _ _ _
-        (need_sim P K t.proc w (other w ss e) _ _ (λ f. part_sim d d' n x f.0 t.missing w ss e dd de)) (λ _. stops_too ss e de)))));
+    by = λ env env' d d' w ss e ag dd de at.
+        rw (node_same g Ok env env' ag v h, word_same g Ok env env' ag a k)
+        (need_sim P K (node_of g env v) w (other w ss e) _ _
+        (λ n. need_sim P K (word_of g env a) w (other w ss e) _ _ (λ x.
+        need_sim P K (slice_get g.tags n.tag) w (other w ss e) _ _
+        (λ t. cond_sim P K (is_part_kind t.kind) _ _ _ _
+        (need_sim P K t.proc w (other w ss e) _ _
+        (λ f. part_sim d d' n x f.0 t.missing w ss e dd de)) (λ _. stops_too ss e de)))));
   }
 
-  eval_sim : (d d' a : ℕ) (w : World) (ss : List State) (e : ℕ) → K.Deep d' d → K.Deep e w.depth → Sim P K (eval_cell g c d a w) (eval_cell after c' d' a (other w ss e))
-  eval_sim d d' a w ss e dd de = need_sim P K (slice_get w.cells a) w (other w ss e) _ _ (λ x. need_sim P K (slice_get g.tags x.node.tag) w (other w ss e) _ _ (λ t.
+  eval_sim : (d d' a : ℕ) (w : World) (ss : List State) (e : ℕ) → K.Deep d' d → K.Deep e w.depth
+      → Sim P K (eval_cell g c d a w) (eval_cell after c' d' a (other w ss e))
+  eval_sim d d' a w ss e dd de = need_sim P K (slice_get w.cells a) w (other w ss e) _ _
+      (λ x. need_sim P K (slice_get g.tags x.node.tag) w (other w ss e) _ _ (λ t.
       cond_sim P K (is_fun_kind t.kind) _ _ _ _
-      (need_sim P K t.proc w (other w ss e) _ _ (λ f. then_sim P K (c f.0 x.node.fields (suc d) w) _ _ _ (updated_back P g c cb a) (cf.by f.0 x.node.fields x.node.fields (suc d) (suc d') w ss e same (K.up dd) de) (updated_sim a)))
+      (need_sim P K t.proc w (other w ss e) _ _
+      (λ f. then_sim P K (c f.0 x.node.fields (suc d) w) _ _ _ (updated_back P g c cb a)
+      (cf.by f.0 x.node.fields x.node.fields (suc d) (suc d') w ss e same (K.up dd) de)
+      (updated_sim a)))
       (λ _. gives_too ss e same de)))
 
   pub eval_follows : (a : Word) → WordOk Ok a → ActLike (leaf (eval a)) (leaf (eval a))
   unfolding act
   eval_follows a h = record {
     by = λ env env' d d' w ss e ag dd de at. rw (word_same g Ok env env' ag a h)
-        (need_sim P K (and_then (word_of g env a) place_of) w (other w ss e) _ _ (λ i. eval_sim d d' i w ss e dd de));
+        (need_sim P K (and_then (word_of g env a) place_of) w (other w ss e) _ _
+        (λ i. eval_sim d d' i w ss e dd de));
   }
 
-  pub case_follows : (v : Val) (as' bs' : Arms) → ValOk Ok v → ArmsLike as' bs' → ActLike (case v as') (case v bs')
+  pub case_follows : (v : Val) (as' bs' : Arms) → ValOk Ok v → ArmsLike as' bs'
+      → ActLike (case v as') (case v bs')
   unfolding act
   case_follows v as' bs' h f = record {
     by = λ env env' d d' w ss e ag dd de at. rw (value_same g Ok env env' ag v h)
-        (need_sim P K (value_of g env v) w (other w ss e) _ _ (λ x. f.by env env' d d' x x w ss e same ag dd de at));
+        (need_sim P K (value_of g env v) w (other w ss e) _ _
+        (λ x. f.by env env' d d' x x w ss e same ag dd de at));
   }
 
   pub nested_follows : (b b' : Code) → CodeLike b b' → ActLike (nested b) (nested b')
   unfolding act
-  nested_follows b b' f = record { by = λ env env' d d' w ss e ag dd de at. f.by env env' d d' w ss e ag dd de at }
+  nested_follows b b' f = record
+      { by = λ env env' d d' w ss e ag dd de at. f.by env env' d d' w ss e ag dd de at }
 
   pub end_follows : (o o' : Act) → ActLike o o' → CodeLike (end o) (end o')
   unfolding act
-  end_follows o o' f = record { by = λ env env' d d' w ss e ag dd de at. f.by env env' d d' w ss e ag dd de at }
+  end_follows o o' f = record
+      { by = λ env env' d d' w ss e ag dd de at. f.by env env' d d' w ss e ag dd de at }
 
-  pub store_follows : (cs : List Cell) (b b' : Code) → CellsOk Ok cs → CodeLike b b' → CodeLike (store cs b) (store cs b')
+  pub store_follows : (cs : List Cell) (b b' : Code) → CellsOk Ok cs → CodeLike b b'
+      → CodeLike (store cs b) (store cs b')
   unfolding act
   store_follows cs b b' h f = record {
     by = λ env env' d d' w ss e ag dd de at.
         let bs = places (length w.cells) cs in
         let ag' = vars_agree Ok bs env env' ag in
         rw (cells_same g Ok (with_vars bs env) (with_vars bs env') ag' cs h)
-        (need_sim P K (cells_of g (with_vars bs env) cs) w (other w ss e) _ _ (λ hs. enter b b' f (with_vars bs env) (with_vars bs env') d d' (with_cells hs w) ss e ag' dd de));
+        (need_sim P K (cells_of g (with_vars bs env) cs) w (other w ss e) _ _
+        (λ hs. enter b b' f (with_vars bs env) (with_vars bs env') d d' (with_cells hs w) ss e
+        ag' dd de));
   }
 
-  pub bind_follows : (t : Target) (o o' : Act) (b b' : Code) → ActLike o o' → CodeLike b b' → CodeLike (bind t o b) (bind t o' b')
+  pub bind_follows : (t : Target) (o o' : Act) (b b' : Code) → ActLike o o' → CodeLike b b'
+      → CodeLike (bind t o b) (bind t o' b')
   unfolding act
   bind_follows t o o' b b' f k = record {
     by = λ env env' d d' w ss e ag dd de at.
         then_sim P K _ _ _ _
-        (λ v w'. need_back P (bindings_of g t v) w' _ (λ bs all. every_front P w'.seen _ (code_back P g c cb (with_vars bs env) d b (with_state_seen (with_vars bs env) w') all)))
+        (λ v w'. need_back P (bindings_of g t v) w' _
+        (λ bs all. every_front P w'.seen _
+        (code_back P g c cb (with_vars bs env) d b (with_state_seen (with_vars bs env) w')
+        all)))
         (f.by env env' (suc d) (suc d') w ss e ag (K.up dd) de at)
-        (λ v w' ss' e' de'. need_sim P K (bindings_of g t v) w' (other w' ss' e') _ _ (λ bs. enter b b' k (with_vars bs env) (with_vars bs env') d d' w' ss' e' (vars_agree Ok bs env env' ag) dd de'));
+        (λ v w' ss' e' de'. need_sim P K (bindings_of g t v) w' (other w' ss' e') _ _
+        (λ bs. enter b b' k (with_vars bs env) (with_vars bs env') d d' w' ss' e'
+        (vars_agree Ok bs env env' ag) dd de'));
   }
 
   pub no_arm_follows : ArmsLike no_arm no_arm
   no_arm_follows = related.no_arm_follows (setting s) (Agree Ok) Same Same no_arm
 
-  pub arm_follows : (p : Shape) (b b' : Code) (as' bs' : Arms) → CodeLike b b' → ArmsLike as' bs' → ArmsLike (arm p b as') (arm p b' bs')
+  pub arm_follows : (p : Shape) (b b' : Code) (as' bs' : Arms) → CodeLike b b' → ArmsLike as' bs'
+      → ArmsLike (arm p b as') (arm p b' bs')
   unfolding act
-  arm_follows p b b' as' bs' f k = record { by = λ env env' d d' v v' w ss e u ag dd de at. on_one u env env' d d' w ss e ag dd de at }
+  arm_follows p b b' as' bs' f k = record
+      { by = λ env env' d d' v v' w ss e u ag dd de at. on_one u env env' d d' w ss e ag dd de at }
     where
-      on_one : {v v' : Value} → Same v v' → (env env' : Env) (d d' : ℕ) (w : World) (ss : List State) (e : ℕ) → Agree Ok env env' → K.Deep d' d → K.Deep e w.depth → P (record { env = env; heap = w.cells })
-          → Sim P K (arms g c env d v (arm p b as') w) (arms after c' env' d' v' (arm p b' bs') (other w ss e))
+      on_one : {v v' : Value} → Same v v' → (env env' : Env) (d d' : ℕ) (w : World)
+          (ss : List State) (e : ℕ) → Agree Ok env env' → K.Deep d' d → K.Deep e w.depth
+          → P (record { env = env; heap = w.cells })
+          → Sim P K (arms g c env d v (arm p b as') w)
+          (arms after c' env' d' v' (arm p b' bs') (other w ss e))
       on_one (same {a = v}) env env' d d' w ss e ag dd de at =
           choose_sim P K (fit_of g p v) w (other w ss e) _ _ _ _
-          (λ bs. enter b b' f (with_vars bs env) (with_vars bs env') d d' w ss e (vars_agree Ok bs env env' ag) dd de)
+          (λ bs. enter b b' f (with_vars bs env) (with_vars bs env') d d' w ss e
+          (vars_agree Ok bs env env' ag) dd de)
           (k.by env env' d d' v v w ss e same ag dd de at)
 
   pub leaf_follows : (l : Leaf) → ActOk Ok (leaf l) → ActLike (leaf l) (leaf l)

@@ -10,9 +10,11 @@ named x (d ∷ ds) = (x, words (d ∷ [])) ∷ named (suc x) ds
 pub nat_eq-below : (x y : ℕ) → y < x → nat_eq y x ≡ false
 nat_eq-below x y h = grind (arith, nat_tests)
 
-pub named_below : (x : ℕ) (ds : List Datum) (env : Env) (y : ℕ) → y < x → with_vars (named x ds) env y ≡ env y
+pub named_below : (x : ℕ) (ds : List Datum) (env : Env) (y : ℕ) → y < x
+    → with_vars (named x ds) env y ≡ env y
 named_below x [] env y h = refl
-named_below x (d ∷ ds) env y h = named_below (suc x) ds _ y (omega arith) ∙ ap (λ t. cond t (Some (words (d ∷ []))) (env y)) (nat_eq-below x y h)
+named_below x (d ∷ ds) env y h = named_below (suc x) ds _ y (omega arith) ∙ ap
+    (λ t. cond t (Some (words (d ∷ []))) (env y)) (nat_eq-below x y h)
 
 pub fits_is : {bs cs : List Binding} → fits bs ≡ fits cs → bs ≡ cs
 fits_is h = cc

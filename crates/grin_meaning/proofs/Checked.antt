@@ -29,11 +29,15 @@ datum_zero (cell a) h = true_not_false (sym h)
 
 pub zeros_are : (ds : List Datum) → all_zero ds ≡ true → AllOf (λ d. d ≡ number (pos 0)) ds
 zeros_are [] h = tt
-zeros_are (d ∷ ds) h = (datum_zero d (and_left (is_zero d) (all_zero ds) h), zeros_are ds (and_right (is_zero d) (all_zero ds) h))
+zeros_are (d ∷ ds) h = (
+  datum_zero d (and_left (is_zero d) (all_zero ds) h),
+  zeros_are ds (and_right (is_zero d) (all_zero ds) h),
+)
 
 pub are_zeros : (ds : List Datum) → AllOf (λ d. d ≡ number (pos 0)) ds → all_zero ds ≡ true
 are_zeros [] h = refl
-are_zeros (d ∷ ds) h = and_from (is_zero d) (all_zero ds) (subst (λ x. is_zero x ≡ true) (sym h.0) refl) (are_zeros ds h.1)
+are_zeros (d ∷ ds) h = and_from (is_zero d) (all_zero ds)
+    (subst (λ x. is_zero x ≡ true) (sym h.0) refl) (are_zeros ds h.1)
 
 -- ---- values
 
@@ -46,7 +50,8 @@ module _ (g : Program) where
   delayed_is : (t : ℕ) → is_delayed g t ≡ true → IsDelayed g t
   delayed_is t h = go (slice_get g.tags t) refl h
     where
-      go : (o : Option Tag) → slice_get g.tags t ≡ o → is_some_and o (λ i. is_fun_kind i.kind) ≡ true → IsDelayed g t
+      go : (o : Option Tag) → slice_get g.tags t ≡ o
+          → is_some_and o (λ i. is_fun_kind i.kind) ≡ true → IsDelayed g t
       go None e k = true_not_false (sym k)
       go (Some i) e k = (i, e, is_fun i.kind k)
 
@@ -54,7 +59,9 @@ module _ (g : Program) where
   is_delayed-so t d = ap (λ o. is_some_and o (λ i. is_fun_kind i.kind)) d.1 ∙ ap is_fun_kind d.2
 
   pub delayed_not : (v : Value) → not_delayed g v ≡ true → NotDelayed g v
-  delayed_not v h = λ n e d. true_not_false (sym h ∙ ap (λ o. is_none_or o (λ m. not (is_delayed g m.tag))) e ∙ ap not (is_delayed-so n.tag d))
+  delayed_not v h = λ n e d. true_not_false
+      (sym h ∙ ap (λ o. is_none_or o (λ m. not (is_delayed g m.tag))) e ∙ ap not
+      (is_delayed-so n.tag d))
 
   pub not_delayed-so : (v : Value) → NotDelayed g v → not_delayed g v ≡ true
   not_delayed-so v h = go (as_node g v) refl
@@ -91,7 +98,8 @@ module _ (g : Program) where
 
   number_plain : (v : Value) → plain_number v ≡ true → PlainNumber g v
   number_plain (node n) h = after_is n.tag n.fields h
-  number_plain (words ds) h = λ rest e. number_is rest (sym (ap (λ u. plain_number (words u)) e) ∙ h)
+  number_plain (words ds) h = λ rest e. number_is rest
+      (sym (ap (λ u. plain_number (words u)) e) ∙ h)
 
   plain_number-so : (v : Value) → PlainNumber g v → plain_number v ≡ true
   plain_number-so (node n) h = is_after n.tag n.fields h
@@ -101,15 +109,20 @@ module _ (g : Program) where
   plain_number-so (words (tag t ∷ ds)) h = is_after t ds (λ e. h ds (ap (λ u. tag u ∷ ds) e))
 
   pub given_is : (v : Value) → is_given g v ≡ true → Given g v
-  given_is v h = (delayed_not v (and_left (not_delayed g v) (plain_number v) h), number_plain v (and_right (not_delayed g v) (plain_number v) h))
+  given_is v h = (
+    delayed_not v (and_left (not_delayed g v) (plain_number v) h),
+    number_plain v (and_right (not_delayed g v) (plain_number v) h),
+  )
 
   pub is_given-so : (v : Value) → Given g v → is_given g v ≡ true
-  is_given-so v h = and_from (not_delayed g v) (plain_number v) (not_delayed-so v h.0) (plain_number-so v h.1)
+  is_given-so v h = and_from (not_delayed g v) (plain_number v) (not_delayed-so v h.0)
+      (plain_number-so v h.1)
 
   -- ---- vectors
 
   filled_is : (ds : List Datum) → is_filled g ds ≡ true → Filled g ds
-  filled_is ds h = λ t k rest e f. zeros_are (drop k rest) (sym (ap (λ o. is_none_or o (λ j. all_zero (drop j rest))) f) ∙ sym (ap (is_filled g) e) ∙ h)
+  filled_is ds h = λ t k rest e f. zeros_are (drop k rest)
+      (sym (ap (λ o. is_none_or o (λ j. all_zero (drop j rest))) f) ∙ sym (ap (is_filled g) e) ∙ h)
 
   is_filled-so : (ds : List Datum) → Filled g ds → is_filled g ds ≡ true
   is_filled-so [] h = refl
@@ -125,7 +138,8 @@ module _ (g : Program) where
   filled_val env (NodeVar x) h = tt
   filled_val env (NodeVal t ws) h = tt
   filled_val env (One w) h = tt
-  filled_val env (Vector ws) h = λ ds e. filled_is ds (sym (ap (λ o. is_none_or o (is_filled g)) e) ∙ h)
+  filled_val env (Vector ws) h = λ ds e. filled_is ds
+      (sym (ap (λ o. is_none_or o (is_filled g)) e) ∙ h)
 
   pub fills-so : (env : Env) (v : V.Val) → ValFilled g env v → fills g env v ≡ true
   fills-so env (NodeVar x) h = refl
@@ -137,10 +151,16 @@ module _ (g : Program) where
       go None e = refl
       go (Some ds) e = is_filled-so ds (h ds e)
 
-  pub filled_cells : (env : Env) (cs : List Cell) → all_fill g env cs ≡ true → AllOf (λ c. ValFilled g env c.val) cs
+  pub filled_cells : (env : Env) (cs : List Cell) → all_fill g env cs ≡ true
+      → AllOf (λ c. ValFilled g env c.val) cs
   filled_cells env [] h = tt
-  filled_cells env (c ∷ cs) h = (filled_val env c.val (and_left (fills g env c.val) (all_fill g env cs) h), filled_cells env cs (and_right (fills g env c.val) (all_fill g env cs) h))
+  filled_cells env (c ∷ cs) h = (
+    filled_val env c.val (and_left (fills g env c.val) (all_fill g env cs) h),
+    filled_cells env cs (and_right (fills g env c.val) (all_fill g env cs) h),
+  )
 
-  pub all_fill-so : (env : Env) (cs : List Cell) → AllOf (λ c. ValFilled g env c.val) cs → all_fill g env cs ≡ true
+  pub all_fill-so : (env : Env) (cs : List Cell) → AllOf (λ c. ValFilled g env c.val) cs
+      → all_fill g env cs ≡ true
   all_fill-so env [] h = refl
-  all_fill-so env (c ∷ cs) h = and_from (fills g env c.val) (all_fill g env cs) (fills-so env c.val h.0) (all_fill-so env cs h.1)
+  all_fill-so env (c ∷ cs) h = and_from (fills g env c.val) (all_fill g env cs)
+      (fills-so env c.val h.0) (all_fill-so env cs h.1)

@@ -16,10 +16,32 @@ pub record KeptBy (a a' : Answer) : Type 0 where
   pub cells : end_of a ≢ ended missing → length (world_of a').cells ≤ length (world_of a).cells
   pub depth : end_of a ≢ ended missing → (world_of a').depth ≤ (world_of a).depth
 
-pub likewise_kept : (K : Compared) (V : Value → Value → Type 0) (a a' : Answer) → Likewise K V a a' → KeptBy a a'
-likewise_kept K V a a' free = record { out = λ k. absurd (k refl); used = λ k. absurd (k refl); end = λ k. absurd (k refl); cells = λ k. absurd (k refl); depth = λ k. absurd (k refl) }
-likewise_kept K V a a' (gives_too b u) = record { out = λ k. refl; used = λ k. refl; end = λ k. refl; cells = λ k. K.fewer b.heaps; depth = λ k. K.at_most b.deep }
-likewise_kept K V a a' (stops_too b) = record { out = λ k. refl; used = λ k. refl; end = λ k. refl; cells = λ k. K.fewer b.heaps; depth = λ k. K.at_most b.deep }
+pub likewise_kept : (K : Compared) (V : Value → Value → Type 0) (a a' : Answer) → Likewise K V a a'
+    → KeptBy a a'
+likewise_kept K V a a' free = record {
+  out = λ k. absurd (k refl);
+  used = λ k. absurd (k refl);
+  end = λ k. absurd (k refl);
+  cells
+      = λ k. absurd (k refl);
+  depth = λ k. absurd (k refl);
+}
+likewise_kept K V a a' (gives_too b u) = record {
+  out = λ k. refl;
+  used = λ k. refl;
+  end = λ k. refl;
+  cells = λ k. K.fewer b.heaps;
+  depth
+      = λ k. K.at_most b.deep;
+}
+likewise_kept K V a a' (stops_too b) = record {
+  out = λ k. refl;
+  used = λ k. refl;
+  end = λ k. refl;
+  cells = λ k. K.fewer b.heaps;
+  depth
+      = λ k. K.at_most b.deep;
+}
 
 pub keeps_by : (g h : Program) → ((i : List ℕ) (n : ℕ) → KeptBy (run g i n) (run h i n)) → Keeps g h
 keeps_by g h k = record {
@@ -35,8 +57,15 @@ unfolding run run_by calls
 run_is g i n = refl
 
 -- of looking runs: where none of the first is missing, none of the second is, and the first is kept
-pub looking_kept : (g h : Program) → CheckedRunsNeverMissing g → ((i : List ℕ) (n : ℕ) → KeptBy (checked_run g i n) (checked_run h i n)) → CheckedRunsNeverMissing h × Keeps g h
-looking_kept g h never k = (never_too, keeps_by g h (λ i n. subst (λ a. KeptBy a (run h i n)) (look_agrees g i n (never i n)) (subst (KeptBy (checked_run g i n)) (look_agrees h i n (never_too i n)) (k i n))))
+pub looking_kept : (g h : Program) → CheckedRunsNeverMissing g
+    → ((i : List ℕ) (n : ℕ) → KeptBy (checked_run g i n) (checked_run h i n))
+    → CheckedRunsNeverMissing h × Keeps g h
+looking_kept g h never k = (
+  never_too,
+  keeps_by g h
+      (λ i n. subst (λ a. KeptBy a (run h i n)) (look_agrees g i n (never i n))
+      (subst (KeptBy (checked_run g i n)) (look_agrees h i n (never_too i n)) (k i n))),
+)
   where
     never_too : CheckedRunsNeverMissing h
     never_too i n e = never i n (sym ((k i n).end (never i n)) ∙ e)

@@ -22,10 +22,13 @@ use Rattle.grin_measure.proofs.Sums.{sums_are, sum_after, sum_then_none, none_fi
 
 cells_push : (cs : List Cell) (c : Cell) → of_cells (cs ++ c ∷ []) ≡ sum (of_cells cs) (of_cell c)
 cells_push cs c =
-    sums_are (cells_weight cs) 0 (length cs) (cells_size cs) (17 + val_weight c.val) 0 1 (2 + val_size c.val)
-    (cells_weight (cs ++ c ∷ [])) 0 (length (cs ++ c ∷ [])) (cells_size (cs ++ c ∷ [])) (weight cs) (omega arith) (count cs) (size cs)
+    sums_are (cells_weight cs) 0 (length cs) (cells_size cs) (17 + val_weight c.val) 0 1
+    (2 + val_size c.val)
+    (cells_weight (cs ++ c ∷ [])) 0 (length (cs ++ c ∷ [])) (cells_size (cs ++ c ∷ [])) (weight cs)
+    (omega arith) (count cs) (size cs)
   where
-    weight : (cs : List Cell) → cells_weight (cs ++ c ∷ []) ≡ cells_weight cs + (17 + val_weight c.val)
+    weight : (cs : List Cell) → cells_weight (cs ++ c ∷ []) ≡ cells_weight cs +
+        (17 + val_weight c.val)
     weight [] = omega arith
     weight (d ∷ cs) = let h = weight cs in omega (arith, h)
 
@@ -53,26 +56,35 @@ pub no_statements : Statements [] (counts 0 0 0 0)
 unfolding of_code
 no_statements = record { by = λ c. sym (none_first _ _ _ _) }
 
-pub statement_more : (ss : List Stmt) (i : ℕ) (s : Stmt) (n k : Counts) → i < length ss → s ≡ get_or ss i s → Statements (take i ss) n
-    → ((c : Code) → of_code (before_of s c) ≡ sum k (of_code c)) → Statements (take (i + 1) ss) (sum n k)
+pub statement_more : (ss : List Stmt) (i : ℕ) (s : Stmt) (n k : Counts) → i < length ss
+    → s ≡ get_or ss i s → Statements (take i ss) n
+    → ((c : Code) → of_code (before_of s c) ≡ sum k (of_code c))
+    → Statements (take (i + 1) ss) (sum n k)
 statement_more ss i s n k lt is u h = record {
   by = λ c.
-      ap (λ l. of_code (all_before (map before_of l) c)) (take_next ss i s lt is) ∙ ap of_code (all_before_push (take i ss) s c)
+      ap (λ l. of_code (all_before (map before_of l) c)) (take_next ss i s lt is) ∙ ap of_code
+      (all_before_push (take i ss) s c)
       ∙ u.by (before_of s c) ∙ ap (sum n) (h c) ∙ sym (sum_after n k (of_code c));
 }
 
-pub block_counted : (block : Block) (i : ℕ) (n : Counts) → length block.stmts ≤ i → Statements (take i block.stmts) n
-    → sum n (sum (counts 0 0 (end_words (act_of block.last.value)) 0) (of_act (act_of block.last.value))) ≡ of_code (code_of block)
+pub block_counted : (block : Block) (i : ℕ) (n : Counts) → length block.stmts ≤ i
+    → Statements (take i block.stmts) n
+    → sum n (sum (counts 0 0 (end_words (act_of block.last.value)) 0)
+    (of_act (act_of block.last.value))) ≡ of_code (code_of block)
 block_counted block i n le u =
     let o = act_of block.last.value in
     ap (sum n) (sym (of_code-end o)) ∙ sym (u.by (end o))
-    ∙ ap (λ l. of_code (all_before (map before_of l) (end o))) (take_all i block.stmts le) ∙ ap of_code (sym (code_of-parts block))
+    ∙ ap (λ l. of_code (all_before (map before_of l) (end o))) (take_all i block.stmts le) ∙ ap
+    of_code (sym (code_of-parts block))
 
-pub store_counted : (cs : List Cell) (c : Code) → of_code (before_of (Store cs) c) ≡ sum (of_cells cs) (of_code c)
+pub store_counted : (cs : List Cell) (c : Code) → of_code (before_of (Store cs) c) ≡ sum
+    (of_cells cs) (of_code c)
 store_counted cs c = ap (λ b. of_code (b c)) (before_of-Store cs) ∙ of_code-store cs c
 
 pub bind_counted : (t : Target) (o : Op) (c : Code)
-    → of_code (before_of (Bind t o) c) ≡ sum (sum (of_target t) (sum (counts 0 0 (node_words (act_of o)) 0) (of_act (act_of o)))) (of_code c)
+    → of_code (before_of (Bind t o) c) ≡ sum
+    (sum (of_target t) (sum (counts 0 0 (node_words (act_of o)) 0) (of_act (act_of o))))
+    (of_code c)
 bind_counted t o c = ap (λ b. of_code (b c)) (before_of-Bind t o) ∙ of_code-bind t (act_of o) c
 
 -- ---- alternatives
@@ -85,17 +97,23 @@ pub no_alternatives : Alternatives [] (counts 0 0 0 0)
 unfolding of_arms
 no_alternatives = record { by = λ rest. sym (none_first _ _ _ _); fits = none_first 0 0 0 0 }
 
-pub alternative_more : (as' : List Alt) (i : ℕ) (a : Alt) (n : Counts) → i < length as' → a ≡ get_or as' i a → Alternatives (take i as') n
-    → Alternatives (take (i + 1) as') (sum n (sum (of_pattern a.pattern) (of_code (code_of a.body))))
+pub alternative_more : (as' : List Alt) (i : ℕ) (a : Alt) (n : Counts) → i < length as'
+    → a ≡ get_or as' i a → Alternatives (take i as') n
+    → Alternatives (take (i + 1) as')
+    (sum n (sum (of_pattern a.pattern) (of_code (code_of a.body))))
 alternative_more as' i a n lt is u = record {
   by = λ rest.
       let k = sum (of_pattern a.pattern) (of_code (code_of a.body)) in
-      ap (λ l. of_arms (all_arms (map arm_of l) rest)) (take_next as' i a lt is) ∙ ap of_arms (all_arms_push (take i as') a rest)
-      ∙ u.by (arm a.pattern (code_of a.body) rest) ∙ ap (sum n) (of_arms-arm a.pattern (code_of a.body) rest) ∙ sym (sum_after n k (of_arms rest));
+      ap (λ l. of_arms (all_arms (map arm_of l) rest)) (take_next as' i a lt is) ∙ ap of_arms
+      (all_arms_push (take i as') a rest)
+      ∙ u.by (arm a.pattern (code_of a.body) rest) ∙ ap (sum n)
+      (of_arms-arm a.pattern (code_of a.body) rest) ∙ sym (sum_after n k (of_arms rest));
   fits = sum_then_none n (sum (of_pattern a.pattern) (of_code (code_of a.body)));
 }
 
-pub arms_counted : (as' : List Alt) (i : ℕ) (n : Counts) → length as' ≤ i → Alternatives (take i as') n → n ≡ of_arms (arms_of (map arm_of as'))
+pub arms_counted : (as' : List Alt) (i : ℕ) (n : Counts) → length as' ≤ i
+    → Alternatives (take i as') n → n ≡ of_arms (arms_of (map arm_of as'))
 arms_counted as' i n le u =
     sym u.fits ∙ ap (sum n) (sym of_arms-none) ∙ sym (u.by no_arm)
-    ∙ ap (λ l. of_arms (all_arms (map arm_of l) no_arm)) (take_all i as' le) ∙ ap of_arms (all_arms_none (map arm_of as'))
+    ∙ ap (λ l. of_arms (all_arms (map arm_of l) no_arm)) (take_all i as' le) ∙ ap of_arms
+    (all_arms_none (map arm_of as'))

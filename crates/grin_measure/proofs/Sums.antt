@@ -18,18 +18,28 @@ use Rattle.inlining.specs.Expanded.{saturated_at_64_bits}
 
 -- ---- sums
 
-capped_sum : (x y : ℕ) → saturated_at_64_bits (saturated_at_64_bits x + saturated_at_64_bits y) ≡ saturated_at_64_bits (x + y)
+capped_sum : (x y : ℕ) → saturated_at_64_bits (saturated_at_64_bits x + saturated_at_64_bits y) ≡
+    saturated_at_64_bits (x + y)
 capped_sum x y = omega arith
 
-capped_twice : (x y z : ℕ) → saturated_at_64_bits (saturated_at_64_bits (x + y) + z) ≡ saturated_at_64_bits (x + saturated_at_64_bits (y + z))
+capped_twice : (x y z : ℕ) → saturated_at_64_bits (saturated_at_64_bits (x + y) + z) ≡
+    saturated_at_64_bits (x + saturated_at_64_bits (y + z))
 capped_twice x y z = omega arith
 
-pub same_counts : (w c v s w' c' v' s' : ℕ) → w ≡ w' → c ≡ c' → v ≡ v' → s ≡ s' → counts w c v s ≡ counts w' c' v' s'
+pub same_counts : (w c v s w' c' v' s' : ℕ) → w ≡ w' → c ≡ c' → v ≡ v' → s ≡ s'
+    → counts w c v s ≡ counts w' c' v' s'
 same_counts w c v s w' c' v' s' e f g h = λ i. counts (e i) (f i) (g i) (h i)
 
-pub sums : (w c v s w' c' v' s' : ℕ) → sum (counts w c v s) (counts w' c' v' s') ≡ counts (w + w') (c + c') (v + v') (s + s')
+pub sums : (w c v s w' c' v' s' : ℕ) → sum (counts w c v s) (counts w' c' v' s') ≡ counts (w + w')
+    (c + c') (v + v') (s + s')
 unfolding sum counts
-sums w c v s w' c' v' s' = λ i. record { weight = capped_sum w w' i; calls = capped_sum c c' i; words = capped_sum v v' i; size = capped_sum s s' i }
+sums w c v s w' c' v' s' = λ i. record {
+  weight = capped_sum w w' i;
+  calls = capped_sum c c' i;
+  words = capped_sum v v' i;
+  size
+      = capped_sum s s' i;
+}
 
 pub sum_after : (a b c : Counts) → sum (sum a b) c ≡ sum a (sum b c)
 unfolding sum counts
@@ -40,7 +50,8 @@ sum_after a b c = λ i. record {
   size = capped_twice a.size b.size c.size i;
 }
 
-capped_alone : (x y : ℕ) → saturated_at_64_bits (saturated_at_64_bits (x + y) + 0) ≡ saturated_at_64_bits (x + y)
+capped_alone : (x y : ℕ) → saturated_at_64_bits (saturated_at_64_bits (x + y) + 0) ≡
+    saturated_at_64_bits (x + y)
 capped_alone x y = omega arith
 
 pub sum_then_none : (a b : Counts) → sum (sum a b) (counts 0 0 0 0) ≡ sum a b
@@ -52,22 +63,29 @@ sum_then_none a b = λ i. record {
   size = capped_alone a.size b.size i;
 }
 
-pub sums_are : (w c v s w' c' v' s' x y z u : ℕ) → x ≡ w + w' → y ≡ c + c' → z ≡ v + v' → u ≡ s + s' → counts x y z u ≡ sum (counts w c v s) (counts w' c' v' s')
-sums_are w c v s w' c' v' s' x y z u e f g h = same_counts x y z u (w + w') (c + c') (v + v') (s + s') e f g h ∙ sym (sums w c v s w' c' v' s')
+pub sums_are : (w c v s w' c' v' s' x y z u : ℕ) → x ≡ w + w' → y ≡ c + c' → z ≡ v + v' → u ≡ s + s'
+    → counts x y z u ≡ sum (counts w c v s) (counts w' c' v' s')
+sums_are w c v s w' c' v' s' x y z u e f g h = same_counts x y z u (w + w') (c + c') (v + v')
+    (s + s') e f g h ∙ sym (sums w c v s w' c' v' s')
 
 pub none_first : (w c v s : ℕ) → sum (counts 0 0 0 0) (counts w c v s) ≡ counts w c v s
-none_first w c v s = sym (sums_are 0 0 0 0 w c v s w c v s (omega arith) (omega arith) (omega arith) (omega arith))
+none_first w c v s = sym
+    (sums_are 0 0 0 0 w c v s w c v s (omega arith) (omega arith) (omega arith) (omega arith))
 
 -- ---- operations
 
 -- an operation, of what it counts itself and what a value or a block in it does
-act_sum : (o : Act) (w n s w' c' v' s' : ℕ) → act_weight o ≡ w + w' → act_calls o ≡ n + c' → inner_words o ≡ 0 + v' → act_size o ≡ s + s' → of_act o ≡ sum (counts w n 0 s) (counts w' c' v' s')
+act_sum : (o : Act) (w n s w' c' v' s' : ℕ) → act_weight o ≡ w + w' → act_calls o ≡ n + c'
+    → inner_words o ≡ 0 + v' → act_size o ≡ s + s' → of_act o ≡ sum (counts w n 0 s)
+    (counts w' c' v' s')
 unfolding of_act
-act_sum o w n s w' c' v' s' e f g h = sums_are w n 0 s w' c' v' s' (act_weight o) (act_calls o) (inner_words o) (act_size o) e f g h
+act_sum o w n s w' c' v' s' e f g h = sums_are w n 0 s w' c' v' s' (act_weight o) (act_calls o)
+    (inner_words o) (act_size o) e f g h
 
 pub of_act-unit : (v : Val) → of_act (leaf (unit v)) ≡ sum (counts 16 0 0 1) (of_val v)
 unfolding of_act of_code of_arms act_weight act_calls inner_words act_size
-of_act-unit v = act_sum (leaf (unit v)) 16 0 1 (val_weight v) 0 0 (val_size v) (omega arith) (omega arith) (omega arith) (omega arith)
+of_act-unit v = act_sum (leaf (unit v)) 16 0 1 (val_weight v) 0 0 (val_size v) (omega arith)
+    (omega arith) (omega arith) (omega arith)
 
 pub of_act-fetch : (a : Word) → of_act (leaf (fetch a)) ≡ counts 17 0 0 2
 unfolding of_act of_code of_arms act_weight act_calls inner_words act_size
@@ -77,19 +95,24 @@ pub of_act-fetch_word : (a : Word) (k : ℕ) → of_act (leaf (fetch_word a k)) 
 unfolding of_act of_code of_arms act_weight act_calls inner_words act_size
 of_act-fetch_word a k = refl
 
-pub of_act-update : (a : Word) (v : Val) → of_act (leaf (update a v)) ≡ sum (counts 17 0 0 2) (of_val v)
+pub of_act-update : (a : Word) (v : Val) → of_act (leaf (update a v)) ≡ sum (counts 17 0 0 2)
+    (of_val v)
 unfolding of_act of_code of_arms act_weight act_calls inner_words act_size
-of_act-update a v = act_sum (leaf (update a v)) 17 0 2 (val_weight v) 0 0 (val_size v) (omega arith) (omega arith) (omega arith) (omega arith)
+of_act-update a v = act_sum (leaf (update a v)) 17 0 2 (val_weight v) 0 0 (val_size v) (omega arith)
+    (omega arith) (omega arith) (omega arith)
 
 pub of_act-eval : (a : Word) → of_act (leaf (eval a)) ≡ counts 17 0 0 2
 unfolding of_act of_code of_arms act_weight act_calls inner_words act_size
 of_act-eval a = refl
 
-pub of_act-apply : (v : Val) (a : Word) → of_act (leaf (apply v a)) ≡ sum (counts 17 0 0 2) (of_val v)
+pub of_act-apply : (v : Val) (a : Word) → of_act (leaf (apply v a)) ≡ sum (counts 17 0 0 2)
+    (of_val v)
 unfolding of_act of_code of_arms act_weight act_calls inner_words act_size
-of_act-apply v a = act_sum (leaf (apply v a)) 17 0 2 (val_weight v) 0 0 (val_size v) (omega arith) (omega arith) (omega arith) (omega arith)
+of_act-apply v a = act_sum (leaf (apply v a)) 17 0 2 (val_weight v) 0 0 (val_size v) (omega arith)
+    (omega arith) (omega arith) (omega arith)
 
-pub of_act-call : (f : ProcId) (ws : List Word) → of_act (leaf (call f ws)) ≡ counts (16 + length ws) 1 0 (1 + length ws)
+pub of_act-call : (f : ProcId) (ws : List Word) → of_act (leaf (call f ws)) ≡ counts
+    (16 + length ws) 1 0 (1 + length ws)
 unfolding of_act of_code of_arms act_weight act_calls inner_words act_size
 of_act-call f ws = refl
 
@@ -105,15 +128,20 @@ pub of_act-write : (a : Word) → of_act (leaf (write a)) ≡ counts 25 0 0 2
 unfolding of_act of_code of_arms act_weight act_calls inner_words act_size
 of_act-write a = refl
 
-pub of_act-case : (v : Val) (as' : Arms) → of_act (case v as') ≡ sum (sum (counts 16 0 0 1) (of_val v)) (of_arms as')
+pub of_act-case : (v : Val) (as' : Arms) → of_act (case v as') ≡ sum
+    (sum (counts 16 0 0 1) (of_val v)) (of_arms as')
 unfolding of_act of_code of_arms act_weight act_calls inner_words act_size
 of_act-case v as' =
-    act_sum (case v as') (16 + val_weight v) 0 (1 + val_size v) (arms_weight as') (arms_calls as') (arms_words as') (arms_size as') (omega arith) (omega arith) (omega arith) (omega arith)
-    ∙ ap (λ a. sum a (of_arms as')) (sums_are 16 0 0 1 (val_weight v) 0 0 (val_size v) (16 + val_weight v) 0 0 (1 + val_size v) (omega arith) (omega arith) (omega arith) (omega arith))
+    act_sum (case v as') (16 + val_weight v) 0 (1 + val_size v) (arms_weight as') (arms_calls as')
+    (arms_words as') (arms_size as') (omega arith) (omega arith) (omega arith) (omega arith)
+    ∙ ap (λ a. sum a (of_arms as'))
+    (sums_are 16 0 0 1 (val_weight v) 0 0 (val_size v) (16 + val_weight v) 0 0 (1 + val_size v)
+    (omega arith) (omega arith) (omega arith) (omega arith))
 
 pub of_act-nested : (b : Code) → of_act (nested b) ≡ sum (counts 16 0 0 1) (of_code b)
 unfolding of_act of_code of_arms act_weight act_calls inner_words act_size
-of_act-nested b = act_sum (nested b) 16 0 1 (code_weight b) (code_calls b) (code_words b) (code_size b) (omega arith) (omega arith) (omega arith) (omega arith)
+of_act-nested b = act_sum (nested b) 16 0 1 (code_weight b) (code_calls b) (code_words b)
+    (code_size b) (omega arith) (omega arith) (omega arith) (omega arith)
 
 pub of_act-fail : of_act (leaf fail) ≡ counts 16 0 0 1
 unfolding of_act of_code of_arms act_weight act_calls inner_words act_size
@@ -140,24 +168,36 @@ pub ruleset acts_count = (
 pub of_code-end : (o : Act) → of_code (end o) ≡ sum (counts 0 0 (end_words o) 0) (of_act o)
 unfolding of_act of_code of_arms act_weight act_calls inner_words act_size
 of_code-end o =
-    sums_are 0 0 (end_words o) 0 (act_weight o) (act_calls o) (inner_words o) (act_size o) (code_weight (end o)) (code_calls (end o)) (code_words (end o)) (code_size (end o))
+    sums_are 0 0 (end_words o) 0 (act_weight o) (act_calls o) (inner_words o) (act_size o)
+    (code_weight (end o)) (code_calls (end o)) (code_words (end o)) (code_size (end o))
     (omega arith) (omega arith) (omega arith) (omega arith)
 
-pub of_code-store : (cs : List Cell) (b : Code) → of_code (store cs b) ≡ sum (of_cells cs) (of_code b)
+pub of_code-store : (cs : List Cell) (b : Code) → of_code (store cs b) ≡ sum (of_cells cs)
+    (of_code b)
 unfolding of_act of_code of_arms act_weight act_calls inner_words act_size
 of_code-store cs b =
-    sums_are (cells_weight cs) 0 (length cs) (cells_size cs) (code_weight b) (code_calls b) (code_words b) (code_size b)
-    (code_weight (store cs b)) (code_calls (store cs b)) (code_words (store cs b)) (code_size (store cs b)) (omega arith) (omega arith) (omega arith) (omega arith)
+    sums_are (cells_weight cs) 0 (length cs) (cells_size cs) (code_weight b) (code_calls b)
+    (code_words b) (code_size b)
+    (code_weight (store cs b)) (code_calls (store cs b)) (code_words (store cs b))
+    (code_size (store cs b)) (omega arith) (omega arith) (omega arith) (omega arith)
 
-pub of_code-bind : (t : Target) (o : Act) (b : Code) → of_code (bind t o b) ≡ sum (sum (of_target t) (sum (counts 0 0 (node_words o) 0) (of_act o))) (of_code b)
+pub of_code-bind : (t : Target) (o : Act) (b : Code)
+    → of_code (bind t o b) ≡ sum (sum (of_target t) (sum (counts 0 0 (node_words o) 0) (of_act o)))
+    (of_code b)
 unfolding of_act of_code of_arms act_weight act_calls inner_words act_size
 of_code-bind t o b =
     let n = node_words o in let i = inner_words o in let w = target_weight t in
-    sums_are (w + act_weight o) (act_calls o) (w + (n + i)) (target_size t + act_size o) (code_weight b) (code_calls b) (code_words b) (code_size b)
-    (code_weight (bind t o b)) (code_calls (bind t o b)) (code_words (bind t o b)) (code_size (bind t o b)) (omega arith) (omega arith) (omega arith) (omega arith)
+    sums_are (w + act_weight o) (act_calls o) (w + (n + i)) (target_size t + act_size o)
+    (code_weight b) (code_calls b) (code_words b) (code_size b)
+    (code_weight (bind t o b)) (code_calls (bind t o b)) (code_words (bind t o b))
+    (code_size (bind t o b)) (omega arith) (omega arith) (omega arith) (omega arith)
     ∙ ap (λ a. sum a (of_code b))
-    (sums_are w 0 w (target_size t) (act_weight o) (act_calls o) (n + i) (act_size o) (w + act_weight o) (act_calls o) (w + (n + i)) (target_size t + act_size o) (omega arith) (omega arith) (omega arith) (omega arith)
-    ∙ ap (λ a. sum (of_target t) a) (sums_are 0 0 n 0 (act_weight o) (act_calls o) i (act_size o) (act_weight o) (act_calls o) (n + i) (act_size o) (omega arith) (omega arith) (omega arith) (omega arith)))
+    (sums_are w 0 w (target_size t) (act_weight o) (act_calls o) (n + i) (act_size o)
+    (w + act_weight o) (act_calls o) (w + (n + i)) (target_size t + act_size o) (omega arith)
+    (omega arith) (omega arith) (omega arith)
+    ∙ ap (λ a. sum (of_target t) a)
+    (sums_are 0 0 n 0 (act_weight o) (act_calls o) i (act_size o) (act_weight o) (act_calls o)
+    (n + i) (act_size o) (omega arith) (omega arith) (omega arith) (omega arith)))
 
 pub pattern_size : (s : Shape) → length (shape_vars s) ≡ shape_size s
 pattern_size (shape.Node t []) = refl
@@ -169,12 +209,17 @@ pub of_arms-none : of_arms no_arm ≡ counts 0 0 0 0
 unfolding of_act of_code of_arms act_weight act_calls inner_words act_size
 of_arms-none = refl
 
-pub of_arms-arm : (s : Shape) (b : Code) (as' : Arms) → of_arms (arm s b as') ≡ sum (sum (of_pattern s) (of_code b)) (of_arms as')
+pub of_arms-arm : (s : Shape) (b : Code) (as' : Arms)
+    → of_arms (arm s b as') ≡ sum (sum (of_pattern s) (of_code b)) (of_arms as')
 unfolding of_act of_code of_arms act_weight act_calls inner_words act_size
 of_arms-arm s b as' =
     let n = shape_size s in let e : length (shape_vars s) ≡ n = pattern_size s in
-    sums_are (3 + n + code_weight b) (code_calls b) (n + code_words b) (n + code_size b) (arms_weight as') (arms_calls as') (arms_words as') (arms_size as')
-    (arms_weight (arm s b as')) (arms_calls (arm s b as')) (arms_words (arm s b as')) (arms_size (arm s b as'))
+    sums_are (3 + n + code_weight b) (code_calls b) (n + code_words b) (n + code_size b)
+    (arms_weight as') (arms_calls as') (arms_words as') (arms_size as')
+    (arms_weight (arm s b as')) (arms_calls (arm s b as')) (arms_words (arm s b as'))
+    (arms_size (arm s b as'))
     (omega (arith, e)) (omega arith) (omega (arith, e)) (omega arith)
     ∙ ap (λ a. sum a (of_arms as'))
-    (sums_are (3 + n) 0 n n (code_weight b) (code_calls b) (code_words b) (code_size b) (3 + n + code_weight b) (code_calls b) (n + code_words b) (n + code_size b) (omega arith) (omega arith) (omega arith) (omega arith))
+    (sums_are (3 + n) 0 n n (code_weight b) (code_calls b) (code_words b) (code_size b)
+    (3 + n + code_weight b) (code_calls b) (n + code_words b) (n + code_size b) (omega arith)
+    (omega arith) (omega arith) (omega arith))

@@ -10,6 +10,12 @@ use Rattle.grin_opt.specs.Several.{MadeByPasses}
 
 pub made_simple : (g h : Program) → h ≡ simplified g → IsVectorForm g → MadeByPasses Simplified g h
 made_simple g h e of =
-    let fewer : updates_with_variable_tag (simplified g) ≤ updates_with_variable_tag g = fewer_updates (λ v. one_if_some (tag_variable v)) g in
+    let fewer : updates_with_variable_tag (simplified g) ≤ updates_with_variable_tag g
+    = fewer_updates (λ v. one_if_some (tag_variable v)) g in
     let shape = is_simplified g h e of in
-    record { stays = shape.stays; no_more_open = subst (λ k. updates_with_variable_tag k ≤ updates_with_variable_tag g) (sym e) fewer; by = shape }
+    record {
+      stays = shape.stays;
+      no_more_open = subst
+          (λ k. updates_with_variable_tag k ≤ updates_with_variable_tag g) (sym e) fewer;
+      by = shape;
+    }

@@ -36,18 +36,32 @@ module _ (count : Val → ℕ) where
     code_counted : (b : Code) → code_update_sum count b ≡ counted (code_updates b)
     code_counted (end o) = act_counted o
     code_counted (store cs b) = code_counted b
-    code_counted (bind t o b) = omega (arith, act_counted o, code_counted b, counted_append (act_updates o) (code_updates b))
+    code_counted (bind t o b) = omega
+        (arith, act_counted o, code_counted b, counted_append (act_updates o) (code_updates b))
 
     arms_counted : (as' : Arms) → arms_update_sum count as' ≡ counted (arms_updates as')
     arms_counted no_arm = omega arith
-    arms_counted (arm s b as') = omega (arith, code_counted b, arms_counted as', counted_append (code_updates b) (arms_updates as'))
+    arms_counted (arm s b as') = omega (
+      arith,
+      code_counted b,
+      arms_counted as',
+      counted_append (code_updates b)
+          (arms_updates as'),
+    )
 
   procs_counted : (qs : List Procedure) → procs_update_sum count qs ≡ counted (updates_of qs)
   procs_counted [] = omega arith
-  procs_counted (q ∷ qs) = omega (arith, code_counted q.body, procs_counted qs, counted_append (code_updates q.body) (updates_of qs))
+  procs_counted (q ∷ qs) = omega (
+    arith,
+    code_counted q.body,
+    procs_counted qs,
+    counted_append (code_updates q.body) (updates_of qs),
+  )
 
-  pub same_count : (qs rs : List Procedure) → updates_of rs ≡ updates_of qs → procs_update_sum count rs ≡ procs_update_sum count qs
+  pub same_count : (qs rs : List Procedure) → updates_of rs ≡ updates_of qs
+      → procs_update_sum count rs ≡ procs_update_sum count qs
   same_count qs rs same = procs_counted rs ∙ (ap counted same ∙ sym (procs_counted qs))
 
-pub same_open_updates : (g h : Program) → updates_of h.procs ≡ updates_of g.procs → updates_with_variable_tag h ≡ updates_with_variable_tag g
+pub same_open_updates : (g h : Program) → updates_of h.procs ≡ updates_of g.procs
+    → updates_with_variable_tag h ≡ updates_with_variable_tag g
 same_open_updates g h same = same_count (λ v. one_if_some (tag_variable v)) g.procs h.procs same

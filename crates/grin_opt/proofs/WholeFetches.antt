@@ -54,7 +54,8 @@ mutual
   arms_whole no_arm h = tt
   arms_whole (arm s b as') h = (tt, code_whole b h.1, arms_whole as' h.2)
 
-procs_whole : (qs : List Procedure) → EveryBodyIsOfKind whole_node_kind qs → EveryBodyIsOfKind no_word_fetch_kind qs
+procs_whole : (qs : List Procedure) → EveryBodyIsOfKind whole_node_kind qs
+    → EveryBodyIsOfKind no_word_fetch_kind qs
 procs_whole [] h = tt
 procs_whole (q ∷ qs) h = (code_whole q.body h.0, procs_whole qs h.1)
 
@@ -67,7 +68,8 @@ module _ (g : Program) where
   mutual
     unfolding wide_act EachAct
 
-    wide_act_whole : (o : Act) → EachAct no_word_fetch_kind o → EachAct no_word_fetch_kind (wide_act (layout_of g) (table_of g) o)
+    wide_act_whole : (o : Act) → EachAct no_word_fetch_kind o
+        → EachAct no_word_fetch_kind (wide_act (layout_of g) (table_of g) o)
     wide_act_whole (case v as') h = (tt, tt, wide_arms_whole as' h.2)
     wide_act_whole (nested b) h = (tt, wide_code_whole b h.1)
     wide_act_whole (leaf (unit v)) h = (tt, tt)
@@ -82,16 +84,21 @@ module _ (g : Program) where
     wide_act_whole (leaf (write a)) h = tt
     wide_act_whole (leaf fail) h = tt
 
-    wide_code_whole : (b : Code) → EachCode no_word_fetch_kind b → EachCode no_word_fetch_kind (wide_code (layout_of g) (table_of g) b)
+    wide_code_whole : (b : Code) → EachCode no_word_fetch_kind b
+        → EachCode no_word_fetch_kind (wide_code (layout_of g) (table_of g) b)
     wide_code_whole (end o) h = wide_act_whole o h
-    wide_code_whole (store cs b) h = (all_any (wide_cells (layout_of g) (table_of g) cs), wide_code_whole b h.1)
+    wide_code_whole (store cs b) h =
+        (all_any (wide_cells (layout_of g) (table_of g) cs), wide_code_whole b h.1)
     wide_code_whole (bind t o b) h = (tt, wide_act_whole o h.1, wide_code_whole b h.2)
 
-    wide_arms_whole : (as' : Arms) → EachArms no_word_fetch_kind as' → EachArms no_word_fetch_kind (wide_arms (layout_of g) (table_of g) as')
+    wide_arms_whole : (as' : Arms) → EachArms no_word_fetch_kind as'
+        → EachArms no_word_fetch_kind (wide_arms (layout_of g) (table_of g) as')
     wide_arms_whole no_arm h = tt
     wide_arms_whole (arm s b as') h = (tt, wide_code_whole b h.1, wide_arms_whole as' h.2)
 
-  wide_procs_whole : (qs : List Procedure) → EveryBodyIsOfKind no_word_fetch_kind qs → EveryBodyIsOfKind no_word_fetch_kind (map (rewritten_procedure (wide_code (layout_of g) (table_of g))) qs)
+  wide_procs_whole : (qs : List Procedure) → EveryBodyIsOfKind no_word_fetch_kind qs
+      → EveryBodyIsOfKind no_word_fetch_kind
+      (map (rewritten_procedure (wide_code (layout_of g) (table_of g))) qs)
   wide_procs_whole [] h = tt
   wide_procs_whole (q ∷ qs) h = (wide_code_whole q.body h.0, wide_procs_whole qs h.1)
 
@@ -101,9 +108,17 @@ vectorised_whole g h = wide_procs_whole g g.procs h
 -- ---- fewer cases
 
 whole_blind : Blind no_word_fetch_kind
-whole_blind = record { leafs = go; cases = λ v v' as' bs' h. tt; blocks = λ b b' h. tt; wraps = λ v as' b h. tt; fails = λ v as' h. tt }
+whole_blind = record {
+  leafs = go;
+  cases = λ v v' as' bs' h. tt;
+  blocks = λ b b' h. tt;
+  wraps
+      = λ v as' b h. tt;
+  fails = λ v as' h. tt;
+}
   where
-    go : (w : Word → Word) (l : Leaf) → no_word_fetch_kind.operation (leaf l) → no_word_fetch_kind.operation (leaf (leaf_by w l))
+    go : (w : Word → Word) (l : Leaf) → no_word_fetch_kind.operation (leaf l)
+        → no_word_fetch_kind.operation (leaf (leaf_by w l))
     go w (fetch_word a i) h = h
     go w _ h = tt
 
@@ -115,10 +130,13 @@ simplified_whole g h =
 
 -- ---- the stages
 
-pub stays_whole : (k : PassName) (g h : Program) → IsStageFrom k Simplify → pass_relation k g h → (IsStageFrom (before k) Simplify → HasNoWordFetches g) → HasNoWordFetches h
+pub stays_whole : (k : PassName) (g h : Program) → IsStageFrom k Simplify → pass_relation k g h
+    → (IsStageFrom (before k) Simplify → HasNoWordFetches g) → HasNoWordFetches h
 stays_whole Translate g h up s so_far = absurd s
 stays_whole Eval g h up s so_far = absurd s
 stays_whole Apply g h up s so_far = absurd s
-stays_whole Vectorise g h up s so_far = subst HasNoWordFetches (sym s.made) (vectorised_whole g (so_far (omega arith)))
-stays_whole Simplify g h up s so_far = subst HasNoWordFetches (sym s.made) (simplified_whole g (so_far (omega arith)))
+stays_whole Vectorise g h up s so_far = subst HasNoWordFetches (sym s.made)
+    (vectorised_whole g (so_far (omega arith)))
+stays_whole Simplify g h up s so_far = subst HasNoWordFetches (sym s.made)
+    (simplified_whole g (so_far (omega arith)))
 stays_whole k g h up s so_far = absurd (omega (arith, up))

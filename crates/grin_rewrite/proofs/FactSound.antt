@@ -27,7 +27,8 @@ inlined_vectors = record vectorised_kind { operation = inlined_kind.operation }
 mutual
   unfolding EachAct
 
-  both_act : (o : Act) → EachAct inlined_kind o → EachAct vectorised_kind o → EachAct inlined_vectors o
+  both_act : (o : Act) → EachAct inlined_kind o → EachAct vectorised_kind o
+      → EachAct inlined_vectors o
   both_act (case v as') h k = (h.0, k.1, both_arms as' h.2 k.2)
   both_act (nested b) h k = (h.0, both_code b h.1 k.1)
   both_act (leaf (unit v)) h k = (h.0, k.1)
@@ -35,29 +36,35 @@ mutual
   both_act (leaf (apply v a)) h k = (h.0, k.1)
   both_act (leaf _) h k = h
 
-  both_code : (b : Code) → EachCode inlined_kind b → EachCode vectorised_kind b → EachCode inlined_vectors b
+  both_code : (b : Code) → EachCode inlined_kind b → EachCode vectorised_kind b
+      → EachCode inlined_vectors b
   both_code (end o) h k = both_act o h k
   both_code (store cs b) h k = (k.0, both_code b h.1 k.1)
   both_code (bind t o b) h k = (k.0, both_act o h.1 k.1, both_code b h.2 k.2)
 
-  both_arms : (as' : Arms) → EachArms inlined_kind as' → EachArms vectorised_kind as' → EachArms inlined_vectors as'
+  both_arms : (as' : Arms) → EachArms inlined_kind as' → EachArms vectorised_kind as'
+      → EachArms inlined_vectors as'
   both_arms no_arm h k = tt
   both_arms (arm s b as') h k = (k.0, both_code b h.1 k.1, both_arms as' h.2 k.2)
 
-pub both_bodies : (qs : List Procedure) → EveryBodyIsOfKind inlined_kind qs → EveryBodyIsOfKind vectorised_kind qs → EveryBodyIsOfKind inlined_vectors qs
+pub both_bodies : (qs : List Procedure) → EveryBodyIsOfKind inlined_kind qs
+    → EveryBodyIsOfKind vectorised_kind qs → EveryBodyIsOfKind inlined_vectors qs
 both_bodies [] h k = tt
 both_bodies (q ∷ qs) h k = (both_code q.body h.0 k.0, both_bodies qs h.1 k.1)
 
 -- ---- rules
 
 -- P is known of all states of the program
-pub record FactsAreSound {F : Type 0} (R : WithFacts F) (word : F → Word → Word) (g : Program) (start : F) (P : State → Type 0) : Type 1 where
+pub record FactsAreSound {F : Type 0} (R : WithFacts F) (word : F → Word → Word) (g : Program)
+    (start : F) (P : State → Type 0) : Type 1 where
   pub by : ByWords R word
   pub cases : (q : Kept) → CasesKeep R word q
   pub places : Places R word g start inlined_vectors
   pub holding : Holding R word g start inlined_vectors places P
 
-module _ {F : Type 0} (R : WithFacts F) (word : F → Word → Word) (g : Program) (start : F) (P : State → Type 0) (sound : FactsAreSound R word g start P) (of : IsVectorForm g) (passed : (i : List ℕ) (n : ℕ) → HoldsInEveryState P (world_of (run g i n)).seen) where
+module _ {F : Type 0} (R : WithFacts F) (word : F → Word → Word) (g : Program) (start : F)
+    (P : State → Type 0) (sound : FactsAreSound R word g start P) (of : IsVectorForm g)
+    (passed : (i : List ℕ) (n : ℕ) → HoldsInEveryState P (world_of (run g i n)).seen) where
   abbrev after : Program
   after = rewritten (walk_code R start) g
 
@@ -68,11 +75,16 @@ module _ {F : Type 0} (R : WithFacts F) (word : F → Word → Word) (g : Progra
   of_kind = both_bodies g.procs of.ready.inlined of.vectorised
 
   kept : CheckedRunsNeverMissing after × Keeps g after
-  kept = walked_kept R word g start inlined_vectors sound.places P sound.by sound.holding of.formed of_kind never
-      (λ i n. subst (λ a. HoldsInEveryState P (world_of a).seen) (sym (look_agrees g i n (never i n))) (passed i n))
+  kept = walked_kept R word g start inlined_vectors sound.places P sound.by sound.holding of.formed
+      of_kind never
+      (λ i n. subst (λ a. HoldsInEveryState P (world_of a).seen)
+      (sym (look_agrees g i n (never i n))) (passed i n))
 
-  stays_of_kind : (K : PieceKind) (blind : Blind K) → ((f : F) (v : Val) → (each_kept K blind).value v (val_by (word f) v)) → EveryBodyIsOfKind K g.procs → EveryBodyIsOfKind K after.procs
-  stays_of_kind K blind values = bodies_each R word start sound.by K blind (sound.cases (each_kept K blind)) values g.procs
+  stays_of_kind : (K : PieceKind) (blind : Blind K)
+      → ((f : F) (v : Val) → (each_kept K blind).value v (val_by (word f) v))
+      → EveryBodyIsOfKind K g.procs → EveryBodyIsOfKind K after.procs
+  stays_of_kind K blind values = bodies_each R word start sound.by K blind
+      (sound.cases (each_kept K blind)) values g.procs
 
   inlined : IsInlined after
   unfolding each_kept
@@ -82,7 +94,8 @@ module _ {F : Type 0} (R : WithFacts F) (word : F → Word → Word) (g : Progra
   ready = record {
     inlined = inlined;
     few_params = params_stay R word start 16 g.procs of.ready.few_params;
-    few_results = bodies_give R word start sound.by _ 13 (sound.cases (results_kept _ 13)) g.procs of.ready.few_results;
+    few_results = bodies_give R word start sound.by _ 13 (sound.cases (results_kept _ 13)) g.procs
+        of.ready.few_results;
     few_fields = of.ready.few_fields;
     never_missing = (looking_law after inlined).never_missing kept.0;
     runs = (looking_law after inlined).runs_well kept.0;
@@ -92,9 +105,11 @@ module _ {F : Type 0} (R : WithFacts F) (word : F → Word → Word) (g : Progra
   unfolding each_kept
   stays = record {
     of_vectors = record {
-      formed = walked_formed R word g start inlined_vectors sound.by sound.places sound.cases of_kind of.formed;
+      formed = walked_formed R word g start inlined_vectors sound.by sound.places sound.cases
+          of_kind of.formed;
       ready = ready;
-      vectorised = stays_of_kind vectorised_kind vectorised_blind (λ f v. no_variable (word f) v) of.vectorised;
+      vectorised = stays_of_kind vectorised_kind vectorised_blind (λ f v. no_variable (word f) v)
+          of.vectorised;
     };
     outside = walked_outside R word start g;
     narrow = λ most. stays_of_kind (narrow_kind most) (narrow_blind most) (λ f v h. tt);

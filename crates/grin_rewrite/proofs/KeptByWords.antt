@@ -1,4 +1,5 @@
--- What is kept where words alone change and alternatives go: relations that are so for each piece if they are for its parts.
+-- What is kept where words alone change and alternatives go: relations that are so for each piece
+-- if they are for its parts.
 use Rattle.std.proofs.Common.{◌≡◌, ℕ, ◌+◌, ◌≤◌, List, [], ◌∷◌, ◌++◌, map, length, refl, sym, ap, subst, arith}
 use Rattle.std.proofs.lemmas.List.{length-map}
 use Rattle.grin_syntax.specs.declared.program.Cell.{Cell}
@@ -20,7 +21,8 @@ use Rattle.grin_rewrite.specs.ByWords.{words_by, val_by, cells_by, leaf_by}
 -- alternatives without some of these
 pub data FewerArms : Arms → Arms → Type 0 where
   none : FewerArms no_arm no_arm
-  keeps : (s : Shape) (b : Code) (as' bs' : Arms) → FewerArms as' bs' → FewerArms (arm s b as') (arm s b bs')
+  keeps : (s : Shape) (b : Code) (as' bs' : Arms) → FewerArms as' bs'
+      → FewerArms (arm s b as') (arm s b bs')
   leaves : (s : Shape) (b : Code) (as' bs' : Arms) → FewerArms as' bs' → FewerArms (arm s b as') bs'
 
 pub record Kept : Type 1 where
@@ -28,18 +30,25 @@ pub record Kept : Type 1 where
   pub code : Code → Code → Type 0
   pub arms : Arms → Arms → Type 0
   pub value : Val → Val → Type 0
-  pub leafs : (w : Word → Word) (l : Leaf) → ((v : Val) → value v (val_by w v)) → act (leaf l) (leaf (leaf_by w l))
-  pub cases : (v v' : Val) (as' bs' : Arms) → value v v' → arms as' bs' → act (case v as') (case v' bs')
+  pub leafs : (w : Word → Word) (l : Leaf) → ((v : Val) → value v (val_by w v))
+      → act (leaf l) (leaf (leaf_by w l))
+  pub cases : (v v' : Val) (as' bs' : Arms) → value v v' → arms as' bs'
+      → act (case v as') (case v' bs')
   pub blocks : (b b' : Code) → code b b' → act (nested b) (nested b')
   pub ends : (o o' : Act) → act o o' → code (end o) (end o')
-  pub stores : (w : Word → Word) (cs : List Cell) (b b' : Code) → ((v : Val) → value v (val_by w v)) → code b b' → code (store cs b) (store (cells_by w cs) b')
-  pub binds : (t : Target) (o o' : Act) (b b' : Code) → act o o' → code b b' → code (bind t o b) (bind t o' b')
+  pub stores : (w : Word → Word) (cs : List Cell) (b b' : Code) → ((v : Val) → value v (val_by w v))
+      → code b b' → code (store cs b) (store (cells_by w cs) b')
+  pub binds : (t : Target) (o o' : Act) (b b' : Code) → act o o' → code b b'
+      → code (bind t o b) (bind t o' b')
   pub none_left : arms no_arm no_arm
-  pub more : (s : Shape) (b b' : Code) (as' bs' : Arms) → code b b' → arms as' bs' → arms (arm s b as') (arm s b' bs')
+  pub more : (s : Shape) (b b' : Code) (as' bs' : Arms) → code b b' → arms as' bs'
+      → arms (arm s b as') (arm s b' bs')
   pub drops : (s : Shape) (b : Code) (as' bs' : Arms) → arms as' bs' → arms (arm s b as') bs'
   -- an alternative, or a failure, takes the place of a case
-  pub takes : (v : Val) (as' : Arms) (s : Shape) (b : Code) (bs' : Arms) → arms as' (arm s b bs') → act (case v as') (as_act b)
-  pub passes : (as' : Arms) (s : Shape) (b : Code) (bs' : Arms) → arms as' (arm s b bs') → arms as' bs'
+  pub takes : (v : Val) (as' : Arms) (s : Shape) (b : Code) (bs' : Arms) → arms as' (arm s b bs')
+      → act (case v as') (as_act b)
+  pub passes : (as' : Arms) (s : Shape) (b : Code) (bs' : Arms) → arms as' (arm s b bs')
+      → arms as' bs'
   pub fails : (v : Val) (as' : Arms) → act (case v as') (leaf fail)
   pub same_code : (b : Code) → code b b
   pub again : (as' bs' cs' : Arms) → arms as' bs' → arms bs' cs' → arms as' cs'
@@ -63,32 +72,42 @@ module _ (w : Word → Word) where
 
 module _ (y : ℕ) where
   -- beside the same
-  pub beside : (xs ys zs : List ℕ) → times y ys ≤ times y zs → times y (xs ++ ys) ≤ times y (xs ++ zs)
+  pub beside : (xs ys zs : List ℕ) → times y ys ≤ times y zs
+      → times y (xs ++ ys) ≤ times y (xs ++ zs)
   beside xs ys zs h = times_fewer y xs ys xs zs (omega arith) h
 
   pub behind : (xs ys : List ℕ) (n : ℕ) → n ≤ times y ys → n ≤ times y (xs ++ ys)
-  behind xs ys n h = let e : times y (xs ++ ys) ≡ times y xs + times y ys = times_append y xs ys in omega (arith, e, h)
+  behind xs ys n h = let e : times y (xs ++ ys) ≡ times y xs + times y ys = times_append y xs ys
+      in omega (arith, e, h)
 
   left_of : (xs ys : List ℕ) (n : ℕ) → times y (xs ++ ys) ≤ n → times y xs ≤ n
-  left_of xs ys n h = let e : times y (xs ++ ys) ≡ times y xs + times y ys = times_append y xs ys in omega (arith, e, h)
+  left_of xs ys n h = let e : times y (xs ++ ys) ≡ times y xs + times y ys = times_append y xs ys
+      in omega (arith, e, h)
 
   right_of : (xs ys : List ℕ) (n : ℕ) → times y (xs ++ ys) ≤ n → times y ys ≤ n
-  right_of xs ys n h = let e : times y (xs ++ ys) ≡ times y xs + times y ys = times_append y xs ys in omega (arith, e, h)
+  right_of xs ys n h = let e : times y (xs ++ ys) ≡ times y xs + times y ys = times_append y xs ys
+      in omega (arith, e, h)
 
-  pub vars_taken : (n : ℕ) (s : Shape) (b : Code) (bs' : Arms) → times y (arms_vars (arm s b bs')) ≤ n → times y (act_vars (as_act b)) ≤ n
+  pub vars_taken : (n : ℕ) (s : Shape) (b : Code) (bs' : Arms)
+      → times y (arms_vars (arm s b bs')) ≤ n → times y (act_vars (as_act b)) ≤ n
   unfolding act_vars
-  vars_taken n s b bs' h = go b (left_of (code_vars b) (arms_vars bs') n (right_of (shape_vars s) (code_vars b ++ arms_vars bs') n h))
+  vars_taken n s b bs' h = go b
+      (left_of (code_vars b) (arms_vars bs') n
+      (right_of (shape_vars s) (code_vars b ++ arms_vars bs') n h))
     where
       go : (b : Code) → times y (code_vars b) ≤ n → times y (act_vars (as_act b)) ≤ n
       go (end o) k = k
       go (store cs b) k = k
       go (bind t o b) k = k
 
-  pub vars_passed : (n : ℕ) (s : Shape) (b : Code) (bs' : Arms) → times y (arms_vars (arm s b bs')) ≤ n → times y (arms_vars bs') ≤ n
+  pub vars_passed : (n : ℕ) (s : Shape) (b : Code) (bs' : Arms)
+      → times y (arms_vars (arm s b bs')) ≤ n → times y (arms_vars bs') ≤ n
   unfolding act_vars
-  vars_passed n s b bs' h = right_of (code_vars b) (arms_vars bs') n (right_of (shape_vars s) (code_vars b ++ arms_vars bs') n h)
+  vars_passed n s b bs' h = right_of (code_vars b) (arms_vars bs') n
+      (right_of (shape_vars s) (code_vars b ++ arms_vars bs') n h)
 
-  pub sites_taken : (n : ℕ) (s : Shape) (b : Code) (bs' : Arms) → times y (arms_sites (arm s b bs')) ≤ n → times y (act_sites (as_act b)) ≤ n
+  pub sites_taken : (n : ℕ) (s : Shape) (b : Code) (bs' : Arms)
+      → times y (arms_sites (arm s b bs')) ≤ n → times y (act_sites (as_act b)) ≤ n
   unfolding act_sites
   sites_taken n s b bs' h = go b (left_of (code_sites b) (arms_sites bs') n h)
     where
@@ -97,7 +116,8 @@ module _ (y : ℕ) where
       go (store cs b) k = k
       go (bind t o b) k = k
 
-  pub sites_passed : (n : ℕ) (s : Shape) (b : Code) (bs' : Arms) → times y (arms_sites (arm s b bs')) ≤ n → times y (arms_sites bs') ≤ n
+  pub sites_passed : (n : ℕ) (s : Shape) (b : Code) (bs' : Arms)
+      → times y (arms_sites (arm s b bs')) ≤ n → times y (arms_sites bs') ≤ n
   unfolding act_sites
   sites_passed n s b bs' h = right_of (code_sites b) (arms_sites bs') n h
 
@@ -115,16 +135,25 @@ module _ (y : ℕ) where
     cases = λ v v' as' bs' h k. k;
     blocks = λ b b' h. h;
     ends = λ o o' h. h;
-    stores = λ w cs b b' v h. subst (λ xs. times y (xs ++ code_vars b') ≤ times y (cell_vars cs ++ code_vars b)) (sym (cells_bind w cs)) (beside (cell_vars cs) (code_vars b') (code_vars b) h);
-    binds = λ t o o' b b' h k. beside (target_vars t) (act_vars o' ++ code_vars b') (act_vars o ++ code_vars b) (times_fewer y (act_vars o') (code_vars b') (act_vars o) (code_vars b) h k);
+    stores = λ w cs b b' v h. subst
+        (λ xs. times y (xs ++ code_vars b') ≤ times y (cell_vars cs ++ code_vars b))
+        (sym (cells_bind w cs)) (beside (cell_vars cs) (code_vars b') (code_vars b) h);
+    binds = λ t o o' b b' h k. beside (target_vars t) (act_vars o' ++ code_vars b')
+        (act_vars o ++ code_vars b)
+        (times_fewer y (act_vars o') (code_vars b') (act_vars o) (code_vars b) h k);
     none_left = omega arith;
-    more = λ s b b' as' bs' h k. beside (shape_vars s) (code_vars b' ++ arms_vars bs') (code_vars b ++ arms_vars as') (times_fewer y (code_vars b') (arms_vars bs') (code_vars b) (arms_vars as') h k);
-    drops = λ s b as' bs' h. behind (shape_vars s) (code_vars b ++ arms_vars as') (times y (arms_vars bs')) (behind (code_vars b) (arms_vars as') (times y (arms_vars bs')) h);
+    more = λ s b b' as' bs' h k. beside (shape_vars s) (code_vars b' ++ arms_vars bs')
+        (code_vars b ++ arms_vars as')
+        (times_fewer y (code_vars b') (arms_vars bs') (code_vars b) (arms_vars as') h k);
+    drops = λ s b as' bs' h. behind (shape_vars s) (code_vars b ++ arms_vars as')
+        (times y (arms_vars bs'))
+        (behind (code_vars b) (arms_vars as') (times y (arms_vars bs')) h);
     takes = λ v as' s b bs' h. vars_taken (times y (arms_vars as')) s b bs' h;
     passes = λ as' s b bs' h. vars_passed (times y (arms_vars as')) s b bs' h;
     fails = λ v as'. omega arith;
     same_code = λ b. omega arith;
-    again = λ as' bs' cs' h k. on (times y (arms_vars as')) (times y (arms_vars bs')) (times y (arms_vars cs')) h k;
+    again = λ as' bs' cs' h k. on (times y (arms_vars as')) (times y (arms_vars bs'))
+        (times y (arms_vars cs')) h k;
   }
 
   unfoldable pub sites_kept : Kept
@@ -138,16 +167,21 @@ module _ (y : ℕ) where
     cases = λ v v' as' bs' h k. k;
     blocks = λ b b' h. h;
     ends = λ o o' h. h;
-    stores = λ w cs b b' v h. subst (λ xs. times y (xs ++ code_sites b') ≤ times y (map (λ c. c.site.0) cs ++ code_sites b)) (sym (cells_stand w cs)) (beside (map (λ c. c.site.0) cs) (code_sites b') (code_sites b) h);
-    binds = λ t o o' b b' h k. times_fewer y (act_sites o') (code_sites b') (act_sites o) (code_sites b) h k;
+    stores = λ w cs b b' v h. subst
+        (λ xs. times y (xs ++ code_sites b') ≤ times y (map (λ c. c.site.0) cs ++ code_sites b))
+        (sym (cells_stand w cs)) (beside (map (λ c. c.site.0) cs) (code_sites b') (code_sites b) h);
+    binds = λ t o o' b b' h k. times_fewer y (act_sites o') (code_sites b') (act_sites o)
+        (code_sites b) h k;
     none_left = omega arith;
-    more = λ s b b' as' bs' h k. times_fewer y (code_sites b') (arms_sites bs') (code_sites b) (arms_sites as') h k;
+    more = λ s b b' as' bs' h k. times_fewer y (code_sites b') (arms_sites bs') (code_sites b)
+        (arms_sites as') h k;
     drops = λ s b as' bs' h. behind (code_sites b) (arms_sites as') (times y (arms_sites bs')) h;
     takes = λ v as' s b bs' h. sites_taken (times y (arms_sites as')) s b bs' h;
     passes = λ as' s b bs' h. sites_passed (times y (arms_sites as')) s b bs' h;
     fails = λ v as'. omega arith;
     same_code = λ b. omega arith;
-    again = λ as' bs' cs' h k. on (times y (arms_sites as')) (times y (arms_sites bs')) (times y (arms_sites cs')) h k;
+    again = λ as' bs' cs' h k. on (times y (arms_sites as')) (times y (arms_sites bs'))
+        (times y (arms_sites cs')) h k;
   }
 
 -- ---- the weight, the calls and the words
@@ -168,10 +202,14 @@ module _ (w : Word → Word) where
 
   pub leaf_as_heavy : (l : Leaf) → act_weight (leaf (leaf_by w l)) ≤ act_weight (leaf l)
   unfolding act_weight
-  leaf_as_heavy (unit v) = let h : val_weight (val_by w v) ≡ val_weight v = as_heavy v in omega (arith, h)
-  leaf_as_heavy (update a v) = let h : val_weight (val_by w v) ≡ val_weight v = as_heavy v in omega (arith, h)
-  leaf_as_heavy (apply v a) = let h : val_weight (val_by w v) ≡ val_weight v = as_heavy v in omega (arith, h)
-  leaf_as_heavy (call f ws) = let h : length (words_by w ws) ≡ length ws = length-map ws w in omega (arith, h)
+  leaf_as_heavy (unit v) = let h : val_weight (val_by w v) ≡ val_weight v = as_heavy v
+      in omega (arith, h)
+  leaf_as_heavy (update a v) = let h : val_weight (val_by w v) ≡ val_weight v = as_heavy v
+      in omega (arith, h)
+  leaf_as_heavy (apply v a) = let h : val_weight (val_by w v) ≡ val_weight v = as_heavy v
+      in omega (arith, h)
+  leaf_as_heavy (call f ws) = let h : length (words_by w ws) ≡ length ws = length-map ws w
+      in omega (arith, h)
   leaf_as_heavy _ = omega arith
 
   pub leaf_calls : (l : Leaf) → act_calls (leaf (leaf_by w l)) ≤ act_calls (leaf l)
@@ -179,7 +217,8 @@ module _ (w : Word → Word) where
   leaf_calls (call f ws) = omega arith
   leaf_calls _ = omega arith
 
-  pub leaf_words : (l : Leaf) → (node_words (leaf (leaf_by w l)) ≡ node_words (leaf l)) × (end_words (leaf (leaf_by w l)) ≡ end_words (leaf l))
+  pub leaf_words : (l : Leaf) → (node_words (leaf (leaf_by w l)) ≡ node_words (leaf l))
+      × (end_words (leaf (leaf_by w l)) ≡ end_words (leaf l))
   leaf_words (call f ws) = (refl, refl)
   leaf_words _ = (refl, refl)
 
@@ -200,12 +239,15 @@ weight_kept = record {
   cases = λ v v' as' bs' h k. omega (arith, h, k);
   blocks = λ b b' h. omega (arith, h);
   ends = λ o o' h. h;
-  stores = λ w cs b b' v h. (let e : cells_weight (cells_by w cs) ≡ cells_weight cs = cells_as_heavy w cs in omega (arith, e, h));
+  stores = λ w cs b b' v h.
+      (let e : cells_weight (cells_by w cs) ≡ cells_weight cs = cells_as_heavy w cs
+      in omega (arith, e, h));
   binds = λ t o o' b b' h k. omega (arith, h, k);
   none_left = omega arith;
   more = λ s b b' as' bs' h k. omega (arith, h, k);
   drops = λ s b as' bs' h. omega (arith, h);
-  takes = λ v as' s b bs' h. (let k : act_weight (as_act b) ≤ 16 + code_weight b = weight_of b in omega (arith, h, k));
+  takes = λ v as' s b bs' h.
+      (let k : act_weight (as_act b) ≤ 16 + code_weight b = weight_of b in omega (arith, h, k));
   passes = λ as' s b bs' h. omega (arith, h);
   fails = λ v as'. omega arith;
   same_code = λ b. omega arith;
@@ -234,7 +276,8 @@ calls_kept = record {
   none_left = omega arith;
   more = λ s b b' as' bs' h k. omega (arith, h, k);
   drops = λ s b as' bs' h. omega (arith, h);
-  takes = λ v as' s b bs' h. (let k : act_calls (as_act b) ≡ code_calls b = calls_of b in omega (arith, h, k));
+  takes = λ v as' s b bs' h.
+      (let k : act_calls (as_act b) ≡ code_calls b = calls_of b in omega (arith, h, k));
   passes = λ as' s b bs' h. omega (arith, h);
   fails = λ v as'. omega arith;
   same_code = λ b. omega arith;
@@ -253,9 +296,11 @@ node_within (leaf _) = omega arith
 node_within (case v as') = omega arith
 node_within (nested b) = omega arith
 
-pub words_of_block : (b : Code) → (node_words (as_act b) + inner_words (as_act b) ≤ code_words b) × (end_words (as_act b) + inner_words (as_act b) ≤ 1 + code_words b)
+pub words_of_block : (b : Code) → (node_words (as_act b) + inner_words (as_act b) ≤ code_words b)
+    × (end_words (as_act b) + inner_words (as_act b) ≤ 1 + code_words b)
 unfolding inner_words
-words_of_block (end o) = let k : node_words o ≤ end_words o = node_within o in (omega (arith, k), omega arith)
+words_of_block (end o) = let k : node_words o ≤ end_words o = node_within o
+    in (omega (arith, k), omega arith)
 words_of_block (store cs b) = (omega arith, omega arith)
 words_of_block (bind t o b) = (omega arith, omega arith)
 
@@ -266,7 +311,11 @@ words_kept = record {
   code = λ b b'. code_words b' ≤ code_words b;
   arms = λ as' bs'. arms_words bs' ≤ arms_words as';
   value = λ v v'. Unit {0};
-  leafs = λ w l h. record { bound = (let e = (leaf_words w l).0 in omega (arith, e)); last = (let e = (leaf_words w l).1 in omega (arith, e)) };
+  leafs = λ w l h. record {
+    bound = (let e = (leaf_words w l).0 in omega (arith, e));
+    last
+        = (let e = (leaf_words w l).1 in omega (arith, e));
+  };
   cases = λ v v' as' bs' h k. record { bound = omega (arith, k); last = omega (arith, k) };
   blocks = λ b b' h. record { bound = omega (arith, h); last = omega (arith, h) };
   ends = λ o o' h. h.last;
@@ -275,7 +324,12 @@ words_kept = record {
   none_left = omega arith;
   more = λ s b b' as' bs' h k. omega (arith, h, k);
   drops = λ s b as' bs' h. omega (arith, h);
-  takes = λ v as' s b bs' h. (let k = words_of_block b in record { bound = (let e = k.0 in omega (arith, h, e)); last = (let e = k.1 in omega (arith, h, e)) });
+  takes = λ v as' s b bs' h.
+      (let k = words_of_block b in record {
+        bound = (let e = k.0 in omega (arith, h, e));
+        last
+            = (let e = k.1 in omega (arith, h, e));
+      });
   passes = λ as' s b bs' h. omega (arith, h);
   fails = λ v as'. record { bound = omega arith; last = omega arith };
   same_code = λ b. omega arith;
@@ -285,7 +339,8 @@ words_kept = record {
 -- ---- what updates count
 
 module _ (count : Val → ℕ) where
-  pub leaf_sum : (w : Word → Word) (l : Leaf) → ((v : Val) → count (val_by w v) ≤ count v) → act_update_sum count (leaf (leaf_by w l)) ≤ act_update_sum count (leaf l)
+  pub leaf_sum : (w : Word → Word) (l : Leaf) → ((v : Val) → count (val_by w v) ≤ count v)
+      → act_update_sum count (leaf (leaf_by w l)) ≤ act_update_sum count (leaf l)
   unfolding act_update_sum
   leaf_sum w (update a v) h = h v
   leaf_sum w _ h = omega arith
@@ -312,7 +367,9 @@ module _ (count : Val → ℕ) where
     none_left = omega arith;
     more = λ s b b' as' bs' h k. omega (arith, h, k);
     drops = λ s b as' bs' h. omega (arith, h);
-    takes = λ v as' s b bs' h. (let k : act_update_sum count (as_act b) ≡ code_update_sum count b = sum_of b in omega (arith, h, k));
+    takes = λ v as' s b bs' h.
+        (let k : act_update_sum count (as_act b) ≡ code_update_sum count b = sum_of b
+        in omega (arith, h, k));
     passes = λ as' s b bs' h. omega (arith, h);
     fails = λ v as'. omega arith;
     same_code = λ b. omega arith;
@@ -330,7 +387,8 @@ pub record Blind (K : PieceKind) : Type 0 where
   pub fails : (v : Val) (as' : Arms) → K.operation (case v as') → K.operation (leaf fail)
 
 module _ (K : PieceKind) (blind : Blind K) where
-  pub leaf_each : (w : Word → Word) (l : Leaf) → ((v : Val) → K.value v → K.value (val_by w v)) → EachAct K (leaf l) → EachAct K (leaf (leaf_by w l))
+  pub leaf_each : (w : Word → Word) (l : Leaf) → ((v : Val) → K.value v → K.value (val_by w v))
+      → EachAct K (leaf l) → EachAct K (leaf (leaf_by w l))
   unfolding EachAct
   leaf_each w (unit v) k h = (blind.leafs w (unit v) h.0, k v h.1)
   leaf_each w (update a v) k h = (blind.leafs w (update a v) h.0, k v h.1)
@@ -344,7 +402,9 @@ module _ (K : PieceKind) (blind : Blind K) where
   leaf_each w (write a) k h = blind.leafs w (write a) h
   leaf_each w fail k h = blind.leafs w fail h
 
-  pub cells_each : (w : Word → Word) (cs : List Cell) → ((v : Val) → K.value v → K.value (val_by w v)) → AllOf {A = Cell} (λ c. K.value c.val) cs → AllOf {A = Cell} (λ c. K.value c.val) (cells_by w cs)
+  pub cells_each : (w : Word → Word) (cs : List Cell)
+      → ((v : Val) → K.value v → K.value (val_by w v)) → AllOf {A = Cell} (λ c. K.value c.val) cs
+      → AllOf {A = Cell} (λ c. K.value c.val) (cells_by w cs)
   cells_each w [] k h = tt
   cells_each w (c ∷ cs) k h = (k c.val h.0, cells_each w cs k h.1)
 
@@ -378,25 +438,55 @@ module _ (K : PieceKind) (blind : Blind K) where
   }
 
 pub inlined_blind : Blind inlined_kind
-inlined_blind = record { leafs = go; cases = λ v v' as' bs' h. tt; blocks = λ b b' h. tt; wraps = λ v as' b h. tt; fails = λ v as' h. tt }
+inlined_blind = record {
+  leafs = go;
+  cases = λ v v' as' bs' h. tt;
+  blocks = λ b b' h. tt;
+  wraps
+      = λ v as' b h. tt;
+  fails = λ v as' h. tt;
+}
   where
-    go : (w : Word → Word) (l : Leaf) → inlined_kind.operation (leaf l) → inlined_kind.operation (leaf (leaf_by w l))
+    go : (w : Word → Word) (l : Leaf) → inlined_kind.operation (leaf l)
+        → inlined_kind.operation (leaf (leaf_by w l))
     go w (eval a) h = h
     go w (apply v a) h = h
     go w _ h = tt
 
 pub by_words_blind : Blind without_node_fetches
-by_words_blind = record { leafs = go; cases = λ v v' as' bs' h. tt; blocks = λ b b' h. tt; wraps = λ v as' b h. tt; fails = λ v as' h. tt }
+by_words_blind = record {
+  leafs = go;
+  cases = λ v v' as' bs' h. tt;
+  blocks = λ b b' h. tt;
+  wraps
+      = λ v as' b h. tt;
+  fails = λ v as' h. tt;
+}
   where
-    go : (w : Word → Word) (l : Leaf) → without_node_fetches.operation (leaf l) → without_node_fetches.operation (leaf (leaf_by w l))
+    go : (w : Word → Word) (l : Leaf) → without_node_fetches.operation (leaf l)
+        → without_node_fetches.operation (leaf (leaf_by w l))
     go w (fetch a) h = h
     go w _ h = tt
 
 pub vectorised_blind : Blind vectorised_kind
-vectorised_blind = record { leafs = λ w l h. tt; cases = λ v v' as' bs' h. tt; blocks = λ b b' h. tt; wraps = λ v as' b h. tt; fails = λ v as' h. tt }
+vectorised_blind = record {
+  leafs = λ w l h. tt;
+  cases = λ v v' as' bs' h. tt;
+  blocks = λ b b' h. tt;
+  wraps
+      = λ v as' b h. tt;
+  fails = λ v as' h. tt;
+}
 
 pub narrow_blind : (most : ℕ) → Blind (narrow_kind most)
-narrow_blind most = record { leafs = λ w l h. tt; cases = λ v v' as' bs' h. tt; blocks = λ b b' h. tt; wraps = λ v as' b h. tt; fails = λ v as' h. tt }
+narrow_blind most = record {
+  leafs = λ w l h. tt;
+  cases = λ v v' as' bs' h. tt;
+  blocks = λ b b' h. tt;
+  wraps
+      = λ v as' b h. tt;
+  fails = λ v as' h. tt;
+}
 
 pub no_variable : (w : Word → Word) (v : Val) → NoNodeVar v → NoNodeVar (val_by w v)
 no_variable w (NodeVar x) h = h
@@ -413,7 +503,8 @@ module _ (width most : ℕ) where
   as_wide w (Vector ws) = length-map ws w
   as_wide w (One a) = refl
 
-  pub leaf_gives : (w : Word → Word) (l : Leaf) → NarrowAct width most (leaf l) → NarrowAct width most (leaf (leaf_by w l))
+  pub leaf_gives : (w : Word → Word) (l : Leaf) → NarrowAct width most (leaf l)
+      → NarrowAct width most (leaf (leaf_by w l))
   unfolding NarrowAct
   leaf_gives w (unit v) h = subst (λ n. n ≤ most) (sym (as_wide w v)) h
   leaf_gives w (fetch a) h = h

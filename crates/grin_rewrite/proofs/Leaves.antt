@@ -34,19 +34,23 @@ pub record LeafSeen (op : Op) : Type 0 where
   pub is : op ≡ op_of at
   pub tree : act_of op ≡ leaf at
 
-module _ (op : Op) (not_case : (v : Val) (alts : Seq Alt) → op ≡ Case v alts → ⊥) (not_nested : (b : Box Block Global) → op ≡ Nested b → ⊥) where
+module _ (op : Op) (not_case : (v : Val) (alts : Seq Alt) → op ≡ Case v alts → ⊥)
+    (not_nested : (b : Box Block Global) → op ≡ Nested b → ⊥) where
   seen : (l : Leaf) → op_of l ≡ op → act_of (op_of l) ≡ leaf l → LeafSeen op
   seen l e t = record { at = l; is = sym e; tree = ap act_of (sym e) ∙ t }
 
   layer_seen : (x : open'.Op-F Op Stmt Alt Block) → roll-Op x ≡ op → LeafSeen op
   layer_seen (open'.Unit v) e = seen (unit v) (sym (rolls-Unit v) ∙ e) (act_of-Unit v)
   layer_seen (open'.Fetch w) e = seen (fetch w) (sym (rolls-Fetch w) ∙ e) (act_of-Fetch w)
-  layer_seen (open'.FetchWord w i) e = seen (fetch_word w i) (sym (rolls-FetchWord w i) ∙ e) (act_of-FetchWord w i)
-  layer_seen (open'.Update w v) e = seen (update w v) (sym (rolls-Update w v) ∙ e) (act_of-Update w v)
+  layer_seen (open'.FetchWord w i) e = seen (fetch_word w i) (sym (rolls-FetchWord w i) ∙ e)
+      (act_of-FetchWord w i)
+  layer_seen (open'.Update w v) e = seen (update w v) (sym (rolls-Update w v) ∙ e)
+      (act_of-Update w v)
   layer_seen (open'.Eval w) e = seen (eval w) (sym (rolls-Eval w) ∙ e) (act_of-Eval w)
   layer_seen (open'.Apply v w) e = seen (apply v w) (sym (rolls-Apply v w) ∙ e) (act_of-Apply v w)
   layer_seen (open'.Call f ws) e = seen (call f ws) (sym (rolls-Call f ws) ∙ e) (act_of-Call f ws)
-  layer_seen (open'.Prim p a b) e = seen (prim p a b) (sym (rolls-Prim p a b) ∙ e) (act_of-Prim p a b)
+  layer_seen (open'.Prim p a b) e = seen (prim p a b) (sym (rolls-Prim p a b) ∙ e)
+      (act_of-Prim p a b)
   layer_seen open'.Read e = seen read (sym rolls-Read ∙ e) act_of-Read
   layer_seen (open'.Write w) e = seen (write w) (sym (rolls-Write w) ∙ e) (act_of-Write w)
   layer_seen (open'.Case v alts) e = absurd (not_case v alts (sym e ∙ rolls-Case v alts))
@@ -61,10 +65,12 @@ module _ (op : Op) (not_case : (v : Val) (alts : Seq Alt) → op ≡ Case v alts
 
 -- an operation without a block is seen
 pub leaf_seen : (op : Op) → IsLeaf (act_of op) → LeafSeen op
-leaf_seen op h = other_seen op (λ v alts e. subst IsLeaf (ap act_of e ∙ act_of-Case v alts) h) (λ b e. subst IsLeaf (ap act_of e ∙ act_of-Nested b) h)
+leaf_seen op h = other_seen op (λ v alts e. subst IsLeaf (ap act_of e ∙ act_of-Case v alts) h)
+    (λ b e. subst IsLeaf (ap act_of e ∙ act_of-Nested b) h)
 
 -- it stays where the rule leaves it as it is
-pub stays : (rule : Leaf → Act) (op : Op) → IsLeaf (act_of op) → ((l : Leaf) → op ≡ op_of l → rule l ≡ leaf l) → act_of op ≡ rewrite_act rule (act_of op)
+pub stays : (rule : Leaf → Act) (op : Op) → IsLeaf (act_of op)
+    → ((l : Leaf) → op ≡ op_of l → rule l ≡ leaf l) → act_of op ≡ rewrite_act rule (act_of op)
 unfolding rewrite_act
 stays rule op h e =
     let s = leaf_seen op h in

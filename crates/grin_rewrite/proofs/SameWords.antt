@@ -26,7 +26,9 @@ leaf_same (apply v a) = ap (λ u. leaf (apply u a)) (val_same v)
 leaf_same (call f ws) = ap (λ us. leaf (call f us)) (sym (map_same ws))
 leaf_same _ = refl
 
-pub words_stay : {F : Type 0} (R : WithFacts F) → ((f : F) (l : Leaf) → R.leaf_becomes f l ≡ leaf l) → ((f : F) (v : Val) → R.value_becomes f v ≡ v) → ((f : F) (cs : List Cell) → R.cells_become f cs ≡ cs) → ByWords R (λ f a. a)
+pub words_stay : {F : Type 0} (R : WithFacts F) → ((f : F) (l : Leaf) → R.leaf_becomes f l ≡ leaf l)
+    → ((f : F) (v : Val) → R.value_becomes f v ≡ v)
+    → ((f : F) (cs : List Cell) → R.cells_become f cs ≡ cs) → ByWords R (λ f a. a)
 words_stay R leafs values cells = record {
   leafs = λ f l. leafs f l ∙ leaf_same l;
   values = λ f v. values f v ∙ val_same v;

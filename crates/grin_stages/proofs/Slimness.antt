@@ -11,11 +11,13 @@ use Rattle.grin_stages.specs.Stage.{VectorisedIsSlim}
 use Rattle.grin_stages.proofs.Stages.{from_pass}
 use Rattle.grin_stages.proofs.Alike.{inlined_stage}
 
-few_words : (most : ℕ) (qs rs : List Procedure) → ProcedureWordsDoNotGrow qs rs → AllOf (λ q. procedure_words q ≤ most) qs → AllOf (λ q. procedure_words q ≤ most) rs
+few_words : (most : ℕ) (qs rs : List Procedure) → ProcedureWordsDoNotGrow qs rs
+    → AllOf (λ q. procedure_words q ≤ most) qs → AllOf (λ q. procedure_words q ≤ most) rs
 few_words most [] [] f h = tt
 few_words most [] (r ∷ rs) f h = absurd f
 few_words most (q ∷ qs) [] f h = absurd f
-few_words most (q ∷ qs) (r ∷ rs) f h = (let a = f.0 in let b = h.0 in omega (arith, a, b), few_words most qs rs f.1 h.1)
+few_words most (q ∷ qs) (r ∷ rs) f h =
+    (let a = f.0 in let b = h.0 in omega (arith, a, b), few_words most qs rs f.1 h.1)
 
 widened_is_slim : (s most : ℕ) (g h : Program) → Widened g h → Slim s most g → Slim s most h
 widened_is_slim s most g h w slim = record {
@@ -27,4 +29,6 @@ widened_is_slim s most g h w slim = record {
 pub vectorised_slim : IsLinearInSize → VectorisedIsSlim
 vectorised_slim law p h s A least =
     let from = from_pass p Vectorise h tt s in
-    widened_is_slim _ _ from.g h from.shape (subst (λ g. Slim (size g) (largest_procedure g) from.g) (inlined_stage p from.g from.stage A least) (law from.g))
+    widened_is_slim _ _ from.g h from.shape
+    (subst (λ g. Slim (size g) (largest_procedure g) from.g)
+    (inlined_stage p from.g from.stage A least) (law from.g))

@@ -34,11 +34,14 @@ fresh_next x y k = refl
 
 pub fresh_split : (x y j k : ℕ) → fresh x y (j + k) ≡ fresh x y j + fresh x (y + j) k
 fresh_split x y zero k = let e : y + 0 ≡ y = omega arith in let f : 0 + k ≡ k = omega arith in
-    subst (λ z. fresh x y (0 + k) ≡ 0 + fresh x z k) (sym e) (subst (λ n. fresh x y n ≡ 0 + fresh x y k) (sym f) (omega arith))
+    subst (λ z. fresh x y (0 + k) ≡ 0 + fresh x z k) (sym e)
+    (subst (λ n. fresh x y n ≡ 0 + fresh x y k) (sym f) (omega arith))
 fresh_split x y (suc j) k =
     let e : suc y + j ≡ y + suc j = omega arith in
     let f : suc (j + k) ≡ suc j + k = omega arith in
-    let h : fresh x (suc y) (j + k) ≡ fresh x (suc y) j + fresh x (y + suc j) k = subst (λ z. fresh x (suc y) (j + k) ≡ fresh x (suc y) j + fresh x z k) e (fresh_split x (suc y) j k) in
+    let h : fresh x (suc y) (j + k) ≡ fresh x (suc y) j + fresh x (y + suc j) k
+    = subst (λ z. fresh x (suc y) (j + k) ≡ fresh x (suc y) j + fresh x z k) e
+    (fresh_split x (suc y) j k) in
     let g : fresh x y (suc (j + k)) ≡ fresh x y (suc j) + fresh x (y + suc j) k = omega arith in
     subst (λ n. fresh x y n ≡ fresh x y (suc j) + fresh x (y + suc j) k) f g
 

@@ -1,4 +1,5 @@
--- What is well formed stays so in a program with other procedures, as many, and where more is in scope.
+-- What is well formed stays so in a program with other procedures, as many, and where more is in
+-- scope.
 use Rattle.std.proofs.Common.{◌≡◌, ℕ, zero, suc, ◌+◌, ◌<◌, ◌≤◌, nat_eq, List, [], ◌∷◌, ◌++◌, map, length, Option, Some, None, slice_get, sym, subst, arith}
 use Rattle.grin_syntax.specs.declared.program.VarId.{VarId}
 use Rattle.grin_syntax.specs.declared.program.ProcId.{ProcId}
@@ -46,9 +47,11 @@ fewer_chain {xs = xs} {ys = ys} {zs = zs} u v = record { by = λ y. go y (u.by y
     go y h k = omega arith
 
 fewer_both : (xs ys zs : List ℕ) → Fewer ys zs → Fewer (xs ++ ys) (xs ++ zs)
-fewer_both xs ys zs w = record { by = λ y. go y (w.by y) (times_append y xs ys) (times_append y xs zs) }
+fewer_both xs ys zs w = record
+    { by = λ y. go y (w.by y) (times_append y xs ys) (times_append y xs zs) }
   where
-    go : (y : ℕ) → times y ys ≤ times y zs → times y (xs ++ ys) ≡ times y xs + times y ys → times y (xs ++ zs) ≡ times y xs + times y zs → times y (xs ++ ys) ≤ times y (xs ++ zs)
+    go : (y : ℕ) → times y ys ≤ times y zs → times y (xs ++ ys) ≡ times y xs + times y ys
+        → times y (xs ++ zs) ≡ times y xs + times y zs → times y (xs ++ ys) ≤ times y (xs ++ zs)
     go y h e f = omega arith
 
 pub still_in : (xs ys : List ℕ) (x : ℕ) → Fewer xs ys → InScope xs x → InScope ys x
@@ -66,23 +69,30 @@ pub within_self : (scope : Scope) → Within scope scope
 within_self scope = record { nodes = fewer_self scope.nodes; words = fewer_self scope.words }
 
 pub within_chain : {s t u : Scope} → Within s t → Within t u → Within s u
-within_chain v w = record { nodes = fewer_chain v.nodes w.nodes; words = fewer_chain v.words w.words }
+within_chain v w = record
+    { nodes = fewer_chain v.nodes w.nodes; words = fewer_chain v.words w.words }
 
 pub within_words : (xs : List ℕ) (scope : Scope) → Within scope (with_word_variables xs scope)
-within_words xs scope = record { nodes = fewer_self scope.nodes; words = fewer_right xs scope.words }
+within_words xs scope = record
+    { nodes = fewer_self scope.nodes; words = fewer_right xs scope.words }
 
 pub within_target : (t : Target) (scope : Scope) → Within scope (with_target t scope)
 within_target to.Nothing scope = within_self scope
-within_target (to.Node x) scope = record { nodes = fewer_right (x.0 ∷ []) scope.nodes; words = fewer_self scope.words }
+within_target (to.Node x) scope = record
+    { nodes = fewer_right (x.0 ∷ []) scope.nodes; words = fewer_self scope.words }
 within_target (to.One x) scope = within_words (x.0 ∷ []) scope
 within_target (to.Vector xs) scope = within_words (numbers_of xs) scope
 
-pub words_within : (xs : List ℕ) (scope scope' : Scope) → Within scope scope' → Within (with_word_variables xs scope) (with_word_variables xs scope')
-words_within xs scope scope' w = record { nodes = w.nodes; words = fewer_both xs scope.words scope'.words w.words }
+pub words_within : (xs : List ℕ) (scope scope' : Scope) → Within scope scope'
+    → Within (with_word_variables xs scope) (with_word_variables xs scope')
+words_within xs scope scope' w = record
+    { nodes = w.nodes; words = fewer_both xs scope.words scope'.words w.words }
 
-pub target_within : (t : Target) (scope scope' : Scope) → Within scope scope' → Within (with_target t scope) (with_target t scope')
+pub target_within : (t : Target) (scope scope' : Scope) → Within scope scope'
+    → Within (with_target t scope) (with_target t scope')
 target_within to.Nothing scope scope' w = w
-target_within (to.Node x) scope scope' w = record { nodes = fewer_both (x.0 ∷ []) scope.nodes scope'.nodes w.nodes; words = w.words }
+target_within (to.Node x) scope scope' w = record
+    { nodes = fewer_both (x.0 ∷ []) scope.nodes scope'.nodes w.nodes; words = w.words }
 target_within (to.One x) scope scope' w = words_within (x.0 ∷ []) scope scope' w
 target_within (to.Vector xs) scope scope' w = words_within (numbers_of xs) scope scope' w
 
@@ -100,7 +110,8 @@ module _ (p : Program) (procs : List Procedure) (same_count : length procs ≡ l
     word_stays (Global i) h = h
     word_stays (TagWord t) h = h
 
-    pub words_stay : (ws : List W.Word) → AllOf (WordFormed p scope) ws → AllOf (WordFormed with_procs scope') ws
+    pub words_stay : (ws : List W.Word) → AllOf (WordFormed p scope) ws
+        → AllOf (WordFormed with_procs scope') ws
     words_stay [] h = tt
     words_stay (a ∷ ws) h = (word_stays a h.0, words_stay ws h.1)
 
@@ -110,7 +121,8 @@ module _ (p : Program) (procs : List Procedure) (same_count : length procs ≡ l
     val_stays (Vector ws) h = words_stay ws h
     val_stays (One a) h = word_stays a h
 
-    pub cells_stay : (cs : List Cell) → AllOf (CellFormed p scope) cs → AllOf (CellFormed with_procs scope') cs
+    pub cells_stay : (cs : List Cell) → AllOf (CellFormed p scope) cs
+        → AllOf (CellFormed with_procs scope') cs
     cells_stay [] h = tt
     cells_stay (c ∷ cs) h = (val_stays c.val h.0, cells_stay cs h.1)
 
@@ -120,11 +132,16 @@ module _ (p : Program) (procs : List Procedure) (same_count : length procs ≡ l
   shape_stays shape.Else h = tt
 
   -- variables that stand for words in scope
-  pub vars_formed : (xs : List VarId) (scope : Scope) → Fewer (numbers_of xs) scope.words → AllOf (WordFormed with_procs scope) (map Var xs)
+  pub vars_formed : (xs : List VarId) (scope : Scope) → Fewer (numbers_of xs) scope.words
+      → AllOf (WordFormed with_procs scope) (map Var xs)
   vars_formed [] scope w = tt
-  vars_formed (x ∷ xs) scope w = (still_in (numbers_of (x ∷ xs)) scope.words x.0 w (first_in x.0 (numbers_of xs)), vars_formed xs scope (record { by = λ y. go y (w.by y) }))
+  vars_formed (x ∷ xs) scope w = (
+    still_in (numbers_of (x ∷ xs)) scope.words x.0 w (first_in x.0 (numbers_of xs)),
+    vars_formed xs scope (record { by = λ y. go y (w.by y) }),
+  )
     where
-      go : (y : ℕ) → times y (numbers_of (x ∷ xs)) ≤ times y scope.words → times y (numbers_of xs) ≤ times y scope.words
+      go : (y : ℕ) → times y (numbers_of (x ∷ xs)) ≤ times y scope.words
+          → times y (numbers_of xs) ≤ times y scope.words
       go y h = omega arith
 
   any_stays : (o : Option ProcId) → KnownIfAny p o → KnownIfAny with_procs o
@@ -151,12 +168,19 @@ module _ (p : Program) (procs : List Procedure) (same_count : length procs ≡ l
   tags_stay (t ∷ ts) h = (kind_stays t.kind t h.0, tags_stay ts h.1)
 
   -- each site stands at one place where the procedures have the same ones
-  pub same_sites : procs_sites procs ≡ procs_sites p.procs → ((s : ℕ) → times s (program_sites p) ≤ 1) → (s : ℕ) → times s (program_sites with_procs) ≤ 1
-  same_sites e once s = subst (λ ss. times s (map (λ c. c.site.0) p.globals ++ ss) ≤ 1) (sym e) (once s)
+  pub same_sites : procs_sites procs ≡ procs_sites p.procs
+      → ((s : ℕ) → times s (program_sites p) ≤ 1) → (s : ℕ) → times s (program_sites with_procs) ≤ 1
+  same_sites e once s = subst (λ ss. times s (map (λ c. c.site.0) p.globals ++ ss) ≤ 1) (sym e)
+      (once s)
 
-  -- a program with other procedures is well formed where each variable is bound and each site stands at one place, and the procedures are well formed themselves
-  pub formed_with : Formed p → ((x : ℕ) → times x (procs_vars procs) ≤ 1) → ((s : ℕ) → times s (program_sites with_procs) ≤ 1) → AllOf (ProcedureFormed with_procs) procs
-      → (q : Procedure) × ((slice_get procs p.start.0 ≡ Some q) × (length q.params ≡ argument_words p.argument)) → Formed with_procs
+  -- a program with other procedures is well formed where each variable is bound and each site
+  -- stands at one place, and the procedures are well formed themselves
+  pub formed_with : Formed p → ((x : ℕ) → times x (procs_vars procs) ≤ 1)
+      → ((s : ℕ) → times s (program_sites with_procs) ≤ 1)
+      → AllOf (ProcedureFormed with_procs) procs
+      → (q : Procedure) ×
+      ((slice_get procs p.start.0 ≡ Some q) × (length q.params ≡ argument_words p.argument))
+      → Formed with_procs
   formed_with f once sites bodies s = record {
     variables_once = once;
     sites_once = sites;

@@ -1,4 +1,5 @@
--- A heap of bindings and a heap of cells that are alike: a name is a place, and a binding has its node.
+-- A heap of bindings and a heap of cells that are alike: a name is a place, and a binding has its
+-- node.
 use Rattle.std.proofs.Common.{◌≡◌, ℕ, zero, suc, ◌+◌, ◌-◌, ◌≤◌, ◌<◌, List, [], ◌∷◌, ◌++◌, map, length, Some, slice_get, slice_set, refl, ap, arith, length-append}
 use Rattle.std.proofs.lemmas.List.{length-set}
 use Rattle.arity_check.specs.Program.{Program}
@@ -83,8 +84,10 @@ module _ (p : Program) where
   pub binding_grows : (n m : ℕ) → n ≤ m → (b : Binding) → IsBinding n b → IsBinding m b
   binding_grows n m le (Known v) h = value_grows n m le v h
   binding_grows n m le (Waiting (Call f xs)) h = (h.0, names_grow n m le xs h.1)
-  binding_grows n m le (Waiting (Apply a bs)) h = (h.0, omega (arith, le, h.1), names_grow n m le bs h.2)
-  binding_grows n m le (Waiting (Prim op a b)) h = (h.0, omega (arith, le, h.1), omega (arith, le, h.2))
+  binding_grows n m le (Waiting (Apply a bs)) h =
+      (h.0, omega (arith, le, h.1), names_grow n m le bs h.2)
+  binding_grows n m le (Waiting (Prim op a b)) h =
+      (h.0, omega (arith, le, h.1), omega (arith, le, h.2))
   binding_grows n m le (Waiting (Global f)) h = h
   binding_grows n m le (Waiting Input) h = h
 
@@ -100,7 +103,8 @@ module _ (p : Program) where
   heaps_grow n m le [] [] a = tt
   heaps_grow n m le [] (c ∷ cs) a = absurd a
   heaps_grow n m le (b ∷ h) [] a = absurd a
-  heaps_grow n m le (b ∷ h) (c ∷ cs) a = (a.0, binding_grows n m le b a.1, heaps_grow n m le h cs a.2)
+  heaps_grow n m le (b ∷ h) (c ∷ cs) a =
+      (a.0, binding_grows n m le b a.1, heaps_grow n m le h cs a.2)
 
   pub heaps_long : (n : ℕ) (h : Heap) (cs : List HeapCell) → Heaps n h cs → length cs ≡ length h
   heaps_long n [] [] a = refl
@@ -116,22 +120,35 @@ module _ (p : Program) where
     pub same : place.node ≡ binding_node binding
     pub good : IsBinding n binding
 
-  pub heaps_at : (n : ℕ) (h : Heap) (cs : List HeapCell) (a : ℕ) → Heaps n h cs → a < length h → At n h cs a
+  pub heaps_at : (n : ℕ) (h : Heap) (cs : List HeapCell) (a : ℕ) → Heaps n h cs → a < length h
+      → At n h cs a
   heaps_at n [] cs a s lt = absurd (omega (arith, lt))
   heaps_at n (b ∷ h) [] a s lt = absurd s
-  heaps_at n (b ∷ h) (c ∷ cs) zero s lt = record { binding = b; place = c; is_binding = refl; is_place = refl; same = s.0; good = s.1 }
+  heaps_at n (b ∷ h) (c ∷ cs) zero s lt = record
+      { binding = b; place = c; is_binding = refl; is_place = refl; same = s.0; good = s.1 }
   heaps_at n (b ∷ h) (c ∷ cs) (suc a) s lt =
       let i = heaps_at n h cs a s.2 (omega (arith, lt)) in
-      record { binding = i.binding; place = i.place; is_binding = i.is_binding; is_place = i.is_place; same = i.same; good = i.good }
+      record {
+        binding = i.binding;
+        place = i.place;
+        is_binding = i.is_binding;
+        is_place
+            = i.is_place;
+        same = i.same;
+        good = i.good;
+      }
 
-  pub heaps_set : (n : ℕ) (h : Heap) (cs : List HeapCell) (a : ℕ) (b : Binding) (c : HeapCell) → Heaps n h cs → c.node ≡ binding_node b → IsBinding n b → Heaps n (slice_set h a b) (slice_set cs a c)
+  pub heaps_set : (n : ℕ) (h : Heap) (cs : List HeapCell) (a : ℕ) (b : Binding) (c : HeapCell)
+      → Heaps n h cs → c.node ≡ binding_node b → IsBinding n b
+      → Heaps n (slice_set h a b) (slice_set cs a c)
   heaps_set n [] [] a b c s e g = tt
   heaps_set n [] (x ∷ cs) a b c s e g = absurd s
   heaps_set n (y ∷ h) [] a b c s e g = absurd s
   heaps_set n (y ∷ h) (x ∷ cs) zero b c s e g = (e, g, s.2)
   heaps_set n (y ∷ h) (x ∷ cs) (suc a) b c s e g = (s.0, s.1, heaps_set n h cs a b c s.2 e g)
 
-  pub heaps_append : (n : ℕ) (h : Heap) (cs : List HeapCell) (h' : Heap) (cs' : List HeapCell) → Heaps n h cs → Heaps n h' cs' → Heaps n (h ++ h') (cs ++ cs')
+  pub heaps_append : (n : ℕ) (h : Heap) (cs : List HeapCell) (h' : Heap) (cs' : List HeapCell)
+      → Heaps n h cs → Heaps n h' cs' → Heaps n (h ++ h') (cs ++ cs')
   heaps_append n [] [] h' cs' s t = t
   heaps_append n [] (c ∷ cs) h' cs' s t = absurd s
   heaps_append n (b ∷ h) [] h' cs' s t = absurd s
@@ -151,12 +168,27 @@ module _ (p : Program) where
     pub used : w.used ≡ s.used
     pub written : w.out ≡ out
 
-  pub alike_passing : (out : List ℕ) (s : State) (w : World) (env : Env) → Alike out s w → Alike out s (with_state_seen env w)
-  alike_passing out s w env a = record { heaps = a.heaps; room = a.room; left = a.left; depth = a.depth; input = a.input; used = a.used; written = a.written }
+  pub alike_passing : (out : List ℕ) (s : State) (w : World) (env : Env) → Alike out s w
+      → Alike out s (with_state_seen env w)
+  alike_passing out s w env a = record {
+    heaps = a.heaps;
+    room = a.room;
+    left = a.left;
+    depth = a.depth;
+    input = a.input;
+    used
+        = a.used;
+    written = a.written;
+  }
 
-  pub alike_append : (out : List ℕ) (s : State) (w : World) (h : Heap) (cs : List HeapCell) → Alike out s w → Heaps (length s.heap + length h) h cs → Alike out (append s h) (with_cells cs w)
+  pub alike_append : (out : List ℕ) (s : State) (w : World) (h : Heap) (cs : List HeapCell)
+      → Alike out s w → Heaps (length s.heap + length h) h cs
+      → Alike out (append s h) (with_cells cs w)
   alike_append out s w h cs a g = record {
-    heaps = rw length-append (heaps_append (length s.heap + length h) s.heap w.cells h cs (heaps_grow (length s.heap) (length s.heap + length h) (omega arith) s.heap w.cells a.heaps) g);
+    heaps = rw length-append
+        (heaps_append (length s.heap + length h) s.heap w.cells h cs
+        (heaps_grow (length s.heap) (length s.heap + length h) (omega arith) s.heap w.cells a.heaps)
+        g);
     room = omega (arith, a.room, length-append s.heap h);
     left = a.left;
     depth = a.depth;
@@ -165,9 +197,13 @@ module _ (p : Program) where
     written = a.written;
   }
 
-  pub alike_update : (out : List ℕ) (s : State) (w : World) (a : ℕ) (v : Value) (c : HeapCell) → Alike out s w → IsValue (length s.heap) v → Alike out (update s a v) (with_node a (value_node v) c w)
+  pub alike_update : (out : List ℕ) (s : State) (w : World) (a : ℕ) (v : Value) (c : HeapCell)
+      → Alike out s w → IsValue (length s.heap) v → Alike out (update s a v)
+      (with_node a (value_node v) c w)
   alike_update out s w a v c al g = record {
-    heaps = rw (length-set s.heap a (Known v)) (heaps_set (length s.heap) s.heap w.cells a (Known v) (record { site = c.site; node = value_node v }) al.heaps refl g);
+    heaps = rw (length-set s.heap a (Known v))
+        (heaps_set (length s.heap) s.heap w.cells a (Known v)
+        (record { site = c.site; node = value_node v }) al.heaps refl g);
     room = omega (arith, al.room, length-set s.heap a (Known v));
     left = al.left;
     depth = al.depth;
@@ -178,20 +214,27 @@ module _ (p : Program) where
 
   -- ---- answers
 
-  -- a run gives the node of the value that evaluation gives, or ends as it does; n bindings were there before
+  -- a run gives the node of the value that evaluation gives, or ends as it does; n bindings were
+  -- there before
   pub data Match (n : ℕ) (out : List ℕ) : core.Answer → Answer → Type 0 where
-    both_give : {v : Value} {s : State} {w : World} → n ≤ length s.heap → IsValue (length s.heap) v → Alike out s w → Match n out (Gives v s) (gives (node (value_node v)) w)
-    none_accepts : {s : State} {w : World} → Alike out s w → Match n out (NoAlternative s) (stops no_alternative w)
-    both_go : {s : State} {w : World} → Alike out s w → Match n out (OutOfBound s) (stops out_of_units w)
+    both_give : {v : Value} {s : State} {w : World} → n ≤ length s.heap → IsValue (length s.heap) v
+        → Alike out s w → Match n out (Gives v s) (gives (node (value_node v)) w)
+    none_accepts : {s : State} {w : World} → Alike out s w
+        → Match n out (NoAlternative s) (stops no_alternative w)
+    both_go : {s : State} {w : World} → Alike out s w
+        → Match n out (OutOfBound s) (stops out_of_units w)
 
-  pub match_then : {n : ℕ} {out : List ℕ} {a : core.Answer} {a' : Answer} (k : Value → State → core.Answer) (k' : grin.Value → World → Answer) → Match n out a a'
-      → ((v : Value) (s : State) (w : World) → n ≤ length s.heap → IsValue (length s.heap) v → Alike out s w → Match n out (k v s) (k' (node (value_node v)) w))
+  pub match_then : {n : ℕ} {out : List ℕ} {a : core.Answer} {a' : Answer}
+      (k : Value → State → core.Answer) (k' : grin.Value → World → Answer) → Match n out a a'
+      → ((v : Value) (s : State) (w : World) → n ≤ length s.heap → IsValue (length s.heap) v
+      → Alike out s w → Match n out (k v s) (k' (node (value_node v)) w))
       → Match n out (and_then a k) (then_do a' k')
   match_then k k' (both_give {v} {s} {w} le g al) h = h v s w le g al
   match_then k k' (none_accepts al) h = none_accepts al
   match_then k k' (both_go al) h = both_go al
 
-  pub match_less : {n m : ℕ} {out : List ℕ} {a : core.Answer} {a' : Answer} → n ≤ m → Match m out a a' → Match n out a a'
+  pub match_less : {n m : ℕ} {out : List ℕ} {a : core.Answer} {a' : Answer} → n ≤ m
+      → Match m out a a' → Match n out a a'
   match_less le (both_give le' g al) = both_give (omega (arith, le, le')) g al
   match_less le (none_accepts al) = none_accepts al
   match_less le (both_go al) = both_go al

@@ -96,17 +96,27 @@ module _ (p : Program) where
 
   pub has_calls : (f : ℕ) (g : Function) → slice_get p.funs f ≡ Some g → Has (Calls f) (delays p)
   unfolding delays
-  has_calls f g e = has_left _ (map Calls (numbers_from 0 (length p.funs))) _ (has_map Calls f _ (has_number_from (length p.funs) 0 f (omega arith) (omega (arith, slice_get_within p.funs f g e))))
+  has_calls f g e = has_left _ (map Calls (numbers_from 0 (length p.funs))) _
+      (has_map Calls f _
+      (has_number_from (length p.funs) 0 f (omega arith)
+      (omega (arith, slice_get_within p.funs f g e))))
 
   has_calls_below : (f : ℕ) → f < length p.funs → Has (Calls f) (delays p)
   unfolding delays
-  has_calls_below f lt = has_left _ (map Calls (numbers_from 0 (length p.funs))) _ (has_map Calls f _ (has_number_from (length p.funs) 0 f (omega arith) (omega (arith, lt))))
+  has_calls_below f lt = has_left _ (map Calls (numbers_from 0 (length p.funs))) _
+      (has_map Calls f _ (has_number_from (length p.funs) 0 f (omega arith) (omega (arith, lt))))
 
   pub has_applies : (m : ℕ) → m < 13 → is_delayed p (Applies m) ≡ true → Has (Applies m) (delays p)
   unfolding delays
   has_applies m lt e =
-      has_right _ (map Calls (numbers_from 0 (length p.funs))) _ (has_left _ (filter (is_delayed p) (map Applies (numbers_from 0 13) ++ map Operates operations)) _
-      (has_filter (is_delayed p) (Applies m) (map Applies (numbers_from 0 13) ++ map Operates operations) e (has_left (Applies m) (map Applies (numbers_from 0 13)) (map Operates operations) (has_map Applies m (numbers_from 0 13) (has_number_from 13 0 m (omega arith) (omega (arith, lt)))))))
+      has_right _ (map Calls (numbers_from 0 (length p.funs))) _
+      (has_left _
+      (filter (is_delayed p) (map Applies (numbers_from 0 13) ++ map Operates operations)) _
+      (has_filter (is_delayed p) (Applies m)
+      (map Applies (numbers_from 0 13) ++ map Operates operations) e
+      (has_left (Applies m) (map Applies (numbers_from 0 13)) (map Operates operations)
+      (has_map Applies m (numbers_from 0 13)
+      (has_number_from 13 0 m (omega arith) (omega (arith, lt)))))))
 
   has_operation : (op : PrimOp) → Has op operations
   has_operation Add = inl refl
@@ -117,11 +127,17 @@ module _ (p : Program) where
   has_operation Eq = inr (inr (inr (inr (inr (inl refl)))))
   has_operation Lt = inr (inr (inr (inr (inr (inr (inl refl))))))
 
-  pub has_operates : (op : PrimOp) → is_delayed p (Operates op) ≡ true → Has (Operates op) (delays p)
+  pub has_operates : (op : PrimOp) → is_delayed p (Operates op) ≡ true
+      → Has (Operates op) (delays p)
   unfolding delays
   has_operates op e =
-      has_right _ (map Calls (numbers_from 0 (length p.funs))) _ (has_left _ (filter (is_delayed p) (map Applies (numbers_from 0 13) ++ map Operates operations)) _
-      (has_filter (is_delayed p) (Operates op) (map Applies (numbers_from 0 13) ++ map Operates operations) e (has_right (Operates op) (map Applies (numbers_from 0 13)) (map Operates operations) (has_map Operates op operations (has_operation op)))))
+      has_right _ (map Calls (numbers_from 0 (length p.funs))) _
+      (has_left _
+      (filter (is_delayed p) (map Applies (numbers_from 0 13) ++ map Operates operations)) _
+      (has_filter (is_delayed p) (Operates op)
+      (map Applies (numbers_from 0 13) ++ map Operates operations) e
+      (has_right (Operates op) (map Applies (numbers_from 0 13)) (map Operates operations)
+      (has_map Operates op operations (has_operation op)))))
 
   has_reads_if : (b : Bool) → b ≡ true → Has Reads (cond b (Reads ∷ []) [])
   has_reads_if true e = inl refl
@@ -130,7 +146,10 @@ module _ (p : Program) where
   pub has_reads : takes_input p ≡ true → Has Reads (delays p)
   unfolding delays
   has_reads e =
-      has_right _ (map Calls (numbers_from 0 (length p.funs))) _ (has_right _ (filter (is_delayed p) (map Applies (numbers_from 0 13) ++ map Operates operations)) _ (has_reads_if (takes_input p) e))
+      has_right _ (map Calls (numbers_from 0 (length p.funs))) _
+      (has_right _
+      (filter (is_delayed p) (map Applies (numbers_from 0 13) ++ map Operates operations)) _
+      (has_reads_if (takes_input p) e))
 
   pub has_number : Has Number (kinds p)
   unfolding kinds
@@ -138,11 +157,17 @@ module _ (p : Program) where
 
   pub has_constructor : (c k : ℕ) → HasFields p c k → Has (Constructor c) (kinds p)
   unfolding kinds
-  has_constructor c k h = inr (has_left _ (map Constructor (numbers_from 0 (length p.cons))) _ (has_map Constructor c _ (has_number_from (length p.cons) 0 c (omega arith) (omega (arith, slice_get_within p.cons c h.0 h.1)))))
+  has_constructor c k h = inr
+      (has_left _ (map Constructor (numbers_from 0 (length p.cons))) _
+      (has_map Constructor c _
+      (has_number_from (length p.cons) 0 c (omega arith)
+      (omega (arith, slice_get_within p.cons c h.0 h.1)))))
 
   pub has_waits : (d : Delay) → Has d (delays p) → Has (Waits d) (kinds p)
   unfolding kinds
-  has_waits d h = inr (has_right _ (map Constructor (numbers_from 0 (length p.cons))) _ (has_left _ (map Waits (delays p)) _ (has_map Waits d _ h)))
+  has_waits d h = inr
+      (has_right _ (map Constructor (numbers_from 0 (length p.cons))) _
+      (has_left _ (map Waits (delays p)) _ (has_map Waits d _ h)))
 
   has_part_of : (f n r : ℕ) → r < n → Has (Lacks f (suc r)) (function_parts f n)
   has_part_of f zero r lt = absurd (omega (arith, lt))
@@ -151,32 +176,41 @@ module _ (p : Program) where
       below : (r ≡ n → ⊥) → r < n
       below ne = omega (arith, lt, ne)
 
-      at_first : (b : Bool) → nat_eq r n ≡ b → (r < n → Has (Lacks f (suc r)) (function_parts f n)) → Has (Lacks f (suc r)) (Lacks f (suc n) ∷ function_parts f n)
+      at_first : (b : Bool) → nat_eq r n ≡ b → (r < n → Has (Lacks f (suc r)) (function_parts f n))
+          → Has (Lacks f (suc r)) (Lacks f (suc n) ∷ function_parts f n)
       at_first true e ih = inl (ap (λ k. Lacks f (suc k)) (eqb-true r n e))
       at_first false e ih = inr (ih (below (λ q. not_both _ (eq-eqb r n q) e)))
 
-  has_part : (gs : List Function) (f i : ℕ) (g : Function) (r : ℕ) → slice_get gs i ≡ Some g → r < g.params → Has (Lacks (f + i) (suc r)) (parts gs f)
+  has_part : (gs : List Function) (f i : ℕ) (g : Function) (r : ℕ) → slice_get gs i ≡ Some g
+      → r < g.params → Has (Lacks (f + i) (suc r)) (parts gs f)
   has_part [] f i g r e lt = absurd (none-some g e)
   has_part (h ∷ gs) f zero g r e lt =
       let same : h ≡ g = same_Some h g e in
       let first : f + 0 ≡ f = omega arith in
-      rw first (has_left _ (function_parts f h.params) _ (has_part_of f h.params r (subst (λ x. r < x.params) (sym same) lt)))
+      rw first (has_left _ (function_parts f h.params) _
+      (has_part_of f h.params r (subst (λ x. r < x.params) (sym same) lt)))
   has_part (h ∷ gs) f (suc i) g r e lt =
       let next : f + suc i ≡ suc f + i = omega arith in
       rw next (has_right _ (function_parts f h.params) _ (has_part gs (suc f) i g r e lt))
 
-  pub has_lacks : (f : ℕ) (g : Function) (r : ℕ) → slice_get p.funs f ≡ Some g → r < g.params → Has (Lacks f (suc r)) (kinds p)
+  pub has_lacks : (f : ℕ) (g : Function) (r : ℕ) → slice_get p.funs f ≡ Some g → r < g.params
+      → Has (Lacks f (suc r)) (kinds p)
   unfolding kinds
   has_lacks f g r e lt =
       let zero_on : 0 + f ≡ f = omega arith in
-      inr (has_right _ (map Constructor (numbers_from 0 (length p.cons))) _ (has_right _ (map Waits (delays p)) _ (subst (λ k. Has (Lacks k (suc r)) (parts p.funs 0)) zero_on (has_part p.funs 0 f g r e lt))))
+      inr (has_right _ (map Constructor (numbers_from 0 (length p.cons))) _
+      (has_right _ (map Waits (delays p)) _
+      (subst (λ k. Has (Lacks k (suc r)) (parts p.funs 0)) zero_on
+      (has_part p.funs 0 f g r e lt))))
 
   -- ---- and where
 
-  pub tag_found : (k : Kind) → Has k (kinds p) → slice_get (map (tag_of p) (kinds p)) (tag p k).0 ≡ Some (tag_of p k)
+  pub tag_found : (k : Kind) → Has k (kinds p) → slice_get (map (tag_of p) (kinds p)) (tag p k).0 ≡
+      Some (tag_of p k)
   tag_found k h = found same_tag_meaning kind_sound kind_itself (tag_of p) k (kinds p) h
 
-  pub tags_tell : (k l : Kind) → Has k (kinds p) → Has l (kinds p) → nat_eq (tag p k).0 (tag p l).0 ≡ same_tag_meaning k l
+  pub tags_tell : (k l : Kind) → Has k (kinds p) → Has l (kinds p)
+      → nat_eq (tag p k).0 (tag p l).0 ≡ same_tag_meaning k l
   tags_tell k l h i = places_tell same_tag_meaning kind_sound kind_itself k l (kinds p) h i
 
   -- a part is one of a function
@@ -190,24 +224,36 @@ module _ (p : Program) where
   good_parts_of f zero h = tt
   good_parts_of f (suc n) h = (h, good_parts_of f n h)
 
-  good_parts : (gs : List Function) (f : ℕ) → f + length gs ≤ length p.funs → AllOf Good (parts gs f)
+  good_parts : (gs : List Function) (f : ℕ) → f + length gs ≤ length p.funs
+      → AllOf Good (parts gs f)
   good_parts [] f le = tt
-  good_parts (g ∷ gs) f le = all_append Good (function_parts f g.params) _ (good_parts_of f g.params (has_calls_below f (omega (arith, le)))) (good_parts gs (suc f) (omega (arith, le)))
+  good_parts (g ∷ gs) f le = all_append Good (function_parts f g.params) _
+      (good_parts_of f g.params (has_calls_below f (omega (arith, le))))
+      (good_parts gs (suc f) (omega (arith, le)))
 
   good : AllOf Good (kinds p)
   unfolding kinds
-  good = (tt, all_append Good (map Constructor (numbers_from 0 (length p.cons))) _ (all_map Good Constructor _ (λ c. tt)) (all_append Good (map Waits (delays p)) _ (all_map Good Waits _ (λ d. tt)) (good_parts p.funs 0 (omega arith))))
+  good = (
+    tt,
+    all_append Good (map Constructor (numbers_from 0 (length p.cons))) _
+        (all_map Good Constructor _ (λ c. tt))
+        (all_append Good (map Waits (delays p)) _ (all_map Good Waits _ (λ d. tt))
+        (good_parts p.funs 0 (omega arith))),
+  )
 
   con_no_part : (F r : ℕ) (o : Option _) → is_part F r (con_tag o) ≡ false
   con_no_part F r None = refl
   con_no_part F r (Some c) = refl
 
-  part_tells : (f r : ℕ) (k : Kind) → Has (Calls f) (delays p) → Good k → is_part (proc p (Calls f)).0 r (tag_of p k) ≡ same_tag_meaning (Lacks f r) k
+  part_tells : (f r : ℕ) (k : Kind) → Has (Calls f) (delays p) → Good k
+      → is_part (proc p (Calls f)).0 r (tag_of p k) ≡ same_tag_meaning (Lacks f r) k
   part_tells f r Number h g = refl
   part_tells f r (Constructor c) h g = con_no_part _ r (slice_get p.cons c)
   part_tells f r (Waits d) h g = refl
   part_tells f r (Lacks f' q) h g =
-      let e : nat_eq (proc p (Calls f')).0 (proc p (Calls f)).0 ≡ nat_eq f' f = places_tell same_thunk_kind delay_sound delay_itself (Calls f') (Calls f) (delays p) g h in
+      let e : nat_eq (proc p (Calls f')).0 (proc p (Calls f)).0 ≡ nat_eq f' f
+      = places_tell same_thunk_kind delay_sound delay_itself (Calls f') (Calls f) (delays p) g h
+      in
       rw (e, nat_eq_turned f' f, nat_eq_turned q r) refl
     where
       nat_eq_turned : (a b : ℕ) → nat_eq a b ≡ nat_eq b a
@@ -219,22 +265,36 @@ module _ (p : Program) where
           by_test true e false f = not_both _ (eq-eqb b a (sym (eqb-true a b e))) f
           by_test false e true f = not_both _ (eq-eqb a b (sym (eqb-true b a f))) e
 
-  part_from_found : (F f r : ℕ) (ks : List Kind) (i : ℕ) → AllOf (λ k. is_part F r (tag_of p k) ≡ same_tag_meaning (Lacks f r) k) ks → Has (Lacks f r) ks
-      → part_from i (map (tag_of p) ks) F r ≡ Some (i + first_index_where (same_tag_meaning (Lacks f r)) ks)
+  part_from_found : (F f r : ℕ) (ks : List Kind) (i : ℕ)
+      → AllOf (λ k. is_part F r (tag_of p k) ≡ same_tag_meaning (Lacks f r) k) ks
+      → Has (Lacks f r) ks
+      → part_from i (map (tag_of p) ks) F r ≡ Some
+      (i + first_index_where (same_tag_meaning (Lacks f r)) ks)
   part_from_found F f r [] i a h = absurd h
-  part_from_found F f r (k ∷ ks) i a h = rw a.0 (at_first (same_tag_meaning (Lacks f r) k) refl h (part_from_found F f r ks (suc i) a.1))
+  part_from_found F f r (k ∷ ks) i a h = rw a.0
+      (at_first (same_tag_meaning (Lacks f r) k) refl h (part_from_found F f r ks (suc i) a.1))
     where
-      at_first : (b : Bool) → same_tag_meaning (Lacks f r) k ≡ b → Has (Lacks f r) (k ∷ ks) → (Has (Lacks f r) ks → part_from (suc i) (map (tag_of p) ks) F r ≡ Some (suc i + first_index_where (same_tag_meaning (Lacks f r)) ks))
-          → cond b (Some i) (part_from (suc i) (map (tag_of p) ks) F r) ≡ Some (i + cond b 0 (suc (first_index_where (same_tag_meaning (Lacks f r)) ks)))
+      at_first : (b : Bool) → same_tag_meaning (Lacks f r) k ≡ b → Has (Lacks f r) (k ∷ ks)
+          → (Has (Lacks f r) ks → part_from (suc i) (map (tag_of p) ks) F r ≡ Some
+          (suc i + first_index_where (same_tag_meaning (Lacks f r)) ks))
+          → cond b (Some i) (part_from (suc i) (map (tag_of p) ks) F r) ≡ Some
+          (i + cond b 0 (suc (first_index_where (same_tag_meaning (Lacks f r)) ks)))
       at_first true e h ih = let q : i ≡ i + 0 = omega arith in ap Some q
-      at_first false e (inl j) ih = not_both (same_tag_meaning (Lacks f r) k) (subst (λ z. same_tag_meaning (Lacks f r) z ≡ true) j (kind_itself (Lacks f r))) e
-      at_first false e (inr j) ih = let q : suc i + first_index_where (same_tag_meaning (Lacks f r)) ks ≡ i + suc (first_index_where (same_tag_meaning (Lacks f r)) ks) = omega arith in ih j ∙ ap Some q
+      at_first false e (inl j) ih = not_both (same_tag_meaning (Lacks f r) k)
+          (subst (λ z. same_tag_meaning (Lacks f r) z ≡ true) j (kind_itself (Lacks f r))) e
+      at_first false e (inr j) ih = let q : suc i + first_index_where (same_tag_meaning (Lacks f r))
+          ks ≡ i + suc (first_index_where (same_tag_meaning (Lacks f r)) ks) = omega arith
+          in ih j ∙ ap Some q
 
-  all_tell : (f r : ℕ) (ks : List Kind) → Has (Calls f) (delays p) → AllOf Good ks → AllOf (λ k. is_part (proc p (Calls f)).0 r (tag_of p k) ≡ same_tag_meaning (Lacks f r) k) ks
+  all_tell : (f r : ℕ) (ks : List Kind) → Has (Calls f) (delays p) → AllOf Good ks
+      → AllOf (λ k. is_part (proc p (Calls f)).0 r (tag_of p k) ≡ same_tag_meaning (Lacks f r) k) ks
   all_tell f r [] h a = tt
   all_tell f r (k ∷ ks) h a = (part_tells f r k h a.0, all_tell f r ks h a.1)
 
-  pub part_found : (f : ℕ) (g : Function) (r : ℕ) → slice_get p.funs f ≡ Some g → r < g.params → part_from 0 (map (tag_of p) (kinds p)) (proc p (Calls f)).0 (suc r) ≡ Some (tag p (Lacks f (suc r))).0
+  pub part_found : (f : ℕ) (g : Function) (r : ℕ) → slice_get p.funs f ≡ Some g → r < g.params
+      → part_from 0 (map (tag_of p) (kinds p)) (proc p (Calls f)).0 (suc r) ≡ Some
+      (tag p (Lacks f (suc r))).0
   part_found f g r e lt =
       let q : 0 + (tag p (Lacks f (suc r))).0 ≡ (tag p (Lacks f (suc r))).0 = omega arith in
-      part_from_found (proc p (Calls f)).0 f (suc r) (kinds p) 0 (all_tell f (suc r) (kinds p) (has_calls f g e) good) (has_lacks f g r e lt) ∙ ap Some q
+      part_from_found (proc p (Calls f)).0 f (suc r) (kinds p) 0
+      (all_tell f (suc r) (kinds p) (has_calls f g e) good) (has_lacks f g r e lt) ∙ ap Some q

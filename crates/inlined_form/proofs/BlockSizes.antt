@@ -40,12 +40,14 @@ module _ (q : Program) (base : ℕ) where
   cells_of_size [] = omega arith
   cells_of_size (b ∷ bs) = omega (arith, node_size b.flat, cells_of_size bs)
 
-  give_size : (xs : List Word) (t : ℕ) (v : VarId) (a : Word) → code_size (give_block q base t v a xs) ≤ 3 + 4 * length xs
+  give_size : (xs : List Word) (t : ℕ) (v : VarId) (a : Word)
+      → code_size (give_block q base t v a xs) ≤ 3 + 4 * length xs
   unfolding act_size
   give_size [] t v a = omega arith
   give_size (b ∷ bs) t v a = omega (arith, give_size bs (suc t) (temp q base t) b)
 
-  apply_size : (t : ℕ) (x : Word) (xs : List Word) → code_size (apply_block q base t x xs) ≤ 2 + 4 * length xs
+  apply_size : (t : ℕ) (x : Word) (xs : List Word) → code_size (apply_block q base t x xs) ≤ 2 + 4 *
+      length xs
   unfolding act_size
   apply_size t x [] = omega arith
   apply_size t x (a ∷ as') = omega (arith, give_size as' (suc t) (temp q base t) a)
@@ -60,7 +62,8 @@ module _ (q : Program) (base : ℕ) where
   form_size t (flat.Con c xs) = omega (arith, length-map xs (word q base))
   form_size t (flat.Part f xs) = omega (arith, length-map xs (word q base))
   form_size t (flat.Call f xs) = omega (arith, length-map xs (word q base))
-  form_size t (flat.Apply x xs) = omega (arith, length-map xs (word q base), apply_size t (word q base x) (map (word q base) xs))
+  form_size t (flat.Apply x xs) = omega
+      (arith, length-map xs (word q base), apply_size t (word q base x) (map (word q base) xs))
   form_size t (flat.Prim op x y) = omega (arith, prim_size t op (word q base x) (word q base y))
 
   -- what a case itself takes is paid by an alternative
@@ -80,17 +83,43 @@ module _ (q : Program) (base : ℕ) where
     mutual
       unfolding act_size
 
-      pub block_size : {s : Scope} {n m : ℕ} {e : Expr} {t : Term} → IsNormal p s n e t m → ReadableExpr p.names e → (k : ℕ) → code_size (block q base k t) ≤ 24 * expr_size e
-      block_size (PlainApp {app = app} {form = form} a) r k = omega (arith, form_size k form, flat_cost p _ a, some_size app.head)
-      block_size (BoundApp {app = app} {new = new} {news = news} {form = form} a) r k = omega (arith, form_size k form, flat_cost p _ a, cells_of_size (new ∷ news), some_size app.head)
-      block_size (Group inner xs bounds e g a) r k = omega (arith, cells_of_size bounds, group_cost p _ g, block_size a r.2 k)
+      pub block_size : {s : Scope} {n m : ℕ} {e : Expr} {t : Term} → IsNormal p s n e t m
+          → ReadableExpr p.names e → (k : ℕ) → code_size (block q base k t) ≤ 24 * expr_size e
+      block_size (PlainApp {app = app} {form = form} a) r k
+          = omega (arith, form_size k form, flat_cost p _ a, some_size app.head)
+      block_size (BoundApp {app = app} {new = new} {news = news} {form = form} a) r k
+          = omega (
+            arith,
+            form_size k form,
+            flat_cost p _ a,
+            cells_of_size (new ∷ news),
+            some_size app.head,
+          )
+      block_size (Group inner xs bounds e g a) r k = omega
+          (arith, cells_of_size bounds, group_cost p _ g, block_size a r.2 k)
       block_size (Choice {tested = tested} {alts = alts} {e = e} {branches = branches} a b) r k =
-          omega (arith, act_as_code (block q base (suc k) e), block_size a r.1 (suc k), branches_size b r.2 (temp q base k) (suc k + temps e), all_paid alts r.0)
+          omega (
+            arith,
+            act_as_code (block q base (suc k) e),
+            block_size a r.1 (suc k),
+            branches_size b r.2 (temp q base k) (suc k + temps e),
+            all_paid alts r.0,
+          )
 
-      branches_size : {s : Scope} {n m : ℕ} {alts : Alts} {branches : Branches} → AreBranches p s n alts branches m → ReadableAlts p.names alts → (v : VarId) (k : ℕ) → arms_size (arms q base v k branches) + paid alts ≤ 24 * alts_size alts + 1
+      branches_size : {s : Scope} {n m : ℕ} {alts : Alts} {branches : Branches}
+          → AreBranches p s n alts branches m → ReadableAlts p.names alts → (v : VarId) (k : ℕ)
+          → arms_size (arms q base v k branches) + paid alts ≤ 24 * alts_size alts + 1
       branches_size NoBranches r v k = omega arith
       branches_size (ConBranch {n = n} {fields = fields} {e = e} xs c is a b) r v k =
-          omega (arith, block_size a r.1 k, branches_size b r.2 v (k + temps e), length-map xs (local q base), ap length is, range_length n (length fields))
-      branches_size (IntBranch {e = e} a b) r v k = omega (arith, block_size a r.1 k, branches_size b r.2 v (k + temps e))
+          omega (
+            arith,
+            block_size a r.1 k,
+            branches_size b r.2 v (k + temps e),
+            length-map xs (local q base),
+            ap length is,
+            range_length n (length fields),
+          )
+      branches_size (IntBranch {e = e} a b) r v k = omega
+          (arith, block_size a r.1 k, branches_size b r.2 v (k + temps e))
       branches_size (NamelessBranch {e = e} is a b) r v k = omega (arith, block_size a r.1 k)
       branches_size (NamedBranch {e = e} is a b) r v k = omega (arith, block_size a r.1 k)

@@ -42,38 +42,73 @@ some_size (Bracket head args at) = omega (arith, some_size head)
 
 module _ (p : Program) (s : Scope) where
   mutual
-    pub flat_cost : {n : ℕ} {head : Term} {args : Terms} {news : List Bound} {form : Flat} → IsFlat p s n head args news form → cost news + form_words form + 4 ≤ 5 * (term_size head + terms_size args)
+    pub flat_cost : {n : ℕ} {head : Term} {args : Terms} {news : List Bound} {form : Flat}
+        → IsFlat p s n head args news form → cost news + form_words form + 4 ≤ 5 *
+        (term_size head + terms_size args)
     flat_cost Number = omega arith
     flat_cost (Constructor e a) = omega (arith, args_cost a)
     flat_cost (Named a) = named_cost a
     flat_cost (NumberApplied a) = omega (arith, applied_cost a tt)
-    flat_cost (BracketApplied inner news1 news2 a b is) = omega (arith, flat_cost a, applied_cost b tt, ap cost is, cost_append news1 news2)
+    flat_cost (BracketApplied inner news1 news2 a b is)
+        = omega (arith, flat_cost a, applied_cost b tt, ap cost is, cost_append news1 news2)
     flat_cost (LoneHead a) = omega (arith, flat_cost a)
     flat_cost (LoneBracket a) = omega (arith, flat_cost a)
 
-    named_cost : {n : ℕ} {m : Meaning} {args : Terms} {news : List Bound} {form : Flat} → IsNamed p s n m args news form → cost news + form_words form + 4 ≤ 5 * (1 + terms_size args)
+    named_cost : {n : ℕ} {m : Meaning} {args : Terms} {news : List Bound} {form : Flat}
+        → IsNamed p s n m args news form → cost news + form_words form + 4 ≤ 5 *
+        (1 + terms_size args)
     named_cost (OfPrimitive a) = omega (arith, args_cost a)
     named_cost (OfLocal a) = omega (arith, args_cost a)
     named_cost (OfGlobal a) = omega (arith, args_cost a)
     named_cost (Called k a) = omega (arith, args_cost a)
     named_cost (Partial k a) = omega (arith, args_cost a)
-    named_cost (Exceeded first rest news1 news2 xs es h k a b is) = omega (arith, args_cost a, applied_cost b h, ap cost is, cost_append news1 news2, ap terms_size es, terms_append first rest)
+    named_cost (Exceeded first rest news1 news2 xs es h k a b is)
+        = omega (
+          arith,
+          args_cost a,
+          applied_cost b h,
+          ap cost is,
+          cost_append news1 news2,
+          ap terms_size es,
+          terms_append first rest,
+        )
 
-    applied_cost : {n : ℕ} {inner : Flat} {args : Terms} {news : List Bound} {form : Flat} → IsApplied p s n inner args news form → HasTerm args → cost news + form_words form ≤ form_words inner + 5 * terms_size args
+    applied_cost : {n : ℕ} {inner : Flat} {args : Terms} {news : List Bound} {form : Flat}
+        → IsApplied p s n inner args news form → HasTerm args
+        → cost news + form_words form ≤ form_words inner + 5 * terms_size args
     applied_cost (Applied a) h = omega (arith, args_cost a, some_args a h)
 
-    some_args : {n : ℕ} {args : Terms} {news : List Bound} {xs : List Var} → AreArgs p s n args news xs → HasTerm args → 1 ≤ length xs
+    some_args : {n : ℕ} {args : Terms} {news : List Bound} {xs : List Var}
+        → AreArgs p s n args news xs → HasTerm args → 1 ≤ length xs
     some_args NoArgs h = absurd h
     some_args (AndArg news1 news2 a b is) h = omega arith
 
-    args_cost : {n : ℕ} {args : Terms} {news : List Bound} {xs : List Var} → AreArgs p s n args news xs → cost news + 3 * length xs ≤ 5 * terms_size args
+    args_cost : {n : ℕ} {args : Terms} {news : List Bound} {xs : List Var}
+        → AreArgs p s n args news xs → cost news + 3 * length xs ≤ 5 * terms_size args
     args_cost NoArgs = omega arith
-    args_cost (AndArg news1 news2 a b is) = omega (arith, arg_cost a, args_cost b, ap cost is, cost_append news1 news2)
+    args_cost (AndArg news1 news2 a b is) = omega
+        (arith, arg_cost a, args_cost b, ap cost is, cost_append news1 news2)
 
-    arg_cost : {n : ℕ} {a : Term} {news : List Bound} {x : Var} → IsArg p s n a news x → cost news + 3 ≤ 5 * term_size a
+    arg_cost : {n : ℕ} {a : Term} {news : List Bound} {x : Var} → IsArg p s n a news x
+        → cost news + 3 ≤ 5 * term_size a
     arg_cost (Itself {a = a} e) = omega (arith, some_size a)
-    arg_cost (New {news = news} {form = form} t e a is group) = omega (arith, flat_cost a, ap cost group, cost_append news (record { local = t; flat = form } ∷ []))
+    arg_cost (New {news = news} {form = form} t e a is group)
+        = omega (
+          arith,
+          flat_cost a,
+          ap cost group,
+          cost_append news (record { local = t; flat = form } ∷ []),
+        )
 
-  pub group_cost : {n : ℕ} {binds : List Bind} {group : List Bound} {xs : List ℕ} → IsGroup p s n binds group xs → cost group ≤ 5 * sum_by bind_size binds
+  pub group_cost : {n : ℕ} {binds : List Bind} {group : List Bound} {xs : List ℕ}
+      → IsGroup p s n binds group xs → cost group ≤ 5 * sum_by bind_size binds
   group_cost NoMembers = omega arith
-  group_cost (AndMember {b = b} {bs = bs} news bounds form t a is g e) = omega (arith, flat_cost a, group_cost g, ap cost e, cost_append news (record { local = t; flat = form } ∷ bounds), sum_by-cons bind_size b bs)
+  group_cost (AndMember {b = b} {bs = bs} news bounds form t a is g e)
+      = omega (
+        arith,
+        flat_cost a,
+        group_cost g,
+        ap cost e,
+        cost_append news (record { local = t; flat = form } ∷ bounds),
+        sum_by-cons bind_size b bs,
+      )

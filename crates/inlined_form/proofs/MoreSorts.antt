@@ -1,4 +1,5 @@
--- Of two assignments of sorts one knows at least what the other does, and the other nothing of further variables.
+-- Of two assignments of sorts one knows at least what the other does, and the other nothing of
+-- further variables.
 use Rattle.std.proofs.Common.{◌≡◌, ℕ, zero, suc, ◌<◌, ◌≤◌, Bool, true, false, cond, List, [], ◌∷◌, refl, arith, subst}
 use Rattle.std.specs.Prelude.{nat_eq, nat_le}
 use Rattle.std.proofs.lemmas.Bool.Decides.{nat_tests}
@@ -55,35 +56,44 @@ KnowsNoMore Γ Γ' = (y : ℕ) → Less (Γ y) (Γ' y)
 pub knows_self : (Γ : Sorts) → KnowsNoMore Γ Γ
 knows_self Γ y = less_self (Γ y)
 
-knows_sorted : (x : ℕ) (s : Sort) (Γ Γ' : Sorts) → KnowsNoMore Γ Γ' → KnowsNoMore (sorted x s Γ) (sorted x s Γ')
+knows_sorted : (x : ℕ) (s : Sort) (Γ Γ' : Sorts) → KnowsNoMore Γ Γ'
+    → KnowsNoMore (sorted x s Γ) (sorted x s Γ')
 knows_sorted x s Γ Γ' k y = on (nat_eq y x)
   where
     on : (b : Bool) → Less (cond b s (Γ y)) (cond b s (Γ' y))
     on true = less_self s
     on false = k y
 
-pub knows_vars : (xs : List VarId) (Γ Γ' : Sorts) → KnowsNoMore Γ Γ' → KnowsNoMore (vars_sorted xs Γ) (vars_sorted xs Γ')
+pub knows_vars : (xs : List VarId) (Γ Γ' : Sorts) → KnowsNoMore Γ Γ'
+    → KnowsNoMore (vars_sorted xs Γ) (vars_sorted xs Γ')
 knows_vars [] Γ Γ' k = k
-knows_vars (x ∷ xs) Γ Γ' k = knows_vars xs (sorted x.0 anything Γ) (sorted x.0 anything Γ') (knows_sorted x.0 anything Γ Γ' k)
+knows_vars (x ∷ xs) Γ Γ' k = knows_vars xs (sorted x.0 anything Γ) (sorted x.0 anything Γ')
+    (knows_sorted x.0 anything Γ Γ' k)
 
-pub knows_cells : (cs : List Cell) (Γ Γ' : Sorts) → KnowsNoMore Γ Γ' → KnowsNoMore (cells_sorted cs Γ) (cells_sorted cs Γ')
+pub knows_cells : (cs : List Cell) (Γ Γ' : Sorts) → KnowsNoMore Γ Γ'
+    → KnowsNoMore (cells_sorted cs Γ) (cells_sorted cs Γ')
 knows_cells [] Γ Γ' k = k
-knows_cells (c ∷ cs) Γ Γ' k = knows_cells cs (sorted c.var.0 anything Γ) (sorted c.var.0 anything Γ') (knows_sorted c.var.0 anything Γ Γ' k)
+knows_cells (c ∷ cs) Γ Γ' k = knows_cells cs (sorted c.var.0 anything Γ)
+    (sorted c.var.0 anything Γ') (knows_sorted c.var.0 anything Γ Γ' k)
 
-pub knows_target : (t : Target) (s : Sort) (Γ Γ' : Sorts) → KnowsNoMore Γ Γ' → KnowsNoMore (target_sorted t s Γ) (target_sorted t s Γ')
+pub knows_target : (t : Target) (s : Sort) (Γ Γ' : Sorts) → KnowsNoMore Γ Γ'
+    → KnowsNoMore (target_sorted t s Γ) (target_sorted t s Γ')
 knows_target to.Nothing s Γ Γ' k = k
 knows_target (to.Node x) s Γ Γ' k = knows_sorted x.0 s Γ Γ' k
 knows_target (to.One x) s Γ Γ' k = knows_sorted x.0 s Γ Γ' k
 knows_target (to.Vector xs) s Γ Γ' k = k
 
-pub knows_alternative : (ts : List Tag) (s : Shape) (v : Val) (Γ Γ' : Sorts) → KnowsNoMore Γ Γ' → KnowsNoMore (alternative_sorted ts s v Γ) (alternative_sorted ts s v Γ')
+pub knows_alternative : (ts : List Tag) (s : Shape) (v : Val) (Γ Γ' : Sorts) → KnowsNoMore Γ Γ'
+    → KnowsNoMore (alternative_sorted ts s v Γ) (alternative_sorted ts s v Γ')
 knows_alternative ts shape.Else v Γ Γ' k = k
 knows_alternative ts (shape.Int i) v Γ Γ' k = k
 knows_alternative ts (shape.Node t xs) (NodeVar x) Γ Γ' k = on (delayed ts t.0)
   where
-    on : (b : Bool) → KnowsNoMore (vars_sorted xs (cond b Γ (sorted x.0 evaluated Γ))) (vars_sorted xs (cond b Γ' (sorted x.0 evaluated Γ')))
+    on : (b : Bool) → KnowsNoMore (vars_sorted xs (cond b Γ (sorted x.0 evaluated Γ)))
+        (vars_sorted xs (cond b Γ' (sorted x.0 evaluated Γ')))
     on true = knows_vars xs Γ Γ' k
-    on false = knows_vars xs (sorted x.0 evaluated Γ) (sorted x.0 evaluated Γ') (knows_sorted x.0 evaluated Γ Γ' k)
+    on false = knows_vars xs (sorted x.0 evaluated Γ) (sorted x.0 evaluated Γ')
+        (knows_sorted x.0 evaluated Γ Γ' k)
 knows_alternative ts (shape.Node t xs) (Node t' ws) Γ Γ' k = knows_vars xs Γ Γ' k
 knows_alternative ts (shape.Node t xs) (Vector ws) Γ Γ' k = knows_vars xs Γ Γ' k
 knows_alternative ts (shape.Node t xs) (One a) Γ Γ' k = knows_vars xs Γ Γ' k
@@ -107,7 +117,8 @@ module _ (Γ Γ' : Sorts) (k : KnowsNoMore Γ Γ') where
   kept_known (Vector ws) h = h
   kept_known (One a) h = h
 
-  pub all_known : (cs : List Cell) → AllOf (λ c. KeptFits Γ c.val) cs → AllOf (λ c. KeptFits Γ' c.val) cs
+  pub all_known : (cs : List Cell) → AllOf (λ c. KeptFits Γ c.val) cs
+      → AllOf (λ c. KeptFits Γ' c.val) cs
   all_known [] h = tt
   all_known (c ∷ cs) h = (kept_known c.val h.0, all_known cs h.1)
 
@@ -135,18 +146,25 @@ module _ (Γ Γ' : Sorts) (k : KnowsNoMore Γ Γ') where
 abbrev pub Unknown : ℕ → Sorts → Type 0
 Unknown x0 Γ = (y : ℕ) → x0 ≤ y → Γ y ≡ anything
 
-pub unknown_sorted : (x0 x : ℕ) (s : Sort) (Γ : Sorts) → x < x0 → Unknown x0 Γ → Unknown x0 (sorted x s Γ)
-unknown_sorted x0 x s Γ lt u y le = let e : nat_eq y x ≡ false = grind (arith, nat_tests) in rw e (u y le)
+pub unknown_sorted : (x0 x : ℕ) (s : Sort) (Γ : Sorts) → x < x0 → Unknown x0 Γ
+    → Unknown x0 (sorted x s Γ)
+unknown_sorted x0 x s Γ lt u y le = let e : nat_eq y x ≡ false = grind (arith, nat_tests)
+    in rw e (u y le)
 
-pub unknown_vars : (x0 : ℕ) (xs : List VarId) (Γ : Sorts) → past_vars xs ≤ x0 → Unknown x0 Γ → Unknown x0 (vars_sorted xs Γ)
+pub unknown_vars : (x0 : ℕ) (xs : List VarId) (Γ : Sorts) → past_vars xs ≤ x0 → Unknown x0 Γ
+    → Unknown x0 (vars_sorted xs Γ)
 unknown_vars x0 [] Γ le u = u
-unknown_vars x0 (x ∷ xs) Γ le u = unknown_vars x0 xs (sorted x.0 anything Γ) (omega arith) (unknown_sorted x0 x.0 anything Γ (omega arith) u)
+unknown_vars x0 (x ∷ xs) Γ le u = unknown_vars x0 xs (sorted x.0 anything Γ) (omega arith)
+    (unknown_sorted x0 x.0 anything Γ (omega arith) u)
 
-pub unknown_cells : (x0 : ℕ) (cs : List Cell) (Γ : Sorts) → past_cells cs ≤ x0 → Unknown x0 Γ → Unknown x0 (cells_sorted cs Γ)
+pub unknown_cells : (x0 : ℕ) (cs : List Cell) (Γ : Sorts) → past_cells cs ≤ x0 → Unknown x0 Γ
+    → Unknown x0 (cells_sorted cs Γ)
 unknown_cells x0 [] Γ le u = u
-unknown_cells x0 (c ∷ cs) Γ le u = unknown_cells x0 cs (sorted c.var.0 anything Γ) (omega arith) (unknown_sorted x0 c.var.0 anything Γ (omega arith) u)
+unknown_cells x0 (c ∷ cs) Γ le u = unknown_cells x0 cs (sorted c.var.0 anything Γ) (omega arith)
+    (unknown_sorted x0 c.var.0 anything Γ (omega arith) u)
 
-pub unknown_target : (x0 : ℕ) (t : Target) (s : Sort) (Γ : Sorts) → past_target t ≤ x0 → Unknown x0 Γ → Unknown x0 (target_sorted t s Γ)
+pub unknown_target : (x0 : ℕ) (t : Target) (s : Sort) (Γ : Sorts) → past_target t ≤ x0
+    → Unknown x0 Γ → Unknown x0 (target_sorted t s Γ)
 unknown_target x0 to.Nothing s Γ le u = u
 unknown_target x0 (to.Node x) s Γ le u = unknown_sorted x0 x.0 s Γ (omega arith) u
 unknown_target x0 (to.One x) s Γ le u = unknown_sorted x0 x.0 s Γ (omega arith) u
@@ -160,14 +178,17 @@ node_below x0 x Γ h u = on (nat_le x0 x) refl
     on true q = let le : x0 ≤ x = grind (arith, nat_tests) in absurd (subst IsNode (u x le) h)
     on false q = grind (arith, nat_tests)
 
-pub unknown_alternative : (ts : List Tag) (x0 : ℕ) (s : Shape) (v : Val) (Γ : Sorts) → past_shape s ≤ x0 → ScrutineeFits Γ v → Unknown x0 Γ → Unknown x0 (alternative_sorted ts s v Γ)
+pub unknown_alternative : (ts : List Tag) (x0 : ℕ) (s : Shape) (v : Val) (Γ : Sorts)
+    → past_shape s ≤ x0 → ScrutineeFits Γ v → Unknown x0 Γ
+    → Unknown x0 (alternative_sorted ts s v Γ)
 unknown_alternative ts x0 shape.Else v Γ le h u = u
 unknown_alternative ts x0 (shape.Int i) v Γ le h u = u
 unknown_alternative ts x0 (shape.Node t xs) (NodeVar x) Γ le h u = on (delayed ts t.0)
   where
     on : (b : Bool) → Unknown x0 (vars_sorted xs (cond b Γ (sorted x.0 evaluated Γ)))
     on true = unknown_vars x0 xs Γ le u
-    on false = unknown_vars x0 xs (sorted x.0 evaluated Γ) le (unknown_sorted x0 x.0 evaluated Γ (node_below x0 x.0 Γ h u) u)
+    on false = unknown_vars x0 xs (sorted x.0 evaluated Γ) le
+        (unknown_sorted x0 x.0 evaluated Γ (node_below x0 x.0 Γ h u) u)
 unknown_alternative ts x0 (shape.Node t xs) (Node t' ws) Γ le h u = absurd h
 unknown_alternative ts x0 (shape.Node t xs) (Vector ws) Γ le h u = absurd h
 unknown_alternative ts x0 (shape.Node t xs) (One a) Γ le h u = absurd h

@@ -1,4 +1,5 @@
--- A translated program whose evaluations and applications are inlined is ready for the passes after.
+-- A translated program whose evaluations and applications are inlined is ready for the passes
+-- after.
 use Rattle.std.proofs.Common.{◌≡◌, ◌≢◌, ℕ, ◌≤◌, ◌+◌, List, [], ◌∷◌, length, sym, ◌∙◌, arith}
 use Rattle.arity_check.specs.Program as core
 use Rattle.grin_syntax.specs.Tree.{Procedure}
@@ -42,10 +43,13 @@ at_most_16 [] h = tt
 at_most_16 (q ∷ qs) h = (omega (arith, h.0), at_most_16 qs h.1)
 
 pub inlined_fits : (p : core.Program) (A : Solution) → ProgramFits ⊥ ⊥ (inlined A (tr p))
-inlined_fits p A = applications_fit (eval_inlined A (tr p)) A (first_is_no_part p) (evaluations_fit (tr p) A (translated_fits p))
+inlined_fits p A = applications_fit (eval_inlined A (tr p)) A (first_is_no_part p)
+    (evaluations_fit (tr p) A (translated_fits p))
 
-pub never_missing : (p : core.Program) → WellFormed p → (i : List ℕ) (n : ℕ) → end_of (run (tr p) i n) ≢ ended missing
-never_missing p ok i n = λ e. on (printed p i n).end (sym (translation_does_as p ok i n).same_end ∙ e)
+pub never_missing : (p : core.Program) → WellFormed p → (i : List ℕ) (n : ℕ)
+    → end_of (run (tr p) i n) ≢ ended missing
+never_missing p ok i n = λ e. on (printed p i n).end
+    (sym (translation_does_as p ok i n).same_end ∙ e)
   where
     on : (e : PrintingEnd) → grin_end_of e ≡ ended missing → ⊥
     on Done h = cc
@@ -63,8 +67,11 @@ module _ (p : core.Program) (valid : IsValid p) (A : Solution) where
       let there = never_missing p (valid_is_well_formed p valid) in
       record {
         inlined = procs_inlined (tr p).tags h.procs fits.procedures;
-        few_params = params_stay (apply_rule q A) 16 (past_procs q.procs) q.procs (params_stay (eval_rule (tr p) A) 16 (past_procs (tr p).procs) (tr p).procs (at_most_16 (tr p).procs few.few_params));
-        few_results = procs_narrow (tr p).tags (1 + most_value_fields (tr p).tags) 13 few.few_value_fields h.procs fits.procedures;
+        few_params = params_stay (apply_rule q A) 16 (past_procs q.procs) q.procs
+            (params_stay (eval_rule (tr p) A) 16 (past_procs (tr p).procs) (tr p).procs
+            (at_most_16 (tr p).procs few.few_params));
+        few_results = procs_narrow (tr p).tags (1 + most_value_fields (tr p).tags) 13
+            few.few_value_fields h.procs fits.procedures;
         few_fields = few.few_fields;
         never_missing = λ i n e. there i n (sym (keeps.same_end i n (there i n)) ∙ e);
         runs = λ i n. runs_well h fits i n;
@@ -73,5 +80,10 @@ module _ (p : core.Program) (valid : IsValid p) (A : Solution) where
 pub inlined_is_ready : ValidTranslationsAreFormed → InlinedProgramsAreReady
 inlined_is_ready formed p valid A solves =
     let before : Formed (tr p) = formed p valid in
-    let after : Formed (inlined A (tr p)) = applications.inlining_formed (eval_inlined A (tr p)) A (evaluations.inlining_formed (tr p) A before) in
-    (after, formed_is_started (inlined A (tr p)) after, ready_given_keeps p valid A (inlining_law (tr p) A (formed_is_started (tr p) before) (uses_bound (tr p) before) solves))
+    let after : Formed (inlined A (tr p)) = applications.inlining_formed (eval_inlined A (tr p)) A
+    (evaluations.inlining_formed (tr p) A before) in (
+      after,
+      formed_is_started (inlined A (tr p)) after,
+      ready_given_keeps p valid A
+          (inlining_law (tr p) A (formed_is_started (tr p) before) (uses_bound (tr p) before) solves),
+    )

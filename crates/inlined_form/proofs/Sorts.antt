@@ -105,9 +105,11 @@ module _ (tags : List Tag) where
   GivenFits Γ (Vector ws) = ⊥
   GivenFits Γ (One a) = ⊥
 
-  -- what is known in an alternative: of the node variable too, where the pattern's tag is that of an evaluated node
+  -- what is known in an alternative: of the node variable too, where the pattern's tag is that of
+  -- an evaluated node
   abbrev pub alternative_sorted : Shape → Val → Sorts → Sorts
-  alternative_sorted (shape.Node t xs) (NodeVar x) Γ = vars_sorted xs (cond (delayed t.0) Γ (sorted x.0 evaluated Γ))
+  alternative_sorted (shape.Node t xs) (NodeVar x) Γ
+      = vars_sorted xs (cond (delayed t.0) Γ (sorted x.0 evaluated Γ))
   alternative_sorted (shape.Node t xs) v Γ = vars_sorted xs Γ
   alternative_sorted _ v Γ = Γ
 
@@ -127,8 +129,10 @@ module _ (tags : List Tag) where
 
       pub CodeFits : Sorts → Code → Type 0
       CodeFits Γ (end o) = (sort_of o ≡ evaluated) × ActFits Γ o
-      CodeFits Γ (store cs b) = AllOf (λ c. KeptFits (cells_sorted cs Γ) c.val) cs × CodeFits (cells_sorted cs Γ) b
-      CodeFits Γ (bind t o b) = TargetFits t (sort_of o) × ActFits Γ o × CodeFits (target_sorted t (sort_of o) Γ) b
+      CodeFits Γ (store cs b) = AllOf (λ c. KeptFits (cells_sorted cs Γ) c.val) cs
+          × CodeFits (cells_sorted cs Γ) b
+      CodeFits Γ (bind t o b) = TargetFits t (sort_of o) × ActFits Γ o
+          × CodeFits (target_sorted t (sort_of o) Γ) b
 
       pub ArmsFit : Sorts → Val → Arms → Type 0
       ArmsFit Γ v no_arm = Unit {0}

@@ -1,4 +1,5 @@
--- What the text of such a program has: no evaluation, no application, and nodes at the ends of its blocks.
+-- What the text of such a program has: no evaluation, no application, and nodes at the ends of its
+-- blocks.
 use Rattle.std.proofs.Common.{ℕ, ◌≤◌, List, [], ◌∷◌}
 use Rattle.grin_syntax.specs.declared.program.Tag.{Tag}
 use Rattle.grin_syntax.specs.declared.program.Val.{Val}
@@ -31,15 +32,20 @@ module _ (ts : List Tag) where
     code_inlined : (b : Code) (Γ : Sorts) → CodeFits ts ⊥ ⊥ Γ b → EachCode inlined_kind b
     code_inlined (end o) Γ h = act_inlined o Γ h.1
     code_inlined (store cs b) Γ h = (all_any cs, code_inlined b (cells_sorted cs Γ) h.1)
-    code_inlined (bind t o b) Γ h = (tt, act_inlined o Γ h.1, code_inlined b (target_sorted t (sort_of o) Γ) h.2)
+    code_inlined (bind t o b) Γ h =
+        (tt, act_inlined o Γ h.1, code_inlined b (target_sorted t (sort_of o) Γ) h.2)
 
-    arms_inlined : (as' : Arms) (v : Val) (Γ : Sorts) → ArmsFit ts ⊥ ⊥ Γ v as' → EachArms inlined_kind as'
+    arms_inlined : (as' : Arms) (v : Val) (Γ : Sorts) → ArmsFit ts ⊥ ⊥ Γ v as'
+        → EachArms inlined_kind as'
     arms_inlined no_arm v Γ h = tt
-    arms_inlined (arm s b as') v Γ h = (tt, code_inlined b (alternative_sorted ts s v Γ) h.0, arms_inlined as' v Γ h.1)
+    arms_inlined (arm s b as') v Γ h =
+        (tt, code_inlined b (alternative_sorted ts s v Γ) h.0, arms_inlined as' v Γ h.1)
 
-  pub procs_inlined : (qs : List Procedure) → AllOf (ProcedureFits ts ⊥ ⊥) qs → EveryBodyIsOfKind inlined_kind qs
+  pub procs_inlined : (qs : List Procedure) → AllOf (ProcedureFits ts ⊥ ⊥) qs
+      → EveryBodyIsOfKind inlined_kind qs
   procs_inlined [] h = tt
-  procs_inlined (q ∷ qs) h = (code_inlined q.body (vars_sorted q.params nothing_known) h.0, procs_inlined qs h.1)
+  procs_inlined (q ∷ qs) h =
+      (code_inlined q.body (vars_sorted q.params nothing_known) h.0, procs_inlined qs h.1)
 
   -- a node counts as k words, which are at most m
   module _ (k m : ℕ) (le : k ≤ m) where
@@ -74,8 +80,11 @@ module _ (ts : List Tag) where
 
       arms_narrow : (as' : Arms) (v : Val) (Γ : Sorts) → ArmsFit ts ⊥ ⊥ Γ v as' → NarrowArms k m as'
       arms_narrow no_arm v Γ h = tt
-      arms_narrow (arm s b as') v Γ h = (code_narrow b (alternative_sorted ts s v Γ) h.0, arms_narrow as' v Γ h.1)
+      arms_narrow (arm s b as') v Γ h =
+          (code_narrow b (alternative_sorted ts s v Γ) h.0, arms_narrow as' v Γ h.1)
 
-    pub procs_narrow : (qs : List Procedure) → AllOf (ProcedureFits ts ⊥ ⊥) qs → AllOf (λ q. NarrowCode k m q.body) qs
+    pub procs_narrow : (qs : List Procedure) → AllOf (ProcedureFits ts ⊥ ⊥) qs
+        → AllOf (λ q. NarrowCode k m q.body) qs
     procs_narrow [] h = tt
-    procs_narrow (q ∷ qs) h = (code_narrow q.body (vars_sorted q.params nothing_known) h.0, procs_narrow qs h.1)
+    procs_narrow (q ∷ qs) h =
+        (code_narrow q.body (vars_sorted q.params nothing_known) h.0, procs_narrow qs h.1)

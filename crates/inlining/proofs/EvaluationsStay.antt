@@ -18,7 +18,10 @@ module _ (p : Program) (A : Solution) where
   abbrev e : Program
   e = eval_inlined A p
 
-  body_still : (y : ℕ) (a : Word) (n x k : ℕ) (b : Bool) (o : Option ProcId) → counted_code (apply_rule e A) y (cond b (call_body p A a x k o) (end (leaf (unit (NodeVar (var n)))))) ≡ cond b (call_body p A a x k o) (end (leaf (unit (NodeVar (var n)))))
+  body_still : (y : ℕ) (a : Word) (n x k : ℕ) (b : Bool) (o : Option ProcId)
+      → counted_code (apply_rule e A) y
+      (cond b (call_body p A a x k o) (end (leaf (unit (NodeVar (var n)))))) ≡ cond b
+      (call_body p A a x k o) (end (leaf (unit (NodeVar (var n)))))
   unfolding counted_act
   body_still y a n x k false o = refl
   body_still y a n x k true None = refl
@@ -28,8 +31,10 @@ module _ (p : Program) (A : Solution) where
   unfolding counted_act
   no_arm_still y = refl
 
-  pub arms_still : (y : ℕ) (a : Word) (n x : ℕ) (ks : List ℕ) → counted_all (apply_rule e A) y (eval_arms p A a n x ks) ≡ eval_arms p A a n x ks
-  arms_still y a n x ks = opened_stays p.tags (eval_opening p A a n) (apply_rule e A) (λ z x' t. body_still z a n x' t.fields (is_fun_kind t.kind) t.proc) no_arm_still y x ks
+  pub arms_still : (y : ℕ) (a : Word) (n x : ℕ) (ks : List ℕ)
+      → counted_all (apply_rule e A) y (eval_arms p A a n x ks) ≡ eval_arms p A a n x ks
+  arms_still y a n x ks = opened_stays p.tags (eval_opening p A a n) (apply_rule e A)
+      (λ z x' t. body_still z a n x' t.fields (is_fun_kind t.kind) t.proc) no_arm_still y x ks
 
   unfoldable pub one_then_other : (x y : ℕ) (l : Leaf) → Both (eval_rule p A) (apply_rule e A) x y l
   unfolding counted_act act_room
@@ -41,7 +46,17 @@ module _ (p : Program) (A : Solution) where
         becomes = evaluation p A x a;
         next = z;
         later = omega arith;
-        ended = λ i. bind (NodeTarget (var x)) (leaf (fetch a)) (end (case (NodeVar (var x)) (still i)));
-        bound = λ t b i. bind (NodeTarget (var x)) (leaf (fetch a)) (bind t (case (NodeVar (var x)) (still i)) (counted_code (apply_rule e A) z b));
+        ended = λ i. bind (NodeTarget (var x)) (leaf (fetch a))
+            (end (case (NodeVar (var x)) (still i)));
+        bound = λ t b i. bind (NodeTarget (var x)) (leaf (fetch a))
+            (bind t (case (NodeVar (var x)) (still i)) (counted_code (apply_rule e A) z b));
       }
-  one_then_other x y l = record { before = []; becomes = apply_becomes e A y l; next = y + apply_room e A l; later = omega arith; ended = refl; bound = λ t b. refl }
+  one_then_other x y l = record {
+    before = [];
+    becomes = apply_becomes e A y l;
+    next = y + apply_room e A l;
+    later
+        = omega arith;
+    ended = refl;
+    bound = λ t b. refl;
+  }

@@ -47,35 +47,56 @@ bound_words (nested b) = omega arith
 bound_words (leaf (unit v)) = omega arith
 bound_words (leaf l) = omega arith
 
--- each operation has room for the three that its alternative may add; its words are those of one that ends a block, and so of one that a target takes
+-- each operation has room for the three that its alternative may add; its words are those of one
+-- that ends a block, and so of one that a target takes
 mutual
   unfolding act_weight act_calls inner_words act_size
 
-  act_light : (o : Act) → (3 + act_weight o ≤ 48 * act_size o) × (act_calls o ≤ act_size o) × (end_words o + inner_words o ≤ 20 * act_size o)
-  act_light (case v as') = let a = arms_light as' in (omega (arith, val_light v, a.0), omega (arith, a.1), omega (arith, a.2))
-  act_light (nested b) = let c = code_light b in (omega (arith, c.0), omega (arith, c.1), omega (arith, c.2))
+  act_light : (o : Act) → (3 + act_weight o ≤ 48 * act_size o) × (act_calls o ≤ act_size o)
+      × (end_words o + inner_words o ≤ 20 * act_size o)
+  act_light (case v as') = let a = arms_light as' in
+      (omega (arith, val_light v, a.0), omega (arith, a.1), omega (arith, a.2))
+  act_light (nested b) = let c = code_light b in
+      (omega (arith, c.0), omega (arith, c.1), omega (arith, c.2))
   act_light (leaf (unit v)) = (omega (arith, val_light v), omega arith, omega arith)
   act_light (leaf (update a v)) = (omega (arith, val_light v), omega arith, omega arith)
   act_light (leaf (apply v a)) = (omega (arith, val_light v), omega arith, omega arith)
   act_light (leaf (call f ws)) = (omega arith, omega arith, omega arith)
   act_light (leaf l) = (omega arith, omega arith, omega arith)
 
-  code_light : (b : Code) → (3 + code_weight b ≤ 48 * code_size b) × (code_calls b ≤ code_size b) × (code_words b ≤ 20 * code_size b)
+  code_light : (b : Code) → (3 + code_weight b ≤ 48 * code_size b) × (code_calls b ≤ code_size b)
+      × (code_words b ≤ 20 * code_size b)
   code_light (end o) = act_light o
-  code_light (store cs b) = let c = code_light b in (omega (arith, cells_light cs, c.0), omega (arith, c.1), omega (arith, cells_many cs, c.2))
-  code_light (bind t o b) = let a = act_light o in let c = code_light b in (omega (arith, target_light t, a.0, c.0), omega (arith, a.1, c.1), omega (arith, target_light t, bound_words o, a.2, c.2))
+  code_light (store cs b) = let c = code_light b in
+      (omega (arith, cells_light cs, c.0), omega (arith, c.1), omega (arith, cells_many cs, c.2))
+  code_light (bind t o b) = let a = act_light o in let c = code_light b
+      in (
+        omega (arith, target_light t, a.0, c.0),
+        omega (arith, a.1, c.1),
+        omega (arith, target_light t, bound_words o, a.2, c.2),
+      )
 
-  arms_light : (as' : Arms) → (arms_weight as' ≤ 48 * arms_size as') × (arms_calls as' ≤ arms_size as') × (arms_words as' ≤ 20 * arms_size as')
+  arms_light : (as' : Arms) → (arms_weight as' ≤ 48 * arms_size as')
+      × (arms_calls as' ≤ arms_size as') × (arms_words as' ≤ 20 * arms_size as')
   arms_light no_arm = (omega arith, omega arith, omega arith)
-  arms_light (arm s b as') = let c = code_light b in let a = arms_light as' in (omega (arith, shape_binds s, c.0, a.0), omega (arith, c.1, a.1), omega (arith, shape_binds s, c.2, a.2))
+  arms_light (arm s b as') = let c = code_light b in let a = arms_light as'
+      in (
+        omega (arith, shape_binds s, c.0, a.0),
+        omega (arith, c.1, a.1),
+        omega (arith, shape_binds s, c.2, a.2),
+      )
 
-procs_light : (qs : List Procedure) → (procs_weight qs ≤ 48 * total procedure_size qs) × (procs_calls qs ≤ total procedure_size qs)
+procs_light : (qs : List Procedure) → (procs_weight qs ≤ 48 * total procedure_size qs)
+    × (procs_calls qs ≤ total procedure_size qs)
 procs_light [] = (omega arith, omega arith)
-procs_light (q ∷ qs) = let c = code_light q.body in let r = procs_light qs in (omega (arith, c.0, r.0), omega (arith, c.1, r.1))
+procs_light (q ∷ qs) = let c = code_light q.body in let r = procs_light qs
+    in (omega (arith, c.0, r.0), omega (arith, c.1, r.1))
 
-procs_words_few : (most : ℕ) (qs : List Procedure) → largest procedure_size qs ≤ most → AllOf (λ q. procedure_words q ≤ 20 * most) qs
+procs_words_few : (most : ℕ) (qs : List Procedure) → largest procedure_size qs ≤ most
+    → AllOf (λ q. procedure_words q ≤ 20 * most) qs
 procs_words_few most [] le = tt
-procs_words_few most (q ∷ qs) le = (let c = code_light q.body in omega (arith, c.2), procs_words_few most qs (omega arith))
+procs_words_few most (q ∷ qs) le =
+    (let c = code_light q.body in omega (arith, c.2), procs_words_few most qs (omega arith))
 
 pub slim : IsLinearInSize
 slim g = record {

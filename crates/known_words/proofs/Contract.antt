@@ -23,7 +23,8 @@ use Rattle.known_words.proofs.Tells.{Tells, all_tell}
 use Rattle.known_words.proofs.Gives.{procs_untold, opens, fewer_open}
 use Rattle.known_words.proofs.Asked.{sound}
 
-module _ (g : Program) (A : Solution) (of : IsVectorForm g) (tells : (i : List ℕ) (n : ℕ) → HoldsInEveryState (Tells g A) (world_of (run g i n)).seen) where
+module _ (g : Program) (A : Solution) (of : IsVectorForm g)
+    (tells : (i : List ℕ) (n : ℕ) → HoldsInEveryState (Tells g A) (world_of (run g i n)).seen) where
   abbrev R : WithFacts Facts
   R = literals_for_known (length g.tags) A
 
@@ -39,12 +40,16 @@ module _ (g : Program) (A : Solution) (of : IsVectorForm g) (tells : (i : List �
     stays = stays R word g nothing_known (Tells g A) facts_sound of tells;
     made = refl;
     known = procs_untold (length g.tags) A g.procs of.vectorised;
-    no_more_open = updates_fewer R word nothing_known facts_sound.by (opens (length g.tags) A) (facts_sound.cases (updates_kept (opens (length g.tags) A))) (fewer_open (length g.tags) A) g.procs;
+    no_more_open = updates_fewer R word nothing_known facts_sound.by (opens (length g.tags) A)
+        (facts_sound.cases (updates_kept (opens (length g.tags) A))) (fewer_open (length g.tags) A)
+        g.procs;
     slim = walked_slim R word nothing_known facts_sound.by facts_sound.cases g;
   }
 
   pub kept : Keeps g (known A g)
   kept = keeps R word g nothing_known (Tells g A) facts_sound of tells
 
-pub by_solution : (g : Program) (A : Solution) → IsVectorForm g → IsLeast (tables g) (system g) A → (i : List ℕ) (n : ℕ) → HoldsInEveryState (Tells g A) (world_of (run g i n)).seen
-by_solution g A of least i n = all_tell g A _ ((covers g A (formed_is_started g of.formed) least.solves).passed i n)
+pub by_solution : (g : Program) (A : Solution) → IsVectorForm g → IsLeast (tables g) (system g) A
+    → (i : List ℕ) (n : ℕ) → HoldsInEveryState (Tells g A) (world_of (run g i n)).seen
+by_solution g A of least i n = all_tell g A _
+    ((covers g A (formed_is_started g of.formed) least.solves).passed i n)

@@ -29,7 +29,8 @@ in_any x (y ∷ ys) (there m) = or_right (nat_eq y x) (list_any (λ u. nat_eq u 
 
 in_filter : (p : ℕ → Bool) (x : ℕ) (xs : List ℕ) → p x ≡ true → In x xs → In x (filter p xs)
 in_filter p x [] e h = none_in h
-in_filter p x (y ∷ ys) e here = subst (λ b. In x (cond b (x ∷ filter p ys) (filter p ys))) (sym e) here
+in_filter p x (y ∷ ys) e here = subst (λ b. In x (cond b (x ∷ filter p ys) (filter p ys))) (sym e)
+    here
 in_filter p x (y ∷ ys) e (there m) = go (p y) (in_filter p x ys e m)
   where
     go : (b : Bool) → In x (filter p ys) → In x (cond b (y ∷ filter p ys) (filter p ys))
@@ -52,12 +53,15 @@ module _ (g : Program) where
   not_empty : {t : ℕ} (ts : List ℕ) → In t ts → ts ≡ [] → ⊥
   not_empty {t} ts h e = none_in (subst (In t) e h)
 
-  among_after : (tags : List ℕ) (s : Shape) (y : Value) → shape_vars s ≡ [] → fit_of g s y ≡ fits_not → Among tags y → Among (tags_left_by tags s) y
+  among_after : (tags : List ℕ) (s : Shape) (y : Value) → shape_vars s ≡ []
+      → fit_of g s y ≡ fits_not → Among tags y → Among (tags_left_by tags s) y
   among_after tags (shape.Node t (x ∷ xs)) y b e h = no_vars x xs b
   among_after tags (shape.Node t []) y b e h =
-      let f : (n : Node) × (as_node g y ≡ Some n) × (nat_eq n.tag t.0 ≡ false) = node_fits_not g t y e in
+      let f : (n : Node) × (as_node g y ≡ Some n) × (nat_eq n.tag t.0 ≡ false)
+      = node_fits_not g t y e in
       record {
-        tag = λ m q. stays m (h.tag m q) (ap (λ (k : Node). nat_eq k.tag t.0) (some_is (sym q ∙ f.1)) ∙ f.2);
+        tag = λ m q. stays m (h.tag m q)
+            (ap (λ (k : Node). nat_eq k.tag t.0) (some_is (sym q ∙ f.1)) ∙ f.2);
         some = not_empty _ (stays f.0 (h.tag f.0 f.1) f.2);
       }
     where
@@ -66,7 +70,8 @@ module _ (g : Program) where
   among_after tags (shape.Int k) y b e h = h
   among_after tags shape.Else y b e h = cc
 
-  pub left_after : (left : Option (List ℕ)) (s : Shape) (y : Value) → shape_vars s ≡ [] → fit_of g s y ≡ fits_not → Left left y → Left (tags_left_after left s) y
+  pub left_after : (left : Option (List ℕ)) (s : Shape) (y : Value) → shape_vars s ≡ []
+      → fit_of g s y ≡ fits_not → Left left y → Left (tags_left_after left s) y
   left_after None s y b e h = tt
   left_after (Some tags) s y b e h = among_after tags s y b e h
 
@@ -74,7 +79,8 @@ module _ (g : Program) where
   none_any [] e = refl
   none_any (t ∷ ts) e = true_not_false e
 
-  never_among : (tags : List ℕ) (s : Shape) (y : Value) (bs : List Binding) → shape_vars s ≡ [] → pattern_may_match tags s ≡ false → fit_of g s y ≡ fits bs → Among tags y → ⊥
+  never_among : (tags : List ℕ) (s : Shape) (y : Value) (bs : List Binding) → shape_vars s ≡ []
+      → pattern_may_match tags s ≡ false → fit_of g s y ≡ fits bs → Among tags y → ⊥
   never_among tags (shape.Node t (x ∷ xs)) y bs b n e h = no_vars x xs b
   never_among tags (shape.Node t []) y bs b n e h =
       let f : NodeFits g t.0 y bs = node_fits g t y bs e in
@@ -84,18 +90,23 @@ module _ (g : Program) where
       true_not_false (sym (in_any 0 tags (subst (λ k. In k tags) f.tagged (h.tag f.n f.is))) ∙ n)
   never_among tags shape.Else y bs b n e h = h.some (none_any tags n)
 
-  pub never_taken : (left : Option (List ℕ)) (s : Shape) (y : Value) (bs : List Binding) → shape_vars s ≡ [] → arm_may_match left s ≡ false → fit_of g s y ≡ fits bs → Left left y → ⊥
+  pub never_taken : (left : Option (List ℕ)) (s : Shape) (y : Value) (bs : List Binding)
+      → shape_vars s ≡ [] → arm_may_match left s ≡ false → fit_of g s y ≡ fits bs → Left left y → ⊥
   never_taken None s y bs b n e h = true_not_false n
   never_taken (Some tags) s y bs b n e h = never_among tags s y bs b n e h
 
   -- where the solution covers the state, the value of a case has one of its tags
-  pub at_first : (A : Solution) (s : State) → StateIsCovered g A s → (v : Val) (y : Value) → value_of g s.env v ≡ Some y → Left (tags_at (length g.tags) A (tag_variable v)) y
+  pub at_first : (A : Solution) (s : State) → StateIsCovered g A s → (v : Val) (y : Value)
+      → value_of g s.env v ≡ Some y → Left (tags_at (length g.tags) A (tag_variable v)) y
   at_first A s lies v y at = go (tag_variable v) refl
     where
-      by_list : (x : VarId) (ts : List ℕ) → tag_variable v ≡ Some x → tags_of (length g.tags) A x.0 ≡ ts → Left (if_nonempty ts) y
+      by_list : (x : VarId) (ts : List ℕ) → tag_variable v ≡ Some x
+          → tags_of (length g.tags) A x.0 ≡ ts → Left (if_nonempty ts) y
       by_list x [] e q = tt
       by_list x (t ∷ ts) e q = record {
-        tag = λ n is. subst (In n.tag) q (tag_listed g A s lies x n (tag_there g s.env v x n e (ap (λ o. and_then o (as_node g)) at ∙ is)));
+        tag = λ n is. subst (In n.tag) q
+            (tag_listed g A s lies x n
+            (tag_there g s.env v x n e (ap (λ o. and_then o (as_node g)) at ∙ is)));
         some = λ z. not_empty (t ∷ ts) here z;
       }
 

@@ -45,7 +45,8 @@ module _ (count : ℕ) (A : Solution) where
         go None e = e
         go (Some k) e = literal_ok k
 
-    fewer_known : (v : Val) {as' bs' : Arms} → FewerArms as' bs' → KnownArms count A facts v as' → KnownArms count A facts v bs'
+    fewer_known : (v : Val) {as' bs' : Arms} → FewerArms as' bs' → KnownArms count A facts v as'
+        → KnownArms count A facts v bs'
     unfolding KnownAct
     fewer_known v none h = tt
     fewer_known v (keeps s b as' bs' k) h = (h.0, fewer_known v k h.1)
@@ -54,9 +55,13 @@ module _ (count : ℕ) (A : Solution) where
   -- each alternative that stays is needed
   arms_needed : (as' : Arms) (left : Option (List ℕ)) → AllArmsNeeded left (needed_arms left as')
   arms_needed no_arm left = tt
-  arms_needed (arm s b as') left = go (arm_may_match left s) refl (arms_needed as' (tags_left_after left s)) (arms_needed as' left)
+  arms_needed (arm s b as') left = go (arm_may_match left s) refl
+      (arms_needed as' (tags_left_after left s)) (arms_needed as' left)
     where
-      go : (c : Bool) → arm_may_match left s ≡ c → AllArmsNeeded (tags_left_after left s) (needed_arms (tags_left_after left s) as') → AllArmsNeeded left (needed_arms left as') → AllArmsNeeded left (cond c (arm s b (needed_arms (tags_left_after left s) as')) (needed_arms left as'))
+      go : (c : Bool) → arm_may_match left s ≡ c → AllArmsNeeded (tags_left_after left s)
+          (needed_arms (tags_left_after left s) as') → AllArmsNeeded left (needed_arms left as')
+          → AllArmsNeeded left
+          (cond c (arm s b (needed_arms (tags_left_after left s) as')) (needed_arms left as'))
       go true e h k = (e, h)
       go false e h k = k
 
@@ -66,20 +71,35 @@ module _ (count : ℕ) (A : Solution) where
     act = λ facts scope o o'. EachAct vectorised_kind o → KnownAct count A facts o';
     code = λ facts scope b b'. EachCode vectorised_kind b → KnownCode count A facts b';
     arms = λ facts scope v as' bs'. EachArms vectorised_kind as' → KnownArms count A facts v bs';
-    leafs = λ facts scope l n. leaf_ok (known_word count A facts) (Untold count A facts) (word_untold facts) l n;
-    cases = λ facts scope v as' bs' h n. (val_ok (known_word count A facts) (Untold count A facts) (word_untold facts) v n.1, arms_needed bs' _, fewer_known facts (known_val count A facts v) (needed_fewer _ bs') (h n.2));
+    leafs = λ facts scope l n. leaf_ok (known_word count A facts) (Untold count A facts)
+        (word_untold facts) l n;
+    cases = λ facts scope v as' bs' h n. (
+      val_ok (known_word count A facts) (Untold count A facts) (word_untold facts) v n.1,
+      arms_needed bs' _,
+      fewer_known facts (known_val count A facts v) (needed_fewer _ bs')
+          (h n.2),
+    );
     blocks = λ facts scope b b' h n. h n.1;
     ends = λ facts scope o o' h. h;
-    stores = λ facts scope cs b b' h n. (cells_ok (known_word count A facts) (Untold count A facts) (word_untold facts) cs n.0, h n.1);
+    stores = λ facts scope cs b b' h n. (
+      cells_ok (known_word count A facts) (Untold count A facts) (word_untold facts) cs n.0,
+      h n.1,
+    );
     binds = λ facts scope t o b b' h k n. (h n.1, k n.2);
     none_left = λ facts scope v n. tt;
     more = λ facts scope v s b b' as' bs' h k n. (h n.1, k n.2);
   }
 
-  pub procs_untold : (qs : List Procedure) → EveryBodyIsOfKind vectorised_kind qs → AllOf (λ q. KnownCode count A nothing_known q.body) (procs_by (literals_for_known count A) (known_word count A) nothing_known qs)
+  pub procs_untold : (qs : List Procedure) → EveryBodyIsOfKind vectorised_kind qs
+      → AllOf (λ q. KnownCode count A nothing_known q.body)
+      (procs_by (literals_for_known count A) (known_word count A) nothing_known qs)
   unfolding untold_relating
   procs_untold [] n = tt
-  procs_untold (q ∷ qs) n = (code_walked (literals_for_known count A) untold_relating q.body nothing_known (params_scope q) n.0, procs_untold qs n.1)
+  procs_untold (q ∷ qs) n = (
+    code_walked (literals_for_known count A) untold_relating q.body nothing_known
+        (params_scope q) n.0,
+    procs_untold qs n.1,
+  )
 
   -- ---- updates without a literal tag
 
@@ -90,7 +110,8 @@ module _ (count : ℕ) (A : Solution) where
   some_one None = omega arith
   some_one (Some x) = omega arith
 
-  word_open : (facts : Facts) (a : Word) → one_if_some (variable_of (known_word count A facts a)) ≤ one_if_some (variable_of a)
+  word_open : (facts : Facts) (a : Word) → one_if_some (variable_of (known_word count A facts a)) ≤
+      one_if_some (variable_of a)
   word_open facts (Var x) = some_one (variable_of (known_word count A facts (Var x)))
   word_open facts _ = omega arith
 

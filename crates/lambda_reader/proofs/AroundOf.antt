@@ -29,10 +29,12 @@ use Rattle.lambda_reader.proofs.Judging as expr
 use Rattle.lambda_reader.proofs.PlainTrees.{plain_is}
 
 -- What was read is what the next state knows, or spells what is answered.
-abbrev pub GoodMove : {O H A : Type 0} → (O → List Lexeme → Type 0) → (H → List Lexeme → Type 0) → (A → List Lexeme → Type 0) → Move O H A → List Lexeme → Type 0
+abbrev pub GoodMove : {O H A : Type 0} → (O → List Lexeme → Type 0) → (H → List Lexeme → Type 0)
+    → (A → List Lexeme → Type 0) → Move O H A → List Lexeme → Type 0
 GoodMove Known Opens Spells (next o) ts = Known o ts
 GoodMove Known Opens Spells (enter h) ts = Opens h ts
-GoodMove Known Opens Spells (all a) ts = (us : List Lexeme) × (end : ℕ) × Spells a us × (ts ≡ us ++ lexeme end word.End ∷ [])
+GoodMove Known Opens Spells (all a) ts = (us : List Lexeme) × (end : ℕ) × Spells a us
+    × (ts ≡ us ++ lexeme end word.End ∷ [])
 GoodMove Known Opens Spells (refuse e) ts = Unit {0}
 
 abbrev pub PlainMove : {O H A : Type 0} → ℕ → Token → Move O H A → Type 0
@@ -55,7 +57,8 @@ EndMove token m = Unit {0}
 
 -- What is read spells what is made of it.
 abbrev pub Views : ExpressionSyntax → Type 0
-Views x = (l : NestingLimit) (d : ℕ) (e : Expr) (ts : List Lexeme) → SpellsExpr x.lambdas l d e ts → x.Spells l d (x.view e) ts
+Views x = (l : NestingLimit) (d : ℕ) (e : Expr) (ts : List Lexeme) → SpellsExpr x.lambdas l d e ts
+    → x.Spells l d (x.view e) ts
 
 pub core_views : Views core_expressions
 core_views l d e ts h = plain_is l d e ts h
@@ -68,54 +71,85 @@ pub record AroundLaws {x : ExpressionSyntax} (d : Dialect) (r : ExpressionContex
   pub Known : NestingLimit → r.Own → List Lexeme → Type 0
   pub Opens : NestingLimit → r.Hole → List Lexeme → Type 0
   pub begins : (l : NestingLimit) → Known l r.start []
-  pub sound : (l : NestingLimit) (o : r.Own) (ts : List Lexeme) (at : ℕ) (token : Token) → Known l o ts → GoodMove (Known l) (Opens l) (r.Spells l) (r.step l o at token) (ts ++ lexeme at token ∷ [])
-  pub sound_give : (l : NestingLimit) (h : r.Hole) (e : x.Made) (us vs : List Lexeme) (at : ℕ) (token : Token) → Opens l h us → x.Spells l 0 e vs → GoodMove (Known l) (Opens l) (r.Spells l) (r.give h e at token) ((us ++ vs) ++ lexeme at token ∷ [])
+  pub sound : (l : NestingLimit) (o : r.Own) (ts : List Lexeme) (at : ℕ) (token : Token)
+      → Known l o ts → GoodMove (Known l) (Opens l) (r.Spells l) (r.step l o at token)
+      (ts ++ lexeme at token ∷ [])
+  pub sound_give : (l : NestingLimit) (h : r.Hole) (e : x.Made) (us vs : List Lexeme) (at : ℕ)
+      (token : Token) → Opens l h us → x.Spells l 0 e vs
+      → GoodMove (Known l) (Opens l) (r.Spells l) (r.give h e at token)
+      ((us ++ vs) ++ lexeme at token ∷ [])
   -- tokens that complete what was read, the first of which, behind an expression, goes on with none
   pub closing : r.Own → List Piece
-  pub closes : (names : Texts) (l : NestingLimit) (o : r.Own) → (a : r.Whole) × (run_of (steps r) l (Outside o) (ended d names (closing o)) ≡ Ok a)
+  pub closes : (names : Texts) (l : NestingLimit) (o : r.Own) → (a : r.Whole)
+      × (run_of (steps r) l (Outside o) (ended d names (closing o)) ≡ Ok a)
   pub first : r.Hole → Piece
   pub others : r.Hole → List Piece
   pub goes_on : (names : Texts) (h : r.Hole) → starts_atom (said d names (first h)).token ≡ false
-  pub gives : (names : Texts) (l : NestingLimit) (h : r.Hole) (e : Expr) → (a : r.Whole) × (run_of (steps r) l (Within h (Ended Outermost e)) (said d names (first h) ∷ ended d names (others h)) ≡ Ok a)
-  pub whole : (l : NestingLimit) (a : r.Whole) (ts : List Lexeme) (end : ℕ) (rest : List Lexeme) → r.Spells l a ts → run_of (steps r) l (Outside r.start) (ts ++ lexeme end word.End ∷ rest) ≡ Ok a
-  pub judged : (o : r.Own) (at : ℕ) (token : Token) → Verdict (steps r) (Outside o) at token (step_of_move (r.step at_most_200 o at token))
-  pub plain_give : (h : r.Hole) (e : x.Made) (at : ℕ) (token : Token) → PlainMove at token (r.give h e at token)
+  pub gives : (names : Texts) (l : NestingLimit) (h : r.Hole) (e : Expr) → (a : r.Whole)
+      × (run_of (steps r) l (Within h (Ended Outermost e))
+      (said d names (first h) ∷ ended d names (others h)) ≡ Ok a)
+  pub whole : (l : NestingLimit) (a : r.Whole) (ts : List Lexeme) (end : ℕ) (rest : List Lexeme)
+      → r.Spells l a ts → run_of (steps r) l (Outside r.start) (ts ++ lexeme end word.End ∷ rest) ≡
+      Ok a
+  pub judged : (o : r.Own) (at : ℕ) (token : Token)
+      → Verdict (steps r) (Outside o) at token (step_of_move (r.step at_most_200 o at token))
+  pub plain_give : (h : r.Hole) (e : x.Made) (at : ℕ) (token : Token)
+      → PlainMove at token (r.give h e at token)
   pub give_bad : (h : r.Hole) (e : x.Made) (at : ℕ) → r.give h e at word.Bad ≡ refuse (BadByte at)
   -- where an integer out of the range may stand, that number may
-  pub large_goes : (o : r.Own) (at p : ℕ) (minus : Bool) (v : ℤ) → r.step unlimited_nesting o at (word.Large minus) ≡ refuse (NumberRange p) → (minus ≡ false → (n : ℕ) × (v ≡ pos n)) → (o' : r.Own) × (r.step unlimited_nesting o at (word.Number minus v) ≡ next o')
-  pub large_stops : (o : r.Own) (at p : ℕ) (minus : Bool) (v : ℤ) → r.step unlimited_nesting o at (word.Large minus) ≡ refuse (Syntax p) → r.step unlimited_nesting o at (word.Number minus v) ≡ refuse (Syntax p)
-  pub give_range : (h : r.Hole) (e : x.Made) (at p : ℕ) (minus : Bool) → r.give h e at (word.Large minus) ≡ refuse (NumberRange p) → ⊥
-  pub give_stops : (h : r.Hole) (e : x.Made) (at p : ℕ) (minus : Bool) (v : ℤ) → r.give h e at (word.Large minus) ≡ refuse (Syntax p) → r.give h e at (word.Number minus v) ≡ refuse (Syntax p)
-  pub last : (o : r.Own) (at : ℕ) (token : Token) → IsLast token → LastMove (r.step at_most_200 o at token)
-  pub last_give : (h : r.Hole) (e : x.Made) (at : ℕ) (token : Token) → IsLast token → LastMove (r.give h e at token)
+  pub large_goes : (o : r.Own) (at p : ℕ) (minus : Bool) (v : ℤ)
+      → r.step unlimited_nesting o at (word.Large minus) ≡ refuse (NumberRange p)
+      → (minus ≡ false → (n : ℕ) × (v ≡ pos n)) → (o' : r.Own)
+      × (r.step unlimited_nesting o at (word.Number minus v) ≡ next o')
+  pub large_stops : (o : r.Own) (at p : ℕ) (minus : Bool) (v : ℤ)
+      → r.step unlimited_nesting o at (word.Large minus) ≡ refuse (Syntax p)
+      → r.step unlimited_nesting o at (word.Number minus v) ≡ refuse (Syntax p)
+  pub give_range : (h : r.Hole) (e : x.Made) (at p : ℕ) (minus : Bool)
+      → r.give h e at (word.Large minus) ≡ refuse (NumberRange p) → ⊥
+  pub give_stops : (h : r.Hole) (e : x.Made) (at p : ℕ) (minus : Bool) (v : ℤ)
+      → r.give h e at (word.Large minus) ≡ refuse (Syntax p)
+      → r.give h e at (word.Number minus v) ≡ refuse (Syntax p)
+  pub last : (o : r.Own) (at : ℕ) (token : Token) → IsLast token
+      → LastMove (r.step at_most_200 o at token)
+  pub last_give : (h : r.Hole) (e : x.Made) (at : ℕ) (token : Token) → IsLast token
+      → LastMove (r.give h e at token)
   pub end : (o : r.Own) (at : ℕ) (token : Token) → EndMove token (r.step at_most_200 o at token)
-  pub end_give : (h : r.Hole) (e : x.Made) (at : ℕ) (token : Token) → EndMove token (r.give h e at token)
+  pub end_give : (h : r.Hole) (e : x.Made) (at : ℕ) (token : Token)
+      → EndMove token (r.give h e at token)
 
-moved_stop : {O H A : Type 0} (m : Move O H A) (e : ReadRefusal) → step_of_move m ≡ stop e → m ≡ refuse e
+moved_stop : {O H A : Type 0} (m : Move O H A) (e : ReadRefusal) → step_of_move m ≡ stop e
+    → m ≡ refuse e
 moved_stop (next o) e h = absurd cc
 moved_stop (enter x) e h = absurd cc
 moved_stop (all a) e h = absurd cc
 moved_stop (refuse er) e h = let f : er ≡ e = cc in ap refuse f
 
-moved_stays : {O H A : Type 0} (m : Move O H A) (n : ContextState O H) → LastMove m → step_of_move m ≡ go n → ⊥
+moved_stays : {O H A : Type 0} (m : Move O H A) (n : ContextState O H) → LastMove m
+    → step_of_move m ≡ go n → ⊥
 moved_stays (next o) n l h = l
 moved_stays (enter x) n l h = l
 moved_stays (all a) n l h = cc
 moved_stays (refuse er) n l h = cc
 
-moved_end : {O H A : Type 0} (token : Token) (m : Move O H A) (a : A) → EndMove token m → step_of_move m ≡ done a → token ≡ word.End
+moved_end : {O H A : Type 0} (token : Token) (m : Move O H A) (a : A) → EndMove token m
+    → step_of_move m ≡ done a → token ≡ word.End
 moved_end token (next o) a l h = absurd cc
 moved_end token (enter x) a l h = absurd cc
 moved_end token (all b) a l h = l
 moved_end token (refuse er) a l h = absurd cc
 
 -- the answer behind an expression
-abbrev pub continue : {x : ExpressionSyntax} (r : ExpressionContext x) → NestingLimit → r.Hole → Result ReadResult ReadRefusal → Result r.Whole ReadRefusal
-continue {x = x} r l h (Ok f) = follow (step_of_move (r.give h (x.view f.expr) (front f.rest).at (front f.rest).token)) (λ s. run_of (steps r) l s (behind f.rest))
+abbrev pub continue : {x : ExpressionSyntax} (r : ExpressionContext x) → NestingLimit → r.Hole
+    → Result ReadResult ReadRefusal → Result r.Whole ReadRefusal
+continue {x = x} r l h (Ok f) = follow
+    (step_of_move (r.give h (x.view f.expr) (front f.rest).at (front f.rest).token))
+    (λ s. run_of (steps r) l s (behind f.rest))
 continue r l h (Err e) = Err e
 
 module _ {x : ExpressionSyntax} (r : ExpressionContext x) where
-  move_judged : (y : ContextState r.Own r.Hole) (at : ℕ) (token : Token) (m : Move r.Own r.Hole r.Whole) → steps r unlimited_nesting y at token ≡ step_of_move m → PlainMove at token m → Verdict (steps r) y at token (step_of_move m)
+  move_judged : (y : ContextState r.Own r.Hole) (at : ℕ) (token : Token)
+      (m : Move r.Own r.Hole r.Whole) → steps r unlimited_nesting y at token ≡ step_of_move m
+      → PlainMove at token m → Verdict (steps r) y at token (step_of_move m)
   move_judged y at token (next o) e p = e
   move_judged y at token (enter h) e p = e
   move_judged y at token (all a) e p = e
@@ -127,67 +161,98 @@ module _ {x : ExpressionSyntax} (r : ExpressionContext x) where
   move_judged y at token (refuse (Memory er)) e p = p
 
   -- where no limit counts
-  pub by_move : (o : r.Own) (at : ℕ) (token : Token) (m : Move r.Own r.Hole r.Whole) → r.step unlimited_nesting o at token ≡ m → PlainMove at token m → Verdict (steps r) (Outside o) at token (step_of_move m)
+  pub by_move : (o : r.Own) (at : ℕ) (token : Token) (m : Move r.Own r.Hole r.Whole)
+      → r.step unlimited_nesting o at token ≡ m → PlainMove at token m
+      → Verdict (steps r) (Outside o) at token (step_of_move m)
   by_move o at token m e p = move_judged (Outside o) at token m (ap step_of_move e) p
 
-whole_expr : (lambdas : Bool) (l : NestingLimit) (e : Expr) (x : Lexeme) (rest : List Lexeme) → run lambdas l (Ended Outermost e) (x ∷ rest) ≡ Ok (record { expr = e; rest = x ∷ rest })
+whole_expr : (lambdas : Bool) (l : NestingLimit) (e : Expr) (x : Lexeme) (rest : List Lexeme)
+    → run lambdas l (Ended Outermost e) (x ∷ rest) ≡ Ok (record { expr = e; rest = x ∷ rest })
 unfolding run
 whole_expr lambdas l e x rest = refl
 
-module _ {x : ExpressionSyntax} (r : ExpressionContext x) (give_bad : (h : r.Hole) (e : x.Made) (at : ℕ) → r.give h e at word.Bad ≡ refuse (BadByte at)) where
-  at_bad : (l : NestingLimit) (h : r.Hole) (st : expression.Step) (f : expression.State → Result ReadResult ReadRefusal) → IsBad 0 st → Err (BadByte 0) ≡ continue r l h (expression.follow st [] f)
-  at_bad l h (go s) f b = absurd b
-  at_bad l h (done e) f b = sym (ap (λ m. follow (step_of_move m) (λ s. run_of (steps r) l s [])) (give_bad h (x.view e) 0))
-  at_bad l h (stop er) f b = ap Err (sym b)
+module _ {x : ExpressionSyntax} (r : ExpressionContext x)
+    (give_bad : (h : r.Hole) (e : x.Made) (at : ℕ) → r.give h e at word.Bad ≡ refuse (BadByte at))
+  where
+    at_bad : (l : NestingLimit) (h : r.Hole) (st : expression.Step)
+        (f : expression.State → Result ReadResult ReadRefusal) → IsBad 0 st
+        → Err (BadByte 0) ≡ continue r l h (expression.follow st [] f)
+    at_bad l h (go s) f b = absurd b
+    at_bad l h (done e) f b = sym
+        (ap (λ m. follow (step_of_move m) (λ s. run_of (steps r) l s [])) (give_bad h (x.view e) 0))
+    at_bad l h (stop er) f b = ap Err (sym b)
 
-  on_step : (l : NestingLimit) (h : r.Hole) (t : Lexeme) (ts : List Lexeme) (st : expression.Step) → ((s : expression.State) → run_of (steps r) l (Within h s) ts ≡ continue r l h (run x.lambdas l s ts))
-      → follow (within x.view r.give h t.at t.token st) (λ s. run_of (steps r) l s ts) ≡ continue r l h (expression.follow st (t ∷ ts) (λ s. run x.lambdas l s ts))
-  on_step l h t ts (go s) later = later s
-  on_step l h t ts (done e) later = refl
-  on_step l h t ts (stop er) later = refl
+    on_step : (l : NestingLimit) (h : r.Hole) (t : Lexeme) (ts : List Lexeme) (st : expression.Step)
+        → ((s : expression.State) → run_of (steps r) l (Within h s) ts ≡ continue r l h
+        (run x.lambdas l s ts))
+        → follow (within x.view r.give h t.at t.token st) (λ s. run_of (steps r) l s ts) ≡ continue r
+        l h (expression.follow st (t ∷ ts) (λ s. run x.lambdas l s ts))
+    on_step l h t ts (go s) later = later s
+    on_step l h t ts (done e) later = refl
+    on_step l h t ts (stop er) later = refl
 
-  -- An expression is read in the text as it is alone.
-  pub through : (l : NestingLimit) (h : r.Hole) (s : expression.State) (ts : List Lexeme) → run_of (steps r) l (Within h s) ts ≡ continue r l h (run x.lambdas l s ts)
-  unfolding run_of run
-  through l h s [] = at_bad l h (expression.step x.lambdas l s 0 word.Bad) (λ s. Err (BadByte 0)) (is_bad x.lambdas l s 0)
-  through l h s (t ∷ ts) = on_step l h t ts (expression.step x.lambdas l s t.at t.token) (λ s. through l h s ts)
+    -- An expression is read in the text as it is alone.
+    pub through : (l : NestingLimit) (h : r.Hole) (s : expression.State) (ts : List Lexeme)
+        → run_of (steps r) l (Within h s) ts ≡ continue r l h (run x.lambdas l s ts)
+    unfolding run_of run
+    through l h s [] = at_bad l h (expression.step x.lambdas l s 0 word.Bad) (λ s. Err (BadByte 0))
+        (is_bad x.lambdas l s 0)
+    through l h s (t ∷ ts) = on_step l h t ts (expression.step x.lambdas l s t.at t.token)
+        (λ s. through l h s ts)
 
-module _ {x : ExpressionSyntax} (views : Views x) {d : Dialect} {r : ExpressionContext x} (w : AroundLaws d r) where
+module _ {x : ExpressionSyntax} (views : Views x) {d : Dialect} {r : ExpressionContext x}
+    (w : AroundLaws d r) where
   abbrev KnownAll : NestingLimit → ContextState r.Own r.Hole → List Lexeme → Type 0
   KnownAll l (Outside o) ts = w.Known l o ts
-  KnownAll l (Within h s) ts = (us vs : List Lexeme) × w.Opens l h us × sound.Consumed x.lambdas l s vs × (ts ≡ us ++ vs)
+  KnownAll l (Within h s) ts = (us vs : List Lexeme) × w.Opens l h us
+      × sound.Consumed x.lambdas l s vs × (ts ≡ us ++ vs)
 
   abbrev GoodAll : NestingLimit → Step (ContextState r.Own r.Hole) r.Whole → List Lexeme → Type 0
   GoodAll l st ts = Good KnownAll r.Spells l st ts
 
-  opened_good : (l : NestingLimit) → sound.Consumed x.lambdas l (Apply (InBody Outermost) NoTerms) []
+  opened_good : (l : NestingLimit) → sound.Consumed x.lambdas l (Apply (InBody Outermost) NoTerms)
+      []
   opened_good l = ([], [], refl, refl, refl)
 
-  move_good : (l : NestingLimit) (m : Move r.Own r.Hole r.Whole) (ts : List Lexeme) → GoodMove (w.Known l) (w.Opens l) (r.Spells l) m ts → GoodAll l (step_of_move m) ts
+  move_good : (l : NestingLimit) (m : Move r.Own r.Hole r.Whole) (ts : List Lexeme)
+      → GoodMove (w.Known l) (w.Opens l) (r.Spells l) m ts → GoodAll l (step_of_move m) ts
   move_good l (next o) ts g = g
   move_good l (enter h) ts g = (ts, [], g, opened_good l, sym (append-nil ts))
   move_good l (all a) ts g = g
   move_good l (refuse e) ts g = tt
 
   -- what an expression's token does
-  within_good : (l : NestingLimit) (h : r.Hole) (us vs : List Lexeme) (at : ℕ) (token : Token) (st : expression.Step) → w.Opens l h us → sound.Good x.lambdas l st (vs ++ lexeme at token ∷ []) → GoodAll l (within x.view r.give h at token st) ((us ++ vs) ++ lexeme at token ∷ [])
-  within_good l h us vs at token (go s) k g = (us, vs ++ lexeme at token ∷ [], k, g, append_assoc us vs (lexeme at token ∷ []))
+  within_good : (l : NestingLimit) (h : r.Hole) (us vs : List Lexeme) (at : ℕ) (token : Token)
+      (st : expression.Step) → w.Opens l h us → sound.Good x.lambdas l st
+      (vs ++ lexeme at token ∷ []) → GoodAll l (within x.view r.give h at token st)
+      ((us ++ vs) ++ lexeme at token ∷ [])
+  within_good l h us vs at token (go s) k g =
+      (us, vs ++ lexeme at token ∷ [], k, g, append_assoc us vs (lexeme at token ∷ []))
   within_good l h us vs at token (done e) k g =
       let same : vs ≡ g.0 = (last_same vs g.0 (lexeme at token) g.1 g.3).0 in
-      move_good l (r.give h (x.view e) at token) ((us ++ vs) ++ lexeme at token ∷ []) (w.sound_give l h (x.view e) us vs at token k (views l 0 e vs (subst (SpellsExpr x.lambdas l 0 e) (sym same) g.2)))
+      move_good l (r.give h (x.view e) at token) ((us ++ vs) ++ lexeme at token ∷ [])
+      (w.sound_give l h (x.view e) us vs at token k
+      (views l 0 e vs (subst (SpellsExpr x.lambdas l 0 e) (sym same) g.2)))
   within_good l h us vs at token (stop er) k g = tt
 
-  sound_all : (l : NestingLimit) (s : ContextState r.Own r.Hole) (ts : List Lexeme) (at : ℕ) (token : Token) → KnownAll l s ts → GoodAll l (steps r l s at token) (ts ++ lexeme at token ∷ [])
-  sound_all l (Outside o) ts at token k = move_good l (r.step l o at token) (ts ++ lexeme at token ∷ []) (w.sound l o ts at token k)
+  sound_all : (l : NestingLimit) (s : ContextState r.Own r.Hole) (ts : List Lexeme) (at : ℕ)
+      (token : Token) → KnownAll l s ts → GoodAll l (steps r l s at token)
+      (ts ++ lexeme at token ∷ [])
+  sound_all l (Outside o) ts at token k = move_good l (r.step l o at token)
+      (ts ++ lexeme at token ∷ []) (w.sound l o ts at token k)
   sound_all l (Within h s) ts at token k =
-      subst (λ v. GoodAll l (within x.view r.give h at token (expression.step x.lambdas l s at token)) (v ++ lexeme at token ∷ [])) (sym k.4)
-      (within_good l h k.0 k.1 at token (expression.step x.lambdas l s at token) k.2 (sound.sound_step x.lambdas l s k.1 at token k.3))
+      subst (λ v. GoodAll l
+      (within x.view r.give h at token (expression.step x.lambdas l s at token))
+      (v ++ lexeme at token ∷ [])) (sym k.4)
+      (within_good l h k.0 k.1 at token (expression.step x.lambdas l s at token) k.2
+      (sound.sound_step x.lambdas l s k.1 at token k.3))
 
   ending_all : ContextState r.Own r.Hole → List Piece
   ending_all (Outside o) = w.closing o
   ending_all (Within h s) = ending.ending s ++ (w.first h ∷ w.others h)
 
-  ends_all : (names : Texts) (l : NestingLimit) (s : ContextState r.Own r.Hole) → (a : r.Whole) × (run_of (steps r) l s (ended d names (ending_all s)) ≡ Ok a)
+  ends_all : (names : Texts) (l : NestingLimit) (s : ContextState r.Own r.Hole) → (a : r.Whole)
+      × (run_of (steps r) l s (ended d names (ending_all s)) ≡ Ok a)
   unfolding ending_all
   ends_all names l (Outside o) = w.closes names l o
   ends_all names l (Within h s) =
@@ -197,66 +262,113 @@ module _ {x : ExpressionSyntax} (views : Views x) {d : Dialect} {r : ExpressionC
       let g = w.gives names l h e.0 in
       let us = map (said d names) (ending.ending s) in
       let regroup : ended d names (ending.ending s ++ (w.first h ∷ w.others h)) ≡ us ++ y ∷ rest =
-      ap (λ v. v ++ lexeme 0 word.End ∷ []) (map_parts d names (ending.ending s) (w.first h ∷ w.others h)) ∙ append_assoc us (y ∷ map (said d names) (w.others h)) (lexeme 0 word.End ∷ []) in
-      (g.0, ap (run_of (steps r) l (Within h s)) regroup ∙ through r w.give_bad l h s (us ++ y ∷ rest) ∙ ap (continue r l h) (e.1 ∙ sym (whole_expr x.lambdas l e.0 y rest)) ∙ sym (through r w.give_bad l h (Ended Outermost e.0) (y ∷ rest)) ∙ g.1)
+      ap (λ v. v ++ lexeme 0 word.End ∷ [])
+      (map_parts d names (ending.ending s) (w.first h ∷ w.others h)) ∙ append_assoc us
+      (y ∷ map (said d names) (w.others h)) (lexeme 0 word.End ∷ []) in (
+        g.0,
+        ap (run_of (steps r) l (Within h s)) regroup ∙ through r w.give_bad l h s
+            (us ++ y ∷ rest) ∙ ap (continue r l h) (e.1 ∙ sym (whole_expr x.lambdas l e.0 y rest)) ∙
+            sym (through r w.give_bad l h (Ended Outermost e.0) (y ∷ rest)) ∙ g.1,
+      )
 
-  within_judged : (h : r.Hole) (s : expression.State) (at : ℕ) (token : Token) (st : expression.Step) → Verdict (expression.step x.lambdas) s at token st → Verdict (steps r) (Within h s) at token (within x.view r.give h at token st)
+  within_judged : (h : r.Hole) (s : expression.State) (at : ℕ) (token : Token)
+      (st : expression.Step) → Verdict (expression.step x.lambdas) s at token st
+      → Verdict (steps r) (Within h s) at token (within x.view r.give h at token st)
   within_judged h s at token (go n) v = ap (within x.view r.give h at token) v
-  within_judged h s at token (done e) v = move_judged r (Within h s) at token (r.give h (x.view e) at token) (ap (within x.view r.give h at token) v) (w.plain_give h (x.view e) at token)
+  within_judged h s at token (done e) v = move_judged r (Within h s) at token
+      (r.give h (x.view e) at token) (ap (within x.view r.give h at token) v)
+      (w.plain_give h (x.view e) at token)
   within_judged h s at token (stop (BadByte p)) v = v
-  within_judged h s at token (stop (Syntax p)) v = (v.0, ap (within x.view r.give h at token) v.1, v.2)
-  within_judged h s at token (stop (NumberRange p)) v = (v.0, v.1, v.2, ap (within x.view r.give h at token) v.3)
-  within_judged h s at token (stop (TooDeep p)) v = (v.0, Within h v.1, ap (within x.view r.give h at token) v.2, v.3)
+  within_judged h s at token (stop (Syntax p)) v =
+      (v.0, ap (within x.view r.give h at token) v.1, v.2)
+  within_judged h s at token (stop (NumberRange p)) v
+      = (v.0, v.1, v.2, ap (within x.view r.give h at token) v.3)
+  within_judged h s at token (stop (TooDeep p)) v =
+      (v.0, Within h v.1, ap (within x.view r.give h at token) v.2, v.3)
   within_judged h s at token (stop TextTooLong) v = v
   within_judged h s at token (stop (Memory er)) v = v
 
-  judged_all : (s : ContextState r.Own r.Hole) (at : ℕ) (token : Token) → Verdict (steps r) s at token (steps r at_most_200 s at token)
+  judged_all : (s : ContextState r.Own r.Hole) (at : ℕ) (token : Token)
+      → Verdict (steps r) s at token (steps r at_most_200 s at token)
   judged_all (Outside o) at token = w.judged o at token
-  judged_all (Within h s) at token = within_judged h s at token (expression.step x.lambdas at_most_200 s at token) (expr.judged x.lambdas s at token)
+  judged_all (Within h s) at token = within_judged h s at token
+      (expression.step x.lambdas at_most_200 s at token) (expr.judged x.lambdas s at token)
 
-  goes_by : (h : r.Hole) (s : expression.State) (at p : ℕ) (minus : Bool) (v : ℤ) (st : expression.Step) → expression.step x.lambdas unlimited_nesting s at (word.Large minus) ≡ st → within x.view r.give h at (word.Large minus) st ≡ stop (NumberRange p) → (minus ≡ false → (n : ℕ) × (v ≡ pos n)) → Accepts (steps r) (Within h s) at minus v
+  goes_by : (h : r.Hole) (s : expression.State) (at p : ℕ) (minus : Bool) (v : ℤ)
+      (st : expression.Step) → expression.step x.lambdas unlimited_nesting s at (word.Large minus) ≡
+      st → within x.view r.give h at (word.Large minus) st ≡ stop (NumberRange p)
+      → (minus ≡ false → (n : ℕ) × (v ≡ pos n)) → Accepts (steps r) (Within h s) at minus v
   goes_by h s at p minus v (go n) e f k = absurd cc
-  goes_by h s at p minus v (done y) e f k = absurd (w.give_range h (x.view y) at p minus (moved_stop (r.give h (x.view y) at (word.Large minus)) (NumberRange p) f))
+  goes_by h s at p minus v (done y) e f k = absurd
+      (w.give_range h (x.view y) at p minus
+      (moved_stop (r.give h (x.view y) at (word.Large minus)) (NumberRange p) f))
   goes_by h s at p minus v (stop er) e f k =
       let range : er ≡ NumberRange p = cc in
       let g = expr.large_goes x.lambdas s at p minus v (e ∙ ap stop range) k in
       (Within h g.0, ap (within x.view r.give h at (word.Number minus v)) g.1)
 
-  goes_all : (s : ContextState r.Own r.Hole) (at p : ℕ) (minus : Bool) (v : ℤ) → steps r unlimited_nesting s at (word.Large minus) ≡ stop (NumberRange p) → (minus ≡ false → (n : ℕ) × (v ≡ pos n)) → Accepts (steps r) s at minus v
+  goes_all : (s : ContextState r.Own r.Hole) (at p : ℕ) (minus : Bool) (v : ℤ)
+      → steps r unlimited_nesting s at (word.Large minus) ≡ stop (NumberRange p)
+      → (minus ≡ false → (n : ℕ) × (v ≡ pos n)) → Accepts (steps r) s at minus v
   goes_all (Outside o) at p minus v e k =
-      let g = w.large_goes o at p minus v (moved_stop (r.step unlimited_nesting o at (word.Large minus)) (NumberRange p) e) k in
+      let g = w.large_goes o at p minus v
+      (moved_stop (r.step unlimited_nesting o at (word.Large minus)) (NumberRange p) e) k in
       (Outside g.0, ap step_of_move g.1)
-  goes_all (Within h s) at p minus v e k = goes_by h s at p minus v (expression.step x.lambdas unlimited_nesting s at (word.Large minus)) refl e k
+  goes_all (Within h s) at p minus v e k = goes_by h s at p minus v
+      (expression.step x.lambdas unlimited_nesting s at (word.Large minus)) refl e k
 
-  stops_by : (h : r.Hole) (s : expression.State) (at p : ℕ) (minus : Bool) (v : ℤ) (st : expression.Step) → expression.step x.lambdas unlimited_nesting s at (word.Large minus) ≡ st → within x.view r.give h at (word.Large minus) st ≡ stop (Syntax p) → steps r unlimited_nesting (Within h s) at (word.Number minus v) ≡ stop (Syntax p)
+  stops_by : (h : r.Hole) (s : expression.State) (at p : ℕ) (minus : Bool) (v : ℤ)
+      (st : expression.Step) → expression.step x.lambdas unlimited_nesting s at (word.Large minus) ≡
+      st → within x.view r.give h at (word.Large minus) st ≡ stop (Syntax p)
+      → steps r unlimited_nesting (Within h s) at (word.Number minus v) ≡ stop (Syntax p)
   stops_by h s at p minus v (go n) e f = absurd cc
   stops_by h s at p minus v (done y) e f =
-      ap (within x.view r.give h at (word.Number minus v)) (expr.large_done x.lambdas s at minus v y e) ∙ ap step_of_move (w.give_stops h (x.view y) at p minus v (moved_stop (r.give h (x.view y) at (word.Large minus)) (Syntax p) f))
+      ap (within x.view r.give h at (word.Number minus v))
+      (expr.large_done x.lambdas s at minus v y e) ∙ ap step_of_move
+      (w.give_stops h (x.view y) at p minus v
+      (moved_stop (r.give h (x.view y) at (word.Large minus)) (Syntax p) f))
   stops_by h s at p minus v (stop er) e f =
       let syntax : er ≡ Syntax p = cc in
-      ap (within x.view r.give h at (word.Number minus v)) (expr.large_stops x.lambdas s at p minus v (e ∙ ap stop syntax))
+      ap (within x.view r.give h at (word.Number minus v))
+      (expr.large_stops x.lambdas s at p minus v (e ∙ ap stop syntax))
 
-  stops_all : (s : ContextState r.Own r.Hole) (at p : ℕ) (minus : Bool) (v : ℤ) → steps r unlimited_nesting s at (word.Large minus) ≡ stop (Syntax p) → steps r unlimited_nesting s at (word.Number minus v) ≡ stop (Syntax p)
-  stops_all (Outside o) at p minus v e = ap step_of_move (w.large_stops o at p minus v (moved_stop (r.step unlimited_nesting o at (word.Large minus)) (Syntax p) e))
-  stops_all (Within h s) at p minus v e = stops_by h s at p minus v (expression.step x.lambdas unlimited_nesting s at (word.Large minus)) refl e
+  stops_all : (s : ContextState r.Own r.Hole) (at p : ℕ) (minus : Bool) (v : ℤ)
+      → steps r unlimited_nesting s at (word.Large minus) ≡ stop (Syntax p)
+      → steps r unlimited_nesting s at (word.Number minus v) ≡ stop (Syntax p)
+  stops_all (Outside o) at p minus v e = ap step_of_move
+      (w.large_stops o at p minus v
+      (moved_stop (r.step unlimited_nesting o at (word.Large minus)) (Syntax p) e))
+  stops_all (Within h s) at p minus v e = stops_by h s at p minus v
+      (expression.step x.lambdas unlimited_nesting s at (word.Large minus)) refl e
 
-  stays_by : (h : r.Hole) (s : expression.State) (n : ContextState r.Own r.Hole) (at : ℕ) (token : Token) (st : expression.Step) → expression.step x.lambdas at_most_200 s at token ≡ st → IsLast token → within x.view r.give h at token st ≡ go n → ⊥
+  stays_by : (h : r.Hole) (s : expression.State) (n : ContextState r.Own r.Hole) (at : ℕ)
+      (token : Token) (st : expression.Step) → expression.step x.lambdas at_most_200 s at token ≡ st
+      → IsLast token → within x.view r.give h at token st ≡ go n → ⊥
   stays_by h s n at token (go m) e l f = expr.last_stays x.lambdas s m at token l e
-  stays_by h s n at token (done y) e l f = moved_stays (r.give h (x.view y) at token) n (w.last_give h (x.view y) at token l) f
+  stays_by h s n at token (done y) e l f = moved_stays (r.give h (x.view y) at token) n
+      (w.last_give h (x.view y) at token l) f
   stays_by h s n at token (stop er) e l f = cc
 
-  stays_all : (s n : ContextState r.Own r.Hole) (at : ℕ) (token : Token) → IsLast token → steps r at_most_200 s at token ≡ go n → ⊥
-  stays_all (Outside o) n at token l e = moved_stays (r.step at_most_200 o at token) n (w.last o at token l) e
-  stays_all (Within h s) n at token l e = stays_by h s n at token (expression.step x.lambdas at_most_200 s at token) refl l e
+  stays_all : (s n : ContextState r.Own r.Hole) (at : ℕ) (token : Token) → IsLast token
+      → steps r at_most_200 s at token ≡ go n → ⊥
+  stays_all (Outside o) n at token l e = moved_stays (r.step at_most_200 o at token) n
+      (w.last o at token l) e
+  stays_all (Within h s) n at token l e = stays_by h s n at token
+      (expression.step x.lambdas at_most_200 s at token) refl l e
 
-  done_by : (h : r.Hole) (at : ℕ) (token : Token) (a : r.Whole) (st : expression.Step) → within x.view r.give h at token st ≡ done a → token ≡ word.End
+  done_by : (h : r.Hole) (at : ℕ) (token : Token) (a : r.Whole) (st : expression.Step)
+      → within x.view r.give h at token st ≡ done a → token ≡ word.End
   done_by h at token a (go m) e = absurd cc
-  done_by h at token a (done y) e = moved_end token (r.give h (x.view y) at token) a (w.end_give h (x.view y) at token) e
+  done_by h at token a (done y) e = moved_end token (r.give h (x.view y) at token) a
+      (w.end_give h (x.view y) at token) e
   done_by h at token a (stop er) e = absurd cc
 
-  done_all : (s : ContextState r.Own r.Hole) (at : ℕ) (token : Token) (a : r.Whole) → steps r at_most_200 s at token ≡ done a → token ≡ word.End
-  done_all (Outside o) at token a e = moved_end token (r.step at_most_200 o at token) a (w.end o at token) e
-  done_all (Within h s) at token a e = done_by h at token a (expression.step x.lambdas at_most_200 s at token) e
+  done_all : (s : ContextState r.Own r.Hole) (at : ℕ) (token : Token) (a : r.Whole)
+      → steps r at_most_200 s at token ≡ done a → token ≡ word.End
+  done_all (Outside o) at token a e = moved_end token (r.step at_most_200 o at token) a
+      (w.end o at token) e
+  done_all (Within h s) at token a e = done_by h at token a
+      (expression.step x.lambdas at_most_200 s at token) e
 
   pub around_laws : Laws d (context_reading r)
   around_laws = record {

@@ -26,7 +26,11 @@ use Rattle.lambda_reader.specs.Reserving.{is_reserved, is_reserved_token, first_
 -- ---- what one token says
 
 by_bytes : (w : List ℕ) → kind_of Lambdas w ≡ Some Lower → is_reserved w ≡ true → IsReserved w
-by_bytes w k e = (drop (length (codes "lift'")) w, k, (starts_is Decides-eqb w (codes "lift'") (is_reserved w) refl).0 e)
+by_bytes w k e = (
+  drop (length (codes "lift'")) w,
+  k,
+  (starts_is Decides-eqb w (codes "lift'") (is_reserved w) refl).0 e,
+)
 
 sign_not : (names : Texts) (s : sign.Sign) → is_reserved_token names (sign_token s) ≡ true → ⊥
 sign_not names signs.Semicolon e = cc
@@ -40,14 +44,20 @@ sign_not names signs.Backslash e = cc
 sign_not names signs.Bar e = cc
 sign_not names signs.Colon e = cc
 
-by_letters : (names : Texts) (w : List ℕ) (o : Option Token) → IsKeyword o → kind_of Lambdas w ≡ Some Lower → (is_none o ≡ true → has names w ≡ true) → is_reserved_token names (keyword_or_name names w o) ≡ true → IsReserved w
-by_letters names w None k l h e = by_bytes w l (sym (ap (λ v. is_reserved (or_empty v)) (at_number names w (h refl))) ∙ e)
+by_letters : (names : Texts) (w : List ℕ) (o : Option Token) → IsKeyword o
+    → kind_of Lambdas w ≡ Some Lower → (is_none o ≡ true → has names w ≡ true)
+    → is_reserved_token names (keyword_or_name names w o) ≡ true → IsReserved w
+by_letters names w None k l h e = by_bytes w l
+    (sym (ap (λ v. is_reserved (or_empty v)) (at_number names w (h refl))) ∙ e)
 by_letters names w (Some (word.Name n)) k l h e = absurd k
 by_letters names w (Some token) k l h e = absurd cc
 
-by_kind : (names : Texts) (w : List ℕ) (o : Option TokenKind) → kind_of Lambdas w ≡ o → (is_numbered_by Lambdas w o ≡ true → has names w ≡ true) → is_reserved_token names (said_by Lambdas names w o) ≡ true → IsReserved w
+by_kind : (names : Texts) (w : List ℕ) (o : Option TokenKind) → kind_of Lambdas w ≡ o
+    → (is_numbered_by Lambdas w o ≡ true → has names w ≡ true)
+    → is_reserved_token names (said_by Lambdas names w o) ≡ true → IsReserved w
 by_kind names w None k h e = absurd cc
-by_kind names w (Some Lower) k h e = by_letters names w (keyword_of Lambdas w) (keyword_is_word Lambdas w) k h e
+by_kind names w (Some Lower) k h e = by_letters names w (keyword_of Lambdas w)
+    (keyword_is_word Lambdas w) k h e
 by_kind names w (Some Upper) k h e = absurd cc
 by_kind names w (Some Digits) k h e = absurd cc
 by_kind names w (Some (Sign s)) k h e = absurd (sign_not names s e)
@@ -56,10 +66,13 @@ no_word : (rest : List ℕ) → keyword_of Lambdas (codes "lift'" ++ rest) ≡ N
 no_word rest = refl
 
 -- and the other way round
-says : (names : Texts) (w : List ℕ) → IsReserved w → (is_numbered_by Lambdas w (kind_of Lambdas w) ≡ true → has names w ≡ true) → is_reserved_token names (said_by Lambdas names w (kind_of Lambdas w)) ≡ true
+says : (names : Texts) (w : List ℕ) → IsReserved w →
+    (is_numbered_by Lambdas w (kind_of Lambdas w) ≡ true → has names w ≡ true)
+    → is_reserved_token names (said_by Lambdas names w (kind_of Lambdas w)) ≡ true
 says names w r held =
     let no_keyword : keyword_of Lambdas w ≡ None = ap (keyword_of Lambdas) r.2 ∙ no_word r.0 in
-    let known : has names w ≡ true = held (ap (is_numbered_by Lambdas w) r.1 ∙ ap is_none no_keyword) in
+    let known : has names w ≡ true = held
+    (ap (is_numbered_by Lambdas w) r.1 ∙ ap is_none no_keyword) in
     ap (λ k. is_reserved_token names (said_by Lambdas names w k)) r.1
     ∙ ap (λ o. is_reserved_token names (keyword_or_name names w o)) no_keyword
     ∙ ap (λ v. is_reserved (or_empty v)) (at_number names w known)
@@ -73,7 +86,9 @@ IsFirst ps (Some first) =
     ((i : ℕ) × (p : Piece) × (slice_get ps i ≡ Some p) × IsReserved p.bytes × (p.at ≡ first))
     × ((i : ℕ) (p : Piece) → slice_get ps i ≡ Some p → IsReserved p.bytes → first ≤ p.at)
 
-behind : {at end : ℕ} {bytes rest : List ℕ} {pieces : List Piece} → Reads Lambdas at bytes pieces end rest → (i : ℕ) (p : Piece) → slice_get pieces i ≡ Some p → at ≤ p.at
+behind : {at end : ℕ} {bytes rest : List ℕ} {pieces : List Piece}
+    → Reads Lambdas at bytes pieces end rest → (i : ℕ) (p : Piece) → slice_get pieces i ≡ Some p
+    → at ≤ p.at
 behind (Stops at rest) i p e = absurd (none i e)
   where
     none : (i : ℕ) → slice_get [] i ≡ Some p → ⊥
@@ -86,58 +101,85 @@ behind (Takes at n bytes k pieces end rest h r) zero p e =
     omega (arith, placed)
 behind (Takes at n bytes k pieces end rest h r) (suc i) p e = let f = behind r i p e in omega arith
 
-one_more : (q : Piece) (ps : List Piece) (o : Option ℕ) → (IsReserved q.bytes → ⊥) → IsFirst ps o → IsFirst (q ∷ ps) o
+one_more : (q : Piece) (ps : List Piece) (o : Option ℕ) → (IsReserved q.bytes → ⊥) → IsFirst ps o
+    → IsFirst (q ∷ ps) o
 one_more q ps None n f = each
   where
     each : (i : ℕ) (p : Piece) → slice_get (q ∷ ps) i ≡ Some p → IsReserved p.bytes → ⊥
-    each zero p e r = let same : q ≡ p = cc in n (subst (λ (x : Piece). IsReserved x.bytes) (sym same) r)
+    each zero p e r = let same : q ≡ p = cc in n
+        (subst (λ (x : Piece). IsReserved x.bytes) (sym same) r)
     each (suc i) p e r = f i p e r
 one_more q ps (Some first) n f = ((suc f.0.0, f.0.1, f.0.2, f.0.3, f.0.4), each)
   where
     each : (i : ℕ) (p : Piece) → slice_get (q ∷ ps) i ≡ Some p → IsReserved p.bytes → first ≤ p.at
-    each zero p e r = let same : q ≡ p = cc in absurd (n (subst (λ (x : Piece). IsReserved x.bytes) (sym same) r))
+    each zero p e r = let same : q ≡ p = cc in absurd
+        (n (subst (λ (x : Piece). IsReserved x.bytes) (sym same) r))
     each (suc i) p e r = f.1 i p e r
 
 abbrev FirstAmong : Texts → Lexeme → List Piece → Type 0
-FirstAmong names last pieces = IsFirst pieces (first_reserved names (map (said Lambdas names) pieces ++ last ∷ []))
+FirstAmong names last pieces = IsFirst pieces
+    (first_reserved names (map (said Lambdas names) pieces ++ last ∷ []))
 
-this_or : (names : Texts) (q : Piece) (ps : List Piece) (o : Option ℕ) (b : Bool) → is_reserved_token names (said Lambdas names q).token ≡ b
-    → (is_numbered_by Lambdas q.bytes (kind_of Lambdas q.bytes) ≡ true → has names q.bytes ≡ true) → ((i : ℕ) (p : Piece) → slice_get (q ∷ ps) i ≡ Some p → q.at ≤ p.at) → IsFirst ps o → IsFirst (q ∷ ps) (cond b (Some q.at) o)
-this_or names q ps o true e held after f =
-    ((0, q, refl, by_kind names q.bytes (kind_of Lambdas q.bytes) refl held e, refl), λ i p g r. after i p g)
-this_or names q ps o false e held after f = one_more q ps o (λ r. differ (sym (says names q.bytes r held) ∙ e)) f
+this_or : (names : Texts) (q : Piece) (ps : List Piece) (o : Option ℕ) (b : Bool)
+    → is_reserved_token names (said Lambdas names q).token ≡ b
+    → (is_numbered_by Lambdas q.bytes (kind_of Lambdas q.bytes) ≡ true → has names q.bytes ≡ true)
+    → ((i : ℕ) (p : Piece) → slice_get (q ∷ ps) i ≡ Some p → q.at ≤ p.at) → IsFirst ps o
+    → IsFirst (q ∷ ps) (cond b (Some q.at) o)
+this_or names q ps o true e held after f = (
+  (0, q, refl, by_kind names q.bytes (kind_of Lambdas q.bytes) refl held e, refl),
+  λ i p g r. after i p g,
+)
+this_or names q ps o false e held after f = one_more q ps o
+    (λ r. differ (sym (says names q.bytes r held) ∙ e)) f
   where
     differ : true ≡ false → ⊥
     differ g = cc
 
-first_among : {at end : ℕ} {bytes rest : List ℕ} {pieces : List Piece} (names : Texts) (last : Lexeme) → is_reserved_token names last.token ≡ false → Reads Lambdas at bytes pieces end rest → EachHeld Lambdas names pieces → FirstAmong names last pieces
-first_among names last other (Stops at rest) held = subst (λ b. IsFirst [] (cond b (Some last.at) None)) (sym other) none
+first_among : {at end : ℕ} {bytes rest : List ℕ} {pieces : List Piece} (names : Texts)
+    (last : Lexeme) → is_reserved_token names last.token ≡ false
+    → Reads Lambdas at bytes pieces end rest → EachHeld Lambdas names pieces
+    → FirstAmong names last pieces
+first_among names last other (Stops at rest) held = subst
+    (λ b. IsFirst [] (cond b (Some last.at) None)) (sym other) none
   where
     none : (i : ℕ) (p : Piece) → slice_get [] i ≡ Some p → IsReserved p.bytes → ⊥
     none i p e r = cc
-first_among names last other (Passes at n bytes pieces end rest h r) held = first_among names last other r held
+first_among names last other (Passes at n bytes pieces end rest h r) held
+    = first_among names last other r held
 first_among names last other (Takes at n bytes k pieces end rest h r) held =
     let q : Piece = record { bytes = take n bytes; at = at } in
-    this_or names q pieces (first_reserved names (map (said Lambdas names) pieces ++ last ∷ [])) (is_reserved_token names (said Lambdas names q).token) refl held.0
+    this_or names q pieces (first_reserved names (map (said Lambdas names) pieces ++ last ∷ []))
+    (is_reserved_token names (said Lambdas names q).token) refl held.0
     (behind (Takes at n bytes k pieces end rest h r)) (first_among names last other r held.1)
 
 -- ---- of a text
 
-not_last : (names : Texts) (at : ℕ) (rest : List ℕ) (last : Lexeme) → StopsAt Lambdas at rest last → is_reserved_token names last.token ≡ false
+not_last : (names : Texts) (at : ℕ) (rest : List ℕ) (last : Lexeme) → StopsAt Lambdas at rest last
+    → is_reserved_token names last.token ≡ false
 not_last names at rest last (AtEnd e) = refl
 not_last names at rest last (AtBad e) = refl
 not_last names at rest last (AtLarge n l o) = refl
 
 module _ (text : List ℕ) (ps : List Piece) (tokens : IsTokens Lambdas text ps) where
-  each_of : (Q : ℕ → Type 0) → ((i : ℕ) (p : Piece) → slice_get ps i ≡ Some p → IsReserved p.bytes → Q p.at) → (at : ℕ) → HasReserved text at → Q at
-  each_of Q f at (Stands {pieces = qs} {piece = p} i t e r) = f i p (subst (λ v. slice_get v i ≡ Some p) (one_tokens text qs ps t tokens) e) r
+  each_of : (Q : ℕ → Type 0) →
+      ((i : ℕ) (p : Piece) → slice_get ps i ≡ Some p → IsReserved p.bytes → Q p.at) → (at : ℕ)
+      → HasReserved text at → Q at
+  each_of Q f at (Stands {pieces = qs} {piece = p} i t e r)
+      = f i p (subst (λ v. slice_get v i ≡ Some p) (one_tokens text qs ps t tokens) e) r
 
   of_text : (o : Option ℕ) → IsFirst ps o → IsFirstReserved text o
   of_text None f = each_of (λ at. ⊥) f
-  of_text (Some first) f = (subst (HasReserved text) f.0.4 (Stands f.0.0 tokens f.0.2 f.0.3), each_of (λ at. first ≤ at) f.1)
+  of_text (Some first) f = (
+    subst (HasReserved text) f.0.4 (Stands f.0.0 tokens f.0.2 f.0.3),
+    each_of (λ at. first ≤ at) f.1,
+  )
 
-pub reserved_first : (text : List ℕ) (lexemes : List Lexeme) (names : Texts) (l : IsLexed Lambdas text lexemes names) → IsTokens Lambdas text l.pieces → IsFirstReserved text (first_reserved names lexemes)
+pub reserved_first : (text : List ℕ) (lexemes : List Lexeme) (names : Texts)
+    (l : IsLexed Lambdas text lexemes names) → IsTokens Lambdas text l.pieces
+    → IsFirstReserved text (first_reserved names lexemes)
 reserved_first text lexemes names l tokens =
-    let held = subst (λ v. EachHeld Lambdas v l.pieces) (sym l.named) (each_held Lambdas [] l.pieces) in
+    let held = subst (λ v. EachHeld Lambdas v l.pieces) (sym l.named)
+    (each_held Lambdas [] l.pieces) in
     let among = first_among names l.last (not_last names l.at l.rest l.last l.stop) l.reads held in
-    of_text text l.pieces tokens (first_reserved names lexemes) (subst (λ v. IsFirst l.pieces (first_reserved names v)) (sym l.lexed) among)
+    of_text text l.pieces tokens (first_reserved names lexemes)
+    (subst (λ v. IsFirst l.pieces (first_reserved names v)) (sym l.lexed) among)

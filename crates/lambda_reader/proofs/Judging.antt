@@ -1,4 +1,5 @@
--- What the reading of an expression does at a step under other limits, at a number out of the range, and at the end.
+-- What the reading of an expression does at a step under other limits, at a number out of the
+-- range, and at the end.
 use Rattle.std.proofs.Common.{◌≡◌, ℕ, Bool, true, false, cond, [], ◌∷◌, refl}
 use Rattle.std.specs.Prelude.{ℤ, pos, nat_lt}
 use Rattle.core_reader.specs.declared.syntax.Pattern.TheVariants as pattern
@@ -26,33 +27,47 @@ gives_plain k e at token = refused_plain State Expr at token
 
 module _ (lambdas : Bool) where
   -- a step that the switch allows or refuses
-  switched : (b : Bool) (s next : State) (at : ℕ) (token : Token) → step lambdas unlimited_nesting s at token ≡ cond b (go next) (stop (Syntax at)) → (token ≡ word.Bad → ⊥) → Verdict (step lambdas) s at token (cond b (go next) (stop (Syntax at)))
+  switched : (b : Bool) (s next : State) (at : ℕ) (token : Token)
+      → step lambdas unlimited_nesting s at token ≡ cond b (go next) (stop (Syntax at))
+      → (token ≡ word.Bad → ⊥) → Verdict (step lambdas) s at token
+      (cond b (go next) (stop (Syntax at)))
   switched true s next at token e h = e
   switched false s next at token e h = (refl, e, h)
 
-  pub judged : (s : State) (at : ℕ) (token : Token) → Verdict (step lambdas) s at token (step lambdas at_most_200 s at token)
+  pub judged : (s : State) (at : ℕ) (token : Token)
+      → Verdict (step lambdas) s at token (step lambdas at_most_200 s at token)
   judged (Apply k held) at (word.Name n) = refl
   judged (Apply k held) at (word.Con n) = refl
   judged (Apply k held) at (word.Number minus v) = refl
   judged (Apply k held) at (word.Large minus) = (refl, minus, refl, refl)
-  judged (Apply k held) at word.Open = opened (step lambdas) (Apply k held) (Apply (Inside k held at) NoTerms) at word.Open (nat_lt (opens k) 200) refl tt
-  judged (Apply (Inside k held p) NoTerms) at (word.Further Backslash) = switched lambdas (Apply (Inside k held p) NoTerms) (LambdaNames k held at []) at (word.Further Backslash) refl (λ e. cc)
+  judged (Apply k held) at word.Open = opened (step lambdas) (Apply k held)
+      (Apply (Inside k held at) NoTerms) at word.Open (nat_lt (opens k) 200) refl tt
+  judged (Apply (Inside k held p) NoTerms) at (word.Further Backslash)
+      = switched lambdas (Apply (Inside k held p) NoTerms) (LambdaNames k held at []) at
+      (word.Further Backslash) refl (λ e. cc)
   judged (Apply (Inside k held p) (AndTerm a xs)) at word.Close = refl
   judged (Apply (InBind k binds n p) (AndTerm a xs)) at word.Semicolon = refl
   judged (Apply (InBind k binds n p) (AndTerm a xs)) at word.In = refl
-  judged (Apply (InBody k) NoTerms) at word.Let = opened (step lambdas) (Apply (InBody k) NoTerms) (BindName k NoBinds) at word.Let (nat_lt (nests k) 200) refl tt
-  judged (Apply (InBody k) NoTerms) at word.Case = opened (step lambdas) (Apply (InBody k) NoTerms) (Apply (InBody (Scrutinee k)) NoTerms) at word.Case (nat_lt (nests k) 200) refl tt
-  judged (Apply (InBody k) (AndTerm a xs)) at token = by_plain (step lambdas) (Apply (InBody k) (AndTerm a xs)) at token (give k (App a xs) at token) refl (gives_plain k (App a xs) at token)
+  judged (Apply (InBody k) NoTerms) at word.Let = opened (step lambdas) (Apply (InBody k) NoTerms)
+      (BindName k NoBinds) at word.Let (nat_lt (nests k) 200) refl tt
+  judged (Apply (InBody k) NoTerms) at word.Case = opened (step lambdas) (Apply (InBody k) NoTerms)
+      (Apply (InBody (Scrutinee k)) NoTerms) at word.Case (nat_lt (nests k) 200) refl tt
+  judged (Apply (InBody k) (AndTerm a xs)) at token
+      = by_plain (step lambdas) (Apply (InBody k) (AndTerm a xs)) at token
+      (give k (App a xs) at token) refl (gives_plain k (App a xs) at token)
   judged (BindName k binds) at (word.Name n) = refl
   judged (BindName k (AndValue b head args rest)) at word.In = refl
   judged (BindName k (AndFunction b params body rest)) at word.In = refl
   judged (BindEquals k binds n p) at word.Equals = refl
-  judged (BindEquals k binds n p) at (word.Name m) = switched lambdas (BindEquals k binds n p) (FunctionNames k binds n p (record { name = m; at = at } ∷ [])) at (word.Name m) refl (λ e. cc)
+  judged (BindEquals k binds n p) at (word.Name m) = switched lambdas (BindEquals k binds n p)
+      (FunctionNames k binds n p (record { name = m; at = at } ∷ [])) at (word.Name m) refl
+      (λ e. cc)
   judged (FunctionNames k binds n p params) at (word.Name m) = refl
   judged (FunctionNames k binds n p params) at word.Equals = refl
   judged (LambdaNames k held p params) at (word.Name m) = refl
   judged (LambdaNames k held p (b ∷ params)) at word.Arrow = refl
-  judged (Ended k e) at token = by_plain (step lambdas) (Ended k e) at token (give k e at token) refl (gives_plain k e at token)
+  judged (Ended k e) at token = by_plain (step lambdas) (Ended k e) at token (give k e at token)
+      refl (gives_plain k e at token)
   judged (Brace k e) at word.OpenBrace = refl
   judged (AltStart k s alts) at (word.Con n) = refl
   judged (AltStart k s alts) at (word.Name n) = refl
@@ -62,11 +77,13 @@ module _ (lambdas : Bool) where
   judged (AltNames k s alts n p names) at (word.Name m) = refl
   judged (AltNames k s alts n p names) at word.Arrow = refl
   judged (AltArrow k s alts p) at word.Arrow = refl
-  judged s at token = by_plain (step lambdas) s at token (stop (refused at token)) refl (refused_plain State Expr at token)
+  judged s at token = by_plain (step lambdas) s at token (stop (refused at token)) refl
+      (refused_plain State Expr at token)
 
   -- ---- a number out of the range, where one of the range may stand or not
 
-  give_large : (k : Cont) (e : Expr) (at p : ℕ) (minus : Bool) → give k e at (word.Large minus) ≡ stop (NumberRange p) → ⊥
+  give_large : (k : Cont) (e : Expr) (at p : ℕ) (minus : Bool)
+      → give k e at (word.Large minus) ≡ stop (NumberRange p) → ⊥
   give_large (LetBody k binds) e at p minus h = give_large k (Let binds e) at p minus h
   give_large Outermost e at p minus h = cc
   give_large (Scrutinee k) e at p minus h = cc
@@ -75,7 +92,9 @@ module _ (lambdas : Bool) where
   give_large (FunctionBody k binds n q params) e at p minus h = cc
 
   -- where an integer out of the range may stand, that number may
-  pub large_goes : (s : State) (at p : ℕ) (minus : Bool) (v : ℤ) → step lambdas unlimited_nesting s at (word.Large minus) ≡ stop (NumberRange p) → (minus ≡ false → (n : ℕ) × (v ≡ pos n)) → Accepts (step lambdas) s at minus v
+  pub large_goes : (s : State) (at p : ℕ) (minus : Bool) (v : ℤ)
+      → step lambdas unlimited_nesting s at (word.Large minus) ≡ stop (NumberRange p)
+      → (minus ≡ false → (n : ℕ) × (v ≡ pos n)) → Accepts (step lambdas) s at minus v
   large_goes (Apply k held) at p minus v h f = (Apply k (with_last held (tree.Int v at)), refl)
   large_goes (AltStart k s alts) at p minus v h f = (AltArrow k s alts (pattern.Int v at), refl)
   large_goes (BindName k NoBinds) at p minus v h f = absurd cc
@@ -90,7 +109,9 @@ module _ (lambdas : Bool) where
   large_goes (AltNames k s alts n q names) at p minus v h f = absurd cc
   large_goes (AltArrow k s alts q) at p minus v h f = absurd cc
 
-  give_number : (k : Cont) (e : Expr) (at p : ℕ) (minus : Bool) (v : ℤ) → give k e at (word.Large minus) ≡ stop (Syntax p) → give k e at (word.Number minus v) ≡ stop (Syntax p)
+  give_number : (k : Cont) (e : Expr) (at p : ℕ) (minus : Bool) (v : ℤ)
+      → give k e at (word.Large minus) ≡ stop (Syntax p)
+      → give k e at (word.Number minus v) ≡ stop (Syntax p)
   give_number (LetBody k binds) e at p minus v h = give_number k (Let binds e) at p minus v h
   give_number Outermost e at p minus v h = absurd cc
   give_number (Scrutinee k) e at p minus v h = h
@@ -98,7 +119,9 @@ module _ (lambdas : Bool) where
   give_number (LambdaBody k held q params) e at p minus v h = h
   give_number (FunctionBody k binds n q params) e at p minus v h = h
 
-  pub large_stops : (s : State) (at p : ℕ) (minus : Bool) (v : ℤ) → step lambdas unlimited_nesting s at (word.Large minus) ≡ stop (Syntax p) → step lambdas unlimited_nesting s at (word.Number minus v) ≡ stop (Syntax p)
+  pub large_stops : (s : State) (at p : ℕ) (minus : Bool) (v : ℤ)
+      → step lambdas unlimited_nesting s at (word.Large minus) ≡ stop (Syntax p)
+      → step lambdas unlimited_nesting s at (word.Number minus v) ≡ stop (Syntax p)
   large_stops (Apply k held) at p minus v h = absurd cc
   large_stops (AltStart k s alts) at p minus v h = absurd cc
   large_stops (BindName k NoBinds) at p minus v h = h
@@ -113,7 +136,8 @@ module _ (lambdas : Bool) where
   large_stops (AltNames k s alts n q names) at p minus v h = h
   large_stops (AltArrow k s alts q) at p minus v h = h
 
-  give_done : (k : Cont) (e : Expr) (at : ℕ) (minus : Bool) (v : ℤ) (f : Expr) → give k e at (word.Large minus) ≡ done f → give k e at (word.Number minus v) ≡ done f
+  give_done : (k : Cont) (e : Expr) (at : ℕ) (minus : Bool) (v : ℤ) (f : Expr)
+      → give k e at (word.Large minus) ≡ done f → give k e at (word.Number minus v) ≡ done f
   give_done (LetBody k binds) e at minus v f h = give_done k (Let binds e) at minus v f h
   give_done Outermost e at minus v f h = h
   give_done (Scrutinee k) e at minus v f h = absurd cc
@@ -122,7 +146,9 @@ module _ (lambdas : Bool) where
   give_done (FunctionBody k binds n q params) e at minus v f h = absurd cc
 
   -- an expression that is whole before it is whole before that number
-  pub large_done : (s : State) (at : ℕ) (minus : Bool) (v : ℤ) (f : Expr) → step lambdas unlimited_nesting s at (word.Large minus) ≡ done f → step lambdas unlimited_nesting s at (word.Number minus v) ≡ done f
+  pub large_done : (s : State) (at : ℕ) (minus : Bool) (v : ℤ) (f : Expr)
+      → step lambdas unlimited_nesting s at (word.Large minus) ≡ done f
+      → step lambdas unlimited_nesting s at (word.Number minus v) ≡ done f
   large_done (Apply k held) at minus v f h = absurd cc
   large_done (AltStart k s alts) at minus v f h = absurd cc
   large_done (BindName k NoBinds) at minus v f h = absurd cc
@@ -139,7 +165,8 @@ module _ (lambdas : Bool) where
 
   -- ---- nothing is read behind the last token
 
-  give_stays : (k : Cont) (e : Expr) (next : State) (at : ℕ) (token : Token) → IsLast token → give k e at token ≡ go next → ⊥
+  give_stays : (k : Cont) (e : Expr) (next : State) (at : ℕ) (token : Token) → IsLast token
+      → give k e at token ≡ go next → ⊥
   give_stays (LetBody k binds) e next at token h f = give_stays k (Let binds e) next at token h f
   give_stays Outermost e next at token h f = cc
   give_stays (Scrutinee k) e next at word.Bad h f = cc
@@ -156,9 +183,12 @@ module _ (lambdas : Bool) where
   give_stays (FunctionBody k binds n p params) e next at (word.Large minus) h f = cc
   give_stays k e next at token h f = absurd h
 
-  pub last_stays : (s next : State) (at : ℕ) (token : Token) → IsLast token → step lambdas at_most_200 s at token ≡ go next → ⊥
-  last_stays (Apply (InBody k) (AndTerm a xs)) next at word.Bad h e = give_stays k (App a xs) next at word.Bad tt e
-  last_stays (Apply (InBody k) (AndTerm a xs)) next at word.End h e = give_stays k (App a xs) next at word.End tt e
+  pub last_stays : (s next : State) (at : ℕ) (token : Token) → IsLast token
+      → step lambdas at_most_200 s at token ≡ go next → ⊥
+  last_stays (Apply (InBody k) (AndTerm a xs)) next at word.Bad h e
+      = give_stays k (App a xs) next at word.Bad tt e
+  last_stays (Apply (InBody k) (AndTerm a xs)) next at word.End h e
+      = give_stays k (App a xs) next at word.End tt e
   last_stays (Ended k f) next at token h e = give_stays k f next at token h e
   last_stays (Apply (Inside k held p) NoTerms) next at word.Bad h e = cc
   last_stays (Apply (Inside k held p) (AndTerm a xs)) next at word.Bad h e = cc

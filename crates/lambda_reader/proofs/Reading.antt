@@ -31,36 +31,57 @@ use Rattle.core_reader.proofs.Ending.{piece, constructor}
 
 abbrev Known : NestingLimit → Own → List Lexeme → Type 0
 Known l (Top ds) ts = SpellsDecls l ds ts
-Known l (DataName ds) ts = (us : List Lexeme) × (p : ℕ) × SpellsDecls l ds us × (ts ≡ us ++ lexeme p word.Data ∷ [])
-Known l (Count ds n at) ts = (us : List Lexeme) × (p : ℕ) × SpellsDecls l ds us × (ts ≡ us ++ lexeme p word.Data ∷ lexeme at (word.Con n) ∷ [])
-Known l (DataEnd ds n at fields) ts = (us : List Lexeme) × (p q : ℕ) × SpellsDecls l ds us × (ts ≡ us ++ lexeme p word.Data ∷ lexeme at (word.Con n) ∷ lexeme q (word.Number false (pos fields)) ∷ [])
-Known l (Params ds n p params) ts = (us : List Lexeme) × SpellsDecls l ds us × (ts ≡ us ++ lexeme p (word.Name n) ∷ binders params)
+Known l (DataName ds) ts = (us : List Lexeme) × (p : ℕ) × SpellsDecls l ds us
+    × (ts ≡ us ++ lexeme p word.Data ∷ [])
+Known l (Count ds n at) ts = (us : List Lexeme) × (p : ℕ) × SpellsDecls l ds us
+    × (ts ≡ us ++ lexeme p word.Data ∷ lexeme at (word.Con n) ∷ [])
+Known l (DataEnd ds n at fields) ts = (us : List Lexeme) × (p q : ℕ) × SpellsDecls l ds us
+    × (ts ≡ us ++ lexeme p word.Data ∷ lexeme at (word.Con n) ∷ lexeme q
+    (word.Number false (pos fields)) ∷ [])
+Known l (Params ds n p params) ts = (us : List Lexeme) × SpellsDecls l ds us
+    × (ts ≡ us ++ lexeme p (word.Name n) ∷ binders params)
 
 abbrev Opens : NestingLimit → Hole → List Lexeme → Type 0
-Opens l (InFunction ds n p params) ts = (us : List Lexeme) × (q : ℕ) × SpellsDecls l ds us × (ts ≡ us ++ (lexeme p (word.Name n) ∷ (binders params ++ lexeme q word.Equals ∷ [])))
+Opens l (InFunction ds n p params) ts = (us : List Lexeme) × (q : ℕ) × SpellsDecls l ds us
+    × (ts ≡ us ++ (lexeme p (word.Name n) ∷ (binders params ++ lexeme q word.Equals ∷ [])))
 
-decls_last : (l : NestingLimit) (ds : List Decl) (d : Decl) (us vs : List Lexeme) → SpellsDecls l ds us → SpellsDecl l d vs → SpellsDecls l (ds ++ d ∷ []) (us ++ vs)
+decls_last : (l : NestingLimit) (ds : List Decl) (d : Decl) (us vs : List Lexeme)
+    → SpellsDecls l ds us → SpellsDecl l d vs → SpellsDecls l (ds ++ d ∷ []) (us ++ vs)
 decls_last l [] d us vs h g = (vs, [], g, refl, rw (h, append-nil) refl)
-decls_last l (e ∷ es) d us vs h g = (h.0, h.1 ++ vs, h.2, decls_last l es d h.1 vs h.3 g, ap (λ w. w ++ vs) h.4 ∙ append_assoc h.0 h.1 vs)
+decls_last l (e ∷ es) d us vs h g = (
+  h.0,
+  h.1 ++ vs,
+  h.2,
+  decls_last l es d h.1 vs h.3 g,
+  ap (λ w. w ++ vs) h.4 ∙ append_assoc h.0 h.1 vs,
+)
 
-sound_move : (l : NestingLimit) (o : Own) (ts : List Lexeme) (at : ℕ) (token : Token) → Known l o ts → GoodMove (Known l) (Opens l) (SpellsDecls l) (move o at token) (ts ++ lexeme at token ∷ [])
+sound_move : (l : NestingLimit) (o : Own) (ts : List Lexeme) (at : ℕ) (token : Token) → Known l o ts
+    → GoodMove (Known l) (Opens l) (SpellsDecls l) (move o at token) (ts ++ lexeme at token ∷ [])
 sound_move l (Top ds) ts at word.Data h = (ts, at, h, refl)
 sound_move l (Top ds) ts at (word.Name n) h = (ts, h, refl)
 sound_move l (Top ds) ts at word.End h = (ts, at, h, refl)
 sound_move l (DataName ds) ts at (word.Con n) h = (h.0, h.1, h.2, simp (h.3, append_assoc))
-sound_move l (Count ds n p) ts at (word.Number false (pos size)) h = (h.0, h.1, at, h.2, simp (h.3, append_assoc))
+sound_move l (Count ds n p) ts at (word.Number false (pos size)) h
+    = (h.0, h.1, at, h.2, simp (h.3, append_assoc))
 sound_move l (Count ds n p) ts at (word.Large false) h = tt
 sound_move l (DataEnd ds n p fields) ts at word.Semicolon h =
-    let vs = lexeme h.1 word.Data ∷ lexeme p (word.Con n) ∷ lexeme h.2 (word.Number false (pos fields)) ∷ lexeme at word.Semicolon ∷ [] in
+    let vs = lexeme h.1 word.Data ∷ lexeme p (word.Con n) ∷ lexeme h.2
+    (word.Number false (pos fields)) ∷ lexeme at word.Semicolon ∷ [] in
     let e : ts ++ lexeme at word.Semicolon ∷ [] ≡ h.0 ++ vs = simp (h.4, append_assoc) in
     rw e (decls_last l ds (declared n p fields) h.0 vs h.3 (h.1, h.2, at, refl))
-sound_move l (Params ds n p params) ts at (word.Name m) h = (h.0, h.1, simp (h.2, append_assoc, binders_last))
+sound_move l (Params ds n p params) ts at (word.Name m) h
+    = (h.0, h.1, simp (h.2, append_assoc, binders_last))
 sound_move l (Params ds n p params) ts at word.Equals h = (h.0, at, h.1, simp (h.2, append_assoc))
 sound_move l o ts at token h = tt
 
-sound_finish : (l : NestingLimit) (k : Hole) (e : Expr) (us vs : List Lexeme) (at : ℕ) (token : Token) → Opens l k us → SpellsExpr true l 0 e vs → GoodMove (Known l) (Opens l) (SpellsDecls l) (finish k e at token) ((us ++ vs) ++ lexeme at token ∷ [])
+sound_finish : (l : NestingLimit) (k : Hole) (e : Expr) (us vs : List Lexeme) (at : ℕ)
+    (token : Token) → Opens l k us → SpellsExpr true l 0 e vs
+    → GoodMove (Known l) (Opens l) (SpellsDecls l) (finish k e at token)
+    ((us ++ vs) ++ lexeme at token ∷ [])
 sound_finish l (InFunction ds n p params) e us vs at word.Semicolon h g =
-    let ws = lexeme p (word.Name n) ∷ (binders params ++ (lexeme h.1 word.Equals ∷ (vs ++ lexeme at word.Semicolon ∷ []))) in
+    let ws = lexeme p (word.Name n) ∷
+    (binders params ++ (lexeme h.1 word.Equals ∷ (vs ++ lexeme at word.Semicolon ∷ []))) in
     let f : (us ++ vs) ++ lexeme at word.Semicolon ∷ [] ≡ h.0 ++ ws = simp (h.3, append_assoc) in
     rw f (decls_last l ds (function_declaration n p params e) h.0 ws h.2 (h.1, at, vs, g, refl))
 sound_finish l k e us vs at token h g = tt
@@ -74,7 +95,8 @@ closing (Count ds n p) = piece (codes "0") ∷ piece (codes ";") ∷ []
 closing (DataEnd ds n p fields) = piece (codes ";") ∷ []
 closing (Params ds n p params) = piece (codes "=") ∷ constructor ∷ piece (codes ";") ∷ []
 
-closes : (names : Texts) (l : NestingLimit) (o : Own) → (ds : List Decl) × (run l (Outside o) (ended Lambdas names (closing o)) ≡ Ok ds)
+closes : (names : Texts) (l : NestingLimit) (o : Own) → (ds : List Decl)
+    × (run l (Outside o) (ended Lambdas names (closing o)) ≡ Ok ds)
 unfolding closing run_of
 closes names l (Top ds) = (ds, refl)
 closes names l (DataName ds) = (_, refl)
@@ -82,7 +104,9 @@ closes names l (Count ds n at) = (_, refl)
 closes names l (DataEnd ds n at fields) = (_, refl)
 closes names l (Params ds n p params) = (_, refl)
 
-gives : (names : Texts) (l : NestingLimit) (k : Hole) (e : Expr) → (ds : List Decl) × (run l (Within k (Ended Outermost e)) (said Lambdas names (piece (codes ";")) ∷ ended Lambdas names []) ≡ Ok ds)
+gives : (names : Texts) (l : NestingLimit) (k : Hole) (e : Expr) → (ds : List Decl)
+    × (run l (Within k (Ended Outermost e))
+    (said Lambdas names (piece (codes ";")) ∷ ended Lambdas names []) ≡ Ok ds)
 unfolding run_of
 gives names l (InFunction ds n p params) e = (ds ++ function_declaration n p params e ∷ [], refl)
 
@@ -91,10 +115,15 @@ gives names l (InFunction ds n p params) e = (ds ++ function_declaration n p par
 pub finish_bad : (k : Hole) (e : Expr) (at : ℕ) → finish k e at word.Bad ≡ refuse (BadByte at)
 finish_bad (InFunction ds n p params) e at = refl
 
-body : (l : NestingLimit) (k : Hole) (e : Expr) (ts : List Lexeme) (x : Lexeme) (rest : List Lexeme) → SpellsExpr true l 0 e ts → starts_atom x.token ≡ false → run l (Within k (Apply (InBody Outermost) NoTerms)) (ts ++ x ∷ rest) ≡ follow (step_of_move (finish k e x.at x.token)) (λ s. run l s rest)
-body l k e ts x rest h f = through declarations finish_bad l k (Apply (InBody Outermost) NoTerms) (ts ++ x ∷ rest) ∙ ap (continue declarations l k) (reads_body true l Outermost e ts x rest h f)
+body : (l : NestingLimit) (k : Hole) (e : Expr) (ts : List Lexeme) (x : Lexeme) (rest : List Lexeme)
+    → SpellsExpr true l 0 e ts → starts_atom x.token ≡ false
+    → run l (Within k (Apply (InBody Outermost) NoTerms)) (ts ++ x ∷ rest) ≡ follow
+    (step_of_move (finish k e x.at x.token)) (λ s. run l s rest)
+body l k e ts x rest h f = through declarations finish_bad l k (Apply (InBody Outermost) NoTerms)
+    (ts ++ x ∷ rest) ∙ ap (continue declarations l k) (reads_body true l Outermost e ts x rest h f)
 
-reads_decl : (l : NestingLimit) (ds : List Decl) (d : Decl) (ts rest : List Lexeme) → SpellsDecl l d ts → run l (top ds) (ts ++ rest) ≡ run l (top (ds ++ d ∷ [])) rest
+reads_decl : (l : NestingLimit) (ds : List Decl) (d : Decl) (ts rest : List Lexeme)
+    → SpellsDecl l d ts → run l (top ds) (ts ++ rest) ≡ run l (top (ds ++ d ∷ [])) rest
 unfolding run_of
 reads_decl l ds (Declares d) ts rest h = rw h.3 refl
 reads_decl l ds (Defines f) ts rest h =
@@ -103,15 +132,21 @@ reads_decl l ds (Defines f) ts rest h =
     let q = h.1 in
     let inner = h.2 in
     let tail = lexeme p word.Equals ∷ (inner ++ lexeme q word.Semicolon ∷ []) in
-    let named : run l (top ds) (ts ++ rest) ≡ run l (Outside (Params ds n f.at [])) ((binders f.params ++ tail) ++ rest) = rw h.4 refl in
-    let equals : run l (Outside (Params ds n f.at f.params)) (tail ++ rest) ≡ run l (Within (InFunction ds n f.at f.params) (Apply (InBody Outermost) NoTerms)) ((inner ++ lexeme q word.Semicolon ∷ []) ++ rest) = refl in
+    let named : run l (top ds) (ts ++ rest) ≡ run l (Outside (Params ds n f.at []))
+    ((binders f.params ++ tail) ++ rest) = rw h.4 refl in
+    let equals : run l (Outside (Params ds n f.at f.params)) (tail ++ rest) ≡ run l
+    (Within (InFunction ds n f.at f.params) (Apply (InBody Outermost) NoTerms))
+    ((inner ++ lexeme q word.Semicolon ∷ []) ++ rest) = refl in
     named ∙ ap (run l (Outside (Params ds n f.at []))) (append_assoc (binders f.params) tail rest)
-    ∙ takes_names (run l) (λ names. Outside (Params ds n f.at names)) (λ names m at rest. refl) [] f.params (tail ++ rest)
+    ∙ takes_names (run l) (λ names. Outside (Params ds n f.at names)) (λ names m at rest. refl) []
+    f.params (tail ++ rest)
     ∙ equals
-    ∙ ap (run l (Within (InFunction ds n f.at f.params) (Apply (InBody Outermost) NoTerms))) (append_assoc inner (lexeme q word.Semicolon ∷ []) rest)
+    ∙ ap (run l (Within (InFunction ds n f.at f.params) (Apply (InBody Outermost) NoTerms)))
+    (append_assoc inner (lexeme q word.Semicolon ∷ []) rest)
     ∙ body l (InFunction ds n f.at f.params) f.body inner (lexeme q word.Semicolon) rest h.3 refl
 
-reads_decls : (l : NestingLimit) (ds es : List Decl) (ts rest : List Lexeme) → SpellsDecls l es ts → run l (top ds) (ts ++ rest) ≡ run l (top (ds ++ es)) rest
+reads_decls : (l : NestingLimit) (ds es : List Decl) (ts rest : List Lexeme) → SpellsDecls l es ts
+    → run l (top ds) (ts ++ rest) ≡ run l (top (ds ++ es)) rest
 reads_decls l ds [] ts rest h = rw (h, append-nil) refl
 reads_decls l ds (e ∷ es) ts rest h =
     ap (λ w. run l (top ds) (w ++ rest)) h.4
@@ -120,7 +155,9 @@ reads_decls l ds (e ∷ es) ts rest h =
     ∙ reads_decls l (ds ++ e ∷ []) es h.1 rest h.3
     ∙ ap (λ w. run l (top w) rest) (append_assoc ds (e ∷ []) es)
 
-reads_program : (l : NestingLimit) (ds : List Decl) (ts : List Lexeme) (end : ℕ) (rest : List Lexeme) → SpellsDecls l ds ts → run l (top []) (ts ++ lexeme end word.End ∷ rest) ≡ Ok ds
+reads_program : (l : NestingLimit) (ds : List Decl) (ts : List Lexeme) (end : ℕ)
+    (rest : List Lexeme) → SpellsDecls l ds ts → run l (top []) (ts ++ lexeme end word.End ∷ rest) ≡
+    Ok ds
 unfolding run_of
 reads_program l ds ts end rest h = reads_decls l [] ds ts (lexeme end word.End ∷ rest) h
 
@@ -138,11 +175,15 @@ move_plain (Params ds n p params) at (word.Name m) = tt
 move_plain (Params ds n p params) at word.Equals = tt
 move_plain o at token = refused_plain expression.State Expr at token
 
-finish_plain : (k : Hole) (e : Expr) (at : ℕ) (token : Token) → PlainMove at token (finish k e at token)
+finish_plain : (k : Hole) (e : Expr) (at : ℕ) (token : Token)
+    → PlainMove at token (finish k e at token)
 finish_plain (InFunction ds n p params) e at word.Semicolon = tt
 finish_plain k e at token = refused_plain expression.State Expr at token
 
-move_goes : (o : Own) (at p : ℕ) (minus : Bool) (v : ℤ) → move o at (word.Large minus) ≡ refuse (NumberRange p) → (minus ≡ false → (n : ℕ) × (v ≡ pos n)) → (o' : Own) × (move o at (word.Number minus v) ≡ next o')
+move_goes : (o : Own) (at p : ℕ) (minus : Bool) (v : ℤ)
+    → move o at (word.Large minus) ≡ refuse (NumberRange p)
+    → (minus ≡ false → (n : ℕ) × (v ≡ pos n)) → (o' : Own)
+    × (move o at (word.Number minus v) ≡ next o')
 move_goes (Count ds n q) at p false v h f = let w = f refl in (DataEnd ds n q w.0, rw w.1 refl)
 move_goes (Count ds n q) at p true v h f = absurd cc
 move_goes (Top ds) at p minus v h f = absurd cc
@@ -150,7 +191,9 @@ move_goes (DataName ds) at p minus v h f = absurd cc
 move_goes (DataEnd ds n q fields) at p minus v h f = absurd cc
 move_goes (Params ds n q params) at p minus v h f = absurd cc
 
-move_stops : (o : Own) (at p : ℕ) (minus : Bool) (v : ℤ) → move o at (word.Large minus) ≡ refuse (Syntax p) → move o at (word.Number minus v) ≡ refuse (Syntax p)
+move_stops : (o : Own) (at p : ℕ) (minus : Bool) (v : ℤ)
+    → move o at (word.Large minus) ≡ refuse (Syntax p)
+    → move o at (word.Number minus v) ≡ refuse (Syntax p)
 move_stops (Count ds n q) at p false v h = absurd cc
 move_stops (Count ds n q) at p true (pos m) h = h
 move_stops (Count ds n q) at p true (negsuc m) h = h
@@ -159,10 +202,13 @@ move_stops (DataName ds) at p minus v h = h
 move_stops (DataEnd ds n q fields) at p minus v h = h
 move_stops (Params ds n q params) at p minus v h = h
 
-finish_range : (k : Hole) (e : Expr) (at p : ℕ) (minus : Bool) → finish k e at (word.Large minus) ≡ refuse (NumberRange p) → ⊥
+finish_range : (k : Hole) (e : Expr) (at p : ℕ) (minus : Bool)
+    → finish k e at (word.Large minus) ≡ refuse (NumberRange p) → ⊥
 finish_range (InFunction ds n q params) e at p minus h = cc
 
-finish_stops : (k : Hole) (e : Expr) (at p : ℕ) (minus : Bool) (v : ℤ) → finish k e at (word.Large minus) ≡ refuse (Syntax p) → finish k e at (word.Number minus v) ≡ refuse (Syntax p)
+finish_stops : (k : Hole) (e : Expr) (at p : ℕ) (minus : Bool) (v : ℤ)
+    → finish k e at (word.Large minus) ≡ refuse (Syntax p)
+    → finish k e at (word.Number minus v) ≡ refuse (Syntax p)
 finish_stops (InFunction ds n q params) e at p minus v h = h
 
 move_last : (o : Own) (at : ℕ) (token : Token) → IsLast token → LastMove (move o at token)
@@ -174,7 +220,8 @@ move_last o at word.End l = tt
 move_last o at (word.Large minus) l = tt
 move_last o at token l = absurd l
 
-finish_last : (k : Hole) (e : Expr) (at : ℕ) (token : Token) → IsLast token → LastMove (finish k e at token)
+finish_last : (k : Hole) (e : Expr) (at : ℕ) (token : Token) → IsLast token
+    → LastMove (finish k e at token)
 finish_last (InFunction ds n p params) e at word.Bad l = tt
 finish_last (InFunction ds n p params) e at word.End l = tt
 finish_last (InFunction ds n p params) e at (word.Large minus) l = tt
@@ -210,7 +257,8 @@ declaring = record {
   goes_on = λ names k. refl;
   gives = gives;
   whole = reads_program;
-  judged = λ o at token. by_move declarations o at token (move o at token) refl (move_plain o at token);
+  judged = λ o at token. by_move declarations o at token (move o at token) refl
+      (move_plain o at token);
   plain_give = finish_plain;
   give_bad = finish_bad;
   large_goes = move_goes;
@@ -228,19 +276,29 @@ lambda_laws = around_laws lambda_views declaring
 
 -- ---- programs
 
-spelled_by : (l : NestingLimit) (p : Program) (ps : List Piece) (h : IsProgram l p ps) → SpellsDecls l h.decls (map (said Lambdas (names_of Lambdas ps)) ps)
+spelled_by : (l : NestingLimit) (p : Program) (ps : List Piece) (h : IsProgram l p ps)
+    → SpellsDecls l h.decls (map (said Lambdas (names_of Lambdas ps)) ps)
 spelled_by l p ps h = subst (λ v. SpellsDecls l h.decls (map (said Lambdas v) ps)) h.names h.spelled
 
-made_of : (l : NestingLimit) (ds : List Decl) (ps : List Piece) → SpellsDecls l ds (map (said Lambdas (names_of Lambdas ps)) ps) → (p : Program) × IsProgram l p ps
+made_of : (l : NestingLimit) (ds : List Decl) (ps : List Piece)
+    → SpellsDecls l ds (map (said Lambdas (names_of Lambdas ps)) ps) → (p : Program)
+    × IsProgram l p ps
 made_of l ds ps h = (
-  record { names = names_of Lambdas ps; constructors = constructors_of ds; functions = functions_of ds },
+  record {
+    names = names_of Lambdas ps;
+    constructors = constructors_of ds;
+    functions
+        = functions_of ds;
+  },
   record { names = refl; decls = ds; constructors = refl; functions = refl; spelled = h },
 )
 
-same_by : (l : NestingLimit) (p q : Program) (ps : List Piece) (h : IsProgram l p ps) (g : IsProgram l q ps) → h.decls ≡ g.decls → p ≡ q
+same_by : (l : NestingLimit) (p q : Program) (ps : List Piece) (h : IsProgram l p ps)
+    (g : IsProgram l q ps) → h.decls ≡ g.decls → p ≡ q
 same_by l p q ps h g e =
     let names : p.names ≡ q.names = h.names ∙ sym g.names in
-    let constructors : p.constructors ≡ q.constructors = sym h.constructors ∙ ap constructors_of e ∙ g.constructors in
+    let constructors : p.constructors ≡ q.constructors
+    = sym h.constructors ∙ ap constructors_of e ∙ g.constructors in
     let functions : p.functions ≡ q.functions = sym h.functions ∙ ap functions_of e ∙ g.functions in
     λ i. record { names = names i; constructors = constructors i; functions = functions i }
 

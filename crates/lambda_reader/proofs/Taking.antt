@@ -26,7 +26,8 @@ give_bad (AltBody k s alts p) e at = refl
 give_bad (LambdaBody k held p params) e at = refl
 give_bad (FunctionBody k binds n p params) e at = refl
 
-no_turn : (st : Step) (at : ℕ) (f g : State → Result ReadResult ReadRefusal) → IsBad at st → follow st [] f ≡ follow st [] g
+no_turn : (st : Step) (at : ℕ) (f g : State → Result ReadResult ReadRefusal) → IsBad at st
+    → follow st [] f ≡ follow st [] g
 no_turn (go s) at f g h = absurd h
 no_turn (done e) at f g h = refl
 no_turn (stop er) at f g h = refl
@@ -53,39 +54,54 @@ module _ (lambdas : Bool) (l : NestingLimit) where
   is_bad (AltNames k s alts n p names) at = refl
   is_bad (AltArrow k s alts p) at = refl
 
-  turns : (s : State) (ts : List Lexeme) → run lambdas l s ts ≡ follow (step lambdas l s (front ts).at (front ts).token) ts (λ s. run lambdas l s (behind ts))
+  turns : (s : State) (ts : List Lexeme) → run lambdas l s ts ≡ follow
+      (step lambdas l s (front ts).at (front ts).token) ts (λ s. run lambdas l s (behind ts))
   unfolding run
-  turns s [] = no_turn (step lambdas l s 0 word.Bad) 0 (λ s. Err (BadByte 0)) (λ s. run lambdas l s []) (is_bad s 0)
+  turns s [] = no_turn (step lambdas l s 0 word.Bad) 0 (λ s. Err (BadByte 0))
+      (λ s. run lambdas l s []) (is_bad s 0)
   turns s (t ∷ ts) = refl
 
   -- A token that is taken, and one that stops the reading.
-  pub takes : (s next : State) (ts : List Lexeme) (x : Lexeme) (token : Token) (after : List Lexeme) → x ≡ front ts → x.token ≡ token → after ≡ behind ts
+  pub takes : (s next : State) (ts : List Lexeme) (x : Lexeme) (token : Token) (after : List Lexeme)
+      → x ≡ front ts → x.token ≡ token → after ≡ behind ts
       → step lambdas l s x.at token ≡ go next → run lambdas l s ts ≡ run lambdas l next after
   takes s next ts x token after front_is token_is after_is e =
-      turns s ts ∙ ap (λ (y : Lexeme). follow (step lambdas l s y.at y.token) ts (λ s. run lambdas l s (behind ts))) (sym front_is)
+      turns s ts ∙ ap
+      (λ (y : Lexeme). follow (step lambdas l s y.at y.token) ts
+      (λ s. run lambdas l s (behind ts))) (sym front_is)
       ∙ ap (λ w. follow (step lambdas l s x.at w) ts (λ s. run lambdas l s (behind ts))) token_is
       ∙ ap (λ st. follow st ts (λ s. run lambdas l s (behind ts))) e
       ∙ ap (run lambdas l next) (sym after_is)
 
-  pub halts : (s : State) (ts : List Lexeme) (x : Lexeme) (token : Token) (er : ReadRefusal) → x ≡ front ts → x.token ≡ token
+  pub halts : (s : State) (ts : List Lexeme) (x : Lexeme) (token : Token) (er : ReadRefusal)
+      → x ≡ front ts → x.token ≡ token
       → step lambdas l s x.at token ≡ stop er → run lambdas l s ts ≡ Err er
   halts s ts x token er front_is token_is e =
-      turns s ts ∙ ap (λ (y : Lexeme). follow (step lambdas l s y.at y.token) ts (λ s. run lambdas l s (behind ts))) (sym front_is)
+      turns s ts ∙ ap
+      (λ (y : Lexeme). follow (step lambdas l s y.at y.token) ts
+      (λ s. run lambdas l s (behind ts))) (sym front_is)
       ∙ ap (λ w. follow (step lambdas l s x.at w) ts (λ s. run lambdas l s (behind ts))) token_is
       ∙ ap (λ st. follow st ts (λ s. run lambdas l s (behind ts))) e
 
   -- A token that cannot stand here is refused.
-  pub refuses : (s : State) (ts : List Lexeme) (er : ReadRefusal) → er ≡ refusal (front ts) → step lambdas l s (front ts).at (front ts).token ≡ stop (refusal (front ts)) → Fails er (run lambdas l s ts)
+  pub refuses : (s : State) (ts : List Lexeme) (er : ReadRefusal) → er ≡ refusal (front ts)
+      → step lambdas l s (front ts).at (front ts).token ≡ stop (refusal (front ts))
+      → Fails er (run lambdas l s ts)
   refuses s ts er er_is e =
       subst (λ w. Fails w (run lambdas l s ts)) (sym er_is)
-      (refused_fails (front ts).at (front ts).token (run lambdas l s ts) (halts s ts (front ts) (front ts).token (refusal (front ts)) refl refl e))
+      (refused_fails (front ts).at (front ts).token (run lambdas l s ts)
+      (halts s ts (front ts) (front ts).token (refusal (front ts)) refl refl e))
 
   -- an application that is whole is an expression that is whole
-  pub ended_app : (k : Cont) (a : Term) (xs : Terms) (ts : List Lexeme) → starts_atom (front ts).token ≡ false → run lambdas l (Apply (InBody k) (AndTerm a xs)) ts ≡ run lambdas l (Ended k (App a xs)) ts
+  pub ended_app : (k : Cont) (a : Term) (xs : Terms) (ts : List Lexeme)
+      → starts_atom (front ts).token ≡ false → run lambdas l (Apply (InBody k) (AndTerm a xs)) ts ≡
+      run lambdas l (Ended k (App a xs)) ts
   ended_app k a xs ts e =
       turns (Apply (InBody k) (AndTerm a xs)) ts
-      ∙ ap (λ st. follow st ts (λ s. run lambdas l s (behind ts))) (ends_step lambdas l k a xs (front ts).at (front ts).token e)
+      ∙ ap (λ st. follow st ts (λ s. run lambdas l s (behind ts)))
+      (ends_step lambdas l k a xs (front ts).at (front ts).token e)
       ∙ sym (turns (Ended k (App a xs)) ts)
 
-  pub let_ends : (k : Cont) (bs : Group) (e : Expr) (ts : List Lexeme) → run lambdas l (Ended (LetBody k bs) e) ts ≡ run lambdas l (Ended k (Let bs e)) ts
+  pub let_ends : (k : Cont) (bs : Group) (e : Expr) (ts : List Lexeme)
+      → run lambdas l (Ended (LetBody k bs) e) ts ≡ run lambdas l (Ended k (Let bs e)) ts
   let_ends k bs e ts = turns (Ended (LetBody k bs) e) ts ∙ sym (turns (Ended k (Let bs e)) ts)

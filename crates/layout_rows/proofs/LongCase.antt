@@ -10,14 +10,19 @@ use Rattle.rv32_items.proofs.Counted.{size_append}
 
 -- ---- what holds of each item
 
-each_chosen : (P : Item → Type 0) (count value : ℕ) → Each P (first_items count value) → ((k : ℕ) → k < count → Each P (alternative count k)) → Each P (last_items count) → Each P (chosen count value)
+each_chosen : (P : Item → Type 0) (count value : ℕ) → Each P (first_items count value)
+    → ((k : ℕ) → k < count → Each P (alternative count k)) → Each P (last_items count)
+    → Each P (chosen count value)
 each_chosen P count value first h last =
     each_append P (first_items count value) (alternatives count count ++ last_items count) first
-    (each_append P (alternatives count count) (last_items count) (each_piece (alternative count) P count h count (omega arith)) last)
+    (each_append P (alternatives count count) (last_items count)
+    (each_piece (alternative count) P count h count (omega arith)) last)
 
 pub all_plain : (count value : ℕ) → AllPlain (chosen count value)
 all_plain count value n i e =
-    each_get IsPlain (chosen count value) n i (each_chosen IsPlain count value (tt, (tt, (tt, tt))) (λ k lt. (tt, (tt, (tt, (tt, (tt, tt)))))) (tt, (tt, (tt, tt)))) e
+    each_get IsPlain (chosen count value) n i
+    (each_chosen IsPlain count value (tt, (tt, (tt, tt)))
+    (λ k lt. (tt, (tt, (tt, (tt, (tt, tt)))))) (tt, (tt, (tt, tt)))) e
 
 -- ---- labels
 
@@ -25,7 +30,8 @@ once : (l count value : ℕ) → l ≤ count → times l (chosen count value) �
 once l count value h = label_once (alternative count) l (λ k. refl) count (last_items count) refl h
 
 pub labels_stand : (count value : ℕ) → LabelsStand (chosen count value)
-labels_stand count value n l i e t = once l count value (each_get Goes (chosen count value) n i goes e t)
+labels_stand count value n l i e t = once l count value
+    (each_get Goes (chosen count value) n i goes e t)
   where
     Goes : Item → Type 0
     Goes i = target_of i ≡ Some l → l ≤ count
@@ -36,7 +42,10 @@ labels_stand count value n l i e t = once l count value (each_get Goes (chosen c
     goes : Each Goes (chosen count value)
     goes =
         each_chosen Goes count value (λ h. cc, (λ h. cc, (up_to count (omega arith), tt)))
-        (λ k lt. (λ h. cc, (up_to k (omega arith), (λ h. cc, (up_to count (omega arith), (λ h. cc, tt))))))
+        (λ k lt. (
+          λ h. cc,
+          (up_to k (omega arith), (λ h. cc, (up_to count (omega arith), (λ h. cc, tt)))),
+        ))
         (λ h. cc, (λ h. cc, (λ h. cc, tt)))
 
 -- ---- size

@@ -19,12 +19,15 @@ same : (k l : ℕ) → k ≡ l → counts k l ≡ 1
 same k l h = ap (λ t. if t then 1 else 0) (eq-eqb k l h)
 
 module _ (piece : ℕ → List Item) where
-  pub each_piece : (P : Item → Type 0) (over : ℕ) → ((k : ℕ) → k < over → Each P (piece k)) → (n : ℕ) → n ≤ over → Each P (pieces piece n)
+  pub each_piece : (P : Item → Type 0) (over : ℕ) → ((k : ℕ) → k < over → Each P (piece k))
+      → (n : ℕ) → n ≤ over → Each P (pieces piece n)
   each_piece P over h zero le = tt
   each_piece P over h (suc n) le =
-      each_append P (pieces piece n) (piece n) (each_piece P over h n (omega arith)) (h n (omega arith))
+      each_append P (pieces piece n) (piece n) (each_piece P over h n (omega arith))
+      (h n (omega arith))
 
-  pub size_pieces : (each : ℕ) → ((k : ℕ) → size_of (piece k) ≡ each) → (n : ℕ) → size_of (pieces piece n) ≡ n * each
+  pub size_pieces : (each : ℕ) → ((k : ℕ) → size_of (piece k) ≡ each) → (n : ℕ)
+      → size_of (pieces piece n) ≡ n * each
   size_pieces each h zero = omega arith
   size_pieces each h (suc n) =
       let a = size_append (pieces piece n) (piece n) in
@@ -58,7 +61,8 @@ module _ (piece : ℕ → List Item) where
         ]
 
     -- a label up to the last one stands once in the pieces and what follows them
-    pub once : (count : ℕ) (last : List Item) → times l last ≡ counts count l → l ≤ count → times l (pieces piece count ++ last) ≡ 1
+    pub once : (count : ℕ) (last : List Item) → times l last ≡ counts count l → l ≤ count
+        → times l (pieces piece count ++ last) ≡ 1
     once count last end h =
         let a = times_append l (pieces piece count) last in
         elim (cases_eq count l) [

@@ -8,12 +8,16 @@ use Rattle.layout_rows.proofs.Placeable.{Each, each_get, each_append}
 use Rattle.layout_rows.proofs.Pieces.{each_piece, size_pieces, once as label_once}
 use Rattle.rv32_items.proofs.Counted.{size_append}
 
-each_of_all : (P : Item → Type 0) (count : ℕ) → ((k : ℕ) → k < count → Each P (block count k)) → Each P (last_block count) → Each P (all_blocks count)
-each_of_all P count h end = each_append P (blocks count count) (last_block count) (each_piece (block count) P count h count (omega arith)) end
+each_of_all : (P : Item → Type 0) (count : ℕ) → ((k : ℕ) → k < count → Each P (block count k))
+    → Each P (last_block count) → Each P (all_blocks count)
+each_of_all P count h end = each_append P (blocks count count) (last_block count)
+    (each_piece (block count) P count h count (omega arith)) end
 
 pub all_plain : (count : ℕ) → AllPlain (all_blocks count)
 all_plain count n i e =
-    each_get IsPlain (all_blocks count) n i (each_of_all IsPlain count (λ k lt. (tt, (tt, (tt, (tt, (tt, (tt, (tt, (tt, tt))))))))) (tt, (tt, tt))) e
+    each_get IsPlain (all_blocks count) n i
+    (each_of_all IsPlain count (λ k lt. (tt, (tt, (tt, (tt, (tt, (tt, (tt, (tt, tt)))))))))
+    (tt, (tt, tt))) e
 
 once : (l count : ℕ) → l ≤ count → times l (all_blocks count) ≡ 1
 once l count h = label_once (block count) l (λ k. refl) count (last_block count) refl h
@@ -30,7 +34,22 @@ labels_stand count n l i e t = once l count (each_get Goes (all_blocks count) n 
     goes : Each Goes (all_blocks count)
     goes =
         each_of_all Goes count
-        (λ k lt. (λ h. cc, (λ h. cc, (λ h. cc, (λ h. cc, (up_to k (omega arith), (λ h. cc, (up_to count (omega arith), (up_to count (omega arith), tt)))))))))
+        (λ k lt. (
+          λ h. cc,
+          (
+            λ h. cc,
+            (
+              λ h. cc,
+              (
+                λ h. cc,
+                (
+                  up_to k (omega arith),
+                  (λ h. cc, (up_to count (omega arith), (up_to count (omega arith), tt))),
+                ),
+              ),
+            ),
+          ),
+        ))
         (λ h. cc, (λ h. cc, tt))
 
 pub size_all : (count : ℕ) → size_of (all_blocks count) ≡ 13 * count + 1

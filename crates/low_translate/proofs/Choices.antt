@@ -33,7 +33,8 @@ use Rattle.grin_meaning.proofs.Bindings.{fits_is}
 -- ---- patterns without variables
 
 -- they bind nothing
-binds_none : (g : grin_tree.Program) (s : S.Shape) (x : Value) (bs : List Binding) → BindsNothing (shape_vars s) → fit_of g s x ≡ fits bs → bs ≡ []
+binds_none : (g : grin_tree.Program) (s : S.Shape) (x : Value) (bs : List Binding)
+    → BindsNothing (shape_vars s) → fit_of g s x ≡ fits bs → bs ≡ []
 binds_none g shape.Else x bs b h = sym (fits_is h)
 binds_none g (shape.Int k) x bs b h = go (as_node g x) h
   where
@@ -56,7 +57,8 @@ binds_none g (shape.Int k) x bs b h = go (as_node g x) h
     go (Some n) e = by (nat_eq n.tag 0) n e
 binds_none g (shape.Node t xs) x bs b h = go (as_node g x) h
   where
-    fields : (xs : List VarId) → numbers_of xs ≡ [] → (ds : List Datum) → fields_fit xs ds ≡ fits bs → bs ≡ []
+    fields : (xs : List VarId) → numbers_of xs ≡ [] → (ds : List Datum) → fields_fit xs ds ≡ fits bs
+        → bs ≡ []
     fields [] q ds e = sym (fits_is e)
     fields (y ∷ ys) q ds e = absurd (let z : y.0 ∷ numbers_of ys ≡ [] = q in cc)
 
@@ -68,7 +70,9 @@ binds_none g (shape.Node t xs) x bs b h = go (as_node g x) h
     go None e = absurd (let z : unclear ≡ fits bs = e in cc)
     go (Some n) e = by (nat_eq n.tag t.0) n e
 
-module _ (g : grin_tree.Program) (p : low_tree.Program) (fw : ℕ → ℕ) (most : ℕ) (rs : List ℕ) (first : ℕ) (same_globals : length p.globals ≡ length g.globals) (width : ℕ) (wide : width ≡ 1 + most_fields g.tags)
+module _ (g : grin_tree.Program) (p : low_tree.Program) (fw : ℕ → ℕ) (most : ℕ) (rs : List ℕ)
+    (first : ℕ) (same_globals : length p.globals ≡ length g.globals) (width : ℕ)
+    (wide : width ≡ 1 + most_fields g.tags)
     (gcalls : grin_run.Calls) (lcalls : Calls) (top : ℕ) (under : Option ℕ) where
   abbrev does : low.Env → low_tree.Code → low.World → low.Answer
   does e c w = code p fw free lcalls e top under c w
@@ -82,37 +86,68 @@ module _ (g : grin_tree.Program) (p : low_tree.Program) (fw : ℕ → ℕ) (most
   abbrev At : List ℕ → grin.Env → low.Env → grin.World → ℕ → Type 0
   At = m.Here g p fw most rs first same_globals width wide gcalls lcalls top under
 
-  module _ (P : Value → Type 0) (goal : Goal) (n d : ℕ) (env : grin.Env) (e : low.Env) (w : grin.World) (frames : ℕ) where
+  module _ (P : Value → Type 0) (goal : Goal) (n d : ℕ) (env : grin.Env) (e : low.Env)
+      (w : grin.World) (frames : ℕ) where
     -- an alternative whose pattern binds nothing
     abbrev goes_into : Code → List Binding → grin.Answer
-    goes_into b bs = code_by g gcalls true (with_vars bs env) d b (with_state_seen (with_vars bs env) w)
+    goes_into b bs = code_by g gcalls true (with_vars bs env) d b
+        (with_state_seen (with_vars bs env) w)
 
-    decided : (k : ℕ) (f : MatchOutcome) (o : Option Bool) → Decides f o → (b : Code) (other : grin.Answer) (l l' : low.Answer) → Matches P k (code_by g gcalls true env d b (with_state_seen env w)) l → Matches P k other l'
-        → Matches P k (grin_run.choose f w (goes_into b) other) (need o (world_image width frames w) (λ yes. elim yes [ true ↦ l | false ↦ l' ]))
+    decided : (k : ℕ) (f : MatchOutcome) (o : Option Bool) → Decides f o
+        → (b : Code) (other : grin.Answer) (l l' : low.Answer)
+        → Matches P k (code_by g gcalls true env d b (with_state_seen env w)) l
+        → Matches P k other l'
+        → Matches P k (grin_run.choose f w (goes_into b) other)
+        (need o (world_image width frames w) (λ yes. elim yes [ true ↦ l | false ↦ l' ]))
     decided k _ _ taken' b other l l' h h' = h
     decided k _ _ passed b other l l' h h' = h'
     decided k _ _ deciding.free b other l l' h h' = missed
 
-    module _ (words : List Operand) (x : Value) (are : operands p fw e words ≡ Some (images (words_of_value x))) (sound : SoundValue g x) where
-      pub arm_runs : (s : S.Shape) (b : Code) (more : Arms) → BindsNothing (shape_vars s) → TestRanged s more
-          → Matches P goal.words (code_by g gcalls true env d b (with_state_seen env w)) (does e (code_code (written_width g) rs goal n b) (world_image width frames w))
-          → Matches P goal.words (arms_by g gcalls true env d x more w) (chooses e (arms_code (written_width g) rs goal (n + code_numbers (written_width g) rs goal b) words more) (world_image width frames w))
-          → Matches P goal.words (arms_by g gcalls true env d x (arm s b more) w) (chooses e (arms_code (written_width g) rs goal n words (arm s b more)) (world_image width frames w))
-      unfolding arms_by code arms_code
-      arm_runs s b no_arm none r h h' = by (fit_of g s x) refl
-        where
-          by : (f : MatchOutcome) → fit_of g s x ≡ f → Matches P goal.words (grin_run.choose f w (goes_into b) (grin.stops grin.missing w)) (does e (code_code (written_width g) rs goal n b) (world_image width frames w))
-          by (fits bs) q = subst (λ l. Matches P goal.words (goes_into b l) (does e (code_code (written_width g) rs goal n b) (world_image width frames w))) (sym (binds_none g s x bs none q)) h
-          by fits_not q = missed
-          by unclear q = missed
-      arm_runs s b (arm s' b' more) none r h h' = decided goal.words _ _ (tests_decide p fw e g words x s are sound none r) b _ _ _ h h'
+    module _ (words : List Operand) (x : Value)
+        (are : operands p fw e words ≡ Some (images (words_of_value x))) (sound : SoundValue g x)
+      where
+        pub arm_runs : (s : S.Shape) (b : Code) (more : Arms) → BindsNothing (shape_vars s)
+            → TestRanged s more
+            → Matches P goal.words (code_by g gcalls true env d b (with_state_seen env w))
+            (does e (code_code (written_width g) rs goal n b) (world_image width frames w))
+            → Matches P goal.words (arms_by g gcalls true env d x more w)
+            (chooses e
+            (arms_code (written_width g) rs goal (n + code_numbers (written_width g) rs goal b)
+            words more) (world_image width frames w))
+            → Matches P goal.words (arms_by g gcalls true env d x (arm s b more) w)
+            (chooses e (arms_code (written_width g) rs goal n words (arm s b more))
+            (world_image width frames w))
+        unfolding arms_by code arms_code
+        arm_runs s b no_arm none r h h' = by (fit_of g s x) refl
+          where
+            by : (f : MatchOutcome) → fit_of g s x ≡ f
+                → Matches P goal.words (grin_run.choose f w (goes_into b) (grin.stops grin.missing w))
+                (does e (code_code (written_width g) rs goal n b) (world_image width frames w))
+            by (fits bs) q = subst
+                (λ l. Matches P goal.words (goes_into b l)
+                (does e (code_code (written_width g) rs goal n b) (world_image width frames w)))
+                (sym (binds_none g s x bs none q)) h
+            by fits_not q = missed
+            by unclear q = missed
+        arm_runs s b (arm s' b' more) none r h h' = decided goal.words _ _
+            (tests_decide p fw e g words x s are sound none r) b _ _ _ h h'
 
-    pub case_runs : (scope : List ℕ) → At scope env e w frames → (v : V.Val) (as' : Arms) → NoNodeVar v → ValRanged v
-        → ((x : Value) → operands p fw e (operands_of v) ≡ Some (images (words_of_value x)) → SoundValue g x → Matches P goal.words (arms_by g gcalls true env d x as' w) (chooses e (arms_code (written_width g) rs goal n (operands_of v) as') (world_image width frames w)))
-        → Matches P goal.words (act_by g gcalls true env d (case v as') w) (does e (low_tree.choose (arms_code (written_width g) rs goal n (operands_of v) as')) (world_image width frames w))
+    pub case_runs : (scope : List ℕ) → At scope env e w frames → (v : V.Val) (as' : Arms)
+        → NoNodeVar v → ValRanged v
+        → ((x : Value) → operands p fw e (operands_of v) ≡ Some (images (words_of_value x))
+        → SoundValue g x → Matches P goal.words (arms_by g gcalls true env d x as' w)
+        (chooses e (arms_code (written_width g) rs goal n (operands_of v) as')
+        (world_image width frames w)))
+        → Matches P goal.words (act_by g gcalls true env d (case v as') w)
+        (does e (low_tree.choose (arms_code (written_width g) rs goal n (operands_of v) as'))
+        (world_image width frames w))
     unfolding arms_by code
     case_runs scope h v as' nn r rest = by (value_of g env v) refl
       where
-        by : (o : Option Value) → value_of g env v ≡ o → Matches P goal.words (grin.need o w (λ x. arms_by g gcalls true env d x as' w)) (chooses e (arms_code (written_width g) rs goal n (operands_of v) as') (world_image width frames w))
+        by : (o : Option Value) → value_of g env v ≡ o
+            → Matches P goal.words (grin.need o w (λ x. arms_by g gcalls true env d x as' w))
+            (chooses e (arms_code (written_width g) rs goal n (operands_of v) as')
+            (world_image width frames w))
         by None q = missed
-        by (Some x) q = let u = value_is g p fw same_globals first scope env e h.agrees v x q nn r in rest x u.words.are u.sound
+        by (Some x) q = let u = value_is g p fw same_globals first scope env e h.agrees v x q nn r
+            in rest x u.words.are u.sound

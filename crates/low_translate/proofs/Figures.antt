@@ -18,13 +18,15 @@ signed_pattern (pos n) h = ap (λ b. cond b (pos n) (negsuc (2 ^ 32 - suc n))) (
 signed_pattern (negsuc n) h =
     let le : 2 ^ 31 ≤ 2 ^ 32 - suc n = omega (arith, h) in
     let e : 2 ^ 32 - suc (2 ^ 32 - suc n) ≡ n = omega (arith, h) in
-    ap (λ b. cond b (pos (2 ^ 32 - suc n)) (negsuc (2 ^ 32 - suc (2 ^ 32 - suc n)))) (le-ltb (2 ^ 32 - suc n) (2 ^ 31) le) ∙ ap negsuc e
+    ap (λ b. cond b (pos (2 ^ 32 - suc n)) (negsuc (2 ^ 32 - suc (2 ^ 32 - suc n))))
+    (le-ltb (2 ^ 32 - suc n) (2 ^ 31) le) ∙ ap negsuc e
 
 pub low_of_pattern : (k : ℤ) → Has32Bits k → pattern k % 256 ≡ low_byte k
 low_of_pattern (pos n) h = refl
 low_of_pattern (negsuc n) h = omega arith
 
-operate_same : (f : G.PrimOp) (a b : ℤ) → low.primitive_result (operation_of f) a b ≡ grin.arithmetic f a b
+operate_same : (f : G.PrimOp) (a b : ℤ) → low.primitive_result (operation_of f) a b ≡
+    grin.arithmetic f a b
 operate_same grin_op.Add a b = refl
 operate_same grin_op.Sub a b = refl
 operate_same grin_op.Mul a b = refl
@@ -33,8 +35,12 @@ operate_same grin_op.Rem a b = refl
 operate_same grin_op.Eq a b = refl
 operate_same grin_op.Lt a b = refl
 
-pub arithmetic_same : (f : G.PrimOp) (a b : ℤ) → Has32Bits a → Has32Bits b → low.arithmetic (operation_of f) (pattern a) (pattern b) ≡ pattern (grin.arithmetic f a b)
-arithmetic_same f a b ha hb = (λ i. pattern (low.primitive_result (operation_of f) (signed_pattern a ha i) (signed_pattern b hb i))) ∙ ap pattern (operate_same f a b)
+pub arithmetic_same : (f : G.PrimOp) (a b : ℤ) → Has32Bits a → Has32Bits b
+    → low.arithmetic (operation_of f) (pattern a) (pattern b) ≡ pattern (grin.arithmetic f a b)
+arithmetic_same f a b ha hb =
+    (λ i. pattern
+    (low.primitive_result (operation_of f) (signed_pattern a ha i) (signed_pattern b hb i))) ∙ ap
+    pattern (operate_same f a b)
 
 -- ---- the results have 32 bits
 
@@ -58,7 +64,8 @@ remainder_has a b h = go (same_number b (pos 0))
   where
     int_rem_has : (a b : ℤ) → Has32Bits a → Has32Bits (int_rem a b)
     int_rem_has (pos n) b h = let m = mod-le n (unsigned_abs b) in omega (arith, m, h)
-    int_rem_has (negsuc n) b h = turned_has (suc n % unsigned_abs b) (let m = mod-le (suc n) (unsigned_abs b) in omega (arith, m, h))
+    int_rem_has (negsuc n) b h = turned_has (suc n % unsigned_abs b)
+        (let m = mod-le (suc n) (unsigned_abs b) in omega (arith, m, h))
 
     go : (t : Bool) → Has32Bits (if t then a else int_rem a b)
     go true = h
@@ -71,7 +78,8 @@ quotient_has a b = go (same_number b (pos 0))
     go true = lit< tt
     go false = wrap_has (int_div a b)
 
-pub arithmetic_has : (f : G.PrimOp) (a b : ℤ) → Has32Bits a → Has32Bits b → Has32Bits (grin.arithmetic f a b)
+pub arithmetic_has : (f : G.PrimOp) (a b : ℤ) → Has32Bits a → Has32Bits b
+    → Has32Bits (grin.arithmetic f a b)
 arithmetic_has grin_op.Add a b ha hb = wrap_has _
 arithmetic_has grin_op.Sub a b ha hb = wrap_has _
 arithmetic_has grin_op.Mul a b ha hb = wrap_has _

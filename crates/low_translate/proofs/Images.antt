@@ -65,7 +65,8 @@ nth_word [] i = low.number 0
 nth_word (w ∷ ws) zero = w
 nth_word (w ∷ ws) (suc i) = nth_word ws i
 
-pub fit_from : (k j : ℕ) (ws : List Word) → fit (suc k) (drop j ws) ≡ nth_word ws j ∷ fit k (drop (suc j) ws)
+pub fit_from : (k j : ℕ) (ws : List Word) → fit (suc k) (drop j ws) ≡ nth_word ws j ∷ fit k
+    (drop (suc j) ws)
 fit_from k zero [] = refl
 fit_from k (suc j) [] = refl
 fit_from k zero (w ∷ ws) = refl
@@ -146,21 +147,29 @@ some_same h = cc
 pub fields_most : (g : Program) (t k : ℕ) → grin.fields_of g t ≡ Some k → k ≤ most_fields g.tags
 fields_most g t k e = go (slice_get g.tags t) refl e
   where
-    go : (o : Option Tag) → slice_get g.tags t ≡ o → grin.and_then o (λ i. Some i.fields) ≡ Some k → k ≤ most_fields g.tags
+    go : (o : Option Tag) → slice_get g.tags t ≡ o → grin.and_then o (λ i. Some i.fields) ≡ Some k
+        → k ≤ most_fields g.tags
     go None q e = absurd (none_some e)
-    go (Some i) q e = let h = field_bound g.tags t i q in let m : i.fields ≡ k = some_same e in omega (arith, h, m)
+    go (Some i) q e = let h = field_bound g.tags t i q in let m : i.fields ≡ k = some_same e
+        in omega (arith, h, m)
 
 -- a sound node fits in a cell
-pub node_fits : (g : Program) (n : Node) → SoundNode g n → length (images (tag n.tag ∷ n.fields)) ≤ 1 + most_fields g.tags
-node_fits g n s = let a = fields_most g n.tag s.count s.has in let b = length-map n.fields word_image in omega (arith, a, b, s.few)
+pub node_fits : (g : Program) (n : Node) → SoundNode g n
+    → length (images (tag n.tag ∷ n.fields)) ≤ 1 + most_fields g.tags
+node_fits g n s = let a = fields_most g n.tag s.count s.has in let b
+    = length-map n.fields word_image in omega (arith, a, b, s.few)
 
 -- the words of a cell's node
-pub cell_narrow : (g : Program) (n : Node) → SoundCell g n → length (images (tag n.tag ∷ n.fields)) ≤ written_width g
+pub cell_narrow : (g : Program) (n : Node) → SoundCell g n
+    → length (images (tag n.tag ∷ n.fields)) ≤ written_width g
 cell_narrow g n s = let b = length-map n.fields word_image in omega (arith, b, s.narrow)
 
-most_value_at : (ts : List Tag) (t : ℕ) (i : Tag) → slice_get ts t ≡ Some i → is_fun_kind i.kind ≡ false → i.fields ≤ most_value_fields ts
+most_value_at : (ts : List Tag) (t : ℕ) (i : Tag) → slice_get ts t ≡ Some i
+    → is_fun_kind i.kind ≡ false → i.fields ≤ most_value_fields ts
 most_value_at [] t i e f = absurd (none_some e)
-most_value_at (x ∷ ts) zero i e f = let h = kind_fields i.kind i.fields f in let q : value_fields x.kind x.fields ≡ value_fields i.kind i.fields = ap (λ u. value_fields u.kind u.fields) (some_same e) in omega (arith, h, q)
+most_value_at (x ∷ ts) zero i e f = let h = kind_fields i.kind i.fields f in let q
+    : value_fields x.kind x.fields ≡ value_fields i.kind i.fields
+    = ap (λ u. value_fields u.kind u.fields) (some_same e) in omega (arith, h, q)
   where
     kind_fields : (k : TagKind) (n : ℕ) → is_fun_kind k ≡ false → n ≤ value_fields k n
     kind_fields kind.Con n f = omega arith
@@ -169,9 +178,14 @@ most_value_at (x ∷ ts) zero i e f = let h = kind_fields i.kind i.fields f in l
 most_value_at (x ∷ ts) (suc t) i e f = let h = most_value_at ts t i e f in omega (arith, h)
 
 -- a sound node that is no delayed call has few words
-pub given_fits : (g : Program) (n : Node) → SoundNode g n → is_delayed g n.tag ≡ false → length (words_of_value (node n)) ≤ 1 + most_value_fields g.tags
+pub given_fits : (g : Program) (n : Node) → SoundNode g n → is_delayed g n.tag ≡ false
+    → length (words_of_value (node n)) ≤ 1 + most_value_fields g.tags
 given_fits g n s d = go (slice_get g.tags n.tag) refl s.has d
   where
-    go : (o : Option Tag) → slice_get g.tags n.tag ≡ o → grin.and_then o (λ i. Some i.fields) ≡ Some s.count → is_some_and o (λ i. is_fun_kind i.kind) ≡ false → length (words_of_value (node n)) ≤ 1 + most_value_fields g.tags
+    go : (o : Option Tag) → slice_get g.tags n.tag ≡ o
+        → grin.and_then o (λ i. Some i.fields) ≡ Some s.count
+        → is_some_and o (λ i. is_fun_kind i.kind) ≡ false
+        → length (words_of_value (node n)) ≤ 1 + most_value_fields g.tags
     go None q e d = absurd (none_some e)
-    go (Some i) q e d = let h = most_value_at g.tags n.tag i q d in let m : i.fields ≡ s.count = some_same e in omega (arith, h, m, s.few)
+    go (Some i) q e d = let h = most_value_at g.tags n.tag i q d in let m : i.fields ≡ s.count
+        = some_same e in omega (arith, h, m, s.few)

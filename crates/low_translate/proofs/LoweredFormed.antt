@@ -1,4 +1,5 @@
--- What a lowered program is besides what it does: formed, small, and with the procedures of the program.
+-- What a lowered program is besides what it does: formed, small, and with the procedures of the
+-- program.
 use Rattle.std.proofs.Common.{◌≡◌, ◌≤◌, ◌<◌, ◌^◌, inl, inr, ℕ, zero, suc, ◌+◌, List, [], ◌∷◌, map, length, Option, Some, None, slice_get, refl, sym, ap, ◌∙◌, subst, arith}
 use Rattle.std.proofs.lemmas.List.{length-map}
 use Rattle.std.proofs.lemmas.Option.{slice_get_within}
@@ -34,11 +35,13 @@ results_few [] h f = omega arith
 results_few (r ∷ rs) h zero = h.0
 results_few (r ∷ rs) h (suc f) = results_few rs h.1 f
 
-pub procedures_many : (width : ℕ) (rs : List ℕ) (n : ℕ) (ks : List ℕ) (qs : List grin.Procedure) → length ks ≡ length qs → length (procedures_code width rs n ks qs) ≡ length qs
+pub procedures_many : (width : ℕ) (rs : List ℕ) (n : ℕ) (ks : List ℕ) (qs : List grin.Procedure)
+    → length ks ≡ length qs → length (procedures_code width rs n ks qs) ≡ length qs
 procedures_many width rs n [] [] e = refl
 procedures_many width rs n [] (q ∷ qs) e = absurd (omega (arith, e))
 procedures_many width rs n (k ∷ ks) [] e = absurd (omega (arith, e))
-procedures_many width rs n (k ∷ ks) (q ∷ qs) e = ap suc (procedures_many width rs (n + procedure_numbers width rs k q) ks qs (omega (arith, e)))
+procedures_many width rs n (k ∷ ks) (q ∷ qs) e = ap suc
+    (procedures_many width rs (n + procedure_numbers width rs k q) ks qs (omega (arith, e)))
 
 -- the procedure at a place
 record Stands (o : Option low.Procedure) (q : grin.Procedure) : Type 0 where
@@ -46,18 +49,35 @@ record Stands (o : Option low.Procedure) (q : grin.Procedure) : Type 0 where
   is : o ≡ Some made
   params : made.params ≡ numbers_of q.params
 
-procedure_at : (width : ℕ) (rs : List ℕ) (n : ℕ) (ks : List ℕ) (qs : List grin.Procedure) (f : ℕ) (q : grin.Procedure) → length ks ≡ length qs → slice_get qs f ≡ Some q → Stands (slice_get (procedures_code width rs n ks qs) f) q
+procedure_at : (width : ℕ) (rs : List ℕ) (n : ℕ) (ks : List ℕ) (qs : List grin.Procedure) (f : ℕ)
+    (q : grin.Procedure) → length ks ≡ length qs → slice_get qs f ≡ Some q
+    → Stands (slice_get (procedures_code width rs n ks qs) f) q
 procedure_at width rs n [] [] f q e h = cc
 procedure_at width rs n [] (p ∷ qs) f q e h = absurd (omega (arith, e))
 procedure_at width rs n (k ∷ ks) [] f q e h = cc
-procedure_at width rs n (k ∷ ks) (p ∷ qs) zero q e h = record { made = procedure_code width rs n k p; is = refl; params = (let s : p ≡ q = cc in ap (λ u. numbers_of u.params) s) }
-procedure_at width rs n (k ∷ ks) (p ∷ qs) (suc f) q e h = procedure_at width rs (n + procedure_numbers width rs k p) ks qs f q (omega (arith, e)) h
+procedure_at width rs n (k ∷ ks) (p ∷ qs) zero q e h
+    = record {
+      made = procedure_code width rs n k p;
+      is = refl;
+      params
+          = (let s : p ≡ q = cc in ap (λ u. numbers_of u.params) s);
+    }
+procedure_at width rs n (k ∷ ks) (p ∷ qs) (suc f) q e h
+    = procedure_at width rs (n + procedure_numbers width rs k p) ks qs f q (omega (arith, e)) h
 
-tags_small : (g : grin.Program) (cs : List GlobalCell) → length g.tags ≤ 2 ^ 32 → AllOf (GlobalFormed g) cs → TagsSmall (map (λ c. c.tag.0) cs)
+tags_small : (g : grin.Program) (cs : List GlobalCell) → length g.tags ≤ 2 ^ 32
+    → AllOf (GlobalFormed g) cs → TagsSmall (map (λ c. c.tag.0) cs)
 tags_small g [] few h = tt
-tags_small g (c ∷ cs) few h = (let k = slice_get_within g.tags c.tag.0 h.0.0 h.0.1 in omega (arith, k, few), tags_small g cs few h.1)
+tags_small g (c ∷ cs) few h = (
+  let k = slice_get_within g.tags c.tag.0 h.0.0 h.0.1
+      in omega (arith, k, few),
+  tags_small g cs few h.1,
+)
 
-module _ (g : grin.Program) (formed : grin_formed.Formed g) (ready : Ready g) (vectorised : IsVectorised g) (rs : List ℕ) (gives : EachProcedureReturns (1 + most_value_fields g.tags) rs rs g.procs) (few : AllOf (λ r. r ≤ 13) rs) (few_tags : length g.tags ≤ 2 ^ 32) where
+module _ (g : grin.Program) (formed : grin_formed.Formed g) (ready : Ready g)
+    (vectorised : IsVectorised g) (rs : List ℕ)
+    (gives : EachProcedureReturns (1 + most_value_fields g.tags) rs rs g.procs)
+    (few : AllOf (λ r. r ≤ 13) rs) (few_tags : length g.tags ≤ 2 ^ 32) where
   abbrev width : ℕ
   width = written_width g
 
@@ -87,42 +107,62 @@ module _ (g : grin.Program) (formed : grin_formed.Formed g) (ready : Ready g) (v
         omega (arith, a, b, c)
   ]
 
-  calls : AllCalls g width rs first (procs_numbers width rs rs g.procs) (procs_calls g.procs) made.procs
+  calls : AllCalls g width rs first (procs_numbers width rs rs g.procs) (procs_calls g.procs)
+      made.procs
   calls = procedures_calls g width rs first rs g.procs as_many formed.procedures
 
   fine : AllOf (λ q. CodeRanged q.body) g.procs → AllFine g few_tags width rs made.procs
-  fine ranged = procedures_fine g few_tags width rs first rs g.procs formed.procedures ranged vectorised
+  fine ranged = procedures_fine g few_tags width rs first rs g.procs formed.procedures ranged
+      vectorised
 
   starts : IsStartWellFormed made (slice_get made.procs made.start) made.argument
   starts =
-      let s = procedure_at width rs first rs g.procs g.start.0 formed.start.0 as_many formed.start.1 in
-      subst (λ o. IsStartWellFormed made o g.argument) (sym s.is) (by g.argument s formed.start.2 formed.argument)
+      let s = procedure_at width rs first rs g.procs g.start.0 formed.start.0 as_many formed.start.1
+      in
+      subst (λ o. IsStartWellFormed made o g.argument) (sym s.is)
+      (by g.argument s formed.start.2 formed.argument)
     where
-      by : (a : Option ℕ) (s : Stands (slice_get made.procs made.start) formed.start.0) → length formed.start.0.params ≡ argument_words a → grin_formed.ArgumentKnown g a → IsStartWellFormed made (Some s.made) a
-      by None s e k = is_empty s.made.params (ap length s.params ∙ length_numbers formed.start.0.params ∙ e)
-      by (Some i) s e k = (ap length s.params ∙ length_numbers formed.start.0.params ∙ e, subst (λ m. i < m) (sym (length-map g.globals (λ c. c.tag.0))) k)
+      by : (a : Option ℕ) (s : Stands (slice_get made.procs made.start) formed.start.0)
+          → length formed.start.0.params ≡ argument_words a → grin_formed.ArgumentKnown g a
+          → IsStartWellFormed made (Some s.made) a
+      by None s e k = is_empty s.made.params
+          (ap length s.params ∙ length_numbers formed.start.0.params ∙ e)
+      by (Some i) s e k = (
+        ap length s.params ∙ length_numbers formed.start.0.params ∙ e,
+        subst (λ m. i < m) (sym (length-map g.globals (λ c. c.tag.0))) k,
+      )
 
   pub formed_code : AllOf (λ q. CodeRanged q.body) g.procs → Formed made
   formed_code ranged =
       let f = fine ranged in
       let globals : length made.globals ≡ length g.globals = length-map g.globals (λ c. c.tag.0) in
-      let many : length made.procs ≡ length g.procs = procedures_many width rs first rs g.procs as_many in
+      let many : length made.procs ≡ length g.procs
+      = procedures_many width rs first rs g.procs as_many in
       record {
         variables_once = distinct (all_variables made.procs) once;
-        sites_once = distinct (all_sites made.procs) (λ s. let a = calls.sites s in let b = taken_once s first (procs_numbers width rs rs g.procs) in omega (arith, a, b));
+        sites_once = distinct (all_sites made.procs)
+            (λ s. let a = calls.sites s in let b = taken_once s first
+            (procs_numbers width rs rs g.procs) in omega (arith, a, b));
         scoped = subst (λ m. AllScoped m made.procs) (sym globals) f.scoped;
         calls_in_range = subst (λ m. AllCallsInRange m made.procs) (sym many) calls.known;
         starts = starts;
-        literals = record { procedures = f.small; tags = tags_small g g.globals few_tags formed.globals };
+        literals = record
+            { procedures = f.small; tags = tags_small g g.globals few_tags formed.globals };
       }
 
-  each_few : (n : ℕ) (ks : List ℕ) (qs : List grin.Procedure) → length ks ≡ length qs → EachProcedurePair (λ q r. length (variables r) ≤ procedure_words q) qs (procedures_code width rs n ks qs)
+  each_few : (n : ℕ) (ks : List ℕ) (qs : List grin.Procedure) → length ks ≡ length qs
+      → EachProcedurePair (λ q r. length (variables r) ≤ procedure_words q) qs
+      (procedures_code width rs n ks qs)
   each_few n [] [] e = tt
   each_few n [] (q ∷ qs) e = absurd (omega (arith, e))
   each_few n (k ∷ ks) [] e = absurd (omega (arith, e))
-  each_few n (k ∷ ks) (q ∷ qs) e = ((procedure_binds 0 width rs (results_few rs few) narrow_cells n k q).few, each_few (n + procedure_numbers width rs k q) ks qs (omega (arith, e)))
+  each_few n (k ∷ ks) (q ∷ qs) e = (
+    (procedure_binds 0 width rs (results_few rs few) narrow_cells n k q).few,
+    each_few (n + procedure_numbers width rs k q) ks qs (omega (arith, e)),
+  )
 
-  pub small_code : AllOf (λ q. CodeRanged q.body) g.procs → TargetsFitCells g → LoweredIsSmall g made
+  pub small_code : AllOf (λ q. CodeRanged q.body) g.procs → TargetsFitCells g
+      → LoweredIsSmall g made
   small_code ranged narrow = record {
     few_tests = (fine ranged).few;
     light = procedures_light width rs (results_few rs few) narrow_cells first rs g.procs few narrow;
@@ -130,8 +170,12 @@ module _ (g : grin.Program) (formed : grin_formed.Formed g) (ready : Ready g) (v
     few_words = each_few first rs g.procs as_many;
   }
 
-pub lowered_formed : (g : grin.Program) (l : low.Program) → grin_formed.Formed g → Ready g → IsVectorised g → IsLowered g l → Formed l
-lowered_formed g l f r v h = subst Formed (sym h.is) (formed_code g f r v h.results h.gives h.few h.few_tags h.ranged)
+pub lowered_formed : (g : grin.Program) (l : low.Program) → grin_formed.Formed g → Ready g
+    → IsVectorised g → IsLowered g l → Formed l
+lowered_formed g l f r v h = subst Formed (sym h.is)
+    (formed_code g f r v h.results h.gives h.few h.few_tags h.ranged)
 
-pub lowered_small : (g : grin.Program) (l : low.Program) → grin_formed.Formed g → Ready g → IsVectorised g → IsLowered g l → TargetsFitCells g → LoweredIsSmall g l
-lowered_small g l f r v h n = subst (LoweredIsSmall g) (sym h.is) (small_code g f r v h.results h.gives h.few h.few_tags h.ranged n)
+pub lowered_small : (g : grin.Program) (l : low.Program) → grin_formed.Formed g → Ready g
+    → IsVectorised g → IsLowered g l → TargetsFitCells g → LoweredIsSmall g l
+lowered_small g l f r v h n = subst (LoweredIsSmall g) (sym h.is)
+    (small_code g f r v h.results h.gives h.few h.few_tags h.ranged n)

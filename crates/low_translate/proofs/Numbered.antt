@@ -12,7 +12,8 @@ use Rattle.seq.proofs.Counted.{counts, none_at, one_at}
 abbrev pub taken_times : (x n k : ℕ) → ℕ
 taken_times x n k = times x (numbers_from n k)
 
-pub taken_both : (x n j k : ℕ) → taken_times x n (j + k) ≡ taken_times x n j + taken_times x (n + j) k
+pub taken_both : (x n j k : ℕ) → taken_times x n (j + k) ≡ taken_times x n j + taken_times x (n + j)
+    k
 taken_both x n zero k =
     let left : 0 + k ≡ k = omega arith in
     let right : n + 0 ≡ n = omega arith in
@@ -22,8 +23,10 @@ taken_both x n zero k =
 taken_both x n (suc j) k =
     let l : suc j + k ≡ suc (j + k) = omega arith in
     let f : taken_times x n (suc j + k) ≡ taken_times x n (suc (j + k)) = ap (taken_times x n) l in
-    let h : taken_times x (suc n) (j + k) ≡ taken_times x (suc n) j + taken_times x (suc n + j) k = taken_both x (suc n) j k in
-    let e : taken_times x (suc n + j) k ≡ taken_times x (n + suc j) k = (let q : suc n + j ≡ n + suc j = omega arith in ap (λ m. taken_times x m k) q) in
+    let h : taken_times x (suc n) (j + k) ≡ taken_times x (suc n) j + taken_times x (suc n + j) k
+    = taken_both x (suc n) j k in
+    let e : taken_times x (suc n + j) k ≡ taken_times x (n + suc j) k
+    = (let q : suc n + j ≡ n + suc j = omega arith in ap (λ m. taken_times x m k) q) in
     omega (arith, f, h, e)
 
 pub taken_below : (x n k : ℕ) → x < n → taken_times x n k ≡ 0
@@ -38,7 +41,8 @@ taken_once x n zero = omega arith
 taken_once x n (suc k) = elim (eqb_tells x n) [
   | inl e ↦
       let c : counts (nat_eq x n) ≡ 1 = ap counts e.0 in
-      let z : taken_times x (suc n) k ≡ 0 = (let q = e.1 in taken_below x (suc n) k (omega (arith, q))) in
+      let z : taken_times x (suc n) k ≡ 0 =
+      (let q = e.1 in taken_below x (suc n) k (omega (arith, q))) in
       omega (arith, c, z)
   | inr e ↦
       let c : counts (nat_eq x n) ≡ 0 = ap counts e.0 in
@@ -68,7 +72,9 @@ not_among : (x : ℕ) (xs : List ℕ) → times x xs ≡ 0 → is_among x xs ≡
 not_among x [] h = refl
 not_among x (y ∷ xs) h = elim (eqb_tells x y) [
   | inl e ↦ let c : counts (nat_eq x y) ≡ 1 = ap counts e.0 in absurd (omega (arith, c, h))
-  | inr e ↦ (λ i. e.0 i || (not_among x xs (let c : counts (nat_eq x y) ≡ 0 = ap counts e.0 in omega (arith, c, h)) i))
+  | inr e ↦
+      (λ i. e.0 i ||
+      (not_among x xs (let c : counts (nat_eq x y) ≡ 0 = ap counts e.0 in omega (arith, c, h)) i))
 ]
 
 -- where no number stands twice
@@ -81,5 +87,6 @@ distinct (x ∷ xs) h =
 
 -- how many numbers procedures take
 abbrev pub procs_numbers : (width : ℕ) → (results : List ℕ) → List ℕ → List Procedure → ℕ
-procs_numbers width results (r ∷ ks) (q ∷ qs) = procedure_numbers width results r q + procs_numbers width results ks qs
+procs_numbers width results (r ∷ ks) (q ∷ qs) = procedure_numbers width results r q + procs_numbers
+    width results ks qs
 procs_numbers width results _ _ = 0

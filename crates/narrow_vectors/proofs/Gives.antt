@@ -53,21 +53,27 @@ module _ (count : ℕ) (A : Solution) where
       act_each (leaf (write a)) p h = h
       act_each (leaf fail) p h = h
 
-      code_each : (b : Code) (p : WordSelection) → EachCode K b → EachCode K (narrow_code count A p b)
+      code_each : (b : Code) (p : WordSelection) → EachCode K b
+          → EachCode K (narrow_code count A p b)
       code_each (end o) p h = act_each o p h
       code_each (store cs b) p h = (h.0, code_each b p h.1)
       code_each (bind t o b) p h =
-          let q : WordSelection = word_selection count A t o (used_in_code (narrow_code count A p b)) in (blind.targets t q h.0, act_each o q h.1, code_each b p h.2)
+          let q : WordSelection = word_selection count A t o
+          (used_in_code (narrow_code count A p b))
+          in (blind.targets t q h.0, act_each o q h.1, code_each b p h.2)
 
-      arms_each : (as' : Arms) (p : WordSelection) → EachArms K as' → EachArms K (narrow_arms count A p as')
+      arms_each : (as' : Arms) (p : WordSelection) → EachArms K as'
+          → EachArms K (narrow_arms count A p as')
       arms_each no_arm p h = tt
       arms_each (arm s b as') p h = (h.0, code_each b p h.1, arms_each as' p h.2)
 
-    procs_each : (qs : List Procedure) → EveryBodyIsOfKind K qs → EveryBodyIsOfKind K (map change qs)
+    procs_each : (qs : List Procedure) → EveryBodyIsOfKind K qs
+        → EveryBodyIsOfKind K (map change qs)
     procs_each [] h = tt
     procs_each (q ∷ qs) h = (code_each q.body None h.0, procs_each qs h.1)
 
-  still_inlined : (o : Act) (p : WordSelection) → inlined_kind.operation o → inlined_kind.operation (narrow_act count A p o)
+  still_inlined : (o : Act) (p : WordSelection) → inlined_kind.operation o
+      → inlined_kind.operation (narrow_act count A p o)
   unfolding narrow_act
   still_inlined (case v as') p h = tt
   still_inlined (nested b) p h = tt
@@ -83,7 +89,8 @@ module _ (count : ℕ) (A : Solution) where
   still_inlined (leaf (write a)) p h = tt
   still_inlined (leaf fail) p h = tt
 
-  still_by_words : (o : Act) (p : WordSelection) → without_node_fetches.operation o → without_node_fetches.operation (narrow_act count A p o)
+  still_by_words : (o : Act) (p : WordSelection) → without_node_fetches.operation o
+      → without_node_fetches.operation (narrow_act count A p o)
   unfolding narrow_act
   still_by_words (case v as') p h = tt
   still_by_words (nested b) p h = tt
@@ -102,7 +109,8 @@ module _ (count : ℕ) (A : Solution) where
   numbers_many : (xs : List VarId) → length (numbers_of xs) ≡ length xs
   numbers_many xs = length-map xs (λ (x : VarId). x.0)
 
-  no_wider : (most : ℕ) (t : Target) (p : WordSelection) → length (target_vars t) ≤ most → length (target_vars (picked_target p t)) ≤ most
+  no_wider : (most : ℕ) (t : Target) (p : WordSelection) → length (target_vars t) ≤ most
+      → length (target_vars (picked_target p t)) ≤ most
   no_wider most t None h = h
   no_wider most to.Nothing (Some bs) h = h
   no_wider most (to.Node x) (Some bs) h = h
@@ -110,35 +118,52 @@ module _ (count : ℕ) (A : Solution) where
   no_wider most (to.Vector xs) (Some bs) h =
       let l : length (picked bs xs) ≤ length xs = picked_shorter bs xs in
       let m : length (numbers_of xs) ≡ length xs = numbers_many xs in
-      let n : length (numbers_of (picked bs xs)) ≡ length (picked bs xs) = numbers_many (picked bs xs) in
+      let n : length (numbers_of (picked bs xs)) ≡ length (picked bs xs)
+      = numbers_many (picked bs xs) in
       omega (arith, h, l, m, n)
 
-  pub procs_inlined : (qs : List Procedure) → EveryBodyIsOfKind inlined_kind qs → EveryBodyIsOfKind inlined_kind (map change qs)
-  procs_inlined = procs_each inlined_kind (record { acts = still_inlined; values = λ v p h. tt; targets = λ t p h. tt })
+  pub procs_inlined : (qs : List Procedure) → EveryBodyIsOfKind inlined_kind qs
+      → EveryBodyIsOfKind inlined_kind (map change qs)
+  procs_inlined = procs_each inlined_kind
+      (record { acts = still_inlined; values = λ v p h. tt; targets = λ t p h. tt })
 
-  pub procs_by_words : (qs : List Procedure) → EveryBodyIsOfKind without_node_fetches qs → EveryBodyIsOfKind without_node_fetches (map change qs)
-  procs_by_words = procs_each without_node_fetches (record { acts = still_by_words; values = λ v p h. tt; targets = λ t p h. tt })
+  pub procs_by_words : (qs : List Procedure) → EveryBodyIsOfKind without_node_fetches qs
+      → EveryBodyIsOfKind without_node_fetches (map change qs)
+  procs_by_words = procs_each without_node_fetches
+      (record { acts = still_by_words; values = λ v p h. tt; targets = λ t p h. tt })
 
-  pub procs_vectorised : (qs : List Procedure) → EveryBodyIsOfKind vectorised_kind qs → EveryBodyIsOfKind vectorised_kind (map change qs)
-  procs_vectorised = procs_each vectorised_kind (record { acts = λ o p h. tt; values = λ v p h. no_variable count A p v h; targets = λ t p h. no_node count A p t h })
+  pub procs_vectorised : (qs : List Procedure) → EveryBodyIsOfKind vectorised_kind qs
+      → EveryBodyIsOfKind vectorised_kind (map change qs)
+  procs_vectorised = procs_each vectorised_kind
+      (record {
+        acts = λ o p h. tt;
+        values = λ v p h. no_variable count A p v h;
+        targets
+            = λ t p h. no_node count A p t h;
+      })
 
-  pub procs_narrow : (most : ℕ) (qs : List Procedure) → EveryBodyIsOfKind (narrow_kind most) qs → EveryBodyIsOfKind (narrow_kind most) (map change qs)
-  procs_narrow most = procs_each (narrow_kind most) (record { acts = λ o p h. tt; values = λ v p h. tt; targets = no_wider most })
+  pub procs_narrow : (most : ℕ) (qs : List Procedure) → EveryBodyIsOfKind (narrow_kind most) qs
+      → EveryBodyIsOfKind (narrow_kind most) (map change qs)
+  procs_narrow most = procs_each (narrow_kind most)
+      (record { acts = λ o p h. tt; values = λ v p h. tt; targets = no_wider most })
 
   -- ---- results
 
   module _ (width most : ℕ) where
-    as_narrow : (v : V.Val) (p : WordSelection) → val_width width v ≤ most → val_width width (picked_val p v) ≤ most
+    as_narrow : (v : V.Val) (p : WordSelection) → val_width width v ≤ most
+        → val_width width (picked_val p v) ≤ most
     as_narrow v None h = h
     as_narrow (NodeVar x) (Some bs) h = h
     as_narrow (Node t ws) (Some bs) h = h
-    as_narrow (Vector ws) (Some bs) h = let l : length (picked bs ws) ≤ length ws = picked_shorter bs ws in omega (arith, h, l)
+    as_narrow (Vector ws) (Some bs) h = let l : length (picked bs ws) ≤ length ws
+        = picked_shorter bs ws in omega (arith, h, l)
     as_narrow (One a) (Some bs) h = h
 
     mutual
       unfolding narrow_act NarrowAct
 
-      act_gives : (o : Act) (p : WordSelection) → NarrowAct width most o → NarrowAct width most (narrow_act count A p o)
+      act_gives : (o : Act) (p : WordSelection) → NarrowAct width most o
+          → NarrowAct width most (narrow_act count A p o)
       act_gives (case v as') p h = arms_give as' p h
       act_gives (nested b) p h = code_gives b p h
       act_gives (leaf (unit v)) p h = as_narrow v p h
@@ -153,20 +178,24 @@ module _ (count : ℕ) (A : Solution) where
       act_gives (leaf (write a)) p h = tt
       act_gives (leaf fail) p h = tt
 
-      code_gives : (b : Code) (p : WordSelection) → NarrowCode width most b → NarrowCode width most (narrow_code count A p b)
+      code_gives : (b : Code) (p : WordSelection) → NarrowCode width most b
+          → NarrowCode width most (narrow_code count A p b)
       code_gives (end o) p h = act_gives o p h
       code_gives (store cs b) p h = code_gives b p h
       code_gives (bind t o b) p h = code_gives b p h
 
-      arms_give : (as' : Arms) (p : WordSelection) → NarrowArms width most as' → NarrowArms width most (narrow_arms count A p as')
+      arms_give : (as' : Arms) (p : WordSelection) → NarrowArms width most as'
+          → NarrowArms width most (narrow_arms count A p as')
       arms_give no_arm p h = tt
       arms_give (arm s b as') p h = (code_gives b p h.0, arms_give as' p h.1)
 
-    pub procs_give : (qs : List Procedure) → AllOf (λ q. NarrowCode width most q.body) qs → AllOf (λ q. NarrowCode width most q.body) (map change qs)
+    pub procs_give : (qs : List Procedure) → AllOf (λ q. NarrowCode width most q.body) qs
+        → AllOf (λ q. NarrowCode width most q.body) (map change qs)
     procs_give [] h = tt
     procs_give (q ∷ qs) h = (code_gives q.body None h.0, procs_give qs h.1)
 
-  pub procs_params : (most : ℕ) (qs : List Procedure) → AllOf (λ q. length q.params ≤ most) qs → AllOf (λ q. length q.params ≤ most) (map change qs)
+  pub procs_params : (most : ℕ) (qs : List Procedure) → AllOf (λ q. length q.params ≤ most) qs
+      → AllOf (λ q. length q.params ≤ most) (map change qs)
   procs_params most [] h = tt
   procs_params most (q ∷ qs) h = (h.0, procs_params most qs h.1)
 
@@ -176,7 +205,8 @@ module _ (count : ℕ) (A : Solution) where
   mutual
     unfolding narrow_act act_fits
 
-    act_ends : (bs : List Bool) (o : Act) → act_fits count A bs (narrow_act count A None o) ≡ act_fits count A bs o
+    act_ends : (bs : List Bool) (o : Act) → act_fits count A bs (narrow_act count A None o) ≡
+        act_fits count A bs o
     act_ends bs (case v as') = arms_end bs as'
     act_ends bs (nested b) = code_ends bs b
     act_ends bs (leaf (unit v)) = refl
@@ -191,25 +221,32 @@ module _ (count : ℕ) (A : Solution) where
     act_ends bs (leaf (write a)) = refl
     act_ends bs (leaf fail) = refl
 
-    code_ends : (bs : List Bool) (b : Code) → code_fits count A bs (narrow_code count A None b) ≡ code_fits count A bs b
+    code_ends : (bs : List Bool) (b : Code) → code_fits count A bs (narrow_code count A None b) ≡
+        code_fits count A bs b
     code_ends bs (end o) = act_ends bs o
     code_ends bs (store cs b) = code_ends bs b
     code_ends bs (bind t o b) = code_ends bs b
 
-    arms_end : (bs : List Bool) (as' : Arms) → arms_fit count A bs (narrow_arms count A None as') ≡ arms_fit count A bs as'
+    arms_end : (bs : List Bool) (as' : Arms) → arms_fit count A bs (narrow_arms count A None as') ≡
+        arms_fit count A bs as'
     arms_end bs no_arm = refl
     arms_end bs (arm s b as') = λ i. code_ends bs b i && arms_end bs as' i
 
   -- those that stay are used
-  stay_used : (used : List ℕ) (xs : List VarId) → AllOf (λ (x : VarId). is_among x.0 used ≡ true) (picked (stay used xs) xs)
+  stay_used : (used : List ℕ) (xs : List VarId) → AllOf (λ (x : VarId). is_among x.0 used ≡ true)
+      (picked (stay used xs) xs)
   stay_used used [] = tt
   stay_used used (x ∷ xs) = go (is_among x.0 used) refl (stay_used used xs)
     where
-      go : (b : Bool) → is_among x.0 used ≡ b → AllOf (λ (y : VarId). is_among y.0 used ≡ true) (picked (stay used xs) xs) → AllOf (λ (y : VarId). is_among y.0 used ≡ true) (cond b (x ∷ picked (stay used xs) xs) (picked (stay used xs) xs))
+      go : (b : Bool) → is_among x.0 used ≡ b → AllOf (λ (y : VarId). is_among y.0 used ≡ true)
+          (picked (stay used xs) xs) → AllOf (λ (y : VarId). is_among y.0 used ≡ true)
+          (cond b (x ∷ picked (stay used xs) xs) (picked (stay used xs) xs))
       go true e h = (e, h)
       go false e h = h
 
-  bind_read : (t : Target) (o : Act) (b : Code) → let q : WordSelection = word_selection count A t o (used_in_code b) in IsRead count A (picked_target q t) (narrow_act count A q o) b
+  bind_read : (t : Target) (o : Act) (b : Code) → let q : WordSelection
+      = word_selection count A t o (used_in_code b)
+      in IsRead count A (picked_target q t) (narrow_act count A q o) b
   bind_read to.Nothing o b = tt
   bind_read (to.Node x) o b = tt
   bind_read (to.One x) o b = tt
@@ -218,7 +255,8 @@ module _ (count : ℕ) (A : Solution) where
       bs : List Bool
       bs = stay (used_in_code b) xs
 
-      go : (c : Bool) → act_fits count A bs o ≡ c → let q : WordSelection = cond c (Some bs) None in IsRead count A (picked_target q (to.Vector xs)) (narrow_act count A q o) b
+      go : (c : Bool) → act_fits count A bs o ≡ c → let q : WordSelection = cond c (Some bs) None
+          in IsRead count A (picked_target q (to.Vector xs)) (narrow_act count A q o) b
       go true e = λ h. stay_used (used_in_code b) xs
       go false e = λ h. true_not_false (sym h ∙ act_ends bs o ∙ e)
 
@@ -240,16 +278,24 @@ module _ (count : ℕ) (A : Solution) where
     act_read (leaf (write a)) p = tt
     act_read (leaf fail) p = tt
 
-    code_read : (b : Code) (p : WordSelection) → BoundCode (IsRead count A) (narrow_code count A p b)
+    code_read : (b : Code) (p : WordSelection) → BoundCode (IsRead count A)
+        (narrow_code count A p b)
     code_read (end o) p = act_read o p
     code_read (store cs b) p = code_read b p
-    code_read (bind t o b) p = (bind_read t o (narrow_code count A p b), act_read o (word_selection count A t o (used_in_code (narrow_code count A p b))), code_read b p)
+    code_read (bind t o b) p = (
+      bind_read t o (narrow_code count A p b),
+      act_read o
+          (word_selection count A t o (used_in_code (narrow_code count A p b))),
+      code_read b p,
+    )
 
-    arms_read : (as' : Arms) (p : WordSelection) → BoundArms (IsRead count A) (narrow_arms count A p as')
+    arms_read : (as' : Arms) (p : WordSelection) → BoundArms (IsRead count A)
+        (narrow_arms count A p as')
     arms_read no_arm p = tt
     arms_read (arm s b as') p = (code_read b p, arms_read as' p)
 
-  pub procs_read : (qs : List Procedure) → AllOf (λ q. BoundCode (IsRead count A) q.body) (map change qs)
+  pub procs_read : (qs : List Procedure) → AllOf (λ q. BoundCode (IsRead count A) q.body)
+      (map change qs)
   procs_read [] = tt
   procs_read (q ∷ qs) = (code_read q.body None, procs_read qs)
 
@@ -259,7 +305,8 @@ module _ (count : ℕ) (A : Solution) where
     mutual
       unfolding narrow_act act_update_sum
 
-      act_updates : (o : Act) (p : WordSelection) → act_update_sum of (narrow_act count A p o) ≡ act_update_sum of o
+      act_updates : (o : Act) (p : WordSelection) → act_update_sum of (narrow_act count A p o) ≡
+          act_update_sum of o
       act_updates (case v as') p = arms_update as' p
       act_updates (nested b) p = code_updates b p
       act_updates (leaf (unit v)) p = refl
@@ -274,15 +321,20 @@ module _ (count : ℕ) (A : Solution) where
       act_updates (leaf (write a)) p = refl
       act_updates (leaf fail) p = refl
 
-      code_updates : (b : Code) (p : WordSelection) → code_update_sum of (narrow_code count A p b) ≡ code_update_sum of b
+      code_updates : (b : Code) (p : WordSelection)
+          → code_update_sum of (narrow_code count A p b) ≡ code_update_sum of b
       code_updates (end o) p = act_updates o p
       code_updates (store cs b) p = code_updates b p
-      code_updates (bind t o b) p = λ i. act_updates o (word_selection count A t o (used_in_code (narrow_code count A p b))) i + code_updates b p i
+      code_updates (bind t o b) p = λ i. act_updates o
+          (word_selection count A t o (used_in_code (narrow_code count A p b))) i + code_updates b p
+          i
 
-      arms_update : (as' : Arms) (p : WordSelection) → arms_update_sum of (narrow_arms count A p as') ≡ arms_update_sum of as'
+      arms_update : (as' : Arms) (p : WordSelection)
+          → arms_update_sum of (narrow_arms count A p as') ≡ arms_update_sum of as'
       arms_update no_arm p = refl
       arms_update (arm s b as') p = λ i. code_updates b p i + arms_update as' p i
 
-    pub procs_update : (qs : List Procedure) → procs_update_sum of (map change qs) ≡ procs_update_sum of qs
+    pub procs_update : (qs : List Procedure) → procs_update_sum of (map change qs) ≡
+        procs_update_sum of qs
     procs_update [] = refl
     procs_update (q ∷ qs) = λ i. code_updates q.body None i + procs_update qs i

@@ -16,15 +16,18 @@ use Rattle.own_cells.proofs.Formed.{remembered_formed, remembered_outside, procs
 
 module _ (g : Program) (of : IsVectorForm g) where
   kept : CheckedRunsNeverMissing (remembered g) × Keeps g (remembered g)
-  kept = remembered_kept g of.formed of.ready.inlined of.vectorised ((looking_law g of.ready.inlined).sees of.ready.never_missing of.ready.runs)
+  kept = remembered_kept g of.formed of.ready.inlined of.vectorised
+      ((looking_law g of.ready.inlined).sees of.ready.never_missing of.ready.runs)
 
   ready : Ready (remembered g)
   ready =
-      let inlined = procs_each inlined_kind (λ w. tt) (λ w. tt) (λ v as' bs' h. tt) (λ b c h. tt) g.procs of.ready.inlined in
+      let inlined = procs_each inlined_kind (λ w. tt) (λ w. tt) (λ v as' bs' h. tt) (λ b c h. tt)
+      g.procs of.ready.inlined in
       record {
         inlined = inlined;
         few_params = procs_params 16 g.procs of.ready.few_params;
-        few_results = procs_narrow (1 + most_value_fields g.tags) 13 (omega arith) g.procs of.ready.few_results;
+        few_results = procs_narrow (1 + most_value_fields g.tags) 13 (omega arith) g.procs
+            of.ready.few_results;
         few_fields = of.ready.few_fields;
         never_missing = (looking_law (remembered g) inlined).never_missing kept.0;
         runs = (looking_law (remembered g) inlined).runs_well kept.0;
@@ -40,10 +43,18 @@ module _ (g : Program) (of : IsVectorForm g) where
   whole : RefetchesNothing g (remembered g)
   whole = record {
     stays = record {
-      of_vectors = record { formed = remembered_formed g of.formed; ready = ready; vectorised = procs_each vectorised_kind (λ w. tt) (λ w. tt) (λ v as' bs' h. tt) (λ b c h. tt) g.procs of.vectorised };
+      of_vectors = record {
+        formed = remembered_formed g of.formed;
+        ready = ready;
+        vectorised
+            = procs_each vectorised_kind (λ w. tt) (λ w. tt) (λ v as' bs' h. tt) (λ b c h. tt) g.procs
+            of.vectorised;
+      };
       outside = remembered_outside g;
-      narrow = λ most. procs_each (narrow_kind most) (λ w. tt) (λ w. tt) (λ v as' bs' h. tt) (λ b c h. tt) g.procs;
-      by_words = procs_each without_node_fetches (λ w. tt) (λ w. tt) (λ v as' bs' h. tt) (λ b c h. tt) g.procs;
+      narrow = λ most. procs_each (narrow_kind most) (λ w. tt) (λ w. tt) (λ v as' bs' h. tt)
+          (λ b c h. tt) g.procs;
+      by_words = procs_each without_node_fetches (λ w. tt) (λ w. tt) (λ v as' bs' h. tt)
+          (λ b c h. tt) g.procs;
     };
     made = refl;
     unknown = procs_unknown g.procs;

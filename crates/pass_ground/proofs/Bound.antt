@@ -20,13 +20,18 @@ not_first z y ys h = go (nat_eq z y) h
     go true k = absurd (omega (arith, k))
     go false k = refl
 
-pub vars_out : (bs : List Binding) (env : Env) (z : ℕ) → times z (names_of bs) ≡ 0 → with_vars bs env z ≡ env z
+pub vars_out : (bs : List Binding) (env : Env) (z : ℕ) → times z (names_of bs) ≡ 0
+    → with_vars bs env z ≡ env z
 vars_out [] env z h = refl
-vars_out (b ∷ bs) env z h = vars_out bs (λ y. cond (nat_eq y b.0) (Some b.1) (env y)) z (omega (arith, h)) ∙ ap (λ t. cond t (Some b.1) (env z)) (not_first z b.0 (names_of bs) h)
+vars_out (b ∷ bs) env z h = vars_out bs (λ y. cond (nat_eq y b.0) (Some b.1) (env y)) z
+    (omega (arith, h)) ∙ ap (λ t. cond t (Some b.1) (env z)) (not_first z b.0 (names_of bs) h)
 
-pub vars_in : (bs : List Binding) (env env' : Env) (z : ℕ) → 0 < times z (names_of bs) → with_vars bs env z ≡ with_vars bs env' z
+pub vars_in : (bs : List Binding) (env env' : Env) (z : ℕ) → 0 < times z (names_of bs)
+    → with_vars bs env z ≡ with_vars bs env' z
 vars_in [] env env' z h = absurd (omega (arith, h))
-vars_in (b ∷ bs) env env' z h = go (times z (names_of bs)) refl (λ k. vars_in bs (λ y. cond (nat_eq y b.0) (Some b.1) (env y)) (λ y. cond (nat_eq y b.0) (Some b.1) (env' y)) z k)
+vars_in (b ∷ bs) env env' z h = go (times z (names_of bs)) refl
+    (λ k. vars_in bs (λ y. cond (nat_eq y b.0) (Some b.1) (env y))
+    (λ y. cond (nat_eq y b.0) (Some b.1) (env' y)) z k)
   where
     e1 : Env
     e1 = λ y. cond (nat_eq y b.0) (Some b.1) (env y)
@@ -38,39 +43,51 @@ vars_in (b ∷ bs) env env' z h = go (times z (names_of bs)) refl (λ k. vars_in
     it true k = refl
     it false k = absurd (omega (arith, k))
 
-    go : (n : ℕ) → times z (names_of bs) ≡ n → (0 < times z (names_of bs) → with_vars bs e1 z ≡ with_vars bs e2 z) → with_vars bs e1 z ≡ with_vars bs e2 z
-    go zero q f = vars_out bs e1 z q ∙ it (nat_eq z b.0) (subst (λ m. 0 < cond (nat_eq z b.0) 1 0 + m) q h) ∙ sym (vars_out bs e2 z q)
+    go : (n : ℕ) → times z (names_of bs) ≡ n →
+        (0 < times z (names_of bs) → with_vars bs e1 z ≡ with_vars bs e2 z)
+        → with_vars bs e1 z ≡ with_vars bs e2 z
+    go zero q f = vars_out bs e1 z q ∙ it (nat_eq z b.0)
+        (subst (λ m. 0 < cond (nat_eq z b.0) 1 0 + m) q h) ∙ sym (vars_out bs e2 z q)
     go (suc n) q f = f (omega (arith, q))
 
-pub vars_append : (bs cs : List Binding) (env : Env) → with_vars (bs ++ cs) env ≡ with_vars cs (with_vars bs env)
+pub vars_append : (bs cs : List Binding) (env : Env)
+    → with_vars (bs ++ cs) env ≡ with_vars cs (with_vars bs env)
 vars_append [] cs env = refl
 vars_append (b ∷ bs) cs env = vars_append bs cs (λ y. cond (nat_eq y b.0) (Some b.1) (env y))
 
-pub one_each_names : (xs : List VarId) (ds : List Datum) (bs : List Binding) → one_each xs ds ≡ Some bs → names_of bs ≡ numbers_of xs
+pub one_each_names : (xs : List VarId) (ds : List Datum) (bs : List Binding)
+    → one_each xs ds ≡ Some bs → names_of bs ≡ numbers_of xs
 one_each_names [] [] bs e = let h : bs ≡ [] = cc in ap names_of h
 one_each_names [] (d ∷ ds) bs e = cc
 one_each_names (x ∷ xs) [] bs e = cc
 one_each_names (x ∷ xs) (d ∷ ds) bs e = go (one_each xs ds) e (λ cs q. one_each_names xs ds cs q)
   where
-    go : (o : Option (List Binding)) → and_then o (λ cs. Some ((x.0, words (d ∷ [])) ∷ cs)) ≡ Some bs → ((cs : List Binding) → o ≡ Some cs → names_of cs ≡ numbers_of xs) → names_of bs ≡ numbers_of (x ∷ xs)
+    go : (o : Option (List Binding)) → and_then o (λ cs. Some ((x.0, words (d ∷ [])) ∷ cs)) ≡ Some
+        bs → ((cs : List Binding) → o ≡ Some cs → names_of cs ≡ numbers_of xs)
+        → names_of bs ≡ numbers_of (x ∷ xs)
     go None k f = cc
-    go (Some cs) k f = let h : bs ≡ (x.0, words (d ∷ [])) ∷ cs = cc in ap names_of h ∙ ap (λ l. x.0 ∷ l) (f cs refl)
+    go (Some cs) k f = let h : bs ≡ (x.0, words (d ∷ [])) ∷ cs = cc
+        in ap names_of h ∙ ap (λ l. x.0 ∷ l) (f cs refl)
 
-pub bound_names : (g : Program) (t : Target) (v : Value) (bs : List Binding) → bindings_of g t v ≡ Some bs → names_of bs ≡ target_vars t
+pub bound_names : (g : Program) (t : Target) (v : Value) (bs : List Binding)
+    → bindings_of g t v ≡ Some bs → names_of bs ≡ target_vars t
 bound_names g to.Nothing (words []) bs e = let h : bs ≡ [] = cc in ap names_of h
 bound_names g to.Nothing (words (d ∷ ds)) bs e = cc
 bound_names g to.Nothing (node n) bs e = cc
 bound_names g (to.Node x) v bs e = go (as_node g v) e
   where
-    go : (o : Option Node) → and_then o (λ n. Some ((x.0, node n) ∷ [])) ≡ Some bs → names_of bs ≡ x.0 ∷ []
+    go : (o : Option Node) → and_then o (λ n. Some ((x.0, node n) ∷ [])) ≡ Some bs
+        → names_of bs ≡ x.0 ∷ []
     go None k = cc
     go (Some n) k = let h : bs ≡ (x.0, node n) ∷ [] = cc in ap names_of h
 bound_names g (to.One x) (words []) bs e = cc
-bound_names g (to.One x) (words (d ∷ [])) bs e = let h : bs ≡ (x.0, words (d ∷ [])) ∷ [] = cc in ap names_of h
+bound_names g (to.One x) (words (d ∷ [])) bs e = let h : bs ≡ (x.0, words (d ∷ [])) ∷ [] = cc
+    in ap names_of h
 bound_names g (to.One x) (words (d ∷ (d2 ∷ ds))) bs e = cc
 bound_names g (to.One x) (node n) bs e = cc
 bound_names g (to.Vector xs) (words ds) bs e = one_each_names xs ds bs e
-bound_names g (to.Vector xs) (node n) bs e = one_each_names xs (padded (length xs) (tag n.tag ∷ n.fields)) bs e
+bound_names g (to.Vector xs) (node n) bs e = one_each_names xs
+    (padded (length xs) (tag n.tag ∷ n.fields)) bs e
 
 pub places_names : (a : ℕ) (cs : List Cell) → names_of (places a cs) ≡ cell_vars cs
 places_names a [] = refl

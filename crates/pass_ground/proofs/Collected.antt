@@ -5,4 +5,5 @@ use Rattle.pass_ground.proofs.Walked.{Folds}
 
 pub updated : Folds act_updated code_updated arms_updated
 unfolding act_updated
-updated = record { of_end = λ o. refl; of_bind = λ t o b. refl; of_none = refl; of_arm = λ s b as'. refl }
+updated = record
+    { of_end = λ o. refl; of_bind = λ t o b. refl; of_none = refl; of_arm = λ s b as'. refl }

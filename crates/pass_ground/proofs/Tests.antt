@@ -20,6 +20,8 @@ pub all_back : {A : Type 0} (P : A → Type 0) (xs ys : List A) → AllOf P (xs 
 all_back P [] ys h = h
 all_back P (x ∷ xs) ys h = all_back P xs ys h.1
 
-pub times_vars : (y : ℕ) (xs zs : List VarId) → times y (numbers_of (xs ++ zs)) ≡ times y (numbers_of xs) + times y (numbers_of zs)
+pub times_vars : (y : ℕ) (xs zs : List VarId) → times y (numbers_of (xs ++ zs)) ≡ times y
+    (numbers_of xs) + times y (numbers_of zs)
 times_vars y [] zs = omega arith
-times_vars y (x ∷ xs) zs = let h : times y (numbers_of (xs ++ zs)) ≡ times y (numbers_of xs) + times y (numbers_of zs) = times_vars y xs zs in omega arith
+times_vars y (x ∷ xs) zs = let h : times y (numbers_of (xs ++ zs)) ≡ times y (numbers_of xs) + times
+    y (numbers_of zs) = times_vars y xs zs in omega arith

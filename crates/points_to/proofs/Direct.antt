@@ -16,17 +16,23 @@ use Rattle.points_to.specs.Held.{item, word_if_in_part, words_in_part, in_part, 
 use Rattle.points_to.specs.Asked.{fact, facts_at}
 use Rattle.points_to.proofs.Done.{flat_flat}
 
-pub facts_of_words : (q : Place) (part : Part) (ws : List Element) → map (λ u. fact q (item part u)) ws ≡ facts_at q (in_part part ws)
+pub facts_of_words : (q : Place) (part : Part) (ws : List Element)
+    → map (λ u. fact q (item part u)) ws ≡ facts_at q (in_part part ws)
 facts_of_words q part [] = refl
 facts_of_words q part (w ∷ ws) = ap (λ l. fact q (item part w) ∷ l) (facts_of_words q part ws)
 
 pub picked_same : (j : ℕ) (ws : List Element) → words_in_part (word j) (in_part (word j) ws) ≡ ws
 picked_same j [] = refl
-picked_same j (w ∷ ws) = ap (λ b. cond b (w ∷ []) [] ++ words_in_part (word j) (in_part (word j) ws)) (eq_self j) ∙ ap (λ l. w ∷ l) (picked_same j ws)
+picked_same j (w ∷ ws) = ap
+    (λ b. cond b (w ∷ []) [] ++ words_in_part (word j) (in_part (word j) ws)) (eq_self j) ∙ ap
+    (λ l. w ∷ l) (picked_same j ws)
 
-picked_other : (j i : ℕ) (ws : List Element) → nat_eq j i ≡ false → words_in_part (word j) (in_part (word i) ws) ≡ []
+picked_other : (j i : ℕ) (ws : List Element) → nat_eq j i ≡ false
+    → words_in_part (word j) (in_part (word i) ws) ≡ []
 picked_other j i [] e = refl
-picked_other j i (w ∷ ws) e = ap (λ b. cond b (w ∷ []) [] ++ words_in_part (word j) (in_part (word i) ws)) e ∙ picked_other j i ws e
+picked_other j i (w ∷ ws) e = ap
+    (λ b. cond b (w ∷ []) [] ++ words_in_part (word j) (in_part (word i) ws)) e ∙ picked_other j i
+    ws e
 
 no_tag : (i : ℕ) (ws : List Element) → words_in_part tags (in_part (word i) ws) ≡ []
 no_tag i [] = refl
@@ -35,7 +41,9 @@ no_tag i (w ∷ ws) = no_tag i ws
 apart : (j i : ℕ) → j < i → nat_eq j i ≡ false
 apart j i lt = grind (arith, nat_tests)
 
-pub picked_cells : (H : Place → List Item) (cells : List Element) → words_in_part (word 0) (flat_map (cell_items H) cells) ≡ flat_map (λ w. words_in_part (word 0) (cell_items H w)) cells
+pub picked_cells : (H : Place → List Item) (cells : List Element)
+    → words_in_part (word 0) (flat_map (cell_items H) cells) ≡ flat_map
+    (λ w. words_in_part (word 0) (cell_items H w)) cells
 picked_cells H cells = flat_flat (word_if_in_part (word 0)) (cell_items H) cells
 
 module _ (p : Tables) (H : Place → List Item) where
@@ -44,34 +52,42 @@ module _ (p : Tables) (H : Place → List Item) where
   elements_if None = []
   elements_if (Some w) = elements p H w
 
-  before : (ws : List W.Word) (i j : ℕ) → j < i → words_in_part (word j) (numbered p H word i ws) ≡ []
+  before : (ws : List W.Word) (i j : ℕ) → j < i → words_in_part (word j) (numbered p H word i ws) ≡
+      []
   before [] i j lt = refl
   before (w ∷ ws) i j lt =
-      flat_map-append (word_if_in_part (word j)) (in_part (word i) (elements p H w)) (numbered p H word (suc i) ws)
-      ∙ ap (λ l. l ++ words_in_part (word j) (numbered p H word (suc i) ws)) (picked_other j i (elements p H w) (apart j i lt))
+      flat_map-append (word_if_in_part (word j)) (in_part (word i) (elements p H w))
+      (numbered p H word (suc i) ws)
+      ∙ ap (λ l. l ++ words_in_part (word j) (numbered p H word (suc i) ws))
+      (picked_other j i (elements p H w) (apart j i lt))
       ∙ before ws (suc i) j (omega (arith, lt))
 
-  pub picked_numbered : (ws : List W.Word) (i n j : ℕ) → j ≡ i + n → words_in_part (word j) (numbered p H word i ws) ≡ elements_if (slice_get ws n)
+  pub picked_numbered : (ws : List W.Word) (i n j : ℕ) → j ≡ i + n
+      → words_in_part (word j) (numbered p H word i ws) ≡ elements_if (slice_get ws n)
   picked_numbered [] i n j e = refl
   picked_numbered (w ∷ ws) i zero j e =
       let same : j ≡ i = omega (arith, e) in
       let later = numbered p H word (suc i) ws in
       flat_map-append (word_if_in_part (word j)) (in_part (word i) (elements p H w)) later
-      ∙ ap (λ k. words_in_part (word k) (in_part (word i) (elements p H w)) ++ words_in_part (word j) later) same
+      ∙ ap (λ k. words_in_part (word k) (in_part (word i) (elements p H w))
+      ++ words_in_part (word j) later) same
       ∙ ap (λ l. l ++ words_in_part (word j) later) (picked_same i (elements p H w))
       ∙ ap (λ l. elements p H w ++ l) (before ws (suc i) j (omega (arith, same)))
       ∙ append_nil (elements p H w)
   picked_numbered (w ∷ ws) i (suc n) j e =
       let after : i < j = omega (arith, e) in
       let other : nat_eq j i ≡ false = grind (arith, nat_tests) in
-      flat_map-append (word_if_in_part (word j)) (in_part (word i) (elements p H w)) (numbered p H word (suc i) ws)
-      ∙ ap (λ l. l ++ words_in_part (word j) (numbered p H word (suc i) ws)) (picked_other j i (elements p H w) other)
+      flat_map-append (word_if_in_part (word j)) (in_part (word i) (elements p H w))
+      (numbered p H word (suc i) ws)
+      ∙ ap (λ l. l ++ words_in_part (word j) (numbered p H word (suc i) ws))
+      (picked_other j i (elements p H w) other)
       ∙ picked_numbered ws (suc i) n j (omega (arith, e))
 
   no_tags : (ws : List W.Word) (i : ℕ) → words_in_part tags (numbered p H word i ws) ≡ []
   no_tags [] i = refl
   no_tags (w ∷ ws) i =
-      flat_map-append (word_if_in_part tags) (in_part (word i) (elements p H w)) (numbered p H word (suc i) ws)
+      flat_map-append (word_if_in_part tags) (in_part (word i) (elements p H w))
+      (numbered p H word (suc i) ws)
       ∙ ap (λ l. l ++ words_in_part tags (numbered p H word (suc i) ws)) (no_tag i (elements p H w))
       ∙ no_tags ws (suc i)
 
@@ -80,9 +96,13 @@ module _ (p : Tables) (H : Place → List Item) where
   none_fetched (suc i) X e = ap (flat_map (field_of_tag p i X)) e
 
   -- word j of items without nodes
-  pub word_of_words : (j : ℕ) (X : List Item) → words_in_part tags X ≡ [] → as_word p j X ≡ words_in_part (word j) X
-  word_of_words j X e = ap (λ l. words_in_part (word j) X ++ l) (none_fetched j X e) ∙ append_nil (words_in_part (word j) X)
+  pub word_of_words : (j : ℕ) (X : List Item) → words_in_part tags X ≡ []
+      → as_word p j X ≡ words_in_part (word j) X
+  word_of_words j X e = ap (λ l. words_in_part (word j) X ++ l) (none_fetched j X e) ∙ append_nil
+      (words_in_part (word j) X)
 
   -- word j of a vector is what its word j stands for
-  pub word_of_vector : (j : ℕ) (ws : List W.Word) → as_word p j (numbered p H word 0 ws) ≡ elements_if (slice_get ws j)
-  word_of_vector j ws = word_of_words j (numbered p H word 0 ws) (no_tags ws 0) ∙ picked_numbered ws 0 j j (omega arith)
+  pub word_of_vector : (j : ℕ) (ws : List W.Word) → as_word p j (numbered p H word 0 ws) ≡
+      elements_if (slice_get ws j)
+  word_of_vector j ws = word_of_words j (numbered p H word 0 ws) (no_tags ws 0) ∙ picked_numbered ws
+      0 j j (omega arith)

@@ -28,8 +28,13 @@ pub not_true : IsTrue false → ⊥
 not_true t = cc
 
 -- fewer words
-pub fewer_held : (H : Place → List Item) (q : Place) (part : Part) (us vs : List AbstractWord) → ((u : AbstractWord) → In u us → In u vs) → AllFactsKnown H (facts_at q (in_part part vs)) → AllFactsKnown H (facts_at q (in_part part us))
-fewer_held H q part us vs sub known = words_held H q part us (λ u h. in_picked part (H q) (known (fact q (item part u)) (in_map (fact q) (in_part part vs) (in_map (item part) vs (sub u h)))))
+pub fewer_held : (H : Place → List Item) (q : Place) (part : Part) (us vs : List AbstractWord)
+    → ((u : AbstractWord) → In u us → In u vs) → AllFactsKnown H (facts_at q (in_part part vs))
+    → AllFactsKnown H (facts_at q (in_part part us))
+fewer_held H q part us vs sub known = words_held H q part us
+    (λ u h. in_picked part (H q)
+    (known (fact q (item part u))
+    (in_map (fact q) (in_part part vs) (in_map (item part) vs (sub u h)))))
 
 module _ (p : Tables) (H : Place → List Item) (ws : List W.Word) (t : ℕ) where
   abbrev words : List Item
@@ -45,7 +50,8 @@ module _ (p : Tables) (H : Place → List Item) (ws : List W.Word) (t : ℕ) whe
   abbrev Later : ℕ → AbstractWord → Type 0
   Later n u = In (item (word 0) (tag t)) words × In (item (word (suc n)) u) words
 
-  no_part : {P : Type 0} (q : Part) → ((n : ℕ) → q ≡ word n → P) → (u : AbstractWord) → In (item q u) words → P
+  no_part : {P : Type 0} (q : Part) → ((n : ℕ) → q ≡ word n → P) → (u : AbstractWord)
+      → In (item q u) words → P
   no_part q never u h = let r = numbered_mean p H A (known_at H) word 0 ws q u h in never r.1 r.3
 
   among_none : {P : Type 0} (i : ℕ) (u : AbstractWord) → WordAmong p A [] i u → P
@@ -54,9 +60,11 @@ module _ (p : Tables) (H : Place → List Item) (ws : List W.Word) (t : ℕ) whe
   in_words : (q : Part) (u : AbstractWord) → ValueGives p A (VectorVal ws) q u → In (item q u) words
   in_words = in_value p H A (at_known H) (VectorVal ws)
 
-  a_field : (q : Part) (n : ℕ) (u : AbstractWord) → q ≡ field t n → AsNodes p (width (value (VectorVal ws))) (ValueGives p A (VectorVal ws)) q u → Later n u
+  a_field : (q : Part) (n : ℕ) (u : AbstractWord) → q ≡ field t n
+      → AsNodes p (width (value (VectorVal ws))) (ValueGives p A (VectorVal ws)) q u → Later n u
   a_field q n u e (node_tag x) = cc
-  a_field q n u e (node_field {t = c} {i = i} x) = no_part (field c i) (λ m d. cc) u (in_words (field c i) u x)
+  a_field q n u e (node_field {t = c} {i = i} x) = no_part (field c i) (λ m d. cc) u
+      (in_words (field c i) u x)
   a_field q n u e (words_tag x f en) = cc
   a_field q n u e (words_field {t = c} {i = i} x f en lt y) = (
     subst (λ c. In (item (word 0) (tag c)) words) (same_tag c i e) (in_words (word 0) (tag c) x),
@@ -70,10 +78,12 @@ module _ (p : Tables) (H : Place → List Item) (ws : List W.Word) (t : ℕ) whe
       same_field c i e = cc
 
   abbrev Given : Part → AbstractWord → Type 0
-  Given = ArgumentsGive p A (AsNodes p (width (value (VectorVal ws))) (ValueGives p A (VectorVal ws))) t []
+  Given = ArgumentsGive p A
+      (AsNodes p (width (value (VectorVal ws))) (ValueGives p A (VectorVal ws))) t []
 
   an_argument : (q : Part) (n : ℕ) (u : AbstractWord) → q ≡ word n → Given q u → Later n u
-  an_argument q n u e (field_argument {i = i} st x) = a_field (field t i) n u (ap (field t) (same_word i e)) x
+  an_argument q n u e (field_argument {i = i} st x)
+      = a_field (field t i) n u (ap (field t) (same_word i e)) x
     where
       same_word : (i : ℕ) → word i ≡ word n → i ≡ n
       same_word i e = cc
@@ -90,18 +100,29 @@ module _ (p : Tables) (H : Place → List Item) (ws : List W.Word) (t : ℕ) whe
   a_word j u (zero_word {t = c} x f le) = no_tag tags (tag c) refl x
 
   field_words : (j : ℕ) (u : AbstractWord) → In u (as_word p j given) → Later j u
-  field_words j u h = a_word j u (as_word_means p given Given (items_mean p H A (known_at H) (arguments (value (VectorVal ws)) t [])) j u h)
+  field_words j u h = a_word j u
+      (as_word_means p given Given
+      (items_mean p H A (known_at H) (arguments (value (VectorVal ws)) t [])) j u h)
 
   -- where the first word is never the tag, nothing is asked
-  pub never_asked : (In (tag t) (elements_if p H (slice_get ws 0)) → ⊥) → (j : ℕ) (xs : List VarId) → AllFactsKnown H (vector_facts p given j xs)
+  pub never_asked : (In (tag t) (elements_if p H (slice_get ws 0)) → ⊥) → (j : ℕ) (xs : List VarId)
+      → AllFactsKnown H (vector_facts p given j xs)
   never_asked never j [] = λ f h. none_in h
-  never_asked never j (x ∷ xs) = both_held H (facts_at (var x.0) (in_part (word 0) (as_word p j given))) (vector_facts p given (suc j) xs)
-      (words_held H (var x.0) (word 0) (as_word p j given) (λ u h. absurd (never (subst (In (tag t)) (picked_numbered p H ws 0 0 0 refl) (in_picked (word 0) words (field_words j u h).0)))))
+  never_asked never j (x ∷ xs) = both_held H
+      (facts_at (var x.0) (in_part (word 0) (as_word p j given))) (vector_facts p given (suc j) xs)
+      (words_held H (var x.0) (word 0) (as_word p j given)
+      (λ u h. absurd
+      (never (subst (In (tag t)) (picked_numbered p H ws 0 0 0 refl)
+      (in_picked (word 0) words (field_words j u h).0)))))
       (never_asked never (suc j) xs)
 
   -- where word j + 1 is known at a variable, field j is
-  pub field_held : (j : ℕ) (q : Place) → AllFactsKnown H (facts_at q (in_part (word 0) (as_word p (j + 1) words))) → AllFactsKnown H (facts_at q (in_part (word 0) (as_word p j given)))
+  pub field_held : (j : ℕ) (q : Place) → AllFactsKnown H
+      (facts_at q (in_part (word 0) (as_word p (j + 1) words)))
+      → AllFactsKnown H (facts_at q (in_part (word 0) (as_word p j given)))
   field_held j q known =
       let next : j + 1 ≡ suc j = omega arith in
-      fewer_held H q (word 0) (as_word p j given) (as_word p (suc j) words) (λ u h. in_left (words_in_part (word (suc j)) words) (fetched p (suc j) words) (in_picked (word (suc j)) words (field_words j u h).1))
+      fewer_held H q (word 0) (as_word p j given) (as_word p (suc j) words)
+      (λ u h. in_left (words_in_part (word (suc j)) words) (fetched p (suc j) words)
+      (in_picked (word (suc j)) words (field_words j u h).1))
       (subst (λ n. AllFactsKnown H (facts_at q (in_part (word 0) (as_word p n words)))) next known)

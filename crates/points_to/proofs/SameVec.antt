@@ -6,14 +6,19 @@ use Rattle.std.proofs.Math.Nat.{ℕ_set}
 use Rattle.std.proofs.lemmas.List.{set-get_or}
 use mathlib.Core.HLevel.{is_prop→PathP}
 
-pub same_item : {X : Type 0} (v : Vec X) (n : ℕ) (x : X) → x ≡ get_or v.items n x → with_item v n x ≡ v
+pub same_item : {X : Type 0} (v : Vec X) (n : ℕ) (x : X) → x ≡ get_or v.items n x
+    → with_item v n x ≡ v
 same_item v n x e = λ i. record {
   ptr = v.ptr;
   len = v.len;
   cap = v.cap;
   alloc = v.alloc;
   items = same i;
-  ok = (is_prop→PathP (λ j. v.len ≡ length (same j)) (λ j. ℕ_set v.len (length (same j))) (with_item v n x).ok.0 v.ok.0 i, v.ok.1);
+  ok = (
+    is_prop→PathP (λ j. v.len ≡ length (same j)) (λ j. ℕ_set v.len (length (same j)))
+        (with_item v n x).ok.0 v.ok.0 i,
+    v.ok.1,
+  );
   small = v.small;
 }
   where

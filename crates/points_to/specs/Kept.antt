@@ -15,12 +15,13 @@ use Rattle.flow_system.specs.Demands.{Content}
 use Rattle.points_to.specs.declared.bits.Bits.{Bits}
 use Rattle.points_to.specs.declared.facts.Item.{Item}
 use Rattle.points_to.specs.declared.kept.Kept.{Kept}
-use Rattle.points_to.specs.declared.vectors.Met.{Met}
+use Rattle.points_to.specs.declared.noted.NotedSets.{NotedSets}
 use Rattle.points_to.specs.declared.vectors.CachedWords.{CachedWords}
 use Rattle.points_to.specs.declared.vectors.WordCache.{WordCache}
 use Rattle.points_to.specs.declared.vectors.RoundCaches.{RoundCaches}
 use Rattle.points_to.specs.Held.{In, elements}
 use Rattle.points_to.specs.Known.{held, solution_of}
+use Rattle.points_to.specs.Noted.{noted_at}
 use Rattle.points_to.specs.Rounds.{InEvery}
 use Rattle.points_to.specs.Rows.{numbers_in, words_in, SameMembers}
 use Rattle.points_to.specs.Stored.{stored_at, cell_stored, values_in, value_at, whole}
@@ -76,14 +77,9 @@ is_by_words (applies v a k) = false
 abbrev pub AllByWords : List Inclusion → Type 0
 AllByWords cs = (i : ℕ) (c : Inclusion) → slice_get cs i ≡ Some c → is_by_words c ≡ true
 
--- the set of a variable that was noted
-abbrev pub noted : Option (Option Bits) → Option Bits
-noted None = None
-noted (Some b) = b
-
-abbrev pub cached_values_of : Met → Word → Option Bits
+abbrev pub cached_values_of : NotedSets → Word → Option Bits
 cached_values_of m (Lit k) = None
-cached_values_of m (Var x) = noted (slice_get m.by_var.items x.0)
+cached_values_of m (Var x) = noted_at m x.0
 cached_values_of m (Global i) = None
 cached_values_of m (TagWord t) = None
 
@@ -114,11 +110,11 @@ module _ (p : Tables) (H : Place → List Item) where
 
 module _ (p : Tables) where
   -- the noted values are in the cells of their variables, or are all that are
-  abbrev pub MetSound : Kept → Met → Type 0
+  abbrev pub MetSound : Kept → NotedSets → Type 0
   MetSound k m = (w : Word) (b : Bits) (n : ℕ) → cached_values_of m w ≡ Some b
       → In n (numbers_in b) → In n (met_by p k w)
 
-  abbrev pub MetExact : Kept → Met → Type 0
+  abbrev pub MetExact : Kept → NotedSets → Type 0
   MetExact k m = (w : Word) (b : Bits) → cached_values_of m w ≡ Some b
       → SameMembers (numbers_in b) (met_by p k w)
 

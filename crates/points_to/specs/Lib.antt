@@ -19,6 +19,7 @@ pub mod Found
 pub mod Stored
 pub mod ValueWords
 pub mod PartWords
+pub mod Noted
 pub mod Kept
 pub mod Waiting
 pub mod Worklist

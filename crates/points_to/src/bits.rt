@@ -8,6 +8,7 @@ ghost use Rattle.flow_system.specs.declared.fact.Element.{Element as Element'};
 ghost use Rattle.points_to.specs.Held.{In};
 ghost use Rattle.points_to.specs.Bits.{Ascending, BitsAt, Finds, IsPlace, StandsAt, Takes, number_of, word_of, block_numbers, block_words};
 
+use crate::truth::either;
 use flow_system::fact::Element;
 use std::alloc::{AllocError, Global};
 use std::marker::Model;
@@ -182,6 +183,33 @@ impl Bits {
             place = self.add_near(*block, place)?;
         }
         Ok(place)
+    }
+
+    /// Puts the numbers of blocks there, and says whether some of them may be new.
+    pub fn gain_all(&mut self, blocks: &[(u32, u64)]) -> Result<bool, AllocError>
+        ensures { OnOk result (GainsMembers (numbers_in self.old) (numbers_in self.new)
+            (flat_map block_numbers blocks.now)) }
+    {
+        let mut place = 0;
+        let mut added = false;
+        for block in blocks {
+            let gained = self.gain_near(*block, place)?;
+            place = gained.0;
+            added = either(added, gained.1);
+        }
+        Ok(added)
+    }
+
+    // Puts the numbers of a block there, which is looked for near a place first, and says at which
+    // place it stands and whether some of them may be new.
+    fn gain_near(&mut self, block: (u32, u64), near: usize) -> Result<(usize, bool), AllocError>
+        ensures { OnOk result (GainsMembers (numbers_in self.old) (numbers_in self.new)
+            (block_numbers block)) }
+    {
+        let found = find_near(self.blocks.as_slice(), block.0, near);
+        let there = has_at(self.blocks.as_slice(), block, found);
+        let place = Self::put_at(&mut self.blocks, block, found)?;
+        Ok((place, !there))
     }
 
     // Puts the numbers of a block there, which is looked for near a place first, and says at which

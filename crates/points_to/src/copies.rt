@@ -26,6 +26,7 @@ use crate::origin::value_in;
 use crate::runs::{FactRun, ItemRun, WordRuns};
 use crate::stored_tags::stored_word;
 use crate::tags::fields_of;
+use crate::truth::either;
 use flow_system::fact::{Element, Part, Place};
 use flow_system::inclusion::{FlowSink, FlowSystem, Inclusion, Source};
 use grin_syntax::program::{TagId, Target, Val, VarId, Word};
@@ -145,15 +146,20 @@ impl Copies {
         }
     }
 
-    // Words that are fetched.
-    fn put(&mut self, g: u32, blocks: &[(u32, u64)]) -> Result<(), AllocError>
+    // Words that are fetched. Notes the fetch where it may have more.
+    fn put(
+        &mut self,
+        g: u32,
+        blocks: &[(u32, u64)],
+        changed: &mut Vec<u32>,
+    ) -> Result<(), AllocError>
         ensures { OnOk result ((p : Tables) → (cs : List Inclusion')
             → ((f : Fetch') → fetch_at self.old g ≡ Some f
             → AreFetched p cs f (flat_map block_words blocks.now))
             → IsCopied p cs self.old → IsCopied p cs self.new) }
     {
         if (g as usize) < self.fetches.len() {
-            return put_words(&mut self.fetches[g as usize], blocks);
+            return put_words(&mut self.fetches[g as usize], g, blocks, changed);
         }
         Ok(())
     }
@@ -169,7 +175,7 @@ impl Copies {
     }
 
     /// Links a variable to a fetch, where its words are all fetched, by a value at a site with a
-    /// tag among its own. Says whether there is such a variable.
+    /// tag among its own. Says whether there is such a variable, and which fetches may have more.
     pub fn link(
         &mut self,
         alloc: Global,
@@ -179,25 +185,27 @@ impl Copies {
         site: u32,
         n: u32,
         t: u32,
+        changed: &mut Vec<u32>,
     ) -> Result<bool, AllocError>
         ensures { OnOk result (IsSound (tables_of system.now) (inclusions_of system.now) kept.now
             → IsCopied (tables_of system.now) (inclusions_of system.now) self.old
             → IsCopied (tables_of system.now) (inclusions_of system.now) self.new) }
     {
+        changed.clear();
         match self.fetch(g) {
             None => Ok(false),
             Some(fetch) => match linked(system, kept, fetch, site, n, t) {
                 None => Ok(false),
                 Some(x) => {
                     self.put_link(alloc, x.0, g)?;
-                    self.put(g, kept.facts.word_blocks(x.0))?;
+                    self.put(g, kept.facts.word_blocks(x.0), changed)?;
                     Ok(true)
                 }
             },
         }
     }
 
-    /// The word of a value at a site is fetched.
+    /// The word of a value at a site is fetched. Says which fetches may have more.
     pub fn give(
         &mut self,
         alloc: Global,
@@ -206,11 +214,13 @@ impl Copies {
         g: u32,
         site: u32,
         n: u32,
+        changed: &mut Vec<u32>,
     ) -> Result<(), AllocError>
         ensures { OnOk result (IsSound (tables_of system.now) (inclusions_of system.now) kept.now
             → IsCopied (tables_of system.now) (inclusions_of system.now) self.old
             → IsCopied (tables_of system.now) (inclusions_of system.now) self.new) }
     {
+        changed.clear();
         match self.fetch(g) {
             None => Ok(()),
             Some(fetch) => {
@@ -219,26 +229,38 @@ impl Copies {
                 }
                 let mut words = WordRuns::new(alloc);
                 stored_word(alloc, system, &kept.facts, n as u64, fetch.word, &mut words)?;
-                self.put(g, words.blocks())
+                self.put(g, words.blocks(), changed)
             }
         }
     }
 
-    /// What is new at a variable is fetched where it is linked.
-    pub fn pass(&mut self, x: u32, fresh: &[(u32, u64)]) -> Result<(), AllocError>
+    /// What is new at a variable is fetched where it is linked. Says which fetches may have more.
+    pub fn pass(
+        &mut self,
+        x: u32,
+        fresh: &[(u32, u64)],
+        changed: &mut Vec<u32>,
+    ) -> Result<(), AllocError>
         ensures { OnOk result ((p : Tables) → (cs : List Inclusion')
             → AreAt p cs x (flat_map block_words fresh.now)
             → IsCopied p cs self.old → IsCopied p cs self.new) }
     {
+        changed.clear();
         let count = self.linked_to(x).len();
         for k in 0..count {
-            self.pass_to(x, k, fresh)?;
+            self.pass_to(x, k, fresh, changed)?;
         }
         Ok(())
     }
 
     // The same for the fetch at place k of those that a variable is linked to.
-    fn pass_to(&mut self, x: u32, k: usize, fresh: &[(u32, u64)]) -> Result<(), AllocError>
+    fn pass_to(
+        &mut self,
+        x: u32,
+        k: usize,
+        fresh: &[(u32, u64)],
+        changed: &mut Vec<u32>,
+    ) -> Result<(), AllocError>
         ensures { OnOk result ((p : Tables) → (cs : List Inclusion')
             → AreAt p cs x (flat_map block_words fresh.now)
             → IsCopied p cs self.old → IsCopied p cs self.new) }
@@ -246,37 +268,53 @@ impl Copies {
         match self.linked_to(x).get(k) {
             Some(g) => {
                 let g = *g;
-                self.put(g, fresh)
+                self.put(g, fresh, changed)
             }
             None => Ok(()),
         }
     }
 
-    /// What is new at a fetch goes to its variables.
+    /// What is new at a fetch goes to its variables. Says which of them may have more.
     pub fn deliver(
         &self,
         alloc: Global,
         facts: &mut Facts,
         g: u32,
         fresh: &[(u32, u64)],
+        changed: &mut Vec<u32>,
     ) -> Result<(), AllocError>
         ensures { OnOk result (GrowsByFacts (held facts.old) (held facts.new)
             (facts_to (targets_at self.now g) (flat_map block_words fresh.now))) }
     {
+        changed.clear();
         match self.fetches.get(g as usize) {
-            Some(fetched) => add_to_all(alloc, facts, fetched.targets.as_slice(), fresh),
+            Some(fetched) => add_to_all(alloc, facts, fetched.targets.as_slice(), fresh, changed),
             None => Ok(()),
         }
     }
 }
 
-fn put_words(fetched: &mut Fetched, blocks: &[(u32, u64)]) -> Result<(), AllocError>
+// Notes a number, where something changed.
+fn note_changed(more: bool, n: u32, changed: &mut Vec<u32>) -> Result<(), AllocError> {
+    if more {
+        changed.push(n)?;
+    }
+    Ok(())
+}
+
+// Words that are fetched, where the fetch has the number g.
+fn put_words(
+    fetched: &mut Fetched,
+    g: u32,
+    blocks: &[(u32, u64)],
+    changed: &mut Vec<u32>,
+) -> Result<(), AllocError>
     ensures fetch { OnOk result (fetched.new.fetch ≡ fetched.old.fetch) }
     ensures sound { OnOk result ((p : Tables) → (cs : List Inclusion')
         → AreFetched p cs fetched.old.fetch (flat_map block_words blocks.now)
         → IsFetched p cs fetched.old → IsFetched p cs fetched.new) }
 {
-    fetched.words.add_all(blocks, 0)?;
+    note_changed(fetched.words.gain_all(blocks)?, g, changed)?;
     Ok(())
 }
 
@@ -317,32 +355,40 @@ fn add_to_all(
     facts: &mut Facts,
     targets: &[u32],
     words: &[(u32, u64)],
+    changed: &mut Vec<u32>,
 ) -> Result<(), AllocError>
     ensures { OnOk result (GrowsByFacts (held facts.old) (held facts.new)
         (facts_to targets.now (flat_map block_words words.now))) }
 {
     for x in targets {
-        add_words(alloc, facts, *x, words)?;
+        note_changed(add_words(alloc, facts, *x, words)?, *x, changed)?;
     }
     Ok(())
 }
 
+// Puts words at a variable, and says whether some of them may be new.
 fn add_words(
     alloc: Global,
     facts: &mut Facts,
     x: u32,
     words: &[(u32, u64)],
-) -> Result<(), AllocError>
+) -> Result<bool, AllocError>
     ensures { OnOk result (GrowsByFacts (held facts.old) (held facts.new) (facts_at (Place.Var x)
         (in_part (Part.Word 0) (flat_map block_words words.now)))) }
 {
+    let mut added = false;
     for block in words {
-        add_block(alloc, facts, x, *block)?;
+        added = either(added, add_block(alloc, facts, x, *block)?);
     }
-    Ok(())
+    Ok(added)
 }
 
-fn add_block(alloc: Global, facts: &mut Facts, x: u32, block: (u32, u64)) -> Result<(), AllocError>
+fn add_block(
+    alloc: Global,
+    facts: &mut Facts,
+    x: u32,
+    block: (u32, u64),
+) -> Result<bool, AllocError>
     ensures { OnOk result (GrowsByFacts (held facts.old) (held facts.new) (facts_at (Place.Var x)
         (in_part (Part.Word 0) (block_words block)))) }
 {
@@ -351,8 +397,7 @@ fn add_block(alloc: Global, facts: &mut Facts, x: u32, block: (u32, u64)) -> Res
         block,
     };
     let place = Place::Var(x);
-    facts.add(alloc, FactRun { place, items })?;
-    Ok(())
+    facts.add(alloc, FactRun { place, items })
 }
 
 // The variable whose words are all fetched, by a value at a site with a tag among its own.

@@ -29,11 +29,11 @@ fn note_fetch(
 {
     match one_fetch(inclusion) {
         None => Ok(()),
-        Some((fetch, _)) => match hints.noted(system, copies, fetch) {
+        Some((fetch, _)) => match hints.sources.noted(system, copies, fetch) {
             Some(g) => copies.add_target(g, inclusion),
             None => {
                 let g = copies.add(alloc, fetch)?;
-                hints.note_fetch(alloc, system, fetch, g)?;
+                hints.sources.note(alloc, system, fetch, g)?;
                 copies.add_target(g, inclusion)
             }
         },

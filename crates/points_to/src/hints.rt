@@ -2,20 +2,20 @@
 // it: a step that does not follow does nothing, and what is forgotten is found in rounds.
 
 use crate::bits::{Bits, Block, are_within, word_of};
-use crate::copies::{Copies, Fetch, same_fetch};
 use crate::facts::Facts;
 use crate::origin::value_in;
 use crate::pending::Pending;
 use crate::queue::Queue;
 use crate::reads::reads;
 use crate::row_table::{SetTable, Table};
-use crate::span::TagSpan;
+use crate::sources::Sources;
+use crate::span::{Spans, literal_tag};
 use crate::state::{State, Step, touches_no_cell};
 use crate::stored::number_block;
-use crate::tags::fields_of;
+use crate::writers::Writers;
 use flow_system::fact::{Element, Place};
 use flow_system::inclusion::{FlowSink, FlowSystem, Inclusion, Source};
-use grin_syntax::program::{TagId, Target, Val, Word};
+use grin_syntax::program::{Target, Val, Word};
 use seq::Seq;
 use std::alloc::{AllocError, Global};
 
@@ -28,29 +28,24 @@ pub struct Hints {
     vars: Queue,
     fetches: Queue,
     sites: Queue,
-    // By variable: the fetches from its cells, those of tags alone, the updates of its cells, the
-    // vectors that begin with it.
-    from: Table<u32>,
-    tags_from: Table<u32>,
-    updates: Table<u32>,
+    pub sources: Sources,
+    writers: Writers,
+    // By variable the vectors that begin with it.
     heads: Table<u32>,
     // By variable and by procedure, whose results they are: the inclusions that read them and have
     // nothing to do with cells.
     woken: Table<u32>,
     woken_by_results: Table<u32>,
-    // By site: the variables that are fetched from there, and the fetches from a global there.
+    // By site the variables that are fetched from there.
     watchers: Table<u32>,
-    globals: Table<u32>,
-    // By value: the fetches from globals that it reaches and the variables that met it, and the
-    // sites where.
-    reached: Table<(u32, u32)>,
-    met_by: Table<(u32, u32)>,
-    spans: Vec<TagSpan>,
-    // By variable the values that it met; by fetch the values that it is linked to; by site the
-    // values that the variables which are fetched from there are still to meet.
+    spans: Spans,
+    // By variable the writers that it met; by fetch the values that it is linked to; by site the
+    // writers that the variables which are fetched from there are still to meet, and those that they
+    // met.
     met: SetTable,
     linked: SetTable,
     unmet: SetTable,
+    spread: SetTable,
     // What an inclusion reads that is noted: one list for all of them.
     places: Seq<Place>,
 }
@@ -62,44 +57,25 @@ impl Hints {
         if count > u32::MAX as usize {
             return Err(AllocError);
         }
-        let mut spans = Vec::new(alloc);
-        for _ in 0..count {
-            spans.push(TagSpan::none())?;
-        }
         Ok(Hints {
             steps: Seq::new(alloc),
             inclusions: Pending::all(alloc, count as u32)?,
             vars: Queue::new(alloc),
             fetches: Queue::new(alloc),
             sites: Queue::new(alloc),
-            from: Table::new(alloc),
-            tags_from: Table::new(alloc),
-            updates: Table::new(alloc),
+            sources: Sources::new(alloc),
+            writers: Writers::new(alloc),
             heads: Table::new(alloc),
             woken: Table::new(alloc),
             woken_by_results: Table::new(alloc),
             watchers: Table::new(alloc),
-            globals: Table::new(alloc),
-            reached: Table::new(alloc),
-            met_by: Table::new(alloc),
-            spans,
+            spans: Spans::new(alloc, count as u32)?,
             met: SetTable::new(alloc),
             linked: SetTable::new(alloc),
             unmet: SetTable::new(alloc),
+            spread: SetTable::new(alloc),
             places: Seq::new(alloc),
         })
-    }
-
-    // Notes a tag of a vector. Says whether there are more or fewer fields than before.
-    fn note_tag(&mut self, system: &FlowSystem, n: u32, t: u32, width: usize) -> bool {
-        if let Some(m) = fields_of(system, t) {
-            if (m as usize) < width && (n as usize) < self.spans.len() {
-                let span = self.spans[n as usize];
-                self.spans[n as usize] = span.with(t, m);
-                return span.is_widened(m);
-            }
-        }
-        false
     }
 
     fn note_head(
@@ -113,7 +89,7 @@ impl Hints {
             match words.get(0) {
                 Some(Word::Var(x)) => self.heads.put(alloc, x.0, n)?,
                 Some(Word::TagWord(t)) => {
-                    self.note_tag(system, n, t.0, words.len());
+                    self.spans.note(system, n, t.0, words.len());
                 }
                 _ => {}
             }
@@ -152,15 +128,12 @@ impl Hints {
         sink: &FlowSink,
     ) -> Result<(), AllocError> {
         match sink {
-            FlowSink::Site(_) => self.note_head(alloc, system, n, v),
-            FlowSink::CellsAt(w) => {
-                if let Word::Var(x) = w {
-                    self.updates.put(alloc, x.0, n)?;
-                }
-                self.note_head(alloc, system, n, v)
-            }
-            _ => Ok(()),
+            FlowSink::Site(_) => self.writers.note_alone(alloc, n)?,
+            FlowSink::CellsAt(Word::Var(x)) => self.writers.note(alloc, x.0, n)?,
+            FlowSink::CellsAt(_) => self.writers.note_alone(alloc, n)?,
+            _ => return Ok(()),
         }
+        self.note_head(alloc, system, n, v)
     }
 
     /// Notes an inclusion.
@@ -179,67 +152,6 @@ impl Hints {
             return self.note_stored(alloc, system, n, v, sink);
         }
         Ok(())
-    }
-
-    /// The fetch that was noted, of the same word.
-    pub fn noted(&self, system: &FlowSystem, copies: &Copies, fetch: Fetch) -> Option<u32> {
-        let row = match fetch.cells {
-            Word::Var(x) => self.from.at(x.0),
-            Word::Global(k) => match system.globals.get(k as usize) {
-                Some(global) => self.globals.at(global.site.0),
-                None => &[],
-            },
-            _ => &[],
-        };
-        for g in row {
-            if let Some(other) = copies.fetch(*g) {
-                if same_fetch(other, fetch) {
-                    return Some(*g);
-                }
-            }
-        }
-        None
-    }
-
-    /// Notes a fetch.
-    pub fn note_fetch(
-        &mut self,
-        alloc: Global,
-        system: &FlowSystem,
-        fetch: Fetch,
-        g: u32,
-    ) -> Result<(), AllocError> {
-        match fetch.cells {
-            Word::Var(x) => {
-                if fetch.word == 0 {
-                    self.tags_from.put(alloc, x.0, g)?;
-                }
-                self.from.put(alloc, x.0, g)
-            }
-            Word::Global(k) => match system.globals.get(k as usize) {
-                Some(global) => self.globals.put(alloc, global.site.0, g),
-                None => Ok(()),
-            },
-            _ => Ok(()),
-        }
-    }
-
-    // The tag of a value that has a field for word i, and whether there is one that has not.
-    fn tag_for(&self, system: &FlowSystem, n: u32, i: u32) -> (Option<u32>, bool) {
-        if let Some(Inclusion::Flows(Source::Value(Val::Node(t, _)), _)) = system
-            .inclusions
-            .get(n as usize)
-        {
-            return match fields_of(system, t.0) {
-                Some(m) => (if i <= m { Some(t.0) } else { None }, i > m),
-                None => (None, false),
-            };
-        }
-        if n as usize >= self.spans.len() {
-            return (None, false);
-        }
-        let span = self.spans[n as usize];
-        (span.tag_with(i), span.lacks(i))
     }
 
     // Follows a fetch of the value with a number, which reaches it at a site.
@@ -261,7 +173,7 @@ impl Hints {
         if i == 0 {
             return self.visit_tag(alloc, system, state, g, site, n);
         }
-        let (tag, fewer) = self.tag_for(system, n, i);
+        let (tag, fewer) = self.spans.tag_for(system, n, i);
         if fewer && !state.copies.has_number(g) {
             self.steps.push(Step::Give(g, site, n))?;
         }
@@ -294,20 +206,7 @@ impl Hints {
         Ok(())
     }
 
-    fn reach(
-        &mut self,
-        alloc: Global,
-        system: &FlowSystem,
-        state: &State,
-        g: u32,
-        site: u32,
-        n: u32,
-    ) -> Result<(), AllocError> {
-        self.reached.put(alloc, n, (g, site))?;
-        self.visit(alloc, system, state, g, site, n)
-    }
-
-    // Some values reach a cell of a variable.
+    // Some writers reach a cell of a variable.
     fn meet(
         &mut self,
         alloc: Global,
@@ -319,13 +218,13 @@ impl Hints {
     ) -> Result<(), AllocError> {
         let new = self.met.put_block(alloc, x, block)?;
         let mut left = Block::new(block.0, new);
-        'values: while let Some(n) = left.next() {
-            self.meet_new(alloc, system, state, x, site, narrow(n)?)?;
+        'writers: while let Some(k) = left.next() {
+            self.meet_new(alloc, system, state, x, site, narrow(k)?)?;
         }
         Ok(())
     }
 
-    // A value that a variable did not meet reaches a cell of it.
+    // A writer that a variable did not meet reaches a cell of it.
     fn meet_new(
         &mut self,
         alloc: Global,
@@ -333,19 +232,19 @@ impl Hints {
         state: &State,
         x: u32,
         site: u32,
-        n: u32,
+        k: u32,
     ) -> Result<(), AllocError> {
-        self.met_by.put(alloc, n, (x, site))?;
-        for k in 0..self.from.at(x).len() {
-            let Some(g) = self.from.nth(x, k) else {
+        self.writers.met_by.put(alloc, k, (x, site))?;
+        for j in 0..self.writers.values(k).len() {
+            let Some(n) = self.writers.nth_value(k, j) else {
                 return Ok(());
             };
-            self.visit(alloc, system, state, g, site, n)?;
+            self.visit_from(alloc, system, state, x, site, n)?;
         }
         Ok(())
     }
 
-    // Some values reach the cell of a fetch from a global.
+    // Some writers reach the cell of a fetch from a global.
     fn reach_all(
         &mut self,
         alloc: Global,
@@ -356,22 +255,42 @@ impl Hints {
         block: (u32, u64),
     ) -> Result<(), AllocError> {
         let mut left = Block::new(block.0, block.1);
-        'values: while let Some(n) = left.next() {
-            self.reach(alloc, system, state, g, site, narrow(n)?)?;
+        'writers: while let Some(k) = left.next() {
+            self.reach(alloc, system, state, g, site, narrow(k)?)?;
         }
         Ok(())
     }
 
-    // A value was stored at a site.
-    fn stored(&mut self, alloc: Global, n: u32, site: u32) -> Result<(), AllocError> {
-        if self.watchers.at(site).is_empty() && self.globals.at(site).is_empty() {
-            return Ok(());
+    fn reach(
+        &mut self,
+        alloc: Global,
+        system: &FlowSystem,
+        state: &State,
+        g: u32,
+        site: u32,
+        k: u32,
+    ) -> Result<(), AllocError> {
+        self.writers.reached.put(alloc, k, (g, site))?;
+        for j in 0..self.writers.values(k).len() {
+            let Some(n) = self.writers.nth_value(k, j) else {
+                return Ok(());
+            };
+            self.visit(alloc, system, state, g, site, n)?;
         }
-        self.unmet.put(alloc, site, n)?;
-        self.sites.put(site)
+        Ok(())
     }
 
-    // The values that were stored at a site are met.
+    // A value was stored at a site. The others of its writer are stored there too before it is met,
+    // so the first one stands for all.
+    fn stored(&mut self, alloc: Global, n: u32, site: u32) -> Result<(), AllocError> {
+        if let Some(k) = self.writers.begun_by(n) {
+            self.unmet.put(alloc, site, k)?;
+            self.sites.put(site)?;
+        }
+        Ok(())
+    }
+
+    // The writers whose values were stored at a site are met.
     fn spread(
         &mut self,
         alloc: Global,
@@ -379,8 +298,9 @@ impl Hints {
         state: &State,
         site: u32,
     ) -> Result<(), AllocError> {
-        let values = self.unmet.take(alloc, site);
-        for block in values.blocks.as_slice() {
+        let writers = self.unmet.take(alloc, site);
+        for block in writers.blocks.as_slice() {
+            self.spread.put_block(alloc, site, *block)?;
             self.spread_block(alloc, system, state, site, *block)?;
         }
         Ok(())
@@ -400,8 +320,8 @@ impl Hints {
             };
             self.meet(alloc, system, state, x, site, block)?;
         }
-        for k in 0..self.globals.at(site).len() {
-            let Some(g) = self.globals.nth(site, k) else {
+        for k in 0..self.sources.globals.at(site).len() {
+            let Some(g) = self.sources.globals.nth(site, k) else {
                 return Ok(());
             };
             self.reach_all(alloc, system, state, g, site, block)?;
@@ -419,8 +339,11 @@ impl Hints {
         site: u32,
     ) -> Result<(), AllocError> {
         self.watchers.put(alloc, site, x)?;
-        for block in state.kept.stored.at(site) {
-            self.meet(alloc, system, state, x, site, *block)?;
+        for k in 0..self.spread.blocks(site).len() {
+            let Some(block) = self.spread.nth_block(site, k) else {
+                return Ok(());
+            };
+            self.meet(alloc, system, state, x, site, block)?;
         }
         Ok(())
     }
@@ -438,7 +361,7 @@ impl Hints {
             };
             if let Some(inclusion) = system.inclusions.get(n as usize) {
                 if let Some(Val::Vector(words)) = value_in(inclusion) {
-                    if self.note_tag(system, n, t, words.len()) {
+                    if self.spans.note(system, n, t, words.len()) {
                         changed.add_new(number_block(n))?;
                     }
                 }
@@ -455,13 +378,13 @@ impl Hints {
         x: u32,
         site: u32,
     ) -> Result<(), AllocError> {
-        for k in 0..self.updates.at(x).len() {
-            let Some(n) = self.updates.nth(x, k) else {
+        for k in 0..self.writers.updates(x).len() {
+            let Some(n) = self.writers.nth_update(x, k) else {
                 return Ok(());
             };
             self.steps.push(Step::Store(n, site))?;
         }
-        if !self.from.at(x).is_empty() {
+        if !self.sources.from.at(x).is_empty() {
             self.watch(alloc, system, state, x, site)?;
         }
         Ok(())
@@ -511,14 +434,17 @@ impl Hints {
         state: &State,
         n: u32,
     ) -> Result<(), AllocError> {
-        for k in 0..self.reached.at(n).len() {
-            let Some((g, site)) = self.reached.nth(n, k) else {
+        let Some(w) = self.writers.of_value(n) else {
+            return Ok(());
+        };
+        for k in 0..self.writers.reached.at(w).len() {
+            let Some((g, site)) = self.writers.reached.nth(w, k) else {
                 return Ok(());
             };
             self.visit(alloc, system, state, g, site, n)?;
         }
-        for k in 0..self.met_by.at(n).len() {
-            let Some((x, site)) = self.met_by.nth(n, k) else {
+        for k in 0..self.writers.met_by.at(w).len() {
+            let Some((x, site)) = self.writers.met_by.nth(w, k) else {
                 return Ok(());
             };
             self.visit_from(alloc, system, state, x, site, n)?;
@@ -535,8 +461,8 @@ impl Hints {
         site: u32,
         n: u32,
     ) -> Result<(), AllocError> {
-        for k in 0..self.from.at(x).len() {
-            let Some(g) = self.from.nth(x, k) else {
+        for k in 0..self.sources.from.at(x).len() {
+            let Some(g) = self.sources.from.nth(x, k) else {
                 return Ok(());
             };
             self.visit(alloc, system, state, g, site, n)?;
@@ -556,14 +482,17 @@ impl Hints {
     }
 
     fn give_tags(&mut self, state: &State, n: u32) -> Result<(), AllocError> {
-        for k in 0..self.reached.at(n).len() {
-            let Some((g, site)) = self.reached.nth(n, k) else {
+        let Some(w) = self.writers.of_value(n) else {
+            return Ok(());
+        };
+        for k in 0..self.writers.reached.at(w).len() {
+            let Some((g, site)) = self.writers.reached.nth(w, k) else {
                 return Ok(());
             };
             self.give_new(state, g, site, n)?;
         }
-        for k in 0..self.met_by.at(n).len() {
-            let Some((x, site)) = self.met_by.nth(n, k) else {
+        for k in 0..self.writers.met_by.at(w).len() {
+            let Some((x, site)) = self.writers.met_by.nth(w, k) else {
                 return Ok(());
             };
             self.give_from(state, x, site, n)?;
@@ -572,8 +501,8 @@ impl Hints {
     }
 
     fn give_from(&mut self, state: &State, x: u32, site: u32, n: u32) -> Result<(), AllocError> {
-        for k in 0..self.tags_from.at(x).len() {
-            let Some(g) = self.tags_from.nth(x, k) else {
+        for k in 0..self.sources.tags_from.at(x).len() {
+            let Some(g) = self.sources.tags_from.nth(x, k) else {
                 return Ok(());
             };
             self.give_new(state, g, site, n)?;
@@ -601,12 +530,10 @@ impl Hints {
         state: &State,
         x: u32,
     ) -> Result<(), AllocError> {
-        for g in state.copies.linked_to(x) {
-            self.want_fetch(state, *g)?;
-        }
+        self.want_fetches(state)?;
         self.wake(x)?;
-        if self.updates.at(x).is_empty()
-            && self.from.at(x).is_empty()
+        if self.writers.updates(x).is_empty()
+            && self.sources.from.at(x).is_empty()
             && self.heads.at(x).is_empty()
         {
             return Ok(());
@@ -640,8 +567,8 @@ impl Hints {
     fn is_read(&self, state: &State, x: u32) -> bool {
         !self.woken.at(x).is_empty()
             || !state.copies.linked_to(x).is_empty()
-            || !self.updates.at(x).is_empty()
-            || !self.from.at(x).is_empty()
+            || !self.writers.updates(x).is_empty()
+            || !self.sources.from.at(x).is_empty()
             || !self.heads.at(x).is_empty()
     }
 
@@ -653,19 +580,22 @@ impl Hints {
         self.vars.put(x)
     }
 
-    fn want_all(&mut self, state: &State, xs: &[u32]) -> Result<(), AllocError> {
-        for x in xs {
-            self.want(state, *x)?;
+    // Lets the variables wait that have more by the last step.
+    fn want_changed(&mut self, state: &State) -> Result<(), AllocError> {
+        for x in state.changed.as_slice() {
+            if self.is_read(state, *x) {
+                self.vars.put(*x)?;
+            }
         }
         Ok(())
     }
 
-    // Lets a fetch wait where it has something to deliver.
-    fn want_fetch(&mut self, state: &State, g: u32) -> Result<(), AllocError> {
-        if self.fetches.has(g) || !state.has_to_deliver(g) {
-            return Ok(());
+    // Lets the fetches wait that have more by the last step.
+    fn want_fetches(&mut self, state: &State) -> Result<(), AllocError> {
+        for g in state.changed.as_slice() {
+            self.fetches.put(*g)?;
         }
-        self.fetches.put(g)
+        Ok(())
     }
 
     // The targets of an inclusion may have more.
@@ -699,13 +629,10 @@ impl Hints {
                 None => Ok(()),
             },
             Step::Store(n, site) => self.stored(alloc, n, site),
-            Step::Give(g, _, _) => self.want_fetch(state, g),
-            Step::Link(g, _, _, _) => self.want_fetch(state, g),
+            Step::Give(_, _, _) => self.want_fetches(state),
+            Step::Link(_, _, _, _) => self.want_fetches(state),
             Step::Pass(x) => self.passed(alloc, system, state, x),
-            Step::Deliver(g) => match state.copies.fetches.get(g as usize) {
-                Some(fetched) => self.want_all(state, fetched.targets.as_slice()),
-                None => Ok(()),
-            },
+            Step::Deliver(_) => self.want_changed(state),
         }
     }
 
@@ -772,18 +699,6 @@ impl Hints {
             Some(n) => Ok(Some(Hints::step_of(system, n))),
             None => Ok(None),
         }
-    }
-}
-
-// The tag of the value with a number, where that is a literal.
-fn literal_tag(system: &FlowSystem, n: u32) -> Option<TagId> {
-    match value_in(system.inclusions.get(n as usize)?) {
-        Some(Val::Node(t, _)) => Some(*t),
-        Some(Val::Vector(words)) => match words.get(0) {
-            Some(Word::TagWord(t)) => Some(*t),
-            _ => None,
-        },
-        _ => None,
     }
 }
 

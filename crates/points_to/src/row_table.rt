@@ -92,6 +92,19 @@ impl SetTable {
         Ok(new)
     }
 
+    /// The numbers in a set, in blocks.
+    pub fn blocks(&self, at: u32) -> &[(u32, u64)] {
+        match self.rows.get(at as usize) {
+            Some(set) => set.blocks.as_slice(),
+            None => &[],
+        }
+    }
+
+    /// Block k of a set.
+    pub fn nth_block(&self, at: u32, k: usize) -> Option<(u32, u64)> {
+        self.blocks(at).get(k).copied()
+    }
+
     /// Takes all numbers out of a set.
     pub fn take(&mut self, alloc: Global, at: u32) -> Bits {
         if at as usize >= self.rows.len() {

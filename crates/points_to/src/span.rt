@@ -1,5 +1,11 @@
 // How many fields the tags of a vector have.
 
+use crate::origin::value_in;
+use crate::tags::fields_of;
+use flow_system::inclusion::{FlowSystem, Inclusion, Source};
+use grin_syntax::program::{TagId, Val, Word};
+use std::alloc::{AllocError, Global};
+
 /// The tags of a vector: one with the most fields, and the least number of fields.
 #[derive(Clone, Copy)]
 pub struct TagSpan {
@@ -65,5 +71,64 @@ impl TagSpan {
             Some(m) => i > m,
             None => false,
         }
+    }
+}
+
+/// The spans of values, by their numbers.
+#[derive(Drop)]
+pub struct Spans {
+    by_value: Vec<TagSpan>,
+}
+
+impl Spans {
+    /// So many values, without tags.
+    pub fn new(alloc: Global, count: u32) -> Result<Spans, AllocError> {
+        let mut by_value = Vec::new(alloc);
+        for _ in 0..count {
+            by_value.push(TagSpan::none())?;
+        }
+        Ok(Spans { by_value })
+    }
+
+    /// Notes a tag of a vector. Says whether there are more or fewer fields than before.
+    pub fn note(&mut self, system: &FlowSystem, n: u32, t: u32, width: usize) -> bool {
+        if let Some(m) = fields_of(system, t) {
+            if (m as usize) < width && (n as usize) < self.by_value.len() {
+                let span = self.by_value[n as usize];
+                self.by_value[n as usize] = span.with(t, m);
+                return span.is_widened(m);
+            }
+        }
+        false
+    }
+
+    /// The tag of a value that has a field for word i, and whether there is one that has not.
+    pub fn tag_for(&self, system: &FlowSystem, n: u32, i: u32) -> (Option<u32>, bool) {
+        if let Some(Inclusion::Flows(Source::Value(Val::Node(t, _)), _)) = system
+            .inclusions
+            .get(n as usize)
+        {
+            return match fields_of(system, t.0) {
+                Some(m) => (if i <= m { Some(t.0) } else { None }, i > m),
+                None => (None, false),
+            };
+        }
+        if n as usize >= self.by_value.len() {
+            return (None, false);
+        }
+        let span = self.by_value[n as usize];
+        (span.tag_with(i), span.lacks(i))
+    }
+}
+
+/// The tag of the value with a number, where that is a literal.
+pub fn literal_tag(system: &FlowSystem, n: u32) -> Option<TagId> {
+    match value_in(system.inclusions.get(n as usize)?) {
+        Some(Val::Node(t, _)) => Some(*t),
+        Some(Val::Vector(words)) => match words.get(0) {
+            Some(Word::TagWord(t)) => Some(*t),
+            _ => None,
+        },
+        _ => None,
     }
 }

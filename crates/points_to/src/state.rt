@@ -43,6 +43,8 @@ pub struct State {
     delivered: Vec<Bits>,
     // What was new in the last step at a variable or a fetch.
     pub newest: WordRuns,
+    // The fetches, or the variables, that may have more by the last step.
+    pub changed: Vec<u32>,
 }
 
 // Makes empty sets up to the one with this number.
@@ -99,6 +101,7 @@ impl State {
             passed: Vec::new(alloc),
             delivered: Vec::new(alloc),
             newest: WordRuns::new(alloc),
+            changed: Vec::new(alloc),
         }
     }
 
@@ -113,11 +116,6 @@ impl State {
     /// Whether a variable has words that were not passed on.
     pub fn has_to_pass(&self, x: u32) -> bool {
         are_other(self.kept.facts.word_blocks(x), self.passed.get(x as usize))
-    }
-
-    /// Whether a fetch has words that were not delivered.
-    pub fn has_to_deliver(&self, g: u32) -> bool {
-        are_other(self.copies.words(g), self.delivered.get(g as usize))
     }
 
     fn ask(&mut self, alloc: Global, system: &FlowSystem, n: u32) -> Result<bool, AllocError>
@@ -146,7 +144,8 @@ impl State {
             x,
             &mut self.newest,
         )?;
-        self.copies.pass(x, self.newest.blocks())?;
+        self.copies
+            .pass(x, self.newest.blocks(), &mut self.changed)?;
         Ok(!self.newest.blocks().is_empty())
     }
 
@@ -161,8 +160,13 @@ impl State {
             g,
             &mut self.newest,
         )?;
-        self.copies
-            .deliver(alloc, &mut self.kept.facts, g, self.newest.blocks())?;
+        self.copies.deliver(
+            alloc,
+            &mut self.kept.facts,
+            g,
+            self.newest.blocks(),
+            &mut self.changed,
+        )?;
         Ok(!self.newest.blocks().is_empty())
     }
 
@@ -180,11 +184,12 @@ impl State {
             Step::Ask(n) => self.ask(alloc, system, n),
             Step::Store(n, site) => self.kept.store(alloc, system, n, site),
             Step::Give(g, site, n) => {
-                self.copies.give(alloc, system, &self.kept, g, site, n)?;
+                self.copies
+                    .give(alloc, system, &self.kept, g, site, n, &mut self.changed)?;
                 Ok(true)
             }
             Step::Link(g, site, n, t) => {
-                self.copies.link(alloc, system, &self.kept, g, site, n, t)
+                self.copies.link(alloc, system, &self.kept, g, site, n, t, &mut self.changed)
             }
             Step::Pass(x) => self.pass(alloc, x),
             Step::Deliver(g) => self.deliver(alloc, g),

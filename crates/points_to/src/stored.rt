@@ -7,7 +7,7 @@ ghost use Rattle.points_to.specs.Held.{In};
 ghost use Rattle.points_to.specs.Rows.{numbers_in, GainsMembers};
 ghost use Rattle.points_to.specs.Stored.{sets_at, stored_at, cell_stored, PutsAtSite};
 
-use crate::bits::{Bits, Block, with_bit};
+use crate::bits::{Bits, Block, are_within, with_bit};
 use flow_system::fact::Element;
 use seq::Seq;
 use std::alloc::{AllocError, Global};
@@ -91,11 +91,14 @@ pub fn blocks_at(sets: &[Bits], site: u32) -> &[(u32, u64)]
     }
 }
 
-/// Puts the numbers of blocks into a set.
+/// Puts the numbers of blocks into a set. Mostly they are there already.
 pub fn put_all(blocks: &[(u32, u64)], met: &mut Bits) -> Result<(), AllocError>
     ensures { OnOk result (GainsMembers (numbers_in met.old) (numbers_in met.new)
         (flat_map block_numbers blocks.now)) }
 {
+    if are_within(blocks, met.blocks.as_slice()) {
+        return Ok(());
+    }
     met.add_all(blocks, 0)?;
     Ok(())
 }

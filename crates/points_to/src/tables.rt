@@ -11,7 +11,6 @@ ghost use Rattle.grin_syntax.specs.Tags.{tag_id};
 
 use crate::bits::{Bits, Block, word_of};
 use crate::facts::Facts;
-use crate::runs::WordRuns;
 use crate::wanted::{Kind, Wanted};
 use flow_system::fact::{Element, Part, Place};
 use grin_syntax::program::{Site, TagId};
@@ -95,16 +94,6 @@ fn put_parts(facts: &Facts, place: Place, w: Wanted, out: &mut Seq<u32>) -> Resu
             Ok(())
         }
     }
-}
-
-/// Words in blocks, as ascending tags.
-pub fn tags_in(alloc: Global, words: &WordRuns) -> Result<Seq<TagId>, AllocError>
-    ensures ascending { IfOk result (λ ts. IsStrictlyIncreasing (map (λ t. t.0) ts)) }
-    ensures same { IfOk result (λ ts. SameSet (map (λ t. t.0) ts) (flat_map tag_in words.now)) }
-{
-    let mut set = Bits::new(alloc);
-    words.put_into(&mut set, 0)?;
-    tags_of_set(alloc, &set)
 }
 
 /// The tags in a set of words, ascending.

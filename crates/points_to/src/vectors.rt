@@ -16,7 +16,7 @@ ghost use Rattle.points_to.specs.Asked.{asked};
 ghost use Rattle.points_to.specs.Bits.{block_numbers};
 ghost use Rattle.flow_system.specs.declared.fact.Element.{Element as Element'};
 ghost use Rattle.points_to.specs.Held.{In, in_part, words_in_part};
-ghost use Rattle.points_to.specs.Kept.{is_not_cell_sink, has_no_node_variable, reads_no_cell, touches_no_cell, flow_by_words, is_by_words, AllByWords, noted, cached_values_of, met_by, MetSound, MetExact, AreWords, AreKnown, WordsExact, NotedExact, IsSound, solution, Steps, MetAtEnd, AllMet};
+ghost use Rattle.points_to.specs.Kept.{is_not_cell_sink, has_no_node_variable, reads_no_cell, touches_no_cell, flow_by_words, is_by_words, AllByWords, cached_values_of, met_by, MetSound, MetExact, AreWords, AreKnown, WordsExact, NotedExact, IsSound, solution, Steps, MetAtEnd, AllMet};
 ghost use Rattle.points_to.specs.Known.{held};
 ghost use Rattle.points_to.specs.Rows.{numbers_in, words_in, SameMembers, GainsMembers};
 ghost use Rattle.points_to.specs.Stored.{stored_at, cell_stored, values_in, PutsAtAllSites};
@@ -28,6 +28,7 @@ use crate::facts::Facts;
 use crate::fast::solve_by_copies;
 use crate::give::elements;
 use crate::kept::{Kept, has_no_node_variable};
+use crate::noted::NotedSets;
 use crate::rounds::{add_all, satisfy as satisfy_plain};
 use crate::runs::{FactRuns, ItemRuns, WordRuns};
 use crate::state::is_not_cell_sink;
@@ -79,86 +80,47 @@ pub fn reads_by_words(system: &FlowSystem) -> bool
     true
 }
 
-/// The values in the cells of variables, as far as they were noted.
-#[derive(Drop)]
-pub struct Met {
-    by_var: Vec<Option<Bits>>,
-}
-
-impl Met {
-    fn new(alloc: Global) -> Met
-        ensures { (x : ℕ) → noted (slice_get result.by_var.items x) ≡ None }
-    {
-        Met {
-            by_var: Vec::new(alloc),
-        }
-    }
-
-    // The noted values of a variable.
-    fn at(&self, x: u32) -> Option<&Bits>
-        ensures { option_copied result ≡ noted (slice_get self.now.by_var.items x) }
-    {
-        match self.by_var.get(x as usize) {
-            Some(Some(numbers)) => Some(numbers),
-            Some(None) => None,
-            None => None,
-        }
-    }
-
-    // The noted values of a word.
-    fn of_word(&self, w: Word) -> Option<&Bits>
-        ensures { option_copied result ≡ cached_values_of self.now w }
-    {
-        match w {
-            Word::Lit(_) => None,
-            Word::Var(x) => self.at(x.0),
-            Word::Global(_) => None,
-            Word::TagWord(_) => None,
-        }
-    }
-
-    // Notes the values of a variable.
-    fn put(&mut self, x: u32, numbers: Bits) -> Result<(), AllocError>
-        ensures { OnOk result ((y : ℕ) → (noted (slice_get self.new.by_var.items y)
-            ≡ noted (slice_get self.old.by_var.items y))
-            ⊎ ((y ≡ x) × (noted (slice_get self.new.by_var.items y) ≡ Some numbers))) }
-    {
-        'growing: while self.by_var.len() <= x as usize {
-            self.by_var.push(None)?;
-        }
-        self.by_var[x as usize] = Some(numbers);
-        Ok(())
-    }
-
-    fn note(
-        &mut self,
-        alloc: Global,
-        system: &FlowSystem,
-        kept: &Kept,
-        inclusion: &Inclusion,
-    ) -> Result<(), AllocError>
-        ensures { OnOk result (MetExact (tables_of system.now) kept.now self.old
-            → MetExact (tables_of system.now) kept.now self.new) }
-    {
-        match inclusion {
-            Inclusion::Flows(Source::WordAt(Word::Var(x), _), _) => match self.at(x.0) {
-                Some(_) => Ok(()),
-                None => {
-                    let numbers = kept.met(alloc, system, Word::Var(*x))?;
-                    self.put(x.0, numbers)
-                }
-            },
-            _ => Ok(()),
-        }
+// The values in the cells of a word, as far as they were noted, by variable.
+fn noted_of(met: &NotedSets, w: Word) -> Option<&Bits>
+    ensures { option_copied result ≡ cached_values_of met.now w }
+{
+    match w {
+        Word::Lit(_) => None,
+        Word::Var(x) => met.at(x.0),
+        Word::Global(_) => None,
+        Word::TagWord(_) => None,
     }
 }
 
-fn met_of(alloc: Global, system: &FlowSystem, kept: &Kept) -> Result<Met, AllocError>
+// Notes the values in the cells of the variable that an inclusion fetches from.
+fn note_met(
+    alloc: Global,
+    system: &FlowSystem,
+    kept: &Kept,
+    inclusion: &Inclusion,
+    met: &mut NotedSets,
+) -> Result<(), AllocError>
+    ensures { OnOk result (MetExact (tables_of system.now) kept.now met.old
+        → MetExact (tables_of system.now) kept.now met.new) }
+{
+    match inclusion {
+        Inclusion::Flows(Source::WordAt(Word::Var(x), _), _) => match met.at(x.0) {
+            Some(_) => Ok(()),
+            None => {
+                let numbers = kept.met(alloc, system, Word::Var(*x))?;
+                met.put(x.0, numbers)
+            }
+        },
+        _ => Ok(()),
+    }
+}
+
+fn met_of(alloc: Global, system: &FlowSystem, kept: &Kept) -> Result<NotedSets, AllocError>
     ensures { IfOk result (MetExact (tables_of system.now) kept.now) }
 {
-    let mut met = Met::new(alloc);
+    let mut met = NotedSets::new(alloc);
     for inclusion in system.inclusions.as_slice() {
-        met.note(alloc, system, kept, inclusion)?;
+        note_met(alloc, system, kept, inclusion, &mut met)?;
     }
     Ok(met)
 }
@@ -296,7 +258,7 @@ impl WordCache {
         alloc: Global,
         system: &FlowSystem,
         facts: &Facts,
-        met: &Met,
+        met: &NotedSets,
         inclusion: &Inclusion,
     ) -> Result<(), AllocError>
         ensures { OnOk result (WordsExact (tables_of system.now) (inclusions_of system.now)
@@ -304,7 +266,7 @@ impl WordCache {
             (inclusions_of system.now) (held facts.now) self.new) }
     {
         match inclusion {
-            Inclusion::Flows(Source::WordAt(w, i), _) => match met.of_word(*w) {
+            Inclusion::Flows(Source::WordAt(w, i), _) => match noted_of(met, *w) {
                 Some(numbers) => self.note_words(alloc, system, facts, numbers, *i),
                 None => Ok(()),
             },
@@ -358,7 +320,7 @@ fn words_noted(
     alloc: Global,
     system: &FlowSystem,
     facts: &Facts,
-    met: &Met,
+    met: &NotedSets,
 ) -> Result<WordCache, AllocError>
     ensures { IfOk result (WordsExact (tables_of system.now) (inclusions_of system.now)
         (held facts.now)) }
@@ -373,7 +335,7 @@ fn words_noted(
 /// What was noted before a round: the values in the cells of variables, and their words.
 #[derive(Drop)]
 pub struct RoundCaches {
-    met: Met,
+    met: NotedSets,
     words: WordCache,
 }
 
@@ -643,7 +605,7 @@ fn fetch(
         kept.old noted.now → MetAtEnd (tables_of system.now) (inclusions_of system.now) kept.old
         (inclusion_of inclusion.now) added) }
 {
-    match noted.met.of_word(w) {
+    match noted_of(&noted.met, w) {
         Some(numbers) => {
             let words = noted.words.at(numbers, i);
             fetch_met(

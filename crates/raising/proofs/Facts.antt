@@ -29,7 +29,8 @@ pub fresh_in : (x y k : ℕ) → y ≤ x → x < y + k → 1 ≤ fresh x y k
 fresh_in x y zero le lt = absurd (omega arith)
 fresh_in x y (suc k) le lt = go (nat_eq x y) refl (fresh_in x (suc y) k)
   where
-    go : (b : Bool) → nat_eq x y ≡ b → (suc y ≤ x → x < suc y + k → 1 ≤ fresh x (suc y) k) → 1 ≤ counts b + fresh x (suc y) k
+    go : (b : Bool) → nat_eq x y ≡ b → (suc y ≤ x → x < suc y + k → 1 ≤ fresh x (suc y) k)
+        → 1 ≤ counts b + fresh x (suc y) k
     go true e f = omega arith
     go false e f =
         let ne : x ≢ y = differs_from x y e in
@@ -37,20 +38,24 @@ fresh_in x y (suc k) le lt = go (nat_eq x y) refl (fresh_in x (suc y) k)
         omega (arith, r)
 
 -- what a pattern binds is as P says of its variables
-pub fit_names : (P : ℕ → Type 0) (g : Program) (s : Shape) (v : Value) (bs : List Binding) → AllOf P (shape_vars s) → fit_of g s v ≡ fits bs → AllOf P (names_of bs)
+pub fit_names : (P : ℕ → Type 0) (g : Program) (s : Shape) (v : Value) (bs : List Binding)
+    → AllOf P (shape_vars s) → fit_of g s v ≡ fits bs → AllOf P (names_of bs)
 fit_names P g (shape.Node t xs) v bs h e = go (as_node g v) e
   where
-    fields : (ys : List VarId) (ds : List Datum) → AllOf P (numbers_of ys) → fields_fit ys ds ≡ fits bs → AllOf P (names_of bs)
+    fields : (ys : List VarId) (ds : List Datum) → AllOf P (numbers_of ys)
+        → fields_fit ys ds ≡ fits bs → AllOf P (names_of bs)
     fields [] ds a q = let same : [] ≡ bs = cc in subst (λ l. AllOf P (names_of l)) same tt
     fields (y ∷ ys) ds a q = one (one_each (y ∷ ys) ds) refl q
       where
-        one : (o : Option (List Binding)) → one_each (y ∷ ys) ds ≡ o → fits_if o ≡ fits bs → AllOf P (names_of bs)
+        one : (o : Option (List Binding)) → one_each (y ∷ ys) ds ≡ o → fits_if o ≡ fits bs
+            → AllOf P (names_of bs)
         one None k r = cc
         one (Some cs) k r =
             let same : cs ≡ bs = cc in
             subst (AllOf P) (sym (one_each_names (y ∷ ys) ds bs (k ∙ ap Some same))) a
 
-    by_tag : (n : Node) (b : Bool) → cond b (fields_fit xs n.fields) fits_not ≡ fits bs → AllOf P (names_of bs)
+    by_tag : (n : Node) (b : Bool) → cond b (fields_fit xs n.fields) fits_not ≡ fits bs
+        → AllOf P (names_of bs)
     by_tag n true q = fields xs n.fields h q
     by_tag n false q = cc
 
@@ -63,7 +68,8 @@ fit_names P g (shape.Int k) v bs h e = go (as_node g v) e
     at true q = let same : [] ≡ bs = cc in subst (λ l. AllOf P (names_of l)) same tt
     at false q = cc
 
-    on : (ds : List Datum) (b : Bool) → cond b (number_fit k ds) fits_not ≡ fits bs → AllOf P (names_of bs)
+    on : (ds : List Datum) (b : Bool) → cond b (number_fit k ds) fits_not ≡ fits bs
+        → AllOf P (names_of bs)
     on ds false q = cc
     on [] true q = cc
     on (number j ∷ ds) true q = at (same_number k j) q
@@ -73,4 +79,5 @@ fit_names P g (shape.Int k) v bs h e = go (as_node g v) e
     go : (o : Option Node) → int_fit k o ≡ fits bs → AllOf P (names_of bs)
     go None q = cc
     go (Some n) q = on n.fields (nat_eq n.tag 0) q
-fit_names P g shape.Else v bs h e = let same : [] ≡ bs = cc in subst (λ l. AllOf P (names_of l)) same tt
+fit_names P g shape.Else v bs h e = let same : [] ≡ bs = cc
+    in subst (λ l. AllOf P (names_of l)) same tt

@@ -50,7 +50,10 @@ module _ (N : ℕ → Option Raising) where
 
   pub words_ok : (ws : List W.Word) → Free (λ y. words_use y ws) → WordsOk Stays ws
   words_ok [] f = tt
-  words_ok (a ∷ ws) f = (word_ok a (free_left (λ y. word_is y a) (λ y. words_use y ws) f), words_ok ws (free_right (λ y. word_is y a) (λ y. words_use y ws) f))
+  words_ok (a ∷ ws) f = (
+    word_ok a (free_left (λ y. word_is y a) (λ y. words_use y ws) f),
+    words_ok ws (free_right (λ y. word_is y a) (λ y. words_use y ws) f),
+  )
 
   pub val_ok : (v : V.Val) → Free (λ y. val_uses y v) → ValOk Stays v
   val_ok (NodeVar x) f = word_ok (Var x) f
@@ -60,7 +63,10 @@ module _ (N : ℕ → Option Raising) where
 
   pub cells_ok : (cs : List Cell) → Free (λ y. cells_use y cs) → CellsOk Stays cs
   cells_ok [] f = tt
-  cells_ok (c ∷ cs) f = (val_ok c.val (free_left (λ y. val_uses y c.val) (λ y. cells_use y cs) f), cells_ok cs (free_right (λ y. val_uses y c.val) (λ y. cells_use y cs) f))
+  cells_ok (c ∷ cs) f = (
+    val_ok c.val (free_left (λ y. val_uses y c.val) (λ y. cells_use y cs) f),
+    cells_ok cs (free_right (λ y. val_uses y c.val) (λ y. cells_use y cs) f),
+  )
 
   module _ (g : Program) (A : Solution) (base : ℕ) where
     -- a piece whose value goes to k
@@ -87,17 +93,34 @@ module _ (N : ℕ → Option Raising) where
 
     pub of_nested : (k : FlowSink) (b : Code) → PieceAct k (nested b) → PieceCode k b
     unfolding act_mentions act_vars EachAct act_flows
-    of_nested k b p = record { free = p.free; plain = p.plain; inlined = p.inlined.1; by_words = p.by_words.1; met = p.met }
+    of_nested k b p = record {
+      free = p.free;
+      plain = p.plain;
+      inlined = p.inlined.1;
+      by_words = p.by_words.1;
+      met
+          = p.met;
+    }
 
-    pub of_case : (k : FlowSink) (v : V.Val) (as' : Arms) → PieceAct k (case v as') → PieceArms k v as'
+    pub of_case : (k : FlowSink) (v : V.Val) (as' : Arms) → PieceAct k (case v as')
+        → PieceArms k v as'
     unfolding act_mentions act_vars EachAct act_flows
-    of_case k v as' p = record { free = free_right (λ y. val_uses y v) (λ y. arms_use_as_value y as') p.free; plain = p.plain; inlined = p.inlined.2; by_words = p.by_words.2; met = p.met }
+    of_case k v as' p = record {
+      free = free_right (λ y. val_uses y v) (λ y. arms_use_as_value y as') p.free;
+      plain
+          = p.plain;
+      inlined = p.inlined.2;
+      by_words = p.by_words.2;
+      met = p.met;
+    }
 
     pub of_end : (k : FlowSink) (o : Act) → PieceCode k (end o) → PieceAct k o
     unfolding act_mentions act_vars EachAct act_flows
-    of_end k o p = record { free = p.free; plain = p.plain; inlined = p.inlined; by_words = p.by_words; met = p.met }
+    of_end k o p = record
+        { free = p.free; plain = p.plain; inlined = p.inlined; by_words = p.by_words; met = p.met }
 
-    pub of_store : (k : FlowSink) (cs : List Cell) (b : Code) → PieceCode k (store cs b) → PieceCode k b
+    pub of_store : (k : FlowSink) (cs : List Cell) (b : Code) → PieceCode k (store cs b)
+        → PieceCode k b
     unfolding act_mentions act_vars EachAct act_flows
     of_store k cs b p = record {
       free = free_right (λ y. cells_use y cs) (λ y. code_uses_as_value y b) p.free;
@@ -107,54 +130,72 @@ module _ (N : ℕ → Option Raising) where
       met = met_back g A (cells_flow g cs) (code_flows g k b) p.met;
     }
 
-    pub of_cells : (k : FlowSink) (cs : List Cell) (b : Code) → PieceCode k (store cs b) → CellsOk Stays cs × AllOf (Plain base N) (cell_vars cs)
+    pub of_cells : (k : FlowSink) (cs : List Cell) (b : Code) → PieceCode k (store cs b)
+        → CellsOk Stays cs × AllOf (Plain base N) (cell_vars cs)
     unfolding act_mentions act_vars
-    of_cells k cs b p = (cells_ok cs (free_left (λ y. cells_use y cs) (λ y. code_uses_as_value y b) p.free), all_front (Plain base N) (cell_vars cs) (code_vars b) p.plain)
+    of_cells k cs b p = (
+      cells_ok cs (free_left (λ y. cells_use y cs) (λ y. code_uses_as_value y b) p.free),
+      all_front (Plain base N) (cell_vars cs) (code_vars b) p.plain,
+    )
 
-    pub of_first : (k : FlowSink) (t : Target) (o : Act) (b : Code) → PieceCode k (bind t o b) → PieceAct (to t) o
+    pub of_first : (k : FlowSink) (t : Target) (o : Act) (b : Code) → PieceCode k (bind t o b)
+        → PieceAct (to t) o
     unfolding act_mentions act_vars EachAct act_flows
     of_first k t o b p = record {
       free = free_left (λ y. act_uses_as_value y o) (λ y. code_uses_as_value y b) p.free;
-      plain = all_front (Plain base N) (act_vars o) (code_vars b) (all_back (Plain base N) (target_vars t) (act_vars o ++ code_vars b) p.plain);
+      plain = all_front (Plain base N) (act_vars o) (code_vars b)
+          (all_back (Plain base N) (target_vars t) (act_vars o ++ code_vars b) p.plain);
       inlined = p.inlined.1;
       by_words = p.by_words.1;
       met = met_front g A (act_flows g (to t) o) (code_flows g k b) p.met;
     }
 
-    pub of_target : (k : FlowSink) (t : Target) (o : Act) (b : Code) → PieceCode k (bind t o b) → AllOf (Plain base N) (target_vars t)
+    pub of_target : (k : FlowSink) (t : Target) (o : Act) (b : Code) → PieceCode k (bind t o b)
+        → AllOf (Plain base N) (target_vars t)
     unfolding act_vars
-    of_target k t o b p = all_front (Plain base N) (target_vars t) (act_vars o ++ code_vars b) p.plain
+    of_target k t o b p = all_front (Plain base N) (target_vars t) (act_vars o ++ code_vars b)
+        p.plain
 
-    pub of_rest : (k : FlowSink) (t : Target) (o : Act) (b : Code) → PieceCode k (bind t o b) → PieceCode k b
+    pub of_rest : (k : FlowSink) (t : Target) (o : Act) (b : Code) → PieceCode k (bind t o b)
+        → PieceCode k b
     unfolding act_mentions act_vars EachAct act_flows
     of_rest k t o b p = record {
       free = free_right (λ y. act_uses_as_value y o) (λ y. code_uses_as_value y b) p.free;
-      plain = all_back (Plain base N) (act_vars o) (code_vars b) (all_back (Plain base N) (target_vars t) (act_vars o ++ code_vars b) p.plain);
+      plain = all_back (Plain base N) (act_vars o) (code_vars b)
+          (all_back (Plain base N) (target_vars t) (act_vars o ++ code_vars b) p.plain);
       inlined = p.inlined.2;
       by_words = p.by_words.2;
       met = met_back g A (act_flows g (to t) o) (code_flows g k b) p.met;
     }
 
-    pub of_shape : (k : FlowSink) (v : V.Val) (s : Shape) (b : Code) (as' : Arms) → PieceArms k v (arm s b as') → AllOf (Plain base N) (shape_vars s)
+    pub of_shape : (k : FlowSink) (v : V.Val) (s : Shape) (b : Code) (as' : Arms)
+        → PieceArms k v (arm s b as') → AllOf (Plain base N) (shape_vars s)
     unfolding act_vars
-    of_shape k v s b as' p = all_front (Plain base N) (shape_vars s) (code_vars b ++ arms_vars as') p.plain
+    of_shape k v s b as' p = all_front (Plain base N) (shape_vars s) (code_vars b ++ arms_vars as')
+        p.plain
 
-    pub of_arm : (k : FlowSink) (v : V.Val) (s : Shape) (b : Code) (as' : Arms) → PieceArms k v (arm s b as') → PieceCode k b
+    pub of_arm : (k : FlowSink) (v : V.Val) (s : Shape) (b : Code) (as' : Arms)
+        → PieceArms k v (arm s b as') → PieceCode k b
     unfolding act_mentions act_vars EachAct act_flows
     of_arm k v s b as' p = record {
       free = free_left (λ y. code_uses_as_value y b) (λ y. arms_use_as_value y as') p.free;
-      plain = all_front (Plain base N) (code_vars b) (arms_vars as') (all_back (Plain base N) (shape_vars s) (code_vars b ++ arms_vars as') p.plain);
+      plain = all_front (Plain base N) (code_vars b) (arms_vars as')
+          (all_back (Plain base N) (shape_vars s) (code_vars b ++ arms_vars as') p.plain);
       inlined = p.inlined.1;
       by_words = p.by_words.1;
-      met = met_front g A (code_flows g k b) (arms_flow g k v as') (met_back g A (shape_flows v s) (code_flows g k b ++ arms_flow g k v as') p.met);
+      met = met_front g A (code_flows g k b) (arms_flow g k v as')
+          (met_back g A (shape_flows v s) (code_flows g k b ++ arms_flow g k v as') p.met);
     }
 
-    pub of_others : (k : FlowSink) (v : V.Val) (s : Shape) (b : Code) (as' : Arms) → PieceArms k v (arm s b as') → PieceArms k v as'
+    pub of_others : (k : FlowSink) (v : V.Val) (s : Shape) (b : Code) (as' : Arms)
+        → PieceArms k v (arm s b as') → PieceArms k v as'
     unfolding act_mentions act_vars EachAct act_flows
     of_others k v s b as' p = record {
       free = free_right (λ y. code_uses_as_value y b) (λ y. arms_use_as_value y as') p.free;
-      plain = all_back (Plain base N) (code_vars b) (arms_vars as') (all_back (Plain base N) (shape_vars s) (code_vars b ++ arms_vars as') p.plain);
+      plain = all_back (Plain base N) (code_vars b) (arms_vars as')
+          (all_back (Plain base N) (shape_vars s) (code_vars b ++ arms_vars as') p.plain);
       inlined = p.inlined.2;
       by_words = p.by_words.2;
-      met = met_back g A (code_flows g k b) (arms_flow g k v as') (met_back g A (shape_flows v s) (code_flows g k b ++ arms_flow g k v as') p.met);
+      met = met_back g A (code_flows g k b) (arms_flow g k v as')
+          (met_back g A (shape_flows v s) (code_flows g k b ++ arms_flow g k v as') p.met);
     }

@@ -53,9 +53,13 @@ use Rattle.grin_meaning.proofs.Paired.{nothing}
 none_some : {X : Type 0} {o : Option X} {v : X} → o ≡ None → o ≡ Some v → ⊥
 none_some e q = cc
 
-entry_related : (F : List HeapCell) (first : ℕ) (ds : Decisions) (xs : List VarId) (ws ws' : List Datum) (bs : List Binding) → ((y : ℕ) → times y (numbers_of xs) + times y (numbers_of (new_params ds)) ≤ 1)
-    → ((y : ℕ) → InScope (numbers_of xs) y → y < first) → ArgsFor F ds ws ws' → one_each xs ws ≡ Some bs
-    → (bs' : List Binding) × (one_each (raised_params ds xs) ws' ≡ Some bs') × Related F first (decided ds xs) (with_vars bs nothing) (with_vars bs' nothing)
+entry_related : (F : List HeapCell) (first : ℕ) (ds : Decisions) (xs : List VarId)
+    (ws ws' : List Datum) (bs : List Binding) →
+    ((y : ℕ) → times y (numbers_of xs) + times y (numbers_of (new_params ds)) ≤ 1)
+    → ((y : ℕ) → InScope (numbers_of xs) y → y < first) → ArgsFor F ds ws ws'
+    → one_each xs ws ≡ Some bs
+    → (bs' : List Binding) × (one_each (raised_params ds xs) ws' ≡ Some bs')
+    × Related F first (decided ds xs) (with_vars bs nothing) (with_vars bs' nothing)
 entry_related F first ds xs ws ws' bs once low a e = (
   k.bs',
   k.binds,
@@ -69,18 +73,24 @@ entry_related F first ds xs ws ws' bs once low a e = (
     k : Enters F ds xs bs ws'
     k = enters F ds xs ws ws' bs once a e
 
-    unbound : (y : ℕ) (v : Value) → times y (numbers_of xs) ≡ 0 → with_vars bs nothing y ≡ Some v → ⊥
-    unbound y v z h = none_some (vars_out bs nothing y (ap (times y) (one_each_names xs ws bs e) ∙ z)) h
+    unbound : (y : ℕ) (v : Value) → times y (numbers_of xs) ≡ 0 → with_vars bs nothing y ≡ Some v
+        → ⊥
+    unbound y v z h = none_some
+        (vars_out bs nothing y (ap (times y) (one_each_names xs ws bs e) ∙ z)) h
 
-    on : (m y : ℕ) (v : Value) → times y (numbers_of xs) ≡ m → decided ds xs y ≡ None → with_vars bs nothing y ≡ Some v → with_vars k.bs' nothing y ≡ Some v
+    on : (m y : ℕ) (v : Value) → times y (numbers_of xs) ≡ m → decided ds xs y ≡ None
+        → with_vars bs nothing y ≡ Some v → with_vars k.bs' nothing y ≡ Some v
     on zero y v q n h = absurd (unbound y v q h)
     on (suc m) y v q n h = k.same nothing nothing y v (omega (arith, q)) n h
 
-    lower : (m y : ℕ) (v : Value) → times y (numbers_of xs) ≡ m → with_vars bs nothing y ≡ Some v → y < first
+    lower : (m y : ℕ) (v : Value) → times y (numbers_of xs) ≡ m → with_vars bs nothing y ≡ Some v
+        → y < first
     lower zero y v q h = absurd (unbound y v q h)
     lower (suc m) y v q h = low y (omega (arith, q))
 
-module _ (g : Program) (A : Solution) (D : List Decisions) (n : ℕ) (of : IsVectorForm g) (worded : IsFetchedByWords g) (solves : Solves (tables g) (system g) A) (dec : IsDecided A g D n) where
+module _ (g : Program) (A : Solution) (D : List Decisions) (n : ℕ) (of : IsVectorForm g)
+    (worded : IsFetchedByWords g) (solves : Solves (tables g) (system g) A)
+    (dec : IsDecided A g D n) where
   abbrev first : ℕ
   first = past_procs g.procs
 
@@ -99,26 +109,45 @@ module _ (g : Program) (A : Solution) (D : List Decisions) (n : ℕ) (of : IsVec
     pub past : past_procs qs ≤ first
     pub met : AllMet (tables g) A (procs_flow g f qs)
 
-  module _ (F : List HeapCell) (c c' : Calls) (cb : CallsBack (plan g A D n F).P c) (cf : CallsFollow (plan g A D n F) c c') where
-    given_too : {v v' : Value} → Same v v' → Seen true (is_given g v) → Seen true (is_given g v') × Same v v'
+  module _ (F : List HeapCell) (c c' : Calls) (cb : CallsBack (plan g A D n F).P c)
+      (cf : CallsFollow (plan g A D n F) c c') where
+    given_too : {v v' : Value} → Same v v' → Seen true (is_given g v) → Seen true (is_given g v')
+        × Same v v'
     given_too (same {a = v}) s = (s, same)
 
-    body_follows : (f m : ℕ) (q : Procedure) (ds : Decisions) → n ≤ m → slice_get D f ≡ Some ds → AllRaisable g A q q.params ds → EachCode inlined_kind q.body → EachCode without_node_fetches q.body
-        → ((y : ℕ) → times y (numbers_of q.params) + times y (code_vars q.body) ≤ 1) → past_vars q.params ≤ first → past_code q.body ≤ first → AllMet (tables g) A (code_flows g (into_result f) q.body)
+    body_follows : (f m : ℕ) (q : Procedure) (ds : Decisions) → n ≤ m → slice_get D f ≡ Some ds
+        → AllRaisable g A q q.params ds → EachCode inlined_kind q.body
+        → EachCode without_node_fetches q.body
+        → ((y : ℕ) → times y (numbers_of q.params) + times y (code_vars q.body) ≤ 1)
+        → past_vars q.params ≤ first → past_code q.body ≤ first
+        → AllMet (tables g) A (code_flows g (into_result f) q.body)
         → BodyFollows (it g A D n F c c' cb cf) f q (raised_procedure D m ds q)
     body_follows f m q ds le at ra iq bq once pq pb met = record {
       R = λ cells. Related F first (decided ds q.params);
       V = Same;
       enters = λ cells xs xs' bs a e lies. entry_related F first ds q.params xs xs' bs
-          (params_once g D n dec.numbered f ds q.params at (λ y. (let o : times y (numbers_of q.params) + times y (code_vars q.body) ≤ 1 = once y in omega (arith, o))) out)
-          (scope_below first (numbers_of q.params) out) (subst (λ l. ArgsFor F l xs xs') (ap or_no_decisions at) a) e;
-      body = body_like g A D n F known (past_top g D n dec.numbered) c c' cb cf q (decided ds q.params) (new_ones g D n dec.numbered f ds q.params at) (λ y r e. raisable_at g A q y r q.params ds ra e) (into_result f) m q.body le (record {
-        free = λ y r e. (let R : Raisable A g q y r.tag.0 r.fields = raisable_at g A q y r q.params ds ra e in R.only_fetched);
-        plain = all_in (Plain first (decided ds q.params)) (code_vars q.body) (λ y i. (low y i, none_decided y ds q.params (let o : times y (numbers_of q.params) + times y (code_vars q.body) ≤ 1 = once y in omega (arith, o, i))));
-        inlined = iq;
-        by_words = bq;
-        met = met;
-      });
+          (params_once g D n dec.numbered f ds q.params at
+          (λ y. (let o : times y (numbers_of q.params) + times y (code_vars q.body) ≤ 1 = once y
+          in omega (arith, o))) out)
+          (scope_below first (numbers_of q.params) out)
+          (subst (λ l. ArgsFor F l xs xs') (ap or_no_decisions at) a) e;
+      body = body_like g A D n F known (past_top g D n dec.numbered) c c' cb cf q
+          (decided ds q.params) (new_ones g D n dec.numbered f ds q.params at)
+          (λ y r e. raisable_at g A q y r q.params ds ra e) (into_result f) m q.body le (record {
+            free = λ y r e.
+                (let R : Raisable A g q y r.tag.0 r.fields = raisable_at g A q y r q.params ds ra e
+                in R.only_fetched);
+            plain = all_in (Plain first (decided ds q.params)) (code_vars q.body)
+                (λ y i. (
+                  low y i,
+                  none_decided y ds q.params
+                      (let o : times y (numbers_of q.params) + times y (code_vars q.body) ≤ 1 = once y
+                      in omega (arith, o, i)),
+                ));
+            inlined = iq;
+            by_words = bq;
+            met = met;
+          });
       given = λ v v' u seen. given_too u seen;
     }
       where
@@ -126,18 +155,25 @@ module _ (g : Program) (A : Solution) (D : List Decisions) (n : ℕ) (of : IsVec
         out y h = past_vars_none y q.params (omega (arith, h, pq))
 
         low : (y : ℕ) → InScope (code_vars q.body) y → y < first
-        low y i = let l : y < past_code q.body = scope_below (past_code q.body) (code_vars q.body) (λ y h. past_code_none y q.body h) y i in omega (arith, l, pb)
+        low y i = let l : y < past_code q.body = scope_below (past_code q.body) (code_vars q.body)
+            (λ y h. past_code_none y q.body h) y i in omega (arith, l, pb)
 
-    bodies_follow : (f m : ℕ) (qs : List Procedure) (dss : List Decisions) → n ≤ m → Rest f qs dss → BodiesFollow (it g A D n F c c' cb cf) f qs (raised_procs D m dss qs)
+    bodies_follow : (f m : ℕ) (qs : List Procedure) (dss : List Decisions) → n ≤ m → Rest f qs dss
+        → BodiesFollow (it g A D n F c c' cb cf) f qs (raised_procs D m dss qs)
     bodies_follow f m [] [] le h = no_more
     bodies_follow f m [] (ds ∷ dss) le h = absurd h.so
     bodies_follow f m (q ∷ qs) [] le h = absurd h.so
-    bodies_follow f m (q ∷ qs) (ds ∷ dss) le h = one_more {f = f} {q = q} {r = raised_procedure D m ds q}
-        (body_follows f m q ds le (ap (slice_get D) (let z : f ≡ f + 0 = omega arith in z) ∙ h.at 0) (all_raisable g A f q ds h.so.0) h.inlined.0 h.by_words.0 here (let p : past_procs (q ∷ qs) ≤ first = h.past in omega (arith, p)) (let p : past_procs (q ∷ qs) ≤ first = h.past in omega (arith, p))
+    bodies_follow f m (q ∷ qs) (ds ∷ dss) le h = one_more {f = f} {q = q}
+        {r = raised_procedure D m ds q}
+        (body_follows f m q ds le (ap (slice_get D) (let z : f ≡ f + 0 = omega arith in z) ∙ h.at 0)
+        (all_raisable g A f q ds h.so.0) h.inlined.0 h.by_words.0 here
+        (let p : past_procs (q ∷ qs) ≤ first = h.past in omega (arith, p))
+        (let p : past_procs (q ∷ qs) ≤ first = h.past in omega (arith, p))
         (met_front g A (code_flows g (into_result f) q.body) (procs_flow g (suc f) qs) h.met))
         (bodies_follow (suc f) (m + new_code D q.body) qs dss (omega (arith, le)) (record {
           so = h.so.1;
-          at = λ j. ap (slice_get D) (let z : suc f + j ≡ f + suc j = omega arith in z) ∙ h.at (suc j);
+          at = λ j. ap (slice_get D) (let z : suc f + j ≡ f + suc j = omega arith in z) ∙ h.at
+              (suc j);
           inlined = h.inlined.1;
           by_words = h.by_words.1;
           once = later;
@@ -147,15 +183,23 @@ module _ (g : Program) (A : Solution) (D : List Decisions) (n : ℕ) (of : IsVec
       where
         here : (y : ℕ) → times y (numbers_of q.params) + times y (code_vars q.body) ≤ 1
         here y =
-            let o : times y ((numbers_of q.params ++ code_vars q.body) ++ procs_vars qs) ≤ 1 = h.once y in
-            let e : times y ((numbers_of q.params ++ code_vars q.body) ++ procs_vars qs) ≡ times y (numbers_of q.params ++ code_vars q.body) + times y (procs_vars qs) = times_append y (numbers_of q.params ++ code_vars q.body) (procs_vars qs) in
-            let f : times y (numbers_of q.params ++ code_vars q.body) ≡ times y (numbers_of q.params) + times y (code_vars q.body) = times_append y (numbers_of q.params) (code_vars q.body) in
+            let o : times y ((numbers_of q.params ++ code_vars q.body) ++ procs_vars qs) ≤ 1
+            = h.once y in
+            let e : times y ((numbers_of q.params ++ code_vars q.body) ++ procs_vars qs) ≡ times y
+            (numbers_of q.params ++ code_vars q.body) + times y (procs_vars qs)
+            = times_append y (numbers_of q.params ++ code_vars q.body) (procs_vars qs) in
+            let f : times y (numbers_of q.params ++ code_vars q.body) ≡ times y
+            (numbers_of q.params) + times y (code_vars q.body)
+            = times_append y (numbers_of q.params) (code_vars q.body) in
             omega (arith, o, e, f)
 
         later : (y : ℕ) → times y (procs_vars qs) ≤ 1
         later y =
-            let o : times y ((numbers_of q.params ++ code_vars q.body) ++ procs_vars qs) ≤ 1 = h.once y in
-            let e : times y ((numbers_of q.params ++ code_vars q.body) ++ procs_vars qs) ≡ times y (numbers_of q.params ++ code_vars q.body) + times y (procs_vars qs) = times_append y (numbers_of q.params ++ code_vars q.body) (procs_vars qs) in
+            let o : times y ((numbers_of q.params ++ code_vars q.body) ++ procs_vars qs) ≤ 1
+            = h.once y in
+            let e : times y ((numbers_of q.params ++ code_vars q.body) ++ procs_vars qs) ≡ times y
+            (numbers_of q.params ++ code_vars q.body) + times y (procs_vars qs)
+            = times_append y (numbers_of q.params ++ code_vars q.body) (procs_vars qs) in
             omega (arith, o, e)
 
   -- ---- the whole program
@@ -163,8 +207,11 @@ module _ (g : Program) (A : Solution) (D : List Decisions) (n : ℕ) (of : IsVec
   never : CheckedRunsNeverMissing g
   never = (looking_law g of.ready.inlined).sees of.ready.never_missing of.ready.runs
 
-  all_lie : (i : List ℕ) (m : ℕ) → HoldsInEveryState (StateIsCovered g A) (world_of (checked_run g i m)).seen
-  all_lie i m = subst (λ a. HoldsInEveryState (StateIsCovered g A) (world_of a).seen) (sym (look_agrees g i m (never i m))) ((covers g A (formed_is_started g of.formed) solves).passed i m)
+  all_lie : (i : List ℕ) (m : ℕ) → HoldsInEveryState (StateIsCovered g A)
+      (world_of (checked_run g i m)).seen
+  all_lie i m = subst (λ a. HoldsInEveryState (StateIsCovered g A) (world_of a).seen)
+      (sym (look_agrees g i m (never i m)))
+      ((covers g A (formed_is_started g of.formed) solves).passed i m)
 
   all_rest : Rest 0 g.procs D
   all_rest = record {
@@ -174,23 +221,34 @@ module _ (g : Program) (A : Solution) (D : List Decisions) (n : ℕ) (of : IsVec
     by_words = worded;
     once = of.formed.variables_once;
     past = omega arith;
-    met = met_back g A (globals_flow g g.globals) (procs_flow g 0 g.procs) (met_back g A (start_flows g g.argument) (globals_flow g g.globals ++ procs_flow g 0 g.procs) solves);
+    met = met_back g A (globals_flow g g.globals) (procs_flow g 0 g.procs)
+        (met_back g A (start_flows g g.argument)
+        (globals_flow g g.globals ++ procs_flow g 0 g.procs) solves);
   }
 
-  start_args : (F : List HeapCell) → ArgsFor F (decisions_at D g.start.0) (start_words g.argument) (start_words g.argument)
+  start_args : (F : List HeapCell) → ArgsFor F (decisions_at D g.start.0) (start_words g.argument)
+      (start_words g.argument)
   start_args F = go (slice_get D g.start.0) refl
     where
-      go : (o : Option Decisions) → slice_get D g.start.0 ≡ o → ArgsFor F (or_no_decisions o) (start_words g.argument) (start_words g.argument)
+      go : (o : Option Decisions) → slice_get D g.start.0 ≡ o
+          → ArgsFor F (or_no_decisions o) (start_words g.argument) (start_words g.argument)
       go None e = refl
       go (Some ds) e =
-          let k : DecidedAt g A g.procs 0 g.start.0 ds = decided_at g A 0 g.procs D dec.decided g.start.0 ds e in
+          let k : DecidedAt g A g.procs 0 g.start.0 ds
+          = decided_at g A 0 g.procs D dec.decided g.start.0 ds e in
           stays_for F k.q.params ds (k.so.start (omega arith)) (start_words g.argument)
 
-  goes_likewise : (i : List ℕ) (m : ℕ) → Likewise no_deeper Same (checked_run g i m) (checked_run (raised D n g) i m)
+  goes_likewise : (i : List ℕ) (m : ℕ) → Likewise no_deeper Same (checked_run g i m)
+      (checked_run (raised D n g) i m)
   goes_likewise i m =
       let F : List HeapCell = (world_of (checked_run g i m)).cells in
-      run_follows (plan g A D n F) (λ c c' cb cf. bodies_follow F c c' cb cf 0 n g.procs D (omega arith) all_rest) i m (start_args F) same
-      (every_both (StateIsCovered g A) (λ s. Later g A s.heap F) (world_of (checked_run g i m)).seen (all_lie i m) (all_frozen g A of.ready.inlined i m (all_lie i m)))
+      run_follows (plan g A D n F)
+      (λ c c' cb cf. bodies_follow F c c' cb cf 0 n g.procs D (omega arith) all_rest) i m
+      (start_args F) same
+      (every_both (StateIsCovered g A) (λ s. Later g A s.heap F) (world_of (checked_run g i m)).seen
+      (all_lie i m) (all_frozen g A of.ready.inlined i m (all_lie i m)))
 
   pub raised_kept : CheckedRunsNeverMissing (raised D n g) × Keeps g (raised D n g)
-  raised_kept = looking_kept g (raised D n g) never (λ i m. likewise_kept no_deeper Same (checked_run g i m) (checked_run (raised D n g) i m) (goes_likewise i m))
+  raised_kept = looking_kept g (raised D n g) never
+      (λ i m. likewise_kept no_deeper Same (checked_run g i m) (checked_run (raised D n g) i m)
+      (goes_likewise i m))

@@ -11,8 +11,10 @@ pub among_times : (x : ℕ) (xs : List ℕ) → is_among x xs ≡ true → 1 ≤
 among_times x [] h = cc
 among_times x (y ∷ ys) h = go (among_cases x y ys h) (λ r. among_times x ys r)
   where
-    go : (x ≡ y) ⊎ (is_among x ys ≡ true) → (is_among x ys ≡ true → 1 ≤ times x ys) → 1 ≤ counts (nat_eq x y) + times x ys
-    go (inl e) k = let one : counts (nat_eq x y) ≡ 1 = subst (λ z. counts (nat_eq x z) ≡ 1) e (one_at x) in omega arith
+    go : (x ≡ y) ⊎ (is_among x ys ≡ true) → (is_among x ys ≡ true → 1 ≤ times x ys)
+        → 1 ≤ counts (nat_eq x y) + times x ys
+    go (inl e) k = let one : counts (nat_eq x y) ≡ 1
+        = subst (λ z. counts (nat_eq x z) ≡ 1) e (one_at x) in omega arith
     go (inr r) k = let l = k r in omega arith
 
     second : (a b : Bool) → (a || b) ≡ false → b ≡ false
@@ -27,7 +29,8 @@ once (y ∷ ys) d x = go (nat_eq x y) refl (once ys d.1 x)
     go : (b : Bool) → nat_eq x y ≡ b → times x ys ≤ 1 → counts (nat_eq x y) + times x ys ≤ 1
     go true e k =
         let same : x ≡ y = grind (arith, nat_tests) in
-        let none : times x ys ≡ 0 = subst (λ z. times z ys ≡ 0) (sym same) (not_among_times y ys d.0) in
+        let none : times x ys ≡ 0 = subst (λ z. times z ys ≡ 0) (sym same)
+        (not_among_times y ys d.0) in
         let one : counts (nat_eq x y) ≡ 1 = ap counts e in
         omega arith
     go false e k = let z : counts (nat_eq x y) ≡ 0 = ap counts e in omega arith

@@ -10,7 +10,8 @@ use Rattle.seq.proofs.Counted.{among_later, among_cases}
 pub among_first : (x y : ℕ) (ys : List ℕ) → x ≡ y → is_among x (y ∷ ys) ≡ true
 among_first x y ys e = ap (λ b. b || is_among x ys) (eq-eqb x y e)
 
-pub among_either : (x : ℕ) (xs ys : List ℕ) → is_among x (xs ++ ys) ≡ true → (is_among x xs ≡ true) ⊎ (is_among x ys ≡ true)
+pub among_either : (x : ℕ) (xs ys : List ℕ) → is_among x (xs ++ ys) ≡ true → (is_among x xs ≡ true)
+    ⊎ (is_among x ys ≡ true)
 among_either x [] ys h = inr h
 among_either x (z ∷ xs) ys h = elim (among_cases x z (xs ++ ys) h) [
   | inl e ↦ inl (among_first x z xs e)
@@ -23,11 +24,13 @@ among_either x (z ∷ xs) ys h = elim (among_cases x z (xs ++ ys) h) [
 
 -- ---- places of a list
 
-pub got_after : {A : Type 0} (xs ys : List A) (x : A) → slice_get (xs ++ (x ∷ ys)) (length xs) ≡ Some x
+pub got_after : {A : Type 0} (xs ys : List A) (x : A)
+    → slice_get (xs ++ (x ∷ ys)) (length xs) ≡ Some x
 got_after [] ys x = refl
 got_after (z ∷ xs) ys x = got_after xs ys x
 
-pub set_cases : {A : Type 0} (xs : List A) (i : ℕ) (v : A) (j : ℕ) → (i ≡ j) ⊎ (slice_get (slice_set xs i v) j ≡ slice_get xs j)
+pub set_cases : {A : Type 0} (xs : List A) (i : ℕ) (v : A) (j : ℕ) → (i ≡ j)
+    ⊎ (slice_get (slice_set xs i v) j ≡ slice_get xs j)
 set_cases [] i v j = inr refl
 set_cases (x ∷ xs) zero v zero = inl refl
 set_cases (x ∷ xs) zero v (suc j) = inr refl

@@ -25,7 +25,8 @@ every (suc n) = all_say (suc n) 24 && every n
 
 say_at : (n k r : ℕ) → all_say n k ≡ true → r < k → says n r ≡ true
 say_at n zero r h l = absurd (omega arith)
-say_at n (suc k) r h l = go (below r k l) (and_parts (says n k) (all_say n k) h) (λ m. say_at n k r (and_parts (says n k) (all_say n k) h).1 m)
+say_at n (suc k) r h l = go (below r k l) (and_parts (says n k) (all_say n k) h)
+    (λ m. say_at n k r (and_parts (says n k) (all_say n k) h).1 m)
   where
     below : (r k : ℕ) → r < suc k → (r ≡ k) ⊎ (r < k)
     below zero zero l = inl refl
@@ -37,14 +38,16 @@ say_at n (suc k) r h l = go (below r k l) (and_parts (says n k) (all_say n k) h)
         up (inl e) = inl (ap suc e)
         up (inr m) = inr (omega arith)
 
-    go : (r ≡ k) ⊎ (r < k) → (says n k ≡ true) × (all_say n k ≡ true) → (r < k → says n r ≡ true) → says n r ≡ true
+    go : (r ≡ k) ⊎ (r < k) → (says n k ≡ true) × (all_say n k ≡ true) → (r < k → says n r ≡ true)
+        → says n r ≡ true
     go (inl e) b more = subst (λ z. says n z ≡ true) (sym e) b.0
     go (inr m) b more = more m
 
 every_says : (m n : ℕ) → every m ≡ true → n ≤ m → all_say n 24 ≡ true
 every_says zero zero h l = h
 every_says zero (suc n) h l = absurd (omega arith)
-every_says (suc m) n h l = go (top n m l) (and_parts (all_say (suc m) 24) (every m) h) (λ k. every_says m n (and_parts (all_say (suc m) 24) (every m) h).1 k)
+every_says (suc m) n h l = go (top n m l) (and_parts (all_say (suc m) 24) (every m) h)
+    (λ k. every_says m n (and_parts (all_say (suc m) 24) (every m) h).1 k)
   where
     top : (n m : ℕ) → n ≤ suc m → (n ≡ suc m) ⊎ (n ≤ m)
     top zero m l = inr (omega arith)
@@ -55,7 +58,8 @@ every_says (suc m) n h l = go (top n m l) (and_parts (all_say (suc m) 24) (every
         up (inl e) = inl (ap suc e)
         up (inr k) = inr (omega arith)
 
-    go : (n ≡ suc m) ⊎ (n ≤ m) → (all_say (suc m) 24 ≡ true) × (every m ≡ true) → (n ≤ m → all_say n 24 ≡ true) → all_say n 24 ≡ true
+    go : (n ≡ suc m) ⊎ (n ≤ m) → (all_say (suc m) 24 ≡ true) × (every m ≡ true)
+        → (n ≤ m → all_say n 24 ≡ true) → all_say n 24 ≡ true
     go (inl e) b more = subst (λ z. all_say z 24 ≡ true) (sym e) b.0
     go (inr k) b more = more k
 
@@ -63,10 +67,12 @@ all_checked : every 13 ≡ true
 all_checked = refl
 
 high_bit : (n r : ℕ) → n < 2 ^ 24 → 24 ≤ r → bit_at n r ≡ 0
-high_bit n r l h = let p : 2 ^ 24 ≤ 2 ^ r = pow_mono h in ap (λ q. q % 2) (div-eq_of_lt (omega (arith, l, p)))
+high_bit n r l h = let p : 2 ^ 24 ≤ 2 ^ r = pow_mono h
+    in ap (λ q. q % 2) (div-eq_of_lt (omega (arith, l, p)))
 
 mask_small : (n : ℕ) → n ≤ 13 → result_mask n < 2 ^ 24
-mask_small n h = let l : min n 13 ≤ 13 = omega arith in let p : 2 ^ min n 13 ≤ 2 ^ 13 = pow_mono l in omega (arith, p)
+mask_small n h = let l : min n 13 ≤ 13 = omega arith in let p : 2 ^ min n 13 ≤ 2 ^ 13 = pow_mono l
+    in omega (arith, p)
 
 bit_is : (n r : ℕ) → n ≤ 13 → bit_at (result_mask n) r ≡ cond (is_result n r) 1 0
 bit_is n r h = go (side r)
@@ -79,7 +85,8 @@ bit_is n r h = go (side r)
         from false e = inr (grind (arith, nat_tests))
 
     go : (r < 24) ⊎ (24 ≤ r) → bit_at (result_mask n) r ≡ cond (is_result n r) 1 0
-    go (inl l) = let s : says n r ≡ true = say_at n 24 r (every_says 13 n all_checked h) l in grind (arith, nat_tests)
+    go (inl l) = let s : says n r ≡ true = say_at n 24 r (every_says 13 n all_checked h) l
+        in grind (arith, nat_tests)
     go (inr g) =
         let f : nat_lt r (10 + n) ≡ false = grind (arith, nat_tests) in
         let e : is_result n r ≡ false = ap (λ b. nat_le 10 r && b) f ∙ and_false (nat_le 10 r) in
@@ -94,7 +101,8 @@ result_bit n r h e = go (is_result n r) refl
         let a : nat_le 10 r ≡ true = t.0 in
         let b : nat_lt r (10 + n) ≡ true = t.1 in
         (grind (arith, nat_tests), grind (arith, nat_tests))
-    go false q = let z : 1 ≡ 0 = sym e ∙ bit_is n r h ∙ ap (λ b. cond b 1 0) q in absurd (omega (arith, z))
+    go false q = let z : 1 ≡ 0 = sym e ∙ bit_is n r h ∙ ap (λ b. cond b 1 0) q
+        in absurd (omega (arith, z))
 
 pub bit_result : (n r : ℕ) → n ≤ 13 → 10 ≤ r → r < 10 + n → bit_at (result_mask n) r ≡ 1
 bit_result n r h a b =

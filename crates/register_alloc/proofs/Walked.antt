@@ -20,31 +20,44 @@ grouped (x ∷ xs) ys zs = ap (λ l. x ∷ l) (grouped xs ys zs)
 
 -- ---- the statements and arms that are still to come
 
--- what was gathered, and what the statements from the k-th on and the end have, is what the whole block has
+-- what was gathered, and what the statements from the k-th on and the end have, is what the whole
+-- block has
 module _ {A : Type 0} (has : Code → List A) where
   abbrev pub StmtsLeft : (old now : List A) → List LowStmt → (k : ℕ) → Type 0
-  StmtsLeft old now ss k = (c : Code) → old ++ has (all_before (map before_of ss) c) ≡ now ++ has (all_before (map before_of (drop k ss)) c)
+  StmtsLeft old now ss k = (c : Code) → old ++ has (all_before (map before_of ss) c) ≡ now
+      ++ has (all_before (map before_of (drop k ss)) c)
 
-  pub stmts_next : (old now new : List A) (ss : List LowStmt) (k : ℕ) (s : LowStmt) → slice_get ss k ≡ Some s
-      → ((c : Code) → now ++ has (before_of s c) ≡ new ++ has c) → StmtsLeft old now ss k → StmtsLeft old new ss (suc k)
+  pub stmts_next : (old now new : List A) (ss : List LowStmt) (k : ℕ) (s : LowStmt)
+      → slice_get ss k ≡ Some s
+      → ((c : Code) → now ++ has (before_of s c) ≡ new ++ has c) → StmtsLeft old now ss k
+      → StmtsLeft old new ss (suc k)
   stmts_next old now new ss k s there one left c = left c ∙ step ss k there
     where
-      step : (xs : List LowStmt) (j : ℕ) → slice_get xs j ≡ Some s → now ++ has (all_before (map before_of (drop j xs)) c) ≡ new ++ has (all_before (map before_of (drop (suc j) xs)) c)
+      step : (xs : List LowStmt) (j : ℕ) → slice_get xs j ≡ Some s → now
+          ++ has (all_before (map before_of (drop j xs)) c) ≡ new
+          ++ has (all_before (map before_of (drop (suc j) xs)) c)
       step [] j e = cc
-      step (x ∷ xs) zero e = let q : x ≡ s = cc in ap (λ y. now ++ has (before_of y (all_before (map before_of xs) c))) q ∙ one (all_before (map before_of xs) c)
+      step (x ∷ xs) zero e = let q : x ≡ s = cc in ap
+          (λ y. now ++ has (before_of y (all_before (map before_of xs) c))) q ∙ one
+          (all_before (map before_of xs) c)
       step (x ∷ xs) (suc j) e = step xs j e
 
   module _ (arms_have : Arms → List A) where
     abbrev pub ArmsLeft : (old now : List A) → List LowArm → (k : ℕ) → Type 0
-    ArmsLeft old now as' k = (c : Code) → old ++ arms_have (arms_before (map arm_of as') c) ≡ now ++ arms_have (arms_before (map arm_of (drop k as')) c)
+    ArmsLeft old now as' k = (c : Code) → old ++ arms_have (arms_before (map arm_of as') c) ≡ now
+        ++ arms_have (arms_before (map arm_of (drop k as')) c)
 
-    pub each_arm_next : (arm_has : List LowTest → Code → List A) → ((ts : List LowTest) (b : Code) (rest : Arms) → arms_have (arm ts b rest) ≡ arm_has ts b ++ arms_have rest)
+    pub each_arm_next : (arm_has : List LowTest → Code → List A)
+        → ((ts : List LowTest) (b : Code) (rest : Arms) → arms_have (arm ts b rest) ≡ arm_has ts b
+        ++ arms_have rest)
         → (old now new : List A) (as' : List LowArm) (k : ℕ) (a : LowArm) → slice_get as' k ≡ Some a
-        → new ≡ now ++ arm_has a.tests (code_of a.block) → ArmsLeft old now as' k → ArmsLeft old new as' (suc k)
+        → new ≡ now ++ arm_has a.tests (code_of a.block) → ArmsLeft old now as' k
+        → ArmsLeft old new as' (suc k)
     each_arm_next arm_has each old now new as' k a there one left c = left c ∙ step as' k there
       where
         step : (xs : List LowArm) (j : ℕ) → slice_get xs j ≡ Some a
-            → now ++ arms_have (arms_before (map arm_of (drop j xs)) c) ≡ new ++ arms_have (arms_before (map arm_of (drop (suc j) xs)) c)
+            → now ++ arms_have (arms_before (map arm_of (drop j xs)) c) ≡ new
+            ++ arms_have (arms_before (map arm_of (drop (suc j) xs)) c)
         step [] j e = cc
         step (x ∷ xs) zero e =
             let q : x ≡ a = cc in
@@ -56,14 +69,19 @@ module _ {A : Type 0} (has : Code → List A) where
             ∙ ap (λ l. l ++ arms_have rest) (sym one)
         step (x ∷ xs) (suc j) e = step xs j e
 
-    pub arms_next : ((ts : List LowTest) (b : Code) (rest : Arms) → arms_have (arm ts b rest) ≡ has b ++ arms_have rest)
+    pub arms_next :
+        ((ts : List LowTest) (b : Code) (rest : Arms) → arms_have (arm ts b rest) ≡ has b
+        ++ arms_have rest)
         → (old now new : List A) (as' : List LowArm) (k : ℕ) (a : LowArm) → slice_get as' k ≡ Some a
         → new ≡ now ++ has (code_of a.block) → ArmsLeft old now as' k → ArmsLeft old new as' (suc k)
-    arms_next each old now new as' k a there one left = each_arm_next (λ ts b. has b) each old now new as' k a there one left
+    arms_next each old now new as' k a there one left
+        = each_arm_next (λ ts b. has b) each old now new as' k a there one left
 
-  pub block_whole : (old now new : List A) (ss : List LowStmt) (k : ℕ) (e : Code) → length ss ≤ k → StmtsLeft old now ss k → new ≡ now ++ has e
+  pub block_whole : (old now new : List A) (ss : List LowStmt) (k : ℕ) (e : Code) → length ss ≤ k
+      → StmtsLeft old now ss k → new ≡ now ++ has e
       → new ≡ old ++ has (all_before (map before_of ss) e)
-  block_whole old now new ss k e past left is = is ∙ ap (λ xs. now ++ has (all_before (map before_of xs) e)) (sym (none ss k past)) ∙ sym (left e)
+  block_whole old now new ss k e past left is = is ∙ ap
+      (λ xs. now ++ has (all_before (map before_of xs) e)) (sym (none ss k past)) ∙ sym (left e)
     where
       none : {B : Type 0} (xs : List B) (j : ℕ) → length xs ≤ j → drop j xs ≡ []
       none [] zero h = refl

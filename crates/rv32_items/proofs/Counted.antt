@@ -6,7 +6,8 @@ use Rattle.rv32_items.specs.declared.Item.{Item}
 use Rattle.std.specs.Prelude.{nat_eq}
 use Rattle.rv32_items.specs.Placed.{times, size_of}
 
-pub counted_one : (b : Bool) (n p q : ℕ) → n ≡ p + q → (if b then suc n else n) ≡ (if b then suc p else p) + q
+pub counted_one : (b : Bool) (n p q : ℕ) → n ≡ p + q
+    → (if b then suc n else n) ≡ (if b then suc p else p) + q
 counted_one true n p q e = omega arith
 counted_one false n p q e = e
 

@@ -12,7 +12,8 @@ abbrev label_is : ℕ → Item → Type 0
 label_is l i = i ≡ Label l
 
 -- a label that stands nowhere
-no_label : (l : ℕ) (items : List Item) → times l items ≡ 0 → (k : ℕ) → slice_get items k ≡ Some (Label l) → ⊥
+no_label : (l : ℕ) (items : List Item) → times l items ≡ 0 → (k : ℕ)
+    → slice_get items k ≡ Some (Label l) → ⊥
 no_label l [] z k h = cc
 no_label l (Label j ∷ items) z zero h =
     let e : j ≡ l = cc in
@@ -40,12 +41,14 @@ record Found (l m : ℕ) (items : List Item) : Type 0 where
   pub here : slice_get items at ≡ Some (Label l)
   pub once : (k : ℕ) → slice_get items k ≡ Some (Label l) → k ≡ at
 
-later : (l m : ℕ) (i : Item) (items : List Item) → is_label l i ≡ false → (i ≡ Label l → ⊥) → Found l (suc m) items → Found l m (i ∷ items)
+later : (l m : ℕ) (i : Item) (items : List Item) → is_label l i ≡ false → (i ≡ Label l → ⊥)
+    → Found l (suc m) items → Found l m (i ∷ items)
 later l m i items miss other f = record {
   at = suc f.at;
   first =
       let e : suc m + f.at ≡ m + suc f.at = omega arith in
-      ap (λ b. if b then Some m else label_from (suc m) items l) miss ∙ f.first ∙ ap (λ n. Some n) e;
+      ap (λ b. if b then Some m else label_from (suc m) items l) miss ∙ f.first ∙ ap (λ n. Some n)
+      e;
   here = f.here;
   once = once;
 }
@@ -54,7 +57,8 @@ later l m i items miss other f = record {
     once zero h = absurd (other (same_Some _ _ h))
     once (suc k) h = ap suc (f.once k h)
 
-found_here : (l m j : ℕ) (items : List Item) → j ≡ l → nat_eq j l ≡ true → times l items ≡ 0 → Found l m (Label j ∷ items)
+found_here : (l m j : ℕ) (items : List Item) → j ≡ l → nat_eq j l ≡ true → times l items ≡ 0
+    → Found l m (Label j ∷ items)
 found_here l m j items e hit none = record {
   at = 0;
   first =
@@ -68,19 +72,26 @@ found_here l m j items e hit none = record {
     only zero h = refl
     only (suc k) h = absurd (no_label l items none k h)
 
-found_label : (l m j : ℕ) (items : List Item) → (times l items ≡ 1 → Found l (suc m) items) → (b : Bool) → nat_eq j l ≡ b → (if b then suc (times l items) else times l items) ≡ 1 → Found l m (Label j ∷ items)
-found_label l m j items rest true hit h = found_here l m j items (eqb-true j l hit) hit (omega arith)
-found_label l m j items rest false miss h = later l m (Label j) items miss (λ e. let s : j ≡ l = cc in eqb-false j l miss s) (rest h)
+found_label : (l m j : ℕ) (items : List Item) → (times l items ≡ 1 → Found l (suc m) items)
+    → (b : Bool) → nat_eq j l ≡ b → (if b then suc (times l items) else times l items) ≡ 1
+    → Found l m (Label j ∷ items)
+found_label l m j items rest true hit h = found_here l m j items (eqb-true j l hit) hit
+    (omega arith)
+found_label l m j items rest false miss h = later l m (Label j) items miss
+    (λ e. let s : j ≡ l = cc in eqb-false j l miss s) (rest h)
 
 found : (l m : ℕ) (items : List Item) → times l items ≡ 1 → Found l m items
 found l m [] h = absurd (omega arith)
-found l m (Label j ∷ items) h = found_label l m j items (λ r. found l (suc m) items r) (nat_eq j l) refl h
+found l m (Label j ∷ items) h = found_label l m j items (λ r. found l (suc m) items r) (nat_eq j l)
+    refl h
 found l m (Plain i ∷ items) h = later l m (Plain i) items refl (λ e. cc) (found l (suc m) items h)
-found l m (Branch c a b t ∷ items) h = later l m (Branch c a b t) items refl (λ e. cc) (found l (suc m) items h)
+found l m (Branch c a b t ∷ items) h = later l m (Branch c a b t) items refl (λ e. cc)
+    (found l (suc m) items h)
 found l m (Jump t j ∷ items) h = later l m (Jump t j) items refl (λ e. cc) (found l (suc m) items h)
 
 -- a label that stands once: the number of its item
-pub stands : (l : ℕ) (items : List Item) → times l items ≡ 1 → (n : ℕ) × ((label_from 0 items l ≡ Some n) × LabelIsOnlyAt items l n)
+pub stands : (l : ℕ) (items : List Item) → times l items ≡ 1 → (n : ℕ)
+    × ((label_from 0 items l ≡ Some n) × LabelIsOnlyAt items l n)
 stands l items h =
     let f = found l 0 items h in
     let e : 0 + f.at ≡ f.at = omega arith in

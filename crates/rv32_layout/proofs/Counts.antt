@@ -15,7 +15,8 @@ pub place_none : (ways : List Way) (items : List Item) → place ways items 0 �
 unfolding place
 place_none ways items = refl
 
-pub place_more : (ways : List Way) (items : List Item) (n : ℕ) → place ways items (suc n) ≡ place ways items n + width_in (way_at ways n) (slice_get items n)
+pub place_more : (ways : List Way) (items : List Item) (n : ℕ)
+    → place ways items (suc n) ≡ place ways items n + width_in (way_at ways n) (slice_get items n)
 unfolding place
 place_more ways items n = refl
 
@@ -23,7 +24,8 @@ pub code_none : (ways : List Way) (items : List Item) → code ways items 0 ≡ 
 unfolding code
 code_none ways items = refl
 
-pub code_more : (ways : List Way) (items : List Item) (n : ℕ) → code ways items (suc n) ≡ code ways items n ++ code_at ways items n (slice_get items n)
+pub code_more : (ways : List Way) (items : List Item) (n : ℕ)
+    → code ways items (suc n) ≡ code ways items n ++ code_at ways items n (slice_get items n)
 unfolding code
 code_more ways items n = refl
 
@@ -62,7 +64,8 @@ module _ (ways : List Way) (items : List Item) where
   width_in_le w None = omega arith
   width_in_le w (Some i) = width_le w i
 
-  size_before : (is : List Item) (n : ℕ) → size_of (drop n is) ≡ size_in (slice_get is n) + size_of (drop (suc n) is)
+  size_before : (is : List Item) (n : ℕ) → size_of (drop n is) ≡ size_in (slice_get is n) + size_of
+      (drop (suc n) is)
   size_before [] zero = refl
   size_before (i ∷ is) zero = refl
   size_before [] (suc n) = refl
@@ -86,19 +89,24 @@ module _ (ways : List Way) (items : List Item) where
       let P : ℕ → Type 0 = λ k. place ways items k ≤ place ways items 0 in
       subst P e (omega arith)
   places_rise m (suc n) h = elim (cases_eq (suc n) m) [
-    | inl e ↦ let P : ℕ → Type 0 = λ k. place ways items k ≤ place ways items (suc n) in subst P e (omega arith)
-    | inr ne ↦ let r = places_rise m n (omega arith) in let p = place_more ways items n in omega arith
+    | inl e ↦ let P : ℕ → Type 0 = λ k. place ways items k ≤ place ways items (suc n)
+        in subst P e (omega arith)
+    | inr ne ↦ let r = places_rise m n (omega arith) in let p = place_more ways items n
+        in omega arith
   ]
 
 -- by ways that are no longer, no distance is longer
-pub shrinks : (items : List Item) (old new : List Way) → NoLonger items old new → (m n : ℕ) → m ≤ n → place new items n + place old items m ≤ place old items n + place new items m
+pub shrinks : (items : List Item) (old new : List Way) → NoLonger items old new → (m n : ℕ) → m ≤ n
+    → place new items n + place old items m ≤ place old items n + place new items m
 shrinks items old new less m zero h =
     let e : 0 ≡ m = omega arith in
-    let P : ℕ → Type 0 = λ k. place new items 0 + place old items k ≤ place old items 0 + place new items k in
+    let P : ℕ → Type 0 = λ k. place new items 0 + place old items k ≤ place old items 0 + place new
+    items k in
     subst P e (omega arith)
 shrinks items old new less m (suc n) h = elim (cases_eq (suc n) m) [
   | inl e ↦
-      let P : ℕ → Type 0 = λ k. place new items (suc n) + place old items k ≤ place old items (suc n) + place new items k in
+      let P : ℕ → Type 0 = λ k. place new items (suc n) + place old items k ≤ place old items
+      (suc n) + place new items k in
       subst P e (omega arith)
   | inr ne ↦
       let r = shrinks items old new less m n (omega arith) in
@@ -110,7 +118,8 @@ shrinks items old new less m (suc n) h = elim (cases_eq (suc n) m) [
 
 -- ---- the code
 
-branch_length : (w : Way) (at to : ℕ) (i : Item) → (cond : _) (left right : ℕ) → length (branch_code w at to cond left right) ≡ branch_width w
+branch_length : (w : Way) (at to : ℕ) (i : Item) → (cond : _) (left right : ℕ)
+    → length (branch_code w at to cond left right) ≡ branch_width w
 branch_length ByBranch at to i cond left right = refl
 branch_length ByJump at to i cond left right = refl
 branch_length ByAddress at to i cond left right = refl
@@ -123,50 +132,62 @@ jump_length ByAddress at to link = refl
 instructions_length : (w : Way) (at to : ℕ) (i : Item) → length (instructions w at to i) ≡ width w i
 instructions_length w at to (Label l) = refl
 instructions_length w at to (Plain i) = refl
-instructions_length w at to (Branch cond left right l) = branch_length w at to (Label 0) cond left right
+instructions_length w at to (Branch cond left right l)
+    = branch_length w at to (Label 0) cond left right
 instructions_length w at to (Jump link l) = jump_length w at to link
 
-code_at_length : (ways : List Way) (items : List Item) (n : ℕ) (o : Option Item) → length (code_at ways items n o) ≡ width_in (way_at ways n) o
+code_at_length : (ways : List Way) (items : List Item) (n : ℕ) (o : Option Item)
+    → length (code_at ways items n o) ≡ width_in (way_at ways n) o
 code_at_length ways items n None = refl
 code_at_length ways items n (Some i) = instructions_length (way_at ways n) _ _ i
 
-pub code_length : (ways : List Way) (items : List Item) (n : ℕ) → length (code ways items n) ≡ place ways items n
-code_length ways items zero = let c = ap length (code_none ways items) in let p = place_none ways items in omega arith
+pub code_length : (ways : List Way) (items : List Item) (n : ℕ)
+    → length (code ways items n) ≡ place ways items n
+code_length ways items zero = let c = ap length (code_none ways items) in let p
+    = place_none ways items in omega arith
 code_length ways items (suc n) =
-    let c = ap length (code_more ways items n) ∙ length-append (code ways items n) (code_at ways items n (slice_get items n)) in
+    let c = ap length (code_more ways items n) ∙ length-append (code ways items n)
+    (code_at ways items n (slice_get items n)) in
     let p = place_more ways items n in
     let a = code_at_length ways items n (slice_get items n) in
     let h = code_length ways items n in
     omega arith
 
 -- the code up to an item, its instructions, and the rest
-pub code_split : (ways : List Way) (items : List Item) (n m : ℕ) → n < m → (rest : List Instr) × (code ways items m ≡ code ways items n ++ (code_at ways items n (slice_get items n) ++ rest))
+pub code_split : (ways : List Way) (items : List Item) (n m : ℕ) → n < m → (rest : List Instr)
+    × (code ways items m ≡ code ways items n ++ (code_at ways items n (slice_get items n) ++ rest))
 code_split ways items n zero h = absurd (omega arith)
 code_split ways items n (suc m) h = elim (cases_eq n m) [
   | inl e ↦
-      let here = code_at ways items n (slice_get items n) in
-      ([], ap (λ k. code ways items (suc k)) (sym e) ∙ code_more ways items n ∙ ap (λ x. code ways items n ++ x) (sym (append-nil here)))
+      let here = code_at ways items n (slice_get items n) in (
+        [],
+        ap (λ k. code ways items (suc k)) (sym e) ∙ code_more ways items n ∙ ap
+            (λ x. code ways items n ++ x) (sym (append-nil here)),
+      )
   | inr ne ↦
       let r = code_split ways items n m (omega arith) in
       let more = code_at ways items m (slice_get items m) in
       let here = code_at ways items n (slice_get items n) in (
         r.0 ++ more,
         code_more ways items m ∙ ap (λ x. x ++ more) r.1
-            ∙ append_assoc (code ways items n) (here ++ r.0) more ∙ ap (λ x. code ways items n ++ x) (append_assoc here r.0 more),
+            ∙ append_assoc (code ways items n) (here ++ r.0) more ∙ ap (λ x. code ways items n ++ x)
+            (append_assoc here r.0 more),
       )
 ]
 
 -- ---- behind the item that is read
 
-module _ (ways : List Way) (items : List Item) (n : ℕ) (x : Item) (e : slice_get items n ≡ Some x) where
-  more : n + 1 ≡ suc n
-  more = omega arith
+module _ (ways : List Way) (items : List Item) (n : ℕ) (x : Item) (e : slice_get items n ≡ Some x)
+  where
+    more : n + 1 ≡ suc n
+    more = omega arith
 
-  pub place_here : place ways items (suc n) ≡ place ways items n + width (way_at ways n) x
-  place_here = place_more ways items n ∙ ap (λ o. place ways items n + width_in (way_at ways n) o) e
+    pub place_here : place ways items (suc n) ≡ place ways items n + width (way_at ways n) x
+    place_here = place_more ways items n ∙ ap (λ o. place ways items n + width_in (way_at ways n) o) e
 
-  pub place_behind : place ways items (n + 1) ≡ place ways items n + width (way_at ways n) x
-  place_behind = ap (place ways items) more ∙ place_here
+    pub place_behind : place ways items (n + 1) ≡ place ways items n + width (way_at ways n) x
+    place_behind = ap (place ways items) more ∙ place_here
 
-  pub code_behind : code ways items (n + 1) ≡ code ways items n ++ code_at ways items n (Some x)
-  code_behind = ap (code ways items) more ∙ code_more ways items n ∙ ap (λ o. code ways items n ++ code_at ways items n o) e
+    pub code_behind : code ways items (n + 1) ≡ code ways items n ++ code_at ways items n (Some x)
+    code_behind = ap (code ways items) more ∙ code_more ways items n ∙ ap
+        (λ o. code ways items n ++ code_at ways items n o) e

@@ -14,17 +14,25 @@ use Rattle.rv32_layout.specs.Spots.{KnowsLabelSpots, label_address}
 use Rattle.rv32_layout.proofs.Laid.{layout, laid}
 use Rattle.rv32_layout.proofs.Table.{in_table}
 
-module _ (items : List Item) (ways : List Way) (table : Spots) (known : KnowsLabelSpots items ways (length items) table) where
-  addresses_are : (words : List ℕ) (from count : ℕ) → ((l : ℕ) → l < from + count → times l items ≡ 1)
-      → map (label_address table) (range_with_len from count) ≡ addresses_of (layout ways items words) items (range_with_len from count)
+module _ (items : List Item) (ways : List Way) (table : Spots)
+    (known : KnowsLabelSpots items ways (length items) table) where
+  addresses_are : (words : List ℕ) (from count : ℕ)
+      → ((l : ℕ) → l < from + count → times l items ≡ 1)
+      → map (label_address table) (range_with_len from count) ≡ addresses_of
+      (layout ways items words) items (range_with_len from count)
   addresses_are words from zero once = refl
   addresses_are words from (suc count) once =
-      let here : label_address table from ≡ address_of (layout ways items words) items from = ap (λ o. 65536 + 4 * unwrap_or o 0) (in_table items ways table known from (once from (omega arith))) in
+      let here : label_address table from ≡ address_of (layout ways items words) items from
+      = ap (λ o. 65536 + 4 * unwrap_or o 0)
+      (in_table items ways table known from (once from (omega arith))) in
       let more = addresses_are words (from + 1) count (λ l lt. once l (omega arith)) in
       λ i. here i ∷ more i
 
-  pub is_placement : size_of items ≤ 268435456 → LabelsStand items → AllPlain items → (labels : ℕ) → ((l : ℕ) → l < labels → times l items ≡ 1)
-      → (m : Placement) → Encode (code ways items (length items)) m.words.items → m.addresses.items ≡ map (label_address table) (range_with_len 0 labels) → IsPlacement items labels m
+  pub is_placement : size_of items ≤ 268435456 → LabelsStand items → AllPlain items → (labels : ℕ)
+      → ((l : ℕ) → l < labels → times l items ≡ 1)
+      → (m : Placement) → Encode (code ways items (length items)) m.words.items
+      → m.addresses.items ≡ map (label_address table) (range_with_len 0 labels)
+      → IsPlacement items labels m
   is_placement few stand plain labels once m encode addresses =
       let there = laid ways items m.words.items few encode stand plain in
       record {

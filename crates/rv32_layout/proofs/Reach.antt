@@ -10,17 +10,25 @@ use Rattle.rv32_isa.specs.Bits.{lower}
 abbrev pub address : ℕ → ℕ
 address w = 65536 + 4 * w
 
-pub offset_lands : (from to : ℕ) → from ≤ 268435457 → to ≤ 268435456 → plus (address from) (pattern (offset from to)) ≡ address to
+pub offset_lands : (from to : ℕ) → from ≤ 268435457 → to ≤ 268435456
+    → plus (address from) (pattern (offset from to)) ≡ address to
 offset_lands from to hf ht = at (nat_le from to) refl
   where
-    at : (b : Bool) → nat_le from to ≡ b → plus (address from) (pattern (if b then pos (4 * (to - from)) else negsuc (4 * (from - to) - 1))) ≡ address to
+    at : (b : Bool) → nat_le from to ≡ b → plus (address from)
+        (pattern (if b then pos (4 * (to - from)) else negsuc (4 * (from - to) - 1))) ≡ address to
     at true e = let h = leb-true from to e in omega arith
     at false e = let h = leb-false from to e in omega arith
 
 -- the two parts of a distance, added to the address of a word
-pub distance_lands : (from to : ℕ) → from ≤ 268435457 → to ≤ 268435456 → plus (plus (address from) (upper (distance from to) * 4096)) (pattern (lower (distance from to))) / 2 * 2 ≡ address to
-distance_lands from to hf ht = parts from to (distance from to) refl hf ht (nat_lt (distance from to % 4096) 2048) refl
+pub distance_lands : (from to : ℕ) → from ≤ 268435457 → to ≤ 268435456
+    → plus (plus (address from) (upper (distance from to) * 4096))
+    (pattern (lower (distance from to))) / 2 * 2 ≡ address to
+distance_lands from to hf ht = parts from to (distance from to) refl hf ht
+    (nat_lt (distance from to % 4096) 2048) refl
   where
-    parts : (from to u : ℕ) → u ≡ distance from to → from ≤ 268435457 → to ≤ 268435456 → (b : Bool) → nat_lt (u % 4096) 2048 ≡ b → plus (plus (address from) (upper u * 4096)) (pattern (if b then pos (u % 4096) else negsuc (4096 - suc (u % 4096)))) / 2 * 2 ≡ address to
+    parts : (from to u : ℕ) → u ≡ distance from to → from ≤ 268435457 → to ≤ 268435456 → (b : Bool)
+        → nat_lt (u % 4096) 2048 ≡ b → plus (plus (address from) (upper u * 4096))
+        (pattern (if b then pos (u % 4096) else negsuc (4096 - suc (u % 4096)))) / 2 * 2 ≡ address
+        to
     parts from to u d hf ht true e = let h = ltb-true (u % 4096) 2048 e in omega arith
     parts from to u d hf ht false e = let h = ltb-false (u % 4096) 2048 e in omega arith

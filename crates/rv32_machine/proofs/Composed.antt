@@ -9,21 +9,33 @@ pub run_none : (input : List ℕ) (s : State) → run 0 input s ≡ stands input
 unfolding run
 run_none input s = refl
 
-pub run_more : (n : ℕ) (input : List ℕ) (s : State) → run (suc n) input s ≡ onward (run n) input s (step s)
+pub run_more : (n : ℕ) (input : List ℕ) (s : State)
+    → run (suc n) input s ≡ onward (run n) input s (step s)
 unfolding run
 run_more n input s = refl
 
 -- bytes before a run and before its continuation
-after_continued : (bytes : List ℕ) (n : ℕ) (out left : List ℕ) (e : MachineEnd) → after bytes (continued n (record { out = out; left = left; end = e })) ≡ continued n (record { out = bytes ++ out; left = left; end = e })
-after_continued bytes n out left (Going s) = λ i. record { out = sym (append_assoc bytes out (run n left s).out) i; left = (run n left s).left; end = (run n left s).end }
+after_continued : (bytes : List ℕ) (n : ℕ) (out left : List ℕ) (e : MachineEnd)
+    → after bytes (continued n (record { out = out; left = left; end = e })) ≡ continued n
+    (record { out = bytes ++ out; left = left; end = e })
+after_continued bytes n out left (Going s) = λ i. record {
+  out = sym (append_assoc bytes out (run n left s).out) i;
+  left = (run n left s).left;
+  end
+      = (run n left s).end;
+}
 after_continued bytes n out left (Exited code s) = refl
 after_continued bytes n out left (Stopped kind s) = refl
 
 -- the same for one step, whatever it does, where it holds behind the step
-step_composes : (m n : ℕ) → ((input : List ℕ) (s : State) → run (m + n) input s ≡ continued n (run m input s)) → (input : List ℕ) (s : State) (o : Outcome) → onward (run (m + n)) input s o ≡ continued n (onward (run m) input s o)
+step_composes : (m n : ℕ) →
+    ((input : List ℕ) (s : State) → run (m + n) input s ≡ continued n (run m input s))
+    → (input : List ℕ) (s : State) (o : Outcome) → onward (run (m + n)) input s o ≡ continued n
+    (onward (run m) input s o)
 step_composes m n later input s (Next t) = later input t
 step_composes m n later input s (Written address len bytes t) =
-    ap (after bytes) (later input t) ∙ after_continued bytes n (run m input t).out (run m input t).left (run m input t).end
+    ap (after bytes) (later input t) ∙ after_continued bytes n (run m input t).out
+    (run m input t).left (run m input t).end
 step_composes m n later input s (Asked address) = later (drop 1 input) (given s (slice_get input 0))
 step_composes m n later input s (Ended code) = refl
 step_composes m n later input s (Trapped kind) = refl
@@ -40,7 +52,8 @@ runs_compose (suc m) n input s =
     ∙ ap (continued n) (sym (run_more m input s))
 
 -- a run that has ended is not continued
-ended : (n : ℕ) (out left : List ℕ) (e : MachineEnd) → has_ended e ≡ true → let r : Run = record { out = out; left = left; end = e } in continued n r ≡ r
+ended : (n : ℕ) (out left : List ℕ) (e : MachineEnd) → has_ended e ≡ true → let r : Run
+    = record { out = out; left = left; end = e } in continued n r ≡ r
 ended n out left (Going s) h = cc
 ended n out left (Exited code s) h = refl
 ended n out left (Stopped kind s) h = refl
@@ -53,7 +66,8 @@ end_stays m n input s h =
 pub end_append : (xs : List ℕ) → xs ≡ xs ++ []
 end_append xs = grind (arith, common_steps)
 
-grows : (n : ℕ) (out left : List ℕ) (e : MachineEnd) → (more : List ℕ) × ((continued n (record { out = out; left = left; end = e })).out ≡ out ++ more)
+grows : (n : ℕ) (out left : List ℕ) (e : MachineEnd) → (more : List ℕ)
+    × ((continued n (record { out = out; left = left; end = e })).out ≡ out ++ more)
 grows n out left (Going s) = ((run n left s).out, refl)
 grows n out left (Exited code s) = ([], end_append out)
 grows n out left (Stopped kind s) = ([], end_append out)
@@ -67,13 +81,17 @@ output_grows m n input s =
 -- ---- the input
 
 -- what a run leaves is a rest of what it was given
-left_is_rest : (n : ℕ) (input : List ℕ) (s : State) → (gone : List ℕ) × (input ≡ gone ++ (run n input s).left)
+left_is_rest : (n : ℕ) (input : List ℕ) (s : State) → (gone : List ℕ)
+    × (input ≡ gone ++ (run n input s).left)
 left_is_rest zero input s = ([], ap (λ r. r.left) (sym (run_none input s)))
 left_is_rest (suc n) input s =
     let h = by_step n (λ i t. left_is_rest n i t) input s (step s) in
     (h.0, h.1 ∙ ap (λ r. h.0 ++ r.left) (sym (run_more n input s)))
   where
-    by_step : (n : ℕ) → ((i : List ℕ) (t : State) → (gone : List ℕ) × (i ≡ gone ++ (run n i t).left)) → (i : List ℕ) (s : State) (o : Outcome) → (gone : List ℕ) × (i ≡ gone ++ (onward (run n) i s o).left)
+    by_step : (n : ℕ) →
+        ((i : List ℕ) (t : State) → (gone : List ℕ) × (i ≡ gone ++ (run n i t).left))
+        → (i : List ℕ) (s : State) (o : Outcome) → (gone : List ℕ)
+        × (i ≡ gone ++ (onward (run n) i s o).left)
     by_step n later i s (Next t) = later i t
     by_step n later i s (Written address len bytes t) = later i t
     by_step n later [] s (Asked address) = later [] (given s None)
@@ -82,7 +100,8 @@ left_is_rest (suc n) input s =
     by_step n later i s (Ended code) = ([], refl)
     by_step n later i s (Trapped kind) = ([], refl)
 
-shrinks : (n : ℕ) (out left : List ℕ) (e : MachineEnd) → (gone : List ℕ) × (left ≡ gone ++ (continued n (record { out = out; left = left; end = e })).left)
+shrinks : (n : ℕ) (out left : List ℕ) (e : MachineEnd) → (gone : List ℕ)
+    × (left ≡ gone ++ (continued n (record { out = out; left = left; end = e })).left)
 shrinks n out left (Going s) = left_is_rest n left s
 shrinks n out left (Exited code s) = ([], refl)
 shrinks n out left (Stopped kind s) = ([], refl)
@@ -92,8 +111,11 @@ input_is_used_in_order m n input s =
     let r = run m input s in
     let q = run (m + n) input s in
     let h = shrinks n r.out r.left r.end in
-    let rest : r.left ≡ h.0 ++ q.left = h.1 ∙ ap (λ x. h.0 ++ x.left) (sym (runs_compose m n input s)) in
+    let rest : r.left ≡ h.0 ++ q.left = h.1 ∙ ap (λ x. h.0 ++ x.left)
+    (sym (runs_compose m n input s)) in
     let first = left_is_rest m input s in
-    let a : length input ≡ length first.0 + length r.left = ap length first.1 ∙ length-append first.0 r.left in
-    let b : length r.left ≡ length h.0 + length q.left = ap length rest ∙ length-append h.0 q.left in
+    let a : length input ≡ length first.0 + length r.left
+    = ap length first.1 ∙ length-append first.0 r.left in
+    let b : length r.left ≡ length h.0 + length q.left = ap length rest ∙ length-append h.0 q.left
+    in
     (h.0, rest, omega arith)

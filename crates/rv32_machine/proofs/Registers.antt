@@ -9,7 +9,8 @@ set_here regs r v = ap (λ b. if b then v else regs r) (eq_self r)
 pub set_there : (regs : ℕ → ℕ) (r v q : ℕ) → q ≢ r → set_reg regs r v q ≡ regs q
 set_there regs r v q h = ap (λ b. if b then v else regs q) (eq_false q r h)
 
-pub twice_at : (b : Bool) (x y z : ℕ) → (if b then y else (if b then x else z)) ≡ (if b then y else z)
+pub twice_at : (b : Bool) (x y z : ℕ) → (if b then y else (if b then x else z)) ≡
+    (if b then y else z)
 twice_at true x y z = refl
 twice_at false x y z = refl
 

@@ -13,7 +13,8 @@ use Rattle.seq.proofs.Counted.{among_later, among_cases, among_first, among_left
 abbrev pub Within : (xs ys : List ℕ) → Type 0
 Within xs ys = (x : ℕ) → is_among x xs ≡ true → is_among x ys ≡ true
 
-pub within_cons : (x : ℕ) (xs ys : List ℕ) → is_among x ys ≡ true → Within xs ys → Within (x ∷ xs) ys
+pub within_cons : (x : ℕ) (xs ys : List ℕ) → is_among x ys ≡ true → Within xs ys
+    → Within (x ∷ xs) ys
 within_cons x xs ys h w y k = elim (among_cases y x xs k) [
   | inl e ↦ ap (λ z. is_among z ys) e ∙ h
   | inr m ↦ w y m
@@ -35,21 +36,29 @@ pub within_head : (x : ℕ) (xs ys : List ℕ) → Within (x ∷ xs) ys → is_a
 within_head x xs ys w = w x (among_first x xs)
 
 -- the variables and the sites of a procedure are those of the program
-pub variables_within : (qs : List Procedure) (f : ℕ) (q : Procedure) → slice_get qs f ≡ Some q → Within (variables q) (all_variables qs)
+pub variables_within : (qs : List Procedure) (f : ℕ) (q : Procedure) → slice_get qs f ≡ Some q
+    → Within (variables q) (all_variables qs)
 variables_within [] f q e = cc
 variables_within (p ∷ qs) zero q e =
     let is : p ≡ q = cc in
     λ y k. among_left y (variables p) (all_variables qs) (ap (λ r. is_among y (variables r)) is ∙ k)
-variables_within (p ∷ qs) (suc f) q e = λ y k. among_right y (variables p) (all_variables qs) (variables_within qs f q e y k)
+variables_within (p ∷ qs) (suc f) q e = λ y k. among_right y (variables p) (all_variables qs)
+    (variables_within qs f q e y k)
 
-pub sites_within : (qs : List Procedure) (f : ℕ) (q : Procedure) → slice_get qs f ≡ Some q → Within (sites_of (calls_in q.body)) (all_sites qs)
+pub sites_within : (qs : List Procedure) (f : ℕ) (q : Procedure) → slice_get qs f ≡ Some q
+    → Within (sites_of (calls_in q.body)) (all_sites qs)
 sites_within [] f q e = cc
 sites_within (p ∷ qs) zero q e =
     let is : p ≡ q = cc in
-    λ y k. among_left y (sites_of (calls_in p.body)) (all_sites qs) (ap (λ r. is_among y (sites_of (calls_in r.body))) is ∙ k)
-sites_within (p ∷ qs) (suc f) q e = λ y k. among_right y (sites_of (calls_in p.body)) (all_sites qs) (sites_within qs f q e y k)
+    λ y k. among_left y (sites_of (calls_in p.body)) (all_sites qs)
+    (ap (λ r. is_among y (sites_of (calls_in r.body))) is ∙ k)
+sites_within (p ∷ qs) (suc f) q e = λ y k. among_right y (sites_of (calls_in p.body)) (all_sites qs)
+    (sites_within qs f q e y k)
 
-pub site_among : (ss : List Site) (k site called : ℕ) → slice_get ss k ≡ Some (site, called) → is_among site (sites_of ss) ≡ true
+pub site_among : (ss : List Site) (k site called : ℕ) → slice_get ss k ≡ Some (site, called)
+    → is_among site (sites_of ss) ≡ true
 site_among [] k site called e = cc
-site_among (s ∷ ss) zero site called e = let is : s ≡ (site, called) = cc in ap (λ t. is_among site (t.0 ∷ sites_of ss)) is ∙ among_first site (sites_of ss)
-site_among (s ∷ ss) (suc k) site called e = among_later site s.0 (sites_of ss) (site_among ss k site called e)
+site_among (s ∷ ss) zero site called e = let is : s ≡ (site, called) = cc
+    in ap (λ t. is_among site (t.0 ∷ sites_of ss)) is ∙ among_first site (sites_of ss)
+site_among (s ∷ ss) (suc k) site called e = among_later site s.0 (sites_of ss)
+    (site_among ss k site called e)

@@ -34,7 +34,8 @@ module _ (procs : ℕ) where
   abbrev pub Reaches : (Far : ℕ → Type 0) → (label : ℕ) → List Item → Type 0
   Reaches Far l rest = Ahead l rest ⊎ Far l
 
-  -- an item before others is plain or goes to a label that it reaches; an instruction is behind the label of a procedure, and a
+  -- an item before others is plain or goes to a label that it reaches; an instruction is behind the
+  -- label of a procedure, and a
   -- call goes to a procedure
   abbrev pub GoesAt : (Far : ℕ → Type 0) → Item → List Item → Type 0
   GoesAt Far (Label k) rest = k < procs → is_instruction (slice_get rest 0) ≡ true
@@ -50,7 +51,8 @@ module _ (procs : ℕ) where
 
   ahead_on : (l : ℕ) (xs ys : List Item) → Ahead l xs → Ahead l (xs ++ ys)
   ahead_on l [] ys h = absurd h
-  ahead_on l (Label j ∷ xs) ys h = (h.0, elim h.1 [ inl e ↦ inl e | inr k ↦ inr (ahead_on l xs ys k) ])
+  ahead_on l (Label j ∷ xs) ys h =
+      (h.0, elim h.1 [ inl e ↦ inl e | inr k ↦ inr (ahead_on l xs ys k) ])
   ahead_on l (Plain i ∷ xs) ys h = ahead_on l xs ys h
   ahead_on l (Branch c a b j ∷ xs) ys h = ahead_on l xs ys h
   ahead_on l (Jump r j ∷ xs) ys h = ahead_on l xs ys h
@@ -62,7 +64,8 @@ module _ (procs : ℕ) where
   ahead_behind l (Branch c a b j ∷ xs) ys h k = ahead_behind l xs ys h k
   ahead_behind l (Jump r j ∷ xs) ys h k = ahead_behind l xs ys h k
 
-  first_on : (xs ys : List Item) → is_instruction (slice_get xs 0) ≡ true → is_instruction (slice_get (xs ++ ys) 0) ≡ true
+  first_on : (xs ys : List Item) → is_instruction (slice_get xs 0) ≡ true
+      → is_instruction (slice_get (xs ++ ys) 0) ≡ true
   first_on [] ys h = cc
   first_on (i ∷ xs) ys h = h
 
@@ -70,20 +73,24 @@ module _ (procs : ℕ) where
   abbrev Widens : (Far Near : ℕ → Type 0) → (xs ys : List Item) → Type 0
   Widens Far Near xs ys = (l : ℕ) → Near l → Reaches Far l (xs ++ ys)
 
-  reaches_on : (Far Near : ℕ → Type 0) (xs ys : List Item) → Widens Far Near xs ys → (l : ℕ) → Reaches Near l xs → Reaches Far l (xs ++ ys)
+  reaches_on : (Far Near : ℕ → Type 0) (xs ys : List Item) → Widens Far Near xs ys → (l : ℕ)
+      → Reaches Near l xs → Reaches Far l (xs ++ ys)
   reaches_on Far Near xs ys w l (inl h) = inl (ahead_on l xs ys h)
   reaches_on Far Near xs ys w l (inr h) = w l h
 
-  at_on : (Far Near : ℕ → Type 0) (i : Item) (xs ys : List Item) → Widens Far Near xs ys → GoesAt Near i xs → GoesAt Far i (xs ++ ys)
+  at_on : (Far Near : ℕ → Type 0) (i : Item) (xs ys : List Item) → Widens Far Near xs ys
+      → GoesAt Near i xs → GoesAt Far i (xs ++ ys)
   at_on Far Near (Label k) xs ys w h = λ lt. first_on xs ys (h lt)
   at_on Far Near (Plain i) xs ys w h = h
   at_on Far Near (Branch c a b l) xs ys w h = reaches_on Far Near xs ys w l h
   at_on Far Near (Jump r l) xs ys w h = (reaches_on Far Near xs ys w l h.0, h.1)
 
   -- both go to the same labels elsewhere
-  pub goes_both : (Far : ℕ → Type 0) (xs ys : List Item) → Goes Far xs → Goes Far ys → Goes Far (xs ++ ys)
+  pub goes_both : (Far : ℕ → Type 0) (xs ys : List Item) → Goes Far xs → Goes Far ys
+      → Goes Far (xs ++ ys)
   goes_both Far [] ys g h = h
-  goes_both Far (i ∷ xs) ys g h = (at_on Far Far i xs ys (λ l k. inr k) g.0, goes_both Far xs ys g.1 h)
+  goes_both Far (i ∷ xs) ys g h =
+      (at_on Far Far i xs ys (λ l k. inr k) g.0, goes_both Far xs ys g.1 h)
 
   inside_tail : (i : Item) (xs : List Item) → Inside (i ∷ xs) → Inside xs
   inside_tail (Label k) xs h = h.1
@@ -91,15 +98,20 @@ module _ (procs : ℕ) where
   inside_tail (Branch c a b l) xs h = h
   inside_tail (Jump r l) xs h = h
 
-  widened : (Far Near : ℕ → Type 0) (xs ys : List Item) → Inside xs → ((l : ℕ) → Near l → Reaches Far l ys) → Widens Far Near xs ys
-  widened Far Near xs ys inside w l n = elim (w l n) [ inl h ↦ inl (ahead_behind l xs ys inside h) | inr h ↦ inr h ]
+  widened : (Far Near : ℕ → Type 0) (xs ys : List Item) → Inside xs
+      → ((l : ℕ) → Near l → Reaches Far l ys) → Widens Far Near xs ys
+  widened Far Near xs ys inside w l n = elim (w l n)
+      [ inl h ↦ inl (ahead_behind l xs ys inside h) | inr h ↦ inr h ]
 
   -- the first are inside a procedure, and go to labels that the others reach
-  pub goes_then : (Far Near : ℕ → Type 0) (xs ys : List Item) → Inside xs → ((l : ℕ) → Near l → Reaches Far l ys) → Goes Near xs → Goes Far ys → Goes Far (xs ++ ys)
+  pub goes_then : (Far Near : ℕ → Type 0) (xs ys : List Item) → Inside xs
+      → ((l : ℕ) → Near l → Reaches Far l ys) → Goes Near xs → Goes Far ys → Goes Far (xs ++ ys)
   goes_then Far Near [] ys inside w g h = h
   goes_then Far Near (i ∷ xs) ys inside w g h =
-      let more = inside_tail i xs inside in
-      (at_on Far Near i xs ys (widened Far Near xs ys more w) g.0, goes_then Far Near xs ys more w g.1 h)
+      let more = inside_tail i xs inside in (
+        at_on Far Near i xs ys (widened Far Near xs ys more w) g.0,
+        goes_then Far Near xs ys more w g.1 h,
+      )
 
   -- ---- plain items
 
@@ -134,7 +146,8 @@ module _ (procs : ℕ) where
       first : procs ≤ k
       first = grind (arith, nat_tests, none (nat_eq k k), h k)
 
-      here : (l : ℕ) (b : Bool) → (if b then suc (times l items) else times l items) ≡ 0 → times l items ≡ 0
+      here : (l : ℕ) (b : Bool) → (if b then suc (times l items) else times l items) ≡ 0
+          → times l items ≡ 0
       here l true z = absurd (omega arith)
       here l false z = z
 
@@ -161,8 +174,10 @@ below_more n l t = grind (arith, nat_tests)
 abbrev pub Counts : (n m : ℕ) → List Item → Type 0
 Counts n m items = (l : ℕ) → times l items + below n l ≡ below m l
 
-pub counts_append : (n k m : ℕ) (xs ys : List Item) → Counts n k xs → Counts k m ys → Counts n m (xs ++ ys)
-counts_append n k m xs ys g h l = let a = g l in let b = h l in let e = times_append l xs ys in omega arith
+pub counts_append : (n k m : ℕ) (xs ys : List Item) → Counts n k xs → Counts k m ys
+    → Counts n m (xs ++ ys)
+counts_append n k m xs ys g h l = let a = g l in let b = h l in let e = times_append l xs ys
+    in omega arith
 
 -- ---- sizes
 

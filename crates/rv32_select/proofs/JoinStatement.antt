@@ -28,24 +28,45 @@ use Rattle.seq.specs.Lists.{is_among}
 use Rattle.seq.proofs.Counted.{among_left, among_right}
 
 -- less is needed
-pub stood_weaken : (l : Program) (a : Assignment) (cells stack : ℕ) (lay : Layout) (framed : Bool) (f j slots : ℕ) (d0 : Data) (link : ℕ) (Needs Needs' : ℕ → Word → Type 0) (d : Data) (w : World) → ((y : ℕ) (v : Word) → Needs' y v → Needs y v) → Stood l a cells stack lay framed f j slots d0 link Needs d w → Stood l a cells stack lay framed f j slots d0 link Needs' d w
-stood_weaken l a cells stack lay framed f j slots d0 link Needs Needs' d w h st = record { world = st.world; frame = st.frame; home = st.home; vars = λ y v need. st.vars y v (h y v need); untouched = st.untouched }
+pub stood_weaken : (l : Program) (a : Assignment) (cells stack : ℕ) (lay : Layout) (framed : Bool)
+    (f j slots : ℕ) (d0 : Data) (link : ℕ) (Needs Needs' : ℕ → Word → Type 0) (d : Data) (w : World)
+    → ((y : ℕ) (v : Word) → Needs' y v → Needs y v)
+    → Stood l a cells stack lay framed f j slots d0 link Needs d w
+    → Stood l a cells stack lay framed f j slots d0 link Needs' d w
+stood_weaken l a cells stack lay framed f j slots d0 link Needs Needs' d w h st
+    = record {
+      world = st.world;
+      frame = st.frame;
+      home = st.home;
+      vars
+          = λ y v need. st.vars y v (h y v need);
+      untouched = st.untouched;
+    }
 
-module _ (l : Program) (a : Assignment) (cells stack : ℕ) (lay : Layout) (items : List Item) (begins : List ℕ) (s : Setting l a cells stack lay items begins) (calls_n : Calls) (n : ℕ)
-    (f : ℕ) (q : Procedure) (pf : ProcedureFine l a f q) (framed : Bool) (j m : ℕ) (outer : List ℕ) (d0 : Data) (u : ℕ) where
-  module _ (xs : List ℕ) (bb c : Code) (to : List Spot) (way : Continuation) (Must : ℕ → Word → Type 0) (k k' : ℕ) (block : List Item) (p : ℕ) (scope later : List ℕ) (env : Env) (top : ℕ) (under : Option ℕ) (d : Data) (w : World)
-      (b : Block l a cells stack lay items begins f q framed pf.slots j m outer d0 u n (join xs bb c) to way Must k k' block p scope later env top under d w) where
+module _ (l : Program) (a : Assignment) (cells stack : ℕ) (lay : Layout) (items : List Item)
+    (begins : List ℕ) (s : Setting l a cells stack lay items begins) (calls_n : Calls) (n : ℕ)
+    (f : ℕ) (q : Procedure) (pf : ProcedureFine l a f q) (framed : Bool) (j m : ℕ) (outer : List ℕ)
+    (d0 : Data) (u : ℕ) where
+  module _ (xs : List ℕ) (bb c : Code) (to : List Spot) (way : Continuation)
+      (Must : ℕ → Word → Type 0) (k k' : ℕ) (block : List Item) (p : ℕ) (scope later : List ℕ)
+      (env : Env) (top : ℕ) (under : Option ℕ) (d : Data) (w : World)
+      (b : Block l a cells stack lay items begins f q framed pf.slots j m outer d0 u n
+      (join xs bb c) to way Must k k' block p scope later env top under d w) where
     parts : Cut items p (b.emits.1 ++ Label k ∷ []) b.emits.3.0 block
     parts = cut items p (b.emits.1 ++ Label k ∷ []) b.emits.3.0 block b.emits.3.1 b.stands
 
     label_here : slice_get items (p + length b.emits.1) ≡ Some (Label k)
     label_here = (back items p b.emits.1 (Label k ∷ []) parts.first).0
 
-    needed_live : (y : ℕ) (v : Word) → Needed c env Must y v → (is_among y scope ≡ true) × (is_among y (uses c ++ later) ≡ true)
+    needed_live : (y : ℕ) (v : Word) → Needed c env Must y v → (is_among y scope ≡ true)
+        × (is_among y (uses c ++ later) ≡ true)
     needed_live y v (inl h) = (b.scoped y v h.1, among_left y (uses c) later h.0)
-    needed_live y v (inr h) = let both = b.must y v h in (both.0, among_right y (uses c) later both.1)
+    needed_live y v (inr h) = let both = b.must y v h
+        in (both.0, among_right y (uses c) later both.1)
 
-    pub inner : Block l a cells stack lay items begins f q framed pf.slots j m outer d0 u n bb (map (place_of a) xs) (Follows k) (Needed c env Must) (suc k) b.emits.0 b.emits.1 p scope (uses c ++ later) env top None d w
+    pub inner : Block l a cells stack lay items begins f q framed pf.slots j m outer d0 u n bb
+        (map (place_of a) xs) (Follows k) (Needed c env Must) (suc k) b.emits.0 b.emits.1 p scope
+        (uses c ++ later) env top None d w
     inner = record {
       emits = b.emits.2;
       stands = front items p b.emits.1 (Label k ∷ []) parts.first;
@@ -59,56 +80,103 @@ module _ (l : Program) (a : Assignment) (cells stack : ℕ) (lay : Layout) (item
       to_own = b.fine.1.0.1;
       to_differ = apart_different l a scope xs c later b.fine.1.0.0;
       in_registers = tt;
-      stood = stood_weaken l a cells stack lay framed f j pf.slots d0 (lay.address m) (Needed (join xs bb c) env Must) (Needed bb env (Needed c env Must)) d w weaker b.stood;
+      stood = stood_weaken l a cells stack lay framed f j pf.slots d0 (lay.address m)
+          (Needed (join xs bb c) env Must) (Needed bb env (Needed c env Must)) d w weaker b.stood;
       base = b.base;
       left = b.left;
       top_is = b.top_is;
       under_is = λ v e. absurd (cc);
     }
       where
-        weaker : (y : ℕ) (v : Word) → Needed bb env (Needed c env Must) y v → Needed (join xs bb c) env Must y v
+        weaker : (y : ℕ) (v : Word) → Needed bb env (Needed c env Must) y v
+            → Needed (join xs bb c) env Must y v
         weaker y v (inl h) = inl (among_left y (uses bb) (uses c) h.0, h.1)
         weaker y v (inr (inl h)) = inl (among_right y (uses bb) (uses c) h.0, h.1)
         weaker y v (inr (inr h)) = inr h
 
-    pub join_simulated : Simulates l a cells stack lay items begins f q framed pf.slots j m outer d0 u n calls_n bb (map (place_of a) xs) (Follows k) (Needed c env Must) p env top None d w
-        → ((rs : List Word) (env' : Env) (d' : Data) (v : World) → Block l a cells stack lay items begins f q framed pf.slots j m outer d0 u n c to way Must b.emits.0 k' b.emits.3.0 (p + length (b.emits.1 ++ Label k ∷ [])) (xs ++ scope) later env' top under d' v
-        → Simulates l a cells stack lay items begins f q framed pf.slots j m outer d0 u n calls_n c to way Must (p + length (b.emits.1 ++ Label k ∷ [])) env' top under d' v)
-        → Simulates l a cells stack lay items begins f q framed pf.slots j m outer d0 u n calls_n (join xs bb c) to way Must p env top under d w
+    pub join_simulated : Simulates l a cells stack lay items begins f q framed pf.slots j m outer d0
+        u n calls_n bb (map (place_of a) xs) (Follows k) (Needed c env Must) p env top None d w
+        → ((rs : List Word) (env' : Env) (d' : Data) (v : World)
+        → Block l a cells stack lay items begins f q framed pf.slots j m outer d0 u n c to way
+        Must b.emits.0 k' b.emits.3.0 (p + length (b.emits.1 ++ Label k ∷ [])) (xs ++ scope)
+        later env' top under d' v
+        → Simulates l a cells stack lay items begins f q framed pf.slots j m outer d0 u n calls_n c
+        to way Must (p + length (b.emits.1 ++ Label k ∷ [])) env' top under d' v)
+        → Simulates l a cells stack lay items begins f q framed pf.slots j m outer d0 u n calls_n
+        (join xs bb c) to way Must p env top under d w
     unfolding code
     join_simulated block_done more =
-        does_then lay items begins (Given l a cells stack lay items framed f j pf.slots d0 m outer (map (place_of a) xs) (Follows k) (Needed c env Must)) (Given l a cells stack lay items framed f j pf.slots d0 m outer to way Must)
-        (at (bases stack) lay items p d) (m ∷ outer) w (code l (words_at a) (room l a cells stack lay items begins) calls_n env top None bb w) (λ rs w'. need (with_vars xs rs env) w' (λ env'. code l (words_at a) (room l a cells stack lay items begins) calls_n env' top under c w')) block_done
+        does_then lay items begins
+        (Given l a cells stack lay items framed f j pf.slots d0 m outer (map (place_of a) xs)
+        (Follows k) (Needed c env Must))
+        (Given l a cells stack lay items framed f j pf.slots d0 m outer to way Must)
+        (at (bases stack) lay items p d) (m ∷ outer) w
+        (code l (words_at a) (room l a cells stack lay items begins) calls_n env top None bb w)
+        (λ rs w'. need (with_vars xs rs env) w'
+        (λ env'. code l (words_at a) (room l a cells stack lay items begins) calls_n env' top
+        under c w')) block_done
         (λ rs v p' c' le given.
-        let onward = λ (rs : List Word) (w' : World). need (with_vars xs rs env) w' (λ env'. code l (words_at a) (room l a cells stack lay items begins) calls_n env' top under c w') in
-        let two : Some given.0 ≡ Some (p + length b.emits.1) = sym given.1.1.0 ∙ s.once (p + length b.emits.1) k label_here in
+        let onward = λ (rs : List Word) (w' : World). need (with_vars xs rs env) w'
+        (λ env'. code l (words_at a) (room l a cells stack lay items begins) calls_n env' top
+        under c w') in
+        let two : Some given.0 ≡ Some (p + length b.emits.1)
+        = sym given.1.1.0 ∙ s.once (p + length b.emits.1) k label_here in
         let place : given.0 ≡ p + length b.emits.1 = cc in
-        subst (λ x. Does' lay items begins (Given l a cells stack lay items framed f j pf.slots d0 m outer to way Must) x c' v (onward rs v)) (sym (given.1.1.1.0 ∙ ap (λ y. at (bases stack) lay items y given.1.0) place))
-        (subst (λ x. Does' lay items begins (Given l a cells stack lay items framed f j pf.slots d0 m outer to way Must) (at (bases stack) lay items (p + length b.emits.1) given.1.0) x v (onward rs v)) (sym given.1.1.1.1.0)
+        subst (λ x. Does' lay items begins
+        (Given l a cells stack lay items framed f j pf.slots d0 m outer to way Must) x c' v
+        (onward rs v))
+        (sym (given.1.1.1.0 ∙ ap (λ y. at (bases stack) lay items y given.1.0) place))
+        (subst (λ x. Does' lay items begins
+        (Given l a cells stack lay items framed f j pf.slots d0 m outer to way Must)
+        (at (bases stack) lay items (p + length b.emits.1) given.1.0) x v (onward rs v))
+        (sym given.1.1.1.1.0)
         (by_vars (with_vars xs rs env) rs refl given.1.0 v le given.1.1.1.1.1.0 given.1.1.1.1.1.1)))
       where
-        by_vars : (r : Option Env) (rs : List Word) → with_vars xs rs env ≡ r → (e : Data) (v : World) → v.left ≤ w.left → Stood l a cells stack lay framed f j pf.slots d0 (lay.address m) (Needed c env Must) e v → AllHold l.width (map (place_of a) xs) rs (spots lay.code (bases stack) j pf.slots e)
-            → Does' lay items begins (Given l a cells stack lay items framed f j pf.slots d0 m outer to way Must) (at (bases stack) lay items (p + length b.emits.1) e) (m ∷ outer) v (need r v (λ env'. code l (words_at a) (room l a cells stack lay items begins) calls_n env' top under c v))
+        by_vars : (r : Option Env) (rs : List Word) → with_vars xs rs env ≡ r
+            → (e : Data) (v : World) → v.left ≤ w.left
+            → Stood l a cells stack lay framed f j pf.slots d0 (lay.address m) (Needed c env Must) e
+            v → AllHold l.width (map (place_of a) xs) rs (spots lay.code (bases stack) j pf.slots e)
+            → Does' lay items begins
+            (Given l a cells stack lay items framed f j pf.slots d0 m outer to way Must)
+            (at (bases stack) lay items (p + length b.emits.1) e) (m ∷ outer) v
+            (need r v
+            (λ env'. code l (words_at a) (room l a cells stack lay items begins) calls_n env'
+            top under c v))
         by_vars None rs bind e v left st hold = tt
         by_vars (Some env') rs bind e v left st hold =
-            let ran = passes_label l a cells stack lay items begins s k (p + length b.emits.1) e (m ∷ outer) v (let le = b.above in omega arith) label_here in
-            let behind : suc (p + length b.emits.1) ≡ p + length (b.emits.1 ++ Label k ∷ []) = let y = length-append b.emits.1 (Label k ∷ []) in omega arith in
-            does_after lay items begins (Given l a cells stack lay items framed f j pf.slots d0 m outer to way Must) (code l (words_at a) (room l a cells stack lay items begins) calls_n env' top under c v)
-            (subst (λ y. Ran lay items begins (at (bases stack) lay items (p + length b.emits.1) e) (m ∷ outer) v (at (bases stack) lay items y e) (m ∷ outer) v) behind ran)
+            let ran = passes_label l a cells stack lay items begins s k (p + length b.emits.1) e
+            (m ∷ outer) v (let le = b.above in omega arith) label_here in
+            let behind : suc (p + length b.emits.1) ≡ p + length (b.emits.1 ++ Label k ∷ []) = let y
+            = length-append b.emits.1 (Label k ∷ []) in omega arith in
+            does_after lay items begins
+            (Given l a cells stack lay items framed f j pf.slots d0 m outer to way Must)
+            (code l (words_at a) (room l a cells stack lay items begins) calls_n env' top under
+            c v)
+            (subst (λ y. Ran lay items begins (at (bases stack) lay items (p + length b.emits.1) e)
+            (m ∷ outer) v (at (bases stack) lay items y e) (m ∷ outer) v) behind ran)
             (more rs env' e v (record {
               emits = b.emits.3.2;
               stands = parts.more;
-              ready = ready_at l a cells stack lay items begins way (p + length block) (p + length (b.emits.1 ++ Label k ∷ []) + length b.emits.3.0) parts.end b.ready;
+              ready = ready_at l a cells stack lay items begins way (p + length block)
+                  (p + length (b.emits.1 ++ Label k ∷ []) + length b.emits.3.0) parts.end b.ready;
               above = up;
               fine = b.fine.1.1;
               scoped = still_scoped xs rs scope env env' bind b.scoped;
-              owned = scope_owned l a f (slots_of (place_of a) (variables q)) xs scope b.fine.1.0.1 b.owned;
+              owned = scope_owned l a f (slots_of (place_of a) (variables q)) xs scope b.fine.1.0.1
+                  b.owned;
               must = λ y z e. let both = b.must y z e in (among_right y xs scope both.0, both.1);
               clear = b.clear;
               to_own = b.to_own;
               to_differ = b.to_differ;
               in_registers = b.in_registers;
-              stood = record { world = st.world; frame = st.frame; home = st.home; vars = vars e rs env' bind hold st.vars; untouched = st.untouched };
+              stood = record {
+                world = st.world;
+                frame = st.frame;
+                home = st.home;
+                vars
+                    = vars e rs env' bind hold st.vars;
+                untouched = st.untouched;
+              };
               base = b.base;
               left = let le = b.left in omega arith;
               top_is = b.top_is;
@@ -116,11 +184,21 @@ module _ (l : Program) (a : Assignment) (cells stack : ℕ) (lay : Layout) (item
             }))
           where
             up : first_label l ≤ b.emits.0
-            up = let le = b.above in let more = emits_up l a cells stack (words_at a f) (slots_of (place_of a) (variables q)) framed bb (map (place_of a) xs) (Follows k) (suc k) b.emits.0 b.emits.1 b.emits.2 in omega arith
+            up = let le = b.above in let more = emits_up l a cells stack (words_at a f)
+                (slots_of (place_of a) (variables q)) framed bb (map (place_of a) xs) (Follows k)
+                (suc k) b.emits.0 b.emits.1 b.emits.2 in omega arith
 
-            vars : (e : Data) (rs : List Word) (env' : Env) → with_vars xs rs env ≡ Some env' → AllHold l.width (map (place_of a) xs) rs (spots lay.code (bases stack) j pf.slots e) → ((y : ℕ) (v : Word) → Needed c env Must y v → spots lay.code (bases stack) j pf.slots e (place_of a y) ≡ word_of l.width v) → (y : ℕ) (v : Word) → Needed c env' Must y v → spots lay.code (bases stack) j pf.slots e (place_of a y) ≡ word_of l.width v
-            vars e rs env' bind hold before y v (inl h) = elim (bound_word l.width (place_of a) xs rs env env' (spots lay.code (bases stack) j pf.slots e) y v bind hold h.1) [
-              | inl z ↦ z
-              | inr z ↦ before y v (inl (h.0, z))
-            ]
+            vars : (e : Data) (rs : List Word) (env' : Env) → with_vars xs rs env ≡ Some env'
+                → AllHold l.width (map (place_of a) xs) rs
+                (spots lay.code (bases stack) j pf.slots e)
+                → ((y : ℕ) (v : Word) → Needed c env Must y v
+                → spots lay.code (bases stack) j pf.slots e (place_of a y) ≡ word_of l.width v)
+                → (y : ℕ) (v : Word) → Needed c env' Must y v
+                → spots lay.code (bases stack) j pf.slots e (place_of a y) ≡ word_of l.width v
+            vars e rs env' bind hold before y v (inl h)
+                = elim (bound_word l.width (place_of a) xs rs env env'
+                (spots lay.code (bases stack) j pf.slots e) y v bind hold h.1) [
+                  | inl z ↦ z
+                  | inr z ↦ before y v (inl (h.0, z))
+                ]
             vars e rs env' bind hold before y v (inr h) = before y v (inr h)

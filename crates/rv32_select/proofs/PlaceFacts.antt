@@ -50,10 +50,14 @@ module _ (l : Program) (a : Assignment) where
   abbrev pub AllFree : (f : ℕ) → List Spot → Type 0
   AllFree f ss = AllOwn f 0 ss
 
-  -- a call saves the registers of what is live behind it that the procedure may change, and none else
-  pub record SavesFit (f slots saved : ℕ) (scope : List ℕ) (c : Code) (later : List ℕ) (site g : ℕ) : Type 0 where
-    pub is_live : (r : ℕ) → is_among r (saves_at a site) ≡ true → (y : ℕ) × (IsLive scope c later y × (place_of a y ≡ Reg r))
-    pub is_saved : (y r : ℕ) → IsLive scope c later y → place_of a y ≡ Reg r → (is_among r (saves_at a site) ≡ true) ⊎ Keeps l a g r
+  -- a call saves the registers of what is live behind it that the procedure may change, and none
+  -- else
+  pub record SavesFit (f slots saved : ℕ) (scope : List ℕ) (c : Code) (later : List ℕ) (site g : ℕ)
+      : Type 0 where
+    pub is_live : (r : ℕ) → is_among r (saves_at a site) ≡ true → (y : ℕ)
+        × (IsLive scope c later y × (place_of a y ≡ Reg r))
+    pub is_saved : (y r : ℕ) → IsLive scope c later y → place_of a y ≡ Reg r
+        → (is_among r (saves_at a site) ≡ true) ⊎ Keeps l a g r
     pub ascending : Ascending (saves_at a site)
     pub room : saved + length (saves_at a site) ≤ slots
 
@@ -64,22 +68,32 @@ module _ (l : Program) (a : Assignment) where
     pub keeps : (r : ℕ) → Keeps l a f r → Keeps l a g r
 
   module _ (f slots saved : ℕ) where
-    -- variables that are bound at a point have places of the procedure's own, apart from what is live there
+    -- variables that are bound at a point have places of the procedure's own, apart from what is
+    -- live there
     abbrev pub Binds : (scope xs : List ℕ) → Code → (later : List ℕ) → Type 0
-    Binds scope xs c later = Apart (place_of a) scope xs c later × AllOwn f saved (map (place_of a) xs)
+    Binds scope xs c later = Apart (place_of a) scope xs c later
+        × AllOwn f saved (map (place_of a) xs)
 
     abbrev mutual
       pub Fine : (scope : List ℕ) → Code → (later : List ℕ) → Type 0
-      Fine scope (set x o c) later = IsSmall o × (Binds scope (x ∷ []) c later × Fine (x ∷ scope) c later)
-      Fine scope (prim p x o u c) later = IsSmall o × (IsSmall u × (Binds scope (x ∷ []) c later × Fine (x ∷ scope) c later))
-      Fine scope (load x o k c) later = IsSmall o × (Binds scope (x ∷ []) c later × Fine (x ∷ scope) c later)
+      Fine scope (set x o c) later = IsSmall o ×
+          (Binds scope (x ∷ []) c later × Fine (x ∷ scope) c later)
+      Fine scope (prim p x o u c) later = IsSmall o
+          × (IsSmall u × (Binds scope (x ∷ []) c later × Fine (x ∷ scope) c later))
+      Fine scope (load x o k c) later = IsSmall o ×
+          (Binds scope (x ∷ []) c later × Fine (x ∷ scope) c later)
       Fine scope (save o k u c) later = IsSmall o × (IsSmall u × Fine scope c later)
-      Fine scope (take xs c) later = (4 * l.width * length xs < 2 ^ 31) × (Binds scope xs c later × Fine (xs ++ scope) c later)
+      Fine scope (take xs c) later = (4 * l.width * length xs < 2 ^ 31)
+          × (Binds scope xs c later × Fine (xs ++ scope) c later)
       Fine scope (put o c) later = IsSmall o × Fine scope c later
       Fine scope (get x c) later = Binds scope (x ∷ []) c later × Fine (x ∷ scope) c later
       Fine scope (call g site os xs c) later =
-          AreSmall os × (CallFits f g × (SavesFit f slots saved scope c later site g × (Binds scope xs c later × Fine (xs ++ scope) c later)))
-      Fine scope (join xs b c) later = Fine scope b (uses c ++ later) × (Binds scope xs c later × Fine (xs ++ scope) c later)
+          AreSmall os ×
+          (CallFits f g ×
+          (SavesFit f slots saved scope c later site g
+          × (Binds scope xs c later × Fine (xs ++ scope) c later)))
+      Fine scope (join xs b c) later = Fine scope b (uses c ++ later)
+          × (Binds scope xs c later × Fine (xs ++ scope) c later)
       Fine scope (give os) later = AreSmall os
       Fine scope (tail g site os) later = AreSmall os × CallFits f g
       Fine scope (choose as') later = ArmsFine scope as' later
@@ -87,7 +101,8 @@ module _ (l : Program) (a : Assignment) where
 
       pub ArmsFine : (scope : List ℕ) → Arms → (later : List ℕ) → Type 0
       ArmsFine scope (otherwise c) later = Fine scope c later
-      ArmsFine scope (arm ts c as') later = TestsSmall ts × (Fine scope c later × ArmsFine scope as' later)
+      ArmsFine scope (arm ts c as') later = TestsSmall ts
+          × (Fine scope c later × ArmsFine scope as' later)
 
   -- a procedure: its frame, its parameters, arguments and results, and its block
   pub record ProcedureFine (f : ℕ) (q : Procedure) : Type 0 where
@@ -103,7 +118,8 @@ module _ (l : Program) (a : Assignment) where
     pub results_differ : AllApart (result_spots 10 q.results)
 
 -- where the items of a procedure stand
-pub record StandsAt (l : Program) (a : Assignment) (cells stack : ℕ) (items : List Item) (f : ℕ) (q : Procedure) : Type 0 where
+pub record StandsAt (l : Program) (a : Assignment) (cells stack : ℕ) (items : List Item) (f : ℕ)
+    (q : Procedure) : Type 0 where
   pub place : ℕ
   pub first : ℕ
   pub last : ℕ
@@ -112,7 +128,8 @@ pub record StandsAt (l : Program) (a : Assignment) (cells stack : ℕ) (items : 
   pub stands : Stands items place piece
   pub above : first_label l ≤ first
 
-pub record Setting (l : Program) (a : Assignment) (cells stack : ℕ) (lay : Layout) (items : List Item) (begins : List ℕ) : Type 0 where
+pub record Setting (l : Program) (a : Assignment) (cells stack : ℕ) (lay : Layout)
+    (items : List Item) (begins : List ℕ) : Type 0 where
   pub width_some : 1 ≤ l.width
   pub width_small : l.width ≤ 14
   pub cells_some : 1 ≤ cells
@@ -123,7 +140,8 @@ pub record Setting (l : Program) (a : Assignment) (cells stack : ℕ) (lay : Lay
   pub rises : AddressesRise items lay
   pub below : end_of lay.code ≤ heap_start
   pub once : (t n : ℕ) → slice_get items t ≡ Some (Label n) → label_from 0 items n ≡ Some t
-  pub procedures : (f : ℕ) (q : Procedure) → slice_get l.procs f ≡ Some q → StandsAt l a cells stack items f q
+  pub procedures : (f : ℕ) (q : Procedure) → slice_get l.procs f ≡ Some q
+      → StandsAt l a cells stack items f q
   pub fine : (f : ℕ) (q : Procedure) → slice_get l.procs f ≡ Some q → ProcedureFine l a f q
   pub begins_procedures : (f : ℕ) → f < length l.procs → procedure_from 0 begins f ≡ f ∷ []
   pub begins_no_other : (n : ℕ) → length l.procs ≤ n → procedure_from 0 begins n ≡ []

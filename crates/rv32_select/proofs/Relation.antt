@@ -1,4 +1,5 @@
--- How the machine's data stand for the state of a run of low code, and what it is that the machine does what a run does.
+-- How the machine's data stand for the state of a run of low code, and what it is that the machine
+-- does what a run does.
 use Rattle.std.proofs.Common.{◌≡◌, ℕ, suc, ◌+◌, ◌-◌, ◌*◌, ◌%◌, ◌<◌, ◌≤◌, List, [], ◌∷◌, ◌++◌, length, get_or, true, false, Some, ◌⊎◌, refl, sym, ap, ◌∙◌, subst, arith, append_assoc, Bool, inr, ◌/◌, ◌^◌, zero}
 use Rattle.std.specs.Prelude.{drop, slice_get, nat_eq, if◌then◌else◌, slice_index_or}
 use Rattle.std.proofs.lemmas.Grind.{common_steps}
@@ -51,12 +52,15 @@ AllHold width (s ∷ ss) (v ∷ vs) u = (u s ≡ word_of width v) × AllHold wid
 -- the heap's words are those of the cells, one cell after the other, and zeros where none is taken
 pub record HoldsCells (width : ℕ) (heap : List ℕ) (cs : List (List Word)) : Type 0 where
   pub full : (i : ℕ) (ws : List Word) → slice_get cs i ≡ Some ws → length ws ≡ width
-  pub words : (i k : ℕ) (ws : List Word) (v : Word) → slice_get cs i ≡ Some ws → slice_get ws k ≡ Some v → get_or heap (width * i + k) 0 ≡ word_of width v
+  pub words : (i k : ℕ) (ws : List Word) (v : Word) → slice_get cs i ≡ Some ws
+      → slice_get ws k ≡ Some v → get_or heap (width * i + k) 0 ≡ word_of width v
   pub zeros : (t : ℕ) → width * length cs ≤ t → get_or heap t 0 ≡ 0
 
--- a register is the place of a variable or beyond those of arguments and results, and procedure f leaves it
+-- a register is the place of a variable or beyond those of arguments and results, and procedure f
+-- leaves it
 pub record Keeps (l : Program) (a : Assignment) (f r : ℕ) : Type 0 where
-  pub held : ((x : ℕ) × ((is_among x (all_variables l.procs) ≡ true) × (place_of a x ≡ Reg r))) ⊎ (24 ≤ r)
+  pub held : ((x : ℕ) × ((is_among x (all_variables l.procs) ≡ true) × (place_of a x ≡ Reg r)))
+      ⊎ (24 ≤ r)
   pub low : 8 ≤ r
   pub high : r < 32
   pub unchanged : may_change a f r ≡ false
@@ -66,7 +70,8 @@ abbrev pub HasBase : (lasting : Bool) → (base : ℕ) → Data → Type 0
 HasBase true base d = d.regs 27 ≡ base
 HasBase false base d = Unit {0}
 
-pub base_same : (t : Bool) (base : ℕ) (d d' : Data) → d'.regs 27 ≡ d.regs 27 → HasBase t base d → HasBase t base d'
+pub base_same : (t : Bool) (base : ℕ) (d d' : Data) → d'.regs 27 ≡ d.regs 27 → HasBase t base d
+    → HasBase t base d'
 base_same true base d d' e h = e ∙ h
 base_same false base d d' e h = tt
 
@@ -74,18 +79,28 @@ if_false : (t x : Bool) → (if t then false else x) ≡ true → (t ≡ false) 
 if_false true x e = absurd (cc)
 if_false false x e = (refl, e)
 
-all_keep_one : (ms : List ℕ) (f : ℕ) → no_mask_has_x27 ms ≡ true → nat_eq (slice_index_or ms f 0 / 2 ^ 27 % 2) 1 ≡ false
+all_keep_one : (ms : List ℕ) (f : ℕ) → no_mask_has_x27 ms ≡ true
+    → nat_eq (slice_index_or ms f 0 / 2 ^ 27 % 2) 1 ≡ false
 all_keep_one [] zero e = refl
 all_keep_one [] (suc f) e = refl
 all_keep_one (m ∷ ms) zero e = (if_false (nat_eq (m / 2 ^ 27 % 2) 1) (no_mask_has_x27 ms) e).0
-all_keep_one (m ∷ ms) (suc f) e = all_keep_one ms f (if_false (nat_eq (m / 2 ^ 27 % 2) 1) (no_mask_has_x27 ms) e).1
+all_keep_one (m ∷ ms) (suc f) e = all_keep_one ms f
+    (if_false (nat_eq (m / 2 ^ 27 % 2) 1) (no_mask_has_x27 ms) e).1
 
 -- x27 is such a register of each procedure
 pub base_kept : (l : Program) (a : Assignment) (f : ℕ) → is_lasting a ≡ true → Keeps l a f 27
-base_kept l a f e = record { held = inr (omega arith); low = omega arith; high = omega arith; unchanged = all_keep_one a.masks f e }
+base_kept l a f e = record {
+  held = inr (omega arith);
+  low = omega arith;
+  high = omega arith;
+  unchanged
+      = all_keep_one a.masks f e;
+}
 
 -- so it has the base still where procedure f has left its registers
-pub base_lasts : (l : Program) (a : Assignment) (f base : ℕ) (d d' : Data) → ((r : ℕ) → Keeps l a f r → d'.regs r ≡ d.regs r) → HasBase (is_lasting a) base d → HasBase (is_lasting a) base d'
+pub base_lasts : (l : Program) (a : Assignment) (f base : ℕ) (d d' : Data)
+    → ((r : ℕ) → Keeps l a f r → d'.regs r ≡ d.regs r) → HasBase (is_lasting a) base d
+    → HasBase (is_lasting a) base d'
 base_lasts l a f base d d' keep h = go (is_lasting a) refl h
   where
     go : (t : Bool) → is_lasting a ≡ t → HasBase t base d → HasBase t base d'
@@ -93,7 +108,8 @@ base_lasts l a f base d d' keep h = go (is_lasting a) refl h
     go false e h = tt
 
 module _ (l : Program) (a : Assignment) (cells stack : ℕ) (lay : Layout) where
-  -- the data beside a frame: the cells, the next cell and the heap's end, and what is left of the input
+  -- the data beside a frame: the cells, the next cell and the heap's end, and what is left of the
+  -- input
   pub record HoldsWorld (d : Data) (w : World) : Type 0 where
     pub good : Good lay.code (bases stack) d
     pub cells_are : HoldsCells l.width d.heap w.cells
@@ -115,24 +131,29 @@ module _ (l : Program) (a : Assignment) (cells stack : ℕ) (lay : Layout) where
   Home true j link d = get_or d.stack j 0 ≡ link
   Home false j link d = d.regs 1 ≡ link
 
-  -- within procedure f, whose frame's first word is the j-th of the stack and has so many slots: the places of the variables that
+  -- within procedure f, whose frame's first word is the j-th of the stack and has so many slots:
+  -- the places of the variables that
   -- are needed have their words, and the return address is where it should be
-  pub record Stood (framed : Bool) (f j slots : ℕ) (d0 : Data) (link : ℕ) (Needs : ℕ → Word → Type 0) (d : Data) (w : World) : Type 0 where
+  pub record Stood (framed : Bool) (f j slots : ℕ) (d0 : Data) (link : ℕ)
+      (Needs : ℕ → Word → Type 0) (d : Data) (w : World) : Type 0 where
     pub world : HoldsWorld d w
     pub frame : InFrame lay.code (bases stack) j slots d
     pub home : Home framed j link d
-    pub vars : (x : ℕ) (v : Word) → Needs x v → spots lay.code (bases stack) j slots d (place_of a x) ≡ word_of l.width v
+    pub vars : (x : ℕ) (v : Word) → Needs x v → spots lay.code (bases stack) j slots d
+        (place_of a x) ≡ word_of l.width v
     pub untouched : Untouched f (j + (1 + slots)) d0 d
 
   -- behind procedure f: its frame is gone, and results stand in their registers
-  pub record Back (f bound : ℕ) (d0 : Data) (to : List Spot) (vs : List Word) (d : Data) (w : World) : Type 0 where
+  pub record Back (f bound : ℕ) (d0 : Data) (to : List Spot) (vs : List Word) (d : Data) (w : World)
+      : Type 0 where
     pub world : HoldsWorld d w
     pub sp : d.regs 2 ≡ (bases stack).stack + 4 * bound
     pub untouched : Untouched f bound d0 d
     pub results : AllHold l.width to vs (regs_of d)
 
 -- the return address stays where it is
-pub home_kept : (l : Program) (a : Assignment) (cells stack : ℕ) (lay : Layout) (framed : Bool) (j link : ℕ) (d d' : Data) → d'.regs 1 ≡ d.regs 1 → get_or d'.stack j 0 ≡ get_or d.stack j 0
+pub home_kept : (l : Program) (a : Assignment) (cells stack : ℕ) (lay : Layout) (framed : Bool)
+    (j link : ℕ) (d d' : Data) → d'.regs 1 ≡ d.regs 1 → get_or d'.stack j 0 ≡ get_or d.stack j 0
     → Home l a cells stack lay framed j link d → Home l a cells stack lay framed j link d'
 home_kept l a cells stack lay true j link d d' one word h = word ∙ h
 home_kept l a cells stack lay false j link d d' one word h = one ∙ h
@@ -141,7 +162,8 @@ home_kept l a cells stack lay false j link d d' one word h = one ∙ h
 
 module _ (lay : Layout) (items : List Item) (begins : List ℕ) where
   -- the machine goes from p to q while a run goes from w to w'
-  pub record Ran (p : Point) (calls : List ℕ) (w : World) (q : Point) (calls' : List ℕ) (w' : World) : Type 0 where
+  pub record Ran (p : Point) (calls : List ℕ) (w : World) (q : Point) (calls' : List ℕ) (w' : World)
+      : Type 0 where
     pub count : ℕ
     pub bytes : List ℕ
     pub labels : List ℕ
@@ -168,20 +190,28 @@ module _ (lay : Layout) (items : List Item) (begins : List ℕ) where
     pub is_procedure : procedure_from 0 begins proc ≡ proc ∷ []
     pub spent : w.left ≡ 0
 
-  -- what the machine does from p for a run from w that ends so; where the run gives words, this is to hold
-  abbrev pub Does' : (Given : List Word → World → Point → List ℕ → Type 0) → Point → List ℕ → World → Answer → Type 0
-  Does' Given p calls w (gives vs w') = (q : Point) × ((calls' : List ℕ) × (Ran p calls w q calls' w' × Given vs w' q calls'))
+  -- what the machine does from p for a run from w that ends so; where the run gives words, this is
+  -- to hold
+  abbrev pub Does' : (Given : List Word → World → Point → List ℕ → Type 0) → Point → List ℕ → World
+      → Answer → Type 0
+  Does' Given p calls w (gives vs w') = (q : Point)
+      × ((calls' : List ℕ) × (Ran p calls w q calls' w' × Given vs w' q calls'))
   Does' Given p calls w (stops no_alternative w') = Ends p calls w w' 3 × Leaves lay items w.input p
   Does' Given p calls w (stops heap_full w') = Ends p calls w w' 4
   Does' Given p calls w (stops stack_full w') = Ends p calls w w' 5
-  Does' Given p calls w (stops out_of_units w') = (q : Point) × ((calls' : List ℕ) × (Ran p calls w q calls' w' × Waits q w'))
+  Does' Given p calls w (stops out_of_units w') = (q : Point)
+      × ((calls' : List ℕ) × (Ran p calls w q calls' w' × Waits q w'))
   Does' Given p calls w (stops missing w') = Unit {0}
 
-  procedures_append : (xs ys : List ℕ) → procedures_at begins (xs ++ ys) ≡ procedures_at begins xs ++ procedures_at begins ys
+  procedures_append : (xs ys : List ℕ) → procedures_at begins (xs ++ ys) ≡ procedures_at begins xs
+      ++ procedures_at begins ys
   procedures_append [] ys = refl
-  procedures_append (x ∷ xs) ys = ap (λ l. procedure_from 0 begins x ++ l) (procedures_append xs ys) ∙ sym (append_assoc (procedure_from 0 begins x) (procedures_at begins xs) (procedures_at begins ys))
+  procedures_append (x ∷ xs) ys = ap (λ l. procedure_from 0 begins x ++ l) (procedures_append xs ys)
+      ∙ sym (append_assoc (procedure_from 0 begins x) (procedures_at begins xs)
+      (procedures_at begins ys))
 
-  pub ran_on : {p q r : Point} {c d e : List ℕ} {w v u : World} → Ran p c w q d v → Ran q d v r e u → Ran p c w r e u
+  pub ran_on : {p q r : Point} {c d e : List ℕ} {w v u : World} → Ran p c w q d v → Ran q d v r e u
+      → Ran p c w r e u
   ran_on {p} {q} {r} {c} {d} {e} {w} {v} {u} h k = record {
     count = h.count + k.count;
     bytes = h.bytes ++ k.bytes;
@@ -195,7 +225,8 @@ module _ (lay : Layout) (items : List Item) (begins : List ℕ) where
     left = let x = h.left in let y = k.left in omega arith;
   }
 
-  pub ends_on : {p q : Point} {c d : List ℕ} {w v u : World} {code : ℕ} → Ran p c w q d v → Ends q d v u code → Ends p c w u code
+  pub ends_on : {p q : Point} {c d : List ℕ} {w v u : World} {code : ℕ} → Ran p c w q d v
+      → Ends q d v u code → Ends p c w u code
   ends_on {p} {q} {c} {d} {w} {v} {u} {code} h k = record {
     count = h.count + k.count;
     bytes = h.bytes ++ k.bytes;
@@ -209,7 +240,9 @@ module _ (lay : Layout) (items : List Item) (begins : List ℕ) where
   }
 
   -- a stretch first
-  pub does_after : (Given : List Word → World → Point → List ℕ → Type 0) {p q : Point} {c d : List ℕ} {w v : World} (x : Answer) → Ran p c w q d v → Does' Given q d v x → Does' Given p c w x
+  pub does_after : (Given : List Word → World → Point → List ℕ → Type 0) {p q : Point}
+      {c d : List ℕ} {w v : World} (x : Answer) → Ran p c w q d v → Does' Given q d v x
+      → Does' Given p c w x
   does_after Given (gives vs w') h k = (k.0, (k.1.0, (ran_on h k.1.1.0, k.1.1.1)))
   does_after Given (stops no_alternative w') h k = (ends_on h k.0, leaves_on lay items h.way k.1)
   does_after Given (stops heap_full w') h k = ends_on h k
@@ -218,7 +251,10 @@ module _ (lay : Layout) (items : List Item) (begins : List ℕ) where
   does_after Given (stops missing w') h k = tt
 
   -- what holds where the run gives words may be said otherwise
-  pub does_map : (Given Given' : List Word → World → Point → List ℕ → Type 0) (p : Point) (c : List ℕ) (w : World) (x : Answer) → ((vs : List Word) (v : World) (q : Point) (d : List ℕ) → Given vs v q d → Given' vs v q d) → Does' Given p c w x → Does' Given' p c w x
+  pub does_map : (Given Given' : List Word → World → Point → List ℕ → Type 0) (p : Point)
+      (c : List ℕ) (w : World) (x : Answer) →
+      ((vs : List Word) (v : World) (q : Point) (d : List ℕ) → Given vs v q d → Given' vs v q d)
+      → Does' Given p c w x → Does' Given' p c w x
   does_map Given Given' p c w (gives vs v) h k = (k.0, (k.1.0, (k.1.1.0, h vs v k.0 k.1.0 k.1.1.1)))
   does_map Given Given' p c w (stops no_alternative v) h k = k
   does_map Given Given' p c w (stops heap_full v) h k = k
@@ -227,9 +263,12 @@ module _ (lay : Layout) (items : List Item) (begins : List ℕ) where
   does_map Given Given' p c w (stops missing v) h k = tt
 
   -- and then what follows the words
-  pub does_then : (Given Given' : List Word → World → Point → List ℕ → Type 0) (p : Point) (c : List ℕ) (w : World) (x : Answer) (k : List Word → World → Answer) → Does' Given p c w x
-      → ((vs : List Word) (v : World) (q : Point) (d : List ℕ) → v.left ≤ w.left → Given vs v q d → Does' Given' q d v (k vs v)) → Does' Given' p c w (then_do x k)
-  does_then Given Given' p c w (gives vs v) k h more = does_after Given' (k vs v) h.1.1.0 (more vs v h.0 h.1.0 h.1.1.0.left h.1.1.1)
+  pub does_then : (Given Given' : List Word → World → Point → List ℕ → Type 0) (p : Point)
+      (c : List ℕ) (w : World) (x : Answer) (k : List Word → World → Answer) → Does' Given p c w x
+      → ((vs : List Word) (v : World) (q : Point) (d : List ℕ) → v.left ≤ w.left → Given vs v q d
+      → Does' Given' q d v (k vs v)) → Does' Given' p c w (then_do x k)
+  does_then Given Given' p c w (gives vs v) k h more
+      = does_after Given' (k vs v) h.1.1.0 (more vs v h.0 h.1.0 h.1.1.0.left h.1.1.1)
   does_then Given Given' p c w (stops no_alternative v) k h more = h
   does_then Given Given' p c w (stops heap_full v) k h more = h
   does_then Given Given' p c w (stops stack_full v) k h more = h
@@ -240,7 +279,9 @@ module _ (lay : Layout) (items : List Item) (begins : List ℕ) where
   nothing_more xs = grind (arith, common_steps)
 
   -- a stretch without bytes and labels, beside which a run changes neither
-  pub quiet : {count : ℕ} {p q : Point} {c d : List ℕ} (w v : World) → Goes lay items count w.input p c [] [] w.input q d → v.out ≡ w.out → v.entered ≡ w.entered → v.input ≡ w.input → v.used ≡ w.used → v.left ≡ w.left → Ran p c w q d v
+  pub quiet : {count : ℕ} {p q : Point} {c d : List ℕ} (w v : World)
+      → Goes lay items count w.input p c [] [] w.input q d → v.out ≡ w.out → v.entered ≡ w.entered
+      → v.input ≡ w.input → v.used ≡ w.used → v.left ≡ w.left → Ran p c w q d v
   quiet {count} {p} {q} {c} {d} w v g out entered input used left = record {
     count = count;
     bytes = [];
@@ -253,7 +294,10 @@ module _ (lay : Layout) (items : List Item) (begins : List ℕ) where
   }
 
   -- a procedure is entered at its label
-  pub enters : {count : ℕ} {p q : Point} {c d : List ℕ} (f frames left : ℕ) (w : World) → procedure_from 0 begins f ≡ f ∷ [] → w.left ≡ suc left → Goes lay items count w.input p c [] (f ∷ []) w.input q d → Ran p c w q d (spent f frames left w)
+  pub enters : {count : ℕ} {p q : Point} {c d : List ℕ} (f frames left : ℕ) (w : World)
+      → procedure_from 0 begins f ≡ f ∷ [] → w.left ≡ suc left
+      → Goes lay items count w.input p c [] (f ∷ []) w.input q d
+      → Ran p c w q d (spent f frames left w)
   enters {count} f frames left w is e g = record {
     count = count;
     bytes = [];
@@ -266,7 +310,8 @@ module _ (lay : Layout) (items : List Item) (begins : List ℕ) where
   }
 
   -- a byte is written, and one is read or the input has ended
-  pub wrote : {count : ℕ} {p q : Point} {c d : List ℕ} (k : ℕ) (w : World) → Goes lay items count w.input p c (k % 256 ∷ []) [] w.input q d → Ran p c w q d (written k w)
+  pub wrote : {count : ℕ} {p q : Point} {c d : List ℕ} (k : ℕ) (w : World)
+      → Goes lay items count w.input p c (k % 256 ∷ []) [] w.input q d → Ran p c w q d (written k w)
   wrote {count} k w g = record {
     count = count;
     bytes = k % 256 ∷ [];
@@ -278,7 +323,8 @@ module _ (lay : Layout) (items : List Item) (begins : List ℕ) where
     left = omega arith;
   }
 
-  pub took : {count : ℕ} {p q : Point} {c d : List ℕ} (input : List ℕ) (w : World) → w.input ≡ input → Goes lay items count input p c [] [] (drop 1 input) q d → Ran p c w q d (byte_taken input w)
+  pub took : {count : ℕ} {p q : Point} {c d : List ℕ} (input : List ℕ) (w : World) → w.input ≡ input
+      → Goes lay items count input p c [] [] (drop 1 input) q d → Ran p c w q d (byte_taken input w)
   took {count} {p} {q} {c} {d} [] w e g = record {
     count = count;
     bytes = [];
@@ -301,7 +347,8 @@ module _ (lay : Layout) (items : List Item) (begins : List ℕ) where
   }
 
   -- an exit at once
-  pub ends_now : {count : ℕ} {p : Point} {c : List ℕ} (w : World) (code : ℕ) → Exits lay items count w.input p c [] [] w.input code → Ends p c w w code
+  pub ends_now : {count : ℕ} {p : Point} {c : List ℕ} (w : World) (code : ℕ)
+      → Exits lay items count w.input p c [] [] w.input code → Ends p c w w code
   ends_now {count} w code g = record {
     count = count;
     bytes = [];
@@ -313,7 +360,9 @@ module _ (lay : Layout) (items : List Item) (begins : List ℕ) where
   }
 
   -- and with labels that are no procedure's
-  pub quiet_labels : {count : ℕ} {p q : Point} {c d : List ℕ} (labels : List ℕ) (w : World) → procedures_at begins labels ≡ [] → Goes lay items count w.input p c [] labels w.input q d → Ran p c w q d w
+  pub quiet_labels : {count : ℕ} {p q : Point} {c d : List ℕ} (labels : List ℕ) (w : World)
+      → procedures_at begins labels ≡ [] → Goes lay items count w.input p c [] labels w.input q d
+      → Ran p c w q d w
   quiet_labels {count} labels w none g = record {
     count = count;
     bytes = [];
@@ -326,17 +375,30 @@ module _ (lay : Layout) (items : List Item) (begins : List ℕ) where
   }
 
 module _ (l : Program) (a : Assignment) (cells stack : ℕ) (lay : Layout) (items : List Item) where
-  -- where a block's words and the machine are behind it: returned from the procedure to item m, or at the item of a label. `Must`
+  -- where a block's words and the machine are behind it: returned from the procedure to item m, or
+  -- at the item of a label. `Must`
   -- says the words of the variables that are needed there
-  abbrev pub Given : (framed : Bool) → (f j slots : ℕ) → (d0 : Data) → (m : ℕ) → (outer : List ℕ) → (to : List Spot) → Continuation → (Must : ℕ → Word → Type 0) → List Word → World → Point → List ℕ → Type 0
+  abbrev pub Given : (framed : Bool) → (f j slots : ℕ) → (d0 : Data) → (m : ℕ) → (outer : List ℕ)
+      → (to : List Spot) → Continuation → (Must : ℕ → Word → Type 0) → List Word → World → Point
+      → List ℕ → Type 0
   Given framed f j slots d0 m outer to Returns Must vs w q calls =
-      (d : Data) × ((q ≡ at (bases stack) lay items m d) × ((calls ≡ outer) × Back l a cells stack lay f (j + (1 + slots)) d0 to vs d w))
+      (d : Data) ×
+      ((q ≡ at (bases stack) lay items m d) ×
+      ((calls ≡ outer) × Back l a cells stack lay f (j + (1 + slots)) d0 to vs d w))
   Given framed f j slots d0 m outer to (Follows n) Must vs w q calls =
-      (t : ℕ) × ((d : Data) × ((label_from 0 items n ≡ Some t) × ((q ≡ at (bases stack) lay items t d) × ((calls ≡ m ∷ outer)
-      × (Stood l a cells stack lay framed f j slots d0 (lay.address m) Must d w × AllHold l.width to vs (spots lay.code (bases stack) j slots d))))))
+      (t : ℕ) ×
+      ((d : Data) ×
+      ((label_from 0 items n ≡ Some t) ×
+      ((q ≡ at (bases stack) lay items t d) × ((calls ≡ m ∷ outer)
+      × (Stood l a cells stack lay framed f j slots d0 (lay.address m) Must d w
+      × AllHold l.width to vs (spots lay.code (bases stack) j slots d))))))
   Given framed f j slots d0 m outer to (Jumps n) Must vs w q calls =
-      (t : ℕ) × ((d : Data) × ((label_from 0 items n ≡ Some t) × ((q ≡ at (bases stack) lay items t d) × ((calls ≡ m ∷ outer)
-      × (Stood l a cells stack lay framed f j slots d0 (lay.address m) Must d w × AllHold l.width to vs (spots lay.code (bases stack) j slots d))))))
+      (t : ℕ) ×
+      ((d : Data) ×
+      ((label_from 0 items n ≡ Some t) ×
+      ((q ≡ at (bases stack) lay items t d) × ((calls ≡ m ∷ outer)
+      × (Stood l a cells stack lay framed f j slots d0 (lay.address m) Must d w
+      × AllHold l.width to vs (spots lay.code (bases stack) j slots d))))))
 
 -- a variable that a block uses, and its word
 abbrev pub InUse : Code → Env → ℕ → Word → Type 0

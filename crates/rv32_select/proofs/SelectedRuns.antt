@@ -1,4 +1,5 @@
--- Selected items do what low code does, whatever their layout: their courses follow its runs and arrive where those do, each return
+-- Selected items do what low code does, whatever their layout: their courses follow its runs and
+-- arrive where those do, each return
 -- goes home, and where no alternative was found a course leaves by the jump there.
 use Rattle.std.proofs.Common.{◌≡◌, ℕ, List, [], length, refl}
 use Rattle.headline.specs.Carries.{IsBytes}
@@ -21,20 +22,31 @@ use Rattle.rv32_select.proofs.Dynamics.{selected_follows, selected_arrives, sele
 use Rattle.rv32_select.proofs.SelectedSetting.{selected_setting, selected_start}
 use Rattle.rv32_select.proofs.Statics.{begins, selected_statics}
 
--- what is known of the courses of selected items, whatever their layout, where these are the labels of procedures
-pub record SelectedRuns (l : Program) (a : Assignment) (cells stack : ℕ) (items : List Item) (begins : List ℕ) : Type 0 where
-  pub follows : (lay : Layout) → AddressesRise items lay → BelowHeap lay → (i : List ℕ) → IsBytes i → (k : ℕ) →
+-- what is known of the courses of selected items, whatever their layout, where these are the labels
+-- of procedures
+pub record SelectedRuns (l : Program) (a : Assignment) (cells stack : ℕ) (items : List Item)
+    (begins : List ℕ) : Type 0 where
+  pub follows : (lay : Layout) → AddressesRise items lay → BelowHeap lay → (i : List ℕ) → IsBytes i
+      → (k : ℕ) →
       let c = course lay items k i (start_point l.width cells stack lay) in
-      Follows begins i (limited l (words_at a) cells stack i (length (procedures_at begins c.passed))) c
-  pub arrives : (lay : Layout) → AddressesRise items lay → BelowHeap lay → (i : List ℕ) → IsBytes i → (n : ℕ) →
-      (k : ℕ) × ReachesAnswer begins i (limited l (words_at a) cells stack i n) (course lay items k i (start_point l.width cells stack lay))
-  pub home : (lay : Layout) → AddressesRise items lay → BelowHeap lay → (i : List ℕ) → IsBytes i → (k : ℕ) →
+      Follows begins i
+      (limited l (words_at a) cells stack i (length (procedures_at begins c.passed))) c
+  pub arrives : (lay : Layout) → AddressesRise items lay → BelowHeap lay → (i : List ℕ) → IsBytes i
+      → (n : ℕ) →
+      (k : ℕ) × ReachesAnswer begins i (limited l (words_at a) cells stack i n)
+      (course lay items k i (start_point l.width cells stack lay))
+  pub home : (lay : Layout) → AddressesRise items lay → BelowHeap lay → (i : List ℕ) → IsBytes i
+      → (k : ℕ) →
       ReturnsHome lay items k i (start_point l.width cells stack lay) []
-  pub leaves : (lay : Layout) → AddressesRise items lay → BelowHeap lay → (i : List ℕ) → IsBytes i → (k : ℕ)
-      → (course lay items k i (start_point l.width cells stack lay)).end ≡ Exited 3 → Leaves lay items i (start_point l.width cells stack lay)
+  pub leaves : (lay : Layout) → AddressesRise items lay → BelowHeap lay → (i : List ℕ) → IsBytes i
+      → (k : ℕ)
+      → (course lay items k i (start_point l.width cells stack lay)).end ≡ Exited 3
+      → Leaves lay items i (start_point l.width cells stack lay)
 
-module _ (l : Program) (a : Assignment) (cells stack : ℕ) (items : List Item) (fine : Selectable l a cells stack) (s : IsSelected l a cells stack items) where
-  setting : (lay : Layout) → AddressesRise items lay → BelowHeap lay → Setting l a cells stack lay items (begins (length l.procs))
+module _ (l : Program) (a : Assignment) (cells stack : ℕ) (items : List Item)
+    (fine : Selectable l a cells stack) (s : IsSelected l a cells stack items) where
+  setting : (lay : Layout) → AddressesRise items lay → BelowHeap lay
+      → Setting l a cells stack lay items (begins (length l.procs))
   setting lay rises below = selected_setting l a cells stack items fine s lay rises below
 
   started : Started l a cells stack items
@@ -42,10 +54,14 @@ module _ (l : Program) (a : Assignment) (cells stack : ℕ) (items : List Item) 
 
   pub selected_runs : NeverMissing l → SelectedRuns l a cells stack items (begins (length l.procs))
   selected_runs there = record {
-    follows = λ lay rises below i bytes k. selected_follows l a cells stack lay items (begins (length l.procs)) (setting lay rises below) started there i bytes k;
-    arrives = λ lay rises below i bytes n. selected_arrives l a cells stack lay items (begins (length l.procs)) (setting lay rises below) started there i bytes n;
-    home = λ lay rises below i bytes k. selected_home l a cells stack lay items (begins (length l.procs)) (setting lay rises below) started there i bytes k;
-    leaves = λ lay rises below i bytes k exited. selected_leaves l a cells stack lay items (begins (length l.procs)) (setting lay rises below) started there i bytes k exited;
+    follows = λ lay rises below i bytes k. selected_follows l a cells stack lay items
+        (begins (length l.procs)) (setting lay rises below) started there i bytes k;
+    arrives = λ lay rises below i bytes n. selected_arrives l a cells stack lay items
+        (begins (length l.procs)) (setting lay rises below) started there i bytes n;
+    home = λ lay rises below i bytes k. selected_home l a cells stack lay items
+        (begins (length l.procs)) (setting lay rises below) started there i bytes k;
+    leaves = λ lay rises below i bytes k exited. selected_leaves l a cells stack lay items
+        (begins (length l.procs)) (setting lay rises below) started there i bytes k exited;
   }
 
 pub selected_items_do : SelectionRefines
@@ -67,5 +83,7 @@ selected_items_do l a cells stack items fine there s =
       follows = runs.follows;
       arrives = runs.arrives;
       home = runs.home;
-      leaves = λ lay rises below i bytes k exited. leaves_by lay items still.flows.stops 3 k i (start_point l.width cells stack lay) still.last still.flows.all_stop exited (runs.leaves lay rises below i bytes k exited);
+      leaves = λ lay rises below i bytes k exited. leaves_by lay items still.flows.stops 3 k i
+          (start_point l.width cells stack lay) still.last still.flows.all_stop exited
+          (runs.leaves lay rises below i bytes k exited);
     }

@@ -43,7 +43,8 @@ piece_nil k = record { straight = tt; few = omega arith }
 pub piece_one : (i : Instr) → IsStraight i → Piece 1 (i ∷ [])
 piece_one i h = record { straight = (h, tt); few = omega arith }
 
-pub piece_cons : (k : ℕ) (i : Instr) (is : List Instr) → IsStraight i → Piece k is → Piece (suc k) (i ∷ is)
+pub piece_cons : (k : ℕ) (i : Instr) (is : List Instr) → IsStraight i → Piece k is
+    → Piece (suc k) (i ∷ is)
 piece_cons k i is h p = record { straight = (h, p.straight); few = omega (arith, p.few) }
 
 straight_append : (a b : List Instr) → AllStraight a → AllStraight b → AllStraight (a ++ b)
@@ -51,12 +52,17 @@ straight_append [] b h k = k
 straight_append (i ∷ a) b h k = (h.0, straight_append a b h.1 k)
 
 pub piece_append : (j k : ℕ) (a b : List Instr) → Piece j a → Piece k b → Piece (j + k) (a ++ b)
-piece_append j k a b p q = record { straight = straight_append a b p.straight q.straight; few = omega (arith, length-append a b, p.few, q.few) }
+piece_append j k a b p q = record {
+  straight = straight_append a b p.straight q.straight;
+  few
+      = omega (arith, length-append a b, p.few, q.few);
+}
 
 pub piece_more : (j k : ℕ) (a : List Instr) → j ≤ k → Piece j a → Piece k a
 piece_more j k a le p = record { straight = p.straight; few = omega (arith, le, p.few) }
 
-pub piece_if : (k : ℕ) (b : Bool) (x y : List Instr) → Piece k x → Piece k y → Piece k (if b then x else y)
+pub piece_if : (k : ℕ) (b : Bool) (x y : List Instr) → Piece k x → Piece k y
+    → Piece k (if b then x else y)
 piece_if k true x y p q = p
 piece_if k false x y p q = q
 
@@ -89,7 +95,8 @@ move_piece (Reg r) (Reg q) = piece_more 1 6 _ (omega arith) (copy_piece r q)
 move_piece (Reg r) (Slot k) = piece_more 3 6 _ (omega arith) (load_piece r k)
 move_piece (Reg r) Scratch = piece_more 1 3 _ (omega arith) (copy_piece r 5)
 move_piece (Slot k) (Reg q) = piece_more 3 6 _ (omega arith) (store_piece k q)
-move_piece (Slot k) (Slot j) = piece_if 6 (nat_eq k j) _ _ (piece_nil 6) (piece_append 3 3 (load_slot 6 j) _ (load_piece 6 j) (store_piece k 6))
+move_piece (Slot k) (Slot j) = piece_if 6 (nat_eq k j) _ _ (piece_nil 6)
+    (piece_append 3 3 (load_slot 6 j) _ (load_piece 6 j) (store_piece k 6))
 move_piece (Slot k) Scratch = store_piece k 5
 move_piece Scratch (Reg q) = piece_more 1 3 _ (omega arith) (copy_piece 5 q)
 move_piece Scratch (Slot k) = load_piece 5 k
@@ -98,8 +105,10 @@ move_piece Scratch Scratch = piece_nil 0
 pub moves_piece : (ms : List Move) → Piece (3 * ends ms) (moves_code ms)
 moves_piece [] = piece_nil 0
 moves_piece (m ∷ ms) =
-    piece_more (3 * (spot_cost m.to + spot_cost m.from) + 3 * ends ms) (3 * ends (m ∷ ms)) _ (omega arith)
-    (piece_append (3 * (spot_cost m.to + spot_cost m.from)) (3 * ends ms) (move_to m.to m.from) (moves_code ms) (move_piece m.to m.from) (moves_piece ms))
+    piece_more (3 * (spot_cost m.to + spot_cost m.from) + 3 * ends ms) (3 * ends (m ∷ ms)) _
+    (omega arith)
+    (piece_append (3 * (spot_cost m.to + spot_cost m.from)) (3 * ends ms) (move_to m.to m.from)
+    (moves_code ms) (move_piece m.to m.from) (moves_piece ms))
 
 pub keep_piece : (r : ℕ) (s : Spot) → Piece 3 (keep r s)
 keep_piece r (Reg q) = piece_nil 3
@@ -117,17 +126,26 @@ hold_piece r (Number n) = piece_more 2 3 _ (omega arith) (held_number_piece r n)
 
 pub number_into_piece : (s : Spot) (n : ℕ) → Piece 5 (number_into s n)
 number_into_piece (Reg q) n = piece_more 2 5 _ (omega arith) (number_piece q n)
-number_into_piece (Slot k) n = piece_append 2 3 (hold 5 (Number n)) _ (held_number_piece 5 n) (store_piece k (held 5 (Number n)))
+number_into_piece (Slot k) n = piece_append 2 3 (hold 5 (Number n)) _ (held_number_piece 5 n)
+    (store_piece k (held 5 (Number n)))
 number_into_piece Scratch n = piece_more 2 5 _ (omega arith) (number_piece 5 n)
 
 -- the words that go to spots at once: six instructions each
-pub sent_piece : (to : List Spot) (from : List Source) → (k : ℕ) × (Piece k (number_moves to from) × (6 * length (spot_moves to from) + k ≤ 6 * length from))
+pub sent_piece : (to : List Spot) (from : List Source) → (k : ℕ)
+    × (Piece k (number_moves to from) × (6 * length (spot_moves to from) + k ≤ 6 * length from))
 sent_piece [] from = (0, (piece_nil 0, omega arith))
 sent_piece (t ∷ to) [] = (0, (piece_nil 0, omega arith))
-sent_piece (t ∷ to) (At s ∷ from) = let more = sent_piece to from in (more.0, (more.1.0, omega (arith, more.1.1)))
+sent_piece (t ∷ to) (At s ∷ from) = let more = sent_piece to from
+    in (more.0, (more.1.0, omega (arith, more.1.1)))
 sent_piece (t ∷ to) (Number n ∷ from) =
-    let more = sent_piece to from in
-    (5 + more.0, (piece_append 5 more.0 (number_into t n) (number_moves to from) (number_into_piece t n) more.1.0, omega (arith, more.1.1)))
+    let more = sent_piece to from in (
+      5 + more.0,
+      (
+        piece_append 5 more.0 (number_into t n) (number_moves to from) (number_into_piece t n)
+            more.1.0,
+        omega (arith, more.1.1),
+      ),
+    )
 
 -- ---- statements
 
@@ -158,7 +176,8 @@ immediate_piece Sub t q n = piece_more 1 2 _ (omega arith) (piece_one _ tt)
 immediate_piece Mul t q n = piece_nil 2
 immediate_piece Quot t q n = piece_nil 2
 immediate_piece Rem t q n = piece_nil 2
-immediate_piece Eq t q n = piece_if 2 (nat_eq n 0) _ _ (piece_more 1 2 _ (omega arith) (piece_one _ tt)) (piece_cons 1 _ _ tt (piece_one _ tt))
+immediate_piece Eq t q n = piece_if 2 (nat_eq n 0) _ _
+    (piece_more 1 2 _ (omega arith) (piece_one _ tt)) (piece_cons 1 _ _ tt (piece_one _ tt))
 immediate_piece Lt t q n = piece_more 1 2 _ (omega arith) (piece_one _ tt)
 
 operands_piece : (f : PrimOp) (t : ℕ) (u v : Source) → Piece 8 (operands_held f t u v)
@@ -170,25 +189,31 @@ operate_piece : (f : PrimOp) (t : ℕ) (u v : Source) → Piece 8 (operate_on f 
 operate_piece f t u (At s) = operands_piece f t u (At s)
 operate_piece f t u (Number n) =
     piece_if 8 (is_immediate f n) _ _
-    (piece_more 5 8 _ (omega arith) (piece_append 3 2 (hold 5 u) _ (hold_piece 5 u) (immediate_piece f t (held 5 u) n)))
+    (piece_more 5 8 _ (omega arith)
+    (piece_append 3 2 (hold 5 u) _ (hold_piece 5 u) (immediate_piece f t (held 5 u) n)))
     (operands_piece f t u (Number n))
 
 in_order_piece : (f : PrimOp) (t : ℕ) (u v : Source) → Piece 8 (operate_in_order f t u v)
 in_order_piece f t (At s) v = operate_piece f t (At s) v
-in_order_piece f t (Number n) v = piece_if 8 (is_free f) _ _ (operate_piece f t v (Number n)) (operate_piece f t (Number n) v)
+in_order_piece f t (Number n) v = piece_if 8 (is_free f) _ _ (operate_piece f t v (Number n))
+    (operate_piece f t (Number n) v)
 
 pub prim_piece : (f : PrimOp) (to : Spot) (u v : Source) → Piece 11 (prim_code f to u v)
-prim_piece f to u v = piece_append 8 3 (operate_in_order f (target 5 to) u v) _ (in_order_piece f (target 5 to) u v) (keep_piece 5 to)
+prim_piece f to u v = piece_append 8 3 (operate_in_order f (target 5 to) u v) _
+    (in_order_piece f (target 5 to) u v) (keep_piece 5 to)
 
 pub load_word_piece : (to : Spot) (cell : Source) (k : ℕ) → Piece 7 (load_code to cell k)
-load_word_piece to cell k = piece_append 3 4 (hold 5 (high_part k cell)) _ (hold_piece 5 (high_part k cell)) (piece_cons 3 _ _ tt (keep_piece 5 to))
+load_word_piece to cell k = piece_append 3 4 (hold 5 (high_part k cell)) _
+    (hold_piece 5 (high_part k cell)) (piece_cons 3 _ _ tt (keep_piece 5 to))
 
 pub save_word_piece : (cell : Source) (k : ℕ) (word : Source) → Piece 7 (save_code cell k word)
 save_word_piece cell k word =
-    piece_append 3 4 (hold 5 (high_part k cell)) _ (hold_piece 5 (high_part k cell)) (piece_append 3 1 (hold 6 word) _ (hold_piece 6 word) (piece_one _ tt))
+    piece_append 3 4 (hold 5 (high_part k cell)) _ (hold_piece 5 (high_part k cell))
+    (piece_append 3 1 (hold 6 word) _ (hold_piece 6 word) (piece_one _ tt))
 
 go_on_piece : (step off : ℕ) → Piece 2 (go_on step off)
-go_on_piece step off = piece_if 2 (is_offset (off + step)) _ _ (piece_nil 2) (piece_cons 1 _ _ tt (piece_one _ tt))
+go_on_piece step off = piece_if 2 (is_offset (off + step)) _ _ (piece_nil 2)
+    (piece_cons 1 _ _ tt (piece_one _ tt))
 
 pub cells_piece : (step off : ℕ) (ss : List Spot) → Piece (6 * length ss) (cells_code step off ss)
 cells_piece step off [] = piece_nil 0
@@ -210,7 +235,8 @@ aside_piece : Piece 4 aside
 aside_piece = record { straight = (tt, (tt, (tt, (tt, tt)))); few = omega arith }
 
 back_piece : (heap_end : ℕ) → Piece 6 (back heap_end)
-back_piece heap_end = piece_cons 5 _ _ tt (piece_cons 4 _ _ tt (piece_cons 3 _ _ tt (piece_cons 2 _ _ tt (number_piece 4 heap_end))))
+back_piece heap_end = piece_cons 5 _ _ tt
+    (piece_cons 4 _ _ tt (piece_cons 3 _ _ tt (piece_cons 2 _ _ tt (number_piece 4 heap_end))))
 
 call_piece : (file call : ℕ) → Piece 5 (call_code file call)
 call_piece file call = record { straight = (tt, (tt, (tt, (tt, (tt, tt))))); few = omega arith }
@@ -246,7 +272,8 @@ pub parameters_piece : (i : ℕ) (ss : List Spot) → Piece (3 * length ss) (par
 parameters_piece i [] = piece_nil 0
 parameters_piece i (s ∷ ss) =
     piece_more (3 + 3 * length ss) (3 * length (s ∷ ss)) _ (omega arith)
-    (piece_append 3 (3 * length ss) (keep (8 + i) s) _ (keep_piece (8 + i) s) (parameters_piece (suc i) ss))
+    (piece_append 3 (3 * length ss) (keep (8 + i) s) _ (keep_piece (8 + i) s)
+    (parameters_piece (suc i) ss))
 
 pub leave_piece : (framed : Bool) (words : ℕ) → Piece 4 (leave_code framed words)
 leave_piece true words = piece_cons 3 _ _ tt (add_piece 2 2 (4 * words))
@@ -264,21 +291,26 @@ pub link_piece : (framed : Bool) → Piece 1 (link_put framed)
 link_piece true = piece_one _ tt
 link_piece false = piece_nil 1
 
-pub save_piece : (first : ℕ) (rs : List ℕ) → Piece (3 * length rs) (moves_code (save_moves first rs))
+pub save_piece : (first : ℕ) (rs : List ℕ) → Piece (3 * length rs)
+    (moves_code (save_moves first rs))
 save_piece first [] = piece_nil 0
 save_piece first (r ∷ rs) =
     piece_more (3 + 3 * length rs) (3 * length (r ∷ rs)) _ (omega arith)
-    (piece_append 3 (3 * length rs) (store_slot first r) _ (store_piece first r) (save_piece (suc first) rs))
+    (piece_append 3 (3 * length rs) (store_slot first r) _ (store_piece first r)
+    (save_piece (suc first) rs))
 
-pub restore_piece : (first : ℕ) (rs : List ℕ) → Piece (3 * length rs) (moves_code (restore_moves first rs))
+pub restore_piece : (first : ℕ) (rs : List ℕ) → Piece (3 * length rs)
+    (moves_code (restore_moves first rs))
 restore_piece first [] = piece_nil 0
 restore_piece first (r ∷ rs) =
     piece_more (3 + 3 * length rs) (3 * length (r ∷ rs)) _ (omega arith)
-    (piece_append 3 (3 * length rs) (load_slot r first) _ (load_piece r first) (restore_piece (suc first) rs))
+    (piece_append 3 (3 * length rs) (load_slot r first) _ (load_piece r first)
+    (restore_piece (suc first) rs))
 
 pub globals_piece : (step : ℕ) (ts : List ℕ) → Piece (4 * length ts) (globals_code step ts)
 globals_piece step [] = piece_nil 0
 globals_piece step (t ∷ ts) =
     piece_more (2 + suc (suc (4 * length ts))) (4 * length (t ∷ ts)) _ (omega arith)
     (piece_append 2 (suc (suc (4 * length ts))) (hold 6 (Number t)) _ (held_number_piece 6 t)
-    (piece_cons (suc (4 * length ts)) _ _ tt (piece_cons (4 * length ts) _ _ tt (globals_piece step ts))))
+    (piece_cons (suc (4 * length ts)) _ _ tt
+    (piece_cons (4 * length ts) _ _ tt (globals_piece step ts))))

@@ -35,9 +35,13 @@ write c pc regs rest a len segment offset input h r some e =
     ∙ ap (λ x. write_call s 1 a x) r.len_is
     ∙ ap (λ b. if b then written s a 0 [] else write_from s a len (access Read m a len)) full
     ∙ ap (write_from s a len) e
-    ∙ ap (λ p. Written a len (bytes_at m segment offset len) (at (set_reg regs 10 len) p m)) h.next))
+    ∙ ap (λ p. Written a len (bytes_at m segment offset len) (at (set_reg regs 10 len) p m))
+    h.next))
 
-asks : (c : Stretch) (pc : ℕ) (regs : ℕ → ℕ) (rest : List Stretch) (a segment offset : ℕ) → InstructionIsAt c pc Ecall → HasCallRegisters 63 0 a 1 regs → access Write (c ∷ rest) a 1 ≡ At segment offset → step (at regs pc (c ∷ rest)) ≡ asked a (At segment offset)
+asks : (c : Stretch) (pc : ℕ) (regs : ℕ → ℕ) (rest : List Stretch) (a segment offset : ℕ)
+    → InstructionIsAt c pc Ecall → HasCallRegisters 63 0 a 1 regs
+    → access Write (c ∷ rest) a 1 ≡ At segment offset
+    → step (at regs pc (c ∷ rest)) ≡ asked a (At segment offset)
 unfolding dispatch
 asks c pc regs rest a segment offset h r e =
     let m = c ∷ rest in
@@ -53,19 +57,25 @@ pub read : ReadCallsTake
 read c pc regs rest a segment offset byte input h r e =
     let m = c ∷ rest in
     let s : State = at regs pc m in
-    let answer : given s (Some byte) ≡ at (set_reg regs 10 1) (pc + 4) (stored_at m segment offset (bytes_of 1 byte)) =
-    ap (λ x. at (set_reg regs 10 1) (plus pc 4) (stored_to m (bytes_of 1 byte) (access Write m x 1))) r.address_is
+    let answer : given s (Some byte) ≡ at (set_reg regs 10 1) (pc + 4)
+    (stored_at m segment offset (bytes_of 1 byte)) =
+    ap (λ x. at (set_reg regs 10 1) (plus pc 4)
+    (stored_to m (bytes_of 1 byte) (access Write m x 1))) r.address_is
     ∙ ap (λ x. at (set_reg regs 10 1) (plus pc 4) (stored_to m (bytes_of 1 byte) x)) e
     ∙ ap (λ p. at (set_reg regs 10 1) p (stored_at m segment offset (bytes_of 1 byte))) h.next in
-    subst (λ t. StepsToOnInput 1 (byte ∷ input) s [] input t) answer (one_read s a (byte ∷ input) (asks c pc regs rest a segment offset h r e))
+    subst (λ t. StepsToOnInput 1 (byte ∷ input) s [] input t) answer
+    (one_read s a (byte ∷ input) (asks c pc regs rest a segment offset h r e))
 
 pub read_end : ReadCallsEnd
 read_end c pc regs rest a segment offset h r e =
     let s : State = at regs pc (c ∷ rest) in
-    subst (λ t. StepsToOnInput 1 [] s [] [] t) (ap (λ p. at (set_reg regs 10 0) p (c ∷ rest)) h.next) (one_read s a [] (asks c pc regs rest a segment offset h r e))
+    subst (λ t. StepsToOnInput 1 [] s [] [] t)
+    (ap (λ p. at (set_reg regs 10 0) p (c ∷ rest)) h.next)
+    (one_read s a [] (asks c pc regs rest a segment offset h r e))
 
 pub leave : ExitCallsEnd
 unfolding dispatch
 leave c pc regs rest input h number =
     let s : State = at regs pc (c ∷ rest) in
-    one_exit _ _ input (h.steps regs rest ∙ ap (λ x. dispatch s x (regs 10) (regs 11) (regs 12)) number)
+    one_exit _ _ input
+    (h.steps regs rest ∙ ap (λ x. dispatch s x (regs 10) (regs 11) (regs 12)) number)

@@ -84,10 +84,23 @@ marks_row = record {
   formed = record {
     variables_once = (refl, (refl, (refl, tt)));
     sites_once = (refl, (refl, tt));
-    scoped = (((refl, tt), tt, (((refl, tt), (tt, tt), (tt, (refl, tt))), (refl, tt))), ((tt, tt), tt));
+    scoped = (
+      ((refl, tt), tt, (((refl, tt), (tt, tt), (tt, (refl, tt))), (refl, tt))),
+      ((tt, tt), tt),
+    );
     calls_in_range = ((omega arith, (omega arith, tt)), (tt, tt));
     starts = refl;
-    literals = record { procedures = ((((tt, omega arith), tt), tt, ((((tt, omega arith), tt), (omega arith, tt), (tt, (tt, tt))), (tt, tt))), ((omega arith, tt), tt)); tags = tt };
+    literals = record {
+      procedures = (
+        (
+          ((tt, omega arith), tt),
+          tt,
+          ((((tt, omega arith), tt), (omega arith, tt), (tt, (tt, tt))), (tt, tt)),
+        ),
+        ((omega arith, tt), tt),
+      );
+      tags = tt;
+    };
   };
   few = ((omega arith, omega arith, omega arith), ((omega arith, omega arith, omega arith), tt));
   width = refl;
@@ -106,7 +119,11 @@ less_row = record {
     scoped = ((refl, tt, ((refl, tt), (tt, tt), (tt, tt))), tt);
     calls_in_range = (tt, tt);
     starts = refl;
-    literals = record { procedures = ((tt, omega arith, (((tt, omega arith), tt), (omega arith, tt), (omega arith, tt))), tt); tags = tt };
+    literals = record {
+      procedures =
+          ((tt, omega arith, (((tt, omega arith), tt), (omega arith, tt), (omega arith, tt))), tt);
+      tags = tt;
+    };
   };
   few = ((omega arith, omega arith, omega arith), tt);
   width = refl;
@@ -122,14 +139,123 @@ letters_row = record {
   formed = record {
     variables_once = (refl, (refl, tt));
     sites_once = (refl, tt);
-    scoped = (((refl, tt), tt, (((refl, tt), (tt, tt), ((refl, tt), (tt, tt), ((refl, tt), (tt, tt), ((refl, tt), (tt, tt), ((refl, tt), (tt, tt), ((refl, tt), (tt, tt), ((refl, tt), (tt, tt), ((refl, tt), (tt, tt), ((refl, tt), (tt, tt), (tt, tt)))))))))), (refl, tt))), tt);
+    scoped = (
+      (
+        (refl, tt),
+        tt,
+        (
+          (
+            (refl, tt),
+            (tt, tt),
+            (
+              (refl, tt),
+              (tt, tt),
+              (
+                (refl, tt),
+                (tt, tt),
+                (
+                  (refl, tt),
+                  (tt, tt),
+                  (
+                    (refl, tt),
+                    (tt, tt),
+                    (
+                      (refl, tt),
+                      (tt, tt),
+                      ((refl, tt), (tt, tt), ((refl, tt), (tt, tt), ((refl, tt), (tt, tt), (tt, tt)))),
+                    ),
+                  ),
+                ),
+              ),
+            ),
+          ),
+          (refl, tt),
+        ),
+      ),
+      tt,
+    );
     calls_in_range = ((omega arith, tt), tt);
     starts = refl;
-    literals = record { procedures = ((((tt, omega arith), tt), tt, ((((tt, omega arith), tt), (omega arith, tt), (((tt, omega arith), tt), (omega arith, tt), (((tt, omega arith), tt), (omega arith, tt), (((tt, omega arith), tt), (omega arith, tt), (((tt, omega arith), tt), (omega arith, tt), (((tt, omega arith), tt), (omega arith, tt), (((tt, omega arith), tt), (omega arith, tt), (((tt, omega arith), tt), (omega arith, tt), (((tt, omega arith), tt), (omega arith, tt), (omega arith, tt)))))))))), (tt, tt))), tt); tags = tt };
+    literals = record {
+      procedures = (
+        (
+          ((tt, omega arith), tt),
+          tt,
+          (
+            (
+              ((tt, omega arith), tt),
+              (omega arith, tt),
+              (
+                ((tt, omega arith), tt),
+                (omega arith, tt),
+                (
+                  ((tt, omega arith), tt),
+                  (omega arith, tt),
+                  (
+                    ((tt, omega arith), tt),
+                    (omega arith, tt),
+                    (
+                      ((tt, omega arith), tt),
+                      (omega arith, tt),
+                      (
+                        ((tt, omega arith), tt),
+                        (omega arith, tt),
+                        (
+                          ((tt, omega arith), tt),
+                          (omega arith, tt),
+                          (
+                            ((tt, omega arith), tt),
+                            (omega arith, tt),
+                            (((tt, omega arith), tt), (omega arith, tt), (omega arith, tt)),
+                          ),
+                        ),
+                      ),
+                    ),
+                  ),
+                ),
+              ),
+            ),
+            (tt, tt),
+          ),
+        ),
+        tt,
+      );
+      tags = tt;
+    };
   };
   few = ((omega arith, omega arith, omega arith), tt);
   width = refl;
-  tests = ((omega arith, tt, ((omega arith, tt, (omega arith, tt, (omega arith, tt, (omega arith, tt, (omega arith, tt, (omega arith, tt, (omega arith, tt, (omega arith, tt, (omega arith, tt, tt))))))))), tt)), tt);
+  tests = (
+    (
+      omega arith,
+      tt,
+      (
+        (
+          omega arith,
+          tt,
+          (
+            omega arith,
+            tt,
+            (
+              omega arith,
+              tt,
+              (
+                omega arith,
+                tt,
+                (
+                  omega arith,
+                  tt,
+                  (omega arith, tt, (omega arith, tt, (omega arith, tt, (omega arith, tt, tt)))),
+                ),
+              ),
+            ),
+          ),
+        ),
+        tt,
+      ),
+    ),
+    tt,
+  );
   size = omega arith;
   calls = omega arith;
   procedures = omega arith;
@@ -143,32 +269,109 @@ row_of l m e h = subst IsRow (sym e) h
 pub sums_row : IsRow sums
 sums_row = record {
   formed = record {
-    variables_once = (refl, (refl, (refl, (refl, (refl, (refl, (refl, (refl, (refl, (refl, (refl, (refl, (refl, (refl, (refl, (refl, (refl, (refl, (refl, (refl, tt))))))))))))))))))));
+    variables_once = (
+      refl,
+      (
+        refl,
+        (
+          refl,
+          (
+            refl,
+            (
+              refl,
+              (
+                refl,
+                (
+                  refl,
+                  (
+                    refl,
+                    (
+                      refl,
+                      (
+                        refl,
+                        (
+                          refl,
+                          (
+                            refl,
+                            (refl, (refl, (refl, (refl, (refl, (refl, (refl, (refl, tt)))))))),
+                          ),
+                        ),
+                      ),
+                    ),
+                  ),
+                ),
+              ),
+            ),
+          ),
+        ),
+      ),
+    );
     sites_once = (refl, (refl, (refl, (refl, (refl, (refl, (refl, (refl, tt))))))));
     scoped = (
-      ((tt, (refl, tt)), ((refl, tt), (((refl, tt), (tt, tt), (tt, tt)), ((refl, tt), (refl, tt))))),
       (
-        ((refl, tt), (refl, tt), (refl, tt, (refl, refl, (refl, refl, (refl, tt, (refl, (refl, tt))))))),
+        (tt, (refl, tt)),
+        ((refl, tt), (((refl, tt), (tt, tt), (tt, tt)), ((refl, tt), (refl, tt)))),
+      ),
+      (
+        (
+          (refl, tt),
+          (refl, tt),
+          (refl, tt, (refl, refl, (refl, refl, (refl, tt, (refl, (refl, tt)))))),
+        ),
         (
           (refl, ((refl, tt), (tt, tt), (refl, (refl, ((refl, tt), (refl, refl, (refl, tt))))))),
-          ((refl, tt, ((refl, tt), (refl, tt), (refl, tt, ((refl, tt), (refl, tt, (refl, tt)))))), ((refl, tt, (refl, tt)), tt)),
+          (
+            (refl, tt, ((refl, tt), (refl, tt), (refl, tt, ((refl, tt), (refl, tt, (refl, tt)))))),
+            ((refl, tt, (refl, tt)), tt),
+          ),
         ),
       ),
     );
     calls_in_range = (
       (omega arith, (omega arith, (omega arith, tt))),
-      ((omega arith, tt), ((omega arith, tt), ((omega arith, (omega arith, (omega arith, tt))), (tt, tt)))),
+      (
+        (omega arith, tt),
+        ((omega arith, tt), ((omega arith, (omega arith, (omega arith, tt))), (tt, tt))),
+      ),
     );
     starts = (refl, omega arith);
     literals = record {
       procedures = (
-        ((omega arith, (tt, tt)), ((tt, tt), ((((tt, omega arith), tt), (omega arith, tt), (omega arith, tt)), ((tt, tt), (tt, tt))))),
         (
-          (((tt, omega arith), tt), (tt, tt), (tt, omega arith, (tt, tt, (tt, tt, (tt, omega arith, (tt, (tt, tt))))))),
+          (omega arith, (tt, tt)),
           (
-            (tt, (((tt, omega arith), tt), (omega arith, tt), (tt, (tt, ((tt, tt), (tt, tt, (tt, tt))))))),
+            (tt, tt),
             (
-              (tt, omega arith, (((tt, omega arith), tt), (tt, tt), (tt, omega arith, ((tt, tt), (tt, omega arith, (tt, tt)))))),
+              (((tt, omega arith), tt), (omega arith, tt), (omega arith, tt)),
+              ((tt, tt), (tt, tt)),
+            ),
+          ),
+        ),
+        (
+          (
+            ((tt, omega arith), tt),
+            (tt, tt),
+            (tt, omega arith, (tt, tt, (tt, tt, (tt, omega arith, (tt, (tt, tt)))))),
+          ),
+          (
+            (
+              tt,
+              (
+                ((tt, omega arith), tt),
+                (omega arith, tt),
+                (tt, (tt, ((tt, tt), (tt, tt, (tt, tt))))),
+              ),
+            ),
+            (
+              (
+                tt,
+                omega arith,
+                (
+                  ((tt, omega arith), tt),
+                  (tt, tt),
+                  (tt, omega arith, ((tt, tt), (tt, omega arith, (tt, tt)))),
+                ),
+              ),
               ((tt, omega arith, (tt, tt)), tt),
             ),
           ),
@@ -181,11 +384,17 @@ sums_row = record {
     (omega arith, omega arith, omega arith),
     (
       (omega arith, omega arith, omega arith),
-      ((omega arith, omega arith, omega arith), ((omega arith, omega arith, omega arith), ((omega arith, omega arith, omega arith), tt))),
+      (
+        (omega arith, omega arith, omega arith),
+        ((omega arith, omega arith, omega arith), ((omega arith, omega arith, omega arith), tt)),
+      ),
     ),
   );
   width = refl;
-  tests = (((omega arith, tt, tt), tt), ((omega arith, tt, tt), ((omega arith, tt, tt), ((omega arith, tt, tt), (tt, tt)))));
+  tests = (
+    ((omega arith, tt, tt), tt),
+    ((omega arith, tt, tt), ((omega arith, tt, tt), ((omega arith, tt, tt), (tt, tt)))),
+  );
   size = omega arith;
   calls = omega arith;
   procedures = omega arith;

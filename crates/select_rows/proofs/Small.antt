@@ -14,9 +14,12 @@ use Rattle.rv32_select.specs.Selectable.{Selectable}
 use Rattle.rv32_select.proofs.Statics.{SelectedStatics, selected_statics}
 use Rattle.select_rows.specs.Rows.{AreFew, IsRow}
 
-few_at : (qs : List Procedure) (f : ℕ) (q : Procedure) → AreFew qs → slice_get qs f ≡ Some q → (length q.params ≤ 16) × (q.results ≤ 13) × (length (variables q) ≤ 1000)
+few_at : (qs : List Procedure) (f : ℕ) (q : Procedure) → AreFew qs → slice_get qs f ≡ Some q
+    → (length q.params ≤ 16) × (q.results ≤ 13) × (length (variables q) ≤ 1000)
 few_at [] f q h e = cc
-few_at (p ∷ qs) zero q h e = subst (λ r. (length r.params ≤ 16) × (r.results ≤ 13) × (length (variables r) ≤ 1000)) (same_Some p q e) h.0
+few_at (p ∷ qs) zero q h e = subst
+    (λ r. (length r.params ≤ 16) × (r.results ≤ 13) × (length (variables r) ≤ 1000))
+    (same_Some p q e) h.0
 few_at (p ∷ qs) (suc f) q h e = few_at qs f q h.1 e
 
 past : (xs : List ℕ) (f : ℕ) → length xs ≤ f → slice_index_or xs f 0 ≡ 0
@@ -41,12 +44,15 @@ module _ (l : Program) (a : Assignment) (row : IsRow l) where
     where
       go : (o : Option Procedure) → slice_get l.procs f ≡ o → 4 * words_at a f < 268435456
       go None e =
-          let over : length a.frames ≤ f = let h = behind l.procs f e in let s = fits.covers.frames in omega (arith, h, s) in
+          let over : length a.frames ≤ f = let h = behind l.procs f e in let s = fits.covers.frames
+          in omega (arith, h, s) in
           let none = past a.frames f over in
           omega (arith, none)
-      go (Some q) e = let h = fits.dense f q e in let few = (few_at l.procs f q row.few e).2 in omega (arith, h, few)
+      go (Some q) e = let h = fits.dense f q e in let few = (few_at l.procs f q row.few e).2
+          in omega (arith, h, few)
 
-  pub selectable : Fits l a → (cells stack : ℕ) → (1 ≤ cells) × (cells ≤ 1000) → (1024 ≤ stack) × (stack ≤ 65536) × (stack % 4 ≡ 0) → Selectable l a cells stack
+  pub selectable : Fits l a → (cells stack : ℕ) → (1 ≤ cells) × (cells ≤ 1000) → (1024 ≤ stack)
+      × (stack ≤ 65536) × (stack % 4 ≡ 0) → Selectable l a cells stack
   selectable fits cells stack c s = record {
     formed = row.formed;
     fits = fits;
@@ -67,10 +73,12 @@ pub record Placeable (items : List Item) : Type 0 where
   pub plain : AllPlain items
   pub size : size_of items ≤ 268435456
 
-pub placeable : (l : Program) (a : Assignment) (cells stack : ℕ) (items : List Item) → IsRow l → Fits l a → (1 ≤ cells) × (cells ≤ 1000) → (1024 ≤ stack) × (stack ≤ 65536) × (stack % 4 ≡ 0)
+pub placeable : (l : Program) (a : Assignment) (cells stack : ℕ) (items : List Item) → IsRow l
+    → Fits l a → (1 ≤ cells) × (cells ≤ 1000) → (1024 ≤ stack) × (stack ≤ 65536) × (stack % 4 ≡ 0)
     → IsSelected l a cells stack items → Placeable items
 placeable l a cells stack items row fits c s h =
-    let still : SelectedStatics l items = selected_statics l a cells stack items (selectable l a row fits cells stack c s) h in
+    let still : SelectedStatics l items = selected_statics l a cells stack items
+    (selectable l a row fits cells stack c s) h in
     record {
       labels = still.labels;
       plain = still.plain;

@@ -13,7 +13,8 @@ counts b = cond b 1 0
 
 pub times_append : (x : ℕ) (xs ys : List ℕ) → times x (xs ++ ys) ≡ times x xs + times x ys
 times_append x [] ys = omega arith
-times_append x (y ∷ xs) ys = let h : times x (xs ++ ys) ≡ times x xs + times x ys = times_append x xs ys in omega arith
+times_append x (y ∷ xs) ys = let h : times x (xs ++ ys) ≡ times x xs + times x ys
+    = times_append x xs ys in omega arith
 
 pub none_at : (x y : ℕ) → x ≢ y → counts (nat_eq x y) ≡ 0
 none_at x y h = go (nat_eq x y) refl
@@ -27,13 +28,18 @@ one_at x = let h : nat_eq x x ≡ true = grind (arith, nat_tests) in ap counts h
 
 -- a number that stands nowhere in two lists stands in neither
 pub times_left : (y : ℕ) (xs ys : List ℕ) → times y (xs ++ ys) ≡ 0 → times y xs ≡ 0
-times_left y xs ys h = let e : times y (xs ++ ys) ≡ times y xs + times y ys = times_append y xs ys in omega arith
+times_left y xs ys h = let e : times y (xs ++ ys) ≡ times y xs + times y ys = times_append y xs ys
+    in omega arith
 
 pub times_right : (y : ℕ) (xs ys : List ℕ) → times y (xs ++ ys) ≡ 0 → times y ys ≡ 0
-times_right y xs ys h = let e : times y (xs ++ ys) ≡ times y xs + times y ys = times_append y xs ys in omega arith
+times_right y xs ys h = let e : times y (xs ++ ys) ≡ times y xs + times y ys = times_append y xs ys
+    in omega arith
 
-pub times_fewer : (y : ℕ) (xs ys us vs : List ℕ) → times y xs ≤ times y us → times y ys ≤ times y vs → times y (xs ++ ys) ≤ times y (us ++ vs)
-times_fewer y xs ys us vs h k = let e : times y (xs ++ ys) ≡ times y xs + times y ys = times_append y xs ys in let f : times y (us ++ vs) ≡ times y us + times y vs = times_append y us vs in omega (arith, e, f, h, k)
+pub times_fewer : (y : ℕ) (xs ys us vs : List ℕ) → times y xs ≤ times y us → times y ys ≤ times y vs
+    → times y (xs ++ ys) ≤ times y (us ++ vs)
+times_fewer y xs ys us vs h k = let e : times y (xs ++ ys) ≡ times y xs + times y ys
+    = times_append y xs ys in let f : times y (us ++ vs) ≡ times y us + times y vs
+    = times_append y us vs in omega (arith, e, f, h, k)
 
 -- ---- whether it stands there
 
@@ -47,7 +53,8 @@ among_later z x xs h = by (nat_eq z x)
     by true = refl
     by false = h
 
-pub among_cases : (x y : ℕ) (ys : List ℕ) → is_among x (y ∷ ys) ≡ true → (x ≡ y) ⊎ (is_among x ys ≡ true)
+pub among_cases : (x y : ℕ) (ys : List ℕ) → is_among x (y ∷ ys) ≡ true → (x ≡ y)
+    ⊎ (is_among x ys ≡ true)
 among_cases x y ys h = go (nat_eq x y) refl
   where
     go : (b : Bool) → nat_eq x y ≡ b → (x ≡ y) ⊎ (is_among x ys ≡ true)
@@ -60,11 +67,13 @@ among_all x xs h = subst (λ l. is_among x l ≡ true) (end xs) h
     end : (xs : List ℕ) → xs ++ [] ≡ xs
     end xs = grind (arith, common_steps)
 
-pub among_append : (x : ℕ) (xs ys : List ℕ) → is_among x (xs ++ ys) ≡ (is_among x xs || is_among x ys)
+pub among_append : (x : ℕ) (xs ys : List ℕ) → is_among x (xs ++ ys) ≡
+    (is_among x xs || is_among x ys)
 among_append x [] ys = refl
 among_append x (y ∷ xs) ys = go (nat_eq x y) (among_append x xs ys)
   where
-    go : (b : Bool) → is_among x (xs ++ ys) ≡ (is_among x xs || is_among x ys) → (b || is_among x (xs ++ ys)) ≡ ((b || is_among x xs) || is_among x ys)
+    go : (b : Bool) → is_among x (xs ++ ys) ≡ (is_among x xs || is_among x ys)
+        → (b || is_among x (xs ++ ys)) ≡ ((b || is_among x xs) || is_among x ys)
     go true h = refl
     go false h = h
 
@@ -74,17 +83,22 @@ among_left x xs ys h = among_append x xs ys ∙ or_left (is_among x xs) (is_amon
 pub among_right : (x : ℕ) (xs ys : List ℕ) → is_among x ys ≡ true → is_among x (xs ++ ys) ≡ true
 among_right x xs ys h = among_append x xs ys ∙ or_right (is_among x xs) (is_among x ys) h
 
-pub not_among_left : (x : ℕ) (xs ys : List ℕ) → is_among x (xs ++ ys) ≡ false → is_among x xs ≡ false
-not_among_left x xs ys h = neither_left (is_among x xs) (is_among x ys) (sym (among_append x xs ys) ∙ h)
+pub not_among_left : (x : ℕ) (xs ys : List ℕ) → is_among x (xs ++ ys) ≡ false
+    → is_among x xs ≡ false
+not_among_left x xs ys h = neither_left (is_among x xs) (is_among x ys)
+    (sym (among_append x xs ys) ∙ h)
 
-pub not_among_right : (x : ℕ) (xs ys : List ℕ) → is_among x (xs ++ ys) ≡ false → is_among x ys ≡ false
-not_among_right x xs ys h = neither_right (is_among x xs) (is_among x ys) (sym (among_append x xs ys) ∙ h)
+pub not_among_right : (x : ℕ) (xs ys : List ℕ) → is_among x (xs ++ ys) ≡ false
+    → is_among x ys ≡ false
+not_among_right x xs ys h = neither_right (is_among x xs) (is_among x ys)
+    (sym (among_append x xs ys) ∙ h)
 
 pub not_among_times : (x : ℕ) (xs : List ℕ) → is_among x xs ≡ false → times x xs ≡ 0
 not_among_times x [] h = refl
 not_among_times x (y ∷ ys) h = go (nat_eq x y) h (not_among_times x ys)
   where
-    go : (b : Bool) → (b || is_among x ys) ≡ false → (is_among x ys ≡ false → times x ys ≡ 0) → counts b + times x ys ≡ 0
+    go : (b : Bool) → (b || is_among x ys) ≡ false → (is_among x ys ≡ false → times x ys ≡ 0)
+        → counts b + times x ys ≡ 0
     go true h k = cc
     go false h k = let i : times x ys ≡ 0 = k h in omega (arith, i)
 

@@ -46,7 +46,8 @@ module _ {X Y : Type 0} (f : X → List Y) where
 
   pub flat_in : {y : Y} (xs : List X) → In y (flat_map f xs) → (x : X) × In x xs × In y (f x)
   flat_in [] h = none_in h
-  flat_in (z ∷ xs) h = ⊎_elim (λ a. (z, here, a)) (λ b. let r = flat_in xs b in (r.0, there r.1, r.2)) (in_split (f z) (flat_map f xs) h)
+  flat_in (z ∷ xs) h = ⊎_elim (λ a. (z, here, a))
+      (λ b. let r = flat_in xs b in (r.0, there r.1, r.2)) (in_split (f z) (flat_map f xs) h)
 
 module _ {X Y : Type 0} (f : X → Y) where
   pub in_map : {x : X} (xs : List X) → In x xs → In (f x) (map f xs)
@@ -56,4 +57,5 @@ module _ {X Y : Type 0} (f : X → Y) where
 
   pub map_in : {y : Y} (xs : List X) → In y (map f xs) → (x : X) × In x xs × (y ≡ f x)
   map_in [] h = none_in h
-  map_in (z ∷ xs) h = ⊎_elim (λ e. (z, here, e)) (λ k. let r = map_in xs k in (r.0, there r.1, r.2)) (cons_in (f z) (map f xs) h)
+  map_in (z ∷ xs) h = ⊎_elim (λ e. (z, here, e)) (λ k. let r = map_in xs k in (r.0, there r.1, r.2))
+      (cons_in (f z) (map f xs) h)

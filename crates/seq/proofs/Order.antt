@@ -47,7 +47,8 @@ pub same_or_not : (m n : ℕ) → (m ≡ n) ⊎ (m ≡ n → ⊥)
 same_or_not zero zero = inl refl
 same_or_not zero (suc n) = inr (λ e. cc)
 same_or_not (suc m) zero = inr (λ e. cc)
-same_or_not (suc m) (suc n) = ⊎_elim (λ e. inl (ap suc e)) (λ ne. inr (λ e. ne (omega (arith, e)))) (same_or_not m n)
+same_or_not (suc m) (suc n) = ⊎_elim (λ e. inl (ap suc e)) (λ ne. inr (λ e. ne (omega (arith, e))))
+    (same_or_not m n)
 
 pub not_below : (m n : ℕ) → (m < n → ⊥) → n ≤ m
 not_below m n h = on (nat_lt m n) refl

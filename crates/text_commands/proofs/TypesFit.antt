@@ -1,4 +1,5 @@
--- Refusals of texts with types, texts that are too long, and why a text that breaks no rule is not refused.
+-- Refusals of texts with types, texts that are too long, and why a text that breaks no rule is not
+-- refused.
 use Rattle.std.proofs.Common.{◌≡◌, ◌≢◌, ℕ, ◌<◌, ◌≤◌, Bool, true, false, List, length, refl, subst, arith, None}
 use Rattle.std.specs.Prelude.{◌==◌, nat_le, if◌then◌else◌}
 use Rattle.std.proofs.lemmas.Bool.{eqb-true}
@@ -24,7 +25,8 @@ use Rattle.text_commands.specs.Typing.{IsTypedText, IsMismatchReport, Fitting, A
 use Rattle.text_commands.proofs.Texts.{unread_long}
 
 -- a refusal that is no want of memory names the first broken rule
-pub type_caused : (text : List ℕ) (f : TypeFault) → (rule f ≡ 0 → ⊥) → IsCause text f → IsFirstBrokenText text (rule f) (number f)
+pub type_caused : (text : List ℕ) (f : TypeFault) → (rule f ≡ 0 → ⊥) → IsCause text f
+    → IsFirstBrokenText text (rule f) (number f)
 type_caused text (fault.Unread e) some h = h
 type_caused text (fault.Unchecked r) some h = h
 type_caused text (fault.DuplicateType at) some h = h
@@ -79,9 +81,12 @@ fault_apart (fault.BadSignature at) n e = absurd (omega (arith, e))
 
 -- ---- texts that are too long
 
-pub untyped_long : (front text : List ℕ) → 1048576 < length front → 1048576 < length text → (k at : ℕ) → IsFirstBrokenText front k at → IsFirstBrokenText text k at
-untyped_long front text short long k at (Unread h) = Unread (unread_long front text short long k at h)
-untyped_long front text short long k at (Untyped read s t h) = absurd (read 5 1048576 (reading.TextTooLong short))
+pub untyped_long : (front text : List ℕ) → 1048576 < length front → 1048576 < length text
+    → (k at : ℕ) → IsFirstBrokenText front k at → IsFirstBrokenText text k at
+untyped_long front text short long k at (Unread h) = Unread
+    (unread_long front text short long k at h)
+untyped_long front text short long k at (Untyped read s t h)
+    = absurd (read 5 1048576 (reading.TextTooLong short))
 
 pub typed_short : (text bytes : List ℕ) → 1048576 < length text → IsTypedText text bytes → ⊥
 typed_short text bytes long h = h.unbroken.0 5 1048576 (reading.TextTooLong long)
@@ -94,12 +99,14 @@ pub sides_short : (text bytes : List ℕ) → 1048576 < length text → IsMismat
 sides_short text bytes long (Fitting u e) = u.0 5 1048576 (reading.TextTooLong long)
 sides_short text bytes long (Apart {at = at} s broken t m e) = apart_short text at long broken
 
-pub another_long : (front text : List ℕ) → 1048576 < length front → 1048576 < length text → (k at : ℕ) → BreaksOtherRule front k at → BreaksOtherRule text k at
+pub another_long : (front text : List ℕ) → 1048576 < length front → 1048576 < length text
+    → (k at : ℕ) → BreaksOtherRule front k at → BreaksOtherRule text k at
 another_long front text short long k at h = (untyped_long front text short long k at h.0, h.1)
 
 -- ---- texts that break no rule
 
-pub untyped_broken : (text : List ℕ) (k at : ℕ) → TextBreaksNoRule text → IsFirstBrokenText text k at → ⊥
+pub untyped_broken : (text : List ℕ) (k at : ℕ) → TextBreaksNoRule text
+    → IsFirstBrokenText text k at → ⊥
 untyped_broken text k at u (Unread h) = u.0 k at h.broken
 untyped_broken text k at u (Untyped read s t h) = u.1 s t k at h.broken
 
@@ -113,7 +120,8 @@ same_group a b (inr l) m = l.0
 -- the rank of a rule by the tests on its number
 abbrev by : Bool → Bool → Bool → Bool → ℕ → ℕ → ℕ × ℕ × ℕ
 by partial apart lists types k at =
-    if partial then (6, at, k) else if apart then (5, at, k) else if lists then (4, at, k) else if types then (3, at, k) else core-order.rank k at
+    if partial then (6, at, k) else if apart then (5, at, k) else if lists then (4, at, k)
+    else if types then (3, at, k) else core-order.rank k at
 
 core_early : (k at : ℕ) → (core-order.rank k at).0 ≤ 2
 core_early k at = grind (arith, nat_tests)
@@ -126,13 +134,18 @@ in_group false false false true k at f e = absurd (omega (arith, e))
 in_group false false false false k at f e = absurd (let l = core_early k at in omega (arith, e, l))
 
 one_rule : (s : Source) (k at at' : ℕ) → IsFirstBroken s k at → IsFirstBroken s 83 at' → k ≡ 83
-one_rule s k at at' h g = in_group (k == 84) (k == 83) (k == 86) (nat_le 81 k) k at refl (same_group (rank k at) (rank 83 at') (h.first 83 at' g.broken) (g.first k at h.broken))
+one_rule s k at at' h g = in_group (k == 84) (k == 83) (k == 86) (nat_le 81 k) k at refl
+    (same_group (rank k at) (rank 83 at') (h.first 83 at' g.broken) (g.first k at h.broken))
 
-apart_once : (text : List ℕ) (k at at' : ℕ) → IsFirstBrokenText text k at → IsFirstBrokenText text 83 at' → k ≡ 83
+apart_once : (text : List ℕ) (k at at' : ℕ) → IsFirstBrokenText text k at
+    → IsFirstBrokenText text 83 at' → k ≡ 83
 apart_once text k at at' h (Unread g) = absurd (not_unread text 83 at' refl g.broken)
 apart_once text k at at' (Unread h) (Untyped read s t g) = absurd (read k at h.broken)
-apart_once text k at at' (Untyped read s t h) (Untyped read' s' t' g) = one_rule s' k at at' (subst (λ (x : Source). IsFirstBroken x k at) (one_thing source_reads text s s' t t') h) g
+apart_once text k at at' (Untyped read s t h) (Untyped read' s' t' g)
+    = one_rule s' k at at'
+    (subst (λ (x : Source). IsFirstBroken x k at) (one_thing source_reads text s s' t t') h) g
 
-pub sided_broken : (text : List ℕ) (k at : ℕ) → HasMismatchReport text → BreaksOtherRule text k at → ⊥
+pub sided_broken : (text : List ℕ) (k at : ℕ) → HasMismatchReport text → BreaksOtherRule text k at
+    → ⊥
 sided_broken text k at (inl u) b = untyped_broken text k at u b.0
 sided_broken text k at (inr h) b = b.1 (apart_once text k at h.0 b.0 h.1)

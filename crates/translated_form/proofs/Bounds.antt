@@ -1,4 +1,5 @@
--- The translation of a valid program has few words: at most 13 parameters and fields, and at most 12 fields of a value.
+-- The translation of a valid program has few words: at most 13 parameters and fields, and at most
+-- 12 fields of a value.
 use Rattle.std.proofs.Common.{◌≡◌, ℕ, zero, suc, ◌+◌, ◌≤◌, List, [], ◌∷◌, map, length, codes, Option, Some, None, slice_get, refl, ◌∙◌, arith}
 use Rattle.std.proofs.lemmas.List.{length-map}
 use Rattle.seq.proofs.Lists.{all_get, all_append}
@@ -35,15 +36,18 @@ most_of (t ∷ ts) a = let h = a.0.few in let r = most_of ts a.1 in omega (arith
 
 most_value_of : (ts : List Tag) → AllOf IsNarrow ts → most_value_fields ts ≤ 12
 most_value_of [] a = omega arith
-most_value_of (t ∷ ts) a = let h = a.0.few_of_value in let r = most_value_of ts a.1 in omega (arith, h, r)
+most_value_of (t ∷ ts) a = let h = a.0.few_of_value in let r = most_value_of ts a.1
+    in omega (arith, h, r)
 
 module _ (p : Program) (limited : Limited p) where
-  few_params_of : (o : Option Function) → (((f : Function) → o ≡ Some f → f.params ≤ 12)) → params_of p o ≤ 12
+  few_params_of : (o : Option Function) → (((f : Function) → o ≡ Some f → f.params ≤ 12))
+      → params_of p o ≤ 12
   few_params_of None h = omega arith
   few_params_of (Some f) h = h f refl
 
   pub few_params : (f : ℕ) → params p f ≤ 12
-  few_params f = few_params_of (slice_get p.funs f) (λ g e. all_get (λ g. g.params ≤ 12) p.funs f g limited.few_params e)
+  few_params f = few_params_of (slice_get p.funs f)
+      (λ g e. all_get (λ g. g.params ≤ 12) p.funs f g limited.few_params e)
 
   pub few_delay_params : (d : Delay) → IsThere p d → delay_params p d ≤ 13
   few_delay_params (Calls f) h = let l = few_params f in omega (arith, l)
@@ -53,7 +57,8 @@ module _ (p : Program) (limited : Limited p) where
 
   -- ---- tags
 
-  con_narrow : (o : Option arity.Con) → ((c : arity.Con) → o ≡ Some c → c.fields ≤ 12) → IsNarrow (con_tag o)
+  con_narrow : (o : Option arity.Con) → ((c : arity.Con) → o ≡ Some c → c.fields ≤ 12)
+      → IsNarrow (con_tag o)
   con_narrow None h = record { few = omega arith; few_of_value = omega arith }
   con_narrow (Some c) h = let l = h c refl in record { few = omega (arith, l); few_of_value = l }
 
@@ -61,13 +66,15 @@ module _ (p : Program) (limited : Limited p) where
   NarrowTag k = IsNarrow (tag_of p k)
 
   constructor_narrow : (c : ℕ) → NarrowTag (Constructor c)
-  constructor_narrow c = con_narrow (slice_get p.cons c) (λ con e. all_get (λ c. c.fields ≤ 12) p.cons c con limited.few_fields e)
+  constructor_narrow c = con_narrow (slice_get p.cons c)
+      (λ con e. all_get (λ c. c.fields ≤ 12) p.cons c con limited.few_fields e)
 
   waits_narrow : (d : Delay) → IsThere p d → NarrowTag (Waits d)
   waits_narrow d there = record { few = few_delay_params d there; few_of_value = omega arith }
 
   lacks_narrow : (f r : ℕ) → NarrowTag (Lacks f r)
-  lacks_narrow f r = let l = few_params f in record { few = omega (arith, l); few_of_value = omega (arith, l) }
+  lacks_narrow f r = let l = few_params f in record
+      { few = omega (arith, l); few_of_value = omega (arith, l) }
 
   narrow_parts_of : (f n : ℕ) → AllOf NarrowTag (function_parts f n)
   narrow_parts_of f zero = tt
@@ -75,15 +82,19 @@ module _ (p : Program) (limited : Limited p) where
 
   narrow_parts : (gs : List Function) (f : ℕ) → AllOf NarrowTag (parts gs f)
   narrow_parts [] f = tt
-  narrow_parts (g ∷ gs) f = all_append NarrowTag (function_parts f g.params) _ (narrow_parts_of f g.params) (narrow_parts gs (suc f))
+  narrow_parts (g ∷ gs) f = all_append NarrowTag (function_parts f g.params) _
+      (narrow_parts_of f g.params) (narrow_parts gs (suc f))
 
   narrow_kinds : AllOf NarrowTag (kinds p)
   unfolding kinds
   narrow_kinds = (
     record { few = omega arith; few_of_value = omega arith },
-    all_append NarrowTag (map Constructor (numbers_from 0 (length p.cons))) _ (all_map NarrowTag Constructor (numbers_from 0 (length p.cons)) constructor_narrow)
+    all_append NarrowTag (map Constructor (numbers_from 0 (length p.cons))) _
+        (all_map NarrowTag Constructor (numbers_from 0 (length p.cons)) constructor_narrow)
         (all_append NarrowTag (map Waits (delays p)) _
-        (all_mapped NarrowTag Waits (delays p) (all_weaker (IsThere p) (λ d. NarrowTag (Waits d)) (delays p) waits_narrow (all_there p)))
+        (all_mapped NarrowTag Waits (delays p)
+        (all_weaker (IsThere p) (λ d. NarrowTag (Waits d)) (delays p) waits_narrow
+        (all_there p)))
         (narrow_parts p.funs 0)),
   )
 
@@ -95,21 +106,31 @@ module _ (p : Program) (limited : Limited p) where
   abbrev Short : Procedure → Type 0
   Short q = length q.params ≤ 13
 
-  as_many_params : (base : ℕ) (name : List ℕ) (n : ℕ) (b : Code) → length (procedure p base name n b).params ≡ n
+  as_many_params : (base : ℕ) (name : List ℕ) (n : ℕ) (b : Code)
+      → length (procedure p base name n b).params ≡ n
   as_many_params base name n b = length-map (numbers_from 0 n) _ ∙ length_numbers 0 n
 
   short : (base : ℕ) (name : List ℕ) (n : ℕ) (b : Code) → n ≤ 13 → Short (procedure p base name n b)
   short base name n b le = let e = as_many_params base name n b in omega (arith, e, le)
 
-  short_delayed : (ds : List Delay) (base : ℕ) → AllOf (IsThere p) ds → AllOf Short (delayed_procs p base ds)
+  short_delayed : (ds : List Delay) (base : ℕ) → AllOf (IsThere p) ds
+      → AllOf Short (delayed_procs p base ds)
   short_delayed [] base a = tt
-  short_delayed (d ∷ ds) base a = (short base (delay_name p d) (delay_params p d) (delay_body p base d) (few_delay_params d a.0), short_delayed ds (base + span p d) a.1)
+  short_delayed (d ∷ ds) base a = (
+    short base (delay_name p d) (delay_params p d) (delay_body p base d)
+        (few_delay_params d a.0),
+    short_delayed ds (base + span p d) a.1,
+  )
 
   short_procs : AllOf Short (tr p).procs
   short_procs =
-      all_append Short (delayed_procs p (length p.funs) (delays p)) _ (short_delayed (delays p) (length p.funs) (all_there p)) (
+      all_append Short (delayed_procs p (length p.funs) (delays p)) _
+      (short_delayed (delays p) (length p.funs) (all_there p)) (
         short (rest p) (codes "@print") 1 (print_body p (rest p)) (omega arith),
-        all_if Short (takes_input p) (procedure p (rest p + 10) (codes "@start") 0 (start_body p (rest p + 10))) (λ e. short (rest p + 10) (codes "@start") 0 (start_body p (rest p + 10)) (omega arith)),
+        all_if Short (takes_input p)
+            (procedure p (rest p + 10) (codes "@start") 0 (start_body p (rest p + 10)))
+            (λ e. short (rest p + 10) (codes "@start") 0 (start_body p (rest p + 10))
+            (omega arith)),
       )
 
   pub few_words : HasFewWords (tr p)

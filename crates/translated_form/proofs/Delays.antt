@@ -11,7 +11,8 @@ use Rattle.translated_form.proofs.Lists.{all_if, all_numbers, all_mapped}
 use Rattle.seq.specs.Lists.{numbers_from}
 
 module _ (p : Program) where
-  -- a call of a function, an application to at most 12 arguments, an operation, or the input where it is taken
+  -- a call of a function, an application to at most 12 arguments, an operation, or the input where
+  -- it is taken
   abbrev pub IsThere : Delay → Type 0
   IsThere (Calls f) = (fun : Function) × (slice_get p.funs f ≡ Some fun)
   IsThere (Applies m) = m < 13
@@ -21,8 +22,16 @@ module _ (p : Program) where
   pub all_there : AllOf IsThere (delays p)
   unfolding delays
   all_there =
-      all_append IsThere (map Calls (numbers_from 0 (length p.funs))) _ (all_mapped IsThere Calls (numbers_from 0 (length p.funs)) (all_numbers (λ f. IsThere (Calls f)) (length p.funs) 0 (λ f le lt. some_at p.funs f (omega (arith, lt)))))
-      (all_append IsThere (filter (is_delayed p) (map Applies (numbers_from 0 13) ++ map Operates operations)) _
-      (all_filter IsThere (is_delayed p) (map Applies (numbers_from 0 13) ++ map Operates operations)
-      (all_append IsThere (map Applies (numbers_from 0 13)) (map Operates operations) (all_mapped IsThere Applies (numbers_from 0 13) (all_numbers (λ m. m < 13) 13 0 (λ m le lt. lt))) (all_map IsThere Operates operations (λ op. tt))))
+      all_append IsThere (map Calls (numbers_from 0 (length p.funs))) _
+      (all_mapped IsThere Calls (numbers_from 0 (length p.funs))
+      (all_numbers (λ f. IsThere (Calls f)) (length p.funs) 0
+      (λ f le lt. some_at p.funs f (omega (arith, lt)))))
+      (all_append IsThere
+      (filter (is_delayed p) (map Applies (numbers_from 0 13) ++ map Operates operations)) _
+      (all_filter IsThere (is_delayed p)
+      (map Applies (numbers_from 0 13) ++ map Operates operations)
+      (all_append IsThere (map Applies (numbers_from 0 13)) (map Operates operations)
+      (all_mapped IsThere Applies (numbers_from 0 13)
+      (all_numbers (λ m. m < 13) 13 0 (λ m le lt. lt)))
+      (all_map IsThere Operates operations (λ op. tt))))
       (all_if IsThere (takes_input p) Reads (λ e. e)))

@@ -36,12 +36,14 @@ module _ (p : Program) where
   pub waits_known : (d : Delay) → Has d (delays p) → TagKnown (tr p) (tag p (Waits d))
   waits_known d h = tag_known (Waits d) (has_waits p d h)
 
-  lacks_known : (f k : ℕ) → HasParams p f (λ n. k < n) → TagKnown (tr p) (tag p (Lacks f (params p f - k)))
+  lacks_known : (f k : ℕ) → HasParams p f (λ n. k < n)
+      → TagKnown (tr p) (tag p (Lacks f (params p f - k)))
   lacks_known f k h =
       let many : params p f ≡ h.0.params = ap (params_of p) h.1 in
       let lt = h.2 in
       let one : suc (params p f - k - 1) ≡ params p f - k = omega (arith, many, lt) in
-      subst (λ r. TagKnown (tr p) (tag p (Lacks f r))) one (tag_known _ (has_lacks p f h.0 (params p f - k - 1) h.1 (omega (arith, many, lt))))
+      subst (λ r. TagKnown (tr p) (tag p (Lacks f r))) one
+      (tag_known _ (has_lacks p f h.0 (params p f - k - 1) h.1 (omega (arith, many, lt))))
 
   -- ---- procedures
 
@@ -50,11 +52,18 @@ module _ (p : Program) where
   long_delayed (d ∷ ds) base = ap suc (long_delayed ds (base + span p d))
 
   many_procs : length (tr p).procs ≡ length (delays p) + length (print_procs p)
-  many_procs = let e = long_delayed (delays p) (length p.funs) in omega (arith, e, length-append (delayed_procs p (length p.funs) (delays p)) (print_procs p))
+  many_procs = let e = long_delayed (delays p) (length p.funs)
+      in omega (
+        arith,
+        e,
+        length-append (delayed_procs p (length p.funs) (delays p))
+            (print_procs p),
+      )
 
   pub proc_known : (d : Delay) → Has d (delays p) → ProcKnown (tr p) (proc p d)
   proc_known d h =
-      let lt = slice_get_within (map (λ x. x) (delays p)) (proc p d).0 d (found same_thunk_kind delay_sound delay_itself (λ x. x) d (delays p) h) in
+      let lt = slice_get_within (map (λ x. x) (delays p)) (proc p d).0 d
+      (found same_thunk_kind delay_sound delay_itself (λ x. x) d (delays p) h) in
       omega (arith, lt, many_procs, length-map (delays p) (λ x. x))
 
   pub print_known : ProcKnown (tr p) (print p)
@@ -70,15 +79,28 @@ module _ (p : Program) where
     word_formed (Local x) h = scoped.each x h
     word_formed (Global f) h = global_known f h
 
-    pub words_formed : (xs : List Var) → AllOf (VarOk p S) xs → AllOf (WordFormed (tr p) scope) (map (word p base) xs)
+    pub words_formed : (xs : List Var) → AllOf (VarOk p S) xs
+        → AllOf (WordFormed (tr p) scope) (map (word p base) xs)
     words_formed [] h = tt
     words_formed (x ∷ xs) h = (word_formed x h.0, words_formed xs h.1)
 
     -- a form that waits is one that the program delays
-    pub node_formed : (f : Flat) → FormOk p S f → ((d : Delay) → binds d f ≡ true → is_delayed p d ≡ true) → ValFormed (tr p) scope (node p base f)
+    pub node_formed : (f : Flat) → FormOk p S f →
+        ((d : Delay) → binds d f ≡ true → is_delayed p d ≡ true)
+        → ValFormed (tr p) scope (node p base f)
     node_formed (flat.Int k) h w = (number_known, (tt, tt))
     node_formed (flat.Con c xs) h w = (constructor_known c (length xs) h.0, words_formed xs h.1)
     node_formed (flat.Part f xs) h w = (lacks_known f (length xs) h.0, words_formed xs h.1)
-    node_formed (flat.Call f xs) h w = (waits_known (Calls f) (has_calls p f h.0.0 h.0.1), words_formed xs h.1)
-    node_formed (flat.Apply x xs) h w = (waits_known (Applies (length xs)) (has_applies p (length xs) h.0 (w (Applies (length xs)) (delay_itself (Applies (length xs))))), (word_formed x h.1, words_formed xs h.2))
-    node_formed (flat.Prim op x y) h w = (waits_known (Operates op) (has_operates p op (w (Operates op) (delay_itself (Operates op)))), (word_formed x h.0, (word_formed y h.1, tt)))
+    node_formed (flat.Call f xs) h w =
+        (waits_known (Calls f) (has_calls p f h.0.0 h.0.1), words_formed xs h.1)
+    node_formed (flat.Apply x xs) h w = (
+      waits_known (Applies (length xs))
+          (has_applies p (length xs) h.0
+          (w (Applies (length xs)) (delay_itself (Applies (length xs))))),
+      (word_formed x h.1, words_formed xs h.2),
+    )
+    node_formed (flat.Prim op x y) h w = (
+      waits_known (Operates op)
+          (has_operates p op (w (Operates op) (delay_itself (Operates op)))),
+      (word_formed x h.0, (word_formed y h.1, tt)),
+    )

@@ -16,10 +16,21 @@ pub by_one : (y x : ℕ) → OneIf y x
 by_one y x = by_test (nat_eq y x) refl
   where
     by_test : (b : Bool) → nat_eq y x ≡ b → OneIf y x
-    by_test true e = record { same = λ h. rw e refl; other = λ h. absurd (h (eqb-true y x e)); most = rw e (omega arith) }
-    by_test false e = record { same = λ h. let t : true ≡ false = sym (eq-eqb y x h) ∙ e in absurd cc; other = λ h. rw e refl; most = rw e (omega arith) }
+    by_test true e = record {
+      same = λ h. rw e refl;
+      other = λ h. absurd (h (eqb-true y x e));
+      most
+          = rw e (omega arith);
+    }
+    by_test false e = record {
+      same = λ h. let t : true ≡ false = sym (eq-eqb y x h) ∙ e in absurd cc;
+      other
+          = λ h. rw e refl;
+      most = rw e (omega arith);
+    }
 
--- k is how often y stands among some of the numbers from `from` on and below `to`, each of which stands there once at most
+-- k is how often y stands among some of the numbers from `from` on and below `to`, each of which
+-- stands there once at most
 pub record Once (y from to k : ℕ) : Type 0 where
   pub before : y < from → k ≡ 0
   pub after : to ≤ y → k ≡ 0
@@ -39,8 +50,10 @@ once_number y n =
 
 pub once_both : {y a b c k l : ℕ} → a ≤ b → b ≤ c → Once y a b k → Once y b c l → Once y a c (k + l)
 once_both {y} {a} {b} {c} {k} {l} d e f g = record {
-  before = λ h. let i : k ≡ 0 = f.before h in let j : l ≡ 0 = g.before (omega (arith, h, d)) in omega (arith, i, j);
-  after = λ h. let i : k ≡ 0 = f.after (omega (arith, h, e)) in let j : l ≡ 0 = g.after h in omega (arith, i, j);
+  before = λ h. let i : k ≡ 0 = f.before h in let j : l ≡ 0 = g.before (omega (arith, h, d))
+      in omega (arith, i, j);
+  after = λ h. let i : k ≡ 0 = f.after (omega (arith, h, e)) in let j : l ≡ 0 = g.after h
+      in omega (arith, i, j);
   once = by_test (nat_lt y b) refl;
 }
   where
@@ -48,7 +61,8 @@ once_both {y} {a} {b} {c} {k} {l} d e f g = record {
     by_test true t = let j : l ≡ 0 = g.before (ltb-true y b t) in omega (arith, j, f.once)
     by_test false t = let i : k ≡ 0 = f.after (ltb-false y b t) in omega (arith, i, g.once)
 
-pub once_within : {y a b k : ℕ} (a' b' k' : ℕ) → a' ≤ a → b ≤ b' → k' ≤ k → Once y a b k → Once y a' b' k'
+pub once_within : {y a b k : ℕ} (a' b' k' : ℕ) → a' ≤ a → b ≤ b' → k' ≤ k → Once y a b k
+    → Once y a' b' k'
 once_within {y} {a} {b} {k} a' b' k' d e f g = record {
   before = λ h. let i : k ≡ 0 = g.before (omega (arith, h, d)) in omega (arith, i, f);
   after = λ h. let i : k ≡ 0 = g.after (omega (arith, h, e)) in omega (arith, i, f);
@@ -71,10 +85,12 @@ half_of (suc d) = next (half_of d)
     next : Half d → Half (suc d)
     next h = by_parity h.half h.is
 
--- In a procedure whose variables begin with the number `base` the locals have every other number, and the values between
+-- In a procedure whose variables begin with the number `base` the locals have every other number,
+-- and the values between
 -- operations have the numbers between these
 module _ (base : ℕ) where
-  -- k is how often y stands among the locals from n on and below m, and the values between operations from t on and below u
+  -- k is how often y stands among the locals from n on and below m, and the values between
+  -- operations from t on and below u
   pub record Placed (y t u n m k : ℕ) : Type 0 where
     pub values_order : t ≤ u
     pub locals_order : n ≤ m
@@ -102,7 +118,8 @@ module _ (base : ℕ) where
           after = λ h. o.other (λ q. omega (arith, e, q, h));
           once = o.most;
         };
-        local = λ x e. let z = o.other (λ q. omega (arith, e, q)) in record { before = λ h. z; after = λ h. z; once = o.most };
+        local = λ x e. let z = o.other (λ q. omega (arith, e, q))
+            in record { before = λ h. z; after = λ h. z; once = o.most };
         below = λ h. o.other (λ q. omega (arith, q, h));
       }
 
@@ -112,7 +129,8 @@ module _ (base : ℕ) where
       record {
         values_order = omega arith;
         locals_order = omega arith;
-        value = λ i e. let z = o.other (λ q. omega (arith, e, q)) in record { before = λ h. z; after = λ h. z; once = o.most };
+        value = λ i e. let z = o.other (λ q. omega (arith, e, q))
+            in record { before = λ h. z; after = λ h. z; once = o.most };
         local = λ x e. record {
           before = λ h. o.other (λ q. omega (arith, e, q, h));
           after = λ h. o.other (λ q. omega (arith, e, q, h));
@@ -121,7 +139,8 @@ module _ (base : ℕ) where
         below = λ h. o.other (λ q. omega (arith, q, h));
       }
 
-  pub placed_both : {y t u v n m l k j : ℕ} → Placed y t u n m k → Placed y u v m l j → Placed y t v n l (k + j)
+  pub placed_both : {y t u v n m l k j : ℕ} → Placed y t u n m k → Placed y u v m l j
+      → Placed y t v n l (k + j)
   placed_both a b = record {
     values_order = omega (arith, a.values_order, b.values_order);
     locals_order = omega (arith, a.locals_order, b.locals_order);
@@ -130,7 +149,8 @@ module _ (base : ℕ) where
     below = λ h. omega (arith, a.below h, b.below h);
   }
 
-  pub placed_within : {y t u n m k : ℕ} (t' u' n' m' k' : ℕ) → t' ≤ t → u ≤ u' → n' ≤ n → m ≤ m' → k' ≤ k → Placed y t u n m k → Placed y t' u' n' m' k'
+  pub placed_within : {y t u n m k : ℕ} (t' u' n' m' k' : ℕ) → t' ≤ t → u ≤ u' → n' ≤ n → m ≤ m'
+      → k' ≤ k → Placed y t u n m k → Placed y t' u' n' m' k'
   placed_within t' u' n' m' k' dt du dn dm dk a = record {
     values_order = omega (arith, a.values_order, dt, du);
     locals_order = omega (arith, a.locals_order, dn, dm);
@@ -140,7 +160,8 @@ module _ (base : ℕ) where
   }
 
   -- those of a whole procedure
-  pub placed_once : {y u m k : ℕ} (span : ℕ) → 2 * u ≤ span → 2 * m ≤ span → Placed y 0 u 0 m k → Once y base (base + span) k
+  pub placed_once : {y u m k : ℕ} (span : ℕ) → 2 * u ≤ span → 2 * m ≤ span → Placed y 0 u 0 m k
+      → Once y base (base + span) k
   placed_once {y} {u} {m} {k} span du dm a = record {
     before = a.below;
     after = λ h. after_is h (half_of (y - base));

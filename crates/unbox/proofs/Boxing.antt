@@ -23,14 +23,18 @@ use Rattle.unboxing.specs.Unboxing.{zeros, tag_and_zeros, without_second, boxed_
 
 -- these statements, with more of the block before them
 abbrev pub Grows : List Stmt → List Stmt → (Code → Code) → Type 0
-Grows old new more = (c : Code) → all_before (map before_of new) c ≡ all_before (map before_of old) (more c)
+Grows old new more = (c : Code) → all_before (map before_of new) c ≡ all_before (map before_of old)
+    (more c)
 
-pub one_bound : (old new : List Stmt) (t : Target) (o : Op) → new ≡ old ++ Bind t o ∷ [] → Grows old new (bind t (act_of o))
-one_bound old new t o e c = ap (λ l. all_before (map before_of l) c) e ∙ all_before_push old (Bind t o) c ∙ ap (λ k. all_before (map before_of old) (k c)) (before_of-Bind t o)
+pub one_bound : (old new : List Stmt) (t : Target) (o : Op) → new ≡ old ++ Bind t o ∷ []
+    → Grows old new (bind t (act_of o))
+one_bound old new t o e c = ap (λ l. all_before (map before_of l) c) e ∙ all_before_push old
+    (Bind t o) c ∙ ap (λ k. all_before (map before_of old) (k c)) (before_of-Bind t o)
 
 -- ---- a vector
 
-pub short_boxed : (vars : List VarId) (o : Act) (c : Code) → length vars < 2 → bind (to.Vector vars) o c ≡ boxed_vector vars o c
+pub short_boxed : (vars : List VarId) (o : Act) (c : Code) → length vars < 2
+    → bind (to.Vector vars) o c ≡ boxed_vector vars o c
 short_boxed [] o c h = refl
 short_boxed (x ∷ []) o c h = refl
 short_boxed (x ∷ (y ∷ zs)) o c h = absurd (omega arith)
@@ -40,22 +44,31 @@ others_left [] h = absurd (omega arith)
 others_left (x ∷ []) h = absurd (omega arith)
 others_left (x ∷ (y ∷ zs)) h = omega arith
 
-pub others_made : (vars items made : List VarId) (i : ℕ) → 2 ≤ length vars → items ≡ drop 2 vars → length items ≤ i → made ≡ take 1 vars ++ take i items → made ≡ without_second vars
+pub others_made : (vars items made : List VarId) (i : ℕ) → 2 ≤ length vars → items ≡ drop 2 vars
+    → length items ≤ i → made ≡ take 1 vars ++ take i items → made ≡ without_second vars
 others_made [] items made i h e le m = absurd (omega arith)
 others_made (x ∷ []) items made i h e le m = absurd (omega arith)
 others_made (x ∷ (y ∷ zs)) items made i h e le m = m ∙ ap (λ l. x ∷ l) (take_all i items le ∙ e)
 
-pub boxed_long : (vars others : List VarId) (number : VarId) (o : Op) (v : Val) (old mid new : List Stmt) → 2 ≤ length vars → number ≡ get_or vars 1 number → others ≡ without_second vars → v ≡ tag_and_zeros (length others - 1)
-    → Grows old mid (bind (to.One number) (act_of o)) → Grows mid new (bind (to.Vector others) (act_of (Unit' v))) → (c : Code) → all_before (map before_of new) c ≡ all_before (map before_of old) (boxed_vector vars (act_of o) c)
+pub boxed_long : (vars others : List VarId) (number : VarId) (o : Op) (v : Val)
+    (old mid new : List Stmt) → 2 ≤ length vars → number ≡ get_or vars 1 number
+    → others ≡ without_second vars → v ≡ tag_and_zeros (length others - 1)
+    → Grows old mid (bind (to.One number) (act_of o))
+    → Grows mid new (bind (to.Vector others) (act_of (Unit' v))) → (c : Code)
+    → all_before (map before_of new) c ≡ all_before (map before_of old)
+    (boxed_vector vars (act_of o) c)
 boxed_long [] others number o v old mid new h n w t m l c = absurd (omega arith)
 boxed_long (x ∷ []) others number o v old mid new h n w t m l c = absurd (omega arith)
 boxed_long (x ∷ (y ∷ zs)) others number o v old mid new h n w t m l c =
     l c ∙ m (bind (to.Vector others) (act_of (Unit' v)) c)
-    ∙ ap (λ a. all_before (map before_of old) (bind (to.One number) (act_of o) (bind (to.Vector others) a c))) (act_of-Unit v)
-    ∙ (λ i. all_before (map before_of old) (bind (to.One (n i)) (act_of o) (bind (to.Vector (w i)) (leaf (unit (value i))) c)))
+    ∙ ap (λ a. all_before (map before_of old)
+    (bind (to.One number) (act_of o) (bind (to.Vector others) a c))) (act_of-Unit v)
+    ∙ (λ i. all_before (map before_of old)
+    (bind (to.One (n i)) (act_of o) (bind (to.Vector (w i)) (leaf (unit (value i))) c)))
   where
     value : v ≡ tag_and_zeros (length zs)
-    value = let k : suc (length zs) - 1 ≡ length zs = omega arith in t ∙ ap (λ l. tag_and_zeros (length l - 1)) w ∙ ap tag_and_zeros k
+    value = let k : suc (length zs) - 1 ≡ length zs = omega arith
+        in t ∙ ap (λ l. tag_and_zeros (length l - 1)) w ∙ ap tag_and_zeros k
 
 -- ---- zeros
 
@@ -63,7 +76,8 @@ zeros_push : (k : ℕ) → zeros k ++ Lit (pos 0) ∷ [] ≡ zeros (suc k)
 zeros_push zero = refl
 zeros_push (suc k) = ap (λ l. Lit (pos 0) ∷ l) (zeros_push k)
 
-pub one_more_zero : (w : Word) (words more : List Word) (k : ℕ) → words ≡ w ∷ zeros k → more ≡ words ++ Lit (pos 0) ∷ [] → more ≡ w ∷ zeros (k + 1)
+pub one_more_zero : (w : Word) (words more : List Word) (k : ℕ) → words ≡ w ∷ zeros k → more ≡ words
+    ++ Lit (pos 0) ∷ [] → more ≡ w ∷ zeros (k + 1)
 one_more_zero w words more k e h =
     let n : suc k ≡ k + 1 = omega arith in
     h ∙ ap (λ l. l ++ Lit (pos 0) ∷ []) e ∙ ap (λ l. w ∷ l) (zeros_push k) ∙ ap (λ n. w ∷ zeros n) n
@@ -73,18 +87,29 @@ one_more_zero w words more k e h =
 module _ (S : Procedures) where
   -- what stands before, made from this statement
   abbrev pub Puts : List Stmt → List Stmt → Stmt → Type 0
-  Puts old new s = (bare : Bool) (c : Code) → all_before (map before_of new) (unbox_code S bare c) ≡ all_before (map before_of old) (unbox_code S bare (before_of s c))
+  Puts old new s = (bare : Bool) (c : Code) → all_before (map before_of new) (unbox_code S bare c) ≡
+      all_before (map before_of old) (unbox_code S bare (before_of s c))
 
-  pub puts_cells : (old new : List Stmt) (s : Stmt) (cs : List Cell) → s ≡ Store cs → new ≡ old ++ Store cs ∷ [] → Puts old new s
+  pub puts_cells : (old new : List Stmt) (s : Stmt) (cs : List Cell) → s ≡ Store cs → new ≡ old
+      ++ Store cs ∷ [] → Puts old new s
   unfolding unbox_act
   puts_cells old new s cs e h bare c =
-      ap (λ l. all_before (map before_of l) (unbox_code S bare c)) h ∙ all_before_push old (Store cs) (unbox_code S bare c) ∙ ap (λ k. all_before (map before_of old) (k (unbox_code S bare c))) (before_of-Store cs)
-      ∙ sym (ap (λ k. all_before (map before_of old) (unbox_code S bare (k c))) (before_of-Store cs)) ∙ sym (ap (λ s. all_before (map before_of old) (unbox_code S bare (before_of s c))) e)
+      ap (λ l. all_before (map before_of l) (unbox_code S bare c)) h ∙ all_before_push old
+      (Store cs) (unbox_code S bare c) ∙ ap
+      (λ k. all_before (map before_of old) (k (unbox_code S bare c))) (before_of-Store cs)
+      ∙ sym (ap (λ k. all_before (map before_of old) (unbox_code S bare (k c)))
+      (before_of-Store cs)) ∙ sym
+      (ap (λ s. all_before (map before_of old) (unbox_code S bare (before_of s c))) e)
 
-  pub puts_bound : (old new : List Stmt) (s : Stmt) (t : Target) (o made : Op) (bare : Bool) → s ≡ Bind t o → bare ≡ act_calls S (act_of o) → act_of made ≡ unbox_act S bare (act_of o)
+  pub puts_bound : (old new : List Stmt) (s : Stmt) (t : Target) (o made : Op) (bare : Bool)
+      → s ≡ Bind t o → bare ≡ act_calls S (act_of o) → act_of made ≡ unbox_act S bare (act_of o)
       → Grows old new (bound bare t (act_of made)) → Puts old new s
   unfolding unbox_act
   puts_bound old new s t o made b e q m h bare c =
-      h (unbox_code S bare c) ∙ (λ i. all_before (map before_of old) (bound b t (m i) (unbox_code S bare c)))
-      ∙ ap (λ b. all_before (map before_of old) (bound b t (unbox_act S b (act_of o)) (unbox_code S bare c))) q
-      ∙ sym (ap (λ k. all_before (map before_of old) (unbox_code S bare (k c))) (before_of-Bind t o)) ∙ sym (ap (λ s. all_before (map before_of old) (unbox_code S bare (before_of s c))) e)
+      h (unbox_code S bare c) ∙
+      (λ i. all_before (map before_of old) (bound b t (m i) (unbox_code S bare c)))
+      ∙ ap (λ b. all_before (map before_of old)
+      (bound b t (unbox_act S b (act_of o)) (unbox_code S bare c))) q
+      ∙ sym (ap (λ k. all_before (map before_of old) (unbox_code S bare (k c)))
+      (before_of-Bind t o)) ∙ sym
+      (ap (λ s. all_before (map before_of old) (unbox_code S bare (before_of s c))) e)

@@ -1,4 +1,5 @@
--- That the pass meets its contract: what it makes is what the law of unboxing speaks of, by the least
+-- That the pass meets its contract: what it makes is what the law of unboxing speaks of, by the
+-- least
 -- solution.
 use Rattle.std.proofs.Common.{◌≡◌, refl, sym, subst}
 use Rattle.grin_syntax.specs.Tree.{Program}
@@ -14,7 +15,8 @@ use Rattle.unboxing.specs.Unboxed.{Unboxed, MadeByLeastSolution}
 use Rattle.unboxing.specs.Laws.{UnboxedKeeps}
 use Rattle.unboxing.proofs.Kept.{unboxing_law}
 
-module _ (g : Program) (A : Solution) (M : Procedures) (of : IsVectorForm g) (least : IsLeast (tables g) (system g) A) (are : IsGreatestClosedSet A g M) where
+module _ (g : Program) (A : Solution) (M : Procedures) (of : IsVectorForm g)
+    (least : IsLeast (tables g) (system g) A) (are : IsGreatestClosedSet A g M) where
   kept : UnboxedKeeps g (unboxed M g) M
   kept = unboxing_law g A M of least.solves are.closed
 
@@ -38,5 +40,7 @@ pub is_kept : (g h : Program) → IsVectorForm g → MadeByLeastSolution g h →
 is_kept g h of m =
     subst (Keeps g) (sym m.made) (kept g m.solution m.members of m.least m.are_members).keeps
 
-pub by_least : {g h : Program} {A : Solution} {M : Procedures} → IsLeast (tables g) (system g) A → IsGreatestClosedSet A g M → h ≡ unboxed M g → MadeByLeastSolution g h
-by_least {A = A} {M = M} least are e = record { solution = A; least = least; members = M; are_members = are; made = e }
+pub by_least : {g h : Program} {A : Solution} {M : Procedures} → IsLeast (tables g) (system g) A
+    → IsGreatestClosedSet A g M → h ≡ unboxed M g → MadeByLeastSolution g h
+by_least {A = A} {M = M} least are e = record
+    { solution = A; least = least; members = M; are_members = are; made = e }

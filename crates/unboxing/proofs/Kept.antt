@@ -17,9 +17,12 @@ use Rattle.unboxing.proofs.Simulated.{unboxed_kept}
 use Rattle.unboxing.proofs.Gives.{procs_inlined, procs_by_words, procs_vectorised, procs_narrow, procs_give, procs_params, procs_one_word, updates_stay}
 use Rattle.unboxing.proofs.Formed.{unboxed_formed, unboxed_outside}
 
-module _ (g : Program) (A : Solution) (M : Procedures) (of : IsVectorForm g) (solves : Solves (tables g) (system g) A) (closed : Closed A g M) where
+module _ (g : Program) (A : Solution) (M : Procedures) (of : IsVectorForm g)
+    (solves : Solves (tables g) (system g) A) (closed : Closed A g M) where
   kept : CheckedRunsNeverMissing (unboxed M g) × Keeps g (unboxed M g)
-  kept = unboxed_kept g A M of.formed ((looking_law g of.ready.inlined).sees of.ready.never_missing of.ready.runs) solves closed of.ready.inlined of.vectorised
+  kept = unboxed_kept g A M of.formed
+      ((looking_law g of.ready.inlined).sees of.ready.never_missing of.ready.runs) solves closed
+      of.ready.inlined of.vectorised
 
   ready : Ready (unboxed M g)
   ready = record {
@@ -27,14 +30,20 @@ module _ (g : Program) (A : Solution) (M : Procedures) (of : IsVectorForm g) (so
     few_params = procs_params M 16 0 g.procs of.ready.few_params;
     few_results = procs_give M _ 13 (omega arith) g.procs of.ready.few_results;
     few_fields = of.ready.few_fields;
-    never_missing = (looking_law (unboxed M g) (procs_inlined M g.procs of.ready.inlined)).never_missing kept.0;
+    never_missing =
+        (looking_law (unboxed M g) (procs_inlined M g.procs of.ready.inlined)).never_missing kept.0;
     runs = (looking_law (unboxed M g) (procs_inlined M g.procs of.ready.inlined)).runs_well kept.0;
   }
 
   whole : UnboxedKeeps g (unboxed M g) M
   whole = record {
     stays = record {
-      of_vectors = record { formed = unboxed_formed M g of.formed; ready = ready; vectorised = procs_vectorised M g.procs of.vectorised };
+      of_vectors = record {
+        formed = unboxed_formed M g of.formed;
+        ready = ready;
+        vectorised
+            = procs_vectorised M g.procs of.vectorised;
+      };
       outside = unboxed_outside M g;
       narrow = λ most. procs_narrow M most g.procs;
       by_words = procs_by_words M g.procs;

@@ -67,29 +67,36 @@ pub number_bare : (v v' : Value) → Number v v' → Bare v v'
 number_bare v v' n = record { ds = number n.k ∷ n.rest; boxed = n.boxed; alone = n.alone }
 
 module _ (g : Program) where
-  numbers : {ds : List Datum} {v : Value} → Boxed ds v → is_given g v ≡ true → number_then_zeros ds ≡ true
-  numbers {ds = ds} in_node e = and_right (not_delayed g (node (record { tag = 0; fields = ds }))) (number_then_zeros ds) e
-  numbers {ds = ds} in_words e = and_right (not_delayed g (words (tag 0 ∷ ds))) (number_then_zeros ds) e
+  numbers : {ds : List Datum} {v : Value} → Boxed ds v → is_given g v ≡ true
+      → number_then_zeros ds ≡ true
+  numbers {ds = ds} in_node e = and_right (not_delayed g (node (record { tag = 0; fields = ds })))
+      (number_then_zeros ds) e
+  numbers {ds = ds} in_words e = and_right (not_delayed g (words (tag 0 ∷ ds)))
+      (number_then_zeros ds) e
 
   pub bare_number : (v v' : Value) → Bare v v' → is_given g v ≡ true → Number v v'
   bare_number v v' b e = go b.ds (numbers b.boxed e) b.boxed b.alone
     where
-      go : (ds : List Datum) → number_then_zeros ds ≡ true → Boxed ds v → v' ≡ words (nth_or_zero ds 0 ∷ []) → Number v v'
+      go : (ds : List Datum) → number_then_zeros ds ≡ true → Boxed ds v
+          → v' ≡ words (nth_or_zero ds 0 ∷ []) → Number v v'
       go [] q x a = cc
       go (tag t ∷ rest) q x a = cc
       go (cell i ∷ rest) q x a = cc
-      go (number k ∷ rest) q x a = record { k = k; rest = rest; boxed = x; zero_rest = q; alone = a }
+      go (number k ∷ rest) q x a = record
+          { k = k; rest = rest; boxed = x; zero_rest = q; alone = a }
 
   number_given : (k : ℤ) → is_given g (words (number k ∷ [])) ≡ true
   number_given k = refl
 
-  pub given_too : (b : Bool) (v v' : Value) → EndGives b v v' → (true ≡ true → is_given g v ≡ true) → (true ≡ true → is_given g v' ≡ true) × Gives b v v'
+  pub given_too : (b : Bool) (v v' : Value) → EndGives b v v' → (true ≡ true → is_given g v ≡ true)
+      → (true ≡ true → is_given g v' ≡ true) × Gives b v v'
   given_too true v v' u seen =
       let n : Number v v' = bare_number v v' u (seen refl) in
       (λ l. subst (λ x. is_given g x ≡ true) (sym n.alone) (number_given n.k), n)
   given_too false v v' u seen = on u seen
     where
-      on : {v v' : Value} → Same v v' → (true ≡ true → is_given g v ≡ true) → (true ≡ true → is_given g v' ≡ true) × Same v v'
+      on : {v v' : Value} → Same v v' → (true ≡ true → is_given g v ≡ true)
+          → (true ≡ true → is_given g v' ≡ true) × Same v v'
       on same seen = (seen, same)
 
 -- ---- what has the tag of a number alone
@@ -107,49 +114,66 @@ same_int (tag' k) (tag' t) a b =
 
 only_among : (u : Element) (us : List Element) → only_int us ≡ true → among u us ≡ true → u ≡ tag' 0
 only_among u [] h e = cc
-only_among u (x ∷ us) h e = go (same_word u x) refl e (only_among u us (and_right (same_word (tag' 0) x) (only_int us) h))
+only_among u (x ∷ us) h e = go (same_word u x) refl e
+    (only_among u us (and_right (same_word (tag' 0) x) (only_int us) h))
   where
-    go : (b : Bool) → same_word u x ≡ b → (b || among u us) ≡ true → (among u us ≡ true → u ≡ tag' 0) → u ≡ tag' 0
+    go : (b : Bool) → same_word u x ≡ b → (b || among u us) ≡ true
+        → (among u us ≡ true → u ≡ tag' 0) → u ≡ tag' 0
     go true q m later = same_int u x (and_left (same_word (tag' 0) x) (only_int us) h) q
     go false q m later = later m
 
 module _ (g : Program) (A : Solution) (s : State) (lies : StateIsCovered g A s) where
-  int_datum : (x : ℕ) (d : Datum) → only_int (A (var x) (word 0)) ≡ true → ValueIn g s.heap (At A (var x)) (words (d ∷ [])) → d ≡ tag 0
-  int_datum x (number k) h at = let e : num ≡ tag' 0 = only_among num (A (var x) (word 0)) h at.0.there in cc
-  int_datum x (tag t) h at = let e : tag' t ≡ tag' 0 = only_among (tag' t) (A (var x) (word 0)) h at.0.there in let q : t ≡ 0 = cc in ap tag q
-  int_datum x (cell i) h at = let e : cell_of at.0.0 ≡ tag' 0 = only_among (cell_of at.0.0) (A (var x) (word 0)) h at.0.2.there in cc
+  int_datum : (x : ℕ) (d : Datum) → only_int (A (var x) (word 0)) ≡ true
+      → ValueIn g s.heap (At A (var x)) (words (d ∷ [])) → d ≡ tag 0
+  int_datum x (number k) h at = let e : num ≡ tag' 0
+      = only_among num (A (var x) (word 0)) h at.0.there in cc
+  int_datum x (tag t) h at = let e : tag' t ≡ tag' 0
+      = only_among (tag' t) (A (var x) (word 0)) h at.0.there in let q : t ≡ 0 = cc in ap tag q
+  int_datum x (cell i) h at = let e : cell_of at.0.0 ≡ tag' 0
+      = only_among (cell_of at.0.0) (A (var x) (word 0)) h at.0.2.there in cc
 
-  int_variable : (x : ℕ) (d : Datum) → only_int (A (var x) (word 0)) ≡ true → and_then (s.env x) only_word ≡ Some d → d ≡ tag 0
+  int_variable : (x : ℕ) (d : Datum) → only_int (A (var x) (word 0)) ≡ true
+      → and_then (s.env x) only_word ≡ Some d → d ≡ tag 0
   int_variable x d h e = go (s.env x) refl e
     where
-      one : (ds : List Datum) → s.env x ≡ Some (words ds) → only_word (words ds) ≡ Some d → d ≡ tag 0
+      one : (ds : List Datum) → s.env x ≡ Some (words ds) → only_word (words ds) ≡ Some d
+          → d ≡ tag 0
       one [] q e = cc
       one (a ∷ b ∷ ds) q e = cc
       one (a ∷ []) q e =
           let same : a ≡ d = cc in
-          int_datum x d h (from_some (ValueIn g s.heap (At A (var x))) (s.env x) (words (d ∷ [])) (lies.variables x) (q ∙ ap (λ d. Some (words (d ∷ []))) same))
+          int_datum x d h
+          (from_some (ValueIn g s.heap (At A (var x))) (s.env x) (words (d ∷ []))
+          (lies.variables x) (q ∙ ap (λ d. Some (words (d ∷ []))) same))
 
       go : (o : Option Value) → s.env x ≡ o → and_then o only_word ≡ Some d → d ≡ tag 0
       go None q e = cc
       go (Some (node m)) q e = cc
       go (Some (words ds)) q e = one ds q e
 
-  int_word : (a : W.Word) (d : Datum) → is_int_word A a ≡ true → word_of g s.env a ≡ Some d → d ≡ tag 0
+  int_word : (a : W.Word) (d : Datum) → is_int_word A a ≡ true → word_of g s.env a ≡ Some d
+      → d ≡ tag 0
   int_word (Lit k) d h e = cc
   int_word (Global i) d h e = cc
   int_word (Var x) d h e = int_variable x.0 d h e
-  int_word (TagWord t) d h e = let q : t.0 ≡ 0 = grind (arith, nat_tests, h) in let r : tag t.0 ≡ d = cc in sym r ∙ ap tag q
+  int_word (TagWord t) d h e = let q : t.0 ≡ 0 = grind (arith, nat_tests, h) in let r : tag t.0 ≡ d
+      = cc in sym r ∙ ap tag q
 
-  words_first : (ws : List W.Word) (ds : List Datum) → words_of g s.env ws ≡ Some ds → word_of g s.env (word_or_zero ws 0) ≡ Some (nth_or_zero ds 0)
+  words_first : (ws : List W.Word) (ds : List Datum) → words_of g s.env ws ≡ Some ds
+      → word_of g s.env (word_or_zero ws 0) ≡ Some (nth_or_zero ds 0)
   words_first [] [] e = refl
   words_first [] (d ∷ ds) e = cc
   words_first (a ∷ ws) ds e = go (word_of g s.env a) refl e
     where
-      more : (d : Datum) (o : Option (List Datum)) → word_of g s.env a ≡ Some d → and_then o (λ ds. Some (d ∷ ds)) ≡ Some ds → word_of g s.env a ≡ Some (nth_or_zero ds 0)
+      more : (d : Datum) (o : Option (List Datum)) → word_of g s.env a ≡ Some d
+          → and_then o (λ ds. Some (d ∷ ds)) ≡ Some ds → word_of g s.env a ≡ Some (nth_or_zero ds 0)
       more d None q e = cc
-      more d (Some es) q e = let same : d ∷ es ≡ ds = cc in q ∙ ap (λ ds. Some (nth_or_zero ds 0)) same
+      more d (Some es) q e = let same : d ∷ es ≡ ds = cc
+          in q ∙ ap (λ ds. Some (nth_or_zero ds 0)) same
 
-      go : (o : Option Datum) → word_of g s.env a ≡ o → and_then o (λ d. and_then (words_of g s.env ws) (λ ds. Some (d ∷ ds))) ≡ Some ds → word_of g s.env a ≡ Some (nth_or_zero ds 0)
+      go : (o : Option Datum) → word_of g s.env a ≡ o
+          → and_then o (λ d. and_then (words_of g s.env ws) (λ ds. Some (d ∷ ds))) ≡ Some ds
+          → word_of g s.env a ≡ Some (nth_or_zero ds 0)
       go None q e = cc
       go (Some d) q e = more d (words_of g s.env ws) q e
 
@@ -159,18 +183,26 @@ module _ (g : Program) (A : Solution) (s : State) (lies : StateIsCovered g A s) 
     pub boxed : Boxed ds y
     pub has : word_of g s.env (number_word v) ≡ Some (nth_or_zero ds 0)
 
-  node_value : (t : ℕ) (ds : List Datum) (y : Value) → t ≡ 0 → and_then (made_node g t ds) (λ n. Some (node n)) ≡ Some y → Boxed ds y
+  node_value : (t : ℕ) (ds : List Datum) (y : Value) → t ≡ 0
+      → and_then (made_node g t ds) (λ n. Some (node n)) ≡ Some y → Boxed ds y
   node_value t ds y z e = go (fields_of g t) e
     where
-      made : (b : Bool) → and_then (cond b (Some (record { tag = t; fields = ds })) None) (λ n. Some (node n)) ≡ Some y → Boxed ds y
-      made true e = let same : node (record { tag = t; fields = ds }) ≡ y = cc in subst (Boxed ds) same (subst (λ k. Boxed ds (node (record { tag = k; fields = ds }))) (sym z) in_node)
+      made : (b : Bool) → and_then (cond b (Some (record { tag = t; fields = ds })) None)
+          (λ n. Some (node n)) ≡ Some y → Boxed ds y
+      made true e = let same : node (record { tag = t; fields = ds }) ≡ y = cc
+          in subst (Boxed ds) same
+          (subst (λ k. Boxed ds (node (record { tag = k; fields = ds }))) (sym z) in_node)
       made false e = cc
 
-      go : (o : Option ℕ) → and_then (and_then o (λ k. cond (nat_eq k (length ds)) (Some (record { tag = t; fields = ds })) None)) (λ n. Some (node n)) ≡ Some y → Boxed ds y
+      go : (o : Option ℕ) → and_then
+          (and_then o
+          (λ k. cond (nat_eq k (length ds)) (Some (record { tag = t; fields = ds })) None))
+          (λ n. Some (node n)) ≡ Some y → Boxed ds y
       go None e = cc
       go (Some k) e = made (nat_eq k (length ds)) e
 
-  pub int_value : (v : V.Val) (y : Value) → is_int A v ≡ true → value_of g s.env v ≡ Some y → IntValue v y
+  pub int_value : (v : V.Val) (y : Value) → is_int A v ≡ true → value_of g s.env v ≡ Some y
+      → IntValue v y
   int_value (NodeVar x) y h e = cc
   int_value (One a) y h e = cc
   int_value (Node' t ws) y h e = go (words_of g s.env ws) refl e
@@ -178,19 +210,32 @@ module _ (g : Program) (A : Solution) (s : State) (lies : StateIsCovered g A s) 
       tag_zero : t.0 ≡ 0
       tag_zero = grind (arith, nat_tests, h)
 
-      go : (o : Option (List Datum)) → words_of g s.env ws ≡ o → and_then o (λ ds. and_then (made_node g t.0 ds) (λ n. Some (node n))) ≡ Some y → IntValue (Node' t ws) y
+      go : (o : Option (List Datum)) → words_of g s.env ws ≡ o
+          → and_then o (λ ds. and_then (made_node g t.0 ds) (λ n. Some (node n))) ≡ Some y
+          → IntValue (Node' t ws) y
       go None q e = cc
-      go (Some ds) q e = record { ds = ds; boxed = node_value t.0 ds y tag_zero e; has = words_first ws ds q }
+      go (Some ds) q e = record
+          { ds = ds; boxed = node_value t.0 ds y tag_zero e; has = words_first ws ds q }
   int_value (Vector []) y h e = cc
   int_value (Vector (a ∷ ws)) y h e = go (word_of g s.env a) refl e
     where
-      more : (d : Datum) (o : Option (List Datum)) → word_of g s.env a ≡ Some d → words_of g s.env ws ≡ o → and_then (and_then o (λ ds. Some (d ∷ ds))) (λ ds. Some (words ds)) ≡ Some y → IntValue (Vector (a ∷ ws)) y
+      more : (d : Datum) (o : Option (List Datum)) → word_of g s.env a ≡ Some d
+          → words_of g s.env ws ≡ o → and_then (and_then o (λ ds. Some (d ∷ ds)))
+          (λ ds. Some (words ds)) ≡ Some y → IntValue (Vector (a ∷ ws)) y
       more d None q r e = cc
       more d (Some ds) q r e =
           let same : words (d ∷ ds) ≡ y = cc in
-          record { ds = ds; boxed = subst (Boxed ds) same (subst (λ d. Boxed ds (words (d ∷ ds))) (sym (int_word a d h q)) in_words); has = words_first ws ds r }
+          record {
+            ds = ds;
+            boxed = subst (Boxed ds) same
+                (subst (λ d. Boxed ds (words (d ∷ ds))) (sym (int_word a d h q)) in_words);
+            has
+                = words_first ws ds r;
+          }
 
-      go : (o : Option Datum) → word_of g s.env a ≡ o → and_then (and_then o (λ d. and_then (words_of g s.env ws) (λ ds. Some (d ∷ ds)))) (λ ds. Some (words ds)) ≡ Some y → IntValue (Vector (a ∷ ws)) y
+      go : (o : Option Datum) → word_of g s.env a ≡ o
+          → and_then (and_then o (λ d. and_then (words_of g s.env ws) (λ ds. Some (d ∷ ds))))
+          (λ ds. Some (words ds)) ≡ Some y → IntValue (Vector (a ∷ ws)) y
       go None q e = cc
       go (Some d) q e = more d (words_of g s.env ws) q refl e
 
@@ -210,7 +255,8 @@ beside_number x zs = (x.0, words (tag 0 ∷ [])) ∷ zero_bindings zs
 
 pub zeros_stand : (g : Program) (env : Env) (k : ℕ) → words_of g env (zeros k) ≡ Some (zero_data k)
 zeros_stand g env zero = refl
-zeros_stand g env (suc k) = ap (λ o. and_then o (λ ds. Some (number (pos 0) ∷ ds))) (zeros_stand g env k)
+zeros_stand g env (suc k) = ap (λ o. and_then o (λ ds. Some (number (pos 0) ∷ ds)))
+    (zeros_stand g env k)
 
 zero_drop : (j k : ℕ) → all_zero (drop j (zero_data k)) ≡ true
 zero_drop zero zero = refl
@@ -218,11 +264,15 @@ zero_drop zero (suc k) = zero_drop zero k
 zero_drop (suc j) zero = refl
 zero_drop (suc j) (suc k) = zero_drop j k
 
-pub value_stands : (g : Program) (env : Env) (k : ℕ) → value_of g env (tag_and_zeros k) ≡ Some (words (tag 0 ∷ zero_data k))
-value_stands g env k = ap (λ o. and_then (and_then o (λ ds. Some (tag 0 ∷ ds))) (λ ds. Some (words ds))) (zeros_stand g env k)
+pub value_stands : (g : Program) (env : Env) (k : ℕ)
+    → value_of g env (tag_and_zeros k) ≡ Some (words (tag 0 ∷ zero_data k))
+value_stands g env k = ap
+    (λ o. and_then (and_then o (λ ds. Some (tag 0 ∷ ds))) (λ ds. Some (words ds)))
+    (zeros_stand g env k)
 
 pub value_fills : (g : Program) (env : Env) (k : ℕ) → fills g env (tag_and_zeros k) ≡ true
-value_fills g env k = ap (λ o. is_none_or (and_then o (λ ds. Some (tag 0 ∷ ds))) (is_filled g)) (zeros_stand g env k) ∙ go (fields_of g 0)
+value_fills g env k = ap (λ o. is_none_or (and_then o (λ ds. Some (tag 0 ∷ ds))) (is_filled g))
+    (zeros_stand g env k) ∙ go (fields_of g 0)
   where
     go : (o : Option ℕ) → is_none_or o (λ j. all_zero (drop j (zero_data k))) ≡ true
     go None = refl
@@ -230,68 +280,97 @@ value_fills g env k = ap (λ o. is_none_or (and_then o (λ ds. Some (tag 0 ∷ d
 
 zeros_each : (zs : List VarId) → one_each zs (zero_data (length zs)) ≡ Some (zero_bindings zs)
 zeros_each [] = refl
-zeros_each (z ∷ zs) = ap (λ o. and_then o (λ bs. Some ((z.0, words (number (pos 0) ∷ [])) ∷ bs))) (zeros_each zs)
+zeros_each (z ∷ zs) = ap (λ o. and_then o (λ bs. Some ((z.0, words (number (pos 0) ∷ [])) ∷ bs)))
+    (zeros_each zs)
 
-pub beside_each : (x : VarId) (zs : List VarId) → one_each (x ∷ zs) (tag 0 ∷ zero_data (length zs)) ≡ Some (beside_number x zs)
-beside_each x zs = ap (λ o. and_then o (λ bs. Some ((x.0, words (tag 0 ∷ [])) ∷ bs))) (zeros_each zs)
+pub beside_each : (x : VarId) (zs : List VarId) → one_each (x ∷ zs) (tag 0 ∷ zero_data (length zs))
+    ≡ Some (beside_number x zs)
+beside_each x zs = ap (λ o. and_then o (λ bs. Some ((x.0, words (tag 0 ∷ [])) ∷ bs)))
+    (zeros_each zs)
 
-zeros_bound : (zs : List VarId) (ds : List Datum) (bs : List Binding) → AllOf (λ d. d ≡ number (pos 0)) ds → one_each zs ds ≡ Some bs → bs ≡ zero_bindings zs
+zeros_bound : (zs : List VarId) (ds : List Datum) (bs : List Binding)
+    → AllOf (λ d. d ≡ number (pos 0)) ds → one_each zs ds ≡ Some bs → bs ≡ zero_bindings zs
 zeros_bound [] [] bs h e = let same : [] ≡ bs = cc in sym same
 zeros_bound [] (d ∷ ds) bs h e = cc
 zeros_bound (z ∷ zs) [] bs h e = cc
 zeros_bound (z ∷ zs) (d ∷ ds) bs h e = go (one_each zs ds) refl e (λ cs. zeros_bound zs ds cs h.1)
   where
-    go : (o : Option (List Binding)) → one_each zs ds ≡ o → and_then o (λ bs. Some ((z.0, words (d ∷ [])) ∷ bs)) ≡ Some bs → ((cs : List Binding) → one_each zs ds ≡ Some cs → cs ≡ zero_bindings zs) → bs ≡ zero_bindings (z ∷ zs)
+    go : (o : Option (List Binding)) → one_each zs ds ≡ o
+        → and_then o (λ bs. Some ((z.0, words (d ∷ [])) ∷ bs)) ≡ Some bs
+        → ((cs : List Binding) → one_each zs ds ≡ Some cs → cs ≡ zero_bindings zs)
+        → bs ≡ zero_bindings (z ∷ zs)
     go None q e later = cc
-    go (Some cs) q e later = let same : (z.0, words (d ∷ [])) ∷ cs ≡ bs = cc in sym same ∙ (λ i. (z.0, words (h.0 i ∷ [])) ∷ later cs q i)
+    go (Some cs) q e later = let same : (z.0, words (d ∷ [])) ∷ cs ≡ bs = cc
+        in sym same ∙ (λ i. (z.0, words (h.0 i ∷ [])) ∷ later cs q i)
 
-padded_zeros : (k : ℕ) (ds : List Datum) → AllOf (λ d. d ≡ number (pos 0)) ds → AllOf (λ d. d ≡ number (pos 0)) (padded k ds)
+padded_zeros : (k : ℕ) (ds : List Datum) → AllOf (λ d. d ≡ number (pos 0)) ds
+    → AllOf (λ d. d ≡ number (pos 0)) (padded k ds)
 padded_zeros zero ds h = h
 padded_zeros (suc k) [] h = (refl, padded_zeros k [] tt)
 padded_zeros (suc k) (d ∷ ds) h = (h.0, padded_zeros k ds h.1)
 
 -- a number goes to two variables or more
-number_bound : (x y : VarId) (zs : List VarId) (k : ℤ) (rest : List Datum) (bs : List Binding) → AllOf (λ d. d ≡ number (pos 0)) rest → one_each (x ∷ y ∷ zs) (tag 0 ∷ number k ∷ rest) ≡ Some bs
+number_bound : (x y : VarId) (zs : List VarId) (k : ℤ) (rest : List Datum) (bs : List Binding)
+    → AllOf (λ d. d ≡ number (pos 0)) rest → one_each (x ∷ y ∷ zs) (tag 0 ∷ number k ∷ rest) ≡ Some
+    bs
     → bs ≡ (x.0, words (tag 0 ∷ [])) ∷ (y.0, words (number k ∷ [])) ∷ zero_bindings zs
 number_bound x y zs k rest bs h e = go (one_each zs rest) refl e
   where
-    go : (o : Option (List Binding)) → one_each zs rest ≡ o → and_then (and_then o (λ bs. Some ((y.0, words (number k ∷ [])) ∷ bs))) (λ bs. Some ((x.0, words (tag 0 ∷ [])) ∷ bs)) ≡ Some bs
+    go : (o : Option (List Binding)) → one_each zs rest ≡ o
+        → and_then (and_then o (λ bs. Some ((y.0, words (number k ∷ [])) ∷ bs)))
+        (λ bs. Some ((x.0, words (tag 0 ∷ [])) ∷ bs)) ≡ Some bs
         → bs ≡ (x.0, words (tag 0 ∷ [])) ∷ (y.0, words (number k ∷ [])) ∷ zero_bindings zs
     go None q e = cc
     go (Some cs) q e =
         let same : (x.0, words (tag 0 ∷ [])) ∷ (y.0, words (number k ∷ [])) ∷ cs ≡ bs = cc in
-        sym same ∙ ap (λ cs. (x.0, words (tag 0 ∷ [])) ∷ (y.0, words (number k ∷ [])) ∷ cs) (zeros_bound zs rest cs h q)
+        sym same ∙ ap (λ cs. (x.0, words (tag 0 ∷ [])) ∷ (y.0, words (number k ∷ [])) ∷ cs)
+        (zeros_bound zs rest cs h q)
 
-pub binds_number : (g : Program) (x y : VarId) (zs xs : List VarId) {k : ℤ} {rest : List Datum} {v : Value} (bs : List Binding) → xs ≡ x ∷ y ∷ zs → Boxed (number k ∷ rest) v → all_zero rest ≡ true
-    → bindings_of g (to.Vector (x ∷ y ∷ zs)) v ≡ Some bs → bs ≡ (x.0, words (tag 0 ∷ [])) ∷ (y.0, words (number k ∷ [])) ∷ zero_bindings zs
-binds_number g x y zs xs {k = k} {rest = rest} bs q in_node h e = number_bound x y zs k (padded (length zs) rest) bs (padded_zeros (length zs) rest (zeros_are rest h)) e
-binds_number g x y zs xs {k = k} {rest = rest} bs q in_words h e = number_bound x y zs k rest bs (zeros_are rest h) e
+pub binds_number : (g : Program) (x y : VarId) (zs xs : List VarId) {k : ℤ} {rest : List Datum}
+    {v : Value} (bs : List Binding) → xs ≡ x ∷ y ∷ zs → Boxed (number k ∷ rest) v
+    → all_zero rest ≡ true
+    → bindings_of g (to.Vector (x ∷ y ∷ zs)) v ≡ Some bs
+    → bs ≡ (x.0, words (tag 0 ∷ [])) ∷ (y.0, words (number k ∷ [])) ∷ zero_bindings zs
+binds_number g x y zs xs {k = k} {rest = rest} bs q in_node h e
+    = number_bound x y zs k (padded (length zs) rest) bs
+    (padded_zeros (length zs) rest (zeros_are rest h)) e
+binds_number g x y zs xs {k = k} {rest = rest} bs q in_words h e
+    = number_bound x y zs k rest bs (zeros_are rest h) e
 
-pub nothing_binds : (g : Program) {k : ℤ} {rest : List Datum} {v : Value} (bs : List Binding) → Boxed (number k ∷ rest) v → bindings_of g to.Nothing v ≡ Some bs → ⊥
+pub nothing_binds : (g : Program) {k : ℤ} {rest : List Datum} {v : Value} (bs : List Binding)
+    → Boxed (number k ∷ rest) v → bindings_of g to.Nothing v ≡ Some bs → ⊥
 nothing_binds g bs in_node e = cc
 nothing_binds g bs in_words e = cc
 
-pub one_binds : (g : Program) (x : VarId) {k : ℤ} {rest : List Datum} {v : Value} (bs : List Binding) → Boxed (number k ∷ rest) v → bindings_of g (to.One x) v ≡ Some bs → ⊥
+pub one_binds : (g : Program) (x : VarId) {k : ℤ} {rest : List Datum} {v : Value}
+    (bs : List Binding) → Boxed (number k ∷ rest) v → bindings_of g (to.One x) v ≡ Some bs → ⊥
 one_binds g x bs in_node e = cc
 one_binds g x bs in_words e = cc
 
-pub none_binds : (g : Program) {k : ℤ} {rest : List Datum} {v : Value} (bs : List Binding) → Boxed (number k ∷ rest) v → bindings_of g (to.Vector []) v ≡ Some bs → ⊥
+pub none_binds : (g : Program) {k : ℤ} {rest : List Datum} {v : Value} (bs : List Binding)
+    → Boxed (number k ∷ rest) v → bindings_of g (to.Vector []) v ≡ Some bs → ⊥
 none_binds g bs in_node e = cc
 none_binds g bs in_words e = cc
 
-pub single_binds : (g : Program) (x : VarId) {k : ℤ} {rest : List Datum} {v : Value} (bs : List Binding) → Boxed (number k ∷ rest) v → bindings_of g (to.Vector (x ∷ [])) v ≡ Some bs → ⊥
+pub single_binds : (g : Program) (x : VarId) {k : ℤ} {rest : List Datum} {v : Value}
+    (bs : List Binding) → Boxed (number k ∷ rest) v → bindings_of g (to.Vector (x ∷ [])) v ≡ Some bs
+    → ⊥
 single_binds g x bs in_node e = cc
 single_binds g x bs in_words e = cc
 
 -- ---- two variables bound in another order
 
-pub swapped : (x y : ℕ) (a b : Value) (env env' : Env) → x ≢ y → Has Any env env' → Has Any (with_vars ((x, a) ∷ (y, b) ∷ []) env) (with_vars ((x, a) ∷ []) (with_vars ((y, b) ∷ []) env'))
+pub swapped : (x y : ℕ) (a b : Value) (env env' : Env) → x ≢ y → Has Any env env'
+    → Has Any (with_vars ((x, a) ∷ (y, b) ∷ []) env)
+    (with_vars ((x, a) ∷ []) (with_vars ((y, b) ∷ []) env'))
 swapped x y a b env env' apart has z v ok e = go (nat_eq z x) refl (nat_eq z y) refl e
   where
     both : nat_eq z x ≡ true → nat_eq z y ≡ true → x ≡ y
     both p q = grind (arith, nat_tests, p, q)
 
-    go : (p : Bool) → nat_eq z x ≡ p → (q : Bool) → nat_eq z y ≡ q → cond q (Some b) (cond p (Some a) (env z)) ≡ Some v → cond p (Some a) (cond q (Some b) (env' z)) ≡ Some v
+    go : (p : Bool) → nat_eq z x ≡ p → (q : Bool) → nat_eq z y ≡ q
+        → cond q (Some b) (cond p (Some a) (env z)) ≡ Some v
+        → cond p (Some a) (cond q (Some b) (env' z)) ≡ Some v
     go true p true q e = absurd (apart (both p q))
     go true p false q e = e
     go false p true q e = e

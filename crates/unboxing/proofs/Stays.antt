@@ -1,4 +1,5 @@
--- What a piece keeps where members give the number alone: its sites, its updates, and whether a member's call is among its ends.
+-- What a piece keeps where members give the number alone: its sites, its updates, and whether a
+-- member's call is among its ends.
 use Rattle.std.proofs.Common.{◌≡◌, Bool, true, false, ◌||◌, [], ◌∷◌, ◌++◌, map, refl, ap, ◌∙◌}
 use Rattle.grin_syntax.specs.declared.program.Target.{Target}
 use Rattle.grin_syntax.specs.declared.program.Target.TheVariants as to
@@ -25,7 +26,8 @@ module _ (M : Procedures) where
     pub calls : arms_calls M bs' ≡ arms_calls M as'
 
   -- boxed or not, what is bound adds nothing
-  bound_stays : (q : Bool) (t : Target) (o : Act) (b : Code) → CodeStays (bind t o b) (bound q t o b)
+  bound_stays : (q : Bool) (t : Target) (o : Act) (b : Code)
+      → CodeStays (bind t o b) (bound q t o b)
   unfolding act_sites act_updates act_calls
   bound_stays false t o b = record { sites = refl; updates = refl; calls = refl }
   bound_stays true to.Nothing o b = record { sites = refl; updates = refl; calls = refl }
@@ -33,7 +35,8 @@ module _ (M : Procedures) where
   bound_stays true (to.One x) o b = record { sites = refl; updates = refl; calls = refl }
   bound_stays true (to.Vector []) o b = record { sites = refl; updates = refl; calls = refl }
   bound_stays true (to.Vector (x ∷ [])) o b = record { sites = refl; updates = refl; calls = refl }
-  bound_stays true (to.Vector (x ∷ y ∷ zs)) o b = record { sites = refl; updates = refl; calls = refl }
+  bound_stays true (to.Vector (x ∷ y ∷ zs)) o b = record
+      { sites = refl; updates = refl; calls = refl }
 
   same : (o : Act) → ActStays o o
   same o = record { sites = refl; updates = refl; calls = refl }
@@ -42,8 +45,10 @@ module _ (M : Procedures) where
     unfolding unbox_act act_sites act_updates act_calls
 
     pub act_stays : (bare : Bool) (o : Act) → ActStays o (unbox_act M bare o)
-    act_stays bare (case v as') = let h = arms_stay bare as' in record { sites = h.sites; updates = h.updates; calls = h.calls }
-    act_stays bare (nested b) = let h = code_stays bare b in record { sites = h.sites; updates = h.updates; calls = h.calls }
+    act_stays bare (case v as') = let h = arms_stay bare as'
+        in record { sites = h.sites; updates = h.updates; calls = h.calls }
+    act_stays bare (nested b) = let h = code_stays bare b
+        in record { sites = h.sites; updates = h.updates; calls = h.calls }
     act_stays bare (leaf (unit v)) = record { sites = refl; updates = refl; calls = refl }
     act_stays bare (leaf (update a v)) = same _
     act_stays bare (leaf (fetch a)) = same _
@@ -57,17 +62,35 @@ module _ (M : Procedures) where
     act_stays bare (leaf fail) = same _
 
     pub code_stays : (bare : Bool) (b : Code) → CodeStays b (unbox_code M bare b)
-    code_stays bare (end o) = let h = act_stays bare o in record { sites = h.sites; updates = h.updates; calls = h.calls }
-    code_stays bare (store cs b) = let h = code_stays bare b in record { sites = ap (λ t. map (λ c. c.site.0) cs ++ t) h.sites; updates = h.updates; calls = h.calls }
+    code_stays bare (end o) = let h = act_stays bare o
+        in record { sites = h.sites; updates = h.updates; calls = h.calls }
+    code_stays bare (store cs b) = let h = code_stays bare b
+        in record {
+          sites = ap (λ t. map (λ c. c.site.0) cs ++ t) h.sites;
+          updates = h.updates;
+          calls
+              = h.calls;
+        }
     code_stays bare (bind t o b) =
-        let made = bound_stays (act_calls M o) t (unbox_act M (act_calls M o) o) (unbox_code M bare b) in
+        let made = bound_stays (act_calls M o) t (unbox_act M (act_calls M o) o)
+        (unbox_code M bare b) in
         let h = act_stays (act_calls M o) o in
         let k = code_stays bare b in
-        record { sites = made.sites ∙ (λ i. h.sites i ++ k.sites i); updates = made.updates ∙ (λ i. h.updates i ++ k.updates i); calls = made.calls ∙ k.calls }
+        record {
+          sites = made.sites ∙ (λ i. h.sites i ++ k.sites i);
+          updates
+              = made.updates ∙ (λ i. h.updates i ++ k.updates i);
+          calls = made.calls ∙ k.calls;
+        }
 
     pub arms_stay : (bare : Bool) (as' : Arms) → ArmsStay as' (unbox_arms M bare as')
     arms_stay bare no_arm = record { sites = refl; updates = refl; calls = refl }
     arms_stay bare (arm s b as') =
         let h = code_stays bare b in
         let k = arms_stay bare as' in
-        record { sites = λ i. h.sites i ++ k.sites i; updates = λ i. h.updates i ++ k.updates i; calls = λ i. h.calls i || k.calls i }
+        record {
+          sites = λ i. h.sites i ++ k.sites i;
+          updates = λ i. h.updates i
+              ++ k.updates i;
+          calls = λ i. h.calls i || k.calls i;
+        }

@@ -12,18 +12,21 @@ pub if_not : {X : Type 0} (r a : ℕ) (x y : X) → (r ≡ a → ⊥) → (if r 
 if_not r a x y q = ap (λ b. cond b x y) (eq_false r a q)
 
 -- lists where an item is set or put at the end
-pub set_other : {X : Type 0} (xs : List X) (n m : ℕ) (x : X) → (m ≡ n → ⊥) → slice_get (slice_set xs n x) m ≡ slice_get xs m
+pub set_other : {X : Type 0} (xs : List X) (n m : ℕ) (x : X) → (m ≡ n → ⊥)
+    → slice_get (slice_set xs n x) m ≡ slice_get xs m
 set_other [] n m x ne = refl
 set_other (y ∷ xs) zero zero x ne = absurd (ne refl)
 set_other (y ∷ xs) zero (suc m) x ne = refl
 set_other (y ∷ xs) (suc n) zero x ne = refl
 set_other (y ∷ xs) (suc n) (suc m) x ne = set_other xs n m x (λ e. ne (ap suc e))
 
-pub at_pushed : {X : Type 0} (xs : List X) (x y : X) (m : ℕ) → slice_get (xs ++ x ∷ []) m ≡ Some y → (slice_get xs m ≡ Some y) ⊎ ((m ≡ length xs) × (y ≡ x))
+pub at_pushed : {X : Type 0} (xs : List X) (x y : X) (m : ℕ) → slice_get (xs ++ x ∷ []) m ≡ Some y
+    → (slice_get xs m ≡ Some y) ⊎ ((m ≡ length xs) × (y ≡ x))
 at_pushed [] x y zero e = inr (refl, sym (some_is e))
 at_pushed [] x y (suc m) e = none_is_some e
 at_pushed (z ∷ xs) x y zero e = inl e
-at_pushed (z ∷ xs) x y (suc m) e = ⊎_elim (λ a. inl a) (λ b. inr (ap suc b.0, b.1)) (at_pushed xs x y m e)
+at_pushed (z ∷ xs) x y (suc m) e = ⊎_elim (λ a. inl a) (λ b. inr (ap suc b.0, b.1))
+    (at_pushed xs x y m e)
 
 -- items in places, as they are read from lists of numbers
 pub read_at : (xs : List ℕ) (i : ℕ) → i < length xs → slice_get xs i ≡ Some (get_or xs i 0)

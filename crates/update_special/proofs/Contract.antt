@@ -16,7 +16,8 @@ use Rattle.update_special.specs.Updates.{tags_of, special, update_leaf, updated}
 use Rattle.update_special.specs.Updated.{one_if_wide, many_tag_updates, TagIsLiteralOrMany, Updated}
 use Rattle.update_special.proofs.Special.{expands, literal_or_many, counts, wide_open}
 
-module _ (g : Program) (A : Solution) (of : IsVectorForm g) (least : IsLeast (tables g) (system g) A) where
+module _ (g : Program) (A : Solution) (of : IsVectorForm g)
+    (least : IsLeast (tables g) (system g) A) where
   abbrev T : ℕ → List ℕ
   T = tags_of (length g.tags) A
 
@@ -24,20 +25,25 @@ module _ (g : Program) (A : Solution) (of : IsVectorForm g) (least : IsLeast (ta
   sound = expansion_is_sound (special T) g (StateIsCovered g A) (expands g A)
 
   left : updates_with_variable_tag (updated A g) ≡ many_tag_updates A g
-  left = bodies_count (special T) (λ v. one_if_some (tag_variable v)) (λ v. one_if_wide T (tag_variable v)) (counts T) g.procs
+  left = bodies_count (special T) (λ v. one_if_some (tag_variable v))
+      (λ v. one_if_wide T (tag_variable v)) (counts T) g.procs
 
   pub whole : Updated g (updated A g)
   whole = record {
-    stays = stays g (StateIsCovered g A) (update_leaf T) sound of (covers g A (formed_is_started g of.formed) least.solves).passed;
+    stays = stays g (StateIsCovered g A) (update_leaf T) sound of
+        (covers g A (formed_is_started g of.formed) least.solves).passed;
     solution = A;
     least = least;
     made = refl;
     updates = record {
-      literal = bodies_asked (special T) (TagIsLiteralOrMany T) (λ v as'. tt) (λ b. tt) (literal_or_many T) g.procs;
+      literal = bodies_asked (special T) (TagIsLiteralOrMany T) (λ v as'. tt) (λ b. tt)
+          (literal_or_many T) g.procs;
       left = left;
-      no_more = subst (λ n. n ≤ updates_with_variable_tag g) (sym left) (sum_at_most _ _ (wide_open T) g.procs);
+      no_more = subst (λ n. n ≤ updates_with_variable_tag g) (sym left)
+          (sum_at_most _ _ (wide_open T) g.procs);
     };
   }
 
   pub kept : Keeps g (updated A g)
-  kept = keeps g (StateIsCovered g A) (update_leaf T) sound of (covers g A (formed_is_started g of.formed) least.solves).passed
+  kept = keeps g (StateIsCovered g A) (update_leaf T) sound of
+      (covers g A (formed_is_started g of.formed) least.solves).passed

@@ -18,11 +18,16 @@ use Rattle.update_special.specs.Updates.{may_have_tag, tags_of}
 abbrev pub is_met : ℕ → Solution → ℕ → ℕ → Bool
 is_met count A x t = nat_lt t count && may_have_tag A x t
 
-pub all_made : (count : ℕ) (A : Solution) (x : ℕ) (items : List TagId) (i : ℕ) (made : List TagId) → IsStrictlyIncreasing (map (λ t. t.0) items)
-    → ((t : ℕ) → In t (map (λ t. t.0) items) ↔ (At A (var x) tags (tag t) ⊎ At A (var x) (word 0) (tag t))) → length items ≤ i
-    → map (λ t. t.0) made ≡ filter (is_met count A x) (map (λ t. t.0) (take i items)) → map (λ t. t.0) made ≡ tags_of count A x
-all_made count A x items i made up exact le e = e ∙ ap (λ l. filter (is_met count A x) (map (λ t. t.0) l)) (take_all i items le)
-    ∙ sym (those_filtered (may_have_tag A x) (is_met count A x) count 0 count (map (λ t. t.0) items) (omega arith) (ascends _ up)
+pub all_made : (count : ℕ) (A : Solution) (x : ℕ) (items : List TagId) (i : ℕ) (made : List TagId)
+    → IsStrictlyIncreasing (map (λ t. t.0) items)
+    → ((t : ℕ) → In t (map (λ t. t.0) items) ↔
+    (At A (var x) tags (tag t) ⊎ At A (var x) (word 0) (tag t))) → length items ≤ i
+    → map (λ t. t.0) made ≡ filter (is_met count A x) (map (λ t. t.0) (take i items))
+    → map (λ t. t.0) made ≡ tags_of count A x
+all_made count A x items i made up exact le e = e ∙ ap
+    (λ l. filter (is_met count A x) (map (λ t. t.0) l)) (take_all i items le)
+    ∙ sym (those_filtered (may_have_tag A x) (is_met count A x) count 0 count (map (λ t. t.0) items)
+    (omega arith) (ascends _ up)
     (λ t lt e le. (exact t).1 (inr (record { there = e })))
     (λ t m lt. ap (λ b. b && may_have_tag A x t) (lt_true t count lt))
     (λ t m le. ap (λ b. b && may_have_tag A x t) (lt_false t count le)))

@@ -13,7 +13,9 @@ use Rattle.grin_rewrite.proofs.Leaves.{op_of, stays}
 use Rattle.update_special.specs.Updates.{max_case_tags, over_tags, if_few, update_leaf}
 
 -- what is no update stays
-pub other_stays : (T : ℕ → List ℕ) (op : Op) → IsLeaf (act_of op) → ((a : Word) (v : Val) → op ≡ Update a v → ⊥) → act_of op ≡ rewrite_act (update_leaf T) (act_of op)
+pub other_stays : (T : ℕ → List ℕ) (op : Op) → IsLeaf (act_of op)
+    → ((a : Word) (v : Val) → op ≡ Update a v → ⊥) → act_of op ≡ rewrite_act (update_leaf T)
+    (act_of op)
 other_stays T op h differs = stays (update_leaf T) op h go
   where
     go : (l : Leaf) → op ≡ op_of l → update_leaf T l ≡ leaf l
@@ -21,5 +23,9 @@ other_stays T op h differs = stays (update_leaf T) op h go
     go _ e = refl
 
 -- the case over the tags of an update
-pub over_few : (a : Word) (v : Val) (ts : List ℕ) (alts : List Alt) → nat_le (length ts) max_case_tags ≡ true → map arm_of alts ≡ map (alternative (over_tags a v []).each) ts → act_of (Case v alts) ≡ expanded (update a v) (if_few a v ts)
-over_few a v ts alts e h = case_over (update a v) (over_tags a v ts) alts h ∙ sym (ap (λ b. expanded (update a v) (cond b (Some (over_tags a v ts)) None)) e)
+pub over_few : (a : Word) (v : Val) (ts : List ℕ) (alts : List Alt)
+    → nat_le (length ts) max_case_tags ≡ true → map arm_of alts ≡ map
+    (alternative (over_tags a v []).each) ts → act_of (Case v alts) ≡ expanded (update a v)
+    (if_few a v ts)
+over_few a v ts alts e h = case_over (update a v) (over_tags a v ts) alts h ∙ sym
+    (ap (λ b. expanded (update a v) (cond b (Some (over_tags a v ts)) None)) e)

@@ -37,34 +37,63 @@ module _ (g : Program) (formed : Formed g) where
   same_count : length procs ≡ length g.procs
   same_count = length-map g.procs (rewritten_procedure (wide_code l K))
 
-  procs_count : (u z : ℕ) (qs : List Procedure) → Origin l u z → past_procs qs ≤ l.base → times u (procs_vars (map (rewritten_procedure (wide_code l K)) qs)) ≤ times z (procs_vars qs)
+  procs_count : (u z : ℕ) (qs : List Procedure) → Origin l u z → past_procs qs ≤ l.base
+      → times u (procs_vars (map (rewritten_procedure (wide_code l K)) qs)) ≤ times z
+      (procs_vars qs)
   procs_count u z [] o le = omega arith
   procs_count u z (q ∷ qs) o le =
-      let a : times u (numbers_of q.params) ≤ times z (numbers_of q.params) = all_counts l u z q.params o (omega (arith, le)) in
-      let b : times u (code_vars (wide_code l K q.body)) ≤ times z (code_vars q.body) = code_counts l (most_value_most g.tags) K u z q.body o (omega (arith, le)) in
-      let c : times u (procs_vars (map (rewritten_procedure (wide_code l K)) qs)) ≤ times z (procs_vars qs) = procs_count u z qs o (omega (arith, le)) in
-      let d : times u ((numbers_of q.params ++ code_vars (wide_code l K q.body)) ++ procs_vars (map (rewritten_procedure (wide_code l K)) qs)) ≡ times u (numbers_of q.params ++ code_vars (wide_code l K q.body)) + times u (procs_vars (map (rewritten_procedure (wide_code l K)) qs))
-      = times_append u (numbers_of q.params ++ code_vars (wide_code l K q.body)) (procs_vars (map (rewritten_procedure (wide_code l K)) qs)) in
-      let e : times u (numbers_of q.params ++ code_vars (wide_code l K q.body)) ≡ times u (numbers_of q.params) + times u (code_vars (wide_code l K q.body)) = times_append u (numbers_of q.params) (code_vars (wide_code l K q.body)) in
-      let f : times z ((numbers_of q.params ++ code_vars q.body) ++ procs_vars qs) ≡ times z (numbers_of q.params ++ code_vars q.body) + times z (procs_vars qs) = times_append z (numbers_of q.params ++ code_vars q.body) (procs_vars qs) in
-      let h : times z (numbers_of q.params ++ code_vars q.body) ≡ times z (numbers_of q.params) + times z (code_vars q.body) = times_append z (numbers_of q.params) (code_vars q.body) in
+      let a : times u (numbers_of q.params) ≤ times z (numbers_of q.params)
+      = all_counts l u z q.params o (omega (arith, le)) in
+      let b : times u (code_vars (wide_code l K q.body)) ≤ times z (code_vars q.body)
+      = code_counts l (most_value_most g.tags) K u z q.body o (omega (arith, le)) in
+      let c : times u (procs_vars (map (rewritten_procedure (wide_code l K)) qs)) ≤ times z
+      (procs_vars qs) = procs_count u z qs o (omega (arith, le)) in
+      let d : times u
+      ((numbers_of q.params ++ code_vars (wide_code l K q.body))
+      ++ procs_vars (map (rewritten_procedure (wide_code l K)) qs)) ≡ times u
+      (numbers_of q.params ++ code_vars (wide_code l K q.body)) + times u
+      (procs_vars (map (rewritten_procedure (wide_code l K)) qs))
+      = times_append u (numbers_of q.params ++ code_vars (wide_code l K q.body))
+      (procs_vars (map (rewritten_procedure (wide_code l K)) qs)) in
+      let e : times u (numbers_of q.params ++ code_vars (wide_code l K q.body)) ≡ times u
+      (numbers_of q.params) + times u (code_vars (wide_code l K q.body))
+      = times_append u (numbers_of q.params) (code_vars (wide_code l K q.body)) in
+      let f : times z ((numbers_of q.params ++ code_vars q.body) ++ procs_vars qs) ≡ times z
+      (numbers_of q.params ++ code_vars q.body) + times z (procs_vars qs)
+      = times_append z (numbers_of q.params ++ code_vars q.body) (procs_vars qs) in
+      let h : times z (numbers_of q.params ++ code_vars q.body) ≡ times z (numbers_of q.params) +
+      times z (code_vars q.body) = times_append z (numbers_of q.params) (code_vars q.body) in
       omega (arith, a, b, c, d, e, f, h)
 
   vars_once : (u : ℕ) → times u (procs_vars procs) ≤ 1
   vars_once u = go (origin_of l u)
     where
       go : (z : ℕ) × Origin l u z → times u (procs_vars procs) ≤ 1
-      go (z, o) = let h : times u (procs_vars procs) ≤ times z (procs_vars g.procs) = procs_count u z g.procs o (omega arith) in let k : times z (procs_vars g.procs) ≤ 1 = formed.variables_once z in omega (arith, h, k)
+      go (z, o) = let h : times u (procs_vars procs) ≤ times z (procs_vars g.procs)
+          = procs_count u z g.procs o (omega arith) in let k : times z (procs_vars g.procs) ≤ 1
+          = formed.variables_once z in omega (arith, h, k)
 
-  bodies_formed : (qs : List Procedure) → AllOf (ProcedureKnown l K g) qs → AllOf (ProcedureFormed g) qs → AllOf (ProcedureFormed (with_procs g procs same_count)) (map (rewritten_procedure (wide_code l K)) qs)
+  bodies_formed : (qs : List Procedure) → AllOf (ProcedureKnown l K g) qs
+      → AllOf (ProcedureFormed g) qs → AllOf (ProcedureFormed (with_procs g procs same_count))
+      (map (rewritten_procedure (wide_code l K)) qs)
   bodies_formed [] k h = tt
-  bodies_formed (q ∷ qs) k h = (code_formed l K g procs same_count (most_value_most g.tags) q.body (params_scope q) (numbers_of q.params) (params_carry l K g procs same_count q k.0.0) k.0.1 h.0, bodies_formed qs k.1 h.1)
+  bodies_formed (q ∷ qs) k h = (
+    code_formed l K g procs same_count (most_value_most g.tags) q.body (params_scope q)
+        (numbers_of q.params) (params_carry l K g procs same_count q k.0.0) k.0.1 h.0,
+    bodies_formed qs k.1 h.1,
+  )
 
   pub vectorised_formed : Formed (vectorised g)
-  vectorised_formed = formed_with g procs same_count formed vars_once (same_sites g procs same_count (sites_stay l K g.procs) formed.sites_once) (bodies_formed g.procs (all_known g formed) formed.procedures) (
-    rewritten_procedure (wide_code l K) formed.start.0,
-    (slice_get-map (rewritten_procedure (wide_code l K)) g.procs g.start.0 ∙ ap (option_map (rewritten_procedure (wide_code l K))) formed.start.1, formed.start.2),
-  )
+  vectorised_formed = formed_with g procs same_count formed vars_once
+      (same_sites g procs same_count (sites_stay l K g.procs) formed.sites_once)
+      (bodies_formed g.procs (all_known g formed) formed.procedures) (
+        rewritten_procedure (wide_code l K) formed.start.0,
+        (
+          slice_get-map (rewritten_procedure (wide_code l K)) g.procs g.start.0 ∙ ap
+              (option_map (rewritten_procedure (wide_code l K))) formed.start.1,
+          formed.start.2,
+        ),
+      )
 
   module _ (ready : Ready g) (whole : UsesWholeNodes g) where
     never : CheckedRunsNeverMissing g
@@ -79,8 +108,11 @@ module _ (g : Program) (formed : Formed g) where
       few_params = procs_params l K 16 g.procs ready.few_params;
       few_results = procs_narrow l K 13 g.procs ready.few_results;
       few_fields = ready.few_fields;
-      never_missing = (looking_law (vectorised g) (procs_inlined l K g.procs ready.inlined)).never_missing kept.0;
-      runs = (looking_law (vectorised g) (procs_inlined l K g.procs ready.inlined)).runs_well kept.0;
+      never_missing =
+          (looking_law (vectorised g) (procs_inlined l K g.procs ready.inlined)).never_missing
+          kept.0;
+      runs = (looking_law (vectorised g) (procs_inlined l K g.procs ready.inlined)).runs_well
+          kept.0;
     }
 
     pub vectorised_widened : Widened g (vectorised g)
@@ -90,16 +122,26 @@ module _ (g : Program) (formed : Formed g) where
       ready = vectorised_ready;
       vectorised = procs_gone l K g.procs;
       widths = procs_widths l K g.procs;
-      outside = record { same_tags = refl; same_globals = refl; same_start = refl; same_argument = refl; same_names = names_stay l K g.procs };
+      outside = record {
+        same_tags = refl;
+        same_globals = refl;
+        same_start = refl;
+        same_argument
+            = refl;
+        same_names = names_stay l K g.procs;
+      };
       light = procs_light l K (most_value_most g.tags) ready.few_fields g.procs;
-      few_calls = (let e = procs_calls_stay l K (most_value_most g.tags) ready.few_fields g.procs in omega (arith, e));
+      few_calls =
+          (let e = procs_calls_stay l K (most_value_most g.tags) ready.few_fields g.procs
+          in omega (arith, e));
       few_words = procs_few_words l K (most_value_most g.tags) ready.few_fields g.procs;
     }
 
     pub vectorised_keeps : Keeps g (vectorised g)
     vectorised_keeps = kept.1
 
-pub is_widened : (g h : Program) → h ≡ vectorised g → Formed g × Ready g × UsesWholeNodes g → Widened g h
+pub is_widened : (g h : Program) → h ≡ vectorised g → Formed g × Ready g × UsesWholeNodes g
+    → Widened g h
 is_widened g h e t = subst (Widened g) (sym e) (vectorised_widened g t.0 t.1 t.2)
 
 pub is_kept : (g h : Program) → h ≡ vectorised g → Formed g × Ready g × UsesWholeNodes g → Keeps g h

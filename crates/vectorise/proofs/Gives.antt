@@ -80,7 +80,8 @@ module _ (l : Layout) (k : Table) where
     arms_gone no_arm = tt
     arms_gone (arm s b as') = (bare_vars s, code_gone b, arms_gone as')
 
-  pub procs_gone : (qs : List Procedure) → EveryBodyIsOfKind vectorised_kind (map (rewritten_procedure (wide_code l k)) qs)
+  pub procs_gone : (qs : List Procedure) → EveryBodyIsOfKind vectorised_kind
+      (map (rewritten_procedure (wide_code l k)) qs)
   procs_gone [] = tt
   procs_gone (q ∷ qs) = (code_gone q.body, procs_gone qs)
 
@@ -116,29 +117,37 @@ module _ (l : Layout) (k : Table) where
     code_inlined (store cs b) h = (any_cells cs, code_inlined b h.1)
     code_inlined (bind t o b) h = (tt, act_inlined o h.1, code_inlined b h.2)
 
-    arms_inlined : (as' : Arms) → EachArms inlined_kind as' → EachArms inlined_kind (wide_arms l k as')
+    arms_inlined : (as' : Arms) → EachArms inlined_kind as'
+        → EachArms inlined_kind (wide_arms l k as')
     arms_inlined no_arm h = tt
     arms_inlined (arm s b as') h = (tt, code_inlined b h.1, arms_inlined as' h.2)
 
-  pub procs_inlined : (qs : List Procedure) → EveryBodyIsOfKind inlined_kind qs → EveryBodyIsOfKind inlined_kind (map (rewritten_procedure (wide_code l k)) qs)
+  pub procs_inlined : (qs : List Procedure) → EveryBodyIsOfKind inlined_kind qs
+      → EveryBodyIsOfKind inlined_kind (map (rewritten_procedure (wide_code l k)) qs)
   procs_inlined [] h = tt
   procs_inlined (q ∷ qs) h = (code_inlined q.body h.0, procs_inlined qs h.1)
 
   -- ---- few results
 
-  given_narrow : (v : V.Val) → val_width (1 + l.most_value) (returned_val l k v) ≤ val_width (1 + l.most_value) v
-  given_narrow (NodeVar x) = let h : length (vector_words l x (suc l.most_value)) ≡ suc l.most_value = length_map Var (variables (vector_start l x.0) (suc l.most_value)) ∙ length_variables (vector_start l x.0) (suc l.most_value) in omega (arith, h)
+  given_narrow : (v : V.Val) → val_width (1 + l.most_value) (returned_val l k v) ≤ val_width
+      (1 + l.most_value) v
+  given_narrow (NodeVar x) = let h : length (vector_words l x (suc l.most_value)) ≡ suc l.most_value
+      = length_map Var (variables (vector_start l x.0) (suc l.most_value)) ∙ length_variables
+      (vector_start l x.0) (suc l.most_value) in omega (arith, h)
   given_narrow (Node t ws) = omega arith
-  given_narrow (Vector ws) = let h : length (as_words k ws) ≡ length ws = length_map _ ws in omega (arith, h)
+  given_narrow (Vector ws) = let h : length (as_words k ws) ≡ length ws = length_map _ ws
+      in omega (arith, h)
   given_narrow (One w) = omega arith
 
   mutual
     unfolding wide_act NarrowAct
 
-    act_narrow : (most : ℕ) (o : Act) → NarrowAct (1 + l.most_value) most o → NarrowAct (1 + l.most_value) most (wide_act l k o)
+    act_narrow : (most : ℕ) (o : Act) → NarrowAct (1 + l.most_value) most o
+        → NarrowAct (1 + l.most_value) most (wide_act l k o)
     act_narrow most (case v as') h = arms_narrow most as' h
     act_narrow most (nested b) h = code_narrow most b h
-    act_narrow most (leaf (unit v)) h = let n : val_width (1 + l.most_value) (returned_val l k v) ≤ val_width (1 + l.most_value) v = given_narrow v in omega (arith, h, n)
+    act_narrow most (leaf (unit v)) h = let n : val_width (1 + l.most_value) (returned_val l k v) ≤
+        val_width (1 + l.most_value) v = given_narrow v in omega (arith, h, n)
     act_narrow most (leaf (fetch a)) h = h
     act_narrow most (leaf (fetch_word a i)) h = tt
     act_narrow most (leaf (update a v)) h = tt
@@ -150,20 +159,26 @@ module _ (l : Layout) (k : Table) where
     act_narrow most (leaf (write a)) h = tt
     act_narrow most (leaf fail) h = tt
 
-    code_narrow : (most : ℕ) (b : Code) → NarrowCode (1 + l.most_value) most b → NarrowCode (1 + l.most_value) most (wide_code l k b)
+    code_narrow : (most : ℕ) (b : Code) → NarrowCode (1 + l.most_value) most b
+        → NarrowCode (1 + l.most_value) most (wide_code l k b)
     code_narrow most (end o) h = act_narrow most o h
     code_narrow most (store cs b) h = code_narrow most b h
     code_narrow most (bind t o b) h = code_narrow most b h
 
-    arms_narrow : (most : ℕ) (as' : Arms) → NarrowArms (1 + l.most_value) most as' → NarrowArms (1 + l.most_value) most (wide_arms l k as')
+    arms_narrow : (most : ℕ) (as' : Arms) → NarrowArms (1 + l.most_value) most as'
+        → NarrowArms (1 + l.most_value) most (wide_arms l k as')
     arms_narrow most no_arm h = tt
     arms_narrow most (arm s b as') h = (code_narrow most b h.0, arms_narrow most as' h.1)
 
-  pub procs_narrow : (most : ℕ) (qs : List Procedure) → AllOf (λ q. NarrowCode (1 + l.most_value) most q.body) qs → AllOf (λ q. NarrowCode (1 + l.most_value) most q.body) (map (rewritten_procedure (wide_code l k)) qs)
+  pub procs_narrow : (most : ℕ) (qs : List Procedure)
+      → AllOf (λ q. NarrowCode (1 + l.most_value) most q.body) qs
+      → AllOf (λ q. NarrowCode (1 + l.most_value) most q.body)
+      (map (rewritten_procedure (wide_code l k)) qs)
   procs_narrow most [] h = tt
   procs_narrow most (q ∷ qs) h = (code_narrow most q.body h.0, procs_narrow most qs h.1)
 
-  pub procs_params : (most : ℕ) (qs : List Procedure) → AllOf (λ q. length q.params ≤ most) qs → AllOf (λ q. length q.params ≤ most) (map (rewritten_procedure (wide_code l k)) qs)
+  pub procs_params : (most : ℕ) (qs : List Procedure) → AllOf (λ q. length q.params ≤ most) qs
+      → AllOf (λ q. length q.params ≤ most) (map (rewritten_procedure (wide_code l k)) qs)
   procs_params most [] h = tt
   procs_params most (q ∷ qs) h = (h.0, procs_params most qs h.1)
 
@@ -190,11 +205,13 @@ module _ (l : Layout) (k : Table) where
     arms_sites_stay no_arm = refl
     arms_sites_stay (arm s b as') = λ i. code_sites_stay b i ++ arms_sites_stay as' i
 
-  pub sites_stay : (qs : List Procedure) → procs_sites (map (rewritten_procedure (wide_code l k)) qs) ≡ procs_sites qs
+  pub sites_stay : (qs : List Procedure) → procs_sites
+      (map (rewritten_procedure (wide_code l k)) qs) ≡ procs_sites qs
   sites_stay [] = refl
   sites_stay (q ∷ qs) = λ i. code_sites_stay q.body i ++ sites_stay qs i
 
-  pub names_stay : (qs : List Procedure) → names_of (map (rewritten_procedure (wide_code l k)) qs) ≡ names_of qs
+  pub names_stay : (qs : List Procedure) → names_of (map (rewritten_procedure (wide_code l k)) qs) ≡
+      names_of qs
   names_stay [] = refl
   names_stay (q ∷ qs) = ap (λ ns. q.name ∷ ns) (names_stay qs)
 
@@ -202,8 +219,16 @@ module _ (l : Layout) (k : Table) where
 
   target_width : (f : Bool) (t : Target) → Width l.most l.most_value f t (wide_target l f t)
   target_width f to.Nothing = refl
-  target_width true (to.Node x) = (variables (vector_start l x.0) (suc l.most), refl, length_variables (vector_start l x.0) (suc l.most))
-  target_width false (to.Node x) = (variables (vector_start l x.0) (suc l.most_value), refl, length_variables (vector_start l x.0) (suc l.most_value))
+  target_width true (to.Node x) = (
+    variables (vector_start l x.0) (suc l.most),
+    refl,
+    length_variables (vector_start l x.0) (suc l.most),
+  )
+  target_width false (to.Node x) = (
+    variables (vector_start l x.0) (suc l.most_value),
+    refl,
+    length_variables (vector_start l x.0) (suc l.most_value),
+  )
   target_width f (to.One x) = refl
   target_width f (to.Vector xs) = refl
 
@@ -224,7 +249,8 @@ module _ (l : Layout) (k : Table) where
     arms_widths no_arm = tt
     arms_widths (arm s b as') = (code_widths b, arms_widths as')
 
-  pub procs_widths : (qs : List Procedure) → Widths l.most l.most_value qs (map (rewritten_procedure (wide_code l k)) qs)
+  pub procs_widths : (qs : List Procedure) → Widths l.most l.most_value qs
+      (map (rewritten_procedure (wide_code l k)) qs)
   procs_widths [] = tt
   procs_widths (q ∷ qs) = (code_widths q.body, procs_widths qs)
 
@@ -237,42 +263,59 @@ module _ (l : Layout) (k : Table) where
 
     val_light : (v : V.Val) → val_weight (wide_val l k v) ≤ val_weight v
     val_light (NodeVar x) =
-        let h : length (vector_words l x (suc (field_capacity_of l k x))) ≡ suc (field_capacity_of l k x) = length_map Var (variables (vector_start l x.0) (suc (field_capacity_of l k x))) ∙ length_variables (vector_start l x.0) (suc (field_capacity_of l k x)) in
+        let h : length (vector_words l x (suc (field_capacity_of l k x))) ≡ suc
+        (field_capacity_of l k x) = length_map Var
+        (variables (vector_start l x.0) (suc (field_capacity_of l k x))) ∙ length_variables
+        (vector_start l x.0) (suc (field_capacity_of l k x)) in
         let r : suc (field_capacity_of l k x) ≤ 14 = room_short _ in
         omega (arith, h, r)
     val_light (Node t ws) = omega arith
-    val_light (Vector ws) = let h : length (as_words k ws) ≡ length ws = length_map _ ws in omega (arith, h)
+    val_light (Vector ws) = let h : length (as_words k ws) ≡ length ws = length_map _ ws
+        in omega (arith, h)
     val_light (One w) = omega arith
 
     given_light : (v : V.Val) → val_weight (returned_val l k v) ≤ val_weight v
-    given_light (NodeVar x) = let h : length (vector_words l x (suc l.most_value)) ≡ suc l.most_value = length_map Var (variables (vector_start l x.0) (suc l.most_value)) ∙ length_variables (vector_start l x.0) (suc l.most_value) in omega (arith, h, few, short)
+    given_light (NodeVar x) = let h : length (vector_words l x (suc l.most_value)) ≡ suc
+        l.most_value = length_map Var (variables (vector_start l x.0) (suc l.most_value)) ∙
+        length_variables (vector_start l x.0) (suc l.most_value) in omega (arith, h, few, short)
     given_light (Node t ws) = val_light (Node t ws)
     given_light (Vector ws) = val_light (Vector ws)
     given_light (One w) = val_light (One w)
 
     target_light : (f : Bool) (t : Target) → target_weight (wide_target l f t) ≤ target_weight t
     target_light f to.Nothing = omega arith
-    target_light f (to.Node x) = let h : length (variables (vector_start l x.0) (suc (room l f))) ≡ suc (room l f) = length_variables (vector_start l x.0) (suc (room l f)) in let r : suc (room l f) ≤ 14 = room_short f in omega (arith, h, r)
+    target_light f (to.Node x) = let h : length (variables (vector_start l x.0) (suc (room l f))) ≡
+        suc (room l f) = length_variables (vector_start l x.0) (suc (room l f)) in let r
+        : suc (room l f) ≤ 14 = room_short f in omega (arith, h, r)
     target_light f (to.One x) = omega arith
     target_light f (to.Vector xs) = omega arith
 
     cells_light : (cs : List Cell) → cells_weight (wide_cells l k cs) ≤ cells_weight cs
     cells_light [] = omega arith
-    cells_light (c ∷ cs) = let h : val_weight (wide_val l k c.val) ≤ val_weight c.val = val_light c.val in let r : cells_weight (wide_cells l k cs) ≤ cells_weight cs = cells_light cs in omega (arith, h, r)
+    cells_light (c ∷ cs) = let h : val_weight (wide_val l k c.val) ≤ val_weight c.val
+        = val_light c.val in let r : cells_weight (wide_cells l k cs) ≤ cells_weight cs
+        = cells_light cs in omega (arith, h, r)
 
     mutual
       unfolding wide_act act_weight
 
       act_light : (o : Act) → act_weight (wide_act l k o) ≤ act_weight o
-      act_light (case v as') = let h : val_weight (wide_val l k v) ≤ val_weight v = val_light v in let r : arms_weight (wide_arms l k as') ≤ arms_weight as' = arms_light as' in omega (arith, h, r)
-      act_light (nested b) = let r : code_weight (wide_code l k b) ≤ code_weight b = code_light b in omega (arith, r)
-      act_light (leaf (unit v)) = let h : val_weight (returned_val l k v) ≤ val_weight v = given_light v in omega (arith, h)
+      act_light (case v as') = let h : val_weight (wide_val l k v) ≤ val_weight v = val_light v
+          in let r : arms_weight (wide_arms l k as') ≤ arms_weight as' = arms_light as'
+          in omega (arith, h, r)
+      act_light (nested b) = let r : code_weight (wide_code l k b) ≤ code_weight b = code_light b
+          in omega (arith, r)
+      act_light (leaf (unit v)) = let h : val_weight (returned_val l k v) ≤ val_weight v
+          = given_light v in omega (arith, h)
       act_light (leaf (fetch a)) = omega arith
       act_light (leaf (fetch_word a i)) = omega arith
-      act_light (leaf (update a v)) = let h : val_weight (wide_val l k v) ≤ val_weight v = val_light v in omega (arith, h)
+      act_light (leaf (update a v)) = let h : val_weight (wide_val l k v) ≤ val_weight v
+          = val_light v in omega (arith, h)
       act_light (leaf (eval a)) = omega arith
-      act_light (leaf (apply v a)) = let h : val_weight (wide_val l k v) ≤ val_weight v = val_light v in omega (arith, h)
-      act_light (leaf (call f ws)) = let h : length (as_words k ws) ≡ length ws = length_map _ ws in omega (arith, h)
+      act_light (leaf (apply v a)) = let h : val_weight (wide_val l k v) ≤ val_weight v
+          = val_light v in omega (arith, h)
+      act_light (leaf (call f ws)) = let h : length (as_words k ws) ≡ length ws = length_map _ ws
+          in omega (arith, h)
       act_light (leaf (prim f a b)) = omega arith
       act_light (leaf read) = omega arith
       act_light (leaf (write a)) = omega arith
@@ -280,9 +323,12 @@ module _ (l : Layout) (k : Table) where
 
       code_light : (b : Code) → code_weight (wide_code l k b) ≤ code_weight b
       code_light (end o) = act_light o
-      code_light (store cs b) = let h : cells_weight (wide_cells l k cs) ≤ cells_weight cs = cells_light cs in let r : code_weight (wide_code l k b) ≤ code_weight b = code_light b in omega (arith, h, r)
+      code_light (store cs b) = let h : cells_weight (wide_cells l k cs) ≤ cells_weight cs
+          = cells_light cs in let r : code_weight (wide_code l k b) ≤ code_weight b = code_light b
+          in omega (arith, h, r)
       code_light (bind t o b) =
-          let h : target_weight (wide_target l (is_fetch o) t) ≤ target_weight t = target_light (is_fetch o) t in
+          let h : target_weight (wide_target l (is_fetch o) t) ≤ target_weight t
+          = target_light (is_fetch o) t in
           let q : act_weight (wide_act l k o) ≤ act_weight o = act_light o in
           let r : code_weight (wide_code l k b) ≤ code_weight b = code_light b in
           omega (arith, h, q, r)
@@ -295,9 +341,12 @@ module _ (l : Layout) (k : Table) where
           let r : arms_weight (wide_arms l k as') ≤ arms_weight as' = arms_light as' in
           omega (arith, h, q, r)
 
-    pub procs_light : (qs : List Procedure) → procs_weight (map (rewritten_procedure (wide_code l k)) qs) ≤ procs_weight qs
+    pub procs_light : (qs : List Procedure) → procs_weight
+        (map (rewritten_procedure (wide_code l k)) qs) ≤ procs_weight qs
     procs_light [] = omega arith
-    procs_light (q ∷ qs) = let h : code_weight (wide_code l k q.body) ≤ code_weight q.body = code_light q.body in let r : procs_weight (map (rewritten_procedure (wide_code l k)) qs) ≤ procs_weight qs = procs_light qs in omega (arith, h, r)
+    procs_light (q ∷ qs) = let h : code_weight (wide_code l k q.body) ≤ code_weight q.body
+        = code_light q.body in let r : procs_weight (map (rewritten_procedure (wide_code l k)) qs) ≤
+        procs_weight qs = procs_light qs in omega (arith, h, r)
 
     mutual
       unfolding wide_act act_calls
@@ -326,7 +375,8 @@ module _ (l : Layout) (k : Table) where
       calls_in_arms no_arm = refl
       calls_in_arms (arm s b as') = λ i. calls_in_code b i + calls_in_arms as' i
 
-    pub procs_calls_stay : (qs : List Procedure) → procs_calls (map (rewritten_procedure (wide_code l k)) qs) ≡ procs_calls qs
+    pub procs_calls_stay : (qs : List Procedure) → procs_calls
+        (map (rewritten_procedure (wide_code l k)) qs) ≡ procs_calls qs
     procs_calls_stay [] = refl
     procs_calls_stay (q ∷ qs) = λ i. calls_in_code q.body i + procs_calls_stay qs i
 
@@ -371,10 +421,15 @@ module _ (l : Layout) (k : Table) where
       words_in_act (leaf l) = omega arith
 
       words_in_code : (b : Code) → code_words (wide_code l k b) ≤ code_words b
-      words_in_code (end o) = let e : end_words (wide_act l k o) ≡ end_words o = ends_stay o in let h : inner_words (wide_act l k o) ≤ inner_words o = words_in_act o in omega (arith, e, h)
-      words_in_code (store cs b) = let e : length (wide_cells l k cs) ≡ length cs = length_map _ cs in let h : code_words (wide_code l k b) ≤ code_words b = words_in_code b in omega (arith, e, h)
+      words_in_code (end o) = let e : end_words (wide_act l k o) ≡ end_words o = ends_stay o
+          in let h : inner_words (wide_act l k o) ≤ inner_words o = words_in_act o
+          in omega (arith, e, h)
+      words_in_code (store cs b) = let e : length (wide_cells l k cs) ≡ length cs = length_map _ cs
+          in let h : code_words (wide_code l k b) ≤ code_words b = words_in_code b
+          in omega (arith, e, h)
       words_in_code (bind t o b) =
-          let h : target_weight (wide_target l (is_fetch o) t) ≤ target_weight t = target_light (is_fetch o) t in
+          let h : target_weight (wide_target l (is_fetch o) t) ≤ target_weight t
+          = target_light (is_fetch o) t in
           let e : node_words (wide_act l k o) ≡ node_words o = nodes_stay o in
           let q : inner_words (wide_act l k o) ≤ inner_words o = words_in_act o in
           let r : code_words (wide_code l k b) ≤ code_words b = words_in_code b in
@@ -388,6 +443,11 @@ module _ (l : Layout) (k : Table) where
           let r : arms_words (wide_arms l k as') ≤ arms_words as' = words_in_arms as' in
           omega (arith, h, q, r)
 
-    pub procs_few_words : (qs : List Procedure) → ProcedureWordsDoNotGrow qs (map (rewritten_procedure (wide_code l k)) qs)
+    pub procs_few_words : (qs : List Procedure) → ProcedureWordsDoNotGrow qs
+        (map (rewritten_procedure (wide_code l k)) qs)
     procs_few_words [] = tt
-    procs_few_words (q ∷ qs) = (let h : code_words (wide_code l k q.body) ≤ code_words q.body = words_in_code q.body in omega (arith, h), procs_few_words qs)
+    procs_few_words (q ∷ qs) = (
+      let h : code_words (wide_code l k q.body) ≤ code_words q.body = words_in_code q.body
+          in omega (arith, h),
+      procs_few_words qs,
+    )

@@ -7,4 +7,10 @@ use Rattle.vectorised_form.specs.Laws.{VectoriseTakesInlined}
 use Rattle.vectorised_form.proofs.Texts.{procs_whole}
 
 pub taken : InlinedProgramsAreReady → VectoriseTakesInlined
-taken ready p valid A solves = let r = ready p valid A solves in (r.0, r.2, procs_whole (inlined A (tr p)).tags (inlined A (tr p)).procs (inlined_fits p A).procedures)
+taken ready p valid A solves = let r = ready p valid A solves
+    in (
+      r.0,
+      r.2,
+      procs_whole (inlined A (tr p)).tags (inlined A (tr p)).procs
+          (inlined_fits p A).procedures,
+    )

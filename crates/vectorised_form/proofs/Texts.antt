@@ -18,7 +18,8 @@ kept_whole Γ (Node t ws) h = tt
 kept_whole Γ (Vector ws) h = absurd h
 kept_whole Γ (One w) h = tt
 
-cells_whole : (Γ : Sorts) (cs : List Cell) → AllOf (λ c. KeptFits Γ c.val) cs → AllOf (λ c. NoVector c.val) cs
+cells_whole : (Γ : Sorts) (cs : List Cell) → AllOf (λ c. KeptFits Γ c.val) cs
+    → AllOf (λ c. NoVector c.val) cs
 cells_whole Γ [] h = tt
 cells_whole Γ (c ∷ cs) h = (kept_whole Γ c.val h.0, cells_whole Γ cs h.1)
 
@@ -61,13 +62,22 @@ module _ (ts : List Tag) where
 
     code_whole : (b : Code) (Γ : Sorts) → CodeFits ts ⊥ ⊥ Γ b → EachCode whole_node_kind b
     code_whole (end o) Γ h = act_whole o Γ h.1
-    code_whole (store cs b) Γ h = (cells_whole (cells_sorted cs Γ) cs h.0, code_whole b (cells_sorted cs Γ) h.1)
-    code_whole (bind t o b) Γ h = (target_whole t (sort_of o) h.0, act_whole o Γ h.1, code_whole b (target_sorted t (sort_of o) Γ) h.2)
+    code_whole (store cs b) Γ h =
+        (cells_whole (cells_sorted cs Γ) cs h.0, code_whole b (cells_sorted cs Γ) h.1)
+    code_whole (bind t o b) Γ h = (
+      target_whole t (sort_of o) h.0,
+      act_whole o Γ h.1,
+      code_whole b (target_sorted t (sort_of o) Γ) h.2,
+    )
 
-    arms_whole : (as' : Arms) (v : Val) (Γ : Sorts) → ArmsFit ts ⊥ ⊥ Γ v as' → EachArms whole_node_kind as'
+    arms_whole : (as' : Arms) (v : Val) (Γ : Sorts) → ArmsFit ts ⊥ ⊥ Γ v as'
+        → EachArms whole_node_kind as'
     arms_whole no_arm v Γ h = tt
-    arms_whole (arm s b as') v Γ h = (tt, code_whole b (alternative_sorted ts s v Γ) h.0, arms_whole as' v Γ h.1)
+    arms_whole (arm s b as') v Γ h =
+        (tt, code_whole b (alternative_sorted ts s v Γ) h.0, arms_whole as' v Γ h.1)
 
-  pub procs_whole : (qs : List Procedure) → AllOf (ProcedureFits ts ⊥ ⊥) qs → EveryBodyIsOfKind whole_node_kind qs
+  pub procs_whole : (qs : List Procedure) → AllOf (ProcedureFits ts ⊥ ⊥) qs
+      → EveryBodyIsOfKind whole_node_kind qs
   procs_whole [] h = tt
-  procs_whole (q ∷ qs) h = (code_whole q.body (vars_sorted q.params nothing_known) h.0, procs_whole qs h.1)
+  procs_whole (q ∷ qs) h =
+      (code_whole q.body (vars_sorted q.params nothing_known) h.0, procs_whole qs h.1)

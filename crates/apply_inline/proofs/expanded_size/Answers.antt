@@ -12,6 +12,7 @@ pub returns : goal.returns
 returns c = λ formed fits.
     let p = program_of c.args.g.now in
     let A = found c.args.flow.now in
-    let m : inlined_size A p ≡ total (expanded_procedure p A) p.procs = measured p A (have_next p formed) in
+    let m : inlined_size A p ≡ total (expanded_procedure p A) p.procs
+    = measured p A (have_next p formed) in
     let s = ap (λ l. total (expanded_procedure p A) (map procedure_of l)) c.as_slice.ensures in
     omega arith

@@ -11,10 +11,14 @@ pub returns : goal.returns
 returns c =
     let p = tables_of c.args.system.now in
     let cs = inclusions_of c.args.system.now in
-    if_ok c.from_facts.result (λ f. found f ≡ solution_of (held c.in_ok-facts.facts)) (λ f. IsLeast p cs (found f)) (λ f e. subst (IsLeast p cs) (sym e) c.in_ok-facts.ensures) c.from_facts.ensures
+    if_ok c.from_facts.result (λ f. found f ≡ solution_of (held c.in_ok-facts.facts))
+    (λ f. IsLeast p cs (found f)) (λ f e. subst (IsLeast p cs) (sym e) c.in_ok-facts.ensures)
+    c.from_facts.ensures
 
 pub returns-then-reads_by_words : goal.returns-then-reads_by_words
 returns-then-reads_by_words c =
     let p = tables_of c.args.system.now in
     let cs = inclusions_of c.args.system.now in
-    if_ok c.with_values.result (λ f. found f ≡ solution p cs c.in_ok-kept.kept) (λ f. IsLeast p cs (found f)) (λ f e. subst (IsLeast p cs) (sym e) c.in_ok-kept.ensures) c.with_values.ensures
+    if_ok c.with_values.result (λ f. found f ≡ solution p cs c.in_ok-kept.kept)
+    (λ f. IsLeast p cs (found f)) (λ f e. subst (IsLeast p cs) (sym e) c.in_ok-kept.ensures)
+    c.with_values.ensures

@@ -10,4 +10,6 @@ pub returns : goal.returns
 returns c =
     let p = tables_of c.args.system.now in
     let cs = inclusions_of c.args.system.now in
-    if_ok c.from_facts.result (λ f. found f ≡ solution_of (held c.in_ok-facts.facts)) (λ f. IsLeast p cs (found f)) (λ f e. subst (IsLeast p cs) (sym e) c.in_ok-facts.ensures) c.from_facts.ensures
+    if_ok c.from_facts.result (λ f. found f ≡ solution_of (held c.in_ok-facts.facts))
+    (λ f. IsLeast p cs (found f)) (λ f e. subst (IsLeast p cs) (sym e) c.in_ok-facts.ensures)
+    c.from_facts.ensures

@@ -6,29 +6,40 @@ use Rattle.rv32_select.proofs.Writes.{can_write}
 use Rattle.rv32_select.proofs.select.Goals as goal
 
 pub start_up-requires-clause-writable : goal.start_up-requires-clause-writable
-start_up-requires-clause-writable c = can_write (program_of c.args.low.now) c.args.places.now c.args.cells c.args.stack c.requires
+start_up-requires-clause-writable c = can_write (program_of c.args.low.now) c.args.places.now
+    c.args.cells c.args.stack c.requires
 
 pub first_call-requires-clause-writable : goal.first_call-requires-clause-writable
-first_call-requires-clause-writable c = (can_write (program_of c.args.low.now) c.args.places.now c.args.cells c.args.stack c.requires).0
+first_call-requires-clause-writable c =
+    (can_write (program_of c.args.low.now) c.args.places.now c.args.cells c.args.stack c.requires).0
 
 pub procedure-requires-clause-writable : goal.procedure-requires-clause-writable
-procedure-requires-clause-writable c = can_write (program_of c.args.low.now) c.args.places.now c.args.cells c.args.stack c.requires
+procedure-requires-clause-writable c = can_write (program_of c.args.low.now) c.args.places.now
+    c.args.cells c.args.stack c.requires
 
 pub is_lasting-lasting-requires : goal.is_lasting-lasting-requires
-is_lasting-lasting-requires c = (can_write (program_of c.args.low.now) c.args.places.now c.args.cells c.args.stack c.requires).0
+is_lasting-lasting-requires c =
+    (can_write (program_of c.args.low.now) c.args.places.now c.args.cells c.args.stack c.requires).0
 
 pub stops-requires : goal.stops-requires
-stops-requires c = (can_write (program_of c.args.low.now) c.args.places.now c.args.cells c.args.stack c.requires).0
+stops-requires c =
+    (can_write (program_of c.args.low.now) c.args.places.now c.args.cells c.args.stack c.requires).0
 
 pub loop-proc-preserved : goal.loop-proc-preserved
 loop-proc-preserved c =
-    next_procedure c.args.low.now c.args.places.now c.args.cells c.args.stack c.loop-proc.proc _ c.len-proc-end.result _ _ _ _ _ _ c.len-proc-end.ensures c.loop-proc-test.true refl c.loop-proc.invariant c.in_ok-procedure.ensures
+    next_procedure c.args.low.now c.args.places.now c.args.cells c.args.stack c.loop-proc.proc _
+    c.len-proc-end.result _ _ _ _ _ _ c.len-proc-end.ensures c.loop-proc-test.true refl
+    c.loop-proc.invariant c.in_ok-procedure.ensures
 
 pub returns : goal.returns
 returns c =
-    let made = whole_made c.args.low.now c.args.places.now c.args.cells c.args.stack c.len-proc-end.result c.loop-proc.proc _ _ _ _ _ _ _ c.len-proc-end.ensures c.loop-proc-test.false c.new.ensures c.in_ok-start_up.ensures c.in_ok-first_call.ensures
-    (own_labels c.args.low.now _ c.len.ensures) c.loop-proc.invariant (c.into_items.ensures ∙ c.in_ok-stops.ensures) in
+    let made = whole_made c.args.low.now c.args.places.now c.args.cells c.args.stack
+    c.len-proc-end.result c.loop-proc.proc _ _ _ _ _ _ _ c.len-proc-end.ensures
+    c.loop-proc-test.false c.new.ensures c.in_ok-start_up.ensures c.in_ok-first_call.ensures
+    (own_labels c.args.low.now _ c.len.ensures) c.loop-proc.invariant
+    (c.into_items.ensures ∙ c.in_ok-stops.ensures) in
     record {
       selected = made;
-      does = λ there. selected_items_do (program_of c.args.low.now) c.args.places.now c.args.cells c.args.stack _ c.requires there made;
+      does = λ there. selected_items_do (program_of c.args.low.now) c.args.places.now c.args.cells
+          c.args.stack _ c.requires there made;
     }

@@ -4,4 +4,5 @@ use Rattle.type_meaning.proofs.Printed.{well_typed_goes}
 use Rattle.type_meaning.proofs.well_typed_are_never_stuck.Goals as goal
 
 pub returns : goal.returns
-returns c = λ s p σ typed i n. well_typed_goes (ConstructorHasType s) (FunctionHasType s σ) p (integers s) typed i n
+returns c = λ s p σ typed i n. well_typed_goes (ConstructorHasType s) (FunctionHasType s σ) p
+    (integers s) typed i n

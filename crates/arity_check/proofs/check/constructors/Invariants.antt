@@ -4,4 +4,5 @@ use Rattle.arity_check.specs.Normal.{Pairwise, IsConstructor}
 use Rattle.arity_check.proofs.check.constructors.Given as goal
 
 abbrev pub invariant-loop-con : goal.invariant-loop-con
-invariant-loop-con l = Pairwise (IsConstructor (program l.core)) (map data_of (take l.con-index l.con-items)) l.cons
+invariant-loop-con l = Pairwise (IsConstructor (program l.core))
+    (map data_of (take l.con-index l.con-items)) l.cons

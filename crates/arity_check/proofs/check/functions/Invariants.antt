@@ -5,4 +5,5 @@ use Rattle.arity_check.specs.Normal.{Pairwise, IsFunction}
 use Rattle.arity_check.proofs.check.functions.Given as goal
 
 abbrev pub invariant-loop-function : goal.invariant-loop-function
-invariant-loop-function l = Pairwise (IsFunction (program l.core)) (map function (take l.function-index l.function-items)) (map normal.function l.funs)
+invariant-loop-function l = Pairwise (IsFunction (program l.core))
+    (map function (take l.function-index l.function-items)) (map normal.function l.funs)

@@ -7,4 +7,6 @@ use Rattle.arity_check.specs.Tables.{or_else}
 use Rattle.arity_check.proofs.globals.constructors.Given as goal
 
 abbrev pub invariant-loop-i : goal.invariant-loop-i
-invariant-loop-i l = (x : ℕ) → or_else (get nat_cmp l.table x) (constructor_at (map data_of (drop l.i l.constructors)) l.i x) ≡ constructor_at (map data_of l.constructors) 0 x
+invariant-loop-i l = (x : ℕ) → or_else (get nat_cmp l.table x)
+    (constructor_at (map data_of (drop l.i l.constructors)) l.i x) ≡ constructor_at
+    (map data_of l.constructors) 0 x

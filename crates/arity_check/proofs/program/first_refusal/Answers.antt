@@ -25,13 +25,22 @@ check_size-requires c = λ h.
     let lacks : List CheckRefusal = lacks_faults k p.constructors p.functions in
     let scope = c.in_ok-check_constructors.ensures.scope ∙ c.new.ensures in
     let a : c.check_constructors.new.walk.first ≡ least_refusal start cons =
-    c.in_ok-check_constructors.ensures.first ∙ (λ i. least_refusal start (cons_faults (e i) 0 (λ x. false) (map data_of (c.as_slice.ensures i)))) in
-    let b : c.check_functions.new.walk.first ≡ least_refusal c.check_constructors.new.walk.first funs =
-    c.in_ok-check_functions.ensures.first ∙ (λ i. least_refusal c.check_constructors.new.walk.first (functions_faults (e i) (scope i) 0 (λ x. false) (map function (c.as_slice-2.ensures i)))) in
+    c.in_ok-check_constructors.ensures.first ∙
+    (λ i. least_refusal start
+    (cons_faults (e i) 0 (λ x. false) (map data_of (c.as_slice.ensures i)))) in
+    let b : c.check_functions.new.walk.first ≡ least_refusal c.check_constructors.new.walk.first
+    funs =
+    c.in_ok-check_functions.ensures.first ∙
+    (λ i. least_refusal c.check_constructors.new.walk.first
+    (functions_faults (e i) (scope i) 0 (λ x. false) (map function (c.as_slice-2.ensures i))))
+    in
     let d : c.check_declared.new.walk.first ≡ least_refusal c.check_functions.new.walk.first lacks =
-    c.check_declared.ensures.first ∙ ap (λ k. least_refusal c.check_functions.new.walk.first (lacks_faults k p.constructors p.functions)) e in
+    c.check_declared.ensures.first ∙ ap
+    (λ k. least_refusal c.check_functions.new.walk.first
+    (lacks_faults k p.constructors p.functions)) e in
     let order : c.check_declared.new.walk.first.order ≡ c.args.order =
-    ap (λ (f : First). f.order) d ∙ least_order c.check_functions.new.walk.first lacks ∙ ap (λ (f : First). f.order) b ∙ least_order c.check_constructors.new.walk.first funs
+    ap (λ (f : First). f.order) d ∙ least_order c.check_functions.new.walk.first lacks ∙ ap
+    (λ (f : First). f.order) b ∙ least_order c.check_constructors.new.walk.first funs
     ∙ ap (λ (f : First). f.order) a ∙ least_order start cons in
     c.requires.size (ap (λ o. counts o 35) (sym order) ∙ h)
 
@@ -44,16 +53,28 @@ returns c =
     let cons : List CheckRefusal = cons_faults k 0 (λ x. false) p.constructors in
     let funs : List CheckRefusal = functions_faults k [] 0 (λ x. false) p.functions in
     let lacks : List CheckRefusal = lacks_faults k p.constructors p.functions in
-    let size : List CheckRefusal = refusal_if (nat_lt 16384 (program_size p)) (CoreTooLarge (program_size p)) in
+    let size : List CheckRefusal = refusal_if (nat_lt 16384 (program_size p))
+    (CoreTooLarge (program_size p)) in
     let scope = c.in_ok-check_constructors.ensures.scope ∙ c.new.ensures in
     let a : c.check_constructors.new.walk.first ≡ least_refusal start cons =
-    c.in_ok-check_constructors.ensures.first ∙ (λ i. least_refusal start (cons_faults (e i) 0 (λ x. false) (map data_of (c.as_slice.ensures i)))) in
-    let b : c.check_functions.new.walk.first ≡ least_refusal c.check_constructors.new.walk.first funs =
-    c.in_ok-check_functions.ensures.first ∙ (λ i. least_refusal c.check_constructors.new.walk.first (functions_faults (e i) (scope i) 0 (λ x. false) (map function (c.as_slice-2.ensures i)))) in
+    c.in_ok-check_constructors.ensures.first ∙
+    (λ i. least_refusal start
+    (cons_faults (e i) 0 (λ x. false) (map data_of (c.as_slice.ensures i)))) in
+    let b : c.check_functions.new.walk.first ≡ least_refusal c.check_constructors.new.walk.first
+    funs =
+    c.in_ok-check_functions.ensures.first ∙
+    (λ i. least_refusal c.check_constructors.new.walk.first
+    (functions_faults (e i) (scope i) 0 (λ x. false) (map function (c.as_slice-2.ensures i))))
+    in
     let d : c.check_declared.new.walk.first ≡ least_refusal c.check_functions.new.walk.first lacks =
-    c.check_declared.ensures.first ∙ ap (λ k. least_refusal c.check_functions.new.walk.first (lacks_faults k p.constructors p.functions)) e in
-    let z : c.check_size.new.walk.first ≡ least_refusal c.check_declared.new.walk.first size = c.check_size.ensures in
+    c.check_declared.ensures.first ∙ ap
+    (λ k. least_refusal c.check_functions.new.walk.first
+    (lacks_faults k p.constructors p.functions)) e in
+    let z : c.check_size.new.walk.first ≡ least_refusal c.check_declared.new.walk.first size
+    = c.check_size.ensures in
     let all : c.check_size.new.walk.first ≡ least_refusal start (program_faults p) =
-    three cons funs (lacks ++ size) start c.check_constructors.new.walk.first c.check_functions.new.walk.first c.check_size.new.walk.first a b
-    (two lacks size c.check_functions.new.walk.first c.check_declared.new.walk.first c.check_size.new.walk.first d z) in
+    three cons funs (lacks ++ size) start c.check_constructors.new.walk.first
+    c.check_functions.new.walk.first c.check_size.new.walk.first a b
+    (two lacks size c.check_functions.new.walk.first c.check_declared.new.walk.first
+    c.check_size.new.walk.first d z) in
     right c.args.order p c.check_size.new.walk.first.refusal (ap (λ (f : First). f.refusal) all)

@@ -14,5 +14,8 @@ returns-then-has_fields c =
     let none : Data = record { name = record { 0 = 0 }; fields = 0; at = 0 } in
     let x : Data = get_or c.args.constructors.now c.loop-con.con-index none in
     let kind : cons_kind (k.kind x.name.0) ≡ true = sym c.is_cons.ensures ∙ c.if-is_cons.true in
-    let size : has_fields (k.fields x.name.0) 2 ≡ true = sym c.has_fields.ensures ∙ c.if-has_fields.true in
-    any_here (λ (d : tree.Data). cons_kind (k.kind d.name) && has_fields (k.fields d.name) 2) c.args.constructors.now c.loop-con.con-index none _ (omega arith) (λ i. kind i && size i) c.loop-con.invariant
+    let size : has_fields (k.fields x.name.0) 2 ≡ true
+    = sym c.has_fields.ensures ∙ c.if-has_fields.true in
+    any_here (λ (d : tree.Data). cons_kind (k.kind d.name) && has_fields (k.fields d.name) 2)
+    c.args.constructors.now c.loop-con.con-index none _ (omega arith) (λ i. kind i && size i)
+    c.loop-con.invariant

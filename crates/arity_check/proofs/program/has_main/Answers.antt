@@ -8,4 +8,6 @@ use Rattle.arity_check.proofs.Steps.{any_from}
 use Rattle.arity_check.proofs.program.has_main.Goals as goal
 
 pub returns : goal.returns
-returns c = c.is_some.ensures ∙ ap is_some c.main_number.ensures ∙ any_from (λ (f : tree.Function). main_kind ((known c.args.globals.now).kind f.name)) 0 (map function c.args.functions.now)
+returns c = c.is_some.ensures ∙ ap is_some c.main_number.ensures ∙ any_from
+    (λ (f : tree.Function). main_kind ((known c.args.globals.now).kind f.name)) 0
+    (map function c.args.functions.now)

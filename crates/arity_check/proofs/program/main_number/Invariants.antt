@@ -7,4 +7,6 @@ use Rattle.arity_check.specs.Whole.{main_kind, main_at}
 use Rattle.arity_check.proofs.program.main_number.Given as goal
 
 abbrev pub invariant-loop-i : goal.invariant-loop-i
-invariant-loop-i l = position_from (λ (f : tree.Function). main_kind ((known l.globals).kind f.name)) l.i (map function (drop l.i l.functions)) ≡ main_at (known l.globals) (map function l.functions)
+invariant-loop-i l = position_from
+    (λ (f : tree.Function). main_kind ((known l.globals).kind f.name)) l.i
+    (map function (drop l.i l.functions)) ≡ main_at (known l.globals) (map function l.functions)

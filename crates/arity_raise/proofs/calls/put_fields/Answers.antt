@@ -6,4 +6,6 @@ pub loop-i-init : goal.loop-i-init
 loop-i-init c = no_fields c.args.cell c.args.fresh.now.next c.args.made.now c.args.args.now
 
 pub loop-i-preserved : goal.loop-i-preserved
-loop-i-preserved c = one_field_more c.args.cell _ _ _ c.loop-i.i (c.loop-i.i + 1) _ _ _ _ _ _ c.loop-i.invariant refl c.in_ok-put_field.ensures.stmts c.in_ok-put_field.ensures.args c.in_ok-put_field.ensures.next
+loop-i-preserved c = one_field_more c.args.cell _ _ _ c.loop-i.i (c.loop-i.i + 1) _ _ _ _ _ _
+    c.loop-i.invariant refl c.in_ok-put_field.ensures.stmts c.in_ok-put_field.ensures.args
+    c.in_ok-put_field.ensures.next

@@ -7,5 +7,6 @@ use Rattle.arity_raise.proofs.decide.plan.Given as goal
 abbrev pub invariant-loop-proc : goal.invariant-loop-proc
 invariant-loop-proc l = record {
   counted : l.f ≡ l.proc-index;
-  some : PlanSoFar (found l.flow) (program_of l.g) (take l.proc-index l.proc-items) l.proc-index l.procs l.initial.fresh.next l.fresh.next;
+  some : PlanSoFar (found l.flow) (program_of l.g) (take l.proc-index l.proc-items) l.proc-index
+      l.procs l.initial.fresh.next l.fresh.next;
 }

@@ -4,4 +4,8 @@ use Rattle.copy_prop.specs.Copies.{zeros_after}
 use Rattle.copy_prop.proofs.copies.node_words.Given as goal
 
 abbrev pub invariant-loop : goal.invariant-loop
-invariant-loop l = record { many : length l.words ≡ l.counter; same : zeros_after l.count l.words ≡ zeros_after l.count (TagWord l.fn.tag ∷ l.fields) }
+invariant-loop l = record {
+  many : length l.words ≡ l.counter;
+  same : zeros_after l.count l.words ≡ zeros_after l.count
+      (TagWord l.fn.tag ∷ l.fields);
+}

@@ -16,7 +16,9 @@ abbrev pub decreases-lean_stmt : goal.decreases-lean_stmt
 decreases-lean_stmt l = goal.size-lean_stmt l
 
 abbrev pub invariant-lean_op-loop-alt : goal.invariant-lean_op-loop-alt
-invariant-lean_op-loop-alt l = record { scrutinee : l.v ≡ l.initial.v; some : ArmsLean l.initial.uses l.uses l.made l.yielded }
+invariant-lean_op-loop-alt l = record
+    { scrutinee : l.v ≡ l.initial.v; some : ArmsLean l.initial.uses l.uses l.made l.yielded }
 
 abbrev pub invariant-without_idle_block-loop-stmt : goal.invariant-without_idle_block-loop-stmt
-invariant-without_idle_block-loop-stmt l = Leans l.fn.uses l.uses (end (act_of l.fn.block.last.value)) l.yielded l.made.items (act_of l.last)
+invariant-without_idle_block-loop-stmt l = Leans l.fn.uses l.uses
+    (end (act_of l.fn.block.last.value)) l.yielded l.made.items (act_of l.last)

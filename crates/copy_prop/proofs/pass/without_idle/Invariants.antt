@@ -5,4 +5,5 @@ use Rattle.copy_prop.specs.Lean.{without_idle_code}
 use Rattle.copy_prop.proofs.pass.without_idle.Given as goal
 
 abbrev pub invariant-loop-proc : goal.invariant-loop-proc
-invariant-loop-proc l = map procedure_of l.procs ≡ map (rewritten_procedure without_idle_code) (map procedure_of l.yielded)
+invariant-loop-proc l = map procedure_of l.procs ≡ map (rewritten_procedure without_idle_code)
+    (map procedure_of l.yielded)

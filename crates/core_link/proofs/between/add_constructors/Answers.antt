@@ -11,7 +11,12 @@ use Rattle.core_link.proofs.between.add_constructors.Goals as goal
 
 pub loop-constructor-preserved : goal.loop-constructor-preserved
 loop-constructor-preserved c =
-    put_next c.loop-constructor.earlier.keys c.insert.new.self.keys c.text.result.now _ _ (λ w. has (texts_of c.args.earlier.now.keys) w || has (constructor_texts (module_of c.args.module.now)) w)
-    (next_text data_of (λ (d : Data). text_in (module_of c.args.module.now) d.name) c.as_slice-constructor-items.result.now c.loop-constructor.constructor-index _ c.text.result.now c.loop-constructor-test.true c.text.ensures)
-    (inserted _ (λ a b. refl) c.text.result c.loop-constructor.earlier.keys c.insert.new.self.keys c.in_ok-insert.ensures.keys)
+    put_next c.loop-constructor.earlier.keys c.insert.new.self.keys c.text.result.now _ _
+    (λ w. has (texts_of c.args.earlier.now.keys) w || has
+    (constructor_texts (module_of c.args.module.now)) w)
+    (next_text data_of (λ (d : Data). text_in (module_of c.args.module.now) d.name)
+    c.as_slice-constructor-items.result.now c.loop-constructor.constructor-index _
+    c.text.result.now c.loop-constructor-test.true c.text.ensures)
+    (inserted _ (λ a b. refl) c.text.result c.loop-constructor.earlier.keys c.insert.new.self.keys
+    c.in_ok-insert.ensures.keys)
     c.loop-constructor.invariant

@@ -9,5 +9,7 @@ use Rattle.core_link.proofs.between.not_among.Given as goal
 
 abbrev pub invariant-loop-name : goal.invariant-loop-name
 invariant-loop-name l =
-    earliest (λ b. not (has (texts_of l.exports.keys) (text_in (module_of l.module) b.name.0))) (λ b. b.at) l.first (drop l.name-index l.names)
-    ≡ earliest (λ b. not (has (texts_of l.exports.keys) (text_in (module_of l.module) b.name.0))) (λ b. b.at) l.fn.found l.names
+    earliest (λ b. not (has (texts_of l.exports.keys) (text_in (module_of l.module) b.name.0)))
+    (λ b. b.at) l.first (drop l.name-index l.names)
+    ≡ earliest (λ b. not (has (texts_of l.exports.keys) (text_in (module_of l.module) b.name.0)))
+    (λ b. b.at) l.fn.found l.names

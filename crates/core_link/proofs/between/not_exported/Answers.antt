@@ -21,16 +21,32 @@ loop-import-preserved c =
     let items = c.as_slice-import-items.result.now in
     let i = c.loop-import.import-index in
     let x = c.import-item.result in
-    let next : drop i items ≡ x ∷ drop (i + 1) items = drop_next items i x c.loop-import-test.true ∙ ap (λ y. y ∷ drop (i + 1) items) (sym c.import-item.is) in
-    let before = ap (λ xs. earliest (is_lacking m entries) (place_of_name m entries) c.loop-import.first (flat_map pairs (map import_of xs))) (sym next) ∙ c.loop-import.invariant in
+    let next : drop i items ≡ x ∷ drop (i + 1) items
+    = drop_next items i x c.loop-import-test.true ∙ ap (λ y. y ∷ drop (i + 1) items)
+    (sym c.import-item.is) in
+    let before = ap
+    (λ xs. earliest (is_lacking m entries) (place_of_name m entries) c.loop-import.first
+    (flat_map pairs (map import_of xs))) (sym next) ∙ c.loop-import.invariant in
     elim c.match-get.branch [
       | in-Some w ↦
-          let found : found_at entries (text_in m x.from.name.0) ≡ Some w.in-Some.exported.now = ap (found_at entries) (sym c.text.ensures) ∙ sym c.get.ensures.value ∙ ap option_copied w.in-Some.is in
-          lacking_next m entries (import_of x) (map import_of (drop (i + 1) items)) c.loop-import.first c.match-get.first _
-          (w.first-is ∙ w.not_among-first.ensures ∙ ap (earliest (λ (b : Binder). not (has (texts_of w.in-Some.exported.now.keys) (text_in m b.name.0))) (λ (b : Binder). b.at) c.loop-import.first) w.as_slice.ensures
-          ∙ lacking_some m entries x.from.name.0 x.names c.loop-import.first w.in-Some.exported.now found) before
+          let found : found_at entries (text_in m x.from.name.0) ≡ Some w.in-Some.exported.now
+          = ap (found_at entries) (sym c.text.ensures) ∙ sym c.get.ensures.value ∙ ap
+          option_copied w.in-Some.is in
+          lacking_next m entries (import_of x) (map import_of (drop (i + 1) items))
+          c.loop-import.first c.match-get.first _
+          (w.first-is ∙ w.not_among-first.ensures ∙ ap
+          (earliest
+          (λ (b : Binder). not
+          (has (texts_of w.in-Some.exported.now.keys) (text_in m b.name.0)))
+          (λ (b : Binder). b.at) c.loop-import.first) w.as_slice.ensures
+          ∙ lacking_some m entries x.from.name.0 x.names c.loop-import.first w.in-Some.exported.now
+          found) before
       | in_default w ↦
-          let found : found_at entries (text_in m x.from.name.0) ≡ None = ap (found_at entries) (sym c.text.ensures) ∙ sym c.get.ensures.value ∙ ap option_copied w.in_default.is in
-          lacking_next m entries (import_of x) (map import_of (drop (i + 1) items)) c.loop-import.first c.match-get.first _
-          (w.first-is ∙ lacking_none m entries x.from.name.0 x.names c.loop-import.first found) before
+          let found : found_at entries (text_in m x.from.name.0) ≡ None
+          = ap (found_at entries) (sym c.text.ensures) ∙ sym c.get.ensures.value ∙ ap
+          option_copied w.in_default.is in
+          lacking_next m entries (import_of x) (map import_of (drop (i + 1) items))
+          c.loop-import.first c.match-get.first _
+          (w.first-is ∙ lacking_none m entries x.from.name.0 x.names c.loop-import.first found)
+          before
     ]

@@ -10,6 +10,12 @@ use Rattle.core_link.proofs.between.redeclared_constructor.Goals as goal
 
 pub loop-constructor-preserved : goal.loop-constructor-preserved
 loop-constructor-preserved c =
-    earliest_next data_of (λ (d : Data). has (texts_of c.args.earlier.now.keys) (text_in (module_of c.args.module.now) d.name)) (λ (d : Data). d.at) c.as_slice-constructor-items.result.now c.loop-constructor.constructor-index _
-    c.contains-is_again.result _ c.loop-constructor.first c.earlier_place_if-first.result _ c.loop-constructor-test.true
-    (c.contains-is_again.ensures ∙ has_texts c.args.earlier.now.keys c.text.result.now ∙ ap (has (texts_of c.args.earlier.now.keys)) c.text.ensures) refl c.earlier_place_if-first.ensures c.loop-constructor.invariant
+    earliest_next data_of
+    (λ (d : Data). has (texts_of c.args.earlier.now.keys)
+    (text_in (module_of c.args.module.now) d.name)) (λ (d : Data). d.at)
+    c.as_slice-constructor-items.result.now c.loop-constructor.constructor-index _
+    c.contains-is_again.result _ c.loop-constructor.first c.earlier_place_if-first.result _
+    c.loop-constructor-test.true
+    (c.contains-is_again.ensures ∙ has_texts c.args.earlier.now.keys c.text.result.now ∙ ap
+    (has (texts_of c.args.earlier.now.keys)) c.text.ensures) refl
+    c.earlier_place_if-first.ensures c.loop-constructor.invariant

@@ -8,5 +8,9 @@ use Rattle.core_link.proofs.between.unknown_import_module.Given as goal
 
 abbrev pub invariant-loop-import : goal.invariant-loop-import
 invariant-loop-import l =
-    earliest (λ i. is_none (found_at l.exports.entries (text_in (module_of l.module) i.from.name.0))) (λ i. i.from.at) l.first (map import_of (drop l.import-index l.import-items))
-    ≡ earliest (λ i. is_none (found_at l.exports.entries (text_in (module_of l.module) i.from.name.0))) (λ i. i.from.at) None (module_of l.module).imports
+    earliest (λ i. is_none
+    (found_at l.exports.entries (text_in (module_of l.module) i.from.name.0))) (λ i. i.from.at)
+    l.first (map import_of (drop l.import-index l.import-items))
+    ≡ earliest
+    (λ i. is_none (found_at l.exports.entries (text_in (module_of l.module) i.from.name.0)))
+    (λ i. i.from.at) None (module_of l.module).imports

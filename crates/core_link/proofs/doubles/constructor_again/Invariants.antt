@@ -7,5 +7,7 @@ use Rattle.core_link.proofs.doubles.constructor_again.Given as goal
 
 abbrev pub invariant-loop-i : goal.invariant-loop-i
 invariant-loop-i l =
-    earliest (λ q. is_redeclaration ((known l.globals).number q.1.name) q.0) (λ q. q.1.at) l.first (numbered l.i (map data_of (drop l.i l.constructors)))
-    ≡ earliest (λ q. is_redeclaration ((known l.globals).number q.1.name) q.0) (λ q. q.1.at) None (numbered 0 (map data_of l.constructors))
+    earliest (λ q. is_redeclaration ((known l.globals).number q.1.name) q.0) (λ q. q.1.at) l.first
+    (numbered l.i (map data_of (drop l.i l.constructors)))
+    ≡ earliest (λ q. is_redeclaration ((known l.globals).number q.1.name) q.0) (λ q. q.1.at) None
+    (numbered 0 (map data_of l.constructors))

@@ -13,8 +13,11 @@ loop-exports-preserved c =
       reads = λ name.
           let h = head name c.loop-exports.exports.items [] in
           c.loop-exports.invariant.reads name
-          ∙ takes (Exports h) (ExportWords h) c.loop-exports.parser.rest.now c.peek-next.result (word.Further further.Export) c.advance.new.self.rest.now refl c.peek-next.ensures t c.advance.ensures.rest refl
-          ∙ c.in_ok-words.ensures.reads (λ bs. ExportWords (head name bs [])) (λ bs. Exports (head name bs [])) (export_words name);
+          ∙ takes (Exports h) (ExportWords h) c.loop-exports.parser.rest.now c.peek-next.result
+          (word.Further further.Export) c.advance.new.self.rest.now refl c.peek-next.ensures t
+          c.advance.ensures.rest refl
+          ∙ c.in_ok-words.ensures.reads (λ bs. ExportWords (head name bs []))
+          (λ bs. Exports (head name bs [])) (export_words name);
       depth = c.words.ensures.depth ∙ c.advance.ensures.depth ∙ c.loop-exports.invariant.depth;
     }
 
@@ -24,5 +27,10 @@ returns-in_err-words-clause-reads c = λ name.
     let t : c.peek-next.result.token ≡ word.Further further.Export = search rules in
     let h = head name c.loop-exports.exports.items [] in
     let begun = c.loop-exports.invariant.reads name
-    ∙ takes (Exports h) (ExportWords h) c.loop-exports.parser.rest.now c.peek-next.result (word.Further further.Export) c.advance.new.self.rest.now refl c.peek-next.ensures t c.advance.ensures.rest refl in
-    rw (q.1, q.2) (fails_from c.in_err-words.field-0.0 _ _ begun (c.in_err-words.ensures.reads (λ bs. ExportWords (head name bs [])) (λ bs. Exports (head name bs [])) (export_words name)))
+    ∙ takes (Exports h) (ExportWords h) c.loop-exports.parser.rest.now c.peek-next.result
+    (word.Further further.Export) c.advance.new.self.rest.now refl c.peek-next.ensures t
+    c.advance.ensures.rest refl in
+    rw (q.1, q.2)
+    (fails_from c.in_err-words.field-0.0 _ _ begun
+    (c.in_err-words.ensures.reads (λ bs. ExportWords (head name bs []))
+    (λ bs. Exports (head name bs [])) (export_words name)))

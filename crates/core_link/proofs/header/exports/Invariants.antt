@@ -5,7 +5,8 @@ use Rattle.core_link.proofs.header.exports.Given as goal
 
 abbrev pub invariant-loop-exports : goal.invariant-loop-exports
 invariant-loop-exports l = record {
-  reads : (name : Binder) → run (Exports (head name [] [])) l.fn.parser.rest.now ≡ run (Exports (head name l.exports.items [])) l.parser.rest.now;
+  reads : (name : Binder) → run (Exports (head name [] [])) l.fn.parser.rest.now ≡ run
+      (Exports (head name l.exports.items [])) l.parser.rest.now;
   depth : l.parser.depth ≡ l.fn.parser.depth;
 }
 

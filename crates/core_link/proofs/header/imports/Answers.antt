@@ -13,18 +13,24 @@ loop-imports-preserved c =
     let t : c.peek-next.result.token ≡ word.Further further.Import = search rules in
     let before = map import_of c.loop-imports.imports.items in
     let i = import_of c.in_ok-import.import in
-    let after : map import_of c.push.new.self.items ≡ before ++ i ∷ [] = ap (map import_of) c.in_ok-push.ensures.items ∙ map_push import_of c.loop-imports.imports.items c.in_ok-import.import in
+    let after : map import_of c.push.new.self.items ≡ before ++ i ∷ []
+    = ap (map import_of) c.in_ok-push.ensures.items ∙ map_push import_of
+    c.loop-imports.imports.items c.in_ok-import.import in
     let rest = c.import.new.parser.rest.now in
     record {
       reads = λ name exports.
           let h = head name exports before in
           c.loop-imports.invariant.reads name exports
-          ∙ takes (import_state name exports before) (ImportName h) c.loop-imports.parser.rest.now c.peek-next.result (word.Further further.Import) c.advance.new.self.rest.now (state_bad name exports before) c.peek-next.ensures t c.advance.ensures.rest (import_word name exports before c.peek-next.result.at)
+          ∙ takes (import_state name exports before) (ImportName h) c.loop-imports.parser.rest.now
+          c.peek-next.result (word.Further further.Import) c.advance.new.self.rest.now
+          (state_bad name exports before) c.peek-next.ensures t c.advance.ensures.rest
+          (import_word name exports before c.peek-next.result.at)
           ∙ c.in_ok-import.ensures.reads h
           ∙ one_import name exports before i rest
           ∙ ap (λ w. run (import_state name exports w) rest) (sym after);
       no_export = subst (λ w. NoExport w rest) (sym after) (no_export_last before i rest);
-      depth = c.in_ok-import.ensures.depth ∙ c.advance.ensures.depth ∙ c.loop-imports.invariant.depth;
+      depth = c.in_ok-import.ensures.depth ∙ c.advance.ensures.depth ∙
+          c.loop-imports.invariant.depth;
     }
 
 pub returns-in_err-import-clause-reads : goal.returns-in_err-import-clause-reads
@@ -34,7 +40,10 @@ returns-in_err-import-clause-reads c = λ name exports.
     let before = map import_of c.loop-imports.imports.items in
     let h = head name exports before in
     let begun = c.loop-imports.invariant.reads name exports
-    ∙ takes (import_state name exports before) (ImportName h) c.loop-imports.parser.rest.now c.peek-next.result (word.Further further.Import) c.advance.new.self.rest.now (state_bad name exports before) c.peek-next.ensures t c.advance.ensures.rest (import_word name exports before c.peek-next.result.at) in
+    ∙ takes (import_state name exports before) (ImportName h) c.loop-imports.parser.rest.now
+    c.peek-next.result (word.Further further.Import) c.advance.new.self.rest.now
+    (state_bad name exports before) c.peek-next.ensures t c.advance.ensures.rest
+    (import_word name exports before c.peek-next.result.at) in
     rw (q.1, q.2) (fails_from c.in_err-import.field-0.0 _ _ begun (c.in_err-import.ensures.reads h))
 
 pub returns-then-ne-clause-reads : goal.returns-then-ne-clause-reads
@@ -42,4 +51,6 @@ returns-then-ne-clause-reads c = λ name exports.
     let before = map import_of c.loop-imports.imports.items in
     let ts = c.loop-imports.parser.rest.now in
     c.loop-imports.invariant.reads name exports
-    ∙ declares name exports before ts c.loop-imports.invariant.no_export (λ e. let f : c.peek-next.result.token ≡ word.Further further.Import = ap (λ y. y.token) c.peek-next.ensures ∙ e in search rules)
+    ∙ declares name exports before ts c.loop-imports.invariant.no_export
+    (λ e. let f : c.peek-next.result.token ≡ word.Further further.Import
+    = ap (λ y. y.token) c.peek-next.ensures ∙ e in search rules)

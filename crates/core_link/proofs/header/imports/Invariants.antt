@@ -7,7 +7,9 @@ use Rattle.core_link.proofs.header.imports.Given as goal
 
 abbrev pub invariant-loop-imports : goal.invariant-loop-imports
 invariant-loop-imports l = record {
-  reads : (name : Binder) (exports : List Binder) → run (Exports (head name exports [])) l.fn.parser.rest.now ≡ run (import_state name exports (map import_of l.imports.items)) l.parser.rest.now;
+  reads : (name : Binder) (exports : List Binder) → run (Exports (head name exports []))
+      l.fn.parser.rest.now ≡ run (import_state name exports (map import_of l.imports.items))
+      l.parser.rest.now;
   no_export : NoExport (map import_of l.imports.items) l.parser.rest.now;
   depth : l.parser.depth ≡ l.fn.parser.depth;
 }

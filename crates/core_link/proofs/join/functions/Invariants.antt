@@ -5,4 +5,5 @@ use Rattle.core_link.specs.Renaming.{numbers_of, renamed_functions}
 use Rattle.core_link.proofs.join.functions.Given as goal
 
 abbrev pub invariant-loop-function : goal.invariant-loop-function
-invariant-loop-function l = map function l.made ≡ renamed_functions (numbers_of l.renamer.renaming.now) (known l.renamer.globals.now) 0 (map function l.yielded)
+invariant-loop-function l = map function l.made ≡ renamed_functions
+    (numbers_of l.renamer.renaming.now) (known l.renamer.globals.now) 0 (map function l.yielded)

@@ -9,5 +9,8 @@ use Rattle.core_link.proofs.join.in_order.Goals as goal
 
 pub returns-clause-order : goal.returns-clause-order
 returns-clause-order c =
-    c.sort_unstable_by.ensures.sorted (λ (a b : code.Module). is_lt (slice_cmp nat_cmp (name_of (module_of a)) (name_of (module_of b)))) (ranks_by nat_list_cmp_total (λ (m : code.Module). name_of (module_of m)))
+    c.sort_unstable_by.ensures.sorted
+    (λ (a b : code.Module). is_lt
+    (slice_cmp nat_cmp (name_of (module_of a)) (name_of (module_of b))))
+    (ranks_by nat_list_cmp_total (λ (m : code.Module). name_of (module_of m)))
     (answers_always _ _ _ (λ f a r g h. search rules))

@@ -23,34 +23,51 @@ returns-in-Some-clause-refused c =
     let short : length c.args.text.now ≤ 1048576 = omega arith in
     let lexemes = c.in_ok-lexed.lexed.lexemes.items in
     let names = texts_of c.in_ok-lexed.lexed.names.keys in
-    let m : misnamed names lexemes ≡ Some c.in-Some.at = sym (ap (λ v. misnamed (texts_of v) lexemes) c.as_slice.ensures.keys) ∙ ap (misnamed (texts_of c.as_slice.result.now)) (sym c.as_slice-2.ensures.value) ∙ sym c.misnamed.ensures ∙ c.in-Some.is in
+    let m : misnamed names lexemes ≡ Some c.in-Some.at
+    = sym (ap (λ v. misnamed (texts_of v) lexemes) c.as_slice.ensures.keys) ∙ ap
+    (misnamed (texts_of c.as_slice.result.now)) (sym c.as_slice-2.ensures.value) ∙ sym
+    c.misnamed.ensures ∙ c.in-Some.is in
     misnamed_refused c.args.text.now lexemes names c.in-Some.at short c.in_ok-lexed.ensures m
 
 pub returns-in_err-header-clause-refused : goal.returns-in_err-header-clause-refused
 returns-in_err-header-clause-refused c =
-    let q = err_from_is_err_and c.from_residual-in_err-header.result c.from_residual-in_err-header.ensures.1 in
+    let q = err_from_is_err_and c.from_residual-in_err-header.result
+    c.from_residual-in_err-header.ensures.1 in
     let short : length c.args.text.now ≤ 1048576 = omega arith in
     let lexemes = c.in_ok-lexed.lexed.lexemes.items in
     let names = texts_of c.in_ok-lexed.lexed.names.keys in
     let e = c.in_err-header.field-0.0 in
-    let m : misnamed names lexemes ≡ None = sym (ap (λ v. misnamed (texts_of v) lexemes) c.as_slice.ensures.keys) ∙ ap (misnamed (texts_of c.as_slice.result.now)) (sym c.as_slice-2.ensures.value) ∙ sym c.misnamed.ensures ∙ c.in_default.is in
-    let rest_is : c.new-parser.result.rest.now ≡ lexemes = c.new-parser.ensures.rest ∙ c.as_slice-3.ensures.value in
-    let fails : Fails e (run Start lexemes) = subst (λ w. Fails e (run Start w)) rest_is c.in_err-header.ensures.reads in
+    let m : misnamed names lexemes ≡ None = sym
+    (ap (λ v. misnamed (texts_of v) lexemes) c.as_slice.ensures.keys) ∙ ap
+    (misnamed (texts_of c.as_slice.result.now)) (sym c.as_slice-2.ensures.value) ∙ sym
+    c.misnamed.ensures ∙ c.in_default.is in
+    let rest_is : c.new-parser.result.rest.now ≡ lexemes
+    = c.new-parser.ensures.rest ∙ c.as_slice-3.ensures.value in
+    let fails : Fails e (run Start lexemes) = subst (λ w. Fails e (run Start w)) rest_is
+    c.in_err-header.ensures.reads in
     rw (q.1, q.2) (refused c.args.text.now lexemes names short c.in_ok-lexed.ensures m e fails)
 
 pub returns-in_err-declarations-clause-refused : goal.returns-in_err-declarations-clause-refused
 returns-in_err-declarations-clause-refused c =
-    let q = err_from_is_err_and c.from_residual-in_err-declarations.result c.from_residual-in_err-declarations.ensures.1 in
+    let q = err_from_is_err_and c.from_residual-in_err-declarations.result
+    c.from_residual-in_err-declarations.ensures.1 in
     let short : length c.args.text.now ≤ 1048576 = omega arith in
     let lexemes = c.in_ok-lexed.lexed.lexemes.items in
     let names = texts_of c.in_ok-lexed.lexed.names.keys in
     let e = c.in_err-declarations.field-0.0 in
-    let m : misnamed names lexemes ≡ None = sym (ap (λ v. misnamed (texts_of v) lexemes) c.as_slice.ensures.keys) ∙ ap (misnamed (texts_of c.as_slice.result.now)) (sym c.as_slice-2.ensures.value) ∙ sym c.misnamed.ensures ∙ c.in_default.is in
-    let rest_is : c.new-parser.result.rest.now ≡ lexemes = c.new-parser.ensures.rest ∙ c.as_slice-3.ensures.value in
+    let m : misnamed names lexemes ≡ None = sym
+    (ap (λ v. misnamed (texts_of v) lexemes) c.as_slice.ensures.keys) ∙ ap
+    (misnamed (texts_of c.as_slice.result.now)) (sym c.as_slice-2.ensures.value) ∙ sym
+    c.misnamed.ensures ∙ c.in_default.is in
+    let rest_is : c.new-parser.result.rest.now ≡ lexemes
+    = c.new-parser.ensures.rest ∙ c.as_slice-3.ensures.value in
     let h = parts_of c.in_ok-header.header in
     let rest = c.read.new.parser.rest.now in
-    let begun : run Start lexemes ≡ run (Declares h (core.top [])) rest = ap (run Start) (sym rest_is) ∙ c.in_ok-header.ensures.reads in
-    rw (q.1, q.2) (declarations_refused c.args.text.now lexemes names short c.in_ok-lexed.ensures m h rest e begun c.in_err-declarations.ensures)
+    let begun : run Start lexemes ≡ run (Declares h (core.top [])) rest
+    = ap (run Start) (sym rest_is) ∙ c.in_ok-header.ensures.reads in
+    rw (q.1, q.2)
+    (declarations_refused c.args.text.now lexemes names short c.in_ok-lexed.ensures m h rest e
+    begun c.in_err-declarations.ensures)
 
 pub copied_names-requires : goal.copied_names-requires
 copied_names-requires c =
@@ -63,12 +80,18 @@ returns-clause-found c =
     let lexemes = c.in_ok-lexed.lexed.lexemes.items in
     let names = texts_of c.in_ok-lexed.lexed.names.keys in
     let decls = c.in_ok-declarations.declarations in
-    let m : misnamed names lexemes ≡ None = sym (ap (λ v. misnamed (texts_of v) lexemes) c.as_slice.ensures.keys) ∙ ap (misnamed (texts_of c.as_slice.result.now)) (sym c.as_slice-2.ensures.value) ∙ sym c.misnamed.ensures ∙ c.in_default.is in
-    let rest_is : c.new-parser.result.rest.now ≡ lexemes = c.new-parser.ensures.rest ∙ c.as_slice-3.ensures.value in
+    let m : misnamed names lexemes ≡ None = sym
+    (ap (λ v. misnamed (texts_of v) lexemes) c.as_slice.ensures.keys) ∙ ap
+    (misnamed (texts_of c.as_slice.result.now)) (sym c.as_slice-2.ensures.value) ∙ sym
+    c.misnamed.ensures ∙ c.in_default.is in
+    let rest_is : c.new-parser.result.rest.now ≡ lexemes
+    = c.new-parser.ensures.rest ∙ c.as_slice-3.ensures.value in
     let h = parts_of c.in_ok-header.header in
     let rest = c.read.new.parser.rest.now in
-    let begun : run Start lexemes ≡ run (Declares h (core.top [])) rest = ap (run Start) (sym rest_is) ∙ c.in_ok-header.ensures.reads in
-    let f = found c.args.text.now lexemes names short c.in_ok-lexed.ensures m h rest decls begun c.in_ok-declarations.ensures in
+    let begun : run Start lexemes ≡ run (Declares h (core.top [])) rest
+    = ap (run Start) (sym rest_is) ∙ c.in_ok-header.ensures.reads in
+    let f = found c.args.text.now lexemes names short c.in_ok-lexed.ensures m h rest decls begun
+    c.in_ok-declarations.ensures in
     let read : Module = record {
       names = c.in_ok-copied_names.field-0;
       name = c.in_ok-header.header.name;
@@ -93,12 +116,18 @@ returns-clause-readable c =
     let lexemes = c.in_ok-lexed.lexed.lexemes.items in
     let names = texts_of c.in_ok-lexed.lexed.names.keys in
     let decls = c.in_ok-declarations.declarations in
-    let m : misnamed names lexemes ≡ None = sym (ap (λ v. misnamed (texts_of v) lexemes) c.as_slice.ensures.keys) ∙ ap (misnamed (texts_of c.as_slice.result.now)) (sym c.as_slice-2.ensures.value) ∙ sym c.misnamed.ensures ∙ c.in_default.is in
-    let rest_is : c.new-parser.result.rest.now ≡ lexemes = c.new-parser.ensures.rest ∙ c.as_slice-3.ensures.value in
+    let m : misnamed names lexemes ≡ None = sym
+    (ap (λ v. misnamed (texts_of v) lexemes) c.as_slice.ensures.keys) ∙ ap
+    (misnamed (texts_of c.as_slice.result.now)) (sym c.as_slice-2.ensures.value) ∙ sym
+    c.misnamed.ensures ∙ c.in_default.is in
+    let rest_is : c.new-parser.result.rest.now ≡ lexemes
+    = c.new-parser.ensures.rest ∙ c.as_slice-3.ensures.value in
     let h = parts_of c.in_ok-header.header in
     let rest = c.read.new.parser.rest.now in
-    let begun : run Start lexemes ≡ run (Declares h (core.top [])) rest = ap (run Start) (sym rest_is) ∙ c.in_ok-header.ensures.reads in
-    let f = found c.args.text.now lexemes names short c.in_ok-lexed.ensures m h rest decls begun c.in_ok-declarations.ensures in
+    let begun : run Start lexemes ≡ run (Declares h (core.top [])) rest
+    = ap (run Start) (sym rest_is) ∙ c.in_ok-header.ensures.reads in
+    let f = found c.args.text.now lexemes names short c.in_ok-lexed.ensures m h rest decls begun
+    c.in_ok-declarations.ensures in
     let read : Module = record {
       names = c.in_ok-copied_names.field-0;
       name = c.in_ok-header.header.name;
@@ -123,10 +152,16 @@ returns-clause-unbroken c =
     let lexemes = c.in_ok-lexed.lexed.lexemes.items in
     let names = texts_of c.in_ok-lexed.lexed.names.keys in
     let decls = c.in_ok-declarations.declarations in
-    let m : misnamed names lexemes ≡ None = sym (ap (λ v. misnamed (texts_of v) lexemes) c.as_slice.ensures.keys) ∙ ap (misnamed (texts_of c.as_slice.result.now)) (sym c.as_slice-2.ensures.value) ∙ sym c.misnamed.ensures ∙ c.in_default.is in
-    let rest_is : c.new-parser.result.rest.now ≡ lexemes = c.new-parser.ensures.rest ∙ c.as_slice-3.ensures.value in
+    let m : misnamed names lexemes ≡ None = sym
+    (ap (λ v. misnamed (texts_of v) lexemes) c.as_slice.ensures.keys) ∙ ap
+    (misnamed (texts_of c.as_slice.result.now)) (sym c.as_slice-2.ensures.value) ∙ sym
+    c.misnamed.ensures ∙ c.in_default.is in
+    let rest_is : c.new-parser.result.rest.now ≡ lexemes
+    = c.new-parser.ensures.rest ∙ c.as_slice-3.ensures.value in
     let h = parts_of c.in_ok-header.header in
     let rest = c.read.new.parser.rest.now in
-    let begun : run Start lexemes ≡ run (Declares h (core.top [])) rest = ap (run Start) (sym rest_is) ∙ c.in_ok-header.ensures.reads in
-    let f = found c.args.text.now lexemes names short c.in_ok-lexed.ensures m h rest decls begun c.in_ok-declarations.ensures in
+    let begun : run Start lexemes ≡ run (Declares h (core.top [])) rest
+    = ap (run Start) (sym rest_is) ∙ c.in_ok-header.ensures.reads in
+    let f = found c.args.text.now lexemes names short c.in_ok-lexed.ensures m h rest decls begun
+    c.in_ok-declarations.ensures in
     f.unbroken

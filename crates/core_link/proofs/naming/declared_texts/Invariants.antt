@@ -7,5 +7,8 @@ use Rattle.core_link.proofs.naming.declared_texts.Given as goal
 
 abbrev pub invariant-loop-function : goal.invariant-loop-function
 invariant-loop-function l =
-    l.texts.items ++ map (λ f. global_text (text_in (module_of l.module) f.name) (name_of (module_of l.module))) (map function (drop l.function-index l.function-items))
-    ≡ map (λ f. global_text (text_in (module_of l.module) f.name) (name_of (module_of l.module))) (module_of l.module).functions
+    l.texts.items ++ map
+    (λ f. global_text (text_in (module_of l.module) f.name) (name_of (module_of l.module)))
+    (map function (drop l.function-index l.function-items))
+    ≡ map (λ f. global_text (text_in (module_of l.module) f.name) (name_of (module_of l.module)))
+    (module_of l.module).functions

@@ -8,11 +8,18 @@ use Rattle.core_link.proofs.naming.renamings.Goals as goal
 pub loop-module-preserved : goal.loop-module-preserved
 loop-module-preserved c = record {
   different = c.in_ok-renaming.ensures.grows.different c.loop-module.invariant.different;
-  numbered = more_modules (texts_of c.loop-module.known.keys) (texts_of c.renaming.new.known.keys) c.args.modules.now c.loop-module.made.items c.push.new.self.items c.loop-module.module-index c.module-item.result c.in_ok-renaming.field-0
-      (omega arith) c.module-item.is c.in_ok-renaming.ensures.grows c.loop-module.invariant.numbered c.in_ok-renaming.ensures.numbered c.in_ok-push.ensures.items;
+  numbered = more_modules (texts_of c.loop-module.known.keys) (texts_of c.renaming.new.known.keys)
+      c.args.modules.now c.loop-module.made.items c.push.new.self.items c.loop-module.module-index
+      c.module-item.result c.in_ok-renaming.field-0
+      (omega arith) c.module-item.is c.in_ok-renaming.ensures.grows c.loop-module.invariant.numbered
+      c.in_ok-renaming.ensures.numbered c.in_ok-push.ensures.items;
 }
 
 pub returns : goal.returns
 returns c =
-    subst (λ v. AllZip (NumberedIn v) c.args.modules.now c.loop-module.made.items) (sym c.in_ok-copied_names.ensures)
-    (subst (λ ms. AllZip (NumberedIn (texts_of c.loop-module.known.keys)) ms c.loop-module.made.items) (take_all c.loop-module.module-index c.args.modules.now (omega arith)) c.loop-module.invariant.numbered)
+    subst (λ v. AllZip (NumberedIn v) c.args.modules.now c.loop-module.made.items)
+    (sym c.in_ok-copied_names.ensures)
+    (subst (λ ms. AllZip (NumberedIn (texts_of c.loop-module.known.keys)) ms
+    c.loop-module.made.items)
+    (take_all c.loop-module.module-index c.args.modules.now (omega arith))
+    c.loop-module.invariant.numbered)

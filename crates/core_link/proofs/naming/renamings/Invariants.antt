@@ -10,5 +10,6 @@ use Rattle.core_link.proofs.naming.renamings.Given as goal
 abbrev pub invariant-loop-module : goal.invariant-loop-module
 invariant-loop-module l = record {
   different : AreDistinct (texts_of l.known.keys);
-  numbered : AllZip (λ (n : Named). AreNumbered (texts_of l.known.keys) (module_of n.part)) (take l.module-index l.modules) l.made.items;
+  numbered : AllZip (λ (n : Named). AreNumbered (texts_of l.known.keys) (module_of n.part))
+      (take l.module-index l.modules) l.made.items;
 }

@@ -9,5 +9,7 @@ use Rattle.core_link.proofs.refuse.declares_main.Given as goal
 
 abbrev pub invariant-loop-function : goal.invariant-loop-function
 invariant-loop-function l =
-    list_any (λ f. bytes_eq (text_in (module_of l.module) f.name) (codes "main")) (map function (drop l.function-index l.function-items))
-    ≡ list_any (λ f. bytes_eq (text_in (module_of l.module) f.name) (codes "main")) (module_of l.module).functions
+    list_any (λ f. bytes_eq (text_in (module_of l.module) f.name) (codes "main"))
+    (map function (drop l.function-index l.function-items))
+    ≡ list_any (λ f. bytes_eq (text_in (module_of l.module) f.name) (codes "main"))
+    (module_of l.module).functions

@@ -12,7 +12,8 @@ use Rattle.core_link.proofs.refuse.first_between.Goals as goal
 
 pub bounds-takings-i : goal.bounds-takings-i
 bounds-takings-i c =
-    let e = zip_length AreImportFaults (map module_of c.args.modules.now) c.args.takings.now c.requires in
+    let e = zip_length AreImportFaults (map module_of c.args.modules.now) c.args.takings.now
+    c.requires in
     let f = length_map module_of c.args.modules.now in
     let l = c.loop-i-test.true in
     omega (arith, e, f, l)
@@ -22,19 +23,31 @@ returns-in-Some c =
     let ms : List Module = map module_of c.args.modules.now in
     let i = c.loop-i.i in
     let x = c.index-modules-i.result in
-    let is : slice_get ms i ≡ Some (module_of x) = map_get module_of c.args.modules.now i x (get_is c.args.modules.now i x c.loop-i-test.true c.index-modules-i.is) in
-    let found = c.in_ok-first.ensures ms i is c.in_ok-exports.ensures c.loop-i.invariant.holds (zip_or AreImportFaults ms c.args.takings.now i (module_of x) _ c.requires is) in
+    let is : slice_get ms i ≡ Some (module_of x) = map_get module_of c.args.modules.now i x
+    (get_is c.args.modules.now i x c.loop-i-test.true c.index-modules-i.is) in
+    let found = c.in_ok-first.ensures ms i is c.in_ok-exports.ensures c.loop-i.invariant.holds
+    (zip_or AreImportFaults ms c.args.takings.now i (module_of x) _ c.requires is) in
     let number : i ≡ c.in-Ok.file = omega arith in
-    subst (λ n. IsFirstBetween ms (Some (n, c.in-Some.found))) number (first_at ms i c.in-Some.found c.loop-i.invariant.none (subst (NamesFirstBrokenRule (λ k at. BreaksInterModuleRule ms k i at)) c.in-Some.is found.0))
+    subst (λ n. IsFirstBetween ms (Some (n, c.in-Some.found))) number
+    (first_at ms i c.in-Some.found c.loop-i.invariant.none
+    (subst (NamesFirstBrokenRule (λ k at. BreaksInterModuleRule ms k i at)) c.in-Some.is
+    found.0))
 
 pub loop-i-preserved : goal.loop-i-preserved
 loop-i-preserved c =
     let ms : List Module = map module_of c.args.modules.now in
     let i = c.loop-i.i in
     let x = c.index-modules-i.result in
-    let is : slice_get ms i ≡ Some (module_of x) = map_get module_of c.args.modules.now i x (get_is c.args.modules.now i x c.loop-i-test.true c.index-modules-i.is) in
-    let found = c.in_ok-first.ensures ms i is c.in_ok-exports.ensures c.loop-i.invariant.holds (zip_or AreImportFaults ms c.args.takings.now i (module_of x) _ c.requires is) in
-    record { holds = found.1; none = none_next ms i c.loop-i.invariant.none (subst (NamesFirstBrokenRule (λ k at. BreaksInterModuleRule ms k i at)) c.in_default-first.is found.0) }
+    let is : slice_get ms i ≡ Some (module_of x) = map_get module_of c.args.modules.now i x
+    (get_is c.args.modules.now i x c.loop-i-test.true c.index-modules-i.is) in
+    let found = c.in_ok-first.ensures ms i is c.in_ok-exports.ensures c.loop-i.invariant.holds
+    (zip_or AreImportFaults ms c.args.takings.now i (module_of x) _ c.requires is) in
+    record {
+      holds = found.1;
+      none = none_next ms i c.loop-i.invariant.none
+          (subst (NamesFirstBrokenRule (λ k at. BreaksInterModuleRule ms k i at))
+          c.in_default-first.is found.0);
+    }
 
 pub returns : goal.returns
 returns c =

@@ -5,4 +5,5 @@ use Rattle.core_link.specs.Shared.{declares_main}
 use Rattle.core_link.proofs.refuse.have_main.Given as goal
 
 abbrev pub invariant-loop-module : goal.invariant-loop-module
-invariant-loop-module l = list_any declares_main (map module_of (drop l.module-index l.modules)) ≡ list_any declares_main (map module_of l.modules)
+invariant-loop-module l = list_any declares_main (map module_of (drop l.module-index l.modules)) ≡
+    list_any declares_main (map module_of l.modules)

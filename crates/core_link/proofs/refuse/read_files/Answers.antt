@@ -17,8 +17,12 @@ returns-in_err-read-clause-refused c =
     let r = c.in_err-read.field-0.0 in
     let number : c.in-Ok.file ≡ i = omega arith in
     let is : slice_get all i ≡ Some text = get_is all i text c.loop-i-test.true c.index-all-i.is in
-    let cause : IsCauseIn text i r = subst (λ n. IsCauseIn text n r) number (subst (λ t. IsCauseIn t c.in-Ok.file r) c.as_slice.ensures c.in_err-read.ensures.refused) in
-    rw (q.1, q.2) (subst (λ ts. IsCause ts r) c.as_slice-all.ensures (file_refused all i text r is c.loop-i.invariant.sound cause))
+    let cause : IsCauseIn text i r = subst (λ n. IsCauseIn text n r) number
+    (subst (λ t. IsCauseIn t c.in-Ok.file r) c.as_slice.ensures c.in_err-read.ensures.refused)
+    in
+    rw (q.1, q.2)
+    (subst (λ ts. IsCause ts r) c.as_slice-all.ensures
+    (file_refused all i text r is c.loop-i.invariant.sound cause))
 
 pub loop-i-preserved : goal.loop-i-preserved
 loop-i-preserved c =
@@ -27,8 +31,12 @@ loop-i-preserved c =
     let text = c.index-all-i.result in
     let m : Module = module_of c.in_ok-read.read.module in
     let is : slice_get all i ≡ Some text = get_is all i text c.loop-i-test.true c.index-all-i.is in
-    let found : IsModuleText text m = subst (λ t. IsModuleText t m) c.as_slice.ensures c.in_ok-read.ensures.found in
+    let found : IsModuleText text m = subst (λ t. IsModuleText t m) c.as_slice.ensures
+    c.in_ok-read.ensures.found in
     record {
-      read = kept_next all i text (map module_of c.loop-i.modules.items) (map module_of c.keep.new.modules.items) m c.loop-i.takings.items c.keep.new.takings.items is c.loop-i.invariant.read found c.in_ok-read.ensures.readable c.in_ok-keep.ensures;
-      sound = sound_next all i text is c.loop-i.invariant.sound (subst IsSound c.as_slice.ensures c.in_ok-read.ensures.unbroken);
+      read = kept_next all i text (map module_of c.loop-i.modules.items)
+          (map module_of c.keep.new.modules.items) m c.loop-i.takings.items c.keep.new.takings.items
+          is c.loop-i.invariant.read found c.in_ok-read.ensures.readable c.in_ok-keep.ensures;
+      sound = sound_next all i text is c.loop-i.invariant.sound
+          (subst IsSound c.as_slice.ensures c.in_ok-read.ensures.unbroken);
     }

@@ -8,4 +8,7 @@ use Rattle.core_link.proofs.reserved.+reserved_in.Given as goal
 
 abbrev pub invariant-in_expr-loop-alt : goal.invariant-in_expr-loop-alt
 invariant-in_expr-loop-alt l =
-    earliest (λ b. is_reserved (known l.globals) b.name.0) binder_place l.first (bound_in_alts (alts_of (map alternative (drop l.alt-index l.alt-items)))) ≡ earliest (λ b. is_reserved (known l.globals) b.name.0) binder_place l.initial.first (bound_in_alts (alts_of (map alternative l.alt-items)))
+    earliest (λ b. is_reserved (known l.globals) b.name.0) binder_place l.first
+    (bound_in_alts (alts_of (map alternative (drop l.alt-index l.alt-items)))) ≡ earliest
+    (λ b. is_reserved (known l.globals) b.name.0) binder_place l.initial.first
+    (bound_in_alts (alts_of (map alternative l.alt-items)))

@@ -5,4 +5,6 @@ use Rattle.core_link.specs.Found.{earliest, binder_place}
 use Rattle.core_link.proofs.reserved.among.Given as goal
 
 abbrev pub invariant-loop-binder : goal.invariant-loop-binder
-invariant-loop-binder l = earliest (λ b. is_reserved (known l.globals) b.name.0) binder_place l.first (drop l.binder-index l.binders) ≡ earliest (λ b. is_reserved (known l.globals) b.name.0) binder_place l.fn.found l.binders
+invariant-loop-binder l = earliest (λ b. is_reserved (known l.globals) b.name.0) binder_place
+    l.first (drop l.binder-index l.binders) ≡ earliest (λ b. is_reserved (known l.globals) b.name.0)
+    binder_place l.fn.found l.binders

@@ -7,5 +7,7 @@ pub returns-then-value-gt-LARGEST : goal.returns-then-value-gt-LARGEST
 returns-then-value-gt-LARGEST c =
     let digits = c.args.digits.now in
     let h = next_digit c.loop-digit.value c.loop-digit.digit-index digits (omega arith) in
-    let least = at_least (10 * c.loop-digit.value + (slice_index digits c.loop-digit.digit-index - 48)) (drop (c.loop-digit.digit-index + 1) digits) in
+    let least = at_least
+    (10 * c.loop-digit.value + (slice_index digits c.loop-digit.digit-index - 48))
+    (drop (c.loop-digit.digit-index + 1) digits) in
     omega (arith, least, h, c.loop-digit.invariant.same, c.saturating_sub.ensures)

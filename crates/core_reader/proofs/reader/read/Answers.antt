@@ -16,12 +16,16 @@ returns-then-text-clause-refused c = too_long c.args.text.now (omega arith)
 
 pub returns-in_err-declarations-clause-refused : goal.returns-in_err-declarations-clause-refused
 returns-in_err-declarations-clause-refused c =
-    let q = err_from_is_err_and c.from_residual-in_err-declarations.result c.from_residual-in_err-declarations.ensures.1 in
+    let q = err_from_is_err_and c.from_residual-in_err-declarations.result
+    c.from_residual-in_err-declarations.ensures.1 in
     let short : length c.args.text.now ≤ 1048576 = omega arith in
     let e = c.in_err-declarations.field-0.0 in
     let lexemes = c.in_ok-lexed.lexed.lexemes.items in
-    let parsed : ReadsProgram lexemes (Err e) = subst (λ w. ReadsProgram w (Err e)) c.as_slice.ensures.value c.in_err-declarations.ensures in
-    rw (q.1, q.2) (refused c.args.text.now lexemes (texts_of c.in_ok-lexed.lexed.names.keys) e short c.in_ok-lexed.ensures parsed)
+    let parsed : ReadsProgram lexemes (Err e) = subst (λ w. ReadsProgram w (Err e))
+    c.as_slice.ensures.value c.in_err-declarations.ensures in
+    rw (q.1, q.2)
+    (refused c.args.text.now lexemes (texts_of c.in_ok-lexed.lexed.names.keys) e short
+    c.in_ok-lexed.ensures parsed)
 
 pub copied_names-requires : goal.copied_names-requires
 copied_names-requires c =
@@ -34,10 +38,22 @@ returns-clause-found c =
     let lexemes = c.in_ok-lexed.lexed.lexemes.items in
     let names = texts_of c.in_ok-lexed.lexed.names.keys in
     let decls = c.in_ok-declarations.declarations in
-    let parsed : ReadsProgram lexemes (Ok decls) = subst (λ w. ReadsProgram w (Ok decls)) c.as_slice.ensures.value c.in_ok-declarations.ensures in
+    let parsed : ReadsProgram lexemes (Ok decls) = subst (λ w. ReadsProgram w (Ok decls))
+    c.as_slice.ensures.value c.in_ok-declarations.ensures in
     let f = found c.args.text.now lexemes names decls short c.in_ok-lexed.ensures parsed in
-    let p : Program = record { names = c.in_ok-copied_names.field-0; constructors = map data_of c.from_vec.result; functions = map function c.from_vec-2.result } in
-    let same : program_of names decls ≡ p = λ i. record { names = sym c.in_ok-copied_names.ensures i; constructors = map data_of (sym c.from_vec.ensures i); functions = map function (sym c.from_vec-2.ensures i) } in
+    let p : Program = record {
+      names = c.in_ok-copied_names.field-0;
+      constructors
+          = map data_of c.from_vec.result;
+      functions = map function c.from_vec-2.result;
+    } in
+    let same : program_of names decls ≡ p = λ i. record {
+      names = sym c.in_ok-copied_names.ensures i;
+      constructors
+          = map data_of (sym c.from_vec.ensures i);
+      functions
+          = map function (sym c.from_vec-2.ensures i);
+    } in
     subst (IsText c.args.text.now) same f.is_text
 
 pub returns-clause-unbroken : goal.returns-clause-unbroken
@@ -46,7 +62,8 @@ returns-clause-unbroken c =
     let lexemes = c.in_ok-lexed.lexed.lexemes.items in
     let names = texts_of c.in_ok-lexed.lexed.names.keys in
     let decls = c.in_ok-declarations.declarations in
-    let parsed : ReadsProgram lexemes (Ok decls) = subst (λ w. ReadsProgram w (Ok decls)) c.as_slice.ensures.value c.in_ok-declarations.ensures in
+    let parsed : ReadsProgram lexemes (Ok decls) = subst (λ w. ReadsProgram w (Ok decls))
+    c.as_slice.ensures.value c.in_ok-declarations.ensures in
     (found c.args.text.now lexemes names decls short c.in_ok-lexed.ensures parsed).unbroken
 
 pub returns-clause-readable : goal.returns-clause-readable
@@ -55,7 +72,20 @@ returns-clause-readable c =
     let lexemes = c.in_ok-lexed.lexed.lexemes.items in
     let names = texts_of c.in_ok-lexed.lexed.names.keys in
     let decls = c.in_ok-declarations.declarations in
-    let parsed : ReadsProgram lexemes (Ok decls) = subst (λ w. ReadsProgram w (Ok decls)) c.as_slice.ensures.value c.in_ok-declarations.ensures in
-    let p : Program = record { names = c.in_ok-copied_names.field-0; constructors = map data_of c.from_vec.result; functions = map function c.from_vec-2.result } in
-    let same : program_of names decls ≡ p = λ i. record { names = sym c.in_ok-copied_names.ensures i; constructors = map data_of (sym c.from_vec.ensures i); functions = map function (sym c.from_vec-2.ensures i) } in
-    subst IsReadable same (found_readable c.args.text.now lexemes names decls short c.in_ok-lexed.ensures parsed)
+    let parsed : ReadsProgram lexemes (Ok decls) = subst (λ w. ReadsProgram w (Ok decls))
+    c.as_slice.ensures.value c.in_ok-declarations.ensures in
+    let p : Program = record {
+      names = c.in_ok-copied_names.field-0;
+      constructors
+          = map data_of c.from_vec.result;
+      functions = map function c.from_vec-2.result;
+    } in
+    let same : program_of names decls ≡ p = λ i. record {
+      names = sym c.in_ok-copied_names.ensures i;
+      constructors
+          = map data_of (sym c.from_vec.ensures i);
+      functions
+          = map function (sym c.from_vec-2.ensures i);
+    } in
+    subst IsReadable same
+    (found_readable c.args.text.now lexemes names decls short c.in_ok-lexed.ensures parsed)

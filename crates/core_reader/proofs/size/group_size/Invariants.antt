@@ -5,4 +5,5 @@ use Rattle.core_reader.specs.Size.{bind_size}
 use Rattle.core_reader.proofs.size.group_size.Given as goal
 
 abbrev pub invariant-loop-bind : goal.invariant-loop-bind
-invariant-loop-bind l = l.total + sum_by bind_size (map bind (drop l.bind-index l.group)) ≡ sum_by bind_size (map bind l.group)
+invariant-loop-bind l = l.total + sum_by bind_size (map bind (drop l.bind-index l.group)) ≡ sum_by
+    bind_size (map bind l.group)

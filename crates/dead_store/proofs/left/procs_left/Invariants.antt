@@ -5,4 +5,5 @@ use Rattle.dead_store.specs.Without.{left_of}
 use Rattle.dead_store.proofs.left.procs_left.Given as goal
 
 abbrev pub invariant-loop-proc : goal.invariant-loop-proc
-invariant-loop-proc l = l.left ≡ left_of (set_holds l.sites.keys) (map procedure_of (take l.proc-index l.procs))
+invariant-loop-proc l = l.left ≡ left_of (set_holds l.sites.keys)
+    (map procedure_of (take l.proc-index l.procs))

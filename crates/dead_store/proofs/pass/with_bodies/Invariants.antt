@@ -5,4 +5,5 @@ use Rattle.dead_store.specs.Without.{without_procs}
 use Rattle.dead_store.proofs.pass.with_bodies.Given as goal
 
 abbrev pub invariant-loop-proc : goal.invariant-loop-proc
-invariant-loop-proc l = map procedure_of l.made ≡ without_procs (set_holds l.leaving.sites.now.keys) (set_holds l.leaving.gone.now.keys) (map procedure_of l.yielded)
+invariant-loop-proc l = map procedure_of l.made ≡ without_procs (set_holds l.leaving.sites.now.keys)
+    (set_holds l.leaving.gone.now.keys) (map procedure_of l.yielded)

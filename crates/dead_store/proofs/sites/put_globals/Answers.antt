@@ -8,8 +8,11 @@ pub loop-cell-init : goal.loop-cell-init
 loop-cell-init c = nothing_joins c.args.sites.now.keys
 
 pub loop-cell-preserved : goal.loop-cell-preserved
-loop-cell-preserved c = joins_next (λ c. c.site.0) c.args.globals.now _ _ _ _ _ c.loop-cell-test.true c.loop-cell.invariant
-    (subst (λ u. Joined c.loop-cell.sites.keys (u.site.0 ∷ []) c.put_site.new.sites.keys) c.cell-item.is c.in_ok-put_site.ensures)
+loop-cell-preserved c = joins_next (λ c. c.site.0) c.args.globals.now _ _ _ _ _
+    c.loop-cell-test.true c.loop-cell.invariant
+    (subst (λ u. Joined c.loop-cell.sites.keys (u.site.0 ∷ []) c.put_site.new.sites.keys)
+    c.cell-item.is c.in_ok-put_site.ensures)
 
 pub returns : goal.returns
-returns c = joins_all (λ c. c.site.0) c.args.globals.now _ _ _ c.loop-cell-test.false c.loop-cell.invariant
+returns c = joins_all (λ c. c.site.0) c.args.globals.now _ _ _ c.loop-cell-test.false
+    c.loop-cell.invariant

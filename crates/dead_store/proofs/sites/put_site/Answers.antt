@@ -2,4 +2,5 @@ use Rattle.points_to.proofs.Read.{put_joins}
 use Rattle.dead_store.proofs.sites.put_site.Goals as goal
 
 pub returns : goal.returns
-returns c = put_joins c.args.sites.now.keys c.insert.new.self.keys c.args.site.0 c.in_ok-insert.ensures.keys
+returns c = put_joins c.args.sites.now.keys c.insert.new.self.keys c.args.site.0
+    c.in_ok-insert.ensures.keys

@@ -5,4 +5,5 @@ use Rattle.dead_store.proofs.SiteSets.{SitesSoFar}
 use Rattle.dead_store.proofs.sites.read_sites.Given as goal
 
 abbrev pub invariant-loop-word : goal.invariant-loop-word
-invariant-loop-word l = SitesSoFar (found l.flow) (program_of l.g) (take l.word-index l.word-items) l.sites.keys
+invariant-loop-word l = SitesSoFar (found l.flow) (program_of l.g) (take l.word-index l.word-items)
+    l.sites.keys

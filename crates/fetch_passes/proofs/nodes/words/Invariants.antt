@@ -5,4 +5,5 @@ use Rattle.fetch_passes.proofs.Grows.{WordsSoFar}
 use Rattle.fetch_passes.proofs.nodes.words.Given as goal
 
 abbrev pub invariant-loop-at : goal.invariant-loop-at
-invariant-loop-at l = (b : Code) → IsWindow l.notes l.tag.0 b l.window → WordsSoFar l.tag.0 b l.cell (take l.at l.vars) l.initial.made l.made l.waits
+invariant-loop-at l = (b : Code) → IsWindow l.notes l.tag.0 b l.window
+    → WordsSoFar l.tag.0 b l.cell (take l.at l.vars) l.initial.made l.made l.waits

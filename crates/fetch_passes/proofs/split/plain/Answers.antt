@@ -4,4 +4,7 @@ use Rattle.fetch_passes.proofs.Pushed.{bind_pushed}
 use Rattle.fetch_passes.proofs.split.plain.Goals as goal
 
 pub returns-clause-stmts : goal.returns-clause-stmts
-returns-clause-stmts c = λ k. bind_pushed c.args.made.now _ c.in_ok-copy_target.field-0 c.args.op (act_of c.args.op) k c.in_ok-push.ensures.ok refl ∙ ap (λ t. all_before (map before_of c.args.made.now) (bind t (act_of c.args.op) k)) c.in_ok-copy_target.ensures
+returns-clause-stmts c = λ k. bind_pushed c.args.made.now _ c.in_ok-copy_target.field-0 c.args.op
+    (act_of c.args.op) k c.in_ok-push.ensures.ok refl ∙ ap
+    (λ t. all_before (map before_of c.args.made.now) (bind t (act_of c.args.op) k))
+    c.in_ok-copy_target.ensures

@@ -5,4 +5,5 @@ use Rattle.flat_blocks.specs.Flat.{flat_code}
 use Rattle.flat_blocks.proofs.pass.without_nested.Given as goal
 
 abbrev pub invariant-loop-proc : goal.invariant-loop-proc
-invariant-loop-proc l = map procedure_of l.procs ≡ map (rewritten_procedure flat_code) (map procedure_of l.yielded)
+invariant-loop-proc l = map procedure_of l.procs ≡ map (rewritten_procedure flat_code)
+    (map procedure_of l.yielded)

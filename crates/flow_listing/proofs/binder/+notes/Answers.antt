@@ -5,10 +5,15 @@ use Rattle.flow_listing.proofs.Bound.{case_binders, binders-Unit, binders-Fetch,
 use Rattle.flow_listing.proofs.binder.+notes.Goals as goal
 
 pub note_block-returns : goal.note_block-returns
-note_block-returns t c = block_noted c.args.block.now (take c.loop-stmt.stmt-index c.as_slice-stmt-items.result.now) c.deref.result.now _ _ _ c.loop-stmt.invariant (take_all _ _ (search rules) ∙ search rules) (search rules) c.in_ok-note_op.ensures
+note_block-returns t c = block_noted c.args.block.now
+    (take c.loop-stmt.stmt-index c.as_slice-stmt-items.result.now) c.deref.result.now _ _ _
+    c.loop-stmt.invariant (take_all _ _ (search rules) ∙ search rules) (search rules)
+    c.in_ok-note_op.ensures
 
 pub note_op-returns-after-loop-alt : goal.note_op-returns-after-loop-alt
-note_op-returns-after-loop-alt t c = rw (c.in-Case.is, case_binders) (all_pieces alt_binders _ _ _ _ (take_all _ _ (search rules) ∙ search rules) c.loop-alt.invariant)
+note_op-returns-after-loop-alt t c = rw (c.in-Case.is, case_binders)
+    (all_pieces alt_binders _ _ _ _ (take_all _ _ (search rules) ∙ search rules)
+    c.loop-alt.invariant)
 
 pub note_op-returns-in-Unit : goal.note_op-returns-in-Unit
 note_op-returns-in-Unit t c = rw (c.in-Unit.is, binders-Unit) (search rules)

@@ -9,5 +9,7 @@ returns c = flat_done global_cell _ _ _ _ c.loop-cell-test.false c.loop-cell.inv
 pub loop-cell-preserved : goal.loop-cell-preserved
 loop-cell-preserved c = record {
   counted = search rules;
-  so_far = flat_next global_cell c.args.globals.now c.loop-cell.cell-index _ _ _ _ _ c.loop-cell-test.true c.cell-item.is c.loop-cell.invariant.counted c.loop-cell.invariant.so_far c.in_ok-note_global.ensures;
+  so_far = flat_next global_cell c.args.globals.now c.loop-cell.cell-index _ _ _ _ _
+      c.loop-cell-test.true c.cell-item.is c.loop-cell.invariant.counted
+      c.loop-cell.invariant.so_far c.in_ok-note_global.ensures;
 }

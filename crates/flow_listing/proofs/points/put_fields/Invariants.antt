@@ -9,4 +9,6 @@ use Rattle.flow_listing.specs.Text.{field_text}
 use Rattle.flow_listing.proofs.points.put_fields.Given as goal
 
 abbrev pub invariant-loop-field : goal.invariant-loop-field
-invariant-loop-field l = l.text ≡ l.initial.text ++ spaced (field_text (program_of l.g) (tree.get nat_cmp l.names) (found l.flow) l.place l.tag) (numbers_from 0 l.field)
+invariant-loop-field l = l.text ≡ l.initial.text ++ spaced
+    (field_text (program_of l.g) (tree.get nat_cmp l.names) (found l.flow) l.place l.tag)
+    (numbers_from 0 l.field)

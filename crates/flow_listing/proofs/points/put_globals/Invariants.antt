@@ -8,4 +8,6 @@ use Rattle.flow_listing.specs.Text.{global_line}
 use Rattle.flow_listing.proofs.points.put_globals.Given as goal
 
 abbrev pub invariant-loop-cell : goal.invariant-loop-cell
-invariant-loop-cell l = l.text ≡ l.initial.text ++ flat_map (global_line (program_of l.g) (tree.get nat_cmp l.names) (found l.flow)) (take l.cell-index l.cell-items)
+invariant-loop-cell l = l.text ≡ l.initial.text ++ flat_map
+    (global_line (program_of l.g) (tree.get nat_cmp l.names) (found l.flow))
+    (take l.cell-index l.cell-items)

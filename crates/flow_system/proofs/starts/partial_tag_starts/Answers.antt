@@ -8,5 +8,8 @@ back-preserved c =
     let e : c.back.at ≡ suc (c.back.at - 1) = omega arith in
     record {
       within = omega arith;
-      begin = c.note.ensures c.args.tags.now (get_is c.args.tags.now (c.back.at - 1) _ (omega arith) c.index-tags-at.is) (subst (NoPartTagBeforeStart c.args.tags.now c.back.starts.items) e c.back.invariant.begin);
+      begin = c.note.ensures c.args.tags.now
+          (get_is c.args.tags.now (c.back.at - 1) _ (omega arith) c.index-tags-at.is)
+          (subst (NoPartTagBeforeStart c.args.tags.now c.back.starts.items) e
+          c.back.invariant.begin);
     }

@@ -11,5 +11,6 @@ loop-before-preserved c =
       done = omega arith;
       state = state_after c.args.seed c.loop-before.before _ _ round.state i.state;
       lines =
-          lines_after c.args.seed c.loop-before.before _ _ _ _ i.state round.round i.lines c.in_ok-put_round.ensures;
+          lines_after c.args.seed c.loop-before.before _ _ _ _ i.state round.round i.lines
+          c.in_ok-put_round.ensures;
     }

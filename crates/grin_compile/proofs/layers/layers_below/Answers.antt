@@ -11,8 +11,10 @@ select-requires c =
     let l = low.program_of c.in_ok-low.low in
     let made = c.in_ok-low.ensures in
     let given = c.requires in
-    selectable g l c.in_ok-places.places c.args.cells c.args.stack given.lowerable made.formed made.lowers (made.small given.lowerable.narrow)
-    (c.in_ok-places.ensures.fits made.formed (few_parameters g l made.lowers) (few_results g l made.lowers)) given.sizes
+    selectable g l c.in_ok-places.places c.args.cells c.args.stack given.lowerable made.formed
+    made.lowers (made.small given.lowerable.narrow)
+    (c.in_ok-places.ensures.fits made.formed (few_parameters g l made.lowers)
+    (few_results g l made.lowers)) given.sizes
 
 pub place-requires-clause-labels : goal.place-requires-clause-labels
 place-requires-clause-labels c =
@@ -20,8 +22,11 @@ place-requires-clause-labels c =
     let l = low.program_of c.in_ok-low.low in
     let made = c.in_ok-low.ensures in
     let given = c.requires in
-    (selects g l c.in_ok-places.places c.args.cells c.args.stack given.lowerable made.formed made.lowers (made.small given.lowerable.narrow)
-    (c.in_ok-places.ensures.fits made.formed (few_parameters g l made.lowers) (few_results g l made.lowers)) given.sizes c.in_ok-asm.asm.items c.selection_refines.ensures c.in_ok-asm.ensures.selected).labels
+    (selects g l c.in_ok-places.places c.args.cells c.args.stack given.lowerable made.formed
+    made.lowers (made.small given.lowerable.narrow)
+    (c.in_ok-places.ensures.fits made.formed (few_parameters g l made.lowers)
+    (few_results g l made.lowers)) given.sizes c.in_ok-asm.asm.items c.selection_refines.ensures
+    c.in_ok-asm.ensures.selected).labels
 
 pub place-requires-clause-plain : goal.place-requires-clause-plain
 place-requires-clause-plain c =
@@ -29,8 +34,11 @@ place-requires-clause-plain c =
     let l = low.program_of c.in_ok-low.low in
     let made = c.in_ok-low.ensures in
     let given = c.requires in
-    (selects g l c.in_ok-places.places c.args.cells c.args.stack given.lowerable made.formed made.lowers (made.small given.lowerable.narrow)
-    (c.in_ok-places.ensures.fits made.formed (few_parameters g l made.lowers) (few_results g l made.lowers)) given.sizes c.in_ok-asm.asm.items c.selection_refines.ensures c.in_ok-asm.ensures.selected).plain
+    (selects g l c.in_ok-places.places c.args.cells c.args.stack given.lowerable made.formed
+    made.lowers (made.small given.lowerable.narrow)
+    (c.in_ok-places.ensures.fits made.formed (few_parameters g l made.lowers)
+    (few_results g l made.lowers)) given.sizes c.in_ok-asm.asm.items c.selection_refines.ensures
+    c.in_ok-asm.ensures.selected).plain
 
 pub place-requires-clause-size : goal.place-requires-clause-size
 place-requires-clause-size c =
@@ -38,8 +46,11 @@ place-requires-clause-size c =
     let l = low.program_of c.in_ok-low.low in
     let made = c.in_ok-low.ensures in
     let given = c.requires in
-    items_fit g l c.in_ok-places.places c.args.cells c.args.stack given.lowerable made.formed made.lowers (made.small given.lowerable.narrow)
-    (c.in_ok-places.ensures.fits made.formed (few_parameters g l made.lowers) (few_results g l made.lowers)) given.sizes c.in_ok-asm.asm.items c.selection_refines.ensures c.in_ok-asm.ensures.selected
+    items_fit g l c.in_ok-places.places c.args.cells c.args.stack given.lowerable made.formed
+    made.lowers (made.small given.lowerable.narrow)
+    (c.in_ok-places.ensures.fits made.formed (few_parameters g l made.lowers)
+    (few_results g l made.lowers)) given.sizes c.in_ok-asm.asm.items c.selection_refines.ensures
+    c.in_ok-asm.ensures.selected
 
 pub procedures-requires : goal.procedures-requires
 procedures-requires c =
@@ -47,8 +58,10 @@ procedures-requires c =
     let l = low.program_of c.in_ok-low.low in
     let made = c.in_ok-low.ensures in
     let given = c.requires in
-    (selectable g l c.in_ok-places.places c.args.cells c.args.stack given.lowerable made.formed made.lowers (made.small given.lowerable.narrow)
-    (c.in_ok-places.ensures.fits made.formed (few_parameters g l made.lowers) (few_results g l made.lowers)) given.sizes).procedures
+    (selectable g l c.in_ok-places.places c.args.cells c.args.stack given.lowerable made.formed
+    made.lowers (made.small given.lowerable.narrow)
+    (c.in_ok-places.ensures.fits made.formed (few_parameters g l made.lowers)
+    (few_results g l made.lowers)) given.sizes).procedures
 
 pub place-requires-clause-asked : goal.place-requires-clause-asked
 place-requires-clause-asked c k lt =
@@ -56,8 +69,11 @@ place-requires-clause-asked c k lt =
     let l = low.program_of c.in_ok-low.low in
     let made = c.in_ok-low.ensures in
     let given = c.requires in
-    begins_stand g l c.in_ok-places.places c.args.cells c.args.stack given.lowerable made.formed made.lowers (made.small given.lowerable.narrow)
-    (c.in_ok-places.ensures.fits made.formed (few_parameters g l made.lowers) (few_results g l made.lowers)) given.sizes c.in_ok-asm.asm.items c.selection_refines.ensures c.in_ok-asm.ensures.selected
+    begins_stand g l c.in_ok-places.places c.args.cells c.args.stack given.lowerable made.formed
+    made.lowers (made.small given.lowerable.narrow)
+    (c.in_ok-places.ensures.fits made.formed (few_parameters g l made.lowers)
+    (few_results g l made.lowers)) given.sizes c.in_ok-asm.asm.items c.selection_refines.ensures
+    c.in_ok-asm.ensures.selected
     k (omega (arith, c.procedures.ensures))
 
 pub returns : goal.returns
@@ -68,15 +84,32 @@ returns c =
     let made = c.in_ok-low.ensures in
     let given = c.requires in
     let small = made.small given.lowerable.narrow in
-    let fits = c.in_ok-places.ensures.fits made.formed (few_parameters g l made.lowers) (few_results g l made.lowers) in
+    let fits = c.in_ok-places.ensures.fits made.formed (few_parameters g l made.lowers)
+    (few_results g l made.lowers) in
     let items = c.in_ok-asm.asm.items in
     let law = c.selection_refines.ensures in
     let placement = c.in_ok-placement.placement in
     let placed = c.in_ok-placement.ensures.placed in
-    let named = subst (λ ps. c.in_ok-names.names.items ≡ names_of (map procedure_of ps)) c.as_slice.ensures c.in_ok-names.ensures in
-    let chosen = selects g l a c.args.cells c.args.stack given.lowerable made.formed made.lowers small fits given.sizes items law c.in_ok-asm.ensures.selected in
-    has_layers g c.args.cells c.args.stack (record { low = c.in_ok-low.low; places = a; code = placement.words; starts = placement.addresses; names = c.in_ok-names.names }) items made.formed made.lowers small fits
-    chosen placed.placed (starts_by placed.placed.lay items chosen.begins placement.addresses.items c.procedures.result (length l.procs) chosen.begins_are c.procedures.ensures placed.addresses) named
+    let named = subst (λ ps. c.in_ok-names.names.items ≡ names_of (map procedure_of ps))
+    c.as_slice.ensures c.in_ok-names.ensures in
+    let chosen = selects g l a c.args.cells c.args.stack given.lowerable made.formed made.lowers
+    small fits given.sizes items law c.in_ok-asm.ensures.selected in
+    has_layers g c.args.cells c.args.stack
+    (record {
+      low = c.in_ok-low.low;
+      places = a;
+      code = placement.words;
+      starts
+          = placement.addresses;
+      names = c.in_ok-names.names;
+    }) items made.formed made.lowers small
+    fits
+    chosen placed.placed
+    (starts_by placed.placed.lay items chosen.begins placement.addresses.items
+    c.procedures.result (length l.procs) chosen.begins_are c.procedures.ensures
+    placed.addresses) named
     c.in_ok-placement.ensures.decode
-    (items_fit g l a c.args.cells c.args.stack given.lowerable made.formed made.lowers small fits given.sizes items law c.in_ok-asm.ensures.selected)
-    (c.in_ok-places.ensures.uses made.formed (few_parameters g l made.lowers) (few_results g l made.lowers))
+    (items_fit g l a c.args.cells c.args.stack given.lowerable made.formed made.lowers small fits
+    given.sizes items law c.in_ok-asm.ensures.selected)
+    (c.in_ok-places.ensures.uses made.formed (few_parameters g l made.lowers)
+    (few_results g l made.lowers))

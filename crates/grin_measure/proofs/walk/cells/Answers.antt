@@ -5,5 +5,7 @@ use Rattle.grin_measure.proofs.walk.cells.Goals as goal
 
 pub loop-each-preserved : goal.loop-each-preserved
 loop-each-preserved c =
-    c.and-counts.ensures ∙ ap (λ n. sum n c.cell.result) c.loop-each.invariant ∙ ap (sum _) c.cell.ensures
-    ∙ sym (cells_next c.args.cells.now c.loop-each.each-index _ c.loop-each-test.true c.each-item.is)
+    c.and-counts.ensures ∙ ap (λ n. sum n c.cell.result) c.loop-each.invariant ∙ ap (sum _)
+    c.cell.ensures
+    ∙ sym (cells_next c.args.cells.now c.loop-each.each-index _ c.loop-each-test.true
+    c.each-item.is)

@@ -13,10 +13,12 @@ returns-then-eq t c =
 pub after_pass-requires : goal.after_pass-requires
 after_pass-requires t c = (
   search rules,
-  subst (λ k. IsOfStage k (program_of c.in_ok-given.given)) c.stage_before.ensures (stage_of _ _ _ c.requires.taken c.in_ok-given.ensures),
+  subst (λ k. IsOfStage k (program_of c.in_ok-given.given)) c.stage_before.ensures
+      (stage_of _ _ _ c.requires.taken c.in_ok-given.ensures),
 )
 
 pub returns : goal.returns
 returns t c =
-    let before = subst (λ k. IsOptimised (program_of c.args.g) k (program_of c.in_ok-given.given)) c.stage_before.ensures c.in_ok-given.ensures in
+    let before = subst (λ k. IsOptimised (program_of c.args.g) k (program_of c.in_ok-given.given))
+    c.stage_before.ensures c.in_ok-given.ensures in
     further _ _ _ _ before c.in_ok-made.ensures.made

@@ -6,4 +6,5 @@ pub returns-clause-shape : goal.returns-clause-shape
 returns-clause-shape c = of_both _ _ _ c.in_ok-once.ensures.shape c.in_ok-made.ensures.shape
 
 pub returns-clause-meaning : goal.returns-clause-meaning
-returns-clause-meaning c = keeps_again _ _ _ c.in_ok-once.ensures.meaning c.in_ok-made.ensures.meaning
+returns-clause-meaning c = keeps_again _ _ _ c.in_ok-once.ensures.meaning
+    c.in_ok-made.ensures.meaning

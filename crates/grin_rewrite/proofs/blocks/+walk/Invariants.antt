@@ -8,4 +8,8 @@ abbrev pub invariant-block-loop-stmt : goal.invariant-block-loop-stmt
 invariant-block-loop-stmt g l = Become (g.R.Rule.becomes l.rule) l.stmts l.yielded
 
 abbrev pub invariant-operation-loop-alt : goal.invariant-operation-loop-alt
-invariant-operation-loop-alt g l = record { scrutinee : l.v ≡ l.initial.v; some : map arm_of l.made ≡ map (rewrite_arm (g.R.Rule.becomes l.rule)) (map arm_of l.yielded) }
+invariant-operation-loop-alt g l = record {
+  scrutinee : l.v ≡ l.initial.v;
+  some : map arm_of l.made ≡ map
+      (rewrite_arm (g.R.Rule.becomes l.rule)) (map arm_of l.yielded);
+}

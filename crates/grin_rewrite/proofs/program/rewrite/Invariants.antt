@@ -5,4 +5,5 @@ use Rattle.grin_rewrite.specs.Rewriting.{rewrite_code}
 use Rattle.grin_rewrite.proofs.program.rewrite.Given as goal
 
 abbrev pub invariant-loop-proc : goal.invariant-loop-proc
-invariant-loop-proc g l = map procedure_of l.procs ≡ map (rewritten_procedure (rewrite_code (g.R.Rule.becomes l.rule))) (map procedure_of l.yielded)
+invariant-loop-proc g l = map procedure_of l.procs ≡ map
+    (rewritten_procedure (rewrite_code (g.R.Rule.becomes l.rule))) (map procedure_of l.yielded)

@@ -16,13 +16,19 @@ returns-clause-stages c =
     let b = c.in_ok-applied.ensures in
     let first = c.in_ok-first.ensures ∙ a.is_translation in
     let second = c.in_ok-second.ensures in
-    let applied = made_applications p _ _ _ first a.least a.analysed a.never_missing a.fits (second ∙ e.inlined) (λ f. subst Formed (sym second) (e.formed f))
-    (λ h. subst (Keeps (program_of c.in_ok-first.first)) (sym second) (e.meaning h)) _ b.inlined b.formed b.meaning in
-    let evaluated = made_evaluations p _ _ _ first a.least a.analysed a.never_missing a.fits e.inlined e.formed e.meaning in
+    let applied = made_applications p _ _ _ first a.least a.analysed a.never_missing a.fits
+    (second ∙ e.inlined) (λ f. subst Formed (sym second) (e.formed f))
+    (λ h. subst (Keeps (program_of c.in_ok-first.first)) (sym second) (e.meaning h)) _ b.inlined
+    b.formed b.meaning in
+    let evaluated = made_evaluations p _ _ _ first a.least a.analysed a.never_missing a.fits
+    e.inlined e.formed e.meaning in
     record {
       translated = subst (IsStage p Translate) (sym a.is_translation) translated;
       evaluated = evaluated.made;
       applied = applied.made;
-      formed = (subst Formed (sym a.is_translation) a.analysed.formed, (evaluated.formed, (applied.formed, tt)));
+      formed = (
+        subst Formed (sym a.is_translation) a.analysed.formed,
+        (evaluated.formed, (applied.formed, tt)),
+      );
       meaning = applied.meaning;
     }

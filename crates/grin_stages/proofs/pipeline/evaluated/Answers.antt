@@ -6,4 +6,5 @@ pub returns-clause-made : goal.returns-clause-made
 returns-clause-made c =
     let a = c.in_ok-analysis.ensures.analysed in
     let e = c.in_ok-evaluated.ensures in
-    made_evaluations (program c.args.p.now) _ _ _ a.is_translation a.least a.analysed a.never_missing a.fits e.inlined e.formed e.meaning
+    made_evaluations (program c.args.p.now) _ _ _ a.is_translation a.least a.analysed
+    a.never_missing a.fits e.inlined e.formed e.meaning

@@ -5,12 +5,17 @@ use Rattle.grin_syntax.proofs.listing.+lines.Goals as goal
 
 pub put_block-returns : goal.put_block-returns
 put_block-returns t c = (
-  block_put _ _ c.args.block.now _ _ (take c.loop-stmt.stmt-index c.as_slice-stmt-items.result.now) c.deref.result.now _ _ _ _ c.loop-stmt.invariant.margin_stays c.loop-stmt.invariant.so_far (take_all _ _ (search rules) ∙ search rules) (search rules) c.in_ok-append.ensures c.in_ok-put_op.ensures.0,
+  block_put _ _ c.args.block.now _ _ (take c.loop-stmt.stmt-index c.as_slice-stmt-items.result.now)
+      c.deref.result.now _ _ _ _ c.loop-stmt.invariant.margin_stays c.loop-stmt.invariant.so_far
+      (take_all _ _ (search rules) ∙ search rules) (search rules) c.in_ok-append.ensures
+      c.in_ok-put_op.ensures.0,
   search rules,
 )
 
-pub put_rest-returns-in_ok-put_alts-in-Case-clause-text : goal.put_rest-returns-in_ok-put_alts-in-Case-clause-text
-put_rest-returns-in_ok-put_alts-in-Case-clause-text t c = rw (c.in-Case.is, rest-Case) (search rules)
+pub put_rest-returns-in_ok-put_alts-in-Case-clause-text
+    : goal.put_rest-returns-in_ok-put_alts-in-Case-clause-text
+put_rest-returns-in_ok-put_alts-in-Case-clause-text t c
+    = rw (c.in-Case.is, rest-Case) (search rules)
 
 pub put_rest-returns-in-Unit-clause-text : goal.put_rest-returns-in-Unit-clause-text
 put_rest-returns-in-Unit-clause-text t c = rw (c.in-Unit.is, rest-Unit) (search rules)
@@ -19,7 +24,8 @@ pub put_rest-returns-in-Fetch-clause-text : goal.put_rest-returns-in-Fetch-claus
 put_rest-returns-in-Fetch-clause-text t c = rw (c.in-Fetch.is, rest-Fetch) (search rules)
 
 pub put_rest-returns-in-FetchWord-clause-text : goal.put_rest-returns-in-FetchWord-clause-text
-put_rest-returns-in-FetchWord-clause-text t c = rw (c.in-FetchWord.is, rest-FetchWord) (search rules)
+put_rest-returns-in-FetchWord-clause-text t c = rw (c.in-FetchWord.is, rest-FetchWord)
+    (search rules)
 
 pub put_rest-returns-in-Update-clause-text : goal.put_rest-returns-in-Update-clause-text
 put_rest-returns-in-Update-clause-text t c = rw (c.in-Update.is, rest-Update) (search rules)

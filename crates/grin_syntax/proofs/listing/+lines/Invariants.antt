@@ -9,11 +9,14 @@ use Rattle.grin_syntax.proofs.listing.+lines.Given as goal
 abbrev pub invariant-put_block-loop-stmt : goal.invariant-put_block-loop-stmt
 invariant-put_block-loop-stmt l = record {
   margin_stays : l.margin ≡ l.initial.margin;
-  so_far : l.text ≡ l.initial.text ++ flat_map (stmt_text (program_of l.g) (tree.get nat_cmp l.ranks) l.margin) (take l.stmt-index l.stmt-items);
+  so_far : l.text ≡ l.initial.text ++ flat_map
+      (stmt_text (program_of l.g) (tree.get nat_cmp l.ranks) l.margin)
+      (take l.stmt-index l.stmt-items);
 }
 
 abbrev pub invariant-put_alts-loop-alt : goal.invariant-put_alts-loop-alt
 invariant-put_alts-loop-alt l = record {
   margin_stays : l.margin ≡ l.initial.margin;
-  so_far : l.text ≡ l.initial.text ++ flat_map (alt_text (program_of l.g) (tree.get nat_cmp l.ranks) l.margin) (take l.alt-index l.alts);
+  so_far : l.text ≡ l.initial.text ++ flat_map
+      (alt_text (program_of l.g) (tree.get nat_cmp l.ranks) l.margin) (take l.alt-index l.alts);
 }

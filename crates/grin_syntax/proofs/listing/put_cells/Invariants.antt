@@ -7,4 +7,5 @@ use Rattle.grin_syntax.specs.Listing.{cell_line}
 use Rattle.grin_syntax.proofs.listing.put_cells.Given as goal
 
 abbrev pub invariant-loop-cell : goal.invariant-loop-cell
-invariant-loop-cell l = l.text ≡ l.initial.text ++ flat_map (cell_line (program_of l.g) (tree.get nat_cmp l.ranks) l.margin) (take l.cell-index l.cells)
+invariant-loop-cell l = l.text ≡ l.initial.text ++ flat_map
+    (cell_line (program_of l.g) (tree.get nat_cmp l.ranks) l.margin) (take l.cell-index l.cells)

@@ -10,16 +10,19 @@ pub returns-in-Fetch : goal.returns-in-Fetch
 returns-in-Fetch c = rw (c.in-Fetch.is, line-Fetch) (grind (arith, common_steps))
 
 pub returns-in_ok-put-in-FetchWord : goal.returns-in_ok-put-in-FetchWord
-returns-in_ok-put-in-FetchWord c = rw (c.in-FetchWord.is, line-FetchWord) (grind (arith, common_steps))
+returns-in_ok-put-in-FetchWord c = rw (c.in-FetchWord.is, line-FetchWord)
+    (grind (arith, common_steps))
 
 pub returns-in_ok-put_word_after-in-Update : goal.returns-in_ok-put_word_after-in-Update
-returns-in_ok-put_word_after-in-Update c = rw (c.in-Update.is, line-Update) (grind (arith, common_steps))
+returns-in_ok-put_word_after-in-Update c = rw (c.in-Update.is, line-Update)
+    (grind (arith, common_steps))
 
 pub returns-in-Eval : goal.returns-in-Eval
 returns-in-Eval c = rw (c.in-Eval.is, line-Eval) (grind (arith, common_steps))
 
 pub returns-in_ok-put_val_after-in-Apply : goal.returns-in_ok-put_val_after-in-Apply
-returns-in_ok-put_val_after-in-Apply c = rw (c.in-Apply.is, line-Apply) (grind (arith, common_steps))
+returns-in_ok-put_val_after-in-Apply c = rw (c.in-Apply.is, line-Apply)
+    (grind (arith, common_steps))
 
 pub returns-in-Call : goal.returns-in-Call
 returns-in-Call c = rw (c.in-Call.is, line-Call) (grind (arith, common_steps))

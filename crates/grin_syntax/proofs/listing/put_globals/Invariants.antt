@@ -5,4 +5,5 @@ use Rattle.grin_syntax.specs.Listing.{global_line}
 use Rattle.grin_syntax.proofs.listing.put_globals.Given as goal
 
 abbrev pub invariant-loop-cell : goal.invariant-loop-cell
-invariant-loop-cell l = l.text ≡ l.initial.text ++ flat_map (global_line (program_of l.g)) (take l.cell-index l.cell-items)
+invariant-loop-cell l = l.text ≡ l.initial.text ++ flat_map (global_line (program_of l.g))
+    (take l.cell-index l.cell-items)

@@ -5,4 +5,5 @@ use Rattle.grin_syntax.specs.Listing.{spaced, var_text}
 use Rattle.grin_syntax.proofs.listing.put_vars.Given as goal
 
 abbrev pub invariant-loop-var : goal.invariant-loop-var
-invariant-loop-var l = l.text ≡ l.initial.text ++ spaced (var_text (tree.get nat_cmp l.ranks)) (take l.var-index l.vars)
+invariant-loop-var l = l.text ≡ l.initial.text ++ spaced (var_text (tree.get nat_cmp l.ranks))
+    (take l.var-index l.vars)

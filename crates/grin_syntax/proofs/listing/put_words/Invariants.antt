@@ -6,4 +6,5 @@ use Rattle.grin_syntax.specs.Listing.{spaced, word_text}
 use Rattle.grin_syntax.proofs.listing.put_words.Given as goal
 
 abbrev pub invariant-loop-word : goal.invariant-loop-word
-invariant-loop-word l = l.text ≡ l.initial.text ++ spaced (word_text (program_of l.g) (tree.get nat_cmp l.ranks)) (take l.word-index l.words)
+invariant-loop-word l = l.text ≡ l.initial.text ++ spaced
+    (word_text (program_of l.g) (tree.get nat_cmp l.ranks)) (take l.word-index l.words)

@@ -20,8 +20,11 @@ returns-clause-is c =
     let n3 = c.in_ok-second.ensures.next in
     let b4 = c.in_ok-j.ensures.base in
     let n4 = c.in_ok-j.ensures.next in
-    subst (λ z. IfOk c.evaluated-2.result (λ b. code_of b ≡ all_before (map before_of c.args.before) z))
-    (primitive_is p base t c.args.op c.in_ok-a.a c.in_ok-b.b (word p base c.args.x) (word p base c.args.y) c.in_ok-first.first c.in_ok-i.i c.in_ok-second.second c.in_ok-j.j c.in_ok-k.k (code_of c.in_ok-inner.inner) (code_of c.in_ok-middle.middle)
+    subst (λ z. IfOk c.evaluated-2.result
+    (λ b. code_of b ≡ all_before (map before_of c.args.before) z))
+    (primitive_is p base t c.args.op c.in_ok-a.a c.in_ok-b.b (word p base c.args.x)
+    (word p base c.args.y) c.in_ok-first.first c.in_ok-i.i c.in_ok-second.second c.in_ok-j.j
+    c.in_ok-k.k (code_of c.in_ok-inner.inner) (code_of c.in_ok-middle.middle)
     c.in_ok-a.ensures
     c.in_ok-b.ensures
     c.in_ok-first.ensures.is
@@ -30,5 +33,8 @@ returns-clause-is c =
     (c.in_ok-j.ensures.is ∙ ap variable (omega (arith, b1, n1, b2, n2, b3, n3)))
     (c.in_ok-k.ensures.is ∙ ap variable (omega (arith, b1, n1, b2, n2, b3, n3, b4, n4)))
     c.in_ok-inner.ensures
-    (c.in_ok-middle.ensures ∙ ap (λ ss. all_before (map before_of ss) (evaluated_of p c.in_ok-b.b c.in_ok-second.second c.in_ok-j.j (code_of c.in_ok-inner.inner))) c.new.ensures))
+    (c.in_ok-middle.ensures ∙ ap
+    (λ ss. all_before (map before_of ss)
+    (evaluated_of p c.in_ok-b.b c.in_ok-second.second c.in_ok-j.j
+    (code_of c.in_ok-inner.inner))) c.new.ensures))
     c.evaluated-2.ensures

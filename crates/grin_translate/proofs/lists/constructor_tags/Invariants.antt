@@ -6,4 +6,5 @@ use Rattle.grin_translate.proofs.lists.constructor_tags.Given as goal
 use Rattle.seq.specs.Lists.{numbers_from}
 
 abbrev pub invariant-loop-c : goal.invariant-loop-c
-invariant-loop-c l = l.made ≡ l.initial.made ++ map (λ c. tag_of (program l.numbered.p.now) (Constructor c)) (numbers_from 0 l.c)
+invariant-loop-c l = l.made ≡ l.initial.made ++ map
+    (λ c. tag_of (program l.numbered.p.now) (Constructor c)) (numbers_from 0 l.c)

@@ -6,6 +6,9 @@ use Rattle.grin_translate.proofs.lists.waiting_procedures.Given as goal
 
 abbrev pub invariant-loop-delay : goal.invariant-loop-delay
 invariant-loop-delay l = record {
-  procs : map procedure_of l.made ++ delayed_procs (program l.numbered.p.now) l.base (drop l.delay-index l.waiting) ≡ delayed_procs (program l.numbered.p.now) l.initial.base l.waiting;
-  base : l.base + spans (program l.numbered.p.now) (drop l.delay-index l.waiting) ≡ l.initial.base + spans (program l.numbered.p.now) l.waiting;
+  procs : map procedure_of l.made ++ delayed_procs (program l.numbered.p.now) l.base
+      (drop l.delay-index l.waiting) ≡ delayed_procs (program l.numbered.p.now) l.initial.base
+      l.waiting;
+  base : l.base + spans (program l.numbered.p.now) (drop l.delay-index l.waiting) ≡ l.initial.base +
+      spans (program l.numbered.p.now) l.waiting;
 }

@@ -9,11 +9,14 @@ map_more : (ns : List ℕ) (n : ℕ) → map Calls (ns ++ n ∷ []) ≡ map Call
 map_more [] n = refl
 map_more (m ∷ ns) n = ap (λ ds. Calls m ∷ ds) (map_more ns n)
 
-one_more : (f : ℕ) (found : List Delay) → found ≡ map Calls (numbers_from 0 f) → found ++ Calls f ∷ [] ≡ map Calls (numbers_from 0 (f + 1))
+one_more : (f : ℕ) (found : List Delay) → found ≡ map Calls (numbers_from 0 f) → found
+    ++ Calls f ∷ [] ≡ map Calls (numbers_from 0 (f + 1))
 one_more f found h =
     let e : suc f ≡ f + 1 = omega arith in
     let z : 0 + f ≡ f = omega arith in
-    ap (λ xs. xs ++ Calls f ∷ []) h ∙ sym (map_more (numbers_from 0 f) f) ∙ ap (λ k. map Calls (numbers_from 0 f ++ k ∷ [])) (sym z) ∙ ap (map Calls) (sym (numbers_more f 0)) ∙ ap (λ k. map Calls (numbers_from 0 k)) e
+    ap (λ xs. xs ++ Calls f ∷ []) h ∙ sym (map_more (numbers_from 0 f) f) ∙ ap
+    (λ k. map Calls (numbers_from 0 f ++ k ∷ [])) (sym z) ∙ ap (map Calls)
+    (sym (numbers_more f 0)) ∙ ap (λ k. map Calls (numbers_from 0 k)) e
 
 pub loop-f-preserved : goal.loop-f-preserved
 loop-f-preserved c = c.in_ok-push.ensures.items ∙ one_more c.loop-f.f _ c.loop-f.invariant

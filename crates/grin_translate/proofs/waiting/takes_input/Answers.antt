@@ -6,7 +6,8 @@ use Rattle.grin_translate.specs.Tags.{takes_input}
 use Rattle.grin_translate.proofs.Delayed.{params-from_get, params-from_none}
 use Rattle.grin_translate.proofs.waiting.takes_input.Goals as goal
 
-takes_if : (p : Checked) (f : Fun) → slice_get p.funs p.main ≡ Some f → not (nat_eq f.params 0) ≡ takes_input (program p)
+takes_if : (p : Checked) (f : Fun) → slice_get p.funs p.main ≡ Some f
+    → not (nat_eq f.params 0) ≡ takes_input (program p)
 unfolding takes_input
 takes_if p f e = rw (params-from_get p p.main f e) refl
 

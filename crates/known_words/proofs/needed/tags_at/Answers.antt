@@ -7,4 +7,7 @@ use Rattle.known_words.proofs.Tells.{silent_tags}
 use Rattle.known_words.proofs.needed.tags_at.Goals as goal
 
 pub returns-in_default : goal.returns-in_default
-returns-in_default c = sym (ap (λ o. tags_at c.args.told.now.count (solution_or_empty (option_copied o)) (tag_variable c.args.v.now)) c.in_default.is ∙ silent_tags c.args.told.now.count (tag_variable c.args.v.now))
+returns-in_default c = sym
+    (ap (λ o. tags_at c.args.told.now.count (solution_or_empty (option_copied o))
+    (tag_variable c.args.v.now)) c.in_default.is ∙ silent_tags c.args.told.now.count
+    (tag_variable c.args.v.now))

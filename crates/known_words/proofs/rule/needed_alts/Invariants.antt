@@ -5,4 +5,5 @@ use Rattle.known_words.proofs.Loops.{Chosen}
 use Rattle.known_words.proofs.rule.needed_alts.Given as goal
 
 abbrev pub invariant-loop-alt : goal.invariant-loop-alt
-invariant-loop-alt l = Chosen (tags_at l.told.count (known_solution l.told) (tag_variable l.v)) (numbers_left l.left) l.made l.yielded
+invariant-loop-alt l = Chosen (tags_at l.told.count (known_solution l.told) (tag_variable l.v))
+    (numbers_left l.left) l.made l.yielded

@@ -9,7 +9,10 @@ use Rattle.lambda_reader.proofs.declarations.all_declarations.Given as goal
 abbrev pub invariant-loop-constructors : goal.invariant-loop-constructors
 invariant-loop-constructors l =
     record {
-      reads : (ds : List Decl) × (constructors_of ds ≡ map data_of l.constructors.items) × (functions_of ds ≡ map function l.functions.items) × (run at_most_200 (top []) l.fn.parser.rest.now ≡ run at_most_200 (top ds) l.parser.rest.now);
+      reads : (ds : List Decl) × (constructors_of ds ≡ map data_of l.constructors.items)
+          × (functions_of ds ≡ map function l.functions.items)
+          × (run at_most_200 (top []) l.fn.parser.rest.now ≡ run at_most_200 (top ds)
+          l.parser.rest.now);
       depth : l.parser.depth ≡ 0;
     }
 

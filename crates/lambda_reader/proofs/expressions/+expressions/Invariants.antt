@@ -45,7 +45,9 @@ decreases-alts l = 4 * length l.parser.now.rest.now
 abbrev pub invariant-app-loop-args : goal.invariant-app-loop-args
 invariant-app-loop-args l =
     record {
-      reads : (k : Frame) → opens k ≡ l.fn.parser.depth → run true at_most_200 (Apply k NoTerms) l.fn.parser.rest.now ≡ run true at_most_200 (Apply k (AndTerm (term l.head) (terms l.args.items))) l.parser.rest.now;
+      reads : (k : Frame) → opens k ≡ l.fn.parser.depth
+          → run true at_most_200 (Apply k NoTerms) l.fn.parser.rest.now ≡ run true at_most_200
+          (Apply k (AndTerm (term l.head) (terms l.args.items))) l.parser.rest.now;
       shorter : length l.parser.rest.now < length l.fn.parser.rest.now;
       depth : l.parser.depth ≡ l.fn.parser.depth;
     }
@@ -56,7 +58,9 @@ decreases-app-loop-args l = length l.parser.rest.now
 abbrev pub invariant-group-loop-members : goal.invariant-group-loop-members
 invariant-group-loop-members l =
     record {
-      reads : (k : Cont) → suc (nests k) ≡ l.fn.parser.depth → run true at_most_200 (BindName k NoBinds) l.fn.parser.rest.now ≡ run true at_most_200 (BindName k (group l.members.items)) l.parser.rest.now;
+      reads : (k : Cont) → suc (nests k) ≡ l.fn.parser.depth
+          → run true at_most_200 (BindName k NoBinds) l.fn.parser.rest.now ≡ run true at_most_200
+          (BindName k (group l.members.items)) l.parser.rest.now;
       shorter : length l.parser.rest.now ≤ length l.fn.parser.rest.now;
       depth : l.parser.depth ≡ l.fn.parser.depth;
     }
@@ -67,7 +71,9 @@ decreases-group-loop-members l = length l.parser.rest.now
 abbrev pub invariant-alts-loop-alts : goal.invariant-alts-loop-alts
 invariant-alts-loop-alts l =
     record {
-      reads : (k : Cont) (e : Expr) → suc (nests k) ≡ l.fn.parser.depth → run true at_most_200 (AltStart k e NoAlts) l.fn.parser.rest.now ≡ run true at_most_200 (AltStart k e (alternatives l.alts.items)) l.parser.rest.now;
+      reads : (k : Cont) (e : Expr) → suc (nests k) ≡ l.fn.parser.depth
+          → run true at_most_200 (AltStart k e NoAlts) l.fn.parser.rest.now ≡ run true at_most_200
+          (AltStart k e (alternatives l.alts.items)) l.parser.rest.now;
       shorter : length l.parser.rest.now ≤ length l.fn.parser.rest.now;
       depth : l.parser.depth ≡ l.fn.parser.depth;
     }

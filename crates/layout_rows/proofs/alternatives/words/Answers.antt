@@ -4,10 +4,12 @@ use Rattle.layout_rows.proofs.LongCase.{labels_stand, all_plain, size_chosen}
 use Rattle.layout_rows.proofs.alternatives.words.Goals as goal
 
 pub place-requires-clause-labels : goal.place-requires-clause-labels
-place-requires-clause-labels c = subst (λ is. LabelsStand is) (sym c.in_ok-asm.ensures) (labels_stand c.args.count c.args.value)
+place-requires-clause-labels c = subst (λ is. LabelsStand is) (sym c.in_ok-asm.ensures)
+    (labels_stand c.args.count c.args.value)
 
 pub place-requires-clause-plain : goal.place-requires-clause-plain
-place-requires-clause-plain c = subst (λ is. AllPlain is) (sym c.in_ok-asm.ensures) (all_plain c.args.count c.args.value)
+place-requires-clause-plain c = subst (λ is. AllPlain is) (sym c.in_ok-asm.ensures)
+    (all_plain c.args.count c.args.value)
 
 pub place-requires-clause-size : goal.place-requires-clause-size
 place-requires-clause-size c =

@@ -18,4 +18,5 @@ loop-preserved c =
     let x : Item = Plain c.args.instr.now in
     let before : List Item = c.args.items.now in
     c.in_ok-push.ensures.ok ∙ ap (λ is. is ++ x ∷ []) c.loop.invariant
-    ∙ append_assoc before (replicate c.loop.counter x) (x ∷ []) ∙ ap (λ is. before ++ is) (one_more x c.loop.counter)
+    ∙ append_assoc before (replicate c.loop.counter x) (x ∷ []) ∙ ap (λ is. before ++ is)
+    (one_more x c.loop.counter)

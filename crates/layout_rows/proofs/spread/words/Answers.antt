@@ -6,11 +6,14 @@ use Rattle.layout_rows.proofs.spread.words.Goals as goal
 
 pub place-requires-clause-labels : goal.place-requires-clause-labels
 place-requires-clause-labels c =
-    subst (λ is. LabelsStand is) (sym c.in_ok-asm.ensures) (labels_stand c.args.before c.args.after c.args.last c.args.item c.requires.apart c.requires.goes)
+    subst (λ is. LabelsStand is) (sym c.in_ok-asm.ensures)
+    (labels_stand c.args.before c.args.after c.args.last c.args.item c.requires.apart
+    c.requires.goes)
 
 pub place-requires-clause-plain : goal.place-requires-clause-plain
 place-requires-clause-plain c =
-    subst (λ is. AllPlain is) (sym c.in_ok-asm.ensures) (all_plain c.args.before c.args.after c.args.last c.args.item c.requires.goes)
+    subst (λ is. AllPlain is) (sym c.in_ok-asm.ensures)
+    (all_plain c.args.before c.args.after c.args.last c.args.item c.requires.goes)
 
 pub place-requires-clause-size : goal.place-requires-clause-size
 place-requires-clause-size c =

@@ -7,6 +7,7 @@ use Rattle.low_translate.proofs.emit.fill_cells.Given as goal
 
 abbrev pub invariant-loop-cell : goal.invariant-loop-cell
 invariant-loop-cell l = record {
-  some : Leaves l.initial.made l.made (store_all l.width l.cells) (store_all l.width (drop l.cell-index l.cells));
+  some : Leaves l.initial.made l.made (store_all l.width l.cells)
+      (store_all l.width (drop l.cell-index l.cells));
   ranged : AllOf (λ c. ValRanged c.val) (take l.cell-index l.cells);
 }

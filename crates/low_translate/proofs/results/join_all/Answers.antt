@@ -12,5 +12,7 @@ loop-call-preserved c =
       many = d.many ∙ i.many;
       ordered = d.ordered;
       older = λ f r. i.older f (d.older f r);
-      joined = λ f r. subst (AllOf (λ h. f h ≡ f c.args.f)) (sym (take_more c.args.calls.now c.loop-call.call-index 0 c.loop-call-test.true)) (all_push (λ h. f h ≡ f c.args.f) _ _ (i.joined f (d.older f r)) (d.joined f r));
+      joined = λ f r. subst (AllOf (λ h. f h ≡ f c.args.f))
+          (sym (take_more c.args.calls.now c.loop-call.call-index 0 c.loop-call-test.true))
+          (all_push (λ h. f h ≡ f c.args.f) _ _ (i.joined f (d.older f r)) (d.joined f r));
     }

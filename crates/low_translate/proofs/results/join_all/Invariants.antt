@@ -7,6 +7,8 @@ abbrev pub invariant-loop-call : goal.invariant-loop-call
 invariant-loop-call l = record {
   many : length l.groups.parents.items ≡ length l.initial.groups.parents.items;
   ordered : ParentsAreSmaller l.groups.parents.items;
-  older : (c : ℕ → ℕ) → IsConstantOnGroups c l.groups.parents.items → IsConstantOnGroups c l.initial.groups.parents.items;
-  joined : (c : ℕ → ℕ) → IsConstantOnGroups c l.groups.parents.items → AllOf (λ h. c h ≡ c l.f) (take l.call-index l.calls);
+  older : (c : ℕ → ℕ) → IsConstantOnGroups c l.groups.parents.items
+      → IsConstantOnGroups c l.initial.groups.parents.items;
+  joined : (c : ℕ → ℕ) → IsConstantOnGroups c l.groups.parents.items
+      → AllOf (λ h. c h ≡ c l.f) (take l.call-index l.calls);
 }

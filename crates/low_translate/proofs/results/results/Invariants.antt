@@ -11,6 +11,8 @@ invariant-loop-f l = record {
   ordered : ParentsAreSmaller l.groups.parents.items;
   each : length l.widths.items ≡ l.f;
   few : (x : ℕ) → get_or l.widths.items x 0 ≤ 13;
-  gives : (rs : List ℕ) → IsConstantOnGroups (λ x. get_or rs x 0) l.groups.parents.items → (x : ℕ) (q : Proc) → x < l.f → q ≡ get_or l.procs x q → get_or l.widths.items x 0 ≤ get_or rs x 0
+  gives : (rs : List ℕ) → IsConstantOnGroups (λ x. get_or rs x 0) l.groups.parents.items
+      → (x : ℕ) (q : Proc) → x < l.f → q ≡ get_or l.procs x q
+      → get_or l.widths.items x 0 ≤ get_or rs x 0
       → CodeGives l.node rs (get_or rs x 0) (code_of q.body);
 }

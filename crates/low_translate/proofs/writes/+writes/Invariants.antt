@@ -8,4 +8,5 @@ abbrev pub invariant-block-loop-stmt : goal.invariant-block-loop-stmt
 invariant-block-loop-stmt l = Statements l.tags (take l.stmt-index l.stmt-items) l.most
 
 abbrev pub invariant-alternatives-loop-alt : goal.invariant-alternatives-loop-alt
-invariant-alternatives-loop-alt l = l.most ≡ arms_write l.tags (arms_of (map arm_of (take l.alt-index l.alts)))
+invariant-alternatives-loop-alt l = l.most ≡ arms_write l.tags
+    (arms_of (map arm_of (take l.alt-index l.alts)))

@@ -17,7 +17,12 @@ abbrev pub decreases-narrow_stmt : goal.decreases-narrow_stmt
 decreases-narrow_stmt l = goal.size-narrow_stmt l
 
 abbrev pub invariant-narrow_op-loop-alt : goal.invariant-narrow_op-loop-alt
-invariant-narrow_op-loop-alt l = record { scrutinee : l.v ≡ l.initial.v; some : ArmsNarrow l.tags.count (found l.tags.flow.now) l.stays l.initial.uses l.uses l.made l.yielded }
+invariant-narrow_op-loop-alt l = record {
+  scrutinee : l.v ≡ l.initial.v;
+  some : ArmsNarrow l.tags.count (found l.tags.flow.now) l.stays
+      l.initial.uses l.uses l.made l.yielded;
+}
 
 abbrev pub invariant-narrow_block-loop-stmt : goal.invariant-narrow_block-loop-stmt
-invariant-narrow_block-loop-stmt l = Narrows l.tags.count (found l.tags.flow.now) l.stays l.fn.uses l.uses (end (act_of l.fn.block.last.value)) l.yielded l.made.items (act_of l.last)
+invariant-narrow_block-loop-stmt l = Narrows l.tags.count (found l.tags.flow.now) l.stays l.fn.uses
+    l.uses (end (act_of l.fn.block.last.value)) l.yielded l.made.items (act_of l.last)

@@ -5,4 +5,5 @@ use Rattle.narrow_vectors.specs.Narrow.{arms_fit}
 use Rattle.narrow_vectors.proofs.fit.+fits.Given as goal
 
 abbrev pub invariant-alts_fit-loop-alt : goal.invariant-alts_fit-loop-alt
-invariant-alts_fit-loop-alt l = l.fit ≡ arms_fit l.tags.count (found l.tags.flow.now) l.stays (arms_of (map arm_of (take l.alt-index l.alts)))
+invariant-alts_fit-loop-alt l = l.fit ≡ arms_fit l.tags.count (found l.tags.flow.now) l.stays
+    (arms_of (map arm_of (take l.alt-index l.alts)))

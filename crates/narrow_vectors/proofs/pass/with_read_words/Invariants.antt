@@ -6,4 +6,6 @@ use Rattle.narrow_vectors.specs.Narrow.{narrow_code}
 use Rattle.narrow_vectors.proofs.pass.with_read_words.Given as goal
 
 abbrev pub invariant-loop-proc : goal.invariant-loop-proc
-invariant-loop-proc l = map procedure_of l.procs ≡ map (rewritten_procedure (narrow_code l.tags.count (found l.tags.flow.now) None)) (map procedure_of l.yielded)
+invariant-loop-proc l = map procedure_of l.procs ≡ map
+    (rewritten_procedure (narrow_code l.tags.count (found l.tags.flow.now) None))
+    (map procedure_of l.yielded)

@@ -21,5 +21,9 @@ returns c =
     let found = c.as_slice-tags.result.now in
     let out = c.args.out.now in
     let given : X ≡ as_nodes p (width (value v)) (value_items p H v) = search rules in
-    on_ok c.tags_applied.result (c.tags_applied.new.out ≡ out ++ flat_map (tag_applied p H X c.args.a k) found) (c.tags_applied.new.out ≡ out ++ facts_demanded p H (applies v c.args.a k))
-    (λ e. e ∙ ap (λ l. out ++ l) (all_applied p H v c.args.a k X found given (c.as_slice-tags.ensures ∙ c.in_ok-nodes.ensures.by_tag.tags_are))) c.tags_applied.ensures
+    on_ok c.tags_applied.result
+    (c.tags_applied.new.out ≡ out ++ flat_map (tag_applied p H X c.args.a k) found)
+    (c.tags_applied.new.out ≡ out ++ facts_demanded p H (applies v c.args.a k))
+    (λ e. e ∙ ap (λ l. out ++ l)
+    (all_applied p H v c.args.a k X found given
+    (c.as_slice-tags.ensures ∙ c.in_ok-nodes.ensures.by_tag.tags_are))) c.tags_applied.ensures

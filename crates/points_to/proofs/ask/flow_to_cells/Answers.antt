@@ -18,5 +18,10 @@ returns c =
     let out = c.args.out.now in
     let X = c.items.new.out in
     let given : X ≡ items p H s = search rules in
-    on_ok c.cells_asked.result (c.cells_asked.new.out ≡ out ++ flat_map (cell_facts (as_nodes p c.width.result X)) (elements p H w)) (c.cells_asked.new.out ≡ out ++ flow_facts p H s (cells_at w))
-    (λ e. e ∙ ap (λ n. out ++ flat_map (cell_facts (as_nodes p n X)) (elements p H w)) c.width.ensures ∙ ap (λ Y. out ++ flat_map (cell_facts (as_nodes p (width s) Y)) (elements p H w)) given) c.cells_asked.ensures
+    on_ok c.cells_asked.result
+    (c.cells_asked.new.out ≡ out ++ flat_map (cell_facts (as_nodes p c.width.result X))
+    (elements p H w)) (c.cells_asked.new.out ≡ out ++ flow_facts p H s (cells_at w))
+    (λ e. e ∙ ap (λ n. out ++ flat_map (cell_facts (as_nodes p n X)) (elements p H w))
+    c.width.ensures ∙ ap
+    (λ Y. out ++ flat_map (cell_facts (as_nodes p (width s) Y)) (elements p H w)) given)
+    c.cells_asked.ensures

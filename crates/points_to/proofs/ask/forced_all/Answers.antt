@@ -5,7 +5,10 @@ use Rattle.points_to.proofs.Loops.{flat_next, flat_done}
 use Rattle.points_to.proofs.ask.forced_all.Goals as goal
 
 pub loop-word-preserved : goal.loop-word-preserved
-loop-word-preserved c = flat_next (forced (tables_of c.args.system.now) (held c.args.facts.now) c.args.s) _ _ _ _ _ _ c.loop-word-test.true c.loop-word.invariant c.in_ok-forced.ensures
+loop-word-preserved c = flat_next
+    (forced (tables_of c.args.system.now) (held c.args.facts.now) c.args.s) _ _ _ _ _ _
+    c.loop-word-test.true c.loop-word.invariant c.in_ok-forced.ensures
 
 pub returns : goal.returns
-returns c = flat_done (forced (tables_of c.args.system.now) (held c.args.facts.now) c.args.s) _ _ _ _ c.loop-word-test.false c.loop-word.invariant
+returns c = flat_done (forced (tables_of c.args.system.now) (held c.args.facts.now) c.args.s) _ _ _
+    _ c.loop-word-test.false c.loop-word.invariant

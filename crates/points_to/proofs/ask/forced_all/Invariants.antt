@@ -6,4 +6,5 @@ use Rattle.points_to.specs.Asked.{forced}
 use Rattle.points_to.proofs.ask.forced_all.Given as goal
 
 abbrev pub invariant-loop-word : goal.invariant-loop-word
-invariant-loop-word l = l.out ≡ l.initial.out ++ flat_map (forced (tables_of l.system) (held l.facts) l.s) (take l.word-index l.words)
+invariant-loop-word l = l.out ≡ l.initial.out ++ flat_map
+    (forced (tables_of l.system) (held l.facts) l.s) (take l.word-index l.words)

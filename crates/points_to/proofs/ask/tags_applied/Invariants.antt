@@ -6,4 +6,6 @@ use Rattle.points_to.specs.Applied.{tag_applied}
 use Rattle.points_to.proofs.ask.tags_applied.Given as goal
 
 abbrev pub invariant-loop-word : goal.invariant-loop-word
-invariant-loop-word l = l.out ≡ l.initial.out ++ flat_map (tag_applied (tables_of l.system) (held l.facts) l.nodes.nodes l.a (sink_of l.sink)) (take l.word-index l.words)
+invariant-loop-word l = l.out ≡ l.initial.out ++ flat_map
+    (tag_applied (tables_of l.system) (held l.facts) l.nodes.nodes l.a (sink_of l.sink))
+    (take l.word-index l.words)

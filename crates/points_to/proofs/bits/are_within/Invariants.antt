@@ -6,4 +6,5 @@ use Rattle.points_to.specs.Held.{In}
 use Rattle.points_to.proofs.bits.are_within.Given as goal
 
 abbrev pub invariant-loop-block : goal.invariant-loop-block
-invariant-loop-block l = (u : Element) → In u (flat_map block_words (take l.block-index l.blocks)) → In u (flat_map block_words l.others)
+invariant-loop-block l = (u : Element) → In u (flat_map block_words (take l.block-index l.blocks))
+    → In u (flat_map block_words l.others)

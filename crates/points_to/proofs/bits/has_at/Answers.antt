@@ -16,7 +16,9 @@ returns-in-Ok c = λ t.
     let bs = c.args.blocks.now in
     let b = c.args.block in
     let k = c.in-Ok.place in
-    has_all bs b (get_or bs k (0, 0)).1 (found bs c.requires.ascending b.0 k (subst (Finds bs b.0) c.in-Ok.is c.requires.finds)) (c.is_within.ensures t)
+    has_all bs b (get_or bs k (0, 0)).1
+    (found bs c.requires.ascending b.0 k (subst (Finds bs b.0) c.in-Ok.is c.requires.finds))
+    (c.is_within.ensures t)
 
 pub returns-in-Err : goal.returns-in-Err
 returns-in-Err c = λ t n h.

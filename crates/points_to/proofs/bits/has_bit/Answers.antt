@@ -4,4 +4,5 @@ use Rattle.std.proofs.lemmas.Nat.Bits.{and_pow}
 use Rattle.points_to.proofs.bits.has_bit.Goals as goal
 
 pub returns : goal.returns
-returns c = grind (arith, tests, one_shl c.args.k 64 c.requires, and_pow c.args.bits c.args.k, pow_pos c.args.k)
+returns c = grind
+    (arith, tests, one_shl c.args.k 64 c.requires, and_pow c.args.bits c.args.k, pow_pos c.args.k)

@@ -12,4 +12,7 @@ both : (x y z : ℕ) → z ≡ min x y → z ≡ x → x ≡ 1 → y < 2 → y �
 both x y z e same one lt = omega (arith, e, same, one, lt)
 
 pub returns : goal.returns
-returns c = λ t i one. both (bit_at c.args.a i) (bit_at c.args.b i) (bit_at (bit_and c.args.a c.args.b) i) (bit_at_and c.args.a c.args.b i) (ap (λ m. bit_at m i) (is_same (bit_and c.args.a c.args.b) c.args.a t)) one (bit_at-lt c.args.b i)
+returns c = λ t i one. both (bit_at c.args.a i) (bit_at c.args.b i)
+    (bit_at (bit_and c.args.a c.args.b) i) (bit_at_and c.args.a c.args.b i)
+    (ap (λ m. bit_at m i) (is_same (bit_and c.args.a c.args.b) c.args.a t)) one
+    (bit_at-lt c.args.b i)

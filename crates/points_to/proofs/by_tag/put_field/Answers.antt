@@ -9,7 +9,9 @@ use Rattle.points_to.proofs.TablesOfRuns.{fields_gone, fields_kept}
 use Rattle.points_to.proofs.by_tag.put_field.Goals as goal
 
 pub returns-in-Tags : goal.returns-in-Tags
-returns-in-Tags c = λ u. appends_none (items_of c.args.fields.now u) (field_items u (items_of_item_run c.args.run)) (fields_gone c.args.run.part tags u (block_words c.args.run.block) c.in-Tags.is (λ v. refl))
+returns-in-Tags c = λ u. appends_none (items_of c.args.fields.now u)
+    (field_items u (items_of_item_run c.args.run))
+    (fields_gone c.args.run.part tags u (block_words c.args.run.block) c.in-Tags.is (λ v. refl))
 
 pub returns-in-Field : goal.returns-in-Field
 returns-in-Field c =
@@ -17,8 +19,15 @@ returns-in-Field c =
     let run = c.args.run in
     let old = c.args.fields.now in
     let new = c.put_at.new.fields in
-    on_ok c.put_at.result ((u : ℕ) → items_of new u ≡ items_of old u ++ cond (nat_eq t u) (items_of_item_run run) []) ((u : ℕ) → items_of new u ≡ items_of old u ++ field_items u (items_of_item_run run))
-    (λ e u. e u ∙ ap (λ l. items_of old u ++ l) (sym (fields_kept run.part t c.in-Field.field-1 u (block_words run.block) c.in-Field.is))) c.put_at.ensures
+    on_ok c.put_at.result
+    ((u : ℕ) → items_of new u ≡ items_of old u ++ cond (nat_eq t u) (items_of_item_run run) [])
+    ((u : ℕ) → items_of new u ≡ items_of old u ++ field_items u (items_of_item_run run))
+    (λ e u. e u ∙ ap (λ l. items_of old u ++ l)
+    (sym (fields_kept run.part t c.in-Field.field-1 u (block_words run.block) c.in-Field.is)))
+    c.put_at.ensures
 
 pub returns-in-Word : goal.returns-in-Word
-returns-in-Word c = λ u. appends_none (items_of c.args.fields.now u) (field_items u (items_of_item_run c.args.run)) (fields_gone c.args.run.part (word c.in-Word.field-0) u (block_words c.args.run.block) c.in-Word.is (λ v. refl))
+returns-in-Word c = λ u. appends_none (items_of c.args.fields.now u)
+    (field_items u (items_of_item_run c.args.run))
+    (fields_gone c.args.run.part (word c.in-Word.field-0) u (block_words c.args.run.block)
+    c.in-Word.is (λ v. refl))

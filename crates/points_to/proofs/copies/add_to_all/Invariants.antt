@@ -6,4 +6,5 @@ use Rattle.points_to.specs.Known.{held, GrowsByFacts}
 use Rattle.points_to.proofs.copies.add_to_all.Given as goal
 
 abbrev pub invariant-loop-x : goal.invariant-loop-x
-invariant-loop-x l = GrowsByFacts (held l.initial.facts) (held l.facts) (facts_to (take l.x-index l.targets) (flat_map block_words l.words))
+invariant-loop-x l = GrowsByFacts (held l.initial.facts) (held l.facts)
+    (facts_to (take l.x-index l.targets) (flat_map block_words l.words))

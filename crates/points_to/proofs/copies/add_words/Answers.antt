@@ -15,8 +15,12 @@ pub loop-block-init : goal.loop-block-init
 loop-block-init c = grows_none (held c.args.facts.now)
 
 pub loop-block-preserved : goal.loop-block-preserved
-loop-block-preserved c = words_next _ _ _ (Var c.args.x) (Word 0) _ _ _ c.loop-block-test.true c.loop-block.invariant c.in_ok-add_block.ensures
+loop-block-preserved c = words_next _ _ _ (Var c.args.x) (Word 0) _ _ _ c.loop-block-test.true
+    c.loop-block.invariant c.in_ok-add_block.ensures
 
 pub returns : goal.returns
 returns c =
-    subst (λ bs. GrowsByFacts (held c.args.facts.now) (held c.loop-block.facts) (facts_at (Var c.args.x) (in_part (Word 0) (flat_map block_words bs)))) (take_all c.loop-block.block-index c.args.words.now c.loop-block-test.false) c.loop-block.invariant
+    subst (λ bs. GrowsByFacts (held c.args.facts.now) (held c.loop-block.facts)
+    (facts_at (Var c.args.x) (in_part (Word 0) (flat_map block_words bs))))
+    (take_all c.loop-block.block-index c.args.words.now c.loop-block-test.false)
+    c.loop-block.invariant

@@ -9,4 +9,5 @@ use Rattle.points_to.specs.Known.{held, GrowsByFacts}
 use Rattle.points_to.proofs.copies.add_words.Given as goal
 
 abbrev pub invariant-loop-block : goal.invariant-loop-block
-invariant-loop-block l = GrowsByFacts (held l.initial.facts) (held l.facts) (facts_at (Var l.x) (in_part (Word 0) (flat_map block_words (take l.block-index l.words))))
+invariant-loop-block l = GrowsByFacts (held l.initial.facts) (held l.facts)
+    (facts_at (Var l.x) (in_part (Word 0) (flat_map block_words (take l.block-index l.words))))

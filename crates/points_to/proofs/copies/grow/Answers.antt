@@ -6,4 +6,5 @@ pub growing-init : goal.growing-init
 growing-init c = λ m. refl
 
 pub growing-preserved : goal.growing-preserved
-growing-preserved c = row_grown c.args.rows.now.items c.growing.rows.items c.push.new.self.items c.new.result c.new.ensures c.in_ok-push.ensures.items c.growing.invariant
+growing-preserved c = row_grown c.args.rows.now.items c.growing.rows.items c.push.new.self.items
+    c.new.result c.new.ensures c.in_ok-push.ensures.items c.growing.invariant

@@ -13,5 +13,8 @@ returns c =
     let n = c.args.n in
     let old = c.index_mut.result.now in
     let new = c.push.new.self in
-    on_ok c.push.result (new ≡ old ++ c.args.g ∷ []) ((m h : ℕ) → In h (or_empty (slice_get (slice_set rows n new) m)) → In h (or_empty (slice_get rows m)) ⊎ ((m ≡ n) × (h ≡ c.args.g)))
-    (λ e. row_put rows n c.args.g old new c.requires (get_is rows n old c.requires c.index_mut.ensures.value) e) c.push.ensures.ok
+    on_ok c.push.result (new ≡ old ++ c.args.g ∷ [])
+    ((m h : ℕ) → In h (or_empty (slice_get (slice_set rows n new) m))
+    → In h (or_empty (slice_get rows m)) ⊎ ((m ≡ n) × (h ≡ c.args.g)))
+    (λ e. row_put rows n c.args.g old new c.requires
+    (get_is rows n old c.requires c.index_mut.ensures.value) e) c.push.ensures.ok

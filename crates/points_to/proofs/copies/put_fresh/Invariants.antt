@@ -7,4 +7,5 @@ use Rattle.points_to.specs.Held.{In}
 use Rattle.points_to.proofs.copies.put_fresh.Given as goal
 
 abbrev pub invariant-loop-block : goal.invariant-loop-block
-invariant-loop-block l = (u : Element) → In u l.out → In u l.initial.out ⊎ In u (flat_map block_words (take l.block-index l.blocks))
+invariant-loop-block l = (u : Element) → In u l.out → In u l.initial.out
+    ⊎ In u (flat_map block_words (take l.block-index l.blocks))

@@ -10,5 +10,8 @@ pub returns-then-same_fetch-clause-sound : goal.returns-then-same_fetch-clause-s
 returns-then-same_fetch-clause-sound c =
     let old = c.args.fetched.now in
     let new = record old { targets = c.push.new.self } in
-    on_ok c.push.result (c.push.new.self ≡ old.targets ++ c.args.x.0 ∷ []) ((p : Tables) (cs : List Inclusion) → GoesTo p cs c.args.fetch c.args.x.0 → IsFetched p cs old → IsFetched p cs new)
-    (λ e p cs goes k. target_more p cs old new c.args.fetch c.args.x.0 refl refl e (c.same_fetch.ensures c.if-same_fetch.true) goes k) c.push.ensures.ok
+    on_ok c.push.result (c.push.new.self ≡ old.targets ++ c.args.x.0 ∷ [])
+    ((p : Tables) (cs : List Inclusion) → GoesTo p cs c.args.fetch c.args.x.0
+    → IsFetched p cs old → IsFetched p cs new)
+    (λ e p cs goes k. target_more p cs old new c.args.fetch c.args.x.0 refl refl e
+    (c.same_fetch.ensures c.if-same_fetch.true) goes k) c.push.ensures.ok

@@ -8,4 +8,6 @@ of_both : (x y z : ℕ) → z ≡ min x y → z ≡ 1 → x < 2 → x ≡ 1
 of_both x y z e one lt = omega (arith, e, one, lt)
 
 pub returns : goal.returns
-returns c = λ i one. of_both (bit_at c.args.a i) (bit_at (18446744073709551615 - c.args.b) i) (bit_at (bit_and c.args.a (18446744073709551615 - c.args.b)) i) (bit_at_and c.args.a (18446744073709551615 - c.args.b) i) one (bit_at-lt c.args.a i)
+returns c = λ i one. of_both (bit_at c.args.a i) (bit_at (18446744073709551615 - c.args.b) i)
+    (bit_at (bit_and c.args.a (18446744073709551615 - c.args.b)) i)
+    (bit_at_and c.args.a (18446744073709551615 - c.args.b) i) one (bit_at-lt c.args.a i)

@@ -6,4 +6,6 @@ use Rattle.points_to.specs.Bits.{block_words}
 use Rattle.points_to.proofs.fetch.fields_of_blocks.Given as goal
 
 abbrev pub invariant-loop-block : goal.invariant-loop-block
-invariant-loop-block l = l.out ≡ l.initial.out ++ flat_map (λ b. flat_map (field_of_tag (tables_of l.system) l.i l.items) (block_words b)) (take l.block-index l.blocks)
+invariant-loop-block l = l.out ≡ l.initial.out ++ flat_map
+    (λ b. flat_map (field_of_tag (tables_of l.system) l.i l.items) (block_words b))
+    (take l.block-index l.blocks)

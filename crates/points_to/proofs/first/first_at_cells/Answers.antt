@@ -14,6 +14,11 @@ returns c =
     let H = held c.args.facts.now in
     let cells = c.as_slice.result.now in
     let found : cells ≡ elements p H c.args.w = search rules in
-    on_ok c.first_words_at_cells.result (c.first_words_at_cells.new.out ≡ c.args.out.now ++ flat_map (λ w. words_in_part (word 0) (cell_items H w)) cells)
-    (c.first_words_at_cells.new.out ≡ c.args.out.now ++ words_in_part (word 0) (flat_map (cell_items H) (elements p H c.args.w)))
-    (λ e. e ∙ ap (λ l. c.args.out.now ++ l) (sym (picked_cells H cells)) ∙ ap (λ l. c.args.out.now ++ words_in_part (word 0) (flat_map (cell_items H) l)) found) c.first_words_at_cells.ensures
+    on_ok c.first_words_at_cells.result
+    (c.first_words_at_cells.new.out ≡ c.args.out.now
+    ++ flat_map (λ w. words_in_part (word 0) (cell_items H w)) cells)
+    (c.first_words_at_cells.new.out ≡ c.args.out.now
+    ++ words_in_part (word 0) (flat_map (cell_items H) (elements p H c.args.w)))
+    (λ e. e ∙ ap (λ l. c.args.out.now ++ l) (sym (picked_cells H cells)) ∙ ap
+    (λ l. c.args.out.now ++ words_in_part (word 0) (flat_map (cell_items H) l)) found)
+    c.first_words_at_cells.ensures

@@ -13,5 +13,7 @@ returns c =
     let p = tables_of c.args.system.now in
     let H = held c.args.facts.now in
     let words = flat_map (fetched_at p H c.args.i) (elements p H c.args.w) in
-    on_ok c.fetched_words.result (c.fetched_words.new.out ≡ c.args.out.now ++ words) (c.fetched_words.new.out ≡ c.args.out.now ++ words_in_part (word 0) (in_part (word 0) words))
+    on_ok c.fetched_words.result (c.fetched_words.new.out ≡ c.args.out.now ++ words)
+    (c.fetched_words.new.out ≡ c.args.out.now ++ words_in_part (word 0)
+    (in_part (word 0) words))
     (λ e. e ∙ ap (λ l. c.args.out.now ++ l) (sym (picked_same 0 words))) c.fetched_words.ensures

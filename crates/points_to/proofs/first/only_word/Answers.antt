@@ -10,5 +10,6 @@ use Rattle.points_to.proofs.first.only_word.Goals as goal
 pub returns : goal.returns
 returns c =
     let words = elements (tables_of c.args.system.now) (held c.args.facts.now) c.args.w in
-    on_ok c.words_of.result (c.words_of.new.out ≡ c.args.out.now ++ words) (c.words_of.new.out ≡ c.args.out.now ++ words_in_part (word 0) (in_part (word 0) words))
+    on_ok c.words_of.result (c.words_of.new.out ≡ c.args.out.now ++ words)
+    (c.words_of.new.out ≡ c.args.out.now ++ words_in_part (word 0) (in_part (word 0) words))
     (λ e. e ∙ ap (λ l. c.args.out.now ++ l) (sym (picked_same 0 words))) c.words_of.ensures

@@ -17,5 +17,12 @@ returns c =
     let fields = c.append_fields.new.out in
     let found = c.as_slice-tags.result.now in
     let out = c.args.out.now in
-    on_ok c.arguments_of_all.result (c.arguments_of_all.new.out ≡ out ++ flat_map (arguments_of p H c.args.t c.args.words.now fields) found) (c.arguments_of_all.new.out ≡ out ++ flat_map (arguments_of p H c.args.t c.args.words.now X) (words_in_part tags X))
-    (λ e. e ∙ ap (λ l. out ++ l) (all_arguments p H c.args.t c.args.words.now X fields found (c.in_ok-append_fields.ensures ∙ ap (λ l. l ++ field_items c.args.t X) c.new-fields.ensures) (c.as_slice-tags.ensures ∙ c.requires.tags_are))) c.arguments_of_all.ensures
+    on_ok c.arguments_of_all.result
+    (c.arguments_of_all.new.out ≡ out ++ flat_map
+    (arguments_of p H c.args.t c.args.words.now fields) found)
+    (c.arguments_of_all.new.out ≡ out ++ flat_map (arguments_of p H c.args.t c.args.words.now X)
+    (words_in_part tags X))
+    (λ e. e ∙ ap (λ l. out ++ l)
+    (all_arguments p H c.args.t c.args.words.now X fields found
+    (c.in_ok-append_fields.ensures ∙ ap (λ l. l ++ field_items c.args.t X) c.new-fields.ensures)
+    (c.as_slice-tags.ensures ∙ c.requires.tags_are))) c.arguments_of_all.ensures

@@ -6,4 +6,6 @@ use Rattle.points_to.specs.Held.{arguments_of}
 use Rattle.points_to.proofs.give.arguments_of_all.Given as goal
 
 abbrev pub invariant-loop-word : goal.invariant-loop-word
-invariant-loop-word l = l.out ≡ l.initial.out ++ flat_map (arguments_of (tables_of l.system) (held l.facts) l.t l.words l.items) (take l.word-index l.found)
+invariant-loop-word l = l.out ≡ l.initial.out ++ flat_map
+    (arguments_of (tables_of l.system) (held l.facts) l.t l.words l.items)
+    (take l.word-index l.found)

@@ -6,4 +6,5 @@ use Rattle.points_to.specs.Held.{fetched_at}
 use Rattle.points_to.proofs.give.fetched_at_all.Given as goal
 
 abbrev pub invariant-loop-word : goal.invariant-loop-word
-invariant-loop-word l = l.out ≡ l.initial.out ++ flat_map (fetched_at (tables_of l.system) (held l.facts) l.i) (take l.word-index l.words)
+invariant-loop-word l = l.out ≡ l.initial.out ++ flat_map
+    (fetched_at (tables_of l.system) (held l.facts) l.i) (take l.word-index l.words)

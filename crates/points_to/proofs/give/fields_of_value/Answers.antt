@@ -20,7 +20,9 @@ returns c =
     let X = value_items p H v in
     let nodes : c.as_nodes_of.new.out ≡ as_nodes_of p t (width (value v)) X = search rules in
     on_ok c.arguments.result
-    (c.arguments.new.out ≡ c.args.out.now ++ flat_map (arguments_of p H t [] c.as_nodes_of.new.out) (words_in_part tags c.as_nodes_of.new.out))
+    (c.arguments.new.out ≡ c.args.out.now ++ flat_map (arguments_of p H t [] c.as_nodes_of.new.out)
+    (words_in_part tags c.as_nodes_of.new.out))
     (c.arguments.new.out ≡ c.args.out.now ++ items p H (arguments (value v) t []))
-    (λ e. e ∙ ap (λ N. c.args.out.now ++ flat_map (arguments_of p H t [] N) (words_in_part tags N)) nodes ∙ ap (λ l. c.args.out.now ++ l) (arguments_of_tag p H t [] (width (value v)) X))
+    (λ e. e ∙ ap (λ N. c.args.out.now ++ flat_map (arguments_of p H t [] N) (words_in_part tags N))
+    nodes ∙ ap (λ l. c.args.out.now ++ l) (arguments_of_tag p H t [] (width (value v)) X))
     c.arguments.ensures

@@ -6,4 +6,5 @@ use Rattle.points_to.specs.Held.{longer_tag}
 use Rattle.points_to.proofs.give.longer_tags.Given as goal
 
 abbrev pub invariant-loop-word : goal.invariant-loop-word
-invariant-loop-word l = l.out ≡ l.initial.out ++ flat_map (longer_tag (tables_of l.system) (held l.facts) l.a l.nodes.nodes) (take l.word-index l.words)
+invariant-loop-word l = l.out ≡ l.initial.out ++ flat_map
+    (longer_tag (tables_of l.system) (held l.facts) l.a l.nodes.nodes) (take l.word-index l.words)

@@ -10,7 +10,13 @@ pub loop-word-preserved : goal.loop-word-preserved
 loop-word-preserved c =
     let p = tables_of c.args.system.now in
     let H = held c.args.facts.now in
-    numbered_next (numbered p H (numbered_part c.args.numbering)) (λ j w. in_part (numbered_part c.args.numbering j) (elements p H w)) (λ j w ws. refl) _ _ _ _ _ _ _ _ c.loop-word-test.true (search rules) c.loop-word.invariant c.in_ok-elements_at.ensures
+    numbered_next (numbered p H (numbered_part c.args.numbering))
+    (λ j w. in_part (numbered_part c.args.numbering j) (elements p H w)) (λ j w ws. refl) _ _ _
+    _ _ _ _ _ c.loop-word-test.true (search rules) c.loop-word.invariant
+    c.in_ok-elements_at.ensures
 
 pub returns : goal.returns
-returns c = numbered_done (numbered (tables_of c.args.system.now) (held c.args.facts.now) (numbered_part c.args.numbering)) (λ j. refl) _ _ _ _ _ c.loop-word-test.false c.loop-word.invariant
+returns c = numbered_done
+    (numbered (tables_of c.args.system.now) (held c.args.facts.now)
+    (numbered_part c.args.numbering)) (λ j. refl) _ _ _ _ _ c.loop-word-test.false
+    c.loop-word.invariant

@@ -6,4 +6,6 @@ use Rattle.points_to.specs.Numbering.{numbered_part}
 use Rattle.points_to.proofs.give.numbered.Given as goal
 
 abbrev pub invariant-loop-word : goal.invariant-loop-word
-invariant-loop-word l = l.out ++ numbered (tables_of l.system) (held l.facts) (numbered_part l.numbering) l.j (drop l.word-index l.words) ≡ l.initial.out ++ numbered (tables_of l.system) (held l.facts) (numbered_part l.numbering) l.first l.words
+invariant-loop-word l = l.out ++ numbered (tables_of l.system) (held l.facts)
+    (numbered_part l.numbering) l.j (drop l.word-index l.words) ≡ l.initial.out
+    ++ numbered (tables_of l.system) (held l.facts) (numbered_part l.numbering) l.first l.words

@@ -12,6 +12,9 @@ loop-g-preserved c =
     let ws = c.loop-g.groups.items in
     let g = c.loop-g.g in
     record {
-      count = ap length c.in_ok-push.ensures.items ∙ more ws (2 ^ 64 - 1) g c.loop-g.invariant.count;
-      all = subst (λ l. (n : ℕ) → n < 64 * (g + 1) → In n (numbers_from 0 l)) (sym c.in_ok-push.ensures.items) (whole_more ws g c.loop-g.invariant.count c.loop-g.invariant.all);
+      count = ap length c.in_ok-push.ensures.items ∙ more ws (2 ^ 64 - 1) g
+          c.loop-g.invariant.count;
+      all = subst (λ l. (n : ℕ) → n < 64 * (g + 1) → In n (numbers_from 0 l))
+          (sym c.in_ok-push.ensures.items)
+          (whole_more ws g c.loop-g.invariant.count c.loop-g.invariant.all);
     }

@@ -10,7 +10,9 @@ use Rattle.points_to.proofs.Loops.{flat_next, flat_done}
 use Rattle.points_to.proofs.items.append_done_row.Goals as goal
 
 pub loop-block-preserved : goal.loop-block-preserved
-loop-block-preserved c = flat_next (λ b. done_items (tables_of c.args.system.now) (in_part c.args.row.now.part (block_words b))) _ _ _ _ _ _ c.loop-block-test.true c.loop-block.invariant c.in_ok-shift_evaluated.ensures
+loop-block-preserved c = flat_next
+    (λ b. done_items (tables_of c.args.system.now) (in_part c.args.row.now.part (block_words b))) _
+    _ _ _ _ _ c.loop-block-test.true c.loop-block.invariant c.in_ok-shift_evaluated.ensures
 
 pub returns : goal.returns
 returns c =
@@ -20,4 +22,6 @@ returns c =
     let bs : List (ℕ × ℕ) = c.args.row.now.words.blocks.items in
     flat_done one _ _ _ _ c.loop-block-test.false c.loop-block.invariant
     ∙ ap (λ bs. c.args.out.now ++ flat_map one bs) c.as_slice-block-items.ensures.value
-    ∙ ap (λ l. c.args.out.now ++ l) (sym (ap (done_items p) (map_flat (item part) block_words bs) ∙ flat_flat (λ i. done_part p i.part i.word) (λ b. in_part part (block_words b)) bs))
+    ∙ ap (λ l. c.args.out.now ++ l)
+    (sym (ap (done_items p) (map_flat (item part) block_words bs) ∙ flat_flat
+    (λ i. done_part p i.part i.word) (λ b. in_part part (block_words b)) bs))

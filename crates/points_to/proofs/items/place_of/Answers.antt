@@ -10,8 +10,11 @@ halving-preserved-then-is_before c =
     let p = c.halving.invariant in
     let test : low < high = c.halving-test.true in
     let bound : high ≤ length c.args.rows.now = p.bound in
-    in_upper c.args.rows.now c.requires c.args.part low high (low + (high - low) / 2) c.index-rows-middle.result p (omega (arith, test, bound)) c.index-rows-middle.is (omega (arith, test))
-    (subst (λ r. before r.part c.args.part ≡ true) (sym c.index-rows-middle.is) (sym c.is_before.ensures ∙ c.if-is_before.true))
+    in_upper c.args.rows.now c.requires c.args.part low high (low + (high - low) / 2)
+    c.index-rows-middle.result p (omega (arith, test, bound)) c.index-rows-middle.is
+    (omega (arith, test))
+    (subst (λ r. before r.part c.args.part ≡ true) (sym c.index-rows-middle.is)
+    (sym c.is_before.ensures ∙ c.if-is_before.true))
 
 pub halving-preserved : goal.halving-preserved
 halving-preserved c =
@@ -20,5 +23,8 @@ halving-preserved c =
     let p = c.halving.invariant in
     let test : low < high = c.halving-test.true in
     let bound : high ≤ length c.args.rows.now = p.bound in
-    in_lower c.args.rows.now c.requires c.args.part low high (low + (high - low) / 2) c.index-rows-middle.result p (omega (arith, test, bound)) c.index-rows-middle.is (omega (arith, test))
-    (subst (λ r. before r.part c.args.part ≡ false) (sym c.index-rows-middle.is) (sym c.is_before.ensures ∙ c.if-is_before.false))
+    in_lower c.args.rows.now c.requires c.args.part low high (low + (high - low) / 2)
+    c.index-rows-middle.result p (omega (arith, test, bound)) c.index-rows-middle.is
+    (omega (arith, test))
+    (subst (λ r. before r.part c.args.part ≡ false) (sym c.index-rows-middle.is)
+    (sym c.is_before.ensures ∙ c.if-is_before.false))

@@ -8,7 +8,9 @@ pub loop-cell-init : goal.loop-cell-init
 loop-cell-init c = subst (λ l. GainsMembers [] l []) (sym c.new-met.ensures) (gets_none [])
 
 pub loop-cell-preserved : goal.loop-cell-preserved
-loop-cell-preserved c = gets_next (cell_stored c.args.stored.now) _ _ _ _ _ _ c.loop-cell-test.true c.loop-cell.invariant c.in_ok-put_met.ensures
+loop-cell-preserved c = gets_next (cell_stored c.args.stored.now) _ _ _ _ _ _ c.loop-cell-test.true
+    c.loop-cell.invariant c.in_ok-put_met.ensures
 
 pub returns : goal.returns
-returns c = gets_from_none _ _ (gets_done (cell_stored c.args.stored.now) _ _ _ _ c.loop-cell-test.false c.loop-cell.invariant)
+returns c = gets_from_none _ _
+    (gets_done (cell_stored c.args.stored.now) _ _ _ _ c.loop-cell-test.false c.loop-cell.invariant)

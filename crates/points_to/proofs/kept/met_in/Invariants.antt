@@ -5,4 +5,5 @@ use Rattle.points_to.specs.Stored.{cell_stored}
 use Rattle.points_to.proofs.kept.met_in.Given as goal
 
 abbrev pub invariant-loop-cell : goal.invariant-loop-cell
-invariant-loop-cell l = GainsMembers [] (numbers_in l.met) (flat_map (cell_stored l.stored) (take l.cell-index l.cells))
+invariant-loop-cell l = GainsMembers [] (numbers_in l.met)
+    (flat_map (cell_stored l.stored) (take l.cell-index l.cells))

@@ -18,4 +18,6 @@ returns c =
     let out : c.as_tags.new.out ≡ map tag_id ns = search rules in
     subst (λ ts. IsSortedSetOf ms (map (λ t. t.0) ts)) (sym out)
     (subst (IsSortedSetOf ms) (sym (unwrapped (λ t. t.0) tag_id (λ n. refl) ns))
-    (ascends_like met ms ns c.in_ok-met.ensures (ascends_of met ns (subst (SameSet ns) given c.ascending-listed.ensures.same) c.ascending-listed.ensures.ascending)))
+    (ascends_like met ms ns c.in_ok-met.ensures
+    (ascends_of met ns (subst (SameSet ns) given c.ascending-listed.ensures.same)
+    c.ascending-listed.ensures.ascending)))

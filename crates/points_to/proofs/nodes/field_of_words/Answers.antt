@@ -11,7 +11,9 @@ use Rattle.points_to.proofs.nodes.field_of_words.Goals as goal
 pub returns-then-j-eq0 : goal.returns-then-j-eq0
 returns-then-j-eq0 c =
     let ws = block_words c.args.block in
-    appends_none c.args.out.now (flat_map (shifted_word c.args.t c.args.m c.args.j) ws) (ap (λ j. flat_map (shifted_word c.args.t c.args.m j) ws) c.if-j-eq0.true ∙ words_gone c.args.t c.args.m ws)
+    appends_none c.args.out.now (flat_map (shifted_word c.args.t c.args.m c.args.j) ws)
+    (ap (λ j. flat_map (shifted_word c.args.t c.args.m j) ws) c.if-j-eq0.true ∙ words_gone
+    c.args.t c.args.m ws)
 
 pub returns : goal.returns
 returns c =
@@ -20,5 +22,10 @@ returns c =
     let m = c.args.m in
     let j = c.args.j in
     let next : j ≡ suc (j - 1) = omega (arith, c.if-j-eq0.false) in
-    on_ok c.push_if.result (c.push_if.new.out ≡ c.args.out.now ++ cond (nat_lt (j - 1) m) (in_part (field t (j - 1)) ws) []) (c.push_if.new.out ≡ c.args.out.now ++ flat_map (shifted_word t m j) ws)
-    (λ e. e ∙ ap (λ l. c.args.out.now ++ l) (sym (ap (λ j. flat_map (shifted_word t m j) ws) next ∙ words_moved t m (j - 1) (nat_lt (j - 1) m) refl ws))) c.push_if.ensures
+    on_ok c.push_if.result
+    (c.push_if.new.out ≡ c.args.out.now ++ cond (nat_lt (j - 1) m)
+    (in_part (field t (j - 1)) ws) [])
+    (c.push_if.new.out ≡ c.args.out.now ++ flat_map (shifted_word t m j) ws)
+    (λ e. e ∙ ap (λ l. c.args.out.now ++ l)
+    (sym (ap (λ j. flat_map (shifted_word t m j) ws) next ∙ words_moved t m (j - 1)
+    (nat_lt (j - 1) m) refl ws))) c.push_if.ensures

@@ -5,4 +5,5 @@ use Rattle.points_to.specs.Held.{node_of_word}
 use Rattle.points_to.proofs.nodes.nodes_of_words.Given as goal
 
 abbrev pub invariant-loop-word : goal.invariant-loop-word
-invariant-loop-word l = l.out ≡ l.initial.out ++ flat_map (node_of_word (tables_of l.system) l.k l.items) (take l.word-index l.words)
+invariant-loop-word l = l.out ≡ l.initial.out ++ flat_map
+    (node_of_word (tables_of l.system) l.k l.items) (take l.word-index l.words)

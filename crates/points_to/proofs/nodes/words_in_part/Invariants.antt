@@ -5,4 +5,5 @@ use Rattle.points_to.specs.Runs.{items_of_item_run}
 use Rattle.points_to.proofs.nodes.words_in_part.Given as goal
 
 abbrev pub invariant-loop-run : goal.invariant-loop-run
-invariant-loop-run l = l.out ≡ l.initial.out ++ flat_map (λ r. words_in_part l.part (items_of_item_run r)) (take l.run-index l.run-items)
+invariant-loop-run l = l.out ≡ l.initial.out ++ flat_map
+    (λ r. words_in_part l.part (items_of_item_run r)) (take l.run-index l.run-items)

@@ -4,4 +4,5 @@ use Rattle.points_to.specs.Stored.{value_in}
 use Rattle.points_to.proofs.origin.copy_values.Given as goal
 
 abbrev pub invariant-loop-inclusion : goal.invariant-loop-inclusion
-invariant-loop-inclusion l = l.made ≡ map (λ i. value_in (inclusion_of i)) (take l.inclusion-index l.inclusions)
+invariant-loop-inclusion l = l.made ≡ map (λ i. value_in (inclusion_of i))
+    (take l.inclusion-index l.inclusions)

@@ -8,7 +8,8 @@ use Rattle.points_to.proofs.parts.put_block.Given as goal
 abbrev pub invariant-values : goal.invariant-values
 invariant-values l =
     l.out ++ part_of_values (tables_in l.origin) l.origin.values (held l.facts) l.part l.left
-    ≡ l.initial.out ++ part_of_values (tables_in l.origin) l.origin.values (held l.facts) l.part (block_numbers l.fn.block)
+    ≡ l.initial.out ++ part_of_values (tables_in l.origin) l.origin.values (held l.facts) l.part
+    (block_numbers l.fn.block)
 
 abbrev pub decreases-values : goal.decreases-values
 decreases-values l = length l.left

@@ -12,5 +12,8 @@ returns c =
     let p = tables_in c.args.origin.now in
     let vs = c.args.origin.now.values in
     let H = held c.args.facts.now in
-    flat_done (λ b. part_of_values p vs H c.args.part (block_numbers b)) _ _ _ _ c.loop-block-test.false c.loop-block.invariant
-    ∙ ap (λ l. c.args.out.now ++ l) (sym (flat_flat (λ n. stored_part p H c.args.part (value_at vs n)) block_numbers c.args.blocks.now))
+    flat_done (λ b. part_of_values p vs H c.args.part (block_numbers b)) _ _ _ _
+    c.loop-block-test.false c.loop-block.invariant
+    ∙ ap (λ l. c.args.out.now ++ l)
+    (sym (flat_flat (λ n. stored_part p H c.args.part (value_at vs n)) block_numbers
+    c.args.blocks.now))

@@ -8,4 +8,6 @@ use Rattle.points_to.proofs.parts.put_blocks.Given as goal
 
 abbrev pub invariant-loop-block : goal.invariant-loop-block
 invariant-loop-block l =
-    l.out ≡ l.initial.out ++ flat_map (λ b. part_of_values (tables_in l.origin) l.origin.values (held l.facts) l.part (block_numbers b)) (take l.block-index l.blocks)
+    l.out ≡ l.initial.out ++ flat_map
+    (λ b. part_of_values (tables_in l.origin) l.origin.values (held l.facts) l.part
+    (block_numbers b)) (take l.block-index l.blocks)

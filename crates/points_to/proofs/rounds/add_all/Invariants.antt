@@ -5,4 +5,5 @@ use Rattle.points_to.proofs.Solved.{Added}
 use Rattle.points_to.proofs.rounds.add_all.Given as goal
 
 abbrev pub invariant-loop-run : goal.invariant-loop-run
-invariant-loop-run l = Added l.initial.facts l.facts l.added (flat_map facts_of_run (take l.run-index l.run-items))
+invariant-loop-run l = Added l.initial.facts l.facts l.added
+    (flat_map facts_of_run (take l.run-index l.run-items))

@@ -8,13 +8,24 @@ loop-inclusion-init c = round_begins (tables_of c.args.system.now) _ c.args.fact
 
 pub loop-inclusion-preserved : goal.loop-inclusion-preserved
 loop-inclusion-preserved c =
-    round_on (tables_of c.args.system.now) _ _ _ _ _ _ _ _ _ c.loop-inclusion-test.true c.inclusion-item.is c.either-added.ensures c.loop-inclusion.invariant c.in_ok-satisfy.ensures.grown c.in_ok-satisfy.ensures.still c.in_ok-satisfy.ensures.counted
+    round_on (tables_of c.args.system.now) _ _ _ _ _ _ _ _ _ c.loop-inclusion-test.true
+    c.inclusion-item.is c.either-added.ensures c.loop-inclusion.invariant
+    c.in_ok-satisfy.ensures.grown c.in_ok-satisfy.ensures.still c.in_ok-satisfy.ensures.counted
 
 pub returns : goal.returns
 returns c =
     let p = tables_of c.args.system.now in
     let f = c.loop-inclusion.facts in
     let n = c.loop-inclusion.inclusion-index in
-    let all : RoundSoFar p c.args.system.now.inclusions c.args.facts.now f c.loop-inclusion.added n = subst (λ cs. RoundSoFar p cs c.args.facts.now f c.loop-inclusion.added n) c.as_slice-inclusion-items.ensures c.loop-inclusion.invariant in
-    let le : length c.args.system.now.inclusions ≤ n = subst (λ cs. length cs ≤ n) c.as_slice-inclusion-items.ensures c.loop-inclusion-test.false in
-    record { sound = all.sound; done = λ e. round_done p c.args.system.now.inclusions c.args.facts.now f c.loop-inclusion.added n le all e; counted = all.counted }
+    let all : RoundSoFar p c.args.system.now.inclusions c.args.facts.now f c.loop-inclusion.added n
+    = subst (λ cs. RoundSoFar p cs c.args.facts.now f c.loop-inclusion.added n)
+    c.as_slice-inclusion-items.ensures c.loop-inclusion.invariant in
+    let le : length c.args.system.now.inclusions ≤ n
+    = subst (λ cs. length cs ≤ n) c.as_slice-inclusion-items.ensures c.loop-inclusion-test.false
+    in
+    record {
+      sound = all.sound;
+      done = λ e. round_done p c.args.system.now.inclusions
+          c.args.facts.now f c.loop-inclusion.added n le all e;
+      counted = all.counted;
+    }

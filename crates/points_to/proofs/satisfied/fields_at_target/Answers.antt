@@ -16,4 +16,6 @@ returns-in-Vector-target c = λ y.
     let v = ap VectorVal c.as_slice-ws.ensures ∙ sym c.in-Vector.is in
     let k = ap VectorTarget c.as_slice-ys.ensures ∙ sym c.in-Vector-target.is in
     subst (λ k. AllFactsKnown H (flow_facts p H (arguments (value c.args.v.now) t []) (to k))) k
-    (subst (λ v. AllFactsKnown H (flow_facts p H (arguments (value v) t []) (to (VectorTarget c.as_slice-ys.result.now)))) v (c.fields_are_at.ensures y))
+    (subst (λ v. AllFactsKnown H
+    (flow_facts p H (arguments (value v) t []) (to (VectorTarget c.as_slice-ys.result.now)))) v
+    (c.fields_are_at.ensures y))

@@ -14,4 +14,6 @@ returns c = λ t.
     let p = tables_of c.args.system.now in
     let H = held c.args.facts.now in
     let ws = c.args.words.now in
-    subst (λ us. AllFactsKnown H (facts_at (Var c.args.x.0) (in_part (Word 0) us))) (word_of_vector p H 0 ws ∙ sym (picked_numbered p H ws 0 0 0 refl)) (c.nth_stands_at.ensures t)
+    subst (λ us. AllFactsKnown H (facts_at (Var c.args.x.0) (in_part (Word 0) us)))
+    (word_of_vector p H 0 ws ∙ sym (picked_numbered p H ws 0 0 0 refl))
+    (c.nth_stands_at.ensures t)

@@ -12,4 +12,7 @@ use Rattle.points_to.proofs.satisfied.is_never.Goals as goal
 pub returns-else-has : goal.returns-else-has
 returns-else-has c = λ y p h.
     let H = held c.args.facts.now in
-    not_true (subst IsTrue c.if-has.false (c.has.ensures.1 (picked_in (Word 0) (H (Var c.in-Var.x.0)) (subst (λ w. In (Tag c.args.t) (elements p H w)) c.in-Var.is h))))
+    not_true (subst IsTrue c.if-has.false
+    (c.has.ensures.1
+    (picked_in (Word 0) (H (Var c.in-Var.x.0))
+    (subst (λ w. In (Tag c.args.t) (elements p H w)) c.in-Var.is h))))

@@ -11,4 +11,5 @@ invariant-loop-x l =
     let p = tables_of l.system in
     let H = held l.facts in
     let X = given p H l.words l.t in
-    AllFactsKnown H (vector_facts p X l.j (drop l.x-index l.xs)) → AllFactsKnown H (vector_facts p X 0 l.xs)
+    AllFactsKnown H (vector_facts p X l.j (drop l.x-index l.xs))
+    → AllFactsKnown H (vector_facts p X 0 l.xs)

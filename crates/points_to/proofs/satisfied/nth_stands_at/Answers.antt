@@ -16,13 +16,18 @@ returns-in-Some c = λ t.
     let p = tables_of c.args.system.now in
     let H = held c.args.facts.now in
     let ws = c.args.words.now in
-    let e = word_of_vector p H c.args.j ws ∙ ap (elements_if p H) (slice_get_read ws (length ws) c.args.j c.in-Some.w.now refl c.in-Some.ensures.lookup.3.0 c.in-Some.ensures.lookup.1) in
-    subst (λ us. AllFactsKnown H (facts_at (Var c.args.x.0) (in_part (Word 0) us))) (sym e) (c.stands_at.ensures t)
+    let e = word_of_vector p H c.args.j ws ∙ ap (elements_if p H)
+    (slice_get_read ws (length ws) c.args.j c.in-Some.w.now refl c.in-Some.ensures.lookup.3.0
+    c.in-Some.ensures.lookup.1) in
+    subst (λ us. AllFactsKnown H (facts_at (Var c.args.x.0) (in_part (Word 0) us))) (sym e)
+    (c.stands_at.ensures t)
 
 pub returns-in-None : goal.returns-in-None
 returns-in-None c = λ t.
     let p = tables_of c.args.system.now in
     let H = held c.args.facts.now in
     let ws = c.args.words.now in
-    let e = word_of_vector p H c.args.j ws ∙ ap (elements_if p H) (slice_get_past ws c.args.j c.in-None.ensures.lookup.3) in
-    subst (λ us. AllFactsKnown H (facts_at (Var c.args.x.0) (in_part (Word 0) us))) (sym e) (λ f h. none_in h)
+    let e = word_of_vector p H c.args.j ws ∙ ap (elements_if p H)
+    (slice_get_past ws c.args.j c.in-None.ensures.lookup.3) in
+    subst (λ us. AllFactsKnown H (facts_at (Var c.args.x.0) (in_part (Word 0) us))) (sym e)
+    (λ f h. none_in h)

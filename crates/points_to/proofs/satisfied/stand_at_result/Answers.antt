@@ -14,11 +14,14 @@ loop-w-preserved c =
     let p = tables_of c.args.system.now in
     let H = held c.args.facts.now in
     let q = Result c.args.f in
-    held_next H (numbered_facts p H q Word) (one_numbered p H q Word) (numbered_step p H q Word) _ _ _ _ _ _ c.loop-w-test.true (search rules) (c.stands_at.ensures c.if-not-stands_at.false) c.loop-w.invariant
+    held_next H (numbered_facts p H q Word) (one_numbered p H q Word) (numbered_step p H q Word) _ _
+    _ _ _ _ c.loop-w-test.true (search rules) (c.stands_at.ensures c.if-not-stands_at.false)
+    c.loop-w.invariant
 
 pub returns : goal.returns
 returns c = λ t.
     let p = tables_of c.args.system.now in
     let H = held c.args.facts.now in
     let q = Result c.args.f in
-    held_done H (numbered_facts p H q Word) (one_numbered p H q Word) (λ j. refl) _ _ _ _ c.loop-w-test.false c.loop-w.invariant
+    held_done H (numbered_facts p H q Word) (one_numbered p H q Word) (λ j. refl) _ _ _ _
+    c.loop-w-test.false c.loop-w.invariant

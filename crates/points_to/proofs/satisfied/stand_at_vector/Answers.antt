@@ -16,11 +16,14 @@ loop-x-preserved c =
     let p = tables_of c.args.system.now in
     let H = held c.args.facts.now in
     let X = numbered p H Word 0 c.args.words.now in
-    held_next H (vector_facts p X) (λ j x. facts_at (Var x.0) (in_part (Word 0) (as_word p j X))) (λ j x xs. refl) _ _ _ _ _ _ c.loop-x-test.true (search rules) (c.nth_stands_at.ensures c.if-not-nth_stands_at.false) c.loop-x.invariant
+    held_next H (vector_facts p X) (λ j x. facts_at (Var x.0) (in_part (Word 0) (as_word p j X)))
+    (λ j x xs. refl) _ _ _ _ _ _ c.loop-x-test.true (search rules)
+    (c.nth_stands_at.ensures c.if-not-nth_stands_at.false) c.loop-x.invariant
 
 pub returns : goal.returns
 returns c = λ t.
     let p = tables_of c.args.system.now in
     let H = held c.args.facts.now in
     let X = numbered p H Word 0 c.args.words.now in
-    held_done H (vector_facts p X) (λ j x. facts_at (Var x.0) (in_part (Word 0) (as_word p j X))) (λ j. refl) _ _ _ _ c.loop-x-test.false c.loop-x.invariant
+    held_done H (vector_facts p X) (λ j x. facts_at (Var x.0) (in_part (Word 0) (as_word p j X)))
+    (λ j. refl) _ _ _ _ c.loop-x-test.false c.loop-x.invariant

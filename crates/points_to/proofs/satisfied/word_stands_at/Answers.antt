@@ -13,4 +13,5 @@ pub returns : goal.returns
 returns c = λ t.
     let p = tables_of c.args.system.now in
     let H = held c.args.facts.now in
-    subst (λ us. AllFactsKnown H (facts_at (Var c.args.x.0) (in_part (Word 0) us))) (sym (picked_same 0 (elements p H c.args.w))) (c.stands_at.ensures t)
+    subst (λ us. AllFactsKnown H (facts_at (Var c.args.x.0) (in_part (Word 0) us)))
+    (sym (picked_same 0 (elements p H c.args.w))) (c.stands_at.ensures t)

@@ -14,9 +14,11 @@ returns-clause-stores c =
     let n = c.args.n in
     let old = c.index_mut.result.now in
     let new = c.add_new.new.self in
-    on_ok c.add_new.result (GainsMembers (numbers_in old) (numbers_in new) (n ∷ [])) (PutsAtSite (sets_at sets) (sets_at (slice_set sets s new)) s n)
+    on_ok c.add_new.result (GainsMembers (numbers_in old) (numbers_in new) (n ∷ []))
+    (PutsAtSite (sets_at sets) (sets_at (slice_set sets s new)) s n)
     (stores_at sets s n old new c.requires c.index_mut.ensures.value)
-    (subst (λ ns. OnOk c.add_new.result (GainsMembers (numbers_in old) (numbers_in new) ns)) c.number_block.ensures c.add_new.ensures.gets)
+    (subst (λ ns. OnOk c.add_new.result (GainsMembers (numbers_in old) (numbers_in new) ns))
+    c.number_block.ensures c.add_new.ensures.gets)
 
 pub returns-clause-still : goal.returns-clause-still
 returns-clause-still c =
@@ -24,5 +26,7 @@ returns-clause-still c =
     let s = c.args.site in
     let old = c.index_mut.result.now in
     let new = c.add_new.new.self in
-    if_ok c.add_new.result (λ added. added ≡ false → new ≡ old) (λ added. added ≡ false → with_item sets s new ≡ sets)
-    (λ added same e. ap (with_item sets s) (same e) ∙ same_item sets s old c.index_mut.ensures.value) c.add_new.ensures.still
+    if_ok c.add_new.result (λ added. added ≡ false → new ≡ old)
+    (λ added. added ≡ false → with_item sets s new ≡ sets)
+    (λ added same e. ap (with_item sets s) (same e) ∙ same_item sets s old
+    c.index_mut.ensures.value) c.add_new.ensures.still

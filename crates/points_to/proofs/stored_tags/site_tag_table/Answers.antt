@@ -17,16 +17,30 @@ abbrev known : FlowSystem → Facts → Stored → Place → List Item
 known s f k = whole (tables_of s) (values_in (inclusions_of s)) f k
 
 pub loop-s-init : goal.loop-s-init
-loop-s-init c = subst (λ t. TableSoFar (λ t. t.0) (known c.args.system.now c.args.facts.now c.args.stored.now) of_sites NodeTags t 0) (sym c.new-table.ensures) (no_table (λ t. t.0) (known c.args.system.now c.args.facts.now c.args.stored.now) of_sites NodeTags)
+loop-s-init c = subst
+    (λ t. TableSoFar (λ t. t.0) (known c.args.system.now c.args.facts.now c.args.stored.now)
+    of_sites NodeTags t 0) (sym c.new-table.ensures)
+    (no_table (λ t. t.0) (known c.args.system.now c.args.facts.now c.args.stored.now) of_sites
+    NodeTags)
 
 pub loop-s-preserved : goal.loop-s-preserved
 loop-s-preserved c =
-    subst (λ t. TableSoFar (λ t. t.0) (known c.args.system.now c.args.facts.now c.args.stored.now) of_sites NodeTags t (c.loop-s.s + 1)) (sym c.in_ok-push.ensures.ok)
-    (table_more (λ t. t.0) (known c.args.system.now c.args.facts.now c.args.stored.now) of_sites NodeTags c.loop-s.table c.loop-s.s c.in_ok-tags_at.field-0 c.loop-s.invariant c.in_ok-tags_at.ensures)
+    subst (λ t. TableSoFar (λ t. t.0) (known c.args.system.now c.args.facts.now c.args.stored.now)
+    of_sites NodeTags t (c.loop-s.s + 1)) (sym c.in_ok-push.ensures.ok)
+    (table_more (λ t. t.0) (known c.args.system.now c.args.facts.now c.args.stored.now) of_sites
+    NodeTags c.loop-s.table c.loop-s.s c.in_ok-tags_at.field-0 c.loop-s.invariant
+    c.in_ok-tags_at.ensures)
 
 pub returns : goal.returns
-returns c = table_done (λ t. t.0) (known c.args.system.now c.args.facts.now c.args.stored.now) of_sites NodeTags c.loop-s.table c.loop-s.s c.loop-s.invariant (λ m le. empty m (c.in_ok-count.ensures m (omega (arith, le, c.loop-s-test.false))))
+returns c = table_done (λ t. t.0) (known c.args.system.now c.args.facts.now c.args.stored.now)
+    of_sites NodeTags c.loop-s.table c.loop-s.s c.loop-s.invariant
+    (λ m le. empty m (c.in_ok-count.ensures m (omega (arith, le, c.loop-s-test.false))))
   where
-    empty : (m : ℕ) → (held c.args.facts.now (site m) ≡ []) × (stored_at c.args.stored.now m ≡ []) → known c.args.system.now c.args.facts.now c.args.stored.now (site m) ≡ []
-    empty m e = ap (λ l. l ++ stored_nodes (tables_of c.args.system.now) (values_in (inclusions_of c.args.system.now)) (held c.args.facts.now) (stored_at c.args.stored.now m)) e.0
-        ∙ ap (stored_nodes (tables_of c.args.system.now) (values_in (inclusions_of c.args.system.now)) (held c.args.facts.now)) e.1
+    empty : (m : ℕ) → (held c.args.facts.now (site m) ≡ []) × (stored_at c.args.stored.now m ≡ [])
+        → known c.args.system.now c.args.facts.now c.args.stored.now (site m) ≡ []
+    empty m e = ap
+        (λ l. l ++ stored_nodes (tables_of c.args.system.now)
+        (values_in (inclusions_of c.args.system.now)) (held c.args.facts.now)
+        (stored_at c.args.stored.now m)) e.0
+        ∙ ap (stored_nodes (tables_of c.args.system.now)
+        (values_in (inclusions_of c.args.system.now)) (held c.args.facts.now)) e.1

@@ -6,4 +6,6 @@ use Rattle.points_to.proofs.Read.{TableSoFar}
 use Rattle.points_to.proofs.stored_tags.site_tag_table.Given as goal
 
 abbrev pub invariant-loop-s : goal.invariant-loop-s
-invariant-loop-s l = TableSoFar (λ t. t.0) (whole (tables_of l.system) (values_in (inclusions_of l.system)) l.facts l.stored) of_sites NodeTags l.table l.s
+invariant-loop-s l = TableSoFar (λ t. t.0)
+    (whole (tables_of l.system) (values_in (inclusions_of l.system)) l.facts l.stored) of_sites
+    NodeTags l.table l.s

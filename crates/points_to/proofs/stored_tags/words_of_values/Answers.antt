@@ -13,5 +13,8 @@ returns c =
     let p = tables_of c.args.system.now in
     let vs = values_in (inclusions_of c.args.system.now) in
     let H = held c.args.facts.now in
-    flat_done (λ b. words_of_values p vs H c.args.i (block_numbers b)) _ _ _ _ c.loop-block-test.false c.loop-block.invariant
-    ∙ ap (λ l. c.args.out.now ++ l) (sym (flat_flat (λ n. stored_words p H c.args.i (value_at vs n)) block_numbers c.args.blocks.now))
+    flat_done (λ b. words_of_values p vs H c.args.i (block_numbers b)) _ _ _ _
+    c.loop-block-test.false c.loop-block.invariant
+    ∙ ap (λ l. c.args.out.now ++ l)
+    (sym (flat_flat (λ n. stored_words p H c.args.i (value_at vs n)) block_numbers
+    c.args.blocks.now))

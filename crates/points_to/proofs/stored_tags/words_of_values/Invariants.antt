@@ -9,4 +9,6 @@ use Rattle.points_to.proofs.stored_tags.words_of_values.Given as goal
 
 abbrev pub invariant-loop-block : goal.invariant-loop-block
 invariant-loop-block l =
-    l.out ≡ l.initial.out ++ flat_map (λ b. words_of_values (tables_of l.system) (values_in (inclusions_of l.system)) (held l.facts) l.i (block_numbers b)) (take l.block-index l.blocks)
+    l.out ≡ l.initial.out ++ flat_map
+    (λ b. words_of_values (tables_of l.system) (values_in (inclusions_of l.system))
+    (held l.facts) l.i (block_numbers b)) (take l.block-index l.blocks)

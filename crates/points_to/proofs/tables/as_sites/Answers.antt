@@ -3,7 +3,8 @@ use Rattle.points_to.proofs.Loops.{map_next, map_done}
 use Rattle.points_to.proofs.tables.as_sites.Goals as goal
 
 pub loop-n-preserved : goal.loop-n-preserved
-loop-n-preserved c = map_next site_id _ _ _ _ _ _ c.loop-n-test.true c.loop-n.invariant c.in_ok-push.ensures.ok
+loop-n-preserved c = map_next site_id _ _ _ _ _ _ c.loop-n-test.true c.loop-n.invariant
+    c.in_ok-push.ensures.ok
 
 pub returns : goal.returns
 returns c = map_done site_id _ _ _ _ c.loop-n-test.false c.loop-n.invariant

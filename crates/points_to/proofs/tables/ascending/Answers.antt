@@ -9,10 +9,12 @@ use Rattle.points_to.proofs.tables.ascending.Goals as goal
 pub returns-clause-ascending : goal.returns-clause-ascending
 returns-clause-ascending c =
     let is = c.from_vec.ensures ∙ dedup_is _ _ _ c.dedup.ensures.filtered in
-    subst IsStrictlyIncreasing (sym is) (IsStrictlyIncreasing-dedup _ c.sort_unstable.ensures.sorted)
+    subst IsStrictlyIncreasing (sym is)
+    (IsStrictlyIncreasing-dedup _ c.sort_unstable.ensures.sorted)
 
 pub returns-clause-same : goal.returns-clause-same
 returns-clause-same c =
     let is = c.from_vec.ensures ∙ dedup_is _ _ _ c.dedup.ensures.filtered in
     subst (λ ns. SameSet c.from_vec.result ns) c.into_vec-listed.ensures
-    (subst (λ l. SameSet l c.into_vec-listed.result.items) (sym is) (sorted_same _ _ c.sort_unstable.ensures.permutation))
+    (subst (λ l. SameSet l c.into_vec-listed.result.items) (sym is)
+    (sorted_same _ _ c.sort_unstable.ensures.permutation))

@@ -10,5 +10,6 @@ returns c =
     let X = held c.args.facts.now c.args.place in
     let out : c.put_parts.new.out ≡ wanted_by_parts c.args.w X = search rules in
     lists_of c.args.w X c.ascending.result
-    (like_parts c.args.w X c.ascending.result (subst (SameSet c.ascending.result) out c.ascending.ensures.same))
+    (like_parts c.args.w X c.ascending.result
+    (subst (SameSet c.ascending.result) out c.ascending.ensures.same))
     c.ascending.ensures.ascending

@@ -7,9 +7,11 @@ use Rattle.points_to.proofs.Loops.{flat_next, flat_done}
 use Rattle.points_to.proofs.tables.put_all_sites.Goals as goal
 
 pub loop-block-preserved : goal.loop-block-preserved
-loop-block-preserved c = flat_next (λ b. flat_map site_in (block_words b)) _ _ _ _ _ _ c.loop-block-test.true c.loop-block.invariant c.in_ok-put_sites.ensures
+loop-block-preserved c = flat_next (λ b. flat_map site_in (block_words b)) _ _ _ _ _ _
+    c.loop-block-test.true c.loop-block.invariant c.in_ok-put_sites.ensures
 
 pub returns : goal.returns
 returns c =
-    flat_done (λ b. flat_map site_in (block_words b)) _ _ _ _ c.loop-block-test.false c.loop-block.invariant
+    flat_done (λ b. flat_map site_in (block_words b)) _ _ _ _ c.loop-block-test.false
+    c.loop-block.invariant
     ∙ ap (λ l. c.args.out.now ++ l) (sym (flat_flat site_in block_words c.args.blocks.now))

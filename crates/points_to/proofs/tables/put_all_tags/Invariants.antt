@@ -5,4 +5,5 @@ use Rattle.points_to.specs.Wanted.{tag_in}
 use Rattle.points_to.proofs.tables.put_all_tags.Given as goal
 
 abbrev pub invariant-loop-block : goal.invariant-loop-block
-invariant-loop-block l = l.out ≡ l.initial.out ++ flat_map (λ b. flat_map tag_in (block_words b)) (take l.block-index l.blocks)
+invariant-loop-block l = l.out ≡ l.initial.out ++ flat_map (λ b. flat_map tag_in (block_words b))
+    (take l.block-index l.blocks)

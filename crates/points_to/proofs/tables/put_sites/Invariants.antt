@@ -5,7 +5,8 @@ use Rattle.points_to.specs.Wanted.{site_in}
 use Rattle.points_to.proofs.tables.put_sites.Given as goal
 
 abbrev pub invariant-words : goal.invariant-words
-invariant-words l = l.out ++ flat_map site_in (map word_of l.left) ≡ l.initial.out ++ flat_map site_in (block_words l.fn.block)
+invariant-words l = l.out ++ flat_map site_in (map word_of l.left) ≡ l.initial.out
+    ++ flat_map site_in (block_words l.fn.block)
 
 abbrev pub decreases-words : goal.decreases-words
 decreases-words l = length l.left

@@ -5,7 +5,8 @@ use Rattle.points_to.specs.Wanted.{tag_in}
 use Rattle.points_to.proofs.tables.put_tags.Given as goal
 
 abbrev pub invariant-words : goal.invariant-words
-invariant-words l = l.out ++ flat_map tag_in (map word_of l.left) ≡ l.initial.out ++ flat_map tag_in (block_words l.fn.block)
+invariant-words l = l.out ++ flat_map tag_in (map word_of l.left) ≡ l.initial.out
+    ++ flat_map tag_in (block_words l.fn.block)
 
 abbrev pub decreases-words : goal.decreases-words
 decreases-words l = length l.left

@@ -9,4 +9,6 @@ returns c =
     let X = held c.args.facts.now c.args.place in
     let ns = c.in_ok-numbers.numbers in
     let out : c.as_sites.new.out ≡ map site_id ns = search rules in
-    subst (λ ts. Lists c.args.w X (map (λ t. t.0) ts)) (sym out) (subst (Lists c.args.w X) (sym (unwrapped (λ t. t.0) site_id (λ n. refl) ns)) c.in_ok-numbers.ensures)
+    subst (λ ts. Lists c.args.w X (map (λ t. t.0) ts)) (sym out)
+    (subst (Lists c.args.w X) (sym (unwrapped (λ t. t.0) site_id (λ n. refl) ns))
+    c.in_ok-numbers.ensures)

@@ -10,4 +10,6 @@ returns c =
     let X = held c.args.facts.now c.args.place in
     let ns = c.in_ok-numbers.numbers in
     let out : c.as_tags.new.out ≡ map tag_id ns = search rules in
-    subst (λ ts. Lists c.args.w X (map (λ t. t.0) ts)) (sym out) (subst (Lists c.args.w X) (sym (unwrapped (λ t. t.0) tag_id (λ n. refl) ns)) c.in_ok-numbers.ensures)
+    subst (λ ts. Lists c.args.w X (map (λ t. t.0) ts)) (sym out)
+    (subst (Lists c.args.w X) (sym (unwrapped (λ t. t.0) tag_id (λ n. refl) ns))
+    c.in_ok-numbers.ensures)

@@ -11,7 +11,9 @@ pub returns-clause-ascending : goal.returns-clause-ascending
 returns-clause-ascending c =
     let ns = c.ascending-listed.result in
     let out : c.as_tags.new.out ≡ map tag_id ns = search rules in
-    subst IsStrictlyIncreasing (sym (ap (map (λ t. t.0)) out ∙ unwrapped (λ t. t.0) tag_id (λ n. refl) ns)) c.ascending-listed.ensures.ascending
+    subst IsStrictlyIncreasing
+    (sym (ap (map (λ t. t.0)) out ∙ unwrapped (λ t. t.0) tag_id (λ n. refl) ns))
+    c.ascending-listed.ensures.ascending
 
 pub returns-clause-same : goal.returns-clause-same
 returns-clause-same c =
@@ -19,5 +21,6 @@ returns-clause-same c =
     let us = words_in c.args.set.now in
     let out : c.as_tags.new.out ≡ map tag_id ns = search rules in
     let numbers : c.put_all_tags.new.out ≡ flat_map tag_in us = search rules in
-    subst (λ l. SameSet l (flat_map tag_in us)) (sym (ap (map (λ t. t.0)) out ∙ unwrapped (λ t. t.0) tag_id (λ n. refl) ns))
+    subst (λ l. SameSet l (flat_map tag_in us))
+    (sym (ap (map (λ t. t.0)) out ∙ unwrapped (λ t. t.0) tag_id (λ n. refl) ns))
     (subst (SameSet ns) numbers c.ascending-listed.ensures.same)

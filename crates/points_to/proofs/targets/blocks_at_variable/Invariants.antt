@@ -8,4 +8,5 @@ use Rattle.points_to.specs.Held.{in_part}
 use Rattle.points_to.proofs.targets.blocks_at_variable.Given as goal
 
 abbrev pub invariant-loop-block : goal.invariant-loop-block
-invariant-loop-block l = l.out ≡ l.initial.out ++ flat_map (λ b. facts_at (Var l.x.0) (in_part (Word 0) (block_words b))) (take l.block-index l.blocks)
+invariant-loop-block l = l.out ≡ l.initial.out ++ flat_map
+    (λ b. facts_at (Var l.x.0) (in_part (Word 0) (block_words b))) (take l.block-index l.blocks)

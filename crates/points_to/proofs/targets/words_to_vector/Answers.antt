@@ -12,7 +12,9 @@ pub loop-x-preserved : goal.loop-x-preserved
 loop-x-preserved c =
     let p = tables_of c.args.system.now in
     let X = numbered p (held c.args.facts.now) Word 0 c.args.words.now in
-    numbered_next (vector_facts p X) (λ j x. facts_at (Var x.0) (in_part (Word 0) (as_word p j X))) (λ j x xs. refl) _ _ _ _ _ _ _ _ c.loop-x-test.true (search rules) c.loop-x.invariant c.in_ok-nth_word_facts.ensures
+    numbered_next (vector_facts p X) (λ j x. facts_at (Var x.0) (in_part (Word 0) (as_word p j X)))
+    (λ j x xs. refl) _ _ _ _ _ _ _ _ c.loop-x-test.true (search rules) c.loop-x.invariant
+    c.in_ok-nth_word_facts.ensures
 
 pub returns : goal.returns
 returns c =

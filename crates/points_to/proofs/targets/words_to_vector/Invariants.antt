@@ -9,4 +9,5 @@ use Rattle.points_to.proofs.targets.words_to_vector.Given as goal
 abbrev pub invariant-loop-x : goal.invariant-loop-x
 invariant-loop-x l =
     let X = numbered (tables_of l.system) (held l.facts) Word 0 l.words in
-    l.out ++ vector_facts (tables_of l.system) X l.j (drop l.x-index l.xs) ≡ l.initial.out ++ vector_facts (tables_of l.system) X 0 l.xs
+    l.out ++ vector_facts (tables_of l.system) X l.j (drop l.x-index l.xs) ≡ l.initial.out
+    ++ vector_facts (tables_of l.system) X 0 l.xs

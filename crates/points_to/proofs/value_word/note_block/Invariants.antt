@@ -7,8 +7,13 @@ use Rattle.points_to.proofs.value_word.note_block.Given as goal
 
 abbrev pub invariant-words : goal.invariant-words
 invariant-words l = record {
-  has : (l.noted.has || list_any (has_field (tables_of l.system) l.width l.j) (map word_of l.left)) ≡ (l.fn.seen.has || list_any (has_field (tables_of l.system) l.width l.j) (block_words l.fn.block));
-  fewer : (l.noted.fewer || list_any (has_fewer (tables_of l.system) l.width l.j) (map word_of l.left)) ≡ (l.fn.seen.fewer || list_any (has_fewer (tables_of l.system) l.width l.j) (block_words l.fn.block));
+  has : (l.noted.has || list_any (has_field (tables_of l.system) l.width l.j) (map word_of l.left))
+      ≡ (l.fn.seen.has || list_any (has_field (tables_of l.system) l.width l.j)
+      (block_words l.fn.block));
+  fewer : (l.noted.fewer || list_any (has_fewer (tables_of l.system) l.width l.j)
+      (map word_of l.left)) ≡
+      (l.fn.seen.fewer || list_any (has_fewer (tables_of l.system) l.width l.j)
+      (block_words l.fn.block));
 }
 
 abbrev pub decreases-words : goal.decreases-words

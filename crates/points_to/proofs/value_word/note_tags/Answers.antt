@@ -9,10 +9,16 @@ pub returns-then-block-eq1-clause-has : goal.returns-then-block-eq1-clause-has
 returns-then-block-eq1-clause-has c =
     let has = has_field (tables_of c.args.system.now) c.args.width c.args.j in
     let odd : c.args.block.0 % 2 ≡ 1 = c.if-block-eq1.true in
-    sym (ap (λ b. c.args.seen.has || b) (none_spotted has (block_words c.args.block) (λ x i. ap has (cells_alone c.args.block.0 c.args.block.1 odd x i).1)) ∙ or_nothing c.args.seen.has)
+    sym (ap (λ b. c.args.seen.has || b)
+    (none_spotted has (block_words c.args.block)
+    (λ x i. ap has (cells_alone c.args.block.0 c.args.block.1 odd x i).1)) ∙ or_nothing
+    c.args.seen.has)
 
 pub returns-then-block-eq1-clause-fewer : goal.returns-then-block-eq1-clause-fewer
 returns-then-block-eq1-clause-fewer c =
     let fewer = has_fewer (tables_of c.args.system.now) c.args.width c.args.j in
     let odd : c.args.block.0 % 2 ≡ 1 = c.if-block-eq1.true in
-    sym (ap (λ b. c.args.seen.fewer || b) (none_spotted fewer (block_words c.args.block) (λ x i. ap fewer (cells_alone c.args.block.0 c.args.block.1 odd x i).1)) ∙ or_nothing c.args.seen.fewer)
+    sym (ap (λ b. c.args.seen.fewer || b)
+    (none_spotted fewer (block_words c.args.block)
+    (λ x i. ap fewer (cells_alone c.args.block.0 c.args.block.1 odd x i).1)) ∙ or_nothing
+    c.args.seen.fewer)

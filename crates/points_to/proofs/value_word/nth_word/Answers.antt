@@ -9,5 +9,8 @@ use Rattle.points_to.proofs.value_word.nth_word.Goals as goal
 
 pub returns-in-None : goal.returns-in-None
 returns-in-None c =
-    let none : slice_get c.args.words.now c.args.j ≡ None = slice_get_past c.args.words.now c.args.j (le_from c.args.j (length c.args.words.now) (sym c.in-None.ensures.lookup.0)) in
-    sym (ap (λ o. c.args.out.now ++ elements_of (tables_of c.args.system.now) (held c.args.facts.now) o) none ∙ append_nil c.args.out.now)
+    let none : slice_get c.args.words.now c.args.j ≡ None
+    = slice_get_past c.args.words.now c.args.j
+    (le_from c.args.j (length c.args.words.now) (sym c.in-None.ensures.lookup.0)) in
+    sym (ap (λ o. c.args.out.now ++ elements_of (tables_of c.args.system.now)
+    (held c.args.facts.now) o) none ∙ append_nil c.args.out.now)

@@ -5,4 +5,5 @@ use Rattle.points_to.specs.ValueWords.{fitting}
 use Rattle.points_to.proofs.value_word.put_all_fitting.Given as goal
 
 abbrev pub invariant-loop-word : goal.invariant-loop-word
-invariant-loop-word l = l.out ≡ l.initial.out ++ flat_map (fitting (tables_of l.system) l.width) (take l.word-index l.words)
+invariant-loop-word l = l.out ≡ l.initial.out ++ flat_map (fitting (tables_of l.system) l.width)
+    (take l.word-index l.words)

@@ -16,5 +16,9 @@ returns-in-Some c =
     let H = held c.args.facts.now in
     let ns = numbers_in c.args.numbers.now in
     λ t known u h.
-    let its : AreWords p cs H c.args.i ns c.in-Some.words.now = subst (AreKnown p cs H c.args.i ns) (ap option_copied c.in-Some.is) known in
-    subst (In u) c.word_blocks.ensures (c.are_within.ensures t u (subst (λ bs. In u (flat_map block_words bs)) (sym c.as_slice.ensures.value) (its.back u h)))
+    let its : AreWords p cs H c.args.i ns c.in-Some.words.now
+    = subst (AreKnown p cs H c.args.i ns) (ap option_copied c.in-Some.is) known in
+    subst (In u) c.word_blocks.ensures
+    (c.are_within.ensures t u
+    (subst (λ bs. In u (flat_map block_words bs)) (sym c.as_slice.ensures.value)
+    (its.back u h)))

@@ -15,6 +15,10 @@ returns-in-Some-clause-met c =
     let i = inclusion_of c.args.inclusion.now in
     let numbers = c.in-Some.numbers.now in
     if_ok c.fetch_met.result
-    (λ added. SameMembers (numbers_in numbers) (met_by p k c.args.w) → AreKnown p cs (held k.facts) c.args.i (numbers_in numbers) (option_copied c.at-words.result) → MetAtEnd p cs k i added)
+    (λ added. SameMembers (numbers_in numbers) (met_by p k c.args.w)
+    → AreKnown p cs (held k.facts) c.args.i (numbers_in numbers)
+    (option_copied c.at-words.result) → MetAtEnd p cs k i added)
     (λ added. NotedExact p cs k c.args.noted.now → MetAtEnd p cs k i added)
-    (λ added met exact. met (exact.met c.args.w numbers (sym c.of_word.ensures ∙ ap option_copied c.in-Some.is)) (c.at-words.ensures p cs (held k.facts) exact.words)) c.fetch_met.ensures.met
+    (λ added met exact. met
+    (exact.met c.args.w numbers (sym c.noted_of.ensures ∙ ap option_copied c.in-Some.is))
+    (c.at-words.ensures p cs (held k.facts) exact.words)) c.fetch_met.ensures.met

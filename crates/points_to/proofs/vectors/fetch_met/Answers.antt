@@ -14,7 +14,8 @@ returns-then-branch-clause-met c =
     let cs = inclusions_of c.args.system.now in
     let k = c.args.kept.now in λ exact noted.
     subst (λ i. MetAtEnd p cs k i false) (sym c.requires.is)
-    (known_met p cs k c.args.w c.args.i (sink_of c.args.sink.now) (numbers_in c.args.numbers.now) c.requires.elsewhere (c.in_ok-is_there.ensures c.if-branch.true noted) exact)
+    (known_met p cs k c.args.w c.args.i (sink_of c.args.sink.now) (numbers_in c.args.numbers.now)
+    c.requires.elsewhere (c.in_ok-is_there.ensures c.if-branch.true noted) exact)
 
 pub returns-clause-met : goal.returns-clause-met
 returns-clause-met c =
@@ -25,5 +26,6 @@ returns-clause-met c =
     let ns = numbers_in c.args.numbers.now in
     if_ok c.put_met.result
     (λ added. SameMembers ns (met_by p k c.args.w) → MetAtEnd p cs k i added)
-    (λ added. SameMembers ns (met_by p k c.args.w) → AreKnown p cs (held k.facts) c.args.i ns (option_copied c.args.noted) → MetAtEnd p cs k i added)
+    (λ added. SameMembers ns (met_by p k c.args.w) → AreKnown p cs (held k.facts) c.args.i ns
+    (option_copied c.args.noted) → MetAtEnd p cs k i added)
     (λ added met exact noted. met exact) c.put_met.ensures.met

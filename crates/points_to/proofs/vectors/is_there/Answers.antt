@@ -23,11 +23,18 @@ returns-in-One c =
     let p = tables_of c.args.system.now in
     let cs = inclusions_of c.args.system.now in
     let H = held c.args.facts.now in
-    let us : List Element = words_of_values p (values_in cs) H c.args.i (numbers_in c.args.numbers.now) in
+    let us : List Element = words_of_values p (values_in cs) H c.args.i
+    (numbers_in c.args.numbers.now) in
     let x = c.in-One.x in
     let is = ap sink_of (c.in-To.is ∙ ap To c.in-One.is) in
-    let noted = AreKnown p cs H c.args.i (numbers_in c.args.numbers.now) (option_copied c.args.noted) in
-    if_ok c.are_known.result (λ known. IsTrue known → noted → (u : Element) → In u us → In u (words_in_part (Word 0) (H (Var x.0))))
-    (λ known. IsTrue known → noted → (f : Fact) → In f (asked p H (Some 1) (in_part (Word 0) us) (sink_of c.args.sink.now)) → In f.item (H f.place))
-    (λ b known t n f h. known_at_variable p cs H x us (known t n) f (subst (λ s. In f (asked p H (Some 1) (in_part (Word 0) us) s)) is h))
+    let noted = AreKnown p cs H c.args.i (numbers_in c.args.numbers.now)
+    (option_copied c.args.noted) in
+    if_ok c.are_known.result
+    (λ known. IsTrue known → noted → (u : Element) → In u us
+    → In u (words_in_part (Word 0) (H (Var x.0))))
+    (λ known. IsTrue known → noted → (f : Fact) → In f
+    (asked p H (Some 1) (in_part (Word 0) us) (sink_of c.args.sink.now))
+    → In f.item (H f.place))
+    (λ b known t n f h. known_at_variable p cs H x us (known t n) f
+    (subst (λ s. In f (asked p H (Some 1) (in_part (Word 0) us) s)) is h))
     c.are_known.ensures

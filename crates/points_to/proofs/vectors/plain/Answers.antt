@@ -14,9 +14,13 @@ returns-clause-steps c =
     let k = c.args.kept.now in
     let i = inclusion_of c.args.inclusion.now in
     let new = c.satisfy.new.facts in
-    if_on_ok c.satisfy.result (GrowsByFacts (held k.facts) (held new) (facts_demanded p (held k.facts) i)) (λ added. added ≡ false → new ≡ k.facts)
+    if_on_ok c.satisfy.result
+    (GrowsByFacts (held k.facts) (held new) (facts_demanded p (held k.facts) i))
+    (λ added. added ≡ false → new ≡ k.facts)
     (Steps p cs k record { facts = new; stored = k.stored })
-    (λ added g same. plain_steps p cs k (record { facts = new; stored = k.stored }) c.args.n i added c.requires.number c.requires.plain refl g (λ e. ap (λ f. record { facts = f; stored = k.stored }) (same e)))
+    (λ added g same. plain_steps p cs k (record { facts = new; stored = k.stored }) c.args.n i added
+    c.requires.number c.requires.plain refl g
+    (λ e. ap (λ f. record { facts = f; stored = k.stored }) (same e)))
     c.satisfy.ensures.grown c.satisfy.ensures.still
 
 pub returns-clause-met : goal.returns-clause-met
@@ -26,7 +30,10 @@ returns-clause-met c =
     let k = c.args.kept.now in
     let i = inclusion_of c.args.inclusion.now in
     let new = c.satisfy.new.facts in
-    if_on_ok c.satisfy.result (GrowsByFacts (held k.facts) (held new) (facts_demanded p (held k.facts) i)) (λ added. added ≡ false → new ≡ k.facts)
+    if_on_ok c.satisfy.result
+    (GrowsByFacts (held k.facts) (held new) (facts_demanded p (held k.facts) i))
+    (λ added. added ≡ false → new ≡ k.facts)
     (MetAtEnd p cs k i)
-    (λ added g same. plain_met p cs k (record { facts = new; stored = k.stored }) i added c.requires.plain g (λ e. ap (λ f. record { facts = f; stored = k.stored }) (same e)))
+    (λ added g same. plain_met p cs k (record { facts = new; stored = k.stored }) i added
+    c.requires.plain g (λ e. ap (λ f. record { facts = f; stored = k.stored }) (same e)))
     c.satisfy.ensures.grown c.satisfy.ensures.still

@@ -8,7 +8,10 @@ pub loop-inclusion-init : goal.loop-inclusion-init
 loop-inclusion-init c = none_before _
 
 pub loop-inclusion-preserved : goal.loop-inclusion-preserved
-loop-inclusion-preserved c = more_before _ _ c.inclusion-item.result c.loop-inclusion-test.true c.inclusion-item.is (sym c.is_by_words.ensures ∙ c.if-not-is_by_words.false) c.loop-inclusion.invariant
+loop-inclusion-preserved c = more_before _ _ c.inclusion-item.result c.loop-inclusion-test.true
+    c.inclusion-item.is (sym c.is_by_words.ensures ∙ c.if-not-is_by_words.false)
+    c.loop-inclusion.invariant
 
 pub returns : goal.returns
-returns c = λ t. subst (λ xs. AllByWords (shown xs)) c.as_slice-inclusion-items.ensures (all_before _ _ c.loop-inclusion-test.false c.loop-inclusion.invariant)
+returns c = λ t. subst (λ xs. AllByWords (shown xs)) c.as_slice-inclusion-items.ensures
+    (all_before _ _ c.loop-inclusion-test.false c.loop-inclusion.invariant)

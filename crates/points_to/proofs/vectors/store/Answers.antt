@@ -13,9 +13,13 @@ returns-clause-steps c =
     let cs = inclusions_of c.args.system.now in
     let k = c.args.kept.now in
     let new = c.store_at.new.stored in
-    if_on_ok c.store_at.result (PutsAtAllSites (stored_at k.stored) (stored_at new) (Cell c.args.s ∷ []) c.args.n) (λ added. added ≡ false → new ≡ k.stored)
+    if_on_ok c.store_at.result
+    (PutsAtAllSites (stored_at k.stored) (stored_at new) (Cell c.args.s ∷ []) c.args.n)
+    (λ added. added ≡ false → new ≡ k.stored)
     (Steps p cs k record { facts = k.facts; stored = new })
-    (λ added st same. store_steps p cs k (record { facts = k.facts; stored = new }) c.args.n c.args.v.now c.args.s added (c.requires.number ∙ ap Some c.requires.is) c.requires.of_words refl
+    (λ added st same. store_steps p cs k (record { facts = k.facts; stored = new }) c.args.n
+    c.args.v.now c.args.s added (c.requires.number ∙ ap Some c.requires.is) c.requires.of_words
+    refl
     st (λ e. ap (λ s. record { facts = k.facts; stored = s }) (same e)))
     c.store_at.ensures.stores c.store_at.ensures.still
 
@@ -25,8 +29,12 @@ returns-clause-met c =
     let cs = inclusions_of c.args.system.now in
     let k = c.args.kept.now in
     let new = c.store_at.new.stored in
-    if_on_ok c.store_at.result (PutsAtAllSites (stored_at k.stored) (stored_at new) (Cell c.args.s ∷ []) c.args.n) (λ added. added ≡ false → new ≡ k.stored)
+    if_on_ok c.store_at.result
+    (PutsAtAllSites (stored_at k.stored) (stored_at new) (Cell c.args.s ∷ []) c.args.n)
+    (λ added. added ≡ false → new ≡ k.stored)
     (MetAtEnd p cs k _)
-    (λ added st same. subst (λ i. MetAtEnd p cs k i added) (sym c.requires.is) (store_met p cs k (record { facts = k.facts; stored = new }) c.args.n c.args.v.now c.args.s added (c.requires.number ∙ ap Some c.requires.is)
+    (λ added st same. subst (λ i. MetAtEnd p cs k i added) (sym c.requires.is)
+    (store_met p cs k (record { facts = k.facts; stored = new }) c.args.n c.args.v.now c.args.s
+    added (c.requires.number ∙ ap Some c.requires.is)
     st (λ e. ap (λ s. record { facts = k.facts; stored = s }) (same e))))
     c.store_at.ensures.stores c.store_at.ensures.still

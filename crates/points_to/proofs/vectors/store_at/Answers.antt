@@ -8,5 +8,7 @@ pub returns-in-Cell-clause-stores : goal.returns-in-Cell-clause-stores
 returns-in-Cell-clause-stores c =
     let old = stored_at c.args.stored.now in
     let new = stored_at c.add.new.self in
-    on_ok c.add.result (PutsAtSite old new c.in-Cell.s c.args.n) (PutsAtAllSites old new (c.args.cell ∷ []) c.args.n)
-    (λ a. subst (λ x. PutsAtAllSites old new (x ∷ []) c.args.n) (sym c.in-Cell.is) (stores_one old new c.in-Cell.s c.args.n a)) c.add.ensures.stores
+    on_ok c.add.result (PutsAtSite old new c.in-Cell.s c.args.n)
+    (PutsAtAllSites old new (c.args.cell ∷ []) c.args.n)
+    (λ a. subst (λ x. PutsAtAllSites old new (x ∷ []) c.args.n) (sym c.in-Cell.is)
+    (stores_one old new c.in-Cell.s c.args.n a)) c.add.ensures.stores

@@ -15,11 +15,17 @@ returns-clause-steps c =
     let k = c.args.kept.now in
     let new = c.store_all.new.stored in
     let cells = elements p (held k.facts) c.args.w in
-    let are : c.as_slice.result.now ≡ cells = c.as_slice.ensures ∙ c.in_ok-elements.ensures ∙ ap (λ xs. xs ++ cells) c.new-cells.ensures in
-    if_on_ok c.store_all.result (PutsAtAllSites (stored_at k.stored) (stored_at new) c.as_slice.result.now c.args.n) (λ added. added ≡ false → new ≡ k.stored)
+    let are : c.as_slice.result.now ≡ cells = c.as_slice.ensures ∙ c.in_ok-elements.ensures ∙ ap
+    (λ xs. xs ++ cells) c.new-cells.ensures in
+    if_on_ok c.store_all.result
+    (PutsAtAllSites (stored_at k.stored) (stored_at new) c.as_slice.result.now c.args.n)
+    (λ added. added ≡ false → new ≡ k.stored)
     (Steps p cs k record { facts = k.facts; stored = new })
-    (λ added st same. update_steps p cs k (record { facts = k.facts; stored = new }) c.args.n c.args.v.now c.args.w added (c.requires.number ∙ ap Some c.requires.is) c.requires.of_words refl
-    (subst (λ xs. PutsAtAllSites (stored_at k.stored) (stored_at new) xs c.args.n) are st) (λ e. ap (λ s. record { facts = k.facts; stored = s }) (same e)))
+    (λ added st same. update_steps p cs k (record { facts = k.facts; stored = new }) c.args.n
+    c.args.v.now c.args.w added (c.requires.number ∙ ap Some c.requires.is) c.requires.of_words
+    refl
+    (subst (λ xs. PutsAtAllSites (stored_at k.stored) (stored_at new) xs c.args.n) are st)
+    (λ e. ap (λ s. record { facts = k.facts; stored = s }) (same e)))
     c.store_all.ensures.stores c.store_all.ensures.still
 
 pub returns-clause-met : goal.returns-clause-met
@@ -29,9 +35,15 @@ returns-clause-met c =
     let k = c.args.kept.now in
     let new = c.store_all.new.stored in
     let cells = elements p (held k.facts) c.args.w in
-    let are : c.as_slice.result.now ≡ cells = c.as_slice.ensures ∙ c.in_ok-elements.ensures ∙ ap (λ xs. xs ++ cells) c.new-cells.ensures in
-    if_on_ok c.store_all.result (PutsAtAllSites (stored_at k.stored) (stored_at new) c.as_slice.result.now c.args.n) (λ added. added ≡ false → new ≡ k.stored)
+    let are : c.as_slice.result.now ≡ cells = c.as_slice.ensures ∙ c.in_ok-elements.ensures ∙ ap
+    (λ xs. xs ++ cells) c.new-cells.ensures in
+    if_on_ok c.store_all.result
+    (PutsAtAllSites (stored_at k.stored) (stored_at new) c.as_slice.result.now c.args.n)
+    (λ added. added ≡ false → new ≡ k.stored)
     (MetAtEnd p cs k _)
-    (λ added st same. subst (λ i. MetAtEnd p cs k i added) (sym c.requires.is) (update_met p cs k (record { facts = k.facts; stored = new }) c.args.n c.args.v.now c.args.w added (c.requires.number ∙ ap Some c.requires.is)
-    (subst (λ xs. PutsAtAllSites (stored_at k.stored) (stored_at new) xs c.args.n) are st) (λ e. ap (λ s. record { facts = k.facts; stored = s }) (same e))))
+    (λ added st same. subst (λ i. MetAtEnd p cs k i added) (sym c.requires.is)
+    (update_met p cs k (record { facts = k.facts; stored = new }) c.args.n c.args.v.now c.args.w
+    added (c.requires.number ∙ ap Some c.requires.is)
+    (subst (λ xs. PutsAtAllSites (stored_at k.stored) (stored_at new) xs c.args.n) are st)
+    (λ e. ap (λ s. record { facts = k.facts; stored = s }) (same e))))
     c.store_all.ensures.stores c.store_all.ensures.still

@@ -19,14 +19,20 @@ abbrev at : ℕ × ℕ → List Item
 at b = in_part (Word 0) (block_words b)
 
 pub loop-block-preserved : goal.loop-block-preserved
-loop-block-preserved c = flat_next at _ _ _ _ _ _ c.loop-block-test.true c.loop-block.invariant c.in_ok-push_block.ensures
+loop-block-preserved c = flat_next at _ _ _ _ _ _ c.loop-block-test.true c.loop-block.invariant
+    c.in_ok-push_block.ensures
 
 pub returns : goal.returns
 returns c =
     let blocks = c.as_slice-block-items.result.now in
     let set = c.in_ok-found.found in
-    let asked = words_of_values (tables_of c.args.system.now) (values_in (inclusions_of c.args.system.now)) (held c.args.kept.now.facts) c.args.i (numbers_in c.args.numbers.now) in
+    let asked = words_of_values (tables_of c.args.system.now)
+    (values_in (inclusions_of c.args.system.now)) (held c.args.kept.now.facts) c.args.i
+    (numbers_in c.args.numbers.now) in
     let items : c.loop-block.items ≡ in_part (Word 0) (words_in set) =
-    flat_done at _ _ _ _ c.loop-block-test.false c.loop-block.invariant ∙ ap (λ l. l ++ flat_map at blocks) c.new-items.ensures
-    ∙ sym (map_flat (item (Word 0)) block_words blocks) ∙ ap (λ bs. in_part (Word 0) (flat_map block_words bs)) c.as_slice-block-items.ensures.value in
-    subst (λ l. SameMembers l (in_part (Word 0) asked)) (sym items) (same_map (item (Word 0)) (words_in set) asked c.in_ok-found.ensures)
+    flat_done at _ _ _ _ c.loop-block-test.false c.loop-block.invariant ∙ ap
+    (λ l. l ++ flat_map at blocks) c.new-items.ensures
+    ∙ sym (map_flat (item (Word 0)) block_words blocks) ∙ ap
+    (λ bs. in_part (Word 0) (flat_map block_words bs)) c.as_slice-block-items.ensures.value in
+    subst (λ l. SameMembers l (in_part (Word 0) asked)) (sym items)
+    (same_map (item (Word 0)) (words_in set) asked c.in_ok-found.ensures)

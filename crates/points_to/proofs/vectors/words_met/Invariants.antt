@@ -6,4 +6,5 @@ use Rattle.points_to.specs.Held.{in_part}
 use Rattle.points_to.proofs.vectors.words_met.Given as goal
 
 abbrev pub invariant-loop-block : goal.invariant-loop-block
-invariant-loop-block l = l.items ≡ l.initial.items ++ flat_map (λ b. in_part (Word 0) (block_words b)) (take l.block-index l.block-items)
+invariant-loop-block l = l.items ≡ l.initial.items ++ flat_map
+    (λ b. in_part (Word 0) (block_words b)) (take l.block-index l.block-items)

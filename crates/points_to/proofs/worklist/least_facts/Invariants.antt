@@ -11,4 +11,5 @@ invariant-turns l = record {
 }
 
 abbrev pub decreases-turns : goal.decreases-turns
-decreases-turns l = ((2 ^ 64 - l.list.facts.count) * 2 ^ 71 + length (waiting l.list.pending)) + cond l.more 1 0
+decreases-turns l = ((2 ^ 64 - l.list.facts.count) * 2 ^ 71 + length (waiting l.list.pending)) +
+    cond l.more 1 0

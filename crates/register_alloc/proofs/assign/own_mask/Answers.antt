@@ -9,7 +9,12 @@ loop-place-init c = own_none c.args.mask
 
 pub loop-place-preserved : goal.loop-place-preserved
 loop-place-preserved c =
-    own_next c.args.mask c.loop-place.all c.mask_of_spot-all.result _ c.args.given.now c.loop-place.place-index _ (slice_get-get_or c.args.given.now c.loop-place.place-index _ c.loop-place-test.true) c.mask_of_spot-all.ensures refl c.loop-place.invariant
+    own_next c.args.mask c.loop-place.all c.mask_of_spot-all.result _ c.args.given.now
+    c.loop-place.place-index _
+    (slice_get-get_or c.args.given.now c.loop-place.place-index _ c.loop-place-test.true)
+    c.mask_of_spot-all.ensures refl c.loop-place.invariant
 
 pub returns : goal.returns
-returns c = subst (λ gs. IsOwnMask c.args.mask gs c.loop-place.all) (take_whole c.args.given.now c.loop-place.place-index c.loop-place-test.false) c.loop-place.invariant
+returns c = subst (λ gs. IsOwnMask c.args.mask gs c.loop-place.all)
+    (take_whole c.args.given.now c.loop-place.place-index c.loop-place-test.false)
+    c.loop-place.invariant

@@ -10,9 +10,13 @@ pub returns-clause-closer : goal.returns-clause-closer
 returns-clause-closer c more =
     let old : mask_at c.args.masks.now.items c.args.proc ≡ c.index-old.result.now =
     get_or_from_slice_get c.args.masks.now.items c.args.proc c.index-old.result.now 0
-    (slice_get_read c.args.masks.now.items (length c.args.masks.now.items) c.args.proc c.index-old.result.now refl c.requires c.index-old.ensures) in
-    let e : joined_masks c.args.masks.now.items (mask_at c.args.masks.now.items c.args.proc) c.args.called.now ≡ c.joined_masks-all.result =
-    ap (λ m. joined_masks c.args.masks.now.items m c.args.called.now) old ∙ ap (λ ms. joined_masks ms c.index-old.result.now c.args.called.now) (sym c.as_slice.ensures.value) ∙ sym c.joined_masks-all.ensures in
+    (slice_get_read c.args.masks.now.items (length c.args.masks.now.items) c.args.proc
+    c.index-old.result.now refl c.requires c.index-old.ensures) in
+    let e : joined_masks c.args.masks.now.items (mask_at c.args.masks.now.items c.args.proc)
+    c.args.called.now ≡ c.joined_masks-all.result =
+    ap (λ m. joined_masks c.args.masks.now.items m c.args.called.now) old ∙ ap
+    (λ ms. joined_masks ms c.index-old.result.now c.args.called.now)
+    (sym c.as_slice.ensures.value) ∙ sym c.joined_masks-all.ensures in
     subst (λ v. room (set c.args.masks.now.items c.args.proc v) < room c.args.masks.now.items) e
     (greater c.args.masks.now.items c.args.proc c.args.called.now c.requires
     (λ q. differs c.joined_masks-all.result c.index-old.result.now more (sym e ∙ q ∙ old))

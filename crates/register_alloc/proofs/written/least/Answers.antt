@@ -14,8 +14,10 @@ loop-preserved c = record {
 }
 
 pub returns-clause-many : goal.returns-clause-many
-returns-clause-many c = grown_length _ _ _ (grown_through _ _ _ _ c.loop.invariant.grows c.round.ensures.grows)
+returns-clause-many c = grown_length _ _ _
+    (grown_through _ _ _ _ c.loop.invariant.grows c.round.ensures.grows)
 
 pub returns-clause-least : goal.returns-clause-least
 returns-clause-least c =
-    are_least _ _ _ (grown_through _ _ _ _ c.loop.invariant.grows c.round.ensures.grows) (c.round.ensures.whole c.loop-test.false)
+    are_least _ _ _ (grown_through _ _ _ _ c.loop.invariant.grows c.round.ensures.grows)
+    (c.round.ensures.whole c.loop-test.false)

@@ -7,7 +7,8 @@ use Rattle.rv32_layout.specs.Spots.{label_address}
 use Rattle.rv32_layout.proofs.labels.addresses.Goals as goal
 
 pub find-requires : goal.find-requires
-find-requires c = subst (λ o. IsSome o) (sym (c.requires c.loop-label.label c.loop-label-test.true).1) refl
+find-requires c = subst (λ o. IsSome o)
+    (sym (c.requires c.loop-label.label c.loop-label-test.true).1) refl
 
 pub overflow_mul-find : goal.overflow_mul-find
 overflow_mul-find c =
@@ -24,6 +25,10 @@ overflow_add-find c =
 pub loop-label-preserved : goal.loop-label-preserved
 loop-label-preserved c =
     let l : ℕ = c.loop-label.label in
-    let here : 65536 + 4 * c.find.result ≡ label_address c.args.spots.now l = ap (λ o. 65536 + 4 * unwrap_or o 0) (sym c.find.ensures) in
-    let put : c.loop-label.addresses.items ++ (65536 + 4 * c.find.result) ∷ [] ≡ map (label_address c.args.spots.now) (range_with_len 0 l) ++ label_address c.args.spots.now l ∷ [] = λ i. c.loop-label.invariant i ++ here i ∷ [] in
-    c.in_ok-push.ensures.items ∙ put ∙ sym (map-range_with_len_more (label_address c.args.spots.now) 0 l l (omega arith))
+    let here : 65536 + 4 * c.find.result ≡ label_address c.args.spots.now l
+    = ap (λ o. 65536 + 4 * unwrap_or o 0) (sym c.find.ensures) in
+    let put : c.loop-label.addresses.items ++ (65536 + 4 * c.find.result) ∷ [] ≡ map
+    (label_address c.args.spots.now) (range_with_len 0 l)
+    ++ label_address c.args.spots.now l ∷ [] = λ i. c.loop-label.invariant i ++ here i ∷ [] in
+    c.in_ok-push.ensures.items ∙ put ∙ sym
+    (map-range_with_len_more (label_address c.args.spots.now) 0 l l (omega arith))

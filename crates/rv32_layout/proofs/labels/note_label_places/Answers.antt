@@ -19,7 +19,8 @@ note-requires c l is =
     let items : List Item = c.args.items.now in
     let n : ℕ = c.loop-n.n in
     let x : Item = c.index-items-n.result in
-    let here : slice_get items n ≡ Some x = slice_get_read items (length items) n x refl c.loop-n-test.true c.index-items-n.is in
+    let here : slice_get items n ≡ Some x = slice_get_read items (length items) n x refl
+    c.loop-n-test.true c.index-items-n.is in
     c.loop-n.invariant.room n l (here ∙ ap (λ i. Some i) is)
 
 pub overflow_add-at : goal.overflow_add-at
@@ -28,7 +29,8 @@ overflow_add-at c =
     let ways : List Way = c.args.ways.now in
     let n : ℕ = c.loop-n.n in
     let x : Item = c.index-items-n.result in
-    let here : slice_get items n ≡ Some x = slice_get_read items (length items) n x refl c.loop-n-test.true c.index-items-n.is in
+    let here : slice_get items n ≡ Some x = slice_get_read items (length items) n x refl
+    c.loop-n-test.true c.index-items-n.is in
     let w = c.width-at.ensures ∙ ap (λ v. width v x) c.way_of.ensures in
     let next = place_behind ways items n x here in
     let total = place_le ways items (n + 1) in
@@ -40,12 +42,14 @@ loop-n-preserved c =
     let ways : List Way = c.args.ways.now in
     let n : ℕ = c.loop-n.n in
     let x : Item = c.index-items-n.result in
-    let here : slice_get items n ≡ Some x = slice_get_read items (length items) n x refl c.loop-n-test.true c.index-items-n.is in
+    let here : slice_get items n ≡ Some x = slice_get_read items (length items) n x refl
+    c.loop-n-test.true c.index-items-n.is in
     let inv = c.loop-n.invariant in
     let w = c.width-at.ensures ∙ ap (λ v. width v x) c.way_of.ensures in
     let next = place_behind ways items n x here in
     record {
       at_is = omega (arith, w, inv.at_is);
-      known = place_noted items ways n x c.loop-n.at c.loop-n.spots c.note.new.self here c.in_ok-note.ensures.noted inv.at_is inv.known;
+      known = place_noted items ways n x c.loop-n.at c.loop-n.spots c.note.new.self here
+          c.in_ok-note.ensures.noted inv.at_is inv.known;
       room = λ k l r. c.in_ok-note.ensures.room l (inv.room k l r);
     }

@@ -6,4 +6,5 @@ pub returns-else-b-eq0 : goal.returns-else-b-eq0
 returns-else-b-eq0 c =
     let fits : FitsSigned w32 c.wrapping_div.result = search rules in
     let some : 0 < c.args.b = omega arith in
-    quotient_code c.args.a c.args.b _ _ _ _ (omega arith) (omega arith) some c.cast_signed.ensures c.cast_signed-else-b-eq0.ensures c.wrapping_div.ensures c.cast_unsigned.ensures fits
+    quotient_code c.args.a c.args.b _ _ _ _ (omega arith) (omega arith) some c.cast_signed.ensures
+    c.cast_signed-else-b-eq0.ensures c.wrapping_div.ensures c.cast_unsigned.ensures fits

@@ -6,5 +6,7 @@ use Rattle.rv32_machine.proofs.store.regions.Goals as goal
 pub loop-segment-preserved : goal.loop-segment-preserved
 loop-segment-preserved c = record {
   made = grind (arith, common_steps);
-  parts = one_part_more c.args.segments.now c.loop-segment.segment-index c.segment-item.result c.loop-segment.invariant.parts (sym c.segment-item.is) c.loop-segment-test.true c.in_ok-new.ensures.part;
+  parts = one_part_more c.args.segments.now c.loop-segment.segment-index c.segment-item.result
+      c.loop-segment.invariant.parts (sym c.segment-item.is) c.loop-segment-test.true
+      c.in_ok-new.ensures.part;
 }

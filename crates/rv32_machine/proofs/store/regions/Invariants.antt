@@ -7,5 +7,6 @@ use Rattle.rv32_machine.proofs.store.regions.Given as goal
 abbrev pub invariant-loop-segment : goal.invariant-loop-segment
 invariant-loop-segment l = record {
   made : l.regions.items ≡ map stretch_of (take l.segment-index l.segments);
-  parts : (k : ℕ) (d : ImageSegment) → k < l.segment-index → IsSoundSegment (slice_index_or l.segments k d);
+  parts : (k : ℕ) (d : ImageSegment) → k < l.segment-index
+      → IsSoundSegment (slice_index_or l.segments k d);
 }

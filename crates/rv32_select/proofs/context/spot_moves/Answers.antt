@@ -3,4 +3,5 @@ use Rattle.rv32_select.proofs.Sending.{all_sent}
 use Rattle.rv32_select.proofs.context.spot_moves.Goals as goal
 
 pub returns : goal.returns
-returns c = all_sent _ _ c.loop-to.to-iterator.a.rest.now c.loop-to.to-iterator.b.rest.now (elim c.in-None.ensures.steps [ inl h ↦ inl h.1.0 | inr h ↦ inr h.1.0 ]) c.loop-to.invariant
+returns c = all_sent _ _ c.loop-to.to-iterator.a.rest.now c.loop-to.to-iterator.b.rest.now
+    (elim c.in-None.ensures.steps [ inl h ↦ inl h.1.0 | inr h ↦ inr h.1.0 ]) c.loop-to.invariant

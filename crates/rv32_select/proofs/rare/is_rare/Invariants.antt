@@ -4,4 +4,5 @@ use Rattle.rv32_select.specs.IsSelected.{is_rare}
 use Rattle.rv32_select.proofs.rare.is_rare.Given as goal
 
 abbrev pub invariant-loop-stmt : goal.invariant-loop-stmt
-invariant-loop-stmt l = is_rare (code_of l.block) ≡ is_rare (all_before (map before_of (drop l.stmt-index l.stmt-items)) (end_of l.block.last))
+invariant-loop-stmt l = is_rare (code_of l.block) ≡ is_rare
+    (all_before (map before_of (drop l.stmt-index l.stmt-items)) (end_of l.block.last))

@@ -4,7 +4,8 @@ use Rattle.stage_rows.proofs.Stage.{of_vectors}
 use Rattle.stage_rows.proofs.composed.composed.Goals as goal
 
 pub compose-requires-clause-first : goal.compose-requires-clause-first
-compose-requires-clause-first c = of_vectors (program c.args.p.now) (program_of c.in_ok-g.g) c.in_ok-g.ensures.made
+compose-requires-clause-first c = of_vectors (program c.args.p.now) (program_of c.in_ok-g.g)
+    c.in_ok-g.ensures.made
 
 pub compose-requires-clause-second : goal.compose-requires-clause-second
 compose-requires-clause-second c = λ k gives. gives.stays.of_vectors

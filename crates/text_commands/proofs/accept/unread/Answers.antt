@@ -7,10 +7,12 @@ pub returns-in-Syntax : goal.returns-in-Syntax
 returns-in-Syntax c = λ text h. rw c.refused-in-Syntax.ensures (rw c.in-Syntax.is at h)
 
 pub returns-in-NumberRange : goal.returns-in-NumberRange
-returns-in-NumberRange c = λ text h. rw c.refused-in-NumberRange.ensures (rw c.in-NumberRange.is at h)
+returns-in-NumberRange c = λ text h. rw c.refused-in-NumberRange.ensures
+    (rw c.in-NumberRange.is at h)
 
 pub returns-in-TooDeep : goal.returns-in-TooDeep
 returns-in-TooDeep c = λ text h. rw c.refused-in-TooDeep.ensures (rw c.in-TooDeep.is at h)
 
 pub returns-in-TextTooLong : goal.returns-in-TextTooLong
-returns-in-TextTooLong c = λ text h. rw c.refused-in-TextTooLong.ensures (rw c.in-TextTooLong.is at h)
+returns-in-TextTooLong c = λ text h. rw c.refused-in-TextTooLong.ensures
+    (rw c.in-TextTooLong.is at h)

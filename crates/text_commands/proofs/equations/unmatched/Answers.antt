@@ -3,4 +3,5 @@ use Rattle.text_commands.proofs.Matched.{match_caused}
 use Rattle.text_commands.proofs.equations.unmatched.Goals as goal
 
 pub returns : goal.returns
-returns c = λ text h. rw (c.refused.ensures, c.rule-rule.ensures, c.place.ensures) (match_caused text c.args.refusal.now (λ e. grind (arith, c.rule-rule.ensures)) h)
+returns c = λ text h. rw (c.refused.ensures, c.rule-rule.ensures, c.place.ensures)
+    (match_caused text c.args.refusal.now (λ e. grind (arith, c.rule-rule.ensures)) h)

@@ -9,8 +9,11 @@ use Rattle.text_commands.proofs.operands.link_files.Goals as goal
 
 pub returns-in-Ok-clause-answer : goal.returns-in-Ok-clause-answer
 returns-in-Ok-clause-answer g c =
-    let o = sink_change g.K.Sink.put_gives g.K.Sink.taken g.K.Sink.faults c.args.out.now c.link_texts.new.out in
+    let o = sink_change g.K.Sink.put_gives g.K.Sink.taken g.K.Sink.faults c.args.out.now
+    c.link_texts.new.out in
     let says = λ (texts : List (List ℕ)). IsLinkOutcome o texts c.link_texts.result in
-    inr (of_files (shelf_change g.F.Shelf.content g.F.Shelf.faults c.args.shelf.now c.read_files.new.shelf) 1048577 (names_of c.args.files.now) c.in-Ok.texts says
+    inr (of_files
+    (shelf_change g.F.Shelf.content g.F.Shelf.faults c.args.shelf.now c.read_files.new.shelf)
+    1048577 (names_of c.args.files.now) c.in-Ok.texts says
     (λ texts fronts h. links_long o c.in-Ok.texts texts fronts c.link_texts.result h)
     c.in-Ok.ensures.read c.link_texts.ensures.links)

@@ -8,4 +8,5 @@ invariant-pieces g l =
     (goal.iterator-pieces g).can_next l.piece-iterator
     × (goal.iterator-pieces g).is_finite l.piece-iterator
     × (chunks_size l.piece-iterator ≡ 4096)
-    × PutSoFar g.K.Sink.put_gives g.K.Sink.taken g.K.Sink.faults l.initial.out l.initial.bytes l.out (chunks_rest l.piece-iterator)
+    × PutSoFar g.K.Sink.put_gives g.K.Sink.taken g.K.Sink.faults l.initial.out l.initial.bytes l.out
+    (chunks_rest l.piece-iterator)

@@ -10,8 +10,11 @@ use Rattle.text_commands.proofs.sides.line.Goals as goal
 
 pub returns : goal.returns
 returns c = λ s t.
-    let same : source_of c.in-Ok.source ≡ s = one_thing source_reads c.args.text.now (source_of c.in-Ok.source) s c.in-Ok.ensures.found t in
+    let same : source_of c.in-Ok.source ≡ s = one_thing source_reads c.args.text.now
+    (source_of c.in-Ok.source) s c.in-Ok.ensures.found t in
     c.in_ok-push.ensures.items
     ∙ ap (λ b. b ++ codes "\n") c.in_ok-bytes.ensures.shown
-    ∙ ap (λ names. shown_sides names (type_of c.args.left.now) (type_of c.args.right.now) ++ codes "\n") c.texts.ensures
-    ∙ ap (λ (x : Source). shown_sides x.names (type_of c.args.left.now) (type_of c.args.right.now) ++ codes "\n") same
+    ∙ ap (λ names. shown_sides names (type_of c.args.left.now) (type_of c.args.right.now)
+    ++ codes "\n") c.texts.ensures
+    ∙ ap (λ (x : Source). shown_sides x.names (type_of c.args.left.now) (type_of c.args.right.now)
+    ++ codes "\n") same

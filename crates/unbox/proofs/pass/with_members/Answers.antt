@@ -10,9 +10,14 @@ pub loop-proc-init : goal.loop-proc-init
 loop-proc-init c = no_procs _ _ c.new-procs.ensures
 
 pub loop-proc-preserved : goal.loop-proc-preserved
-loop-proc-preserved c = procs_next (is_member c.args.members.now.inside) _ _ _ _ _ _ _ _ (search rules) c.has-bare.ensures c.in_ok-body.ensures c.in_ok-push.ensures.ok c.loop-proc.invariant
+loop-proc-preserved c = procs_next (is_member c.args.members.now.inside) _ _ _ _ _ _ _ _
+    (search rules) c.has-bare.ensures c.in_ok-body.ensures c.in_ok-push.ensures.ok
+    c.loop-proc.invariant
 
 pub returns : goal.returns
 returns c =
-    let all = YieldsList-end (YieldsList-from_vec c.args.g.procs (search rules) (search rules)) c.loop-proc.yielded c.loop-proc.proc-iterator c.loop-proc.yielded_by _ c.next.new.self c.in-None.is c.next.ensures.steps in
-    program_made (is_member c.args.members.now.inside) c.args.g _ _ _ (sym (map_same c.loop-proc.yielded) ∙ all.0) c.loop-proc.invariant
+    let all = YieldsList-end (YieldsList-from_vec c.args.g.procs (search rules) (search rules))
+    c.loop-proc.yielded c.loop-proc.proc-iterator c.loop-proc.yielded_by _ c.next.new.self
+    c.in-None.is c.next.ensures.steps in
+    program_made (is_member c.args.members.now.inside) c.args.g _ _ _
+    (sym (map_same c.loop-proc.yielded) ∙ all.0) c.loop-proc.invariant

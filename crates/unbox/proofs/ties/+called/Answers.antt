@@ -7,14 +7,16 @@ use Rattle.unbox.proofs.SoFar.{called_next, called_done, leaf_called}
 use Rattle.unbox.proofs.ties.+called.Goals as goal
 
 pub alts_called-loop-alt-preserved : goal.alts_called-loop-alt-preserved
-alts_called-loop-alt-preserved t c = called_next _ _ _ _ _ _ c.loop-alt-test.true c.alt-item.is c.in_ok-block_called.ensures c.loop-alt.invariant
+alts_called-loop-alt-preserved t c = called_next _ _ _ _ _ _ c.loop-alt-test.true c.alt-item.is
+    c.in_ok-block_called.ensures c.loop-alt.invariant
 
 pub alts_called-returns : goal.alts_called-returns
 alts_called-returns t c = called_done _ _ _ _ c.loop-alt-test.false c.loop-alt.invariant
 
 pub block_called-returns : goal.block_called-returns
 block_called-returns t c =
-    let e : c.op_called.new.out ≡ c.args.out.now ++ act_called (act_of c.args.block.now.last.value) = search rules in
+    let e : c.op_called.new.out ≡ c.args.out.now ++ act_called (act_of c.args.block.now.last.value)
+    = search rules in
     e ∙ ap (λ l. c.args.out.now ++ l) (sym (block_called_last c.args.block.now))
 
 pub op_called-returns-in-Unit : goal.op_called-returns-in-Unit
@@ -27,7 +29,8 @@ op_called-returns-in-Fetch t c = leaf_called _ _ _ _ c.in-Fetch.is (act_of-Fetch
 
 pub op_called-returns-in-FetchWord : goal.op_called-returns-in-FetchWord
 unfolding act_called
-op_called-returns-in-FetchWord t c = leaf_called _ _ _ _ c.in-FetchWord.is (act_of-FetchWord _ _) refl
+op_called-returns-in-FetchWord t c = leaf_called _ _ _ _ c.in-FetchWord.is (act_of-FetchWord _ _)
+    refl
 
 pub op_called-returns-in-Update : goal.op_called-returns-in-Update
 unfolding act_called

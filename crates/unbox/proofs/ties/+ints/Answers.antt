@@ -7,10 +7,12 @@ use Rattle.unbox.proofs.SoFar.{ints_next, ints_done}
 use Rattle.unbox.proofs.ties.+ints.Goals as goal
 
 pub alts_ints-loop-alt-preserved : goal.alts_ints-loop-alt-preserved
-alts_ints-loop-alt-preserved t c = ints_next (found c.args.flow.now) _ _ _ _ _ _ c.loop-alt-test.true c.alt-item.is c.block_ints.ensures c.both-all.ensures c.loop-alt.invariant
+alts_ints-loop-alt-preserved t c = ints_next (found c.args.flow.now) _ _ _ _ _ _
+    c.loop-alt-test.true c.alt-item.is c.block_ints.ensures c.both-all.ensures c.loop-alt.invariant
 
 pub alts_ints-returns : goal.alts_ints-returns
-alts_ints-returns t c = ints_done (found c.args.flow.now) _ _ _ c.loop-alt-test.false c.loop-alt.invariant
+alts_ints-returns t c = ints_done (found c.args.flow.now) _ _ _ c.loop-alt-test.false
+    c.loop-alt.invariant
 
 pub block_ints-returns : goal.block_ints-returns
 block_ints-returns t c =

@@ -6,4 +6,5 @@ use Rattle.unbox.proofs.Readers.{Tested}
 use Rattle.unbox.proofs.ties.only_int.Given as goal
 
 abbrev pub invariant-loop-tag : goal.invariant-loop-tag
-invariant-loop-tag l = Tested (found l.flow (var l.x.0) (word 0)) l.only (take l.tag-index l.tag-items)
+invariant-loop-tag l = Tested (found l.flow (var l.x.0) (word 0)) l.only
+    (take l.tag-index l.tag-items)

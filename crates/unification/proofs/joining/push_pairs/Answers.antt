@@ -13,4 +13,6 @@ loop-i-preserved c =
     c.in_ok-push.ensures.items
     ∙ ap (λ l. l ++ (get_or xs i 0, get_or ys i 0) ∷ []) c.loop-i.invariant
     ∙ append_again old (paired (take i xs) (take i ys)) ((get_or xs i 0, get_or ys i 0) ∷ [])
-    ∙ ap (λ l. old ++ l) (sym (paired_more xs ys i c.loop-i-test.true (subst (λ n. i < n) c.requires c.loop-i-test.true)))
+    ∙ ap (λ l. old ++ l)
+    (sym (paired_more xs ys i c.loop-i-test.true
+    (subst (λ n. i < n) c.requires c.loop-i-test.true)))

@@ -15,14 +15,18 @@ returns-then-len-room c = λ v sh.
     let rest = c.pop.new.self.items in
     let x = c.in-Some.place in
     let e : left ≡ rest ++ x ∷ [] = c.in-Some.ensures.items in
-    let full : c.args.room ≤ length row = omega (arith, c.if-len-room.true, c.len.ensures, c.writing.row.ok.0) in
-    too_many terms classes c.requires.earlier v sh row left rest x (pieces (v c.args.at)) (last_below terms classes c.requires.earlier left rest x e c.writing.invariant.below) e (c.writing.invariant.written v sh) c.args.room full
+    let full : c.args.room ≤ length row = omega
+    (arith, c.if-len-room.true, c.len.ensures, c.writing.row.ok.0) in
+    too_many terms classes c.requires.earlier v sh row left rest x (pieces (v c.args.at))
+    (last_below terms classes c.requires.earlier left rest x e c.writing.invariant.below) e
+    (c.writing.invariant.written v sh) c.args.room full
 
 pub class_of-class-requires : goal.class_of-class-requires
 class_of-class-requires c =
     let x = c.in-Some.place in
     subst (λ n. x < n) (sym c.requires.classes.classes)
-    (last_below c.args.terms.now c.args.classes.now c.requires.earlier c.writing.left.items c.pop.new.self.items x c.in-Some.ensures.items c.writing.invariant.below)
+    (last_below c.args.terms.now c.args.classes.now c.requires.earlier c.writing.left.items
+    c.pop.new.self.items x c.in-Some.ensures.items c.writing.invariant.below)
 
 pub writing-preserved : goal.writing-preserved
 writing-preserved c =
@@ -35,10 +39,18 @@ writing-preserved c =
     let more = c.push-in-Some.new.self.items in
     let next = c.extend_from_slice.new.self.items in
     let e : left ≡ rest ++ x ∷ [] = c.in-Some.ensures.items in
-    let em : more ≡ row ++ head_piece terms classes (class_of classes x) ∷ [] = c.in_ok-push-2.ensures.items ∙ ap (λ p. row ++ p ∷ []) (c.first_of.ensures ∙ ap (head_piece terms classes) c.class_of-class.ensures) in
+    let em : more ≡ row ++ head_piece terms classes (class_of classes x) ∷ []
+    = c.in_ok-push-2.ensures.items ∙ ap (λ p. row ++ p ∷ [])
+    (c.first_of.ensures ∙ ap (head_piece terms classes) c.class_of-class.ensures) in
     let en : next ≡ rest ++ kept_arguments terms classes (class_of classes x) =
-    c.in_ok-extend_from_slice.ensures.items ∙ ap (λ l. rest ++ l) (c.arguments_at.ensures ∙ ap (arguments_of terms) (c.kept_of-kept.ensures ∙ ap (kept_of classes) c.class_of-class.ensures)) in
+    c.in_ok-extend_from_slice.ensures.items ∙ ap (λ l. rest ++ l)
+    (c.arguments_at.ensures ∙ ap (arguments_of terms)
+    (c.kept_of-kept.ensures ∙ ap (kept_of classes) c.class_of-class.ensures)) in
     record {
-      below = still_below terms classes c.requires.earlier left rest x (class_of classes x) next e en c.writing.invariant.below;
-      written = λ v sh. one_written terms classes c.requires.earlier v sh row left rest x (pieces (v c.args.at)) (last_below terms classes c.requires.earlier left rest x e c.writing.invariant.below) e (c.writing.invariant.written v sh) more next em en;
+      below = still_below terms classes c.requires.earlier left rest x (class_of classes x) next e
+          en c.writing.invariant.below;
+      written = λ v sh. one_written terms classes c.requires.earlier v sh row left rest x
+          (pieces (v c.args.at))
+          (last_below terms classes c.requires.earlier left rest x e c.writing.invariant.below) e
+          (c.writing.invariant.written v sh) more next em en;
     }

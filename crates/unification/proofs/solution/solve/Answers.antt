@@ -8,20 +8,25 @@ returns-then-not-branch c =
     let terms = c.args.terms.now in
     let start = c.in_ok-classes.classes in
     none_solves terms c.requires.earlier c.args.pairs.now start c.in_ok-classes.ensures
-    (subst (IsUnsatisfiable terms start) c.in_ok-todo.ensures.items (c.in_ok-unify_pairs.ensures.none c.if-not-branch.true))
+    (subst (IsUnsatisfiable terms start) c.in_ok-todo.ensures.items
+    (c.in_ok-unify_pairs.ensures.none c.if-not-branch.true))
 
 pub returns-then-not-branch-2 : goal.returns-then-not-branch-2
 returns-then-not-branch-2 c =
     let terms = c.args.terms.now in
     let start = c.in_ok-classes.classes in
-    none_solves_joined terms c.requires.earlier c.args.pairs.now start c.in_ok-classes.ensures c.unify_pairs.new.classes
-    (subst (λ ps. MergingProgresses terms start ps c.unify_pairs.new.classes []) c.in_ok-todo.ensures.items (c.in_ok-unify_pairs.ensures.advances c.if-not-branch.false))
+    none_solves_joined terms c.requires.earlier c.args.pairs.now start c.in_ok-classes.ensures
+    c.unify_pairs.new.classes
+    (subst (λ ps. MergingProgresses terms start ps c.unify_pairs.new.classes [])
+    c.in_ok-todo.ensures.items (c.in_ok-unify_pairs.ensures.advances c.if-not-branch.false))
     (c.in_ok-is_acyclic.ensures.none c.if-not-branch-2.true)
 
 pub returns : goal.returns
 returns c =
     let terms = c.args.terms.now in
     let start = c.in_ok-classes.classes in
-    solved terms c.requires.earlier c.args.pairs.now start c.in_ok-classes.ensures c.unify_pairs.new.classes
-    (subst (λ ps. MergingProgresses terms start ps c.unify_pairs.new.classes []) c.in_ok-todo.ensures.items (c.in_ok-unify_pairs.ensures.advances c.if-not-branch.false))
+    solved terms c.requires.earlier c.args.pairs.now start c.in_ok-classes.ensures
+    c.unify_pairs.new.classes
+    (subst (λ ps. MergingProgresses terms start ps c.unify_pairs.new.classes [])
+    c.in_ok-todo.ensures.items (c.in_ok-unify_pairs.ensures.advances c.if-not-branch.false))
     c.requires.below (c.in_ok-is_acyclic.ensures.stand c.if-not-branch-2.false)

@@ -5,4 +5,5 @@ use Rattle.vectorise.specs.Known.{noted_procs}
 use Rattle.vectorise.proofs.known.table.Given as goal
 
 abbrev pub invariant-loop-proc : goal.invariant-loop-proc
-invariant-loop-proc l = l.known ≡ noted_procs l.layout (map procedure_of (take l.proc-index l.proc-items)) (replicate l.layout.base Plain)
+invariant-loop-proc l = l.known ≡ noted_procs l.layout
+    (map procedure_of (take l.proc-index l.proc-items)) (replicate l.layout.base Plain)

@@ -12,13 +12,17 @@ returns-then-is_other c =
     let p = program_of c.args.self.now.program.now in
     let A = found c.args.self.now.flow.now in
     let ts = c.candidates-t-items.result.now in
-    sym (ap is_nonempty (others_filtered p A c.args.v.now (map (λ t. t.0) ts) c.candidates-t-items.ensures)
-    ∙ some_kept (meets_other p A c.args.v.now) ts c.loop-t.t-index _ c.loop-t-test.true (sym c.is_other.ensures ∙ c.if-is_other.true))
+    sym (ap is_nonempty
+    (others_filtered p A c.args.v.now (map (λ t. t.0) ts) c.candidates-t-items.ensures)
+    ∙ some_kept (meets_other p A c.args.v.now) ts c.loop-t.t-index _ c.loop-t-test.true
+    (sym c.is_other.ensures ∙ c.if-is_other.true))
 
 pub returns : goal.returns
 returns c =
     let p = program_of c.args.self.now.program.now in
     let A = found c.args.self.now.flow.now in
     let ts = c.candidates-t-items.result.now in
-    sym (ap is_nonempty (others_filtered p A c.args.v.now (map (λ t. t.0) ts) c.candidates-t-items.ensures
-    ∙ sym (kept_all (meets_other p A c.args.v.now) ts c.loop-t.t-index c.loop-t-test.false) ∙ c.loop-t.invariant))
+    sym (ap is_nonempty
+    (others_filtered p A c.args.v.now (map (λ t. t.0) ts) c.candidates-t-items.ensures
+    ∙ sym (kept_all (meets_other p A c.args.v.now) ts c.loop-t.t-index c.loop-t-test.false) ∙
+    c.loop-t.invariant))

@@ -7,4 +7,8 @@ use Rattle.apply_inline.proofs.known.Known.parts_size.Goals as goal
 
 pub returns : goal.returns
 returns c =
-    c.tags_size.ensures ∙ ap (λ l. saturated_at_64_bits (tags_size applied_size c.args.self.now.program.now.tags l)) (sym (parts_filtered (program_of c.args.self.now.program.now) (found c.args.self.now.flow.now) c.args.v.now (map (λ t. t.0) c.candidates.result.now) c.candidates.ensures))
+    c.tags_size.ensures ∙ ap
+    (λ l. saturated_at_64_bits (tags_size applied_size c.args.self.now.program.now.tags l))
+    (sym (parts_filtered (program_of c.args.self.now.program.now)
+    (found c.args.self.now.flow.now) c.args.v.now (map (λ t. t.0) c.candidates.result.now)
+    c.candidates.ensures))

@@ -7,10 +7,16 @@ use Rattle.apply_inline.proofs.known.Known.procs_size.Goals as goal
 
 pub loop-proc-preserved : goal.loop-proc-preserved
 loop-proc-preserved c =
-    let e = total_next procedure_of (expanded_procedure (program_of c.args.self.now.program.now) (found c.args.self.now.flow.now)) c.args.procs.now c.loop-proc.proc-index _ c.loop-proc-test.true c.proc-item.is in
+    let e = total_next procedure_of
+    (expanded_procedure (program_of c.args.self.now.program.now)
+    (found c.args.self.now.flow.now)) c.args.procs.now c.loop-proc.proc-index _
+    c.loop-proc-test.true c.proc-item.is in
     omega arith
 
 pub returns : goal.returns
 returns c =
-    let e = total_done procedure_of (expanded_procedure (program_of c.args.self.now.program.now) (found c.args.self.now.flow.now)) c.args.procs.now c.loop-proc.proc-index c.loop-proc-test.false in
+    let e = total_done procedure_of
+    (expanded_procedure (program_of c.args.self.now.program.now)
+    (found c.args.self.now.flow.now)) c.args.procs.now c.loop-proc.proc-index
+    c.loop-proc-test.false in
     omega arith

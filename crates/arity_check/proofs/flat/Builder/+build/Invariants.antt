@@ -27,5 +27,7 @@ decreases-function l = terms_weight (terms_of (map term l.args.now)) + 1
 abbrev pub invariant-args-loop-arg : goal.invariant-args-loop-arg
 invariant-args-loop-arg l = record {
   count : length l.vars ≡ l.arg-index;
-  adds : (p : Program) → known l.globals ≡ known_of p → AddsArgs p l.scope l.initial.self l.self (terms_of (map term (take l.arg-index l.args))) l.vars;
+  adds : (p : Program) → known l.globals ≡ known_of p
+      → AddsArgs p l.scope l.initial.self l.self (terms_of (map term (take l.arg-index l.args)))
+      l.vars;
 }

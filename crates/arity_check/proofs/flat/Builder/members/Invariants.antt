@@ -8,5 +8,6 @@ use Rattle.arity_check.proofs.flat.Builder.members.Given as goal
 abbrev pub invariant-loop-member : goal.invariant-loop-member
 invariant-loop-member l = record {
   count : length l.locals ≡ l.member-index;
-  adds : (p : Program) → known l.globals ≡ known_of p → AddsGroup p l.scope l.initial.self l.self (map bind (take l.member-index l.group)) l.locals;
+  adds : (p : Program) → known l.globals ≡ known_of p
+      → AddsGroup p l.scope l.initial.self l.self (map bind (take l.member-index l.group)) l.locals;
 }

@@ -12,8 +12,11 @@ abbrev pub invariant-body-loop-alt : goal.invariant-body-loop-alt
 invariant-body-loop-alt l = record {
   subject : l.subject ≡ l.initial.subject;
   scope : l.self.scope ≡ l.initial.self.scope;
-  form : (p : Program) → known l.globals ≡ known_of p → (rest : Alts) (others : Branches) (m : ℕ) → AreBranches p l.initial.self.scope l.self.next rest others m
-      → AreBranches p l.initial.self.scope l.initial.self.next (before_alts (map alternative (take l.alt-index l.alt-items)) rest) (before_branches (map branch l.branches) others) m;
+  form : (p : Program) → known l.globals ≡ known_of p → (rest : Alts) (others : Branches) (m : ℕ)
+      → AreBranches p l.initial.self.scope l.self.next rest others m
+      → AreBranches p l.initial.self.scope l.initial.self.next
+      (before_alts (map alternative (take l.alt-index l.alt-items)) rest)
+      (before_branches (map branch l.branches) others) m;
 }
 
 abbrev pub decreases-body : goal.decreases-body

@@ -6,4 +6,5 @@ use Rattle.arity_raise.proofs.Each.{Each}
 use Rattle.arity_raise.proofs.cells.ProgramFacts.is_unchanged.Given as goal
 
 abbrev pub invariant-loop-site : goal.invariant-loop-site
-invariant-loop-site l = Each (NeverUpdated (found l.self.flow.now) (program_of l.self.g.now)) (map (λ s. s.0) (take l.site-index l.site-items))
+invariant-loop-site l = Each (NeverUpdated (found l.self.flow.now) (program_of l.self.g.now))
+    (map (λ s. s.0) (take l.site-index l.site-items))

@@ -8,4 +8,5 @@ use Rattle.arity_raise.proofs.Each.{Each}
 use Rattle.arity_raise.proofs.cells.ProgramFacts.some_tag.Given as goal
 
 abbrev pub invariant-loop-site : goal.invariant-loop-site
-invariant-loop-site l = Each (λ s. (t : ℕ) → At (found l.self.flow.now) (site s) tags (tag t) → ⊥) (map (λ s. s.0) (take l.site-index l.site-items))
+invariant-loop-site l = Each (λ s. (t : ℕ) → At (found l.self.flow.now) (site s) tags (tag t) → ⊥)
+    (map (λ s. s.0) (take l.site-index l.site-items))

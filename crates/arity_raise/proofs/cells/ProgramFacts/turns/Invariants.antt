@@ -5,4 +5,6 @@ use Rattle.arity_raise.proofs.Chosen.{TurnsSoFar}
 use Rattle.arity_raise.proofs.cells.ProgramFacts.turns.Given as goal
 
 abbrev pub invariant-loop-x : goal.invariant-loop-x
-invariant-loop-x l = TurnsSoFar (found l.self.flow.now) (program_of l.self.g.now) (procedure_of l.proc) (take l.x-index l.x-items) (length l.proc.params) l.count l.made l.initial.fresh.next l.fresh.next
+invariant-loop-x l = TurnsSoFar (found l.self.flow.now) (program_of l.self.g.now)
+    (procedure_of l.proc) (take l.x-index l.x-items) (length l.proc.params) l.count l.made
+    l.initial.fresh.next l.fresh.next

@@ -7,4 +7,5 @@ use Rattle.command_line.proofs.Walks.{finished}
 use Rattle.command_line.proofs.arguments.Arguments.read.Given as goal
 
 abbrev pub invariant-loop-word : goal.invariant-loop-word
-invariant-loop-word l = finished (walk_seen l.walk) (map string_bytes (drop l.word-index l.words)) ≡ option_and_then (gathered no_options) (parts_of (map string_bytes l.words))
+invariant-loop-word l = finished (walk_seen l.walk) (map string_bytes (drop l.word-index l.words)) ≡
+    option_and_then (gathered no_options) (parts_of (map string_bytes l.words))

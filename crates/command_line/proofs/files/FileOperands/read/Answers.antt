@@ -4,4 +4,5 @@ use Rattle.command_line.proofs.Links.{files_of_words}
 use Rattle.command_line.proofs.files.FileOperands.read.Goals as goal
 
 pub loop-word-init : goal.loop-word-init
-loop-word-init c = record { counted = refl; said = files_of_words (map string_bytes c.args.words.now) }
+loop-word-init c = record
+    { counted = refl; said = files_of_words (map string_bytes c.args.words.now) }

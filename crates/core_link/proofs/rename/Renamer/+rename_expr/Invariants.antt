@@ -9,5 +9,6 @@ abbrev pub invariant-expr-loop-alt : goal.invariant-expr-loop-alt
 invariant-expr-loop-alt l = record {
   tested : l.tested ≡ l.initial.tested;
   scope : l.scope ≡ l.fn.scope;
-  alts : AllZip (Renews (numbers_of l.self.renaming.now) (known l.self.globals.now) l.fn.scope) l.yielded l.made;
+  alts : AllZip (Renews (numbers_of l.self.renaming.now) (known l.self.globals.now) l.fn.scope)
+      l.yielded l.made;
 }

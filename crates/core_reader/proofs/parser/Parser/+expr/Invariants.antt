@@ -19,7 +19,9 @@ decreases-alts l = 2 * length l.self.now.rest.now
 abbrev pub invariant-alts-loop-alts : goal.invariant-alts-loop-alts
 invariant-alts-loop-alts l =
     record {
-      reads : (k : Cont) (e : Expr) → suc (nests k) ≡ l.fn.self.depth → run at_most_200 (AltStart k e NoAlts) l.fn.self.rest.now ≡ run at_most_200 (AltStart k e (alternatives l.alts.items)) l.self.rest.now;
+      reads : (k : Cont) (e : Expr) → suc (nests k) ≡ l.fn.self.depth
+          → run at_most_200 (AltStart k e NoAlts) l.fn.self.rest.now ≡ run at_most_200
+          (AltStart k e (alternatives l.alts.items)) l.self.rest.now;
       shorter : length l.self.rest.now ≤ length l.fn.self.rest.now;
       depth : l.self.depth ≡ l.fn.self.depth;
     }

@@ -17,7 +17,9 @@ decreases-bracket l = 3 * length l.self.now.rest.now
 abbrev pub invariant-app-loop-args : goal.invariant-app-loop-args
 invariant-app-loop-args l =
     record {
-      reads : (k : Frame) → opens k ≡ l.fn.self.depth → run at_most_200 (Apply k NoTerms) l.fn.self.rest.now ≡ run at_most_200 (Apply k (AndTerm (tree.term l.head) (terms l.args.items))) l.self.rest.now;
+      reads : (k : Frame) → opens k ≡ l.fn.self.depth
+          → run at_most_200 (Apply k NoTerms) l.fn.self.rest.now ≡ run at_most_200
+          (Apply k (AndTerm (tree.term l.head) (terms l.args.items))) l.self.rest.now;
       shorter : length l.self.rest.now < length l.fn.self.rest.now;
       depth : l.self.depth ≡ l.fn.self.depth;
     }

@@ -9,4 +9,5 @@ pub returns-then-not-starts_atom-clause-reads : goal.returns-then-not-starts_ato
 returns-then-not-starts_atom-clause-reads c = λ k bs n p e.
     let ts = c.args.self.now.rest.now in
     let f : starts_atom (front ts).token ≡ false = cc in
-    refuses at_most_200 (Apply (InBind k bs n p) NoTerms) ts c.refusal.result c.refusal.ensures (no_head_bind at_most_200 k bs n p (front ts).at (front ts).token f)
+    refuses at_most_200 (Apply (InBind k bs n p) NoTerms) ts c.refusal.result c.refusal.ensures
+    (no_head_bind at_most_200 k bs n p (front ts).at (front ts).token f)

@@ -7,7 +7,10 @@ use Rattle.core_reader.proofs.parser.Parser.program.Given as goal
 abbrev pub invariant-loop-constructors : goal.invariant-loop-constructors
 invariant-loop-constructors l =
     record {
-      reads : (ds : List Decl) × (constructors_of ds ≡ map data_of l.constructors.items) × (functions_of ds ≡ map function l.functions.items) × (run at_most_200 (top []) l.fn.self.rest.now ≡ run at_most_200 (top ds) l.self.rest.now);
+      reads : (ds : List Decl) × (constructors_of ds ≡ map data_of l.constructors.items)
+          × (functions_of ds ≡ map function l.functions.items)
+          × (run at_most_200 (top []) l.fn.self.rest.now ≡ run at_most_200 (top ds)
+          l.self.rest.now);
       depth : l.self.depth ≡ 0;
     }
 

@@ -4,4 +4,5 @@ use Rattle.dead_store.specs.Without.{kept_cells}
 use Rattle.dead_store.proofs.blocks.DeadCellRemover.cells.Given as goal
 
 abbrev pub invariant-loop-cell : goal.invariant-loop-cell
-invariant-loop-cell l = l.made ≡ kept_cells (set_holds l.self.sites.now.keys) (set_holds l.self.gone.now.keys) l.yielded
+invariant-loop-cell l = l.made ≡ kept_cells (set_holds l.self.sites.now.keys)
+    (set_holds l.self.gone.now.keys) l.yielded

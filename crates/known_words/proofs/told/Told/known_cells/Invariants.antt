@@ -5,4 +5,5 @@ use Rattle.known_words.specs.Told.{known_cells}
 use Rattle.known_words.proofs.told.Told.known_cells.Given as goal
 
 abbrev pub invariant-cells : goal.invariant-cells
-invariant-cells l = l.made ≡ known_cells l.self.count (known_solution l.self) (facts_of l.facts) l.yielded
+invariant-cells l = l.made ≡ known_cells l.self.count (known_solution l.self) (facts_of l.facts)
+    l.yielded

@@ -5,4 +5,5 @@ use Rattle.known_words.specs.Told.{known_words}
 use Rattle.known_words.proofs.told.Told.words.Given as goal
 
 abbrev pub invariant-words : goal.invariant-words
-invariant-words l = l.made ≡ known_words l.self.count (known_solution l.self) (facts_of l.facts) (take l.word-index l.words)
+invariant-words l = l.made ≡ known_words l.self.count (known_solution l.self) (facts_of l.facts)
+    (take l.word-index l.words)

@@ -11,14 +11,16 @@ loop-at-preserved c =
     let z : ℕ = c.index-next.result.now in
     let k : at < length ps = search rules in
     let ey : y ≡ get_or ps at 0 = c.index-in-loop-at.ensures ∙ at_any ps at _ 0 k in
-    let n : get_or ps at 0 ≢ at = λ e. c.loop-at-test.true (c.index.ensures ∙ at_any ps at _ 0 k ∙ e) in
+    let n : get_or ps at 0 ≢ at = λ e. c.loop-at-test.true
+    (c.index.ensures ∙ at_any ps at _ 0 k ∙ e) in
     let oy : get_or ps at 0 ≤ at = c.loop-at.invariant.ordered at k in
     let ky : y < length ps = omega (arith, ey, oy, k) in
     let ez : z ≡ get_or ps y 0 = c.index-next.ensures ∙ at_any ps y _ 0 ky in
     let oz : get_or ps y 0 ≤ y = c.loop-at.invariant.ordered y ky in
     let le : z ≤ at = omega (arith, ey, oy, ez, oz) in
     let d : y ≢ at = λ e. n (sym ey ∙ e) in
-    let back : (f : ℕ → ℕ) → IsConstantOnGroups f _ → IsConstantOnGroups f ps = λ f r. respects_before ps at z k f r (respects_parent ps at z k f y r d ky ey ez) in
+    let back : (f : ℕ → ℕ) → IsConstantOnGroups f _ → IsConstantOnGroups f ps
+    = λ f r. respects_before ps at z k f r (respects_parent ps at z k f y r d ky ey ez) in
     record {
       many = search rules;
       known = omega (arith, le, c.loop-at.invariant.known);

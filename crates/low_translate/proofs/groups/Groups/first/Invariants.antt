@@ -8,8 +8,10 @@ invariant-loop-at l = record {
   known : l.at < length l.initial.self.parents.items;
   ordered : ParentsAreSmaller l.self.parents.items;
   joined : (c : ℕ → ℕ) → IsConstantOnGroups c l.self.parents.items → c l.at ≡ c l.fn.x;
-  older : (c : ℕ → ℕ) → IsConstantOnGroups c l.self.parents.items → IsConstantOnGroups c l.initial.self.parents.items;
-  firsts : (y : ℕ) → get_or l.initial.self.parents.items y 0 ≡ y → get_or l.self.parents.items y 0 ≡ y;
+  older : (c : ℕ → ℕ) → IsConstantOnGroups c l.self.parents.items
+      → IsConstantOnGroups c l.initial.self.parents.items;
+  firsts : (y : ℕ) → get_or l.initial.self.parents.items y 0 ≡ y
+      → get_or l.self.parents.items y 0 ≡ y;
 }
 
 abbrev pub decreases-loop-at : goal.decreases-loop-at

@@ -16,14 +16,19 @@ loop-x-preserved c =
     let o = c.requires.ordered x kx in
     let kv : x < length vs = omega (arith, kx, i.many, c.requires.many) in
     let kp : p < length vs = omega (arith, ep, o, kv) in
-    let a : c.index-in-loop-x.result.now ≡ get_or vs x 0 = c.index-in-loop-x.ensures ∙ at_any vs x _ 0 kv in
-    let b : c.index-in-loop-x-2.result.now ≡ get_or vs p 0 = c.index-in-loop-x-2.ensures ∙ at_any vs p _ 0 kp in
+    let a : c.index-in-loop-x.result.now ≡ get_or vs x 0
+    = c.index-in-loop-x.ensures ∙ at_any vs x _ 0 kv in
+    let b : c.index-in-loop-x-2.result.now ≡ get_or vs p 0
+    = c.index-in-loop-x-2.ensures ∙ at_any vs p _ 0 kp in
     let lx : get_or vs x 0 ≤ v = omega (arith, a, b, c.max.ensures) in
     let lp : get_or vs p 0 ≤ v = omega (arith, a, b, c.max.ensures) in
     record {
       many = search rules;
       within = omega (arith, below, i.within);
       more = λ y. let h = i.more y in let k = more_still vs p v kp lp y in omega (arith, h, k);
-      raised = raised_more ps vs x p v c.requires.ordered kx kp ep lx lp (λ y le ly. i.raised y (omega (arith, le, below)) ly);
-      few = λ most h. few_still vs p v kp most (let d = i.few most h x in let e = i.few most h p in omega (arith, a, b, c.max.ensures, d, e)) (i.few most h);
+      raised = raised_more ps vs x p v c.requires.ordered kx kp ep lx lp
+          (λ y le ly. i.raised y (omega (arith, le, below)) ly);
+      few = λ most h. few_still vs p v kp most
+          (let d = i.few most h x in let e = i.few most h p
+          in omega (arith, a, b, c.max.ensures, d, e)) (i.few most h);
     }

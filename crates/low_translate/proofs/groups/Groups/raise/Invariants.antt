@@ -6,8 +6,10 @@ invariant-loop-x l = record {
   many : length l.values.items ≡ length l.initial.values.items;
   within : l.x ≤ length l.self.parents.items;
   more : (y : ℕ) → get_or l.initial.values.items y 0 ≤ get_or l.values.items y 0;
-  raised : (y : ℕ) → l.x ≤ y → y < length l.self.parents.items → get_or l.values.items y 0 ≤ get_or l.values.items (get_or l.self.parents.items y 0) 0;
-  few : (most : ℕ) → ((y : ℕ) → get_or l.initial.values.items y 0 ≤ most) → (y : ℕ) → get_or l.values.items y 0 ≤ most;
+  raised : (y : ℕ) → l.x ≤ y → y < length l.self.parents.items
+      → get_or l.values.items y 0 ≤ get_or l.values.items (get_or l.self.parents.items y 0) 0;
+  few : (most : ℕ) → ((y : ℕ) → get_or l.initial.values.items y 0 ≤ most) → (y : ℕ)
+      → get_or l.values.items y 0 ≤ most;
 }
 
 abbrev pub decreases-loop-x : goal.decreases-loop-x

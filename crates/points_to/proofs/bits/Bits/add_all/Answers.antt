@@ -7,7 +7,9 @@ pub loop-block-init : goal.loop-block-init
 loop-block-init c = gets_none (numbers_in c.args.self.now)
 
 pub loop-block-preserved : goal.loop-block-preserved
-loop-block-preserved c = gets_next block_numbers c.args.blocks.now _ _ _ (0, 0) _ c.loop-block-test.true c.loop-block.invariant c.in_ok-place.ensures
+loop-block-preserved c = gets_next block_numbers c.args.blocks.now _ _ _ (0, 0) _
+    c.loop-block-test.true c.loop-block.invariant c.in_ok-place.ensures
 
 pub returns : goal.returns
-returns c = gets_done block_numbers c.args.blocks.now _ _ _ c.loop-block-test.false c.loop-block.invariant
+returns c = gets_done block_numbers c.args.blocks.now _ _ _ c.loop-block-test.false
+    c.loop-block.invariant

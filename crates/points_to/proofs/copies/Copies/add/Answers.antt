@@ -6,4 +6,5 @@ pub returns : goal.returns
 returns c =
     let before = c.args.self.now in
     let after = record before { fetches = c.push.new.self } in
-    λ p cs k. one_more p cs before after _ refl c.in_ok-push.ensures.items (no_words c.new.result c.new.ensures) c.new-2.ensures k
+    λ p cs k. one_more p cs before after _ refl c.in_ok-push.ensures.items
+    (no_words c.new.result c.new.ensures) c.new-2.ensures k

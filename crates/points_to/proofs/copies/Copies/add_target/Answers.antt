@@ -16,11 +16,16 @@ returns-then-g-len c =
     let new = c.put_target.new.fetched in
     let after = record before { fetches = with_item before.fetches g new } in
     let lt : g < length before.fetches.items = omega (arith, before.fetches.ok.0) in
-    let at : slice_get before.fetches.items g ≡ Some old = get_is before.fetches.items g old lt c.index_mut.ensures.value in
+    let at : slice_get before.fetches.items g ≡ Some old
+    = get_is before.fetches.items g old lt c.index_mut.ensures.value in
     let f = c.in-Some.fetch in
     let x = c.in-Some.x in
     let this = inclusion_of c.args.inclusion.now in
-    on_both c.put_target.result (new.fetch ≡ old.fetch) ((p : Tables) (cs : List Inclusion) → GoesTo p cs f x.0 → IsFetched p cs old → IsFetched p cs new)
-    ((p : Tables) (cs : List Inclusion) (i : ℕ) → slice_get cs i ≡ Some this → IsCopied p cs before → IsCopied p cs after)
-    (λ e more p cs i is k. one_changed p cs before after g old new refl refl at e (more p cs (inclusion_goes p cs i this f x is c.in-Some.ensures)) k)
+    on_both c.put_target.result (new.fetch ≡ old.fetch)
+    ((p : Tables) (cs : List Inclusion) → GoesTo p cs f x.0 → IsFetched p cs old
+    → IsFetched p cs new)
+    ((p : Tables) (cs : List Inclusion) (i : ℕ) → slice_get cs i ≡ Some this → IsCopied p cs before
+    → IsCopied p cs after)
+    (λ e more p cs i is k. one_changed p cs before after g old new refl refl at e
+    (more p cs (inclusion_goes p cs i this f x is c.in-Some.ensures)) k)
     c.put_target.ensures.fetch c.put_target.ensures.sound

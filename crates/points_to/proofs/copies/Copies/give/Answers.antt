@@ -24,8 +24,14 @@ returns-in_ok-stored_word-in-Some c =
     let g = c.args.g in
     let f = c.in-Some.fetch in
     let us = flat_map block_words c.blocks-in-Some.result.now in
-    let words : us ≡ stored_words p (held k.facts) f.word (value_at (values_in cs) c.args.n) = search rules in
-    on_ok c.put.result ((p : Tables) (cs : List Inclusion) → ((f : Fetch) → fetch_at before g ≡ Some f → AreFetched p cs f us) → IsCopied p cs before → IsCopied p cs after)
+    let words : us ≡ stored_words p (held k.facts) f.word (value_at (values_in cs) c.args.n)
+    = search rules in
+    on_ok c.put.result
+    ((p : Tables) (cs : List Inclusion) →
+    ((f : Fetch) → fetch_at before g ≡ Some f → AreFetched p cs f us) → IsCopied p cs before
+    → IsCopied p cs after)
     (IsSound p cs k → IsCopied p cs before → IsCopied p cs after)
-    (λ more sound x. more p cs (λ f' at'. given_fetched p cs k before g c.args.n f f' us (sym c.in-Some.ensures) at' (c.reaches.ensures c.if-not-reaches.false) words sound) x)
+    (λ more sound x. more p cs
+    (λ f' at'. given_fetched p cs k before g c.args.n f f' us (sym c.in-Some.ensures) at'
+    (c.reaches.ensures c.if-not-reaches.false) words sound) x)
     c.put.ensures

@@ -18,5 +18,7 @@ returns-in_ok-put-in-Some-linked c =
     let us = flat_map block_words c.word_blocks.result.now in
     let put = c.in_ok-put_link-in-Some-linked.ensures in
     λ sound copied. c.in_ok-put-in-Some-linked.ensures p cs
-    (λ f' at. link_fetched p cs k before after x g f f' us put.fetches (sym c.in-Some.ensures) at (c.in-Some-linked.ensures sound) c.word_blocks.ensures sound)
-    (one_linked p cs before after x g f put.fetches put.links (sym c.in-Some.ensures) (c.in-Some-linked.ensures sound) copied)
+    (λ f' at. link_fetched p cs k before after x g f f' us put.fetches (sym c.in-Some.ensures) at
+    (c.in-Some-linked.ensures sound) c.word_blocks.ensures sound)
+    (one_linked p cs before after x g f put.fetches put.links (sym c.in-Some.ensures)
+    (c.in-Some-linked.ensures sound) copied)

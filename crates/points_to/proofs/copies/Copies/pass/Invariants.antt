@@ -7,4 +7,5 @@ use Rattle.points_to.specs.Copies.{AreAt, IsCopied}
 use Rattle.points_to.proofs.copies.Copies.pass.Given as goal
 
 abbrev pub invariant-loop-k : goal.invariant-loop-k
-invariant-loop-k l = (p : Tables) (cs : List Inclusion) → AreAt p cs l.x (flat_map block_words l.fresh) → IsCopied p cs l.fn.self → IsCopied p cs l.self
+invariant-loop-k l = (p : Tables) (cs : List Inclusion)
+    → AreAt p cs l.x (flat_map block_words l.fresh) → IsCopied p cs l.fn.self → IsCopied p cs l.self

@@ -12,7 +12,8 @@ returns-in-Ok c =
     let q = c.args.part in
     let k = c.in-Ok.place in
     ap (flat_map block_words) c.as_slice-in-Ok.ensures.value
-    ∙ sym (picked_there rows c.self.inside.ascending q k c.index.result.now (subst (λ l. StandsAt l q k) c.as_slice.ensures.value c.in-Ok.ensures) c.index.ensures)
+    ∙ sym (picked_there rows c.self.inside.ascending q k c.index.result.now
+    (subst (λ l. StandsAt l q k) c.as_slice.ensures.value c.in-Ok.ensures) c.index.ensures)
     ∙ ap (words_in_part q) c.self.view_is
 
 pub returns-in-Err : goal.returns-in-Err
@@ -20,4 +21,6 @@ returns-in-Err c =
     let rows = c.self.inside.rows.items in
     let q = c.args.part in
     let k = c.in-Err.field-0 in
-    sym (picked_nowhere rows q k (subst (λ l. GoesTo l q k) c.as_slice.ensures.value c.in-Err.ensures)) ∙ ap (words_in_part q) c.self.view_is
+    sym (picked_nowhere rows q k
+    (subst (λ l. GoesTo l q k) c.as_slice.ensures.value c.in-Err.ensures)) ∙ ap
+    (words_in_part q) c.self.view_is

@@ -13,5 +13,10 @@ returns-then-puts_at c =
     let cs = inclusions_of c.args.system.now in
     let before = c.args.self.now in
     let after = record before { stored = c.add.new.self } in
-    on_ok c.add.result (PutsAtSite (stored_at before.stored) (stored_at after.stored) c.args.site c.args.n) (IsSound p cs before → IsSound p cs after)
-    (λ st. put_sound p cs before after c.args.n c.args.site (inclusion_of c.in-Some.inclusion.now) (map_get inclusion_of c.args.system.now.inclusions c.args.n c.in-Some.inclusion.now (sym c.in-Some.ensures.value)) (c.puts_at.ensures c.if-puts_at.true) refl st) c.add.ensures.stores
+    on_ok c.add.result
+    (PutsAtSite (stored_at before.stored) (stored_at after.stored) c.args.site c.args.n)
+    (IsSound p cs before → IsSound p cs after)
+    (λ st. put_sound p cs before after c.args.n c.args.site (inclusion_of c.in-Some.inclusion.now)
+    (map_get inclusion_of c.args.system.now.inclusions c.args.n c.in-Some.inclusion.now
+    (sym c.in-Some.ensures.value)) (c.puts_at.ensures c.if-puts_at.true) refl st)
+    c.add.ensures.stores

@@ -5,4 +5,6 @@ use Rattle.points_to.specs.Bits.{block_words}
 use Rattle.points_to.proofs.runs.WordRuns.push_blocks.Goals as goal
 
 pub returns : goal.returns
-returns c = ap (flat_map block_words) c.in_ok-extend_from_slice.ensures.items ∙ flat_map-append block_words _ c.args.blocks.now ∙ ap (λ l. l ++ flat_map block_words c.args.blocks.now) c.self.view_is
+returns c = ap (flat_map block_words) c.in_ok-extend_from_slice.ensures.items ∙ flat_map-append
+    block_words _ c.args.blocks.now ∙ ap (λ l. l ++ flat_map block_words c.args.blocks.now)
+    c.self.view_is

@@ -15,9 +15,15 @@ returns-then-touches_no_cell c =
     let before = c.args.self.now in
     let kept = record before.kept { facts = c.satisfy.new.facts } in
     let this = inclusion_of c.in-Some.inclusion.now in
-    on_ok c.satisfy.result (GrowsByFacts (held before.kept.facts) (held kept.facts) (facts_demanded p (held before.kept.facts) this)) (IsReached p cs before → IsReached p cs (record before { kept = kept }))
+    on_ok c.satisfy.result
+    (GrowsByFacts (held before.kept.facts) (held kept.facts)
+    (facts_demanded p (held before.kept.facts) this))
+    (IsReached p cs before → IsReached p cs (record before { kept = kept }))
     (λ g reached. record {
-      kept = asked_sound p cs before.kept kept c.args.n this (map_get inclusion_of c.args.system.now.inclusions c.args.n c.in-Some.inclusion.now (sym c.in-Some.ensures.value)) (sym c.touches_no_cell.ensures ∙ c.if-touches_no_cell.true) refl g reached.kept;
+      kept = asked_sound p cs before.kept kept c.args.n this
+          (map_get inclusion_of c.args.system.now.inclusions c.args.n c.in-Some.inclusion.now
+          (sym c.in-Some.ensures.value)) (sym c.touches_no_cell.ensures ∙ c.if-touches_no_cell.true)
+          refl g reached.kept;
       copies = reached.copies;
     })
     c.satisfy.ensures.grown

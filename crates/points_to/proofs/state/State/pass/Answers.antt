@@ -11,6 +11,8 @@ returns c =
     λ p cs reached. record {
       kept = reached.kept;
       copies = c.in_ok-pass.ensures p cs
-          (λ B m u h. known_words p cs k c.args.x (flat_map block_words c.word_blocks.result.now) reached.kept c.word_blocks.ensures B m u (c.in_ok-take.ensures u (subst (In u) c.blocks-2.ensures h)))
+          (λ B m u h. known_words p cs k c.args.x (flat_map block_words c.word_blocks.result.now)
+          reached.kept c.word_blocks.ensures B m u
+          (c.in_ok-take.ensures u (subst (In u) c.blocks-2.ensures h)))
           reached.copies;
     }

@@ -9,4 +9,6 @@ returns-clause-numbers c = λ t.
     let F = flat_map block_numbers in
     let own = c.as_slice-own.result.now in
     let others = c.as_slice-others.result.now in
-    sym (ap F c.as_slice-own.ensures.value) ∙ ap F (pairs_same own others (c.same_blocks.ensures.numbers t) (c.same_blocks.ensures.bits t)) ∙ ap F c.as_slice-others.ensures.value
+    sym (ap F c.as_slice-own.ensures.value) ∙ ap F
+    (pairs_same own others (c.same_blocks.ensures.numbers t) (c.same_blocks.ensures.bits t)) ∙
+    ap F c.as_slice-others.ensures.value

@@ -14,5 +14,6 @@ returns-then-is_of c = λ p cs H exact.
     let len : c.len.result ≡ vec_len m.entries = c.len.ensures in
     let within : c.chain.place < length items = omega (arith, test, len, m.entries.ok.0) in
     words_at p cs H m entry c.args.i (numbers_in c.args.numbers.now)
-    (subst (λ e. In e items) (sym c.index-entry.ensures) (in_place items c.chain.place entry within))
+    (subst (λ e. In e items) (sym c.index-entry.ensures)
+    (in_place items c.chain.place entry within))
     (c.is_of.ensures.index c.if-is_of.true) (c.is_of.ensures.numbers c.if-is_of.true) exact

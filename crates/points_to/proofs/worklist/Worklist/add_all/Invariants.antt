@@ -5,4 +5,5 @@ use Rattle.points_to.proofs.UntilNoneWaits.{AddedTo}
 use Rattle.points_to.proofs.worklist.Worklist.add_all.Given as goal
 
 abbrev pub invariant-loop-run : goal.invariant-loop-run
-invariant-loop-run l = AddedTo l.initial.self l.self l.added (flat_map facts_of_run (take l.run-index l.run-items))
+invariant-loop-run l = AddedTo l.initial.self l.self l.added
+    (flat_map facts_of_run (take l.run-index l.run-items))

@@ -10,5 +10,14 @@ pub returns : goal.returns
 returns c =
     let old = c.args.self.now in
     let new = record old { readers = c.register.new.self } in
-    on_ok c.register.result (RegistersReader (readers_of old.readers) (readers_of new.readers) c.args.place c.args.n) (RegistersAt old new c.args.n (c.args.place ∷ []))
-    (λ r. record { same_facts = refl; same_pending = refl; kept = r.kept; put = λ q h. subst (λ q. In c.args.n (readers_of new.readers q)) (sym (one_in c.args.place h)) r.put }) c.register.ensures
+    on_ok c.register.result
+    (RegistersReader (readers_of old.readers) (readers_of new.readers) c.args.place c.args.n)
+    (RegistersAt old new c.args.n (c.args.place ∷ []))
+    (λ r. record {
+      same_facts = refl;
+      same_pending = refl;
+      kept = r.kept;
+      put
+          = λ q h. subst (λ q. In c.args.n (readers_of new.readers q)) (sym (one_in c.args.place h))
+          r.put;
+    }) c.register.ensures

@@ -8,7 +8,10 @@ use Rattle.points_to.proofs.worklist.Worklist.register_reads.Goals as goal
 
 pub returns : goal.returns
 returns c =
-    let places = reads (tables_of c.args.system.now) (held c.args.self.now.facts) (inclusion_of c.args.inclusion.now) in
+    let places = reads (tables_of c.args.system.now) (held c.args.self.now.facts)
+    (inclusion_of c.args.inclusion.now) in
     let registers = RegistersAt c.args.self.now c.register.new.self c.args.n in
     on_ok c.register.result (registers c.as_slice.result.now) (registers places)
-    (subst registers (c.as_slice.ensures ∙ c.in_ok-reads.ensures ∙ ap (λ l. l ++ places) c.new-places.ensures)) c.register.ensures
+    (subst registers
+    (c.as_slice.ensures ∙ c.in_ok-reads.ensures ∙ ap (λ l. l ++ places) c.new-places.ensures))
+    c.register.ensures

@@ -10,4 +10,5 @@ pub returns-in-Global : goal.returns-in-Global
 returns-in-Global c = registers_when_none c.args.n c.args.self.now _ (ap word_reads c.in-Global.is)
 
 pub returns-in-TagWord : goal.returns-in-TagWord
-returns-in-TagWord c = registers_when_none c.args.n c.args.self.now _ (ap word_reads c.in-TagWord.is)
+returns-in-TagWord c = registers_when_none c.args.n c.args.self.now _
+    (ap word_reads c.in-TagWord.is)

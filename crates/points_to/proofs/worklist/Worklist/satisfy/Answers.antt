@@ -8,6 +8,9 @@ use Rattle.points_to.proofs.worklist.Worklist.satisfy.Goals as goal
 
 pub returns-in-Some : goal.returns-in-Some
 returns-in-Some c =
-    let satisfies : Inclusion → Type 0 = λ i. SatisfiesInclusion (tables_of c.args.system.now) i c.args.n c.args.self.now c.satisfy_fetch.new.self in
-    on_ok c.satisfy_fetch.result (satisfies (flows (word_at c.in-Some.w c.in-Some.i) (to (One c.in-Some.x)))) (satisfies (inclusion_of c.args.inclusion.now))
+    let satisfies : Inclusion → Type 0 = λ i. SatisfiesInclusion (tables_of c.args.system.now) i
+    c.args.n c.args.self.now c.satisfy_fetch.new.self in
+    on_ok c.satisfy_fetch.result
+    (satisfies (flows (word_at c.in-Some.w c.in-Some.i) (to (One c.in-Some.x))))
+    (satisfies (inclusion_of c.args.inclusion.now))
     (subst satisfies (sym c.in-Some.ensures)) c.satisfy_fetch.ensures

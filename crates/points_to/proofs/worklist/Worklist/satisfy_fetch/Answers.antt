@@ -21,8 +21,16 @@ returns c =
     let blocks = c.blocks-2.result.now in
     let given = elements p (held now.facts) c.args.w in
     let a = c.in_ok-add_all.ensures in
-    satisfies_fetch p c.args.w c.args.i c.args.x c.args.n c.args.self.now now between c.add_all.new.self cells fetched c.blocks_at_variable.new.out c.in_ok-add_all.field-0
-    c.in_ok-register_word.ensures (c.as_slice.ensures ∙ c.in_ok-elements.ensures ∙ ap (λ l. l ++ given) c.new-cells.ensures)
-    c.in_ok-fetch_cells.ensures.registers (subst (λ l. GainsMembers l fetched (flat_map (fetched_at p (held now.facts) c.args.i) cells)) c.new-fetched.ensures c.in_ok-fetch_cells.ensures.gets)
-    (c.in_ok-blocks_at_variable.ensures ∙ ap (λ l. l ++ facts_at (Var c.args.x.0) (in_part (Word 0) (flat_map block_words blocks))) c.new-asked.ensures ∙ ap (λ l. facts_at (Var c.args.x.0) (in_part (Word 0) l)) c.blocks-2.ensures) a.grown
+    satisfies_fetch p c.args.w c.args.i c.args.x c.args.n c.args.self.now now between
+    c.add_all.new.self cells fetched c.blocks_at_variable.new.out c.in_ok-add_all.field-0
+    c.in_ok-register_word.ensures
+    (c.as_slice.ensures ∙ c.in_ok-elements.ensures ∙ ap (λ l. l ++ given) c.new-cells.ensures)
+    c.in_ok-fetch_cells.ensures.registers
+    (subst (λ l. GainsMembers l fetched
+    (flat_map (fetched_at p (held now.facts) c.args.i) cells)) c.new-fetched.ensures
+    c.in_ok-fetch_cells.ensures.gets)
+    (c.in_ok-blocks_at_variable.ensures ∙ ap
+    (λ l. l ++ facts_at (Var c.args.x.0) (in_part (Word 0) (flat_map block_words blocks)))
+    c.new-asked.ensures ∙ ap (λ l. facts_at (Var c.args.x.0) (in_part (Word 0) l))
+    c.blocks-2.ensures) a.grown
     a.spread a.still a.counted

@@ -6,5 +6,7 @@ use Rattle.register_alloc.proofs.Pairs.{pairs_also}
 use Rattle.register_alloc.proofs.holders.Holders.live.Goals as goal
 
 pub returns : goal.returns
-returns c = IfOk-weaker c.each.result _ (λ h. (used : List ℕ) → AreUses used c.args.uses.now → AreStillUsed used c.args.from c.args.to c.args.self.now.of.items h.of.items)
+returns c = IfOk-weaker c.each.result _
+    (λ h. (used : List ℕ) → AreUses used c.args.uses.now
+    → AreStillUsed used c.args.from c.args.to c.args.self.now.of.items h.of.items)
     (λ h made used are. pairs_also made (λ old new became. search rules)) c.each.ensures

@@ -11,7 +11,9 @@ zeros (suc n) zero = refl
 zeros (suc n) (suc r) = zeros n r
 
 -- the registers, the entry and the segments of the start
-starts : (i : Image) (pc : ℕ) (m : List Stretch) → pc ≡ i.entry → m ≡ map stretch_of i.segments → (let s : State = record { regs = λ r. slice_index (replicate 32 0) r; pc = pc; memory = m } in s) ≡ start_of i
+starts : (i : Image) (pc : ℕ) (m : List Stretch) → pc ≡ i.entry → m ≡ map stretch_of i.segments
+    → (let s : State = record { regs = λ r. slice_index (replicate 32 0) r; pc = pc; memory = m }
+    in s) ≡ start_of i
 starts i pc m p e = λ j. record { regs = λ r. zeros 32 r j; pc = p j; memory = e j }
 
 pub returns : goal.returns

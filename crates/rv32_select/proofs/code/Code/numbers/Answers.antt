@@ -3,4 +3,5 @@ use Rattle.rv32_select.proofs.Sending.{all_numbers}
 use Rattle.rv32_select.proofs.code.Code.numbers.Goals as goal
 
 pub returns : goal.returns
-returns c = all_numbers _ _ c.loop-to.to-iterator.a.rest.now c.loop-to.to-iterator.b.rest.now (elim c.in-None.ensures.steps [ inl h ↦ inl h.1.0 | inr h ↦ inr h.1.0 ]) c.loop-to.invariant.0
+returns c = all_numbers _ _ c.loop-to.to-iterator.a.rest.now c.loop-to.to-iterator.b.rest.now
+    (elim c.in-None.ensures.steps [ inl h ↦ inl h.1.0 | inr h ↦ inr h.1.0 ]) c.loop-to.invariant.0

@@ -5,7 +5,8 @@ use Rattle.rv32_select.proofs.code.Code.restore_registers.Given as goal
 
 abbrev pub invariant-loop-register : goal.invariant-loop-register
 invariant-loop-register l = record {
-  made : l.self ++ plain (moves_code (restore_moves l.slot (drop l.register-index l.registers))) ≡ l.initial.self ++ plain (moves_code (restore_moves l.first l.registers));
+  made : l.self ++ plain (moves_code (restore_moves l.slot (drop l.register-index l.registers))) ≡
+      l.initial.self ++ plain (moves_code (restore_moves l.first l.registers));
   slot : l.slot ≡ l.first + l.register-index;
   are : AreRegisters (drop l.register-index l.registers);
 }

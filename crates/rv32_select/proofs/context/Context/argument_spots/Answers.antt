@@ -6,4 +6,5 @@ pub spots-requires : goal.spots-requires
 spots-requires c = params_placed _ _ _ _ _ _ c.requires c.as_slice.ensures c.as_slice-2.ensures
 
 pub spots_for-requires : goal.spots_for-requires
-spots_for-requires c = few_params _ _ _ _ _ _ _ c.requires c.as_slice.ensures c.as_slice-2.ensures (c.as_slice-3.ensures.value ∙ c.in_ok-places.ensures.0)
+spots_for-requires c = few_params _ _ _ _ _ _ _ c.requires c.as_slice.ensures c.as_slice-2.ensures
+    (c.as_slice-3.ensures.value ∙ c.in_ok-places.ensures.0)

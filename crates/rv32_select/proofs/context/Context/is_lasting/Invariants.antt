@@ -4,4 +4,5 @@ use Rattle.rv32_select.proofs.context.Context.is_lasting.Given as goal
 
 -- the masks from here on tell it
 abbrev pub invariant-loop-proc : goal.invariant-loop-proc
-invariant-loop-proc l = no_mask_has_x27 (drop l.proc l.self.places.now.masks) ≡ no_mask_has_x27 l.self.places.now.masks
+invariant-loop-proc l = no_mask_has_x27 (drop l.proc l.self.places.now.masks) ≡ no_mask_has_x27
+    l.self.places.now.masks

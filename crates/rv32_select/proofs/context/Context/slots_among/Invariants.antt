@@ -7,6 +7,7 @@ use Rattle.rv32_select.proofs.context.Context.slots_among.Given as goal
 
 abbrev pub invariant-loop-x : goal.invariant-loop-x
 invariant-loop-x l = record {
-  most : max l.slots (slots_of (place_of l.self.places.now) (drop l.x-index l.variables)) ≡ slots_of (place_of l.self.places.now) l.variables;
+  most : max l.slots (slots_of (place_of l.self.places.now) (drop l.x-index l.variables)) ≡ slots_of
+      (place_of l.self.places.now) l.variables;
   placed : HavePlaces (program_of l.self.low.now) l.self.places.now (drop l.x-index l.variables);
 }

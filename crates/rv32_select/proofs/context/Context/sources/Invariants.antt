@@ -6,6 +6,9 @@ use Rattle.rv32_select.proofs.context.Context.sources.Given as goal
 
 abbrev pub invariant-loop-operand : goal.invariant-loop-operand
 invariant-loop-operand l = record {
-  made : l.sources.items ++ sources (program_of l.self.low.now) l.self.places.now (drop l.operand-index l.operands) ≡ sources (program_of l.self.low.now) l.self.places.now l.operands;
-  placed : OperandsPlaced (program_of l.self.low.now) l.self.places.now (drop l.operand-index l.operands);
+  made : l.sources.items ++ sources (program_of l.self.low.now) l.self.places.now
+      (drop l.operand-index l.operands) ≡ sources (program_of l.self.low.now) l.self.places.now
+      l.operands;
+  placed : OperandsPlaced (program_of l.self.low.now) l.self.places.now
+      (drop l.operand-index l.operands);
 }

@@ -6,5 +6,6 @@ use Rattle.rv32_select.proofs.context.Context.spots.Goals as goal
 
 pub returns : goal.returns
 returns c =
-    let e = all_made (place_of c.args.self.now.places.now) c.loop-x.spots.items c.args.variables.now c.loop-x.x-index c.loop-x.invariant.made (search rules) in
+    let e = all_made (place_of c.args.self.now.places.now) c.loop-x.spots.items c.args.variables.now
+    c.loop-x.x-index c.loop-x.invariant.made (search rules) in
     (e, are_spots (program_of c.args.self.now.low.now) c.args.self.now.places.now _ _ e c.requires)

@@ -3,4 +3,5 @@ use Rattle.rv32_select.proofs.Emitted.{take_asks}
 use Rattle.rv32_select.proofs.context.Context.take.Goals as goal
 
 pub take-requires : goal.take-requires
-take-requires c = take_asks (program_of c.args.self.now.low.now) c.args.self.now.places.now _ _ _ c.requires.writable c.as_slice.ensures.value c.in_ok-spots.ensures c.requires.bytes
+take-requires c = take_asks (program_of c.args.self.now.low.now) c.args.self.now.places.now _ _ _
+    c.requires.writable c.as_slice.ensures.value c.in_ok-spots.ensures c.requires.bytes

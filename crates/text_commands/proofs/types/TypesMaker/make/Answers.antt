@@ -14,8 +14,10 @@ returns-in-Ok-print-clause-made c =
       is_canonical = c.in-Ok-print.ensures ∙ ap canonical found.core;
       program = _;
       normal = found.normal;
-      never_stuck = c.typed_are_never_stuck.ensures found.source _ found.solution found.readable (unbroken.1 found.source found.is_text) found.solves found.normal;
+      never_stuck = c.typed_are_never_stuck.ensures found.source _ found.solution found.readable
+          (unbroken.1 found.source found.is_text) found.solves found.normal;
     }
 
 pub returns-in-Err-clause-refused : goal.returns-in-Err-clause-refused
-returns-in-Err-clause-refused c = c.type_failure_status.ensures.first c.args.text.now c.in-Err.ensures.refused
+returns-in-Err-clause-refused c = c.type_failure_status.ensures.first c.args.text.now
+    c.in-Err.ensures.refused

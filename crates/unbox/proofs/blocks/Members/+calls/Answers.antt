@@ -6,10 +6,13 @@ use Rattle.unbox.proofs.SoFar.{calls_next, calls_done}
 use Rattle.unbox.proofs.blocks.Members.+calls.Goals as goal
 
 pub alts_call-loop-alt-preserved : goal.alts_call-loop-alt-preserved
-alts_call-loop-alt-preserved t c = calls_next (is_member c.args.self.now.inside) _ _ _ _ _ _ c.loop-alt-test.true c.alt-item.is c.block_calls.ensures c.either-found.ensures c.loop-alt.invariant
+alts_call-loop-alt-preserved t c = calls_next (is_member c.args.self.now.inside) _ _ _ _ _ _
+    c.loop-alt-test.true c.alt-item.is c.block_calls.ensures c.either-found.ensures
+    c.loop-alt.invariant
 
 pub alts_call-returns : goal.alts_call-returns
-alts_call-returns t c = calls_done (is_member c.args.self.now.inside) _ _ _ c.loop-alt-test.false c.loop-alt.invariant
+alts_call-returns t c = calls_done (is_member c.args.self.now.inside) _ _ _ c.loop-alt-test.false
+    c.loop-alt.invariant
 
 pub block_calls-returns : goal.block_calls-returns
 block_calls-returns t c =

@@ -9,4 +9,8 @@ abbrev pub invariant-block-loop-stmt : goal.invariant-block-loop-stmt
 invariant-block-loop-stmt l = Become (is_member l.self.inside) l.stmts l.yielded
 
 abbrev pub invariant-op-loop-alt : goal.invariant-op-loop-alt
-invariant-op-loop-alt l = record { scrutinee : l.v ≡ l.initial.v; some : map arm_of l.made ≡ map (unbox_arm (is_member l.self.inside) l.bare) (map arm_of l.yielded) }
+invariant-op-loop-alt l = record {
+  scrutinee : l.v ≡ l.initial.v;
+  some : map arm_of l.made ≡ map
+      (unbox_arm (is_member l.self.inside) l.bare) (map arm_of l.yielded);
+}

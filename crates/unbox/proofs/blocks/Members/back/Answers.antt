@@ -6,4 +6,8 @@ pub back-init : goal.back-init
 back-init c = record { within = omega arith; some = no_step_back _ _ }
 
 pub back-preserved : goal.back-preserved
-back-preserved c = record { within = omega arith; some = step_back _ _ _ _ _ _ _ (omega arith) c.index-ties-left.is c.heed.ensures c.back.invariant.some }
+back-preserved c = record {
+  within = omega arith;
+  some = step_back _ _ _ _ _ _ _ (omega arith) c.index-ties-left.is
+      c.heed.ensures c.back.invariant.some;
+}

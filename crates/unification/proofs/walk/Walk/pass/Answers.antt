@@ -8,7 +8,8 @@ pub index_mut-requires : goal.index_mut-requires
 index_mut-requires c =
     let w = c.args.self.now in
     let at = c.requires.at in
-    let l : c.args.top < length w.marks.items = top_within c.args.terms.now c.args.classes.now c.requires.earlier c.requires.partition w c.args.top at.front at.walk at.last in
+    let l : c.args.top < length w.marks.items = top_within c.args.terms.now c.args.classes.now
+    c.requires.earlier c.requires.partition w c.args.top at.front at.walk at.last in
     omega (arith, l, w.marks.ok.0)
 
 pub returns-in_ok-enter-in-Unseen-clause-steps : goal.returns-in_ok-enter-in-Unseen-clause-steps
@@ -18,8 +19,11 @@ returns-in_ok-enter-in-Unseen-clause-steps c = λ e.
     let w = c.args.self.now in
     let at = c.requires.at in
     let nx = c.requires.next in
-    let l : c.args.next < length w.marks.items = subst (λ n. c.args.next < n) (sym at.walk.marks) (next_within terms classes c.requires.earlier c.requires.partition w w c.args.top c.args.first c.args.next at nx) in
-    next_entered terms classes c.requires.earlier c.requires.partition w c.enter.new.self c.args.top c.args.first c.args.next at nx
+    let l : c.args.next < length w.marks.items = subst (λ n. c.args.next < n) (sym at.walk.marks)
+    (next_within terms classes c.requires.earlier c.requires.partition w w c.args.top
+    c.args.first c.args.next at nx) in
+    next_entered terms classes c.requires.earlier c.requires.partition w c.enter.new.self c.args.top
+    c.args.first c.args.next at nx
     (mark_is w c.args.next c.index.result.now Unseen l c.index.ensures c.in-Unseen.is)
     c.in_ok-enter-in-Unseen.ensures.marks c.in_ok-enter-in-Unseen.ensures.path
 
@@ -30,9 +34,13 @@ returns-in-Entered-clause-none c = λ e.
     let w = c.args.self.now in
     let at = c.requires.at in
     let nx = c.requires.next in
-    let l : c.args.next < length w.marks.items = subst (λ n. c.args.next < n) (sym at.walk.marks) (next_within terms classes c.requires.earlier c.requires.partition w w c.args.top c.args.first c.args.next at nx) in
-    next_within_itself terms classes c.requires.earlier c.requires.partition w w c.args.top c.args.first c.args.next at nx c.in-Entered.field-0
-    (mark_is w c.args.next c.index.result.now (Entered c.in-Entered.field-0) l c.index.ensures c.in-Entered.is)
+    let l : c.args.next < length w.marks.items = subst (λ n. c.args.next < n) (sym at.walk.marks)
+    (next_within terms classes c.requires.earlier c.requires.partition w w c.args.top
+    c.args.first c.args.next at nx) in
+    next_within_itself terms classes c.requires.earlier c.requires.partition w w c.args.top
+    c.args.first c.args.next at nx c.in-Entered.field-0
+    (mark_is w c.args.next c.index.result.now (Entered c.in-Entered.field-0) l c.index.ensures
+    c.in-Entered.is)
 
 pub returns-in-Done-clause-steps : goal.returns-in-Done-clause-steps
 returns-in-Done-clause-steps c = λ e.
@@ -41,6 +49,13 @@ returns-in-Done-clause-steps c = λ e.
     let w = c.args.self.now in
     let at = c.requires.at in
     let nx = c.requires.next in
-    let l : c.args.next < length w.marks.items = subst (λ n. c.args.next < n) (sym at.walk.marks) (next_within terms classes c.requires.earlier c.requires.partition w w c.args.top c.args.first c.args.next at nx) in
-    next_done terms classes c.requires.earlier c.requires.partition w (record { marks = with_item w.marks c.args.top (Entered (c.args.first + 1)); path = w.path }) c.args.top c.args.first c.args.next at nx
+    let l : c.args.next < length w.marks.items = subst (λ n. c.args.next < n) (sym at.walk.marks)
+    (next_within terms classes c.requires.earlier c.requires.partition w w c.args.top
+    c.args.first c.args.next at nx) in
+    next_done terms classes c.requires.earlier c.requires.partition w
+    (record {
+      marks = with_item w.marks c.args.top (Entered (c.args.first + 1));
+      path
+          = w.path;
+    }) c.args.top c.args.first c.args.next at nx
     (mark_is w c.args.next c.index.result.now Done l c.index.ensures c.in-Done.is) refl refl

@@ -8,4 +8,8 @@ abbrev pub invariant-block-loop-stmt : goal.invariant-block-loop-stmt
 invariant-block-loop-stmt l = Widens l.self.layout l.self.known l.stmts l.yielded
 
 abbrev pub invariant-op-loop-alt : goal.invariant-op-loop-alt
-invariant-op-loop-alt l = record { scrutinee : l.v ≡ l.initial.v; some : map arm_of l.made ≡ map (wide_arm l.self.layout l.self.known) (map arm_of l.yielded) }
+invariant-op-loop-alt l = record {
+  scrutinee : l.v ≡ l.initial.v;
+  some : map arm_of l.made ≡ map
+      (wide_arm l.self.layout l.self.known) (map arm_of l.yielded);
+}

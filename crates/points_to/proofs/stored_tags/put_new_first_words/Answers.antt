@@ -1,0 +1,18 @@
+use Rattle.flow_system.specs.Shown.{tables_of, inclusions_of}
+use Rattle.points_to.specs.Known.{held}
+use Rattle.points_to.specs.Rows.{words_in, GainsMembers}
+use Rattle.points_to.specs.Stored.{values_in, value_at}
+use Rattle.points_to.specs.ValueWords.{stored_words}
+use Rattle.points_to.proofs.Gets.{gets_same}
+use Rattle.points_to.proofs.Sets.{on_ok}
+use Rattle.points_to.proofs.stored_tags.put_new_first_words.Goals as goal
+
+pub returns : goal.returns
+returns c =
+    let old = words_in c.args.set.now in
+    let new = words_in c.put_set.new.set in
+    let asked = stored_words (tables_of c.args.system.now) (held c.args.facts.now) 0
+    (value_at (values_in (inclusions_of c.args.system.now)) c.args.n) in
+    let words = words_in c.in_ok-words.words in
+    on_ok c.put_set.result (GainsMembers old new words) (GainsMembers old new asked)
+    (gets_same old new words asked c.in_ok-words.ensures) c.put_set.ensures
