@@ -14,7 +14,7 @@ use Rattle.flow_system.specs.declared.fact.Element.TheVariants.{Tag as tag}
 use Rattle.flow_system.specs.declared.fact.Place.TheVariants.{Var as var}
 use Rattle.flow_system.specs.declared.fact.Part.TheVariants.{Tags as tags, Word as word}
 use Rattle.flow_system.specs.Solution.{Solution, among, At}
-use Rattle.inlining.specs.Applications.{word_has}
+use Rattle.inline_theory.specs.Applications.{word_has}
 use Rattle.seq.specs.Lists.{In, here}
 use Rattle.seq.proofs.Member.{none_in}
 use Rattle.seq.proofs.Truth.{and_left, or_from}

@@ -6,7 +6,7 @@ use Rattle.grin_syntax.specs.declared.program.Val.{Val}
 use Rattle.grin_syntax.specs.Tree.{Program}
 use Rattle.grin_meaning.specs.Run.{is_part_kind, is_some_and}
 use Rattle.flow_system.specs.Solution.{Solution}
-use Rattle.inlining.specs.Applications.{value_has, is_part_tag, part_tags_of, others_of}
+use Rattle.inline_theory.specs.Applications.{value_has, is_part_tag, part_tags_of, others_of}
 use Rattle.seq.specs.Lists.{In, those}
 use Rattle.seq.proofs.Lists.{some_at}
 use Rattle.seq.proofs.Those.{those_filtered, ascends}

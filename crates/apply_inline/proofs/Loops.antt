@@ -16,7 +16,7 @@ use Rattle.grin_rewrite.specs.Counted.{act_room}
 use Rattle.grin_rewrite.specs.InPlace.{InPlace}
 use Rattle.grin_rewrite.proofs.Leaves.{op_of}
 use Rattle.grin_rewrite.proofs.CountedLoops.{Untouched, alone_in_place}
-use Rattle.inlining.specs.Applications.{apply_arms, part_tags_of, others_of, else_fail, parts_room, apply_rule}
+use Rattle.inline_theory.specs.Applications.{apply_arms, part_tags_of, others_of, else_fail, parts_room, apply_rule}
 use Rattle.apply_inline.specs.Applied.{is_nonempty}
 
 module _ (p : Program) (A : Solution) where

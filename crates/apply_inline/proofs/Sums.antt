@@ -17,8 +17,8 @@ use Rattle.grin_syntax.specs.Tree.{Code, end, Arms, no_arm, arm, act_of, before_
 use Rattle.grin_syntax.proofs.TreeOf.{act_of-Apply, code_of-parts, before_of-Store, before_of-Bind}
 use Rattle.grin_syntax.proofs.Pieces.{all_arms, all_arms_none, all_arms_push, all_before_push}
 use Rattle.flow_system.specs.Solution.{Solution}
-use Rattle.inlining.specs.Size.{val_size, target_size, shape_size, cells_size, total}
-use Rattle.inlining.specs.Expanded.{saturated_at_64_bits, tag_size, tags_size, application_size, expanded_act, expanded_code, expanded_arms}
+use Rattle.inline_theory.specs.Size.{val_size, target_size, shape_size, cells_size, total}
+use Rattle.inline_theory.specs.Expanded.{saturated_at_64_bits, tag_size, tags_size, application_size, expanded_act, expanded_code, expanded_arms}
 
 cells_push : (cs : List Cell) (c : Cell) → cells_size (cs ++ c ∷ []) ≡ cells_size cs +
     (2 + val_size c.val)

@@ -8,7 +8,7 @@ use Rattle.grin_syntax.specs.declared.program.Val.TheVariants.{NodeVar, Node, Ve
 use Rattle.grin_syntax.specs.Tree.{Program}
 use Rattle.grin_meaning.specs.Run.{is_part_kind, is_some_and}
 use Rattle.flow_system.specs.Solution.{Solution}
-use Rattle.inlining.specs.Applications.{word_has, value_has}
+use Rattle.inline_theory.specs.Applications.{word_has, value_has}
 use Rattle.seq.specs.Lists.{In}
 
 -- whether a list has an item

@@ -6,7 +6,7 @@ ghost use Rattle.grin_syntax.specs.declared.program.Word.TheVariants.{Var};
 ghost use Rattle.grin_syntax.specs.Tree.{end, act_of};
 ghost use Rattle.grin_syntax.specs.Tags.{part_from};
 ghost use Rattle.grin_syntax.specs.Fresh.{variables};
-ghost use Rattle.inlining.specs.Applications.{part_body, apply_body, apply_opening, others_of, else_fail, apply_rule};
+ghost use Rattle.inline_theory.specs.Applications.{part_body, apply_body, apply_opening, others_of, else_fail, apply_rule};
 ghost use Rattle.apply_inline.specs.Known.{program, solution};
 ghost use Rattle.apply_inline.specs.Applied.{meets_part};
 ghost use Rattle.flow_system.specs.Starts.{NoPartTagBeforeStart};

@@ -1,17 +1,17 @@
 // The size of a program once its evaluations and applications are inlined, from its text.
 // A sum that passes the largest number stays there.
-#![tactic(auto, using(grin_syntax::proofs::TreeOf::tree_of), unfolding(inlining::specs::Expanded::expanded_act, inlining::specs::Size::act_size))]
+#![tactic(auto, using(grin_syntax::proofs::TreeOf::tree_of), unfolding(inline_theory::specs::Expanded::expanded_act, inline_theory::specs::Size::act_size))]
 
 ghost use Rattle.std.specs.Prelude.{◌≡◌, ◌+◌, ℕ, Bool, true, false, List, map, Some, slice_get, MatchOption};
 ghost use Rattle.std.specs.List.{filter};
 ghost use Rattle.grin_syntax.specs.declared.program.Tag.{Tag};
 ghost use Rattle.grin_syntax.specs.Tree.{Code, act_of, before_of, arm_of, arms_of, code_of, procedure_of};
-ghost use Rattle.inlining.specs.Applications.{part_tags_of};
-ghost use Rattle.inlining.specs.Size.{val_size, target_size, shape_size, cells_size, total};
+ghost use Rattle.inline_theory.specs.Applications.{part_tags_of};
+ghost use Rattle.inline_theory.specs.Size.{val_size, target_size, shape_size, cells_size, total};
 ghost use Rattle.apply_inline.specs.Applied.{meets_part};
 ghost use Rattle.apply_inline.specs.Known.{program, solution};
 ghost use Rattle.eval_inline.specs.Met.{is_tag};
-ghost use Rattle.inlining.specs.Expanded.{saturated_at_64_bits, eval_body_size, evaluation_size, applied_size, tags_size, application_size, expanded_act, expanded_code, expanded_arms, expanded_procedure};
+ghost use Rattle.inline_theory.specs.Expanded.{saturated_at_64_bits, eval_body_size, evaluation_size, applied_size, tags_size, application_size, expanded_act, expanded_code, expanded_arms, expanded_procedure};
 
 use crate::known::Known;
 use eval_inline::met::tags_met;

@@ -3,7 +3,7 @@
 ghost use Rattle.std.specs.Prelude.{◌≡◌, ◌&&◌, not, true, false, ℕ, map, Some, slice_get, MatchOption};
 ghost use Rattle.std.specs.List.Sorted.{IsStrictlyIncreasing};
 ghost use Rattle.grin_meaning.specs.Run.{is_part_kind};
-ghost use Rattle.inlining.specs.Applications.{word_has, others_of};
+ghost use Rattle.inline_theory.specs.Applications.{word_has, others_of};
 ghost use Rattle.apply_inline.specs.Known.{program, solution};
 ghost use Rattle.seq.specs.Lists.{In};
 ghost use Rattle.apply_inline.specs.Applied.{words_fit, fits, meets_part, meets_other, is_nonempty, Candidates};

@@ -7,10 +7,10 @@ ghost use Rattle.grin_syntax.specs.Tree.{program_of};
 ghost use Rattle.grin_syntax.specs.Formed.{Formed};
 ghost use Rattle.grin_meaning.specs.Keeps.{Keeps};
 ghost use Rattle.grin_meaning.specs.Ready.{IsInlined};
-ghost use Rattle.inlining.specs.Applications.{apply_inlined, inlined_size};
+ghost use Rattle.inline_theory.specs.Applications.{apply_inlined, inlined_size};
 ghost use Rattle.points_to.specs.Found.{found};
-ghost use Rattle.inlining.specs.Without.{HasNoEval};
-ghost use Rattle.inlining.specs.Before.{IsEvalInlined};
+ghost use Rattle.inline_theory.specs.Without.{HasNoEval};
+ghost use Rattle.inline_theory.specs.Before.{IsEvalInlined};
 
 mod blocks;
 mod expanded;

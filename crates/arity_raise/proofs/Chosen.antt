@@ -7,10 +7,10 @@ use Rattle.grin_syntax.specs.declared.program.Proc.{Proc}
 use Rattle.grin_syntax.specs.Fresh.{variable, variables, past_procs}
 use Rattle.grin_syntax.specs.Tree.{Procedure, Program, procedure_of}
 use Rattle.flow_system.specs.Solution.{Solution}
-use Rattle.raising.specs.Raisable.{Raisable}
-use Rattle.raising.specs.declared.raising.Raising.{Raising}
-use Rattle.raising.specs.Raising.{Decisions, fields_of}
-use Rattle.raising.specs.Decided.{AllStay, Decided, ProcedureDecided, AllDecided, new_params, all_new_params, IsDecided}
+use Rattle.raise_theory.specs.Raisable.{Raisable}
+use Rattle.raise_theory.specs.declared.raising.Raising.{Raising}
+use Rattle.raise_theory.specs.Raising.{Decisions, fields_of}
+use Rattle.raise_theory.specs.Decided.{AllStay, Decided, ProcedureDecided, AllDecided, new_params, all_new_params, IsDecided}
 use Rattle.arity_raise.specs.Fixed.{Fixed}
 use Rattle.arity_raise.specs.Deciding.{parameter_count_after, DecidedOf, AreConsecutive, NoneRaised}
 

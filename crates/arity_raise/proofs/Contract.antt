@@ -9,11 +9,11 @@ use Rattle.flow_system.specs.Tables.{tables}
 use Rattle.flow_system.specs.System.{system}
 use Rattle.flow_system.specs.Solution.{Solution, IsLeast}
 use Rattle.pass_ground.specs.Vectors.{IsVectorForm}
-use Rattle.raising.specs.Raising.{Decisions, raised}
-use Rattle.raising.specs.Decided.{IsDecided}
-use Rattle.raising.specs.Raised.{Raised, MadeByLeastSolution}
-use Rattle.raising.specs.Laws.{RaisedKeeps}
-use Rattle.raising.proofs.Kept.{raising_law}
+use Rattle.raise_theory.specs.Raising.{Decisions, raised}
+use Rattle.raise_theory.specs.Decided.{IsDecided}
+use Rattle.raise_theory.specs.Raised.{Raised, MadeByLeastSolution}
+use Rattle.raise_theory.specs.Laws.{RaisedKeeps}
+use Rattle.raise_theory.proofs.Kept.{raising_law}
 
 module _ (g : Program) (A : Solution) (D : List Decisions) (n : ℕ) (of : IsVectorForm g)
     (words : IsFetchedByWords g) (least : IsLeast (tables g) (system g) A) (d : IsDecided A g D n)

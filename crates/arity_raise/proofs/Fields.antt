@@ -14,8 +14,8 @@ use Rattle.grin_syntax.specs.Fresh.{variable, variables}
 use Rattle.grin_syntax.proofs.TreeOf.{before_of-Bind, act_of-FetchWord}
 use Rattle.grin_syntax.proofs.Pieces.{all_before_push}
 use Rattle.grin_syntax.proofs.Past.{variables_push}
-use Rattle.raising.specs.declared.raising.Raising.{Raising}
-use Rattle.raising.specs.Raising.{Decisions, decided, raised_param, raised_params, field_fetches, fetches_for, argument_for, arguments_for, new_variables_of, new_variables_for}
+use Rattle.raise_theory.specs.declared.raising.Raising.{Raising}
+use Rattle.raise_theory.specs.Raising.{Decisions, decided, raised_param, raised_params, field_fetches, fetches_for, argument_for, arguments_for, new_variables_of, new_variables_for}
 use Rattle.arity_raise.specs.Decision.{decision_at}
 
 -- ---- one field

@@ -10,7 +10,7 @@ use Rattle.flow_system.specs.declared.fact.Place.TheVariants.{Site as site, Var 
 use Rattle.flow_system.specs.declared.fact.Part.TheVariants.{Tags as tags, Word as word}
 use Rattle.flow_system.specs.Solution.{Solution, At}
 use Rattle.points_to.specs.Held.{In}
-use Rattle.raising.specs.Raisable.{NeverUpdated, IsValueTag}
+use Rattle.raise_theory.specs.Raisable.{NeverUpdated, IsValueTag}
 use Rattle.arity_raise.specs.Fixed.{CellsAlone, HasTag, SiteHasOnly, HasOnly, Unchanged, Fixed, UpdatedSites}
 use Rattle.arity_raise.specs.declared.cells.Node.{Node}
 use Rattle.arity_raise.proofs.Each.{Each}

@@ -14,8 +14,8 @@ use Rattle.grin_syntax.specs.declared.program.Proc.{Proc}
 use Rattle.grin_syntax.specs.Tree.{Code, bind, case, Arms, no_arm, arm, act_of, before_of, arm_of, code_of, all_before, Procedure, procedure_of}
 use Rattle.grin_syntax.proofs.TreeOf.{act_of-Case, before_of-Store, before_of-Bind}
 use Rattle.grin_syntax.proofs.Pieces.{all_arms, all_arms_none, all_arms_push, all_before_push}
-use Rattle.raising.specs.declared.raising.Raising.{Raising}
-use Rattle.raising.specs.Raising.{Decisions, raised_procedure, raised_procs, fetches_before, new_before, new_act, new_code, new_arms, raised_act, raised_code, raised_arms}
+use Rattle.raise_theory.specs.declared.raising.Raising.{Raising}
+use Rattle.raise_theory.specs.Raising.{Decisions, raised_procedure, raised_procs, fetches_before, new_before, new_act, new_code, new_arms, raised_act, raised_code, raised_arms}
 
 module _ (D : List Decisions) where
   -- ---- statements: how many new variables they take

@@ -30,7 +30,7 @@ use Rattle.seq.proofs.Lists.{map_push}
 use Rattle.pass_ground.specs.Updated.{code_updated, updated_of}
 use Rattle.pass_ground.proofs.Collected.{updated}
 use Rattle.pass_ground.proofs.Walked.{all, procs_next}
-use Rattle.raising.specs.Raisable.{NeverUpdated}
+use Rattle.raise_theory.specs.Raisable.{NeverUpdated}
 use Rattle.arity_raise.specs.Fixed.{SitesJoin, UpdatedSites}
 use Rattle.flow_system.proofs.Numbered.{nat_equal}
 

@@ -4,10 +4,10 @@ use Rattle.grin_syntax.specs.declared.program.VarId.{VarId}
 use Rattle.grin_syntax.specs.Fresh.{variables}
 use Rattle.grin_syntax.specs.Tree.{Procedure, Program}
 use Rattle.flow_system.specs.Solution.{Solution}
-use Rattle.raising.specs.Raisable.{Raisable}
-use Rattle.raising.specs.declared.raising.Raising.{Raising}
-use Rattle.raising.specs.Raising.{Decisions}
-use Rattle.raising.specs.Decided.{AllStay, FitsParameterLimit, Stays, new_params}
+use Rattle.raise_theory.specs.Raisable.{Raisable}
+use Rattle.raise_theory.specs.declared.raising.Raising.{Raising}
+use Rattle.raise_theory.specs.Raising.{Decisions}
+use Rattle.raise_theory.specs.Decided.{AllStay, FitsParameterLimit, Stays, new_params}
 
 -- how many parameters there are at the next turn
 abbrev pub parameter_count_after : ℕ → Option Raising → ℕ

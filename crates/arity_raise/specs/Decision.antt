@@ -1,7 +1,7 @@
 -- What is decided of the parameter at a place.
 use Rattle.std.specs.Prelude.{ℕ, Option, Some, None, slice_get}
-use Rattle.raising.specs.declared.raising.Raising.{Raising}
-use Rattle.raising.specs.Raising.{Decisions}
+use Rattle.raise_theory.specs.declared.raising.Raising.{Raising}
+use Rattle.raise_theory.specs.Raising.{Decisions}
 
 abbrev pub decision_or_stays : Option (Option Raising) → Option Raising
 decision_or_stays None = None

@@ -11,7 +11,7 @@ use Rattle.flow_system.specs.Tables.{tables}
 use Rattle.flow_system.specs.Solution.{Solution, At, StandsFor}
 use Rattle.points_to.specs.Held.{In}
 use Rattle.pass_ground.specs.Updated.{updated_of}
-use Rattle.raising.specs.Raisable.{IsCell, NeverUpdated, IsValueTag}
+use Rattle.raise_theory.specs.Raisable.{IsCell, NeverUpdated, IsValueTag}
 
 module _ (A : Solution) where
   abbrev pub CellsAlone : (x : ℕ) → Type 0

@@ -1,16 +1,16 @@
 // Blocks of procedures with their parameters raised.
-#![tactic(auto, using(grin_syntax::proofs::TreeOf::tree_of), unfolding(raising::specs::Raising::raised_act, raising::specs::Raising::new_act))]
+#![tactic(auto, using(grin_syntax::proofs::TreeOf::tree_of), unfolding(raise_theory::specs::Raising::raised_act, raise_theory::specs::Raising::new_act))]
 
 ghost use Rattle.std.specs.Prelude.{◌≡◌, ◌+◌, map, IfOk, OnOk};
 ghost use Rattle.grin_syntax.specs.Tree.{Code, end, act_of, before_of, arm_of, code_of, all_before};
-ghost use Rattle.raising.specs.Raising.{decided, decisions_at, fetched, fetches_before, new_before, new_act, new_code, raised_act, raised_code};
+ghost use Rattle.raise_theory.specs.Raising.{decided, decisions_at, fetched, fetches_before, new_before, new_act, new_code, raised_act, raised_code};
 
 use crate::calls::arguments;
 use crate::decide::Decisions;
 use crate::params::{decided, fetched};
 use grin_syntax::fresh::Fresh;
 use grin_syntax::{Alt, Block, Op, ProcId, Stmt, VarId, Word};
-use raising::Raising;
+use raise_theory::Raising;
 use seq::Seq;
 use std::alloc::{AllocError, Global};
 

@@ -6,12 +6,12 @@ ghost use Rattle.grin_syntax.specs.declared.program.Word.TheVariants.{Var};
 ghost use Rattle.grin_syntax.specs.declared.program.Target.TheVariants.{One};
 ghost use Rattle.grin_syntax.specs.Tree.{Code, bind, leaf, fetch_word, before_of, all_before};
 ghost use Rattle.grin_syntax.specs.Fresh.{variable, variables};
-ghost use Rattle.raising.specs.Raising.{field_fetches, argument_for, arguments_for, fetches_for, new_variables_of, new_variables_for};
+ghost use Rattle.raise_theory.specs.Raising.{field_fetches, argument_for, arguments_for, fetches_for, new_variables_of, new_variables_for};
 
 use crate::params::decision_at;
 use grin_syntax::fresh::Fresh;
 use grin_syntax::{Op, Stmt, Target, Word};
-use raising::Raising;
+use raise_theory::Raising;
 use seq::Seq;
 use std::alloc::{AllocError, Global};
 

@@ -5,7 +5,7 @@ ghost use Rattle.std.specs.Prelude.{◌≡◌, ◌↔◌, ℕ, map, IsTrue, Matc
 ghost use Rattle.grin_syntax.specs.Tree.{program_of};
 ghost use Rattle.points_to.specs.Held.{In};
 ghost use Rattle.points_to.specs.Found.{found};
-ghost use Rattle.raising.specs.Raisable.{IsValueTag};
+ghost use Rattle.raise_theory.specs.Raisable.{IsValueTag};
 ghost use Rattle.arity_raise.specs.Fixed.{CellsAlone, HasTag, SiteHasOnly, HasOnly, Unchanged, Fixed, UpdatedSites};
 
 use grin_syntax::{Grin, Site, TagId, TagKind, VarId};

@@ -4,8 +4,8 @@
 ghost use Rattle.std.specs.Prelude.{◌≡◌, ◌≤◌, ◌+◌, ℕ, nat_le, length, map, IfOk, IfSome, OnOk, MatchOption, [], ◌∷◌};
 ghost use Rattle.grin_syntax.specs.Tree.{procedure_of, program_of};
 ghost use Rattle.points_to.specs.Found.{found};
-ghost use Rattle.raising.specs.Raisable.{Raisable};
-ghost use Rattle.raising.specs.Decided.{FitsParameterLimit, Decided, ProcedureDecided, IsDecided, new_params};
+ghost use Rattle.raise_theory.specs.Raisable.{Raisable};
+ghost use Rattle.raise_theory.specs.Decided.{FitsParameterLimit, Decided, ProcedureDecided, IsDecided, new_params};
 ghost use Rattle.arity_raise.specs.Deciding.{parameter_count_after, DecidedOf, AreConsecutive, NoneRaised};
 
 use crate::cells::{Node, ProgramFacts};
@@ -14,7 +14,7 @@ use grin_syntax::fresh::Fresh;
 use grin_syntax::{Grin, Proc, VarId};
 use pass_ground::uses::block_uses_as_value;
 use points_to::Flow;
-use raising::Raising;
+use raise_theory::Raising;
 use seq::Seq;
 use std::alloc::{AllocError, Global};
 

@@ -3,12 +3,12 @@
 
 ghost use Rattle.std.specs.Prelude.{◌≡◌, ◌++◌, nat_eq, IfOk, OnOk};
 ghost use Rattle.grin_syntax.specs.Tree.{act_of};
-ghost use Rattle.raising.specs.Raising.{raised_param, raised_params, decided, word_at, raised_fetch_of};
+ghost use Rattle.raise_theory.specs.Raising.{raised_param, raised_params, decided, word_at, raised_fetch_of};
 ghost use Rattle.arity_raise.specs.Decision.{decision_at};
 
 use grin_syntax::fresh::Fresh;
 use grin_syntax::{Op, Val, VarId, Word};
-use raising::Raising;
+use raise_theory::Raising;
 use seq::Seq;
 use std::alloc::{AllocError, Global};
 

@@ -5,8 +5,8 @@ ghost use Rattle.std.specs.Prelude.{◌≡◌, ◌+◌, length, IfOk, OnOk};
 ghost use Rattle.grin_syntax.specs.Tree.{code_of, procedure_of, program_of};
 ghost use Rattle.grin_meaning.specs.Ready.{IsFetchedByWords};
 ghost use Rattle.pass_ground.specs.Vectors.{IsVectorForm};
-ghost use Rattle.raising.specs.Raising.{new_code, raised_procedure, raised};
-ghost use Rattle.raising.specs.Raised.{Raised, MadeByLeastSolution};
+ghost use Rattle.raise_theory.specs.Raising.{new_code, raised_procedure, raised};
+ghost use Rattle.raise_theory.specs.Raised.{Raised, MadeByLeastSolution};
 
 use crate::blocks::Within;
 use crate::decide::{Decisions, Planned, plan};
@@ -15,7 +15,7 @@ use grin_meaning::Pass;
 use grin_syntax::fresh::Fresh;
 use grin_syntax::{Grin, Proc};
 use least_flow::least;
-use raising::Raising;
+use raise_theory::Raising;
 use seq::Seq;
 use std::alloc::{AllocError, Global};
 

@@ -14,8 +14,8 @@ use Rattle.flow_system.specs.declared.fact.Element.TheVariants.{Cell, Tag as tag
 use Rattle.flow_system.specs.declared.fact.Place.TheVariants.{Site as site, Var as var}
 use Rattle.flow_system.specs.declared.fact.Part.TheVariants.{Tags as tags, Word as word}
 use Rattle.flow_system.specs.Solution.{Solution, among, At}
-use Rattle.inlining.specs.Evaluations.{any_satisfies, cells_in, site_of, tags_of}
-use Rattle.inlining.proofs.CellTags.{some_cell}
+use Rattle.inline_theory.specs.Evaluations.{any_satisfies, cells_in, site_of, tags_of}
+use Rattle.inline_theory.proofs.CellTags.{some_cell}
 use Rattle.seq.specs.Lists.{In, those}
 use Rattle.seq.proofs.Lists.{some_at}
 use Rattle.seq.proofs.Member.{none_in}

@@ -17,7 +17,7 @@ use Rattle.grin_rewrite.specs.Counted.{act_room, counted_act}
 use Rattle.grin_rewrite.specs.InPlace.{InPlace}
 use Rattle.grin_rewrite.proofs.Leaves.{op_of}
 use Rattle.grin_rewrite.proofs.CountedLoops.{Untouched}
-use Rattle.inlining.specs.Evaluations.{tags_of, eval_arms, arms_room, eval_rule}
+use Rattle.inline_theory.specs.Evaluations.{tags_of, eval_arms, arms_room, eval_rule}
 
 module _ (p : Program) (A : Solution) (x : ℕ) (op : Op) where
   pub untouched : ((w : Word) → op ≡ Eval w → ⊥) → (l : Leaf) → op ≡ op_of l

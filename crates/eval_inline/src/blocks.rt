@@ -6,7 +6,7 @@ ghost use Rattle.grin_syntax.specs.declared.program.Word.TheVariants.{Var};
 ghost use Rattle.grin_syntax.specs.declared.program.Val.TheVariants.{NodeVar};
 ghost use Rattle.grin_syntax.specs.declared.program.Target.TheVariants.{Nothing, Node as NodeTarget};
 ghost use Rattle.grin_syntax.specs.Tree.{end, bind, leaf, call, update, unit, code_of};
-ghost use Rattle.inlining.specs.Evaluations.{eval_opening, eval_rule};
+ghost use Rattle.inline_theory.specs.Evaluations.{eval_opening, eval_rule};
 ghost use Rattle.eval_inline.specs.Known.{program, solution};
 ghost use Rattle.eval_inline.specs.Met.{is_tag};
 

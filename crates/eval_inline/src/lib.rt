@@ -5,10 +5,10 @@ ghost use Rattle.std.specs.Prelude.{◌≡◌, IfOk};
 ghost use Rattle.grin_syntax.specs.Tree.{program_of};
 ghost use Rattle.grin_syntax.specs.Formed.{Formed};
 ghost use Rattle.grin_meaning.specs.Keeps.{Keeps};
-ghost use Rattle.inlining.specs.Evaluations.{eval_inlined};
+ghost use Rattle.inline_theory.specs.Evaluations.{eval_inlined};
 ghost use Rattle.points_to.specs.Found.{found};
-ghost use Rattle.inlining.specs.Analysed.{IsAnalysed};
-ghost use Rattle.inlining.specs.Without.{HasNoEval};
+ghost use Rattle.inline_theory.specs.Analysed.{IsAnalysed};
+ghost use Rattle.inline_theory.specs.Without.{HasNoEval};
 
 mod blocks;
 pub mod met;

@@ -4,7 +4,7 @@ ghost use Rattle.std.specs.Prelude.{◌≡◌, map};
 ghost use Rattle.std.specs.List.{filter};
 ghost use Rattle.grin_syntax.specs.Tree.{program_of};
 ghost use Rattle.grin_syntax.specs.declared.program.Word.TheVariants.{Global as of_global};
-ghost use Rattle.inlining.specs.Evaluations.{tags_of};
+ghost use Rattle.inline_theory.specs.Evaluations.{tags_of};
 ghost use Rattle.points_to.specs.Found.{found};
 ghost use Rattle.eval_inline.specs.Met.{is_tag};
 

@@ -10,8 +10,8 @@ use Rattle.grin_syntax.specs.Tree as grin
 use Rattle.grin_meaning.specs.Keeps.{Keeps}
 use Rattle.grin_meaning.specs.Told.{meaning_of_grin, entered_by_grin}
 use Rattle.flow_system.specs.Solution.{Solution}
-use Rattle.inlining.specs.Applications.{inlined, inlined_size}
-use Rattle.inlining.specs.Size.{largest_procedure}
+use Rattle.inline_theory.specs.Applications.{inlined, inlined_size}
+use Rattle.inline_theory.specs.Size.{largest_procedure}
 use Rattle.grin_translate.specs.Same.{ValidTranslationPreservesRuns}
 use Rattle.grin_translate.specs.Translation.{tr}
 use Rattle.low_code.specs.Tree.{Program}

@@ -9,9 +9,9 @@ use Rattle.grin_meaning.specs.Slim.{Slim}
 use Rattle.grin_syntax.specs.Fresh.{past_procs}
 use Rattle.flow_system.specs.Solution.{Solution}
 use Rattle.grin_rewrite.proofs.CountedText.{as_many}
-use Rattle.inlining.specs.Evaluations.{eval_rule, eval_inlined}
-use Rattle.inlining.specs.Applications.{apply_rule, inlined}
-use Rattle.inlining.specs.Size.{act_size, code_size, procedure_size, total, largest, size, largest_procedure}
+use Rattle.inline_theory.specs.Evaluations.{eval_rule, eval_inlined}
+use Rattle.inline_theory.specs.Applications.{apply_rule, inlined}
+use Rattle.inline_theory.specs.Size.{act_size, code_size, procedure_size, total, largest, size, largest_procedure}
 use Rattle.stage_names.specs.declared.PassName.{PassName}
 use Rattle.grin_opt.proofs.Gives.{gives}
 use Rattle.grin_translate.specs.declared.tags.Delay.{Delay}

@@ -8,8 +8,8 @@ use Rattle.grin_syntax.specs.SameOutside.{DifferOnlyInBodies}
 use Rattle.grin_meaning.specs.Keeps.{Keeps}
 use Rattle.grin_meaning.specs.Slim.{Slim}
 use Rattle.flow_system.specs.Solution.{Solution}
-use Rattle.inlining.specs.Applications.{inlined, inlined_size}
-use Rattle.inlining.specs.Size.{size, largest_procedure}
+use Rattle.inline_theory.specs.Applications.{inlined, inlined_size}
+use Rattle.inline_theory.specs.Size.{size, largest_procedure}
 use Rattle.vectorised_form.specs.Laws.{VectoriseTakesInlined}
 use Rattle.grin_measure.specs.declared.measure.Sizes.{Sizes}
 use Rattle.grin_measure.specs.Within.{HasSizes}

@@ -6,7 +6,7 @@ use Rattle.grin_syntax.specs.Tree.{program_of}
 use Rattle.grin_syntax.specs.Formed.{AllOf, Formed}
 use Rattle.grin_syntax.specs.SameOutside.{names_of}
 use Rattle.flow_system.specs.Solution.{Solution}
-use Rattle.inlining.specs.Applications.{inlined}
+use Rattle.inline_theory.specs.Applications.{inlined}
 use Rattle.grin_translate.specs.Translation.{tr}
 use Rattle.stage_names.specs.declared.PassName.{PassName}
 use Rattle.stage_names.specs.declared.PassName.TheVariants.{Translate, Eval, Apply, Vectorise}

@@ -7,7 +7,7 @@ use Rattle.elf32.specs.File.{file_of, program}
 use Rattle.elf32.specs.Rules.{Loads}
 use Rattle.grin_syntax.specs.Tree as grin
 use Rattle.flow_system.specs.Solution.{Solution}
-use Rattle.inlining.specs.Applications.{inlined, inlined_size}
+use Rattle.inline_theory.specs.Applications.{inlined, inlined_size}
 use Rattle.grin_translate.specs.Translation.{tr}
 use Rattle.grin_stages.specs.Stage.{IsLeastOfTranslation}
 use Rattle.low_code.specs.Tree.{Program}

@@ -5,8 +5,8 @@ use Rattle.arity_check.specs.Program as core
 use Rattle.grin_syntax.specs.Tree.{Program}
 use Rattle.grin_meaning.specs.Ready.{most_fields}
 use Rattle.flow_system.specs.Solution.{Solution}
-use Rattle.inlining.specs.Applications.{inlined, inlined_size}
-use Rattle.inlining.specs.Size.{largest_procedure}
+use Rattle.inline_theory.specs.Applications.{inlined, inlined_size}
+use Rattle.inline_theory.specs.Size.{largest_procedure}
 use Rattle.grin_translate.specs.Translation.{tr}
 use Rattle.limits.specs.Limits.{most_cells, least_stack, most_stack}
 

@@ -9,7 +9,7 @@ use Rattle.elf32.specs.Rules.{Loads}
 use Rattle.grin_syntax.specs.Tree.{Program}
 use Rattle.grin_meaning.specs.Told.{meaning_of_grin, entered_by_grin}
 use Rattle.flow_system.specs.Solution.{Solution}
-use Rattle.inlining.specs.Applications.{inlined}
+use Rattle.inline_theory.specs.Applications.{inlined}
 use Rattle.grin_translate.specs.Translation.{tr}
 use Rattle.grin_stages.specs.Stage.{IsLeastOfTranslation}
 use Rattle.low_code.specs.Tree as low

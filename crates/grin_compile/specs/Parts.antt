@@ -8,7 +8,7 @@ use Rattle.grin_syntax.specs.Tree.{program_of}
 use Rattle.grin_syntax.specs.Formed.{AllOf, Formed}
 use Rattle.grin_syntax.specs.SameOutside.{names_of}
 use Rattle.flow_system.specs.Solution.{Solution}
-use Rattle.inlining.specs.Applications.{inlined, inlined_size}
+use Rattle.inline_theory.specs.Applications.{inlined, inlined_size}
 use Rattle.grin_translate.specs.Translation.{tr}
 use Rattle.stage_names.specs.declared.PassName.TheVariants.{Translate, Eval}
 use Rattle.grin_stages.specs.Stage.{IsLeastOfTranslation, IsStage}

@@ -5,8 +5,8 @@ use Rattle.grin_syntax.specs.Tree.{Program}
 use Rattle.grin_meaning.specs.Keeps.{Keeps}
 use Rattle.grin_meaning.specs.Slim.{Slim}
 use Rattle.flow_system.specs.Solution.{Solution}
-use Rattle.inlining.specs.Applications.{inlined, inlined_size}
-use Rattle.inlining.specs.Size.{largest_procedure}
+use Rattle.inline_theory.specs.Applications.{inlined, inlined_size}
+use Rattle.inline_theory.specs.Size.{largest_procedure}
 use Rattle.grin_translate.specs.Translation.{tr}
 use Rattle.stage_names.specs.declared.PassName.{PassName}
 use Rattle.stage_names.specs.declared.PassName.TheVariants.{Vectorise, Simplify, Fetch, Copy, Update, Unbox, Raise, Flat, Known, Cells, Dead}

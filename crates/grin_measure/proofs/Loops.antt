@@ -13,7 +13,7 @@ use Rattle.grin_syntax.specs.Tree.{Code, end, Arms, no_arm, arm, act_of, before_
 use Rattle.grin_syntax.proofs.TreeOf.{code_of-parts, before_of-Store, before_of-Bind}
 use Rattle.grin_syntax.proofs.Pieces.{all_arms, all_arms_none, all_arms_push, all_before_push}
 use Rattle.grin_meaning.specs.Slim.{val_weight, cells_weight, node_words, end_words}
-use Rattle.inlining.specs.Size.{val_size, cells_size}
+use Rattle.inline_theory.specs.Size.{val_size, cells_size}
 use Rattle.grin_measure.specs.declared.counts.Counts.{Counts}
 use Rattle.grin_measure.specs.Counts.{counts, sum, of_target, of_cell, of_cells, of_pattern, of_act, of_code, of_arms}
 use Rattle.grin_measure.proofs.Sums.{sums_are, sum_after, sum_then_none, none_first, of_code-end, of_code-store, of_code-bind, of_arms-none, of_arms-arm}

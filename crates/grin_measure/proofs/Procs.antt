@@ -7,13 +7,13 @@ use Rattle.grin_syntax.specs.declared.program.Grin.{Grin}
 use Rattle.grin_syntax.specs.Tree.{Procedure, procedure_of, program_of}
 use Rattle.grin_syntax.specs.Formed.{AllOf}
 use Rattle.grin_meaning.specs.Slim.{Slim, code_weight, code_calls, code_words, procs_weight, procs_calls, procedure_words}
-use Rattle.inlining.specs.Size.{code_size, procedure_size, total, largest}
+use Rattle.inline_theory.specs.Size.{code_size, procedure_size, total, largest}
 use Rattle.grin_measure.specs.declared.counts.Counts.{Counts}
 use Rattle.grin_measure.specs.declared.measure.Sizes.{Sizes}
 use Rattle.grin_measure.specs.Counts.{counts, sum, of_code, of_procedure, of_procs}
 use Rattle.grin_measure.specs.Within.{HasSizes, Within}
 use Rattle.grin_measure.proofs.Sums.{sums_are}
-use Rattle.inlining.specs.Expanded.{saturated_at_64_bits}
+use Rattle.inline_theory.specs.Expanded.{saturated_at_64_bits}
 
 abbrev trees : List Proc → List Procedure
 trees qs = map procedure_of qs

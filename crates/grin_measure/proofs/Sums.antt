@@ -11,10 +11,10 @@ use Rattle.grin_syntax.specs.declared.program.Cell.{Cell}
 use Rattle.grin_syntax.specs.Tree.{Code, end, store, bind, Act, leaf, unit, fetch, fetch_word, update, eval, apply, call, prim, read, write, case, nested, fail, Arms, no_arm, arm}
 use Rattle.grin_syntax.specs.Binders.{shape_vars}
 use Rattle.grin_meaning.specs.Slim.{val_weight, target_weight, cells_weight, act_weight, code_weight, arms_weight, act_calls, code_calls, arms_calls, node_words, end_words, inner_words, code_words, arms_words}
-use Rattle.inlining.specs.Size.{val_size, target_size, shape_size, cells_size, act_size, code_size, arms_size}
+use Rattle.inline_theory.specs.Size.{val_size, target_size, shape_size, cells_size, act_size, code_size, arms_size}
 use Rattle.grin_measure.specs.declared.counts.Counts.{Counts}
 use Rattle.grin_measure.specs.Counts.{counts, sum, of_val, of_target, of_cells, of_pattern, of_act, of_code, of_arms}
-use Rattle.inlining.specs.Expanded.{saturated_at_64_bits}
+use Rattle.inline_theory.specs.Expanded.{saturated_at_64_bits}
 
 -- ---- sums
 

@@ -7,9 +7,9 @@ use Rattle.grin_syntax.specs.declared.program.Shape.{Shape}
 use Rattle.grin_syntax.specs.declared.program.Cell.{Cell}
 use Rattle.grin_syntax.specs.Tree.{Code, Act, Arms, Procedure}
 use Rattle.grin_meaning.specs.Slim.{val_weight, target_weight, cells_weight, act_weight, code_weight, arms_weight, procs_weight, act_calls, code_calls, arms_calls, procs_calls, inner_words, code_words, arms_words, procedure_words}
-use Rattle.inlining.specs.Size.{val_size, target_size, shape_size, cells_size, act_size, code_size, arms_size, procedure_size, total}
+use Rattle.inline_theory.specs.Size.{val_size, target_size, shape_size, cells_size, act_size, code_size, arms_size, procedure_size, total}
 use Rattle.grin_measure.specs.declared.counts.Counts.{Counts}
-use Rattle.inlining.specs.Expanded.{saturated_at_64_bits}
+use Rattle.inline_theory.specs.Expanded.{saturated_at_64_bits}
 
 unfoldable pub counts : (weight calls words size : ℕ) → Counts
 counts w c v s = record {

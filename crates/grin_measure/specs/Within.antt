@@ -1,10 +1,10 @@
 -- How the counts of a program stand to the bounds of a slim one.
 use Rattle.std.specs.Prelude.{◌≡◌, ◌*◌, ◌≤◌}
 use Rattle.grin_syntax.specs.Tree.{Program}
-use Rattle.inlining.specs.Size.{size, largest_procedure}
+use Rattle.inline_theory.specs.Size.{size, largest_procedure}
 use Rattle.grin_measure.specs.declared.counts.Counts.{Counts}
 use Rattle.grin_measure.specs.declared.measure.Sizes.{Sizes}
-use Rattle.inlining.specs.Expanded.{saturated_at_64_bits}
+use Rattle.inline_theory.specs.Expanded.{saturated_at_64_bits}
 
 pub record HasSizes (g : Program) (s : Sizes) : Type 0 where
   pub program : s.program ≡ saturated_at_64_bits (size g)

@@ -5,7 +5,7 @@ ghost use Rattle.grin_syntax.specs.Tree.{procedure_of, program_of};
 ghost use Rattle.grin_meaning.specs.Slim.{Slim};
 ghost use Rattle.grin_measure.specs.Counts.{of_procedure};
 ghost use Rattle.grin_measure.specs.Within.{HasSizes, Within};
-ghost use Rattle.inlining.specs.Expanded.{saturated_at_64_bits};
+ghost use Rattle.inline_theory.specs.Expanded.{saturated_at_64_bits};
 ghost use Rattle.limits.specs.Limits.{largest_program};
 
 use crate::counts::Counts;

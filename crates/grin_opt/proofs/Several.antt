@@ -12,10 +12,10 @@ use Rattle.flow_system.specs.Solution.{Solution, IsLeast}
 use Rattle.pass_ground.proofs.Vectors.{stays_again}
 use Rattle.case_simplify.specs.Simplified.{Simplified}
 use Rattle.copy_prop.specs.Copied.{Copied}
-use Rattle.flat_blocks.specs.Flattened.{Flattened}
-use Rattle.known_words.specs.KnownWords.{KnownWords, ToldWords}
-use Rattle.narrow_vectors.specs.NarrowBy.{NarrowBy}
-use Rattle.own_cells.specs.Unknown.{RefetchesNothing}
+use Rattle.pass_flat.specs.Flattened.{Flattened}
+use Rattle.pass_known.specs.KnownWords.{KnownWords, ToldWords}
+use Rattle.pass_narrow.specs.NarrowBy.{NarrowBy}
+use Rattle.pass_cells.specs.Unknown.{RefetchesNothing}
 use Rattle.dead_store.specs.Kept.{kept}
 use Rattle.dead_store.specs.Unread.{AgreeWhereFetched, UnreadUpdatesRemovedBy}
 use Rattle.dead_store.specs.Stored.{DeadStoresRemovedBy}

@@ -4,7 +4,7 @@ use Rattle.grin_syntax.specs.declared.program.Val.{Val}
 use Rattle.grin_syntax.specs.declared.program.Word.{Word}
 use Rattle.grin_syntax.specs.Tree.{Code, end, store, bind, Act, leaf, unit, fetch, fetch_word, update, eval, apply, call, prim, read, write, case, nested, fail, Arms, no_arm, arm, Procedure, Program}
 use Rattle.pass_ground.specs.OpenUpdates.{tag_variable, act_update_sum, code_update_sum, arms_update_sum, procs_update_sum, one_if_some, updates_with_variable_tag}
-use Rattle.unboxing.specs.Unboxed.{act_updates, code_updates, arms_updates, updates_of}
+use Rattle.unbox_theory.specs.Unboxed.{act_updates, code_updates, arms_updates, updates_of}
 
 module _ (count : Val → ℕ) where
   abbrev counted : List (Word × Val) → ℕ

@@ -10,9 +10,9 @@ use Rattle.case_simplify.specs.Simplified.{Simplified}
 use Rattle.fetch_passes.specs.Fetched.{Fetched}
 use Rattle.copy_prop.specs.Copied.{Copied}
 use Rattle.update_special.specs.Updated.{Updated}
-use Rattle.unboxing.specs.Unboxed.{Unboxed}
-use Rattle.raising.specs.Raised.{Raised}
-use Rattle.flat_blocks.specs.Flattened.{Flattened}
+use Rattle.unbox_theory.specs.Unboxed.{Unboxed}
+use Rattle.raise_theory.specs.Raised.{Raised}
+use Rattle.pass_flat.specs.Flattened.{Flattened}
 use Rattle.grin_opt.specs.Several.{AfterKnownWords, AfterOwnCells, AfterDeadStores}
 use Rattle.stage_names.specs.declared.PassName.{PassName}
 use Rattle.stage_names.specs.declared.PassName.TheVariants.{Translate, Eval, Apply, Vectorise, Simplify, Fetch, Copy, Update, Unbox, Raise, Flat, Known, Cells, Dead}

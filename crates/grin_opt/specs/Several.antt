@@ -13,10 +13,10 @@ use Rattle.pass_ground.specs.Vectors.{StaysVectorForm}
 use Rattle.pass_ground.specs.OpenUpdates.{updates_with_variable_tag}
 use Rattle.case_simplify.specs.Simplified.{Simplified}
 use Rattle.copy_prop.specs.Copied.{Copied}
-use Rattle.flat_blocks.specs.Flattened.{Flattened}
-use Rattle.known_words.specs.KnownWords.{KnownWords, ToldWords}
-use Rattle.narrow_vectors.specs.NarrowBy.{NarrowBy}
-use Rattle.own_cells.specs.Unknown.{RefetchesNothing}
+use Rattle.pass_flat.specs.Flattened.{Flattened}
+use Rattle.pass_known.specs.KnownWords.{KnownWords, ToldWords}
+use Rattle.pass_narrow.specs.NarrowBy.{NarrowBy}
+use Rattle.pass_cells.specs.Unknown.{RefetchesNothing}
 use Rattle.dead_store.specs.Kept.{kept}
 use Rattle.dead_store.specs.Staying.{AreFetched, AreStaying}
 use Rattle.dead_store.specs.Unread.{AgreeWhereFetched, UnreadUpdatesRemovedBy}

@@ -21,7 +21,7 @@ use Rattle.flow_system.specs.declared.fact.Place.TheVariants.{Site as site, Var 
 use Rattle.flow_system.specs.declared.fact.Part.{Part}
 use Rattle.flow_system.specs.declared.fact.Part.TheVariants.{Tags as tags, Word as word}
 use Rattle.flow_system.specs.Solution.{Solution, among, IsLeast}
-use Rattle.inlining.specs.Size.{size}
+use Rattle.inline_theory.specs.Size.{size}
 use Rattle.arity_check.specs.Program as core
 use Rattle.grin_translate.specs.Translation.{tr}
 use Rattle.stage_names.specs.declared.PassName.{PassName}
@@ -30,8 +30,8 @@ use Rattle.grin_opt.specs.Schedule.{pass_relation}
 use Rattle.grin_stages.specs.Stage.{IsLeastOfTranslation, ExpandedSizeIsUnique, IsStage, translated, evaluations_inlined, both_inlined, by_pass, UpToInlining, StageIsUnique}
 use Rattle.grin_rewrite.specs.Counted.{counted}
 use Rattle.grin_rewrite.specs.Opening.{opening_arms}
-use Rattle.inlining.specs.Evaluations.{any_satisfies, cells_in, site_of, sites_of, tags_of, call_body, eval_opening, eval_arms, evaluation, arms_room, eval_room, eval_before, eval_becomes, eval_rule, eval_inlined}
-use Rattle.inlining.specs.Applications.{word_has, value_has, is_part_tag, part_tags_of, others_of, with_one_more, apply_body, part_body, apply_arms, else_fail, parts_room, apply_room, apply_becomes, apply_rule, apply_inlined, inlined}
+use Rattle.inline_theory.specs.Evaluations.{any_satisfies, cells_in, site_of, sites_of, tags_of, call_body, eval_opening, eval_arms, evaluation, arms_room, eval_room, eval_before, eval_becomes, eval_rule, eval_inlined}
+use Rattle.inline_theory.specs.Applications.{word_has, value_has, is_part_tag, part_tags_of, others_of, with_one_more, apply_body, part_body, apply_arms, else_fail, parts_room, apply_room, apply_becomes, apply_rule, apply_inlined, inlined}
 use Rattle.seq.specs.Lists.{those}
 
 -- two tests that imply each other are one

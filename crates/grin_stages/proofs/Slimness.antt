@@ -3,8 +3,8 @@ use Rattle.std.proofs.Common.{ℕ, ◌≤◌, ◌*◌, List, [], ◌∷◌, subs
 use Rattle.grin_syntax.specs.Tree.{Procedure, Program}
 use Rattle.grin_syntax.specs.Formed.{AllOf}
 use Rattle.grin_meaning.specs.Slim.{Slim, procedure_words}
-use Rattle.inlining.specs.Size.{size, largest_procedure}
-use Rattle.inlining.specs.Small.{IsLinearInSize}
+use Rattle.inline_theory.specs.Size.{size, largest_procedure}
+use Rattle.inline_theory.specs.Small.{IsLinearInSize}
 use Rattle.vectorise.specs.Widened.{ProcedureWordsDoNotGrow, Widened}
 use Rattle.stage_names.specs.declared.PassName.TheVariants.{Vectorise}
 use Rattle.grin_stages.specs.Stage.{VectorisedIsSlim}

@@ -10,10 +10,10 @@ use Rattle.flow_system.specs.Tables.{Tables, tables}
 use Rattle.flow_system.specs.System.{system}
 use Rattle.flow_system.specs.Inclusions.{Inclusion}
 use Rattle.flow_system.specs.Solution.{Solution, IsLeast}
-use Rattle.inlining.specs.Evaluations.{eval_inlined}
-use Rattle.inlining.specs.Applications.{apply_inlined, inlined_size}
-use Rattle.inlining.specs.Analysed.{IsAnalysed}
-use Rattle.inlining.specs.Before.{IsEvalInlined}
+use Rattle.inline_theory.specs.Evaluations.{eval_inlined}
+use Rattle.inline_theory.specs.Applications.{apply_inlined, inlined_size}
+use Rattle.inline_theory.specs.Analysed.{IsAnalysed}
+use Rattle.inline_theory.specs.Before.{IsEvalInlined}
 use Rattle.grin_translate.specs.Translation.{tr}
 use Rattle.translated_form.proofs.Limits.{valid_is_well_formed}
 use Rattle.inlined_form.proofs.Readiness.{never_missing}

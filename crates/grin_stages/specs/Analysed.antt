@@ -6,7 +6,7 @@ use Rattle.grin_syntax.specs.Tree.{program_of}
 use Rattle.grin_syntax.specs.Formed.{Formed}
 use Rattle.grin_meaning.specs.Keeps.{Keeps}
 use Rattle.points_to.specs.Found.{found}
-use Rattle.inlining.specs.Analysed.{IsAnalysed}
+use Rattle.inline_theory.specs.Analysed.{IsAnalysed}
 use Rattle.grin_translate.specs.Translation.{tr}
 use Rattle.stage_names.specs.declared.PassName.{PassName}
 use Rattle.stage_names.specs.declared.PassName.TheVariants.{Translate}

@@ -7,9 +7,9 @@ use Rattle.grin_meaning.specs.Slim.{Slim}
 use Rattle.flow_system.specs.Tables.{tables}
 use Rattle.flow_system.specs.System.{system}
 use Rattle.flow_system.specs.Solution.{Solution, IsLeast}
-use Rattle.inlining.specs.Evaluations.{eval_inlined}
-use Rattle.inlining.specs.Applications.{inlined, inlined_size}
-use Rattle.inlining.specs.Size.{largest_procedure}
+use Rattle.inline_theory.specs.Evaluations.{eval_inlined}
+use Rattle.inline_theory.specs.Applications.{inlined, inlined_size}
+use Rattle.inline_theory.specs.Size.{largest_procedure}
 use Rattle.grin_translate.specs.Translation.{tr}
 use Rattle.stage_names.specs.declared.PassName.{PassName}
 use Rattle.stage_names.specs.declared.PassName.TheVariants.{Translate, Eval, Apply, Vectorise}

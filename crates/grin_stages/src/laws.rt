@@ -2,7 +2,7 @@
 
 ghost use Rattle.grin_stages.specs.Stage.{ExpandedSizeIsUnique, StageIsUnique, VectorisedIsSlim};
 
-use inlining::programs_are_slim;
+use inline_theory::programs_are_slim;
 
 /// A program has one expanded size, so rule 36 is broken or it isn't.
 pub fn expanded_size_is_unique()

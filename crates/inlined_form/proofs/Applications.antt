@@ -13,7 +13,7 @@ use Rattle.grin_syntax.specs.Fresh.{variables, past_procs}
 use Rattle.grin_meaning.specs.Run.{is_fun_kind, is_part_kind, is_some_and, is_part, is_proc, part_from}
 use Rattle.flow_system.specs.Solution.{Solution}
 use Rattle.grin_rewrite.specs.Counted.{act_room, code_room, before_act, counted_act, counted_code, counted_all, counted_procs}
-use Rattle.inlining.specs.Applications.{with_one_more, apply_body, part_body, apply_arms, part_tags_of, others_of, else_fail, apply_inlined, apply_rule}
+use Rattle.inline_theory.specs.Applications.{with_one_more, apply_body, part_body, apply_arms, part_tags_of, others_of, else_fail, apply_inlined, apply_rule}
 use Rattle.inlined_form.proofs.Sorts.{Sorts, nothing_known, sort_of, WordsFit, vars_sorted, cells_sorted, target_sorted, delayed, alternative_sorted, ActFits, CodeFits, ArmsFit, ProcedureFits, ProgramFits}
 
 -- the first tag is none of a function that lacks arguments

@@ -17,7 +17,7 @@ use Rattle.arity_check.specs.Normal.{IsNormal, PlainApp, BoundApp, Group, Choice
 use Rattle.grin_syntax.specs.declared.program.VarId.{VarId}
 use Rattle.grin_syntax.specs.declared.program.Word.{Word}
 use Rattle.grin_syntax.specs.Tree.{Code, end, store, bind, as_act}
-use Rattle.inlining.specs.Size.{val_size, cells_size, act_size, code_size, arms_size}
+use Rattle.inline_theory.specs.Size.{val_size, cells_size, act_size, code_size, arms_size}
 use Rattle.grin_translate.specs.Blocks.{local, temp, temps, word, node, cell_of, give_block, apply_block, prim_block, form_block, block, arms}
 use Rattle.inlined_form.proofs.Costs.{form_words, cost, some_size, flat_cost, group_cost}
 

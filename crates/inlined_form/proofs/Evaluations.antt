@@ -15,10 +15,10 @@ use Rattle.grin_syntax.specs.Fresh.{variable, variables, past_act, past_code, pa
 use Rattle.grin_meaning.specs.Run.{is_fun_kind, is_some_and}
 use Rattle.flow_system.specs.Solution.{Solution}
 use Rattle.grin_rewrite.specs.Counted.{bound_before, act_room, code_room, before_act, counted_act, counted_code, counted_all, counted_procs}
-use Rattle.inlining.specs.Evaluations.{call_body, eval_body, eval_arms, evaluation, eval_inlined, tags_of, eval_rule}
+use Rattle.inline_theory.specs.Evaluations.{call_body, eval_body, eval_arms, evaluation, eval_inlined, tags_of, eval_rule}
 use Rattle.inlined_form.proofs.Sorts.{Sort, anything, a_node, evaluated, Sorts, nothing_known, sorted, vars_sorted, cells_sorted, target_sorted, sort_of, IsNode, TargetFits, ScrutineeFits, delayed, alternative_sorted, ActFits, CodeFits, ArmsFit, ProcedureFits, ProgramFits}
 use Rattle.inlined_form.proofs.MoreSorts.{KnowsNoMore, knows_self, knows_cells, knows_target, knows_alternative, kept_known, all_known, scrutinee_known, given_known, fresh_known, Unknown, unknown_vars, unknown_cells, unknown_target, unknown_alternative}
-use Rattle.inlining.specs.Without.{NotEval}
+use Rattle.inline_theory.specs.Without.{NotEval}
 
 -- what is known of a variable
 pub has_sort : (x : ℕ) (s : Sort) (Γ : Sorts) → sorted x s Γ x ≡ s

@@ -12,11 +12,11 @@ use Rattle.grin_syntax.specs.Fresh.{variable, variables, past_procs}
 use Rattle.grin_meaning.specs.Run.{is_fun_kind, part_from}
 use Rattle.grin_meaning.specs.Ready.{most_fields}
 use Rattle.flow_system.specs.Solution.{Solution}
-use Rattle.inlining.specs.Size.{val_size, target_size, cells_size, shape_size, act_size, code_size, arms_size, procedure_size, total, size}
+use Rattle.inline_theory.specs.Size.{val_size, target_size, cells_size, shape_size, act_size, code_size, arms_size, procedure_size, total, size}
 use Rattle.grin_rewrite.specs.Counted.{CountedRule, act_room, code_room, before_act, counted_act, counted_code, counted_all, counted_procs}
-use Rattle.inlining.specs.Evaluations.{call_body, eval_body, eval_arms, evaluation, eval_before, eval_becomes, eval_rule, eval_inlined, tags_of}
-use Rattle.inlining.specs.Applications.{with_one_more, apply_body, part_body, apply_arms, part_tags_of, others_of, else_fail, apply_becomes, apply_rule, inlined}
-use Rattle.inlining.proofs.Measured.{words_many, before_size, before_measured}
+use Rattle.inline_theory.specs.Evaluations.{call_body, eval_body, eval_arms, evaluation, eval_before, eval_becomes, eval_rule, eval_inlined, tags_of}
+use Rattle.inline_theory.specs.Applications.{with_one_more, apply_body, part_body, apply_arms, part_tags_of, others_of, else_fail, apply_becomes, apply_rule, inlined}
+use Rattle.inline_theory.proofs.Measured.{words_many, before_size, before_measured}
 use Rattle.seq.specs.Lists.{those}
 use Rattle.grin_syntax.proofs.Counted.{length_variables}
 use Rattle.grin_meaning.proofs.Fields.{field_bound}

@@ -15,7 +15,7 @@ use Rattle.arity_check.specs.Program.{Program, Function}
 use Rattle.core_meaning.specs.Evaluation.{params_of}
 use Rattle.grin_syntax.specs.Tree.{Code, Procedure}
 use Rattle.grin_syntax.specs.Formed.{AllOf}
-use Rattle.inlining.specs.Size.{act_size, code_size, procedure_size, total, size}
+use Rattle.inline_theory.specs.Size.{act_size, code_size, procedure_size, total, size}
 use Rattle.grin_translate.specs.declared.tags.Delay.{Delay}
 use Rattle.grin_translate.specs.declared.tags.Delay.TheVariants.{Calls, Applies, Operates, Reads}
 use Rattle.grin_translate.specs.Tags.{operations, is_delayed, takes_input, delays, delay_name, delay_params}

@@ -11,8 +11,8 @@ use Rattle.grin_meaning.specs.Keeps.{Keeps, ended, end_of}
 use Rattle.grin_meaning.specs.Ready.{most_value_fields, Ready}
 use Rattle.flow_system.specs.Solution.{Solution}
 use Rattle.grin_rewrite.proofs.CountedText.{params_stay}
-use Rattle.inlining.specs.Evaluations.{eval_rule, eval_inlined}
-use Rattle.inlining.specs.Applications.{apply_rule, inlined}
+use Rattle.inline_theory.specs.Evaluations.{eval_rule, eval_inlined}
+use Rattle.inline_theory.specs.Applications.{apply_rule, inlined}
 use Rattle.grin_translate.specs.Translation.{tr}
 use Rattle.core_meaning.specs.Printing.{printed, PrintingEnd, Done, Unaccepted, Going}
 use Rattle.core_meaning.specs.WellFormed.{WellFormed}
@@ -22,10 +22,10 @@ use Rattle.grin_translate.proofs.Printing.{translation_does_as}
 use Rattle.translated_form.proofs.Bounds.{valid_few_words}
 use Rattle.translated_form.proofs.Limits.{valid_is_well_formed}
 use Rattle.translated_form.specs.Laws.{ValidTranslationsAreFormed}
-use Rattle.inlining.proofs.InlinedTogether.{inlining_law}
-use Rattle.inlining.proofs.ApplicationsText as applications
-use Rattle.inlining.proofs.EvaluationsText as evaluations
-use Rattle.inlining.proofs.Bounds.{uses_bound}
+use Rattle.inline_theory.proofs.InlinedTogether.{inlining_law}
+use Rattle.inline_theory.proofs.ApplicationsText as applications
+use Rattle.inline_theory.proofs.EvaluationsText as evaluations
+use Rattle.inline_theory.proofs.Bounds.{uses_bound}
 use Rattle.flow_system.proofs.Starting.{formed_is_started}
 use Rattle.inlined_form.specs.Laws.{InlinedProgramsAreReady}
 use Rattle.inlined_form.proofs.Sorts.{ProgramFits}

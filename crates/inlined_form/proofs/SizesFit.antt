@@ -7,7 +7,7 @@ use Rattle.arity_check.specs.Broken.{CoreTooLarge}
 use Rattle.arity_check.specs.Program.{Program, Function}
 use Rattle.grin_syntax.specs.Formed.{AllOf}
 use Rattle.grin_meaning.specs.Ready.{most_fields}
-use Rattle.inlining.specs.Size.{size}
+use Rattle.inline_theory.specs.Size.{size}
 use Rattle.grin_translate.specs.declared.tags.Kind.TheVariants.{Constructor, Waits}
 use Rattle.grin_translate.specs.declared.tags.Delay.TheVariants.{Calls}
 use Rattle.grin_translate.specs.Tags.{delays, kinds, parts, function_parts, tag_of}

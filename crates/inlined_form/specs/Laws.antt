@@ -6,7 +6,7 @@ use Rattle.grin_syntax.specs.Formed.{Formed}
 use Rattle.grin_meaning.specs.Ready.{Ready}
 use Rattle.flow_system.specs.Covers.{CanBeStarted}
 use Rattle.flow_system.specs.Solution.{Solution, Solves}
-use Rattle.inlining.specs.Applications.{inlined, inlined_size}
+use Rattle.inline_theory.specs.Applications.{inlined, inlined_size}
 use Rattle.flow_system.specs.System.{system}
 use Rattle.flow_system.specs.Tables.{tables}
 use Rattle.grin_translate.specs.Translation.{tr}

@@ -4,8 +4,8 @@ use Rattle.std.proofs.lemmas.Option.{same_Some}
 use Rattle.rv32_items.specs.declared.Item.{Item}
 use Rattle.rv32_items.specs.Placed.{size_of, times, target_of, IsPlain, AllPlain, LabelsStand}
 use Rattle.layout_speed.specs.Blocks.{block, blocks, last_block, all_blocks}
-use Rattle.layout_rows.proofs.Placeable.{Each, each_get, each_append}
-use Rattle.layout_rows.proofs.Pieces.{each_piece, size_pieces, once as label_once}
+use Rattle.test_layout.proofs.Placeable.{Each, each_get, each_append}
+use Rattle.test_layout.proofs.Pieces.{each_piece, size_pieces, once as label_once}
 use Rattle.rv32_items.proofs.Counted.{size_append}
 
 each_of_all : (P : Item → Type 0) (count : ℕ) → ((k : ℕ) → k < count → Each P (block count k))

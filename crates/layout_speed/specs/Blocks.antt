@@ -3,8 +3,8 @@ use Rattle.std.specs.Prelude.{ℕ, List, [], ◌∷◌, ◌++◌}
 use Rattle.rv32_items.specs.declared.Cond.TheVariants.{Ne}
 use Rattle.rv32_items.specs.declared.Item.{Item}
 use Rattle.rv32_items.specs.declared.Item.TheVariants.{Label, Branch, Jump}
-use Rattle.layout_rows.specs.Pieces.{pieces}
-use Rattle.layout_rows.specs.Spread.{idle}
+use Rattle.test_layout.specs.Pieces.{pieces}
+use Rattle.test_layout.specs.Spread.{idle}
 
 -- a loop, a branch that goes far, and a call of what stands after all blocks
 abbrev pub block : (last k : ℕ) → List Item

@@ -2,7 +2,7 @@
 #![tactic(auto)]
 
 ghost use Rattle.std.specs.Prelude.{◌≡◌, ◌≤◌, [], ◌∷◌, ◌++◌, IfOk, OnOk};
-ghost use Rattle.layout_rows.specs.Spread.{idle};
+ghost use Rattle.test_layout.specs.Spread.{idle};
 ghost use Rattle.layout_speed.specs.Blocks.{block, blocks, last_block, all_blocks};
 
 use anyhow::Context;

@@ -16,8 +16,8 @@ use Rattle.grin_syntax.specs.declared.program.Cell.{Cell}
 use Rattle.grin_syntax.specs.Tree.{Code, bind, Act, leaf, unit, act_of, before_of, all_before}
 use Rattle.grin_syntax.proofs.TreeOf.{before_of-Store, before_of-Bind, act_of-Unit}
 use Rattle.grin_syntax.proofs.Pieces.{all_before_push}
-use Rattle.unboxing.specs.Ends.{Procedures, act_calls}
-use Rattle.unboxing.specs.Unboxing.{zeros, tag_and_zeros, without_second, boxed_vector, bound, unbox_act, unbox_code}
+use Rattle.unbox_theory.specs.Ends.{Procedures, act_calls}
+use Rattle.unbox_theory.specs.Unboxing.{zeros, tag_and_zeros, without_second, boxed_vector, bound, unbox_act, unbox_code}
 
 -- ---- one statement more
 

@@ -8,12 +8,12 @@ use Rattle.flow_system.specs.Tables.{tables}
 use Rattle.flow_system.specs.System.{system}
 use Rattle.flow_system.specs.Solution.{Solution, IsLeast}
 use Rattle.pass_ground.specs.Vectors.{IsVectorForm}
-use Rattle.unboxing.specs.Ends.{Procedures}
-use Rattle.unboxing.specs.Members.{IsGreatestClosedSet}
-use Rattle.unboxing.specs.Unboxing.{unboxed}
-use Rattle.unboxing.specs.Unboxed.{Unboxed, MadeByLeastSolution}
-use Rattle.unboxing.specs.Laws.{UnboxedKeeps}
-use Rattle.unboxing.proofs.Kept.{unboxing_law}
+use Rattle.unbox_theory.specs.Ends.{Procedures}
+use Rattle.unbox_theory.specs.Members.{IsGreatestClosedSet}
+use Rattle.unbox_theory.specs.Unboxing.{unboxed}
+use Rattle.unbox_theory.specs.Unboxed.{Unboxed, MadeByLeastSolution}
+use Rattle.unbox_theory.specs.Laws.{UnboxedKeeps}
+use Rattle.unbox_theory.proofs.Kept.{unboxing_law}
 
 module _ (g : Program) (A : Solution) (M : Procedures) (of : IsVectorForm g)
     (least : IsLeast (tables g) (system g) A) (are : IsGreatestClosedSet A g M) where

@@ -11,8 +11,8 @@ use Rattle.grin_syntax.specs.Formed.{AllOf}
 use Rattle.flow_system.specs.Solution.{Solution}
 use Rattle.pass_ground.proofs.Tests.{all_front, all_back}
 use Rattle.unbox.specs.declared.ties.Tie.{Tie}
-use Rattle.unboxing.specs.Ends.{Procedures, is_int, has_int, act_calls, code_calls, arms_calls, IntAct, IntCode, IntArms}
-use Rattle.unboxing.specs.Members.{ActClosed, CodeClosed, ArmsClosed, ProcedureClosed, ProceduresClosed, IsGreatestClosedSet}
+use Rattle.unbox_theory.specs.Ends.{Procedures, is_int, has_int, act_calls, code_calls, arms_calls, IntAct, IntCode, IntArms}
+use Rattle.unbox_theory.specs.Members.{ActClosed, CodeClosed, ArmsClosed, ProcedureClosed, ProceduresClosed, IsGreatestClosedSet}
 use Rattle.unbox.specs.Ties.{act_called, code_called, arms_called, act_ints, code_ints, arms_ints, act_ties, code_ties, arms_ties, body_tie, ties_from, any_in, all_in, RespectsTie, IsGreatestRespecting}
 
 spread : (a b c d : Bool) → (a && c) ≡ true → (b && d) ≡ true → ((a && b) && (c && d)) ≡ true

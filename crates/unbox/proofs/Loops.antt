@@ -16,8 +16,8 @@ use Rattle.grin_syntax.specs.Tree.{Code, end, store, bind, Act, case, arm, act_o
 use Rattle.grin_syntax.proofs.TreeOf.{before_of-Store, before_of-Bind, code_of-parts, act_of-Case}
 use Rattle.grin_syntax.proofs.Pieces.{all_before_push}
 use Rattle.flow_system.specs.Solution.{Solution}
-use Rattle.unboxing.specs.Ends.{Procedures, act_calls, code_calls}
-use Rattle.unboxing.specs.Unboxing.{word_or_zero, unbox_act, unbox_code, unbox_arms, unbox_arm}
+use Rattle.unbox_theory.specs.Ends.{Procedures, act_calls, code_calls}
+use Rattle.unbox_theory.specs.Unboxing.{word_or_zero, unbox_act, unbox_code, unbox_arms, unbox_arm}
 use Rattle.unbox.specs.Ties.{act_called, code_called, act_ints, code_ints}
 
 -- ---- the last operation alone

@@ -8,9 +8,9 @@ use Rattle.grin_syntax.specs.declared.program.Block.{Block}
 use Rattle.grin_syntax.specs.Tree.{Procedure, procedure_of, code_of, program_of}
 use Rattle.flow_system.specs.Solution.{Solution}
 use Rattle.unbox.specs.declared.ties.Tie.{Tie}
-use Rattle.unboxing.specs.Ends.{Procedures}
+use Rattle.unbox_theory.specs.Ends.{Procedures}
 use Rattle.unbox.specs.Ties.{code_ties, body_tie, ties_from}
-use Rattle.unboxing.specs.Unboxing.{unbox_code, unboxed_from, unboxed}
+use Rattle.unbox_theory.specs.Unboxing.{unbox_code, unboxed_from, unboxed}
 use Rattle.flow_system.proofs.SoFar.{procs_snoc}
 
 -- ---- ties

@@ -15,7 +15,7 @@ use Rattle.flow_system.specs.declared.fact.Place.TheVariants.{Var as var, Result
 use Rattle.flow_system.specs.declared.fact.Part.TheVariants.{Tags as tags, Word as word}
 use Rattle.flow_system.specs.Solution.{Solution, At, same_word, among}
 use Rattle.points_to.specs.Held.{In, here, there}
-use Rattle.unboxing.specs.Ends.{only_int, has_int}
+use Rattle.unbox_theory.specs.Ends.{only_int, has_int}
 
 -- ---- truth values
 

@@ -6,7 +6,7 @@ use Rattle.seq.proofs.Lists.{all_append}
 use Rattle.grin_syntax.specs.declared.program.ProcId.{ProcId}
 use Rattle.grin_syntax.specs.Formed.{AllOf}
 use Rattle.unbox.specs.declared.ties.Tie.{Tie}
-use Rattle.unboxing.specs.Ends.{Procedures, is_member}
+use Rattle.unbox_theory.specs.Ends.{Procedures, is_member}
 use Rattle.unbox.specs.Ties.{any_in, all_in, RespectsTie}
 use Rattle.unbox.specs.Rounds.{count_members, is_among, Within, Fewer, ProceduresRemoved, TiesEnforced}
 use Rattle.pass_ground.proofs.Tests.{all_front, all_back}

@@ -17,7 +17,7 @@ use Rattle.grin_syntax.proofs.TreeOf.{before_of-Store, before_of-Bind, code_of-p
 use Rattle.grin_syntax.proofs.Pieces.{all_before_push}
 use Rattle.flow_system.specs.Solution.{Solution}
 use Rattle.unbox.specs.declared.ties.Tie.{Tie}
-use Rattle.unboxing.specs.Ends.{Procedures, act_calls, code_calls, arms_calls}
+use Rattle.unbox_theory.specs.Ends.{Procedures, act_calls, code_calls, arms_calls}
 use Rattle.unbox.specs.Ties.{act_called, code_called, arms_called, act_ints, code_ints, arms_ints, tie_of, act_ties, code_ties, arms_ties}
 use Rattle.flow_system.proofs.SoFar.{arms_snoc}
 

@@ -6,7 +6,7 @@ use Rattle.seq.proofs.Lists.{take_next}
 use Rattle.grin_syntax.specs.declared.program.ProcId.{ProcId}
 use Rattle.grin_syntax.specs.Formed.{AllOf}
 use Rattle.unbox.specs.declared.ties.Tie.{Tie}
-use Rattle.unboxing.specs.Ends.{Procedures, is_member}
+use Rattle.unbox_theory.specs.Ends.{Procedures, is_member}
 use Rattle.unbox.specs.Ties.{all_in, RespectsTie, IsGreatestRespecting}
 use Rattle.unbox.specs.Rounds.{count_members, Within, ProceduresRemoved, TiesEnforced}
 use Rattle.unbox.proofs.Rounding.{one_taken, none_taken, more_taken, tie_taken, more_heeded}

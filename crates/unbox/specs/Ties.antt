@@ -6,7 +6,7 @@ use Rattle.grin_syntax.specs.Tree.{Code, end, store, bind, Act, leaf, unit, call
 use Rattle.grin_syntax.specs.Formed.{AllOf}
 use Rattle.flow_system.specs.Solution.{Solution}
 use Rattle.unbox.specs.declared.ties.Tie.{Tie}
-use Rattle.unboxing.specs.Ends.{Procedures, is_int, has_int}
+use Rattle.unbox_theory.specs.Ends.{Procedures, is_int, has_int}
 
 unfoldable mutual
   -- the procedures that the ends of a piece call

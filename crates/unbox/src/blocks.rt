@@ -1,10 +1,10 @@
 // Blocks in which members give numbers without their tag.
-#![tactic(auto, using(grin_syntax::proofs::TreeOf::tree_of), unfolding(unboxing::specs::Unboxing::unbox_act))]
+#![tactic(auto, using(grin_syntax::proofs::TreeOf::tree_of), unfolding(unbox_theory::specs::Unboxing::unbox_act))]
 
 ghost use Rattle.std.specs.Prelude.{◌≡◌, ◌≤◌, Bool, length, map, IfOk, OnOk};
 ghost use Rattle.grin_syntax.specs.Tree.{Code, bind, act_of, before_of, arm_of, code_of, all_before, arms_of};
-ghost use Rattle.unboxing.specs.Ends.{is_member, act_calls, code_calls, arms_calls};
-ghost use Rattle.unboxing.specs.Unboxing.{given, number_word, word_or_zero, without_second, zeros, tag_and_zeros, boxed, boxed_vector, bound, unbox_act, unbox_code, unbox_arm};
+ghost use Rattle.unbox_theory.specs.Ends.{is_member, act_calls, code_calls, arms_calls};
+ghost use Rattle.unbox_theory.specs.Unboxing.{given, number_word, word_or_zero, without_second, zeros, tag_and_zeros, boxed, boxed_vector, bound, unbox_act, unbox_code, unbox_arm};
 
 use grin_syntax::{Alt, Block, Op, ProcId, Stmt, TagId, Target, Val, VarId, Word};
 use pass_ground::truth::either;
@@ -31,7 +31,7 @@ impl Members {
 
     // Whether one of the ends of an operation calls a member.
     #[cycle(calls)]
-    #[tactic(auto, using(grin_syntax::proofs::TreeOf::tree_of), unfolding(unboxing::specs::Ends::act_calls))]
+    #[tactic(auto, using(grin_syntax::proofs::TreeOf::tree_of), unfolding(unbox_theory::specs::Ends::act_calls))]
     fn op_calls(&self, op: &Op) -> bool
         ensures { result ≡ act_calls (is_member self.now.inside) (act_of op.now) }
     {
@@ -109,7 +109,7 @@ impl Members {
     }
 
     #[cycle(unbox)]
-    #[tactic(auto, using(grin_syntax::proofs::TreeOf::tree_of, crate::proofs::Loops::case_unboxed), unfolding(unboxing::specs::Unboxing::unbox_act))]
+    #[tactic(auto, using(grin_syntax::proofs::TreeOf::tree_of, crate::proofs::Loops::case_unboxed), unfolding(unbox_theory::specs::Unboxing::unbox_act))]
     fn op(&self, alloc: Global, bare: bool, op: Op) -> Result<Op, AllocError>
         ensures { IfOk result (λ o. act_of o
             ≡ unbox_act (is_member self.now.inside) bare (act_of op)) }

@@ -3,7 +3,7 @@
 
 ghost use Rattle.std.specs.Prelude.{◌≡◌, ◌≤◌, ◌∷◌, [], ◌<◌, ℕ, true, IfOk};
 ghost use Rattle.grin_syntax.specs.Formed.{AllOf};
-ghost use Rattle.unboxing.specs.Ends.{Procedures, is_member};
+ghost use Rattle.unbox_theory.specs.Ends.{Procedures, is_member};
 ghost use Rattle.unbox.specs.Ties.{all_in, RespectsTie, IsGreatestRespecting};
 ghost use Rattle.unbox.specs.Rounds.{count_members, Within, ProceduresRemoved, TiesEnforced};
 

@@ -6,10 +6,10 @@ ghost use Rattle.grin_syntax.specs.Tree.{program_of};
 ghost use Rattle.grin_meaning.specs.Ready.{IsFetchedByWords};
 ghost use Rattle.points_to.specs.Found.{found};
 ghost use Rattle.pass_ground.specs.Vectors.{IsVectorForm};
-ghost use Rattle.unboxing.specs.Ends.{is_member};
-ghost use Rattle.unboxing.specs.Members.{IsGreatestClosedSet};
-ghost use Rattle.unboxing.specs.Unboxing.{unboxed};
-ghost use Rattle.unboxing.specs.Unboxed.{Unboxed, MadeByLeastSolution};
+ghost use Rattle.unbox_theory.specs.Ends.{is_member};
+ghost use Rattle.unbox_theory.specs.Members.{IsGreatestClosedSet};
+ghost use Rattle.unbox_theory.specs.Unboxing.{unboxed};
+ghost use Rattle.unbox_theory.specs.Unboxed.{Unboxed, MadeByLeastSolution};
 
 use crate::blocks::Members;
 use crate::members::members;

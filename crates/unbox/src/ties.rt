@@ -8,7 +8,7 @@ ghost use Rattle.flow_system.specs.declared.fact.Part.TheVariants.{Word as word}
 ghost use Rattle.flow_system.specs.declared.fact.Element.TheVariants.{Tag as tag'};
 ghost use Rattle.flow_system.specs.Solution.{among};
 ghost use Rattle.points_to.specs.Found.{found};
-ghost use Rattle.unboxing.specs.Ends.{only_int, is_int, is_int_word, has_int};
+ghost use Rattle.unbox_theory.specs.Ends.{only_int, is_int, is_int_word, has_int};
 ghost use Rattle.unbox.specs.Ties.{act_called, code_called, arms_called, act_ints, code_ints, arms_ints, act_ties, code_ties, arms_ties, body_tie as body_tie', ties_from};
 
 use grin_syntax::{Alt, Block, Op, Proc, ProcId, Stmt, TagId, Val, VarId, Word};

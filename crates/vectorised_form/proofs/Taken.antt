@@ -1,7 +1,7 @@
 -- The law, from what holds of inlined programs.
 use Rattle.inlined_form.specs.Laws.{InlinedProgramsAreReady}
 use Rattle.inlined_form.proofs.Readiness.{inlined_fits}
-use Rattle.inlining.specs.Applications.{inlined}
+use Rattle.inline_theory.specs.Applications.{inlined}
 use Rattle.grin_translate.specs.Translation.{tr}
 use Rattle.vectorised_form.specs.Laws.{VectoriseTakesInlined}
 use Rattle.vectorised_form.proofs.Texts.{procs_whole}

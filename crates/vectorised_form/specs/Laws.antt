@@ -6,7 +6,7 @@ use Rattle.grin_meaning.specs.Ready.{Ready}
 use Rattle.flow_system.specs.Solution.{Solution, Solves}
 use Rattle.flow_system.specs.System.{system}
 use Rattle.flow_system.specs.Tables.{tables}
-use Rattle.inlining.specs.Applications.{inlined}
+use Rattle.inline_theory.specs.Applications.{inlined}
 use Rattle.grin_translate.specs.Translation.{tr}
 use Rattle.vectorise.specs.Whole.{UsesWholeNodes}
 

@@ -1,11 +1,11 @@
 use Rattle.std.proofs.Common.{◌≡◌, map, ap, arith}
 use Rattle.grin_syntax.specs.Tree.{procedure_of, program_of}
-use Rattle.inlining.specs.Size.{total}
-use Rattle.inlining.specs.Applications.{inlined_size}
+use Rattle.inline_theory.specs.Size.{total}
+use Rattle.inline_theory.specs.Applications.{inlined_size}
 use Rattle.points_to.specs.Found.{found}
-use Rattle.inlining.specs.Expanded.{expanded_procedure}
-use Rattle.inlining.proofs.Measured.{measured}
-use Rattle.inlining.proofs.OneArgumentMore.{have_next}
+use Rattle.inline_theory.specs.Expanded.{expanded_procedure}
+use Rattle.inline_theory.proofs.Measured.{measured}
+use Rattle.inline_theory.proofs.OneArgumentMore.{have_next}
 use Rattle.apply_inline.proofs.expanded_size.Goals as goal
 
 pub returns : goal.returns

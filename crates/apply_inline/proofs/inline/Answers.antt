@@ -6,10 +6,10 @@ use Rattle.grin_meaning.specs.Ready.{IsInlined}
 use Rattle.flow_system.proofs.Starting.{formed_is_started}
 use Rattle.grin_rewrite.proofs.CountedLoops.{whole}
 use Rattle.points_to.specs.Found.{found}
-use Rattle.inlining.specs.Applications.{apply_rule, apply_inlined}
-use Rattle.inlining.proofs.Bounds.{uses_bound}
-use Rattle.inlining.proofs.InlinedTogether.{apply_inlining_law}
-use Rattle.inlining.proofs.ApplicationsText.{inlining_done, inlining_formed}
+use Rattle.inline_theory.specs.Applications.{apply_rule, apply_inlined}
+use Rattle.inline_theory.proofs.Bounds.{uses_bound}
+use Rattle.inline_theory.proofs.InlinedTogether.{apply_inlining_law}
+use Rattle.inline_theory.proofs.ApplicationsText.{inlining_done, inlining_formed}
 use Rattle.apply_inline.proofs.inline.Goals as goal
 
 pub returns-clause-inlined : goal.returns-clause-inlined

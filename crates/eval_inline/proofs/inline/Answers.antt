@@ -5,11 +5,11 @@ use Rattle.grin_meaning.specs.Keeps.{Keeps}
 use Rattle.flow_system.proofs.Starting.{formed_is_started}
 use Rattle.grin_rewrite.proofs.CountedLoops.{whole}
 use Rattle.points_to.specs.Found.{found}
-use Rattle.inlining.specs.Evaluations.{eval_rule}
-use Rattle.inlining.specs.Without.{HasNoEval}
-use Rattle.inlining.proofs.Bounds.{uses_bound}
-use Rattle.inlining.proofs.EvaluationsKeep.{inlining_law}
-use Rattle.inlining.proofs.EvaluationsText.{inlining_formed, none_left}
+use Rattle.inline_theory.specs.Evaluations.{eval_rule}
+use Rattle.inline_theory.specs.Without.{HasNoEval}
+use Rattle.inline_theory.proofs.Bounds.{uses_bound}
+use Rattle.inline_theory.proofs.EvaluationsKeep.{inlining_law}
+use Rattle.inline_theory.proofs.EvaluationsText.{inlining_formed, none_left}
 use Rattle.eval_inline.proofs.inline.Goals as goal
 
 pub returns-clause-inlined : goal.returns-clause-inlined

@@ -1,6 +1,6 @@
 use Rattle.std.proofs.Common.{◌≡◌, take}
-use Rattle.inlining.specs.Size.{cells_size}
-use Rattle.inlining.specs.Expanded.{saturated_at_64_bits}
+use Rattle.inline_theory.specs.Size.{cells_size}
+use Rattle.inline_theory.specs.Expanded.{saturated_at_64_bits}
 use Rattle.apply_inline.proofs.expanded.cells_size.Given as goal
 
 abbrev pub invariant-loop-cell : goal.invariant-loop-cell

@@ -1,5 +1,5 @@
 use Rattle.std.proofs.Common.{ap, ◌∙◌, arith}
-use Rattle.inlining.specs.Expanded.{saturated_at_64_bits, tags_size}
+use Rattle.inline_theory.specs.Expanded.{saturated_at_64_bits, tags_size}
 use Rattle.grin_rewrite.proofs.OpenedLoop.{kept_yes, kept_no, kept_all}
 use Rattle.apply_inline.proofs.Sums.{sizes_more}
 use Rattle.apply_inline.proofs.expanded.tags_size.Goals.{in-Some, in_default}

@@ -1,6 +1,6 @@
 use Rattle.std.proofs.Common.{◌≡◌, map, take}
 use Rattle.std.specs.List.{filter}
-use Rattle.inlining.specs.Expanded.{saturated_at_64_bits, tags_size}
+use Rattle.inline_theory.specs.Expanded.{saturated_at_64_bits, tags_size}
 use Rattle.apply_inline.proofs.expanded.tags_size.Given as goal
 
 abbrev pub invariant-loop-t : goal.invariant-loop-t

@@ -3,7 +3,7 @@ use Rattle.std.proofs.lemmas.List.{length-map}
 use Rattle.grin_syntax.specs.Fresh.{past_procs}
 use Rattle.grin_syntax.specs.Tree.{procedure_of, program_of}
 use Rattle.points_to.specs.Found.{found}
-use Rattle.raising.specs.Decided.{ProcedureDecided, IsDecided}
+use Rattle.raise_theory.specs.Decided.{ProcedureDecided, IsDecided}
 use Rattle.arity_raise.proofs.Chosen.{one_proc_more, plan_done, as_many}
 use Rattle.arity_raise.proofs.decide.plan.Goals as goal
 

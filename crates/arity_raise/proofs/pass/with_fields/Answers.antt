@@ -3,7 +3,7 @@ use Rattle.std.proofs.lemmas.List.{length_push}
 use Rattle.std.proofs.lemmas.Iterator.Adapters.{YieldsList-from_vec}
 use Rattle.std.proofs.lemmas.Iterator.Consumers.{YieldsList-turn, YieldsList-end}
 use Rattle.grin_syntax.specs.Tree.{procedure_of, program_of}
-use Rattle.raising.specs.Raising.{raised_procedure, raised_procs}
+use Rattle.raise_theory.specs.Raising.{raised_procedure, raised_procs}
 use Rattle.arity_raise.proofs.Rewritten.{no_procs, one_more_proc, procs_done}
 use Rattle.arity_raise.proofs.pass.with_fields.Goals as goal
 use Rattle.seq.proofs.Lists.{map_same}

@@ -1,7 +1,7 @@
 use Rattle.std.proofs.Common.{◌≡◌, None, slice_get, ap, rules}
 use Rattle.grin_syntax.specs.Tree.{program_of}
 use Rattle.points_to.specs.Found.{found}
-use Rattle.inlining.specs.Evaluations.{site_of}
+use Rattle.inline_theory.specs.Evaluations.{site_of}
 use Rattle.eval_inline.proofs.Sites.{of_global, no_cells}
 use Rattle.eval_inline.proofs.met.tags_at_global.Goals as goal
 

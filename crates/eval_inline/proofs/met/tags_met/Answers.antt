@@ -1,7 +1,7 @@
 use Rattle.std.proofs.Common.{ap}
 use Rattle.grin_syntax.specs.Tree.{program_of}
 use Rattle.points_to.specs.Found.{found}
-use Rattle.inlining.specs.Evaluations.{sites_of, tags_of}
+use Rattle.inline_theory.specs.Evaluations.{sites_of, tags_of}
 use Rattle.std.proofs.Common.{◌∙◌}
 use Rattle.eval_inline.proofs.Sites.{of_variable, no_cells}
 use Rattle.eval_inline.proofs.met.tags_met.Goals as goal

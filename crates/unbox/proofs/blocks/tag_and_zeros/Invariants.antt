@@ -1,7 +1,7 @@
 use Rattle.std.proofs.Common.{◌≡◌, ◌∷◌}
 use Rattle.grin_syntax.specs.declared.program.Word.TheVariants.{TagWord}
 use Rattle.grin_syntax.specs.Tags.{tag_id}
-use Rattle.unboxing.specs.Unboxing.{zeros}
+use Rattle.unbox_theory.specs.Unboxing.{zeros}
 use Rattle.unbox.proofs.blocks.tag_and_zeros.Given as goal
 
 abbrev pub invariant-loop : goal.invariant-loop

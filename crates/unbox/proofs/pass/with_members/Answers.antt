@@ -1,7 +1,7 @@
 use Rattle.std.proofs.Common.{rules, sym, ◌∙◌}
 use Rattle.std.proofs.lemmas.Iterator.Adapters.{YieldsList-from_vec}
 use Rattle.std.proofs.lemmas.Iterator.Consumers.{YieldsList-end}
-use Rattle.unboxing.specs.Ends.{is_member}
+use Rattle.unbox_theory.specs.Ends.{is_member}
 use Rattle.unbox.proofs.Numbered.{no_procs, procs_next, program_made}
 use Rattle.unbox.proofs.pass.with_members.Goals as goal
 use Rattle.seq.proofs.Lists.{map_same}

@@ -1,4 +1,4 @@
-use Rattle.unboxing.specs.Ends.{is_member}
+use Rattle.unbox_theory.specs.Ends.{is_member}
 use Rattle.unbox.proofs.Numbered.{ProcsMade}
 use Rattle.unbox.proofs.pass.with_members.Given as goal
 

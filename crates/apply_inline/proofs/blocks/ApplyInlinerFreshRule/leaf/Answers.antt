@@ -2,7 +2,7 @@ use Rattle.grin_rewrite.proofs.CountedLoops.{stays_in_place, takes_no_room}
 use Rattle.std.proofs.Common.{◌+◌, map, sym, ap, ◌∙◌}
 use Rattle.grin_syntax.specs.Tree.{case, program_of}
 use Rattle.grin_syntax.proofs.TreeOf.{act_of-Case}
-use Rattle.inlining.specs.Applications.{apply_arms, others_of, else_fail, parts_room, apply_rule}
+use Rattle.inline_theory.specs.Applications.{apply_arms, others_of, else_fail, parts_room, apply_rule}
 use Rattle.points_to.specs.Found.{found}
 use Rattle.apply_inline.proofs.Filtered.{parts_filtered}
 use Rattle.apply_inline.proofs.Loops.{untouched, applied, application_room}

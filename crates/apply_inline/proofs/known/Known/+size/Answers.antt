@@ -1,7 +1,7 @@
 use Rattle.std.proofs.Common.{ap, ◌∙◌, ◌≤◌, rules, length, take, subst}
 use Rattle.grin_syntax.specs.Tree.{program_of}
 use Rattle.points_to.specs.Found.{found}
-use Rattle.inlining.specs.Expanded.{saturated_at_64_bits}
+use Rattle.inline_theory.specs.Expanded.{saturated_at_64_bits}
 use Rattle.apply_inline.proofs.Sums.{StmtsSize, apply_sized, stmt_more, block_sized, alt_more, alts_sized}
 use Rattle.apply_inline.proofs.known.Known.+size.Goals as goal
 

@@ -1,5 +1,5 @@
 use Rattle.std.proofs.Common.{ap, arith}
-use Rattle.inlining.specs.Expanded.{eval_body_size, tags_size}
+use Rattle.inline_theory.specs.Expanded.{eval_body_size, tags_size}
 use Rattle.apply_inline.proofs.known.Known.evaluation_size.Goals as goal
 
 pub returns : goal.returns

@@ -1,7 +1,7 @@
 use Rattle.std.proofs.Common.{map, sym, ap, ◌∙◌}
 use Rattle.grin_syntax.specs.Tree.{program_of}
 use Rattle.points_to.specs.Found.{found}
-use Rattle.inlining.specs.Expanded.{saturated_at_64_bits, applied_size, tags_size}
+use Rattle.inline_theory.specs.Expanded.{saturated_at_64_bits, applied_size, tags_size}
 use Rattle.apply_inline.proofs.Filtered.{parts_filtered}
 use Rattle.apply_inline.proofs.known.Known.parts_size.Goals as goal
 

@@ -1,7 +1,7 @@
 use Rattle.std.proofs.Common.{arith}
 use Rattle.grin_syntax.specs.Tree.{procedure_of, program_of}
 use Rattle.points_to.specs.Found.{found}
-use Rattle.inlining.specs.Expanded.{expanded_procedure}
+use Rattle.inline_theory.specs.Expanded.{expanded_procedure}
 use Rattle.apply_inline.proofs.Sums.{total_next, total_done}
 use Rattle.apply_inline.proofs.known.Known.procs_size.Goals as goal
 

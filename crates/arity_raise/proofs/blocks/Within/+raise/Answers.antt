@@ -3,7 +3,7 @@ use Rattle.std.proofs.lemmas.Iterator.Adapters.{YieldsList-from_vec}
 use Rattle.std.proofs.lemmas.Iterator.Consumers.{YieldsList-end}
 use Rattle.grin_syntax.specs.declared.program.Op.TheVariants.{Case}
 use Rattle.grin_syntax.specs.Tree.{act_of, before_of, all_before}
-use Rattle.raising.specs.Raising.{decided, new_before, new_act, new_code, raised_act, raised_code}
+use Rattle.raise_theory.specs.Raising.{decided, new_before, new_act, new_code, raised_act, raised_code}
 use Rattle.arity_raise.proofs.Rewritten.{AllRaise, one_more, one_more_alt, store_raised, store_takes, bind_raised, bind_takes, case_done, case_room}
 use Rattle.arity_raise.proofs.blocks.Within.+raise.Goals as goal
 use Rattle.seq.proofs.Lists.{map_same}

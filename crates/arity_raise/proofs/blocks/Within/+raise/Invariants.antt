@@ -1,5 +1,5 @@
 use Rattle.std.proofs.Common.{◌≡◌}
-use Rattle.raising.specs.Raising.{decided}
+use Rattle.raise_theory.specs.Raising.{decided}
 use Rattle.arity_raise.proofs.Rewritten.{Raises, AllRaise}
 use Rattle.arity_raise.proofs.blocks.Within.+raise.Given as goal
 

@@ -2,7 +2,7 @@ use Rattle.std.proofs.Common.{map, sym, ◌∙◌}
 use Rattle.std.proofs.lemmas.Bool.{false≢true}
 use Rattle.grin_syntax.specs.Tree.{program_of}
 use Rattle.points_to.specs.Found.{found}
-use Rattle.raising.specs.Raisable.{NeverUpdated}
+use Rattle.raise_theory.specs.Raisable.{NeverUpdated}
 use Rattle.arity_raise.proofs.Each.{each_of_none, in_place, one_more_holds, all_hold}
 use Rattle.arity_raise.proofs.Judged.{yes, no, changed, never_changed}
 use Rattle.arity_raise.proofs.cells.ProgramFacts.is_unchanged.Goals as goal

@@ -1,7 +1,7 @@
 use Rattle.std.proofs.Common.{map, take}
 use Rattle.grin_syntax.specs.Tree.{program_of}
 use Rattle.points_to.specs.Found.{found}
-use Rattle.raising.specs.Raisable.{NeverUpdated}
+use Rattle.raise_theory.specs.Raisable.{NeverUpdated}
 use Rattle.arity_raise.proofs.Each.{Each}
 use Rattle.arity_raise.proofs.cells.ProgramFacts.is_unchanged.Given as goal
 

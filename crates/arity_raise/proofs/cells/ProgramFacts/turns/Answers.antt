@@ -1,7 +1,7 @@
 use Rattle.std.proofs.Common.{length, subst}
 use Rattle.grin_syntax.specs.Tree.{procedure_of, program_of}
 use Rattle.points_to.specs.Found.{found}
-use Rattle.raising.specs.Decided.{Decided}
+use Rattle.raise_theory.specs.Decided.{Decided}
 use Rattle.arity_raise.proofs.Chosen.{one_turn_more, turns_done}
 use Rattle.arity_raise.proofs.cells.ProgramFacts.turns.Goals as goal
 

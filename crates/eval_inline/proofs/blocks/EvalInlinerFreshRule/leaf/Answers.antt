@@ -3,7 +3,7 @@ use Rattle.std.proofs.Common.{◌+◌, sym, ap, ◌∙◌}
 use Rattle.grin_syntax.specs.declared.program.Val.TheVariants.{NodeVar}
 use Rattle.grin_syntax.specs.Tree.{case, program_of}
 use Rattle.grin_syntax.proofs.TreeOf.{act_of-Case}
-use Rattle.inlining.specs.Evaluations.{eval_arms, arms_room, eval_rule}
+use Rattle.inline_theory.specs.Evaluations.{eval_arms, arms_room, eval_rule}
 use Rattle.points_to.specs.Found.{found}
 use Rattle.eval_inline.proofs.Statements.{untouched, evaluated, evaluation_room}
 use Rattle.eval_inline.proofs.blocks.EvalInlinerFreshRule.leaf.Goals as goal

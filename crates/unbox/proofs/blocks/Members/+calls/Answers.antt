@@ -1,6 +1,6 @@
 use Rattle.std.proofs.Common.{rules, ◌≡◌, sym, ◌∙◌}
 use Rattle.grin_syntax.specs.Tree.{act_of}
-use Rattle.unboxing.specs.Ends.{is_member, act_calls}
+use Rattle.unbox_theory.specs.Ends.{is_member, act_calls}
 use Rattle.unbox.proofs.Loops.{block_calls_last}
 use Rattle.unbox.proofs.SoFar.{calls_next, calls_done}
 use Rattle.unbox.proofs.blocks.Members.+calls.Goals as goal

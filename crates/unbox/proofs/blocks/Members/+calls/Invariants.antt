@@ -1,5 +1,5 @@
 use Rattle.std.proofs.Common.{false, take}
-use Rattle.unboxing.specs.Ends.{is_member}
+use Rattle.unbox_theory.specs.Ends.{is_member}
 use Rattle.unbox.proofs.SoFar.{CallsFound}
 use Rattle.unbox.proofs.blocks.Members.+calls.Given as goal
 

@@ -1,4 +1,4 @@
-use Rattle.unboxing.specs.Ends.{is_member}
+use Rattle.unbox_theory.specs.Ends.{is_member}
 use Rattle.unbox.proofs.Loops.{one_more_becomes}
 use Rattle.unbox.proofs.Boxing.{puts_cells, puts_bound}
 use Rattle.unbox.proofs.blocks.Members.+unbox.Goals as goal

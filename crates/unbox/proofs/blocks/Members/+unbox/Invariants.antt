@@ -1,7 +1,7 @@
 use Rattle.std.proofs.Common.{◌≡◌, map}
 use Rattle.grin_syntax.specs.Tree.{arm_of}
-use Rattle.unboxing.specs.Ends.{is_member}
-use Rattle.unboxing.specs.Unboxing.{unbox_arm}
+use Rattle.unbox_theory.specs.Ends.{is_member}
+use Rattle.unbox_theory.specs.Unboxing.{unbox_arm}
 use Rattle.unbox.proofs.Loops.{Become}
 use Rattle.unbox.proofs.blocks.Members.+unbox.Given as goal
 

@@ -1,4 +1,4 @@
-use Rattle.unboxing.specs.Ends.{is_member}
+use Rattle.unbox_theory.specs.Ends.{is_member}
 use Rattle.unbox.proofs.Sweeping.{all_in_next, all_in_done}
 use Rattle.unbox.proofs.blocks.Members.has_all.Goals as goal
 

@@ -1,5 +1,5 @@
 use Rattle.std.proofs.Common.{◌≡◌, take}
-use Rattle.unboxing.specs.Ends.{is_member}
+use Rattle.unbox_theory.specs.Ends.{is_member}
 use Rattle.unbox.specs.Ties.{all_in}
 use Rattle.unbox.proofs.blocks.Members.has_all.Given as goal
 

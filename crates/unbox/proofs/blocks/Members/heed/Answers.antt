@@ -1,5 +1,5 @@
 use Rattle.std.proofs.Common.{◌∙◌}
-use Rattle.unboxing.specs.Ends.{is_member}
+use Rattle.unbox_theory.specs.Ends.{is_member}
 use Rattle.unbox.proofs.Rounding.{tie_kept}
 use Rattle.unbox.proofs.Sweeping.{is_kept, taken_out}
 use Rattle.unbox.proofs.blocks.Members.heed.Goals as goal

@@ -1,6 +1,0 @@
-use Rattle.command_line.specs.Commands.{command_of}
-use Rattle.driver_rows.proofs.Permits.{any_command}
-use Rattle.driver_rows.proofs.outside.status_of.Goals as goal
-
-pub grinc_main-requires : goal.grinc_main-requires
-grinc_main-requires c = record { permitted = any_command (command_of c.args.line.now) }

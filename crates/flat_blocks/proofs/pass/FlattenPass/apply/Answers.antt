@@ -1,8 +1,0 @@
-use Rattle.flat_blocks.proofs.Contract.{is_flattened, is_kept}
-use Rattle.flat_blocks.proofs.pass.FlattenPass.apply.Goals as goal
-
-pub returns-clause-shape : goal.returns-clause-shape
-returns-clause-shape c = is_flattened _ _ c.in_ok-h.ensures c.requires
-
-pub returns-clause-meaning : goal.returns-clause-meaning
-returns-clause-meaning c = is_kept _ _ c.in_ok-h.ensures c.requires

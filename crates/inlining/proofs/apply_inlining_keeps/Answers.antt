@@ -1,5 +1,0 @@
-use Rattle.inlining.proofs.InlinedTogether.{apply_inlining_law}
-use Rattle.inlining.proofs.apply_inlining_keeps.Goals as goal
-
-pub returns : goal.returns
-returns c = apply_inlining_law

@@ -1,7 +1,0 @@
-use Rattle.std.proofs.Common.{◌≡◌, map, take}
-use Rattle.known_words.specs.Needed.{without}
-use Rattle.known_words.proofs.needed.without.Given as goal
-
-abbrev pub invariant-tags : goal.invariant-tags
-invariant-tags l = map (λ t. t.0) l.made ≡ without l.tag.0
-    (map (λ t. t.0) (take l.other-index l.tags))

@@ -1,8 +1,0 @@
--- The solution that the code reads.
-use Rattle.std.specs.Prelude.{option_copied}
-use Rattle.flow_system.specs.Solution.{Solution}
-use Rattle.known_words.specs.declared.told.Told.{Told}
-use Rattle.known_words.specs.Told.{solution_or_empty}
-
-abbrev pub known_solution : Told → Solution
-known_solution t = solution_or_empty (option_copied t.flow)

@@ -1,6 +1,0 @@
-use Rattle.std.proofs.Common.{◌≡◌, ◌++◌}
-use Rattle.layout_rows.specs.Alternatives.{alternatives}
-use Rattle.layout_rows.proofs.alternatives.put_alternatives.Given as goal
-
-abbrev pub invariant-loop-k : goal.invariant-loop-k
-invariant-loop-k l = l.items ≡ l.initial.items ++ alternatives l.count l.k

@@ -1,7 +1,0 @@
-use Rattle.std.proofs.Common.{◌≡◌, take}
-use Rattle.narrow_vectors.specs.Picked.{picked}
-use Rattle.narrow_vectors.proofs.picked.picked_words.Given as goal
-
-abbrev pub invariant-items : goal.invariant-items
-invariant-items l = record
-    { at : l.at ≡ l.item-index; some : l.made ≡ picked l.stays (take l.item-index l.items) }

@@ -1,6 +1,0 @@
-use Rattle.std.proofs.Common.{◌≡◌, drop, take}
-use Rattle.narrow_vectors.specs.Picked.{stay}
-use Rattle.narrow_vectors.proofs.picked.stay.Given as goal
-
-abbrev pub invariant-xs : goal.invariant-xs
-invariant-xs l = l.made ≡ stay (drop l.from l.uses) (take l.x-index l.xs)

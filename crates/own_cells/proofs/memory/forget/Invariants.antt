@@ -1,6 +1,0 @@
-use Rattle.std.proofs.Common.{take}
-use Rattle.own_cells.proofs.Listed.{ForgetSoFar}
-use Rattle.own_cells.proofs.memory.forget.Given as goal
-
-abbrev pub invariant-loop-word : goal.invariant-loop-word
-invariant-loop-word l = ForgetSoFar l.initial.entries l.entries (take l.word-index l.words)

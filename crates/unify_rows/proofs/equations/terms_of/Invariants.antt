@@ -1,5 +1,0 @@
-use Rattle.unification.specs.Terms.{AreEarlier}
-use Rattle.unify_rows.proofs.equations.terms_of.Given as goal
-
-abbrev pub invariant-loop-i : goal.invariant-loop-i
-invariant-loop-i l = AreEarlier l.terms.items
