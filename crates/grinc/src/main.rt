@@ -2,10 +2,10 @@
 #![tactic(auto)]
 
 use grin_driver::{Line, Status, grinc_main};
-use grin_io::{FileShelf, StdIn, std_err, std_out};
 use std::env;
 use std::io::ErrorKind;
 use std::process::ExitCode;
+use system_io::{FileShelf, StdIn, std_err, std_out};
 
 /// The words of the command line. `Usage` where one of them isn't UTF-8, and `OutOfMemory` where
 /// memory is wanting.

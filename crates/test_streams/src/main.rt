@@ -2,8 +2,9 @@
 //! the system's streams, and says on the standard error that all was copied.
 #![tactic(auto)]
 
-use grin_io::{Failed, Sink, Source, StdIn, std_err, std_out};
+use grin_io::{Failed, Sink, Source};
 use std::process::ExitCode;
+use system_io::{StdIn, std_err, std_out};
 
 /// Copies what a source gives in at most a thousand readings.
 fn copy(input: &mut impl Source, out: &mut impl Sink) -> Result<(), Failed> {

@@ -1,7 +1,10 @@
+//! The files and streams of the system as shelves, sources and sinks.
+#![tactic(auto)]
+
 ghost use Rattle.std.specs.Prelude.{◌≡◌, ℕ, ◌≤◌, ◌<◌, false, true, None, IfOk, OnErr, length};
 ghost use Rattle.grin_io.specs.Causes.{FaultsAreCounted, CountGrew};
 
-use crate::outside::{Failed, Shelf, Sink, Source};
+use grin_io::{Failed, Shelf, Sink, Source};
 use std::fs::File;
 use std::io::{Read, Write};
 use std::rt::{Stderr, Stdin, Stdout};
@@ -16,11 +19,7 @@ fn fault(faults: &mut u64) -> Failed
 }
 
 /// Reads once; an error is a fault.
-pub(crate) fn read_once<R: Read>(
-    reader: &mut R,
-    faults: &mut u64,
-    buf: &mut [u8],
-) -> Result<usize, Failed>
+fn read_once<R: Read>(reader: &mut R, faults: &mut u64, buf: &mut [u8]) -> Result<usize, Failed>
     ensures within { IfOk result (λ k. k ≤ length buf.old) }
     ensures cause { FaultsAreCounted faults.old faults.new result }
 {
@@ -42,11 +41,7 @@ fn write_once<W: Write>(writer: &mut W, faults: &mut u64, piece: &[u8]) -> Resul
 }
 
 /// Writes a whole piece.
-pub(crate) fn write_whole<W: Write>(
-    writer: &mut W,
-    faults: &mut u64,
-    piece: &[u8],
-) -> Result<(), Failed>
+fn write_whole<W: Write>(writer: &mut W, faults: &mut u64, piece: &[u8]) -> Result<(), Failed>
     ensures { FaultsAreCounted faults.old faults.new result }
 {
     let mut done = 0;

@@ -1,5 +1,5 @@
 use Rattle.std.proofs.Common.{length, ◌-◌, ◌≤◌}
-use Rattle.grin_io.proofs.system.write_whole.Given as goal
+use Rattle.system_io.proofs.write_whole.Given as goal
 
 abbrev pub invariant-loop-done : goal.invariant-loop-done
 invariant-loop-done g l = (l.fn.faults ≤ l.faults) × (l.done ≤ length l.piece)
