@@ -34,54 +34,81 @@ module _ {F I K : Type 0} (f : ShelfChange F) (i : SourceChange I) (o : SinkChan
     unread _ h = absurd h
 
     -- what is given for the bytes of a file is given for the file
-    of_bytes : (most : ℕ) (untouched : Type 0) (file : List ℕ) (outcome : List ℕ → Status → Type 0) (status : Status) (Answer : List ℕ → Type 0)
+    of_bytes : (most : ℕ) (untouched : Type 0) (file : List ℕ) (outcome : List ℕ → Status → Type 0)
+        (status : Status) (Answer : List ℕ → Type 0)
         → ((bytes : List ℕ) → outcome bytes status → (status ≡ OutOfMemory) ⊎ Answer bytes)
-        → HoldsOfOperandFile f most untouched file outcome status → OutOfMemoryOr f most file status Answer
+        → HoldsOfOperandFile f most untouched file outcome status
+        → OutOfMemoryOr f most file status Answer
     of_bytes most untouched file outcome status Answer gives (inl h) = inl (unread status h.0)
-    of_bytes most untouched file outcome status Answer gives (inr (bytes, taken, h)) = of_answer (gives bytes h) where
-      of_answer : (status ≡ OutOfMemory) ⊎ Answer bytes → OutOfMemoryOr f most file status Answer
-      of_answer (inl memory) = inl memory
-      of_answer (inr answer) = inr (bytes, taken, answer)
+    of_bytes most untouched file outcome status Answer gives (inr (bytes, taken, h))
+        = of_answer (gives bytes h) where
+          of_answer : (status ≡ OutOfMemory) ⊎ Answer bytes → OutOfMemoryOr f most file status Answer
+          of_answer (inl memory) = inl memory
+          of_answer (inr answer) = inr (bytes, taken, answer)
 
     -- the same of several files
-    of_texts : (most : ℕ) (untouched : Type 0) (files : List (List ℕ)) (outcome : List (List ℕ) → Status → Type 0) (status : Status) (Answer : List (List ℕ) → Type 0)
+    of_texts : (most : ℕ) (untouched : Type 0) (files : List (List ℕ))
+        (outcome : List (List ℕ) → Status → Type 0) (status : Status)
+        (Answer : List (List ℕ) → Type 0)
         → ((texts : List (List ℕ)) → outcome texts status → (status ≡ OutOfMemory) ⊎ Answer texts)
-        → HoldsOfOperandFiles f most untouched files outcome status → (status ≡ OutOfMemory) ⊎ HoldsOfFileTexts f most files Answer
+        → HoldsOfOperandFiles f most untouched files outcome status → (status ≡ OutOfMemory)
+        ⊎ HoldsOfFileTexts f most files Answer
     of_texts most untouched files outcome status Answer gives (inl h) = inl (unread status h.0)
-    of_texts most untouched files outcome status Answer gives (inr (texts, taken, h)) = of_answer (gives texts h) where
-      of_answer : (status ≡ OutOfMemory) ⊎ Answer texts → (status ≡ OutOfMemory) ⊎ HoldsOfFileTexts f most files Answer
-      of_answer (inl memory) = inl memory
-      of_answer (inr answer) = inr (texts, taken, answer)
+    of_texts most untouched files outcome status Answer gives (inr (texts, taken, h))
+        = of_answer (gives texts h) where
+          of_answer : (status ≡ OutOfMemory) ⊎ Answer texts → (status ≡ OutOfMemory)
+              ⊎ HoldsOfFileTexts f most files Answer
+          of_answer (inl memory) = inl memory
+          of_answer (inr answer) = inr (texts, taken, answer)
 
-    pub command_gives : OneAcceptedProgram → (command : Option CommandLine) (status : Status) → Answers f i o command status → Gives f command status
+    pub command_gives : OneAcceptedProgram → (command : Option CommandLine) (status : Status)
+        → Answers f i o command status → Gives f command status
     command_gives one None status h = h.0
     command_gives one (Some (RunFile file cells stack steps stats)) status h =
-        of_bytes text_read_limit (IsUntouched i o) file (λ text status. Outcome i o text cells stack steps status) status _ (λ text. run_gives i o n.input n.out one text cells stack steps status) h
+        of_bytes text_read_limit (IsUntouched i o) file
+        (λ text status. Outcome i o text cells stack steps status) status _
+        (λ text. run_gives i o n.input n.out one text cells stack steps status) h
     command_gives one (Some (CheckFile file)) status h =
-        of_bytes text_read_limit (o.new ≡ o.old) file (λ text status. IsCheckOutcome o text status) status _ (λ text. check_gives o n.out text status) h.0
+        of_bytes text_read_limit (o.new ≡ o.old) file (λ text status. IsCheckOutcome o text status)
+        status _ (λ text. check_gives o n.out text status) h.0
     command_gives one (Some (ListFile file after)) status h =
-        of_bytes text_read_limit (o.new ≡ o.old) file (λ text status. IsListAfterOutcome o text after status) status _ (λ text. list_gives o n.out text one after status) h.0
+        of_bytes text_read_limit (o.new ≡ o.old) file
+        (λ text status. IsListAfterOutcome o text after status) status _
+        (λ text. list_gives o n.out text one after status) h.0
     command_gives one (Some (BuildFile file cells stack)) status h =
-        of_bytes text_read_limit (o.new ≡ o.old) file (λ text status. IsBuildOutcome o text cells stack status) status _ (λ text. build_gives o n.out text one cells stack status) h.0
+        of_bytes text_read_limit (o.new ≡ o.old) file
+        (λ text status. IsBuildOutcome o text cells stack status) status _
+        (λ text. build_gives o n.out text one cells stack status) h.0
     command_gives one (Some (ExecImage image steps stats)) status h =
-        of_bytes image_read_limit (IsUntouched i o) image (λ bytes status. Execution i o bytes steps status) status _ (λ bytes. exec_gives i o n.input n.out bytes steps status) h
-    command_gives one (Some (GenRun seed size)) status h = generation_gives o n.out (generated seed size) one status h.0
+        of_bytes image_read_limit (IsUntouched i o) image
+        (λ bytes status. Execution i o bytes steps status) status _
+        (λ bytes. exec_gives i o n.input n.out bytes steps status) h
+    command_gives one (Some (GenRun seed size)) status h
+        = generation_gives o n.out (generated seed size) one status h.0
     command_gives one (Some (LinkFiles files)) status h =
-        of_texts text_read_limit (o.new ≡ o.old) files (λ texts status. IsLinkOutcome o texts status) status _ (λ texts. link_gives o n.out texts status) h.0
+        of_texts text_read_limit (o.new ≡ o.old) files
+        (λ texts status. IsLinkOutcome o texts status) status _
+        (λ texts. link_gives o n.out texts status) h.0
     command_gives one (Some (LiftFile file)) status h =
-        of_bytes text_read_limit (o.new ≡ o.old) file (λ text status. IsLiftOutcome o text status) status _ (λ text. lift_gives o n.out text status) h.0
+        of_bytes text_read_limit (o.new ≡ o.old) file (λ text status. IsLiftOutcome o text status)
+        status _ (λ text. lift_gives o n.out text status) h.0
     command_gives one (Some (MatchFile file)) status h =
-        of_bytes text_read_limit (o.new ≡ o.old) file (λ text status. IsMatchOutcome o text status) status _ (λ text. match_gives o n.out text status) h.0
+        of_bytes text_read_limit (o.new ≡ o.old) file (λ text status. IsMatchOutcome o text status)
+        status _ (λ text. match_gives o n.out text status) h.0
     command_gives one (Some (TypesFile file)) status h =
-        of_bytes text_read_limit (o.new ≡ o.old) file (λ text status. Types o text status) status _ (λ text. types_gives o n.out text status) h.0
+        of_bytes text_read_limit (o.new ≡ o.old) file (λ text status. Types o text status) status _
+        (λ text. types_gives o n.out text status) h.0
     command_gives one (Some (SidesFile file)) status h =
-        of_bytes text_read_limit (o.new ≡ o.old) file (λ text status. Sides o text status) status _ (λ text. sides_gives o n.out text status) h.0
+        of_bytes text_read_limit (o.new ≡ o.old) file (λ text status. Sides o text status) status _
+        (λ text. sides_gives o n.out text status) h.0
     command_gives one (Some (PointsFile file)) status h =
-        of_bytes text_read_limit (o.new ≡ o.old) file (λ text status. Points o text status) status _ (λ text. points_gives o n.out text status) h.0
+        of_bytes text_read_limit (o.new ≡ o.old) file (λ text status. Points o text status) status _
+        (λ text. points_gives o n.out text status) h.0
 
   -- ---- want of memory
 
-  pub memory_untouched : (command : Option CommandLine) → Answers f i o command OutOfMemory → o.new ≡ o.old
+  pub memory_untouched : (command : Option CommandLine) → Answers f i o command OutOfMemory
+      → o.new ≡ o.old
   memory_untouched None h = h.3
   memory_untouched (Some (RunFile file cells stack steps stats)) (inl h) = h.1.1
   memory_untouched (Some (RunFile file cells stack steps stats)) (inr h) = h.2.1
@@ -89,7 +116,8 @@ module _ {F I K : Type 0} (f : ShelfChange F) (i : SourceChange I) (o : SinkChan
   memory_untouched (Some (CheckFile file)) (inr h, same) = h.2
   memory_untouched (Some (ListFile file after)) h = listed after h.0
     where
-      listed : (after : Listing) → HoldsOfOperandFile f text_read_limit (o.new ≡ o.old) file (λ text status. IsListAfterOutcome o text after status) OutOfMemory → o.new ≡ o.old
+      listed : (after : Listing) → HoldsOfOperandFile f text_read_limit (o.new ≡ o.old) file
+          (λ text status. IsListAfterOutcome o text after status) OutOfMemory → o.new ≡ o.old
       listed after (inl h) = h.1
       listed listing.Read (inr h) = h.2
       listed (listing.Stage stage) (inr h) = h.2

@@ -1,5 +1,6 @@
 pub mod Outcome
 pub mod TypedRuns
+pub mod WrittenRuns
 pub mod Listing
 pub mod CodeListing
 pub mod After

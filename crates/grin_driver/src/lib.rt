@@ -16,6 +16,8 @@ mod standing;
 
 pub use command::grinc_main;
 pub use command_line::Line;
+pub use cost::{Cost, EndedWithCost};
+pub use grin_compile::Options;
 pub use list::list_text;
 pub use run::run_text;
 pub use text_commands::status::Status;
