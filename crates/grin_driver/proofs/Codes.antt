@@ -14,6 +14,7 @@ use Rattle.text_commands.specs.declared.status.Status.{Status}
 use Rattle.text_commands.specs.Text.{IsAccepted}
 use Rattle.grin_driver.specs.CodeListing.{code_listing, IsCodeOf, IsCodeListing, IsCodeListOutcome}
 use Rattle.grin_driver.specs.Building.{IsBuildOutcome}
+use Rattle.grin_driver.specs.Needs.{needs_text, IsNeedsText, IsNeedsOutcome}
 use Rattle.grin_driver.specs.Kept.{IsBuiltImage}
 use Rattle.grin_driver.specs.Outcome.{IsImageOf, IsRunRefusal}
 use Rattle.text_commands.proofs.Texts.{accepted_short}
@@ -53,10 +54,12 @@ pub is_kept : (text : List ℕ) (cells stack : ℕ) (source : tree.Program) (p :
 unfolding image_of
 is_kept text cells stack source p accepted fits b built = record {
   from = image_of text cells stack source p accepted fits b built;
+  code = built.code;
   some_width = some_words (most_fields built.made.g.tags) b.width built.width;
   width = built.width;
   starts = built.starts;
   names = built.names;
+  frames = built.frames;
 }
   where
     some_words : (fields width : ℕ) → 4 * (1 + fields) * 1 ≡ 4 * width → 1 ≤ width
@@ -75,6 +78,26 @@ one_each text cells stack b kept =
     let made = kept.from.made in
     ap length kept.starts ∙ made.image.code_for.one_each ∙ sym
     (ap length kept.names ∙ length-map made.g.procs (λ q. q.name))
+
+-- and a frame for each name
+pub frame_each : (text : List ℕ) (cells stack : ℕ) (b : Built) → IsBuiltImage text cells stack b
+    → length b.frames.items ≡ length b.names.items
+frame_each text cells stack b kept =
+    let made = kept.from.made in
+    ap length kept.frames ∙ made.image.one_frame_each ∙ sym
+    (ap length kept.names ∙ length-map made.g.procs (λ q. q.name))
+
+-- what is told of such an image is told of the text's
+pub needs_of : (text : List ℕ) (cells stack : ℕ) (b : Built) (bytes : List ℕ)
+    → IsBuiltImage text cells stack b
+    → bytes ≡ needs_text b.names.items b.frames.items b.code.items b.starts.items (4 * b.width)
+    → IsNeedsText text cells stack bytes
+needs_of text cells stack b bytes kept is = record {
+  file = b.image.items;
+  from = kept.from;
+  is_text = is ∙ λ i. needs_text (kept.names i) (kept.frames i) (kept.code i) (kept.starts i)
+      (sym kept.width i);
+}
 
 -- the listing of such words
 pub listing_of : (text : List ℕ) (cells stack : ℕ) (code bytes : List ℕ)
@@ -95,6 +118,14 @@ module _ {K : Type 0} (o : SinkChange K) (front text : List ℕ) (cells stack : 
       → IsCodeListOutcome o text cells stack status
   lists_code_long status h =
       writes_as (λ text. IsCodeListing text cells stack) IsRunRefusal o front text
+      (λ bytes made. accepted_short front made.from.source made.from.program short
+      made.from.accepted)
+      (not_run_long front text short long) status h
+
+  pub tells_long : (status : Status) → IsNeedsOutcome o front cells stack status
+      → IsNeedsOutcome o text cells stack status
+  tells_long status h =
+      writes_as (λ text. IsNeedsText text cells stack) IsRunRefusal o front text
       (λ bytes made. accepted_short front made.from.source made.from.program short
       made.from.accepted)
       (not_run_long front text short long) status h

@@ -1,7 +1,7 @@
 -- What a command line gives where nothing failed, and what it leaves where memory is wanting.
 use Rattle.std.proofs.Common.{◌≡◌, ℕ, List, Option, Some, None, refl}
 use mathlib.Core.Logic.{◌⊎◌, inl, inr}
-use Rattle.command_line.specs.Commands.{CommandLine, RunFile, CheckFile, ListFile, BuildFile, ExecImage, GenRun, LinkFiles, LiftFile, MatchFile, TypesFile, SidesFile, PointsFile}
+use Rattle.command_line.specs.Commands.{CommandLine, RunFile, CheckFile, ListFile, BuildFile, CostsFile, ExecImage, GenRun, LinkFiles, LiftFile, MatchFile, TypesFile, SidesFile, PointsFile}
 use Rattle.command_line.specs.declared.command.Listing.{Listing}
 use Rattle.command_line.specs.declared.command.Listing.TheVariants as listing
 use Rattle.generator.specs.Generated.{generated}
@@ -13,6 +13,7 @@ use Rattle.text_commands.specs.Operands.{HoldsOfOperandFile, HoldsOfOperandFiles
 use Rattle.grin_driver.specs.Answer.{Answers, image_read_limit}
 use Rattle.grin_driver.specs.After.{IsListAfterOutcome}
 use Rattle.grin_driver.specs.Building.{IsBuildOutcome}
+use Rattle.grin_driver.specs.Needs.{IsNeedsOutcome}
 use Rattle.text_commands.specs.Linking.{IsLinkOutcome}
 use Rattle.text_commands.specs.Lifting.{IsLiftOutcome}
 use Rattle.text_commands.specs.Matching.{IsMatchOutcome}
@@ -24,7 +25,7 @@ use Rattle.grin_driver.specs.Outcome.{Outcome}
 use Rattle.text_commands.specs.Text.{OneAcceptedProgram}
 use Rattle.grin_driver.specs.Completeness.{OutOfMemoryOr, NothingFailed, Gives}
 use Rattle.text_commands.proofs.Gives.{check_gives, link_gives, lift_gives, match_gives, types_gives, sides_gives}
-use Rattle.grin_driver.proofs.Complete.{list_gives, points_gives, build_gives, generation_gives, exec_gives, run_gives}
+use Rattle.grin_driver.proofs.Complete.{list_gives, points_gives, build_gives, costs_gives, generation_gives, exec_gives, run_gives}
 
 module _ {F I K : Type 0} (f : ShelfChange F) (i : SourceChange I) (o : SinkChange K) where
   module _ (n : NothingFailed f i o) where
@@ -79,6 +80,10 @@ module _ {F I K : Type 0} (f : ShelfChange F) (i : SourceChange I) (o : SinkChan
         of_bytes text_read_limit (o.new ≡ o.old) file
         (λ text status. IsBuildOutcome o text cells stack status) status _
         (λ text. build_gives o n.out text one cells stack status) h.0
+    command_gives one (Some (CostsFile file cells stack)) status h =
+        of_bytes text_read_limit (o.new ≡ o.old) file
+        (λ text status. IsNeedsOutcome o text cells stack status) status _
+        (λ text. costs_gives o n.out text one cells stack status) h.0
     command_gives one (Some (ExecImage image steps stats)) status h =
         of_bytes image_read_limit (IsUntouched i o) image
         (λ bytes status. Execution i o bytes steps status) status _
@@ -124,6 +129,8 @@ module _ {F I K : Type 0} (f : ShelfChange F) (i : SourceChange I) (o : SinkChan
       listed listing.Code (inr h) = h.2
   memory_untouched (Some (BuildFile file cells stack)) (inl h, same) = h.1
   memory_untouched (Some (BuildFile file cells stack)) (inr h, same) = h.2
+  memory_untouched (Some (CostsFile file cells stack)) (inl h, same) = h.1
+  memory_untouched (Some (CostsFile file cells stack)) (inr h, same) = h.2
   memory_untouched (Some (ExecImage image steps stats)) (inl h) = h.1.1
   memory_untouched (Some (ExecImage image steps stats)) (inr h) = h.2.1
   memory_untouched (Some (GenRun seed size)) h = h.0.1

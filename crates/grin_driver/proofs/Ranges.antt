@@ -7,7 +7,8 @@ use Rattle.std.specs.Str.Parse.{digits_value}
 use Rattle.std.proofs.lemmas.Bool.Decides.{nat_tests}
 use Rattle.command_line.specs.Numbers.{is_number}
 use Rattle.command_line.specs.Parts.{OptionOrOperand, parts_of}
-use Rattle.command_line.specs.Commands.{CommandLine, RunFile, CheckFile, ListFile, BuildFile, ExecImage, GenRun, LinkFiles, LiftFile, MatchFile, TypesFile, SidesFile, PointsFile, Form, Given, option_number, cells_of, stack_of, steps_of, stats_of, run_form, file_form, check_form, list_form, build_form, exec_form, gen_form, lift_form, match_form, types_form, sides_form, points_form, link_form, of_operand, without_operand, asked, command_from, command_of, operands, values, takes_only, only, is_empty, seed_of, size_of}
+use Rattle.command_line.specs.Commands.{CommandLine, RunFile, CheckFile, ListFile, BuildFile, CostsFile, ExecImage, GenRun, LinkFiles, LiftFile, MatchFile, TypesFile, SidesFile, PointsFile, Form, Given, option_number, cells_of, stack_of, steps_of, stats_of, run_form, file_form, check_form, list_form, sized_form, build_form, costs_form, exec_form, gen_form, lift_form, match_form, types_form, sides_form, points_form, link_form, of_operand, without_operand, asked, command_from, command_of, operands, values, takes_only, only, is_empty, seed_of, size_of}
+use Rattle.grin_compile.specs.Limits.{SizesAreInRange}
 use Rattle.grin_driver.specs.Answer.{SizesAreWithinLimits}
 
 -- ---- of what may be none
@@ -90,16 +91,18 @@ lists_within given operands = of_any _ operands
     (λ file. some_map (ListFile file) (λ after. Unit {0}) SizesAreWithinLimits _ (some_any _)
     (λ after n. tt))
 
-builds_within : (given : Given) (operands : List (List ℕ))
-    → IfSome (build_form.asks given operands) SizesAreWithinLimits
-builds_within given operands = of_any _ operands (λ file.
+sized_within : (ask : List ℕ → (cells stack : ℕ) → CommandLine)
+    → ((file : List ℕ) (cells stack : ℕ) → SizesAreInRange cells stack
+    → SizesAreWithinLimits (ask file cells stack)) → (given : Given) (operands : List (List ℕ))
+    → IfSome ((sized_form ask).asks given operands) SizesAreWithinLimits
+sized_within ask within given operands = of_any _ operands (λ file.
     some_and_then _ (Within 1 8000000) SizesAreWithinLimits (cells_of given)
     (number_in_range 1000000 1 8000000 (omega arith) (omega arith) (given (codes "heap")))
     (λ cells c.
-    some_map (BuildFile file cells) (Within 1024 67108864) SizesAreWithinLimits (stack_of given)
+    some_map (ask file cells) (Within 1024 67108864) SizesAreWithinLimits (stack_of given)
     (number_in_range 1048576 1024 67108864 (omega arith) (omega arith) (given (codes "stack")))
-    (λ stack s.
-    record { some_cells = c.0; few_cells = c.1; some_stack = s.0; small_stack = s.1 })))
+    (λ stack s. within file cells stack
+    (record { some_cells = c.0; few_cells = c.1; some_stack = s.0; small_stack = s.1 }))))
 
 execs_within : (given : Given) (operands : List (List ℕ))
     → IfSome (exec_form.asks given operands) SizesAreWithinLimits
@@ -150,7 +153,9 @@ from_within name parts =
     (some_either SizesAreWithinLimits (bytes_eq name (codes "list")) _ _
     (asked_within parts list_form lists_within)
     (some_either SizesAreWithinLimits (bytes_eq name (codes "build")) _ _
-    (asked_within parts build_form builds_within)
+    (asked_within parts build_form (sized_within BuildFile (λ file cells stack r. r)))
+    (some_either SizesAreWithinLimits (bytes_eq name (codes "costs")) _ _
+    (asked_within parts costs_form (sized_within CostsFile (λ file cells stack r. r)))
     (some_either SizesAreWithinLimits (bytes_eq name (codes "exec")) _ _
     (asked_within parts exec_form execs_within)
     (some_either SizesAreWithinLimits (bytes_eq name (codes "gen")) _ _
@@ -164,7 +169,7 @@ from_within name parts =
     (some_either SizesAreWithinLimits (bytes_eq name (codes "sides")) _ _
     (asked_within parts sides_form (files_within SidesFile (λ file. tt)))
     (some_either SizesAreWithinLimits (bytes_eq name (codes "points")) _ None
-    (asked_within parts points_form (files_within PointsFile (λ file. tt))) tt)))))))))))
+    (asked_within parts points_form (files_within PointsFile (λ file. tt))) tt))))))))))))
 
 commands_within : (words : List (List ℕ)) → IfSome (command_of words) SizesAreWithinLimits
 commands_within [] = tt

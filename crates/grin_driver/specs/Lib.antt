@@ -11,5 +11,6 @@ pub mod Execution
 pub mod Answer
 pub mod Standing
 pub mod Kept
+pub mod Needs
 pub mod Costs
 pub mod Completeness

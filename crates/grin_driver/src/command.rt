@@ -8,6 +8,7 @@ ghost use Rattle.lambda_lift.specs.Laws.{LiftingPreservesMeaning};
 ghost use Rattle.match_compile.specs.Laws.{SizeIsBounded, BreaksOnlySize, SimpleStaysOneFunction, TranslationKeepsMeaning};
 ghost use Rattle.grin_compile.specs.Limits.{SizesAreInRange};
 ghost use Rattle.grin_driver.specs.Building.{IsBuildOutcome};
+ghost use Rattle.grin_driver.specs.Needs.{IsNeedsOutcome};
 ghost use Rattle.grin_driver.specs.After.{IsListAfterOutcome};
 ghost use Rattle.grin_driver.specs.Costs.{AnswersAtCost, AnswersAndTells};
 ghost use Rattle.grin_driver.specs.TypedRuns.{TypedNeverExits};
@@ -26,6 +27,7 @@ use crate::laws::{
     typed_never_exits,
 };
 use crate::list::list_after;
+use crate::needs::tell_needs;
 use crate::points::Points;
 use crate::run::run_text;
 use command_line::{Command, Line, Listing};
@@ -123,6 +125,29 @@ fn build_file<F: Shelf, K: Sink>(
     }
 }
 
+/// Puts what the image of the text of a file needs, with so many cells and bytes of stack.
+fn costs_file<F: Shelf, K: Sink>(
+    alloc: Global,
+    file: &str,
+    options: Options,
+    shelf: &mut F,
+    out: &mut K,
+) -> Status
+    requires permitted { F.permitted file.now }
+    requires within { SizesAreInRange options.cells options.stack }
+    ensures answer { HoldsOfOperandFile (shelf_change F.content F.faults shelf.old shelf.new) text_read_limit
+        (out.new ≡ out.old) file.now (λ text status.
+        IsNeedsOutcome (sink_change K.put_gives K.taken K.faults out.old out.new) text options.cells
+        options.stack status) result }
+    ensures later { (F.faults shelf.old ≤ F.faults shelf.new)
+        × (K.faults out.old ≤ K.faults out.new) }
+{
+    match read_file(alloc, shelf, file, MOST_OF_TEXT) {
+        Ok(text) => tell_needs(alloc, text.as_slice(), options, out),
+        Err(status) => status,
+    }
+}
+
 /// Runs the executable of a file on the input for at most so many instructions.
 fn exec_file<F: Shelf, I: Source, K: Sink>(
     alloc: Global,
@@ -199,6 +224,13 @@ fn run_command<F: Shelf, I: Source, K: Sink>(
             };
             EndedWithCost::of(build_file(alloc, file, options, shelf, out))
         }
+        Command::Costs { file, cells, stack } => {
+            let options = Options {
+                cells: *cells,
+                stack: *stack,
+            };
+            EndedWithCost::of(costs_file(alloc, file, options, shelf, out))
+        }
         Command::Gen { seed, size } => EndedWithCost::of(generate(alloc, *seed, *size, out)),
         Command::Link { files } => EndedWithCost::of(link_files(alloc, files, shelf, out)),
         Command::Lift { file } => EndedWithCost::of(write_file(alloc, &Lift, file, shelf, out)),
@@ -236,8 +268,8 @@ fn run_line<F: Shelf, I: Source, K: Sink>(
 /// Runs the command that the words of a line stand for, and puts the line of its status on `err`.
 ///
 /// `run FILE` compiles a text and runs it on the input, `check FILE` puts the line of its program,
-/// `list FILE` lists it, `build FILE` puts its image, and `exec IMAGE` runs an executable on the
-/// input; `gen` runs a generated text and puts its summary, `link FILE..` puts the text that
+/// `list FILE` lists it, `build FILE` puts its image, `costs FILE` what that image needs, and
+/// `exec IMAGE` runs an executable on the input; `gen` runs a generated text and puts its summary, `link FILE..` puts the text that
 /// modules are together, `lift FILE` the text of Core that a text with lambdas and local functions
 /// stands for, `match FILE` that of a text of equations, `types FILE` that of a text with types,
 /// which fit, and `sides FILE` the two sides where they do not; `points FILE` puts what the

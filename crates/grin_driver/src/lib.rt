@@ -10,6 +10,7 @@ mod generate;
 mod image;
 pub mod laws;
 mod list;
+mod needs;
 mod points;
 mod run;
 mod standing;

@@ -50,6 +50,11 @@ returns-in-Build-clause-answer g c =
     rw (c.in-Build.is, c.of-in-Build.ensures.status, c.of-in-Build.ensures.cost)
     ((c.build_file.ensures.answer, refl), refl)
 
+pub returns-in-Costs-clause-answer : goal.returns-in-Costs-clause-answer
+returns-in-Costs-clause-answer g c =
+    rw (c.in-Costs.is, c.of-in-Costs.ensures.status, c.of-in-Costs.ensures.cost)
+    ((c.costs_file.ensures.answer, refl), refl)
+
 pub returns-in-Gen-clause-answer : goal.returns-in-Gen-clause-answer
 returns-in-Gen-clause-answer g c =
     rw (c.in-Gen.is, c.of-in-Gen.ensures.status, c.of-in-Gen.ensures.cost)
