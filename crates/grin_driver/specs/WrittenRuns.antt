@@ -18,7 +18,8 @@ use Rattle.elf32.specs.Image.{Image}
 use Rattle.elf32.specs.Rules.{Loads}
 use Rattle.headline.specs.Carries.{Meaning, Carries, KeepsPace}
 use Rattle.rv32_steps.specs.Seen.{observed_image}
-use Rattle.grin_compile.specs.Limits.{HeapIsExceeded, StackIsExceeded, frame_bound, steps_per_unit, whole_words}
+use Rattle.grin_compile.specs.Limits.{HeapIsExceeded, StackIsExceeded, largest_frame, whole_words}
+use Rattle.grin_compile.specs.Words.{most_steps}
 use Rattle.text_commands.specs.Text.{IsAccepted}
 use Rattle.text_commands.specs.Linking.{IsLinkedText}
 use Rattle.text_commands.specs.Lifting.{IsLiftedText}
@@ -34,9 +35,9 @@ module _ (text : List ℕ) (cells stack : ℕ) (file : List ℕ) (from : IsImage
     ImageDoes told =
         (image : Image) → Loads file image
         → Carries (HeapIsExceeded cells)
-        (StackIsExceeded (frame_bound from.program from.made.solution) (whole_words stack))
+        (StackIsExceeded (largest_frame from.made.frames) (whole_words stack))
         told (observed_image image)
-        × KeepsPace (steps_per_unit from.program from.made.solution) told (observed_image image)
+        × KeepsPace (most_steps from.made.code from.made.addresses) told (observed_image image)
 
 -- each image of a text does so
 abbrev pub ImagesDo : (text : List ℕ) → Meaning → Type 0

@@ -5,7 +5,8 @@ use Rattle.command_line.specs.Commands.{CommandLine, RunFile, CheckFile, ListFil
 use Rattle.grin_driver.specs.Answer.{HoldsOfNamedFiles}
 
 -- it permits every name, so that of every command
-pub any_command : (command : Option CommandLine) → IfSome command (HoldsOfNamedFiles (λ (name : List ℕ). Unit {0}))
+pub any_command : (command : Option CommandLine) → IfSome command
+    (HoldsOfNamedFiles (λ (name : List ℕ). Unit {0}))
 any_command None = tt
 any_command (Some (RunFile file cells stack steps stats)) = tt
 any_command (Some (CheckFile file)) = tt
