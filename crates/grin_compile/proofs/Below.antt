@@ -131,7 +131,8 @@ has_layers g cells stack m items formed lowers small fits selects placed starts 
     few uses = record {
       formed = formed;
       items = items;
-      made = record { lowers = lowers; small = small; fits = fits; selects = selects; placed = placed };
+      made = record
+          { lowers = lowers; small = small; fits = fits; selects = selects; placed = placed };
       some_words = placed.some selects.some_item.0 selects.some_item.1;
       few_words = omega (arith, placed.few, few);
       decode = decode;

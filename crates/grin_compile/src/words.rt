@@ -50,11 +50,7 @@ pub fn start_words(code: &[u32], addresses: &[u32]) -> u32
 }
 
 /// The words of the code of each procedure.
-pub fn code_words(
-    alloc: Global,
-    code: &[u32],
-    addresses: &[u32],
-) -> Result<Vec<u32>, AllocError>
+pub fn code_words(alloc: Global, code: &[u32], addresses: &[u32]) -> Result<Vec<u32>, AllocError>
     requires { length code.now ≤ most_code }
     ensures { IfOk result (λ words. words.items ≡ code_words code.now addresses.now) }
 {

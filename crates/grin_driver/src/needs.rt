@@ -28,12 +28,7 @@ fn put_number(text: &mut ListingText, name: &str, number: usize) -> Result<(), A
 }
 
 /// Puts a line with the bytes of a frame of so many words, and the words of code, at the end.
-fn put_needs(
-    text: &mut ListingText,
-    name: &[u8],
-    frame: u32,
-    code: u32,
-) -> Result<(), AllocError>
+fn put_needs(text: &mut ListingText, name: &[u8], frame: u32, code: u32) -> Result<(), AllocError>
     ensures { OnOk result (text.new ≡ text.old ++ needs_line name.now frame code) }
 {
     text.bytes(name)?;

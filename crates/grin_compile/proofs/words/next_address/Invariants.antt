@@ -5,4 +5,5 @@ use Rattle.grin_compile.proofs.words.next_address.Given as goal
 
 abbrev pub invariant-loop-address : goal.invariant-loop-address
 invariant-loop-address l =
-    next_address (drop l.address-index l.addresses) l.next l.from ≡ next_address l.addresses l.end l.from
+    next_address (drop l.address-index l.addresses) l.next l.from ≡ next_address l.addresses l.end
+    l.from
