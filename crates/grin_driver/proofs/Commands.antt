@@ -42,7 +42,8 @@ module _ {F I K : Type 0} (f : ShelfChange F) (i : SourceChange I) (o : SinkChan
     of_bytes most untouched file outcome status Answer gives (inl h) = inl (unread status h.0)
     of_bytes most untouched file outcome status Answer gives (inr (bytes, taken, h))
         = of_answer (gives bytes h) where
-          of_answer : (status ≡ OutOfMemory) ⊎ Answer bytes → OutOfMemoryOr f most file status Answer
+          of_answer : (status ≡ OutOfMemory) ⊎ Answer bytes
+              → OutOfMemoryOr f most file status Answer
           of_answer (inl memory) = inl memory
           of_answer (inr answer) = inr (bytes, taken, answer)
 
