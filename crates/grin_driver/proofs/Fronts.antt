@@ -50,7 +50,8 @@ module _ {I K : Type 0} (i : SourceChange I) (o : SinkChange K) (n : ℕ) (input
     gave_used given Holds parts holds =
         let count : length input ≡ length given + length (run n input s).left
         = ap length parts ∙ length-append given (run n input s).left in
-        let used_is : length input - length (run n input s).left ≡ length given = omega (arith, count)
+        let used_is : length input - length (run n input s).left ≡ length given
+        = omega (arith, count)
         in
         subst Holds used_is holds
 
@@ -71,6 +72,7 @@ module _ {I K : Type 0} (i : SourceChange I) (o : SinkChange K) (n : ℕ) (input
           begins_on (concat broke.front ++ take part.0 broke.piece) (run n input s).out out
               (subst (λ l. IsPrefixOf (concat broke.front ++ take part.0 broke.piece) l)
               (pieces_are_the_output n input s)
-              (part_begins broke.front broke.piece broke.rest (pieces n input s) part.0 broke.due_is))
+              (part_begins broke.front broke.piece broke.rest (pieces n input s) part.0
+              broke.due_is))
               begins,
         )

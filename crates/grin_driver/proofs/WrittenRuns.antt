@@ -43,8 +43,10 @@ module _ (text : List ℕ) (cells stack : ℕ) (file : List ℕ) (from : IsImage
   where
     -- an image does what the program of its text does
     does : ImageDoes text cells stack file from (core_program_meaning from.program)
-    does image loads =
-        (carried text cells stack file from image loads, paced text cells stack file from image loads)
+    does image loads = (
+      carried text cells stack file from image loads,
+      paced text cells stack file from image loads,
+    )
 
     -- and what puts out the same
     does_same : (a : List ℕ → ℕ → core.PrintedRun) →
@@ -69,7 +71,8 @@ module _ (text : List ℕ) (cells stack : ℕ) (file : List ℕ) (from : IsImage
       -- and puts out the same
       printed_alike : (p : Program) → IsNormalForm c p → (i : List ℕ) (n : ℕ)
           → printed p i n ≡ printed from.program i n
-      printed_alike p normal i n = (kept from.accepted.unbroken).1 from.program p from.accepted.normal
+      printed_alike p normal i n = (kept from.accepted.unbroken).1 from.program p
+          from.accepted.normal
           normal i n
 
       does_program : (p : Program) → IsNormalForm c p

@@ -6,6 +6,8 @@ mod build_rows;
 #[cfg(test)]
 mod check_rows;
 #[cfg(test)]
+mod costs_rows;
+#[cfg(test)]
 mod example_rows;
 #[cfg(test)]
 mod exec_rows;

@@ -91,7 +91,8 @@ module _ (p q : Program) (together : SameProgram p q) (own : IsReadable p) (othe
     bound_fits : (s t : Scope) (x y : ℕ) → AllZip Entry s t → IsNamed p.names x → Texts x y
         → AllZip Entry (binds p x x s) (binds q y y t)
     bound_fits s t x y h is text =
-        by (is_named p (codes "_") x) (is_named q (codes "_") y) (same_named p q x y (codes "_") text)
+        by (is_named p (codes "_") x) (is_named q (codes "_") y)
+        (same_named p q x y (codes "_") text)
       where
         by : (b b' : Bool) → b ≡ b' → AllZip Entry (if b then s else (x, x) ∷ s)
             (if b' then t else (y, y) ∷ t)
@@ -156,11 +157,14 @@ module _ (p q : Program) (together : SameProgram p q) (own : IsReadable p) (othe
           primitive (Primitive o) m' h e =
               absurd (subst (λ m. unless_primitive m (found_in q t k) ≡ Unbound → ⊥) h (λ e. cc) e)
           primitive (Local x) m' h e =
-              found_none s t z (subst (λ m. unless_primitive m (found_in q t k) ≡ Unbound) (sym h) e)
+              found_none s t z
+              (subst (λ m. unless_primitive m (found_in q t k) ≡ Unbound) (sym h) e)
           primitive (Function f x) m' h e =
-              found_none s t z (subst (λ m. unless_primitive m (found_in q t k) ≡ Unbound) (sym h) e)
+              found_none s t z
+              (subst (λ m. unless_primitive m (found_in q t k) ≡ Unbound) (sym h) e)
           primitive Unbound m' h e =
-              found_none s t z (subst (λ m. unless_primitive m (found_in q t k) ≡ Unbound) (sym h) e)
+              found_none s t z
+              (subst (λ m. unless_primitive m (found_in q t k) ≡ Unbound) (sym h) e)
 
           by : (x y : Bool) → x ≡ y → (m m' : Meaning) → m ≡ m'
               → (if y then Unbound else unless_primitive m' (found_in q t k)) ≡ Unbound
@@ -181,7 +185,8 @@ module _ (p q : Program) (together : SameProgram p q) (own : IsReadable p) (othe
 
     from : (t : Scope) (there : FunctionPart) → InFunction q t there → From there t
     from t there h =
-        let f = beside_back RFunction p.functions q.functions go.functions h.number h.function h.is in
+        let f = beside_back RFunction p.functions q.functions go.functions h.number h.function h.is
+        in
         let b : HasLike p q NoScope OfBinder OfCon OfUse Fits (within p f.0.params []) f.0.body t
         there =
         has_back p q NoScope OfBinder OfCon OfUse Fits enters h.has tt (within p f.0.params [])
@@ -203,7 +208,8 @@ module _ (p q : Program) (together : SameProgram p q) (own : IsReadable p) (othe
         (w.0.params, ParametersOf i w.1, w.2.1)
     list_back xs (OfGroup {t = t} {group = others} h) =
         let w = from t (AGroup others) h in
-        let a = group_before p q NoScope OfBinder OfCon OfUse Fits w.context w.piece others w.like in
+        let a = group_before p q NoScope OfBinder OfCon OfUse Fits w.context w.piece others w.like
+        in
         let like = group_binders p q NoScope OfBinder OfCon OfUse Fits tt a.0 others a.2 in
         (binders_of a.0, OfGroup (subst (InFunction p w.scope) a.1 w.inside), like)
     list_back xs (OfPattern {t = t} {alts = alts} {pat = pat} i h e) =

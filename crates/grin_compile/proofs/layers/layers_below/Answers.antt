@@ -52,8 +52,8 @@ place-requires-clause-size c =
     (few_results g l made.lowers)) given.sizes c.in_ok-asm.asm.items c.selection_refines.ensures
     c.in_ok-asm.ensures.selected
 
-pub procedures-requires : goal.procedures-requires
-procedures-requires c =
+pub procedures-procs-requires : goal.procedures-procs-requires
+procedures-procs-requires c =
     let g = program_of c.args.g.now in
     let l = low.program_of c.in_ok-low.low in
     let made = c.in_ok-low.ensures in

@@ -1,4 +1,3 @@
-use Rattle.std.proofs.Common.{arith}
 use Rattle.grin_compile.proofs.NextAddress.{few_words}
 use Rattle.grin_compile.proofs.words.most_steps.Goals as goal
 

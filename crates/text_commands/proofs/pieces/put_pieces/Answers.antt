@@ -9,9 +9,11 @@ pieces-init g c = (
   tt,
   search rules,
   subst
-      (λ r. PutSoFar g.K.Sink.put_gives g.K.Sink.taken g.K.Sink.faults c.args.out.now c.args.bytes.now
+      (λ r. PutSoFar g.K.Sink.put_gives g.K.Sink.taken g.K.Sink.faults c.args.out.now
+      c.args.bytes.now
       c.args.out.now r) (search rules)
-      (nothing_put g.K.Sink.put_gives g.K.Sink.taken g.K.Sink.faults c.args.out.now c.args.bytes.now),
+      (nothing_put g.K.Sink.put_gives g.K.Sink.taken g.K.Sink.faults c.args.out.now
+      c.args.bytes.now),
 )
 
 pub pieces-preserved : goal.pieces-preserved
