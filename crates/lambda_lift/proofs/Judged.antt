@@ -7,12 +7,12 @@ use Rattle.lambda_reader.specs.Programs.{IsSourceText, BreaksNoReadingRule}
 use Rattle.lambda_reader.specs.Reserved.{HasReserved, Stands, IsFirstReserved}
 use Rattle.lambda_lift.specs.Free.{free}
 use Rattle.lambda_lift.specs.Abstractions.{Abstraction, abstractions}
-use Rattle.lambda_lift.specs.Rules.{Broken, TooManyParameters, ReservedLift, IsBefore, Unlifted, IsUnbroken}
+use Rattle.lambda_lift.specs.Rules.{Broken, TooManyParameters, ReservedLift, IsBefore, Unlifted, IsUnbroken, IsTooBroad, TooBroad}
 use Rattle.lambda_lift.specs.Broadest.{earlier, earlier_place_if, exceeds_parameter_limit, too_broad}
 use Rattle.lambda_lift.specs.declared.refusal.LiftRefusal.{LiftRefusal}
 use Rattle.lambda_lift.specs.declared.refusal.LiftRefusal.TheVariants as refusal
 use Rattle.lambda_lift.specs.Choosing.{earliest_refusal}
-use Rattle.lambda_lift.specs.Refusal.{IsCause}
+use Rattle.lambda_lift.specs.Refusal.{IsCause, IsFirstTooBroad}
 
 -- ---- the first place of a lambda that is too broad
 
@@ -127,6 +127,24 @@ broad_number c a e = ltb-true 12 (length (free c a.scope a.params a.body) + leng
 
 number_broad : (c : Program) (a : Abstraction) → 12 < length (free c a.scope a.params a.body) + length a.params → exceeds_parameter_limit c a ≡ true
 number_broad c a l = grind arith
+
+-- ---- a tree
+
+too_broad_at : (c : Program) (at : ℕ) → Broad c (abstractions c) at → IsTooBroad c at
+too_broad_at c at w = subst (IsTooBroad c) w.place (TooBroad w.number w.stands (broad_number c w.one w.broad))
+
+pub first_too_broad : (c : Program) (at : ℕ) → Some at ≡ too_broad c None (abstractions c) → IsFirstTooBroad c at
+first_too_broad c at e =
+    let w = first_of c None (abstractions c) at (sym e) in
+    record { broken = too_broad_at c at (elim w.from [ inl g ↦ absurd cc | inr g ↦ g ]); first = λ at' b. before w at' b }
+  where
+    before : First c None (abstractions c) at → (at' : ℕ) → IsTooBroad c at' → at ≤ at'
+    before w at' (TooBroad {a = a} i g l) = w.all a i g (number_broad c a l)
+
+pub none_too_broad : (c : Program) → None ≡ too_broad c None (abstractions c) → (at : ℕ) → IsTooBroad c at → ⊥
+none_too_broad c e at (TooBroad {a = a} i g l) = (none_of c None (abstractions c) (sym e)).all a i g (number_broad c a l)
+
+-- ---- a text
 
 module _ (text : List ℕ) (c : Program) (is_text : IsSourceText text c) (one : (d : Program) → IsSourceText text d → d ≡ c) (reserved : Option ℕ) (met : IsFirstReserved text reserved) (first : Option ℕ) (is : first ≡ too_broad c None (abstractions c)) (read : BreaksNoReadingRule text) where
   -- a broken rule, by what was looked for

@@ -5,7 +5,7 @@ use Rattle.std.specs.Prelude.{◌≢◌, All, codes, decimal, fold, slice_get, i
 use Rattle.std.specs.List.{list_any}
 use Rattle.std.specs.Str.{bytes_eq}
 use Rattle.std.specs.Str.Parse.{digits_value}
-use Rattle.std.proofs.lemmas.List.Elements.{All-nil, All-cons, All-push, All-head, All-tail, All-append}
+use Rattle.std.proofs.lemmas.List.Elements.{All-nil, All-cons, All-push, All-head, All-tail, All-append, All-weaker}
 use Rattle.std.proofs.lemmas.Fmt.{decimal_is_IsNumeral}
 use Rattle.core_reader.specs.declared.dialect.Dialect.TheVariants.{Lambdas}
 use Rattle.core_reader.specs.declared.look.TokenKind.TheVariants.{Lower}
@@ -16,7 +16,7 @@ use Rattle.core_reader.specs.Different.{AreDistinct}
 use Rattle.lambda_reader.specs.Tree.{Program}
 use Rattle.lambda_reader.specs.Programs.{IsSourceText}
 use Rattle.lambda_reader.specs.Reserved.{HasReserved, Stands}
-use Rattle.lambda_lift.specs.Lifted.{lifted_names}
+use Rattle.lambda_lift.specs.Lifted.{lifted_names, IsNotLifted}
 use Rattle.lambda_lift.specs.Choosing.{IsUnreservedName}
 
 -- ---- of a text
@@ -65,11 +65,15 @@ lifted_different k (suc n) h = (all_differ k (suc k) n (omega arith) (omega arit
 
 -- ---- both
 
-others : (w : List ℕ) (k n : ℕ) → IsUnreservedName w → All (λ v. v ≢ w) (lifted_names k n)
-others w k zero f = All-nil (λ v. v ≢ w)
-others w k (suc n) f = All-cons (λ v. v ≢ w) (codes "lift'" ++ decimal k) (lifted_names (suc k) n) (λ e. f (decimal k) (sym e)) (others w (suc k) n f)
+-- names that do not begin so are none of them
+pub not_lifted : (n : ℕ) (names : List (List ℕ)) → All IsUnreservedName names → All (IsNotLifted n) names
+not_lifted n names h = All-weaker IsUnreservedName (IsNotLifted n) (λ w f k l. f (decimal k)) names h
 
-pub all_different : (names : List (List ℕ)) (n : ℕ) → n ≤ 2 ^ 32 → AreDistinct names → All IsUnreservedName names → AreDistinct (names ++ lifted_names 0 n)
+others : (w : List ℕ) (m k n : ℕ) → IsNotLifted m w → k + n ≤ m → All (λ v. v ≢ w) (lifted_names k n)
+others w m k zero f l = All-nil (λ v. v ≢ w)
+others w m k (suc n) f l = All-cons (λ v. v ≢ w) (codes "lift'" ++ decimal k) (lifted_names (suc k) n) (λ e. f k (omega (arith, l)) (sym e)) (others w m (suc k) n f (omega (arith, l)))
+
+pub all_different : (names : List (List ℕ)) (n : ℕ) → n ≤ 2 ^ 32 → AreDistinct names → All (IsNotLifted n) names → AreDistinct (names ++ lifted_names 0 n)
 all_different [] n l d f = lifted_different 0 n (omega arith)
 all_different (w ∷ names) n l d f =
-    (All-append (λ v. v ≢ w) names (lifted_names 0 n) d.0 (others w 0 n (All-head IsUnreservedName w names f)), all_different names n l d.1 (All-tail IsUnreservedName w names f))
+    (All-append (λ v. v ≢ w) names (lifted_names 0 n) d.0 (others w n 0 n (All-head (IsNotLifted n) w names f) (omega arith)), all_different names n l d.1 (All-tail (IsNotLifted n) w names f))

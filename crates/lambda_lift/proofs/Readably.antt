@@ -28,8 +28,7 @@ use Rattle.arity_check.specs.Scope.{Scope}
 use Rattle.lambda_lift.specs.Headers.{names_of, bound_by, binders_of, within, is_local}
 use Rattle.lambda_lift.specs.Free.{uses_term, uses_terms, uses_group, uses, uses_alts, without_repeats, free}
 use Rattle.lambda_lift.specs.Abstractions.{Abstraction, in_term, in_terms, in_group, in_expr, in_alts, in_functions, count_term, count_terms, count_group, count, abstractions}
-use Rattle.lambda_lift.specs.Lifted.{arguments, parameters, applied, lift_term, lift_terms, lift_group, lift, lift_alts, lifted_function, lifted_functions, lifted_bodies, lifted_names, lifted}
-use Rattle.lambda_lift.specs.Choosing.{IsUnreservedName}
+use Rattle.lambda_lift.specs.Lifted.{arguments, parameters, applied, lift_term, lift_terms, lift_group, lift, lift_alts, lifted_function, lifted_functions, lifted_bodies, lifted_names, lifted, HasNoLiftedName}
 use Rattle.lambda_lift.proofs.Grown.{functions_joined}
 use Rattle.lambda_lift.proofs.NewNames.{all_different}
 
@@ -362,7 +361,7 @@ few_functions c names (f ∷ fs) h =
 pub few_abstractions : (c : Program) → IsReadable c → length (abstractions c) ≤ 1048576
 few_abstractions c h = omega (arith, few_functions c c.names c.functions h.functions, h.size)
 
-pub lifted_readable : (c : Program) → IsReadable c → All IsUnreservedName c.names → AllOf (λ a. length (free c a.scope a.params a.body) + length a.params ≤ 12) (abstractions c) → core-readable.IsReadable (lifted c)
+pub lifted_readable : (c : Program) → IsReadable c → HasNoLiftedName c → AllOf (λ a. length (free c a.scope a.params a.body) + length a.params ≤ 12) (abstractions c) → core-readable.IsReadable (lifted c)
 lifted_readable c h unreserved fits =
     let n : ℕ = length (abstractions c) in
     let few = few_abstractions c h in

@@ -22,6 +22,7 @@ use seq::Seq;
 use std::alloc::{AllocError, Global};
 
 /// The name of the function of this number.
+#[inline(never)]
 fn name_of(words: &Words, number: usize) -> Result<NameId, AllocError>
     ensures { IfOk result (λ name. name ≡ name_id (lifted_name (program_of_names words.now) number)) }
 {
@@ -35,6 +36,7 @@ fn name_of(words: &Words, number: usize) -> Result<NameId, AllocError>
 }
 
 /// Names as arguments.
+#[inline(never)]
 fn arguments(alloc: Global, names: &[u32], at: u32) -> Result<Seq<Atom>, AllocError>
     ensures { IfOk result (λ args. core.terms_of (map core.term args) ≡ arguments at names.now) }
 {
@@ -46,6 +48,7 @@ fn arguments(alloc: Global, names: &[u32], at: u32) -> Result<Seq<Atom>, AllocEr
 }
 
 /// Names as parameters.
+#[inline(never)]
 fn parameters(alloc: Global, names: &[u32], at: u32) -> Result<Seq<Binder>, AllocError>
     ensures { IfOk result (λ params. params ≡ parameters at names.now) }
 {
@@ -60,6 +63,7 @@ fn parameters(alloc: Global, names: &[u32], at: u32) -> Result<Seq<Binder>, Allo
 }
 
 /// What stands in the place of a body that is not lifted yet.
+#[inline(never)]
 fn no_body(alloc: Global) -> Expr {
     Expr::App(App {
         head: Atom::Int(0, 0),

@@ -1,8 +1,8 @@
 use Rattle.std.proofs.Common.{◌≡◌, ℕ, suc, ◌+◌, ◌-◌, ◌<◌, ◌≤◌, List, [], ◌∷◌, ◌++◌, sym, ap, subst, ◌∙◌, arith, append_assoc}
-use Rattle.std.specs.Prelude.{codes, decimal}
+use Rattle.std.specs.Prelude.{All, codes, decimal}
 use Rattle.std.proofs.lemmas.List.{append-nil}
 use Rattle.core_reader.specs.Different.{AreDistinct}
-use Rattle.lambda_lift.specs.Lifted.{lifted_names}
+use Rattle.lambda_lift.specs.Lifted.{lifted_names, IsNotLifted}
 use Rattle.lambda_lift.proofs.NewNames.{all_different}
 use Rattle.lambda_lift.proofs.lifter.with_lifted.Goals as goal
 
@@ -33,7 +33,9 @@ loop-number-preserved c =
 pub from_vec-requires : goal.from_vec-requires
 from_vec-requires c =
     let all : c.loop-number.entries.items ≡ c.args.names ++ lifted_names 0 c.in-Ok.count = all_behind c.loop-number.entries.items _ c.loop-number.number c.in-Ok.count (omega arith) c.loop-number.invariant in
-    subst AreDistinct (sym all) (all_different c.args.names c.in-Ok.count (omega arith) c.requires.different c.requires.unreserved)
+    let same : c.args.count ≡ c.in-Ok.count = omega arith in
+    let free = subst (λ n. All (IsNotLifted n) c.args.names) same c.requires.free in
+    subst AreDistinct (sym all) (all_different c.args.names c.in-Ok.count (omega arith) c.requires.different free)
 
 pub returns : goal.returns
 returns c =
