@@ -10,10 +10,10 @@
 //! `specs/Grammar` and `specs/Text` say which text stands for it, `specs/Lists` which type is that
 //! of lists, `specs/Typing` which constraints the types of a program have to meet, `specs/Rules`
 //! what it must not have, `specs/Sides` what the two sides of a constraint are, `specs/Shown` how
-//! types are written, and `specs/Refused` which broken rule is named. `specs/SourceOf`,
-//! `specs/Reading`, `specs/Found`, `specs/Kept`, `specs/Nodes`, `specs/Instances`, `specs/Bare`
-//! and `specs/Building` are devices of the proofs, of which no public clause speaks but for the
-//! program that the code keeps.
+//! types are written, and `specs/Refused` which broken rule is named. `laws` says that constraints
+//! are in text order. `specs/SourceOf`, `specs/Reading`, `specs/Found`, `specs/Kept`,
+//! `specs/Nodes`, `specs/Instances`, `specs/Bare` and `specs/Building` are devices of the proofs,
+//! of which no public clause speaks but for the program that the code keeps.
 #![tactic(auto)]
 
 mod accepted;
@@ -26,6 +26,7 @@ mod expressions;
 mod functions;
 mod instances;
 mod judgement;
+pub mod laws;
 mod lists;
 mod mismatch;
 mod nodes;

@@ -1,6 +1,7 @@
 //! Each lambda and each local function as a function of its own.
 
-ghost use Rattle.std.specs.Prelude.{◌≡◌, ◌∷◌, [], length, IfOk, map};
+ghost use Rattle.std.specs.Prelude.{◌≡◌, ◌<◌, ◌∷◌, ◌++◌, [], length, set, IfOk, map};
+ghost use Rattle.core_reader.specs.declared.syntax.Function.{Function as code_function};
 ghost use Rattle.core_reader.specs.Grammar.{name_id};
 ghost use Rattle.core_reader.specs.Tree as core;
 ghost use Rattle.lambda_reader.specs.Tree.{NoBinds, NoAlts};
@@ -69,6 +70,53 @@ fn no_body(alloc: Global) -> Expr {
         head: Atom::Int(0, 0),
         args: Seq::new(alloc),
     })
+}
+
+/// A function whose body is not lifted yet stands behind the others. It is no part of the recursion,
+/// whose frames stay small so.
+#[inline(never)]
+fn begin(
+    alloc: Global,
+    made: &mut Seq<Function>,
+    name: NameId,
+    at: u32,
+) -> Result<(), AllocError>
+    ensures { IfOk result (λ _. (f : code_function) × (made.new ≡ made.old ++ f ∷ [])) }
+{
+    made.push(Function {
+        name,
+        at,
+        params: Seq::new(alloc),
+        body: no_body(alloc),
+    })?;
+    Ok(())
+}
+
+/// A function, with these parameters before its own, takes the place of the one that was begun. It
+/// is no part of the recursion either.
+#[inline(never)]
+fn finish(
+    made: &mut Seq<Function>,
+    number: usize,
+    free: Seq<Binder>,
+    function: Function,
+) -> Result<(), AllocError>
+    requires { number < length made.old }
+    ensures { IfOk result (λ _. made.new
+        ≡ set made.old number (record function { params = free ++ function.params })) }
+{
+    let mut params = free;
+    params.append(function.params)?;
+    made.set(
+        number,
+        Function {
+            name: function.name,
+            at: function.at,
+            params,
+            body: function.body,
+        },
+    );
+    Ok(())
 }
 
 /// A head or an argument.
@@ -152,24 +200,20 @@ fn abstraction(
     let name = name_of(words, number)?;
     let free = free_names(alloc, words, scope, params.as_slice(), &body)?;
     let args = arguments(alloc, free.as_slice(), at)?;
-    let mut all = parameters(alloc, free.as_slice(), at)?;
-    made.push(Function {
-        name,
-        at,
-        params: Seq::new(alloc),
-        body: no_body(alloc),
-    })?;
+    let all = parameters(alloc, free.as_slice(), at)?;
+    begin(alloc, made, name, at)?;
     let body = under(alloc, words, scope, made, params.as_slice(), body)?;
-    all.append(params)?;
-    made.set(
+    finish(
+        made,
         number,
+        all,
         Function {
             name,
             at,
-            params: all,
+            params,
             body,
         },
-    );
+    )?;
     Ok(App {
         head: Atom::Name(name, at),
         args,

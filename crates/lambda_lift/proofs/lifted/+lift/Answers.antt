@@ -220,32 +220,32 @@ module _ (names : List (List ℕ)) (s : Scope) (params : List Binder) (body : Ex
   within_made : (old pushed done : List code-function.Function) (other : code-function.Function) (number : ℕ) → number ≡ length old → pushed ≡ old ++ other ∷ [] → map core.function done ≡ with_lifted_functions d (map core.function pushed) inner → number < length done
   within_made old pushed done other number n p made = omega (arith, n, ap length p, length-append old (other ∷ []), made_count d pushed done inner made)
 
-pub abstraction-set-requires : goal.abstraction-set-requires
-abstraction-set-requires t c =
+pub abstraction-finish-requires : goal.abstraction-finish-requires
+abstraction-finish-requires t c =
     let d : Program = program_of_names c.args.words.now in
     let s : Scope = c.args.scope.now in
     let body : Expr = expr c.args.body in
-    let done : map core.function c.under.new.made ≡ with_lifted_functions d (map core.function c.push.new.self) (in_expr d (within d c.args.params s) body) =
-    c.in_ok-body.ensures.made ∙ ap (λ bs. with_lifted_functions d (map core.function c.push.new.self) (in_expr d (within d bs s) body)) c.as_slice-4.ensures in
-    within_made c.args.words.now s c.args.params body c.args.at c.args.made.now c.push.new.self c.under.new.made _ c.len-number.result c.len-number.ensures c.in_ok-push.ensures.ok done
+    let done : map core.function c.under.new.made ≡ with_lifted_functions d (map core.function c.begin.new.made) (in_expr d (within d c.args.params s) body) =
+    c.in_ok-body.ensures.made ∙ ap (λ bs. with_lifted_functions d (map core.function c.begin.new.made) (in_expr d (within d bs s) body)) c.as_slice-4.ensures in
+    within_made c.args.words.now s c.args.params body c.args.at c.args.made.now c.begin.new.made c.under.new.made _ c.len-number.result c.len-number.ensures c.in_ok-begin.ensures.1 done
 
 pub abstraction-returns-clause-made : goal.abstraction-returns-clause-made
 abstraction-returns-clause-made t c =
     let d : Program = program_of_names c.args.words.now in
     let s : Scope = c.args.scope.now in
     let body : Expr = expr c.args.body in
-    let pushed : length c.push.new.self ≡ suc c.len-number.result = ap length c.in_ok-push.ensures.ok ∙ length-append c.args.made.now _ ∙ omega (arith, c.len-number.ensures) in
-    let done : map core.function c.under.new.made ≡ with_lifted_functions d (map core.function c.push.new.self) (in_expr d (within d c.args.params s) body) =
-    c.in_ok-body.ensures.made ∙ ap (λ bs. with_lifted_functions d (map core.function c.push.new.self) (in_expr d (within d bs s) body)) c.as_slice-4.ensures in
+    let pushed : length c.begin.new.made ≡ suc c.len-number.result = ap length c.in_ok-begin.ensures.1 ∙ length-append c.args.made.now _ ∙ omega (arith, c.len-number.ensures) in
+    let done : map core.function c.under.new.made ≡ with_lifted_functions d (map core.function c.begin.new.made) (in_expr d (within d c.args.params s) body) =
+    c.in_ok-body.ensures.made ∙ ap (λ bs. with_lifted_functions d (map core.function c.begin.new.made) (in_expr d (within d bs s) body)) c.as_slice-4.ensures in
     let names : c.as_slice-3.result.now ≡ free d s c.args.params body = c.as_slice-3.ensures ∙ c.in_ok-free.ensures ∙ ap (λ ps. free d s ps body) c.as_slice.ensures in
-    let all : c.append.new.self ≡ parameters c.args.at (free d s c.args.params body) ++ c.args.params =
-    c.in_ok-append.ensures.ok ∙ ap (λ ps. ps ++ c.args.params) (c.in_ok-all.ensures ∙ ap (parameters c.args.at) names) in
+    let all : c.in_ok-all.all ++ c.args.params ≡ parameters c.args.at (free d s c.args.params body) ++ c.args.params =
+    ap (λ ps. ps ++ c.args.params) (c.in_ok-all.ensures ∙ ap (parameters c.args.at) names) in
     let new : core.expr c.in_ok-body.body ≡ lift d (within d c.args.params s) (suc c.len-number.result) body =
     c.in_ok-body.ensures.lifted ∙ (λ i. lift d (within d (c.as_slice-4.ensures i) s) (pushed i) body) in
-    let f : code-function.Function = record { name = c.in_ok-name.name; at = c.args.at; params = c.append.new.self; body = c.in_ok-body.body } in
+    let f : code-function.Function = record { name = c.in_ok-name.name; at = c.args.at; params = c.in_ok-all.all ++ c.args.params; body = c.in_ok-body.body } in
     let is : core.function f ≡ lifted_function d c.len-number.result (abstraction s c.args.params body c.args.at) =
     λ i. record { name = (c.in_ok-name.ensures i).0; at = c.args.at; params = all i; body = new i } in
-    placed c.args.words.now s c.args.params body c.args.at c.args.made.now c.push.new.self c.under.new.made c.set.new.self _ f c.len-number.result c.len-number.ensures c.in_ok-push.ensures.ok done c.set.ensures is
+    placed c.args.words.now s c.args.params body c.args.at c.args.made.now c.begin.new.made c.under.new.made c.finish.new.made _ f c.len-number.result c.len-number.ensures c.in_ok-begin.ensures.1 done c.in_ok-finish.ensures is
 
 pub abstraction-returns-clause-lifted : goal.abstraction-returns-clause-lifted
 abstraction-returns-clause-lifted t c =
