@@ -12,7 +12,7 @@ use Rattle.lambda_lift.specs.Lifted.{lifted_functions, lifted_bodies, lifted_nam
 use Rattle.lambda_lift.specs.Gathered.{program_of_names}
 use Rattle.lambda_lift.specs.Growing.{with_lifted_functions}
 use Rattle.lambda_lift.specs.Choosing.{program_of_parts}
-use Rattle.lambda_lift.proofs.ByNames.{all_same, lifted_same}
+use Rattle.lambda_lift.proofs.ByNames.{abstractions_same, lifted_same}
 use Rattle.lambda_lift.proofs.Grown.{made_count}
 
 grows_first : (c : Program) (xs : List Abstraction) → with_lifted_functions c [] xs ≡ lifted_functions c 0 xs
@@ -31,7 +31,7 @@ module _ (names : List (List ℕ)) (constructors : List code-data.Data) (functio
   all_made start made count none m n =
       let grown : map core.function made ≡ with_lifted_functions d [] xs = m ∙ ap (λ s. with_lifted_functions d (map core.function s) xs) none in
       let many : count ≡ length xs = omega (arith, n, made_count d [] made xs grown) in
-      many ∙ ap length (all_same (program_of_parts names constructors functions))
+      many ∙ ap length (abstractions_same (program_of_parts names constructors functions))
 
   pub assembled : (start made bodies all : List code.Function) (count : ℕ) (new : List (List ℕ)) → start ≡ []
       → map core.function made ≡ with_lifted_functions d (map core.function start) xs → map core.function bodies ≡ lifted_bodies d (length start) (map function functions)

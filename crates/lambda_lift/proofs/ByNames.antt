@@ -108,8 +108,8 @@ module _ (c : Program) where
       let inner : in_expr d (within d f.params []) f.body ≡ in_expr c (within c f.params []) f.body = ap (λ w. in_expr d w f.body) (within_same f.params []) ∙ expr_same (within c f.params []) f.body in
       λ i. inner i ++ functions_same fs i
 
-  pub all_same : in_functions d c.functions ≡ abstractions c
-  all_same = functions_same c.functions
+  pub abstractions_same : in_functions d c.functions ≡ abstractions c
+  abstractions_same = functions_same c.functions
 
   -- ---- what is lifted
 
