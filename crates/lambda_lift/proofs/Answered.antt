@@ -26,7 +26,8 @@ use Rattle.lambda_lift.proofs.Judged.{none_of, answer, first_too_broad, none_too
 use Rattle.lambda_lift.proofs.NewNames.{text_free, not_lifted}
 use Rattle.lambda_lift.proofs.Readably.{lifted_readable}
 
-pub unread_cause : (text : List ℕ) (r : ReadRefusal) → IsUnreadCause text r → IsCause text (refusal_of_reading r)
+pub unread_cause : (text : List ℕ) (r : ReadRefusal) → IsUnreadCause text r
+    → IsCause text (refusal_of_reading r)
 unread_cause text (from.BadByte at) h = Unread h
 unread_cause text (from.Syntax at) h = Unread h
 unread_cause text (from.NumberRange at) h = Unread h
@@ -40,21 +41,31 @@ none_first None (Some b) e = absurd cc
 none_first (Some a) None e = absurd cc
 none_first (Some a) (Some b) e = absurd cc
 
-few : (c : Program) (a : Abstraction) → (exceeds_parameter_limit c a ≡ true → ⊥) → length (free_names c a.scope a.params a.body) + length a.params ≤ 12
+few : (c : Program) (a : Abstraction) → (exceeds_parameter_limit c a ≡ true → ⊥)
+    → length (free_names c a.scope a.params a.body) + length a.params ≤ 12
 few c a h = by (nat_lt 12 (length (free_names c a.scope a.params a.body) + length a.params)) refl h
   where
-    by : (b : Bool) → nat_lt 12 (length (free_names c a.scope a.params a.body) + length a.params) ≡ b → (b ≡ true → ⊥) → length (free_names c a.scope a.params a.body) + length a.params ≤ 12
+    by : (b : Bool) → nat_lt 12 (length (free_names c a.scope a.params a.body) + length a.params) ≡
+        b → (b ≡ true → ⊥) → length (free_names c a.scope a.params a.body) + length a.params ≤ 12
     by true e h = absurd (h refl)
     by false e h = grind (arith, e)
 
-all_few : (c : Program) (xs : List Abstraction) → ((a : Abstraction) (i : ℕ) → slice_get xs i ≡ Some a → exceeds_parameter_limit c a ≡ true → ⊥) → AllOf (λ a. length (free_names c a.scope a.params a.body) + length a.params ≤ 12) xs
+all_few : (c : Program) (xs : List Abstraction) →
+    ((a : Abstraction) (i : ℕ) → slice_get xs i ≡ Some a → exceeds_parameter_limit c a ≡ true → ⊥)
+    → AllOf (λ a. length (free_names c a.scope a.params a.body) + length a.params ≤ 12) xs
 all_few c [] h = tt
 all_few c (a ∷ xs) h = (few c a (h a 0 refl), all_few c xs (λ b i e. h b (suc i) e))
 
-module _ (text : List ℕ) (c : Program) (is_text : IsSourceText text c) (read : BreaksNoReadingRule text) (reserved : Option ℕ) (met : IsFirstReserved text reserved) (names : List (List ℕ)) (same : names ≡ c.names)
-    (first : Option ℕ) (is : first ≡ too_broad (program_of_names names) None (in_functions (program_of_names names) c.functions)) where
+module _ (text : List ℕ) (c : Program) (is_text : IsSourceText text c)
+    (read : BreaksNoReadingRule text) (reserved : Option ℕ) (met : IsFirstReserved text reserved)
+    (names : List (List ℕ)) (same : names ≡ c.names)
+    (first : Option ℕ)
+    (is : first ≡ too_broad (program_of_names names) None
+    (in_functions (program_of_names names) c.functions)) where
   by_text : first ≡ too_broad c None (abstractions c)
-  by_text = is ∙ ap (λ ns. too_broad (program_of_names ns) None (in_functions (program_of_names ns) c.functions)) same ∙ all_broad_same c None
+  by_text = is ∙ ap
+      (λ ns. too_broad (program_of_names ns) None (in_functions (program_of_names ns) c.functions))
+      same ∙ all_broad_same c None
 
   one : (d : Program) → IsSourceText text d → d ≡ c
   one d t = one_thing lambda_reads text d c t is_text
@@ -67,17 +78,25 @@ module _ (text : List ℕ) (c : Program) (is_text : IsSourceText text c) (read :
     unbroken = answer text c is_text one reserved met first by_text read None e
 
     pub free : HasNoLiftedName c
-    free = not_lifted (length (abstractions c)) c.names (text_free text c is_text (subst (IsFirstReserved text) (none_first first reserved e).1 met))
+    free = not_lifted (length (abstractions c)) c.names
+        (text_free text c is_text
+        (subst (IsFirstReserved text) (none_first first reserved e).1 met))
 
     pub readable : IsReadable c → core.IsReadable (lifted c)
     readable h =
-        lifted_readable c h free (all_few c (abstractions c) (none_of c None (abstractions c) (sym by_text ∙ (none_first first reserved e).0)).all)
+        lifted_readable c h free
+        (all_few c (abstractions c)
+        (none_of c None (abstractions c) (sym by_text ∙ (none_first first reserved e).0)).all)
 
 -- ---- the answer for a tree
 
-module _ (c : Program) (names : List (List ℕ)) (same : names ≡ c.names) (first : Option ℕ) (is : first ≡ too_broad (program_of_names names) None (in_functions (program_of_names names) c.functions)) where
+module _ (c : Program) (names : List (List ℕ)) (same : names ≡ c.names) (first : Option ℕ)
+    (is : first ≡ too_broad (program_of_names names) None
+    (in_functions (program_of_names names) c.functions)) where
   by_tree : first ≡ too_broad c None (abstractions c)
-  by_tree = is ∙ ap (λ ns. too_broad (program_of_names ns) None (in_functions (program_of_names ns) c.functions)) same ∙ all_broad_same c None
+  by_tree = is ∙ ap
+      (λ ns. too_broad (program_of_names ns) None (in_functions (program_of_names ns) c.functions))
+      same ∙ all_broad_same c None
 
   pub tree_refused : (at : ℕ) → Some at ≡ first → IsTreeCause c (TooManyParameters at)
   tree_refused at e = first_too_broad c at (e ∙ by_tree)
@@ -87,4 +106,5 @@ module _ (c : Program) (names : List (List ℕ)) (same : names ≡ c.names) (fir
     tree_unbroken = none_too_broad c (e ∙ by_tree)
 
     pub tree_readable : HasNoLiftedName c → IsReadable c → core.IsReadable (lifted c)
-    tree_readable f h = lifted_readable c h f (all_few c (abstractions c) (none_of c None (abstractions c) (sym (e ∙ by_tree))).all)
+    tree_readable f h = lifted_readable c h f
+        (all_few c (abstractions c) (none_of c None (abstractions c) (sym (e ∙ by_tree))).all)

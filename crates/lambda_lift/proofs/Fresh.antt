@@ -1,4 +1,5 @@
--- The names of a lifted program are different, where it breaks no rule and no name is one of the new ones.
+-- The names of a lifted program are different, where it breaks no rule and no name is one of the
+-- new ones.
 use Rattle.std.proofs.Common.{ℕ, ◌≤◌, List, length, arith}
 use Rattle.seq.proofs.Lists.{some_at}
 use Rattle.seq.proofs.Order.{not_below}
@@ -15,15 +16,21 @@ use Rattle.lambda_lift.specs.Lifted.{lifted, HasNoLiftedName}
 use Rattle.lambda_lift.proofs.NewNames.{text_free, not_lifted, all_different}
 
 none_reserved : (text : List ℕ) → IsUnbroken text → (at : ℕ) → HasReserved text at → ⊥
-none_reserved text ok at (Stands {piece = piece} i t e r) = ok.lifted 62 piece.at (ReservedLift i t e r)
+none_reserved text ok at (Stands {piece = piece} i t e r)
+    = ok.lifted 62 piece.at (ReservedLift i t e r)
 
 -- the functions are few
 pub few_lifted : (c : Program) → check.BreaksNoRule (lifted c) → length (lifted c).functions ≤ 4096
-few_lifted c ok = not_below 4096 (length (lifted c).functions) (λ lt. let f = some_at (lifted c).functions 4096 lt in ok 31 f.0.at (TooManyFunctions f.1))
+few_lifted c ok = not_below 4096 (length (lifted c).functions)
+    (λ lt. let f = some_at (lifted c).functions 4096 lt in ok 31 f.0.at (TooManyFunctions f.1))
 
-pub different : (c : Program) → IsReadable c → HasNoLiftedName c → length (abstractions c) ≤ 4096 → AreDistinct (lifted c).names
-different c h free few = all_different c.names (length (abstractions c)) (omega (arith, few)) h.different free
+pub different : (c : Program) → IsReadable c → HasNoLiftedName c → length (abstractions c) ≤ 4096
+    → AreDistinct (lifted c).names
+different c h free few = all_different c.names (length (abstractions c)) (omega (arith, few))
+    h.different free
 
 -- of a text that breaks no rule
-pub none_lifted : (text : List ℕ) (c : Program) → IsSourceText text c → IsUnbroken text → HasNoLiftedName c
-none_lifted text c t ok = not_lifted (length (abstractions c)) c.names (text_free text c t (none_reserved text ok))
+pub none_lifted : (text : List ℕ) (c : Program) → IsSourceText text c → IsUnbroken text
+    → HasNoLiftedName c
+none_lifted text c t ok = not_lifted (length (abstractions c)) c.names
+    (text_free text c t (none_reserved text ok))

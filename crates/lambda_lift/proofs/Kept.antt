@@ -13,7 +13,9 @@ pub trees_keep : LiftingTreesPreservesMeaning
 trees_keep c p read free ok nf =
     let fits = tree_fits c read in
     let few = few_lifted c ok in
-    let long = length-append (lifted_bodies c 0 c.functions) (lifted_functions c 0 (abstractions c)) in
+    let long = length-append (lifted_bodies c 0 c.functions) (lifted_functions c 0 (abstractions c))
+    in
     let many = lifted_long c fits 0 (abstractions c) in
     let names = different c read free (omega (arith, few, long, many)) in
-    keeps c p fits ok nf (valid_is_well_formed (lifted c) p nf ok (different_places (lifted c).names names))
+    keeps c p fits ok nf
+    (valid_is_well_formed (lifted c) p nf ok (different_places (lifted c).names names))

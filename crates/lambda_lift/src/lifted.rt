@@ -75,12 +75,7 @@ fn no_body(alloc: Global) -> Expr {
 /// A function whose body is not lifted yet stands behind the others. It is no part of the recursion,
 /// whose frames stay small so.
 #[inline(never)]
-fn begin(
-    alloc: Global,
-    made: &mut Seq<Function>,
-    name: NameId,
-    at: u32,
-) -> Result<(), AllocError>
+fn begin(alloc: Global, made: &mut Seq<Function>, name: NameId, at: u32) -> Result<(), AllocError>
     ensures { IfOk result (λ _. (f : code_function) × (made.new ≡ made.old ++ f ∷ [])) }
 {
     made.push(Function {

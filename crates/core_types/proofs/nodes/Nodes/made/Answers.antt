@@ -10,7 +10,7 @@ returns-in-Some-clause-grows c = λ h b. grows_refl c.args.self.now h
 
 pub returns-in-Some-clause-made : goal.returns-in-Some-clause-made
 returns-in-Some-clause-made c = λ h.
-    let is = subst (λ o. IfSome o (λ x. IsSymbolAt c.args.self.now x c.args.symbol c.as_slice-2.result.now)) c.in-Some.is c.again.ensures in
+    let is = subst (λ o. IfSome o (λ x. IsSymbolAt c.args.self.now x c.args.symbol c.as_slice-2.result.now)) c.in-Some.is c.again-again.ensures in
     subst (λ xs. IsSymbolAt c.args.self.now c.in-Some.at c.args.symbol xs) c.as_slice-2.ensures is
 
 pub returns-clause-grows : goal.returns-clause-grows
