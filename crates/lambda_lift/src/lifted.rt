@@ -5,8 +5,10 @@ ghost use Rattle.core_reader.specs.declared.syntax.Function.{Function as code_fu
 ghost use Rattle.core_reader.specs.Grammar.{name_id};
 ghost use Rattle.core_reader.specs.Tree as core;
 ghost use Rattle.lambda_reader.specs.Tree.{NoBinds, NoAlts};
+ghost use Rattle.lambda_reader.specs.Tree as source;
 ghost use Rattle.lambda_reader.specs.Code.{term, application, member, group_of, expr as expr_of, alternative, alts_of, function as function_of};
 ghost use Rattle.lambda_lift.specs.Headers.{within};
+ghost use Rattle.lambda_lift.specs.Free.{free};
 ghost use Rattle.lambda_lift.specs.Abstractions.{in_term, in_group, in_expr, in_alts, in_functions};
 ghost use Rattle.lambda_lift.specs.Lifted.{arguments, parameters, lifted_name, applied, lift_term, lift_group, lift, lift_alts, lifted_bodies};
 ghost use Rattle.lambda_lift.specs.Gathered.{program_of_names};
@@ -72,46 +74,88 @@ fn no_body(alloc: Global) -> Expr {
     })
 }
 
-/// A function whose body is not lifted yet stands behind the others. It is no part of the recursion,
-/// whose frames stay small so.
+/// A function whose body is not lifted yet: its name, the names that are free as arguments, and the
+/// same as parameters.
+#[derive(Drop)]
+struct Begun {
+    name: NameId,
+    args: Seq<Atom>,
+    params: Seq<Binder>,
+}
+
+/// A function whose body is not lifted yet stands behind the others. This is no part of the
+/// recursion, whose frames stay small so.
 #[inline(never)]
-fn begin(alloc: Global, made: &mut Seq<Function>, name: NameId, at: u32) -> Result<(), AllocError>
-    ensures { IfOk result (λ _. (f : code_function) × (made.new ≡ made.old ++ f ∷ [])) }
+fn begin(
+    alloc: Global,
+    words: &Words,
+    scope: &Scope,
+    made: &mut Seq<Function>,
+    params: &[Binder],
+    body: &lambda::Expr,
+    at: u32,
+) -> Result<Begun, AllocError>
+    ensures made { IfOk result (λ _. (f : code_function) × (made.new ≡ made.old ++ f ∷ [])) }
+    ensures name { IfOk result (λ begun. begun.name
+        ≡ name_id (lifted_name (program_of_names words.now) (length made.old))) }
+    ensures args { IfOk result (λ begun. core.terms_of (map core.term begun.args)
+        ≡ arguments at (free (program_of_names words.now) scope.now params.now (expr_of body.now))) }
+    ensures params { IfOk result (λ begun. begun.params
+        ≡ parameters at (free (program_of_names words.now) scope.now params.now (expr_of body.now))) }
 {
+    let name = name_of(words, made.len())?;
+    let free = free_names(alloc, words, scope, params, body)?;
+    let args = arguments(alloc, free.as_slice(), at)?;
+    let all = parameters(alloc, free.as_slice(), at)?;
     made.push(Function {
         name,
         at,
         params: Seq::new(alloc),
         body: no_body(alloc),
     })?;
-    Ok(())
+    Ok(Begun {
+        name,
+        args,
+        params: all,
+    })
 }
 
-/// A function, with these parameters before its own, takes the place of the one that was begun. It
-/// is no part of the recursion either.
+/// The function of this number with its body in place of the one that was begun, and what stands
+/// for it. This is no part of the recursion either.
 #[inline(never)]
 fn finish(
     made: &mut Seq<Function>,
     number: usize,
-    free: Seq<Binder>,
-    function: Function,
-) -> Result<(), AllocError>
+    begun: Begun,
+    at: u32,
+    params: Seq<Binder>,
+    body: Expr,
+) -> Result<App, AllocError>
     requires { number < length made.old }
-    ensures { IfOk result (λ _. made.new
-        ≡ set made.old number (record function { params = free ++ function.params })) }
+    ensures made { IfOk result (λ _. made.new ≡ set made.old number
+        (record { name = begun.name; at = at; params = begun.params ++ params; body = body })) }
+    ensures app { IfOk result (λ app. core.application app
+        ≡ record { head = core.Name begun.name.0 at; args = core.terms_of (map core.term begun.args) }) }
 {
-    let mut params = free;
-    params.append(function.params)?;
+    let Begun {
+        name,
+        args,
+        params: mut all,
+    } = begun;
+    all.append(params)?;
     made.set(
         number,
         Function {
-            name: function.name,
-            at: function.at,
-            params,
-            body: function.body,
+            name,
+            at,
+            params: all,
+            body,
         },
     );
-    Ok(())
+    Ok(App {
+        head: Atom::Name(name, at),
+        args,
+    })
 }
 
 /// A head or an argument.
@@ -192,27 +236,10 @@ fn abstraction(
         ≡ applied (program_of_names words.now) scope.old (length made.old) params (expr_of body) at) }
 {
     let number = made.len();
-    let name = name_of(words, number)?;
-    let free = free_names(alloc, words, scope, params.as_slice(), &body)?;
-    let args = arguments(alloc, free.as_slice(), at)?;
-    let all = parameters(alloc, free.as_slice(), at)?;
-    begin(alloc, made, name, at)?;
+    let begun = begin(alloc, words, scope, made, params.as_slice(), &body, at)?;
     let body = under(alloc, words, scope, made, params.as_slice(), body)?;
-    finish(
-        made,
-        number,
-        all,
-        Function {
-            name,
-            at,
-            params,
-            body,
-        },
-    )?;
-    Ok(App {
-        head: Atom::Name(name, at),
-        args,
-    })
+    let app = finish(made, number, begun, at, params, body)?;
+    Ok(app)
 }
 
 /// An expression that binders stand around.
@@ -312,21 +339,63 @@ fn expr(
 {
     match source {
         lambda::Expr::App(inner) => Ok(Expr::App(app(alloc, words, scope, made, inner)?)),
-        lambda::Expr::Let(group, body) => {
-            let depth = scope.len();
-            let binders = binders_of(alloc, group.as_slice())?;
-            words.enter_all(scope, binders.as_slice())?;
-            let binds = members(alloc, words, scope, made, group)?;
-            let inner = expr(alloc, words, scope, made, Box::into_inner(body))?;
-            scope.leave(depth);
-            Ok(Expr::Let(binds, Box::new(alloc, inner)?))
-        }
-        lambda::Expr::Case(tested, alts) => {
-            let value = expr(alloc, words, scope, made, Box::into_inner(tested))?;
-            let arms = alternatives(alloc, words, scope, made, alts)?;
-            Ok(Expr::Case(Box::new(alloc, value)?, arms))
-        }
+        lambda::Expr::Let(group, body) => let_in(alloc, words, scope, made, group, body),
+        lambda::Expr::Case(tested, alts) => case_of(alloc, words, scope, made, tested, alts),
     }
+}
+
+/// An expression under a let group.
+#[cycle(lift)]
+#[inline(never)]
+fn let_in(
+    alloc: Global,
+    words: &Words,
+    scope: &mut Scope,
+    made: &mut Seq<Function>,
+    group: Seq<lambda::Bind>,
+    body: Box<lambda::Expr>,
+) -> Result<Expr, AllocError>
+    ensures scope { IfOk result (λ _. scope.new ≡ scope.old) }
+    ensures made { IfOk result (λ _. map core.function made.new
+        ≡ with_lifted_functions (program_of_names words.now) (map core.function made.old)
+        (in_expr (program_of_names words.now) scope.old
+        (source.Let (group_of (map member group)) (expr_of body.value)))) }
+    ensures lifted { IfOk result (λ new. core.expr new
+        ≡ lift (program_of_names words.now) scope.old (length made.old)
+        (source.Let (group_of (map member group)) (expr_of body.value))) }
+{
+    let depth = scope.len();
+    let binders = binders_of(alloc, group.as_slice())?;
+    words.enter_all(scope, binders.as_slice())?;
+    let binds = members(alloc, words, scope, made, group)?;
+    let inner = expr(alloc, words, scope, made, Box::into_inner(body))?;
+    scope.leave(depth);
+    Ok(Expr::Let(binds, Box::new(alloc, inner)?))
+}
+
+/// A case.
+#[cycle(lift)]
+#[inline(never)]
+fn case_of(
+    alloc: Global,
+    words: &Words,
+    scope: &mut Scope,
+    made: &mut Seq<Function>,
+    tested: Box<lambda::Expr>,
+    alts: Seq<lambda::Alt>,
+) -> Result<Expr, AllocError>
+    ensures scope { IfOk result (λ _. scope.new ≡ scope.old) }
+    ensures made { IfOk result (λ _. map core.function made.new
+        ≡ with_lifted_functions (program_of_names words.now) (map core.function made.old)
+        (in_expr (program_of_names words.now) scope.old
+        (source.Case (expr_of tested.value) (alts_of (map alternative alts))))) }
+    ensures lifted { IfOk result (λ new. core.expr new
+        ≡ lift (program_of_names words.now) scope.old (length made.old)
+        (source.Case (expr_of tested.value) (alts_of (map alternative alts)))) }
+{
+    let value = expr(alloc, words, scope, made, Box::into_inner(tested))?;
+    let arms = alternatives(alloc, words, scope, made, alts)?;
+    Ok(Expr::Case(Box::new(alloc, value)?, arms))
 }
 
 /// The alternatives of a case.

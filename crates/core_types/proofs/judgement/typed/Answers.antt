@@ -10,20 +10,20 @@ returns-in-Err-clause-refused c =
     subst (λ f. IsCause c.args.text.now f × (mismatch_in f ≡ None)) (sym c.from.ensures)
     (unread_caused c.args.text.now c.in-Err.refusal c.in-Err.ensures.refused, unread_fits c.in-Err.refusal)
 
-pub returns-in-Ok-clause-typed : goal.returns-in-Ok-clause-typed
-returns-in-Ok-clause-typed c =
+pub returns-clause-typed : goal.returns-clause-typed
+returns-clause-typed c =
     let s : Source = source_of c.in-Ok.source in
     let read = c.in-Ok.ensures in
     typed_text c.args.text.now s read.found read.unbroken read.readable c.typed_source.result c.typed_source.ensures.typed
 
-pub returns-in-Ok-clause-unbroken : goal.returns-in-Ok-clause-unbroken
-returns-in-Ok-clause-unbroken c =
+pub returns-clause-unbroken : goal.returns-clause-unbroken
+returns-clause-unbroken c =
     let s : Source = source_of c.in-Ok.source in
     let read = c.in-Ok.ensures in
     unbroken_text c.args.text.now s read.found read.unbroken c.typed_source.result c.typed_source.ensures.unbroken
 
-pub returns-in-Ok-clause-refused : goal.returns-in-Ok-clause-refused
-returns-in-Ok-clause-refused c =
+pub returns-clause-refused : goal.returns-clause-refused
+returns-clause-refused c =
     let s : Source = source_of c.in-Ok.source in
     let read = c.in-Ok.ensures in
     refused_text c.args.text.now s read.found read.unbroken c.typed_source.result c.typed_source.ensures.refused

@@ -46,8 +46,8 @@ unreachable-requires c =
     let none : Some f.0 ≡ None = sym f.1 ∙ sym c.pair_at.ensures ∙ c.in_default.is in
     absurd cc
 
-pub unreachable-requires-2 : goal.unreachable-requires-2
-unreachable-requires-2 c =
+pub unreachable-requires-in_default-before : goal.unreachable-requires-in_default-before
+unreachable-requires-in_default-before c =
     let b : ConstraintBuilder = c.args.builder.now in
     let n : ℕ = c.args.number in
     let ts : List Term = c.as_slice-terms.result.now in
