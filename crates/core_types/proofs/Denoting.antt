@@ -4,15 +4,29 @@ use Rattle.std.specs.Prelude.{slice_get, ◌==◌, if◌then◌else◌}
 use Rattle.std.specs.Ordering.{nat_cmp}
 use Rattle.std.specs.BTreeMap.{get}
 use Rattle.seq.specs.Lists.{In, here, there}
+use Rattle.seq.proofs.Lists.{some_is}
 use Rattle.unification.specs.declared.term.Symbol.{Symbol}
 use Rattle.unification.specs.declared.term.Symbol.TheVariants as symbol
 use Rattle.unification.specs.declared.term.Term.{Term}
 use Rattle.unification.specs.declared.term.Term.TheVariants as term
-use Rattle.unification.specs.Terms.{AreEarlier, arguments_in}
+use Rattle.unification.specs.Terms.{AreEarlier, symbol_in, arguments_in, symbol_of, arguments_of}
 use Rattle.core_types.specs.declared.nodes.TypeVariableKey as code-key
 use Rattle.core_types.specs.declared.nodes.Nodes.{Nodes}
 use Rattle.core_types.specs.Typing.{TypeVariableKey, AtBinder, AtResult, AtBracket, AtScrutinee, AtUse, Typed, Types, Int, Open, Rigid, Named, Arrow, NoTypeds, AndTyped}
 use Rattle.core_types.specs.Nodes.{key_of, number_of, is_use, IsInRange, entry_of, index_of_key, entered, named_by, IsVariableAt, IsSound, IsSymbolAt, AreBelow, Denotes, DenoteAll, ExtendsNodes, AddsTermForType}
+
+-- ---- a term by its parts
+
+pub made_at : (ts : List Term) (at : ℕ) (s : Symbol) (xs : List ℕ) → symbol_of ts at ≡ Some s → arguments_of ts at ≡ xs → slice_get ts at ≡ Some (term.Made s xs)
+made_at ts at s xs e f = go (slice_get ts at) refl
+  where
+    go : (o : Option Term) → slice_get ts at ≡ o → slice_get ts at ≡ Some (term.Made s xs)
+    go None g = let no : None ≡ Some s = sym (ap symbol_in g) ∙ e in absurd cc
+    go (Some term.Variable) g = let no : None ≡ Some s = sym (ap symbol_in g) ∙ e in absurd cc
+    go (Some (term.Made r ys)) g =
+        let one : r ≡ s = some_is (sym (ap symbol_in g) ∙ e) in
+        let two : ys ≡ xs = sym (ap arguments_in g) ∙ f in
+        g ∙ (λ i. Some (term.Made (one i) (two i)))
 
 -- ---- lists
 

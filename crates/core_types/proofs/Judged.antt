@@ -17,6 +17,7 @@ use Rattle.arity_check.specs.Known.{Known}
 use Rattle.arity_check.specs.Whole.{known_of}
 use Rattle.arity_check.proofs.Names.{nil_named, cons_named}
 use Rattle.core_types.specs.declared.refusal.TypeFault.TheVariants as fault
+use Rattle.core_types.specs.declared.rules.Verdict.TheVariants as verdict
 use Rattle.core_types.specs.Source.{TypeDecl, Source, erased}
 use Rattle.core_types.specs.Rules.{Broken, rank, IsFirstBroken, IsUnbroken}
 use Rattle.core_types.specs.Lists.{is_list, is_list_by}
@@ -115,19 +116,6 @@ module _ (s : Source) where
   found k at (rules.ListType h) = Rule86 refl refl h
   found k at (rules.Mismatch {c = c} i h) = Rule83 refl (i, c, h, refl)
   found k at (rules.NotExhaustive {f = f} {alts = alts} {p = p} i e q first none h) = Rule84 refl (partial.not_exhaustive s i f alts p e q first none h)
-
-  mismatch_in : (k at : ℕ) → k ≡ 83 → Found k at → IsFirstMismatch s (Some at)
-  mismatch_in k at e (InCore b) =
-      let l : 5 ≤ 2 = subst (λ (n : ℕ). (rank n at).0 ≤ 2) e (core_early (erased s) k at b) in absurd (omega (arith, l))
-  mismatch_in k at e (Rule81 f r) = absurd (omega (arith, e, f))
-  mismatch_in k at e (Rule82 f r) = absurd (omega (arith, e, f))
-  mismatch_in k at e (Rule85 f r) = absurd (omega (arith, e, f))
-  mismatch_in k at e (Rule86 f z r) = absurd (omega (arith, e, f))
-  mismatch_in k at e (Rule83 f r) = r
-  mismatch_in k at e (Rule84 f r) = absurd (omega (arith, e, f))
-
-  pub broken_mismatch : (at : ℕ) → Broken s 83 at → IsFirstMismatch s (Some at)
-  broken_mismatch at b = mismatch_in 83 at refl (found 83 at b)
 
   abbrev NoCore : Type 0
   NoCore = (k at : ℕ) → core.Broken (erased s) k at → ⊥
@@ -423,7 +411,7 @@ module _ (s : Source) where
   never none three list fits cases k at (Rule83 e r) = no_mismatch s at fits r
   never none three list fits cases k at (Rule84 e r) = cases at r
 
-  pub none_broken : (n : NameId) → IsFirstRefusal (ranks_of_order Check) (erased s) None → first_declared ≡ None → list_name ≡ Some n → IsFirstMismatch s None → first_partial ≡ None → IsVerdict s None
+  pub none_broken : (n : NameId) → IsFirstRefusal (ranks_of_order Check) (erased s) None → first_declared ≡ None → list_name ≡ Some n → IsFirstMismatch s None → first_partial ≡ None → IsVerdict s verdict.Unbroken
   none_broken n h d l fits e = (λ k at b. never (none_in_core h) (none_by first_declared three_first d) (some_lists n l) fits (no_case first_partial (partial.partial_first s) e) k at (found k at b), fits)
 
 -- the name of the type of lists, by any table that knows the names of the program

@@ -29,3 +29,4 @@ pub mod TextSides
 pub mod Showing
 pub mod Branched
 pub mod Gathered
+pub mod Ascending

@@ -1,7 +1,8 @@
 -- What the equations between terms say of the constraints that they stand for.
-use Rattle.std.proofs.Common.{◌≡◌, ℕ, zero, suc, ◌<◌, List, [], ◌∷◌, length, refl, sym, ap, subst, ◌∙◌, Option, Some, None}
+use Rattle.std.proofs.Common.{◌≡◌, ℕ, zero, suc, ◌<◌, List, [], ◌∷◌, length, refl, sym, ap, subst, ◌∙◌, arith, Option, Some, None}
 use Rattle.std.specs.Prelude.{MatchOption, slice_get}
 use Rattle.seq.specs.Lists.{here, there}
+use Rattle.seq.proofs.Lists.{none_is_some}
 use Rattle.unification.specs.Terms.{AreEarlier, PairsAreBelow, equations}
 use Rattle.unification.specs.Solutions as equal
 use Rattle.core_types.specs.declared.nodes.Nodes.{Nodes}
@@ -56,3 +57,10 @@ pub first_in : (b : ConstraintBuilder) (cs : List Constraint) → IsSound b.node
     → IsFirstIn b cs o
 first_in b cs h s None u = all_solved b cs h s u
 first_in b cs h s (Some i) u = one_unsolved b cs h s i u
+
+-- ---- the pair of a constraint
+
+pub pair_there : (n : Nodes) (cs : List Constraint) (ps : List (ℕ × ℕ)) (i : ℕ) (c : Constraint) → PairsDenote n cs ps → slice_get cs i ≡ Some c → i < length ps
+pair_there n [] ps i c s e = none_is_some e
+pair_there n (d ∷ cs) ps zero c s e = let l = ap length s.2 in omega (arith, l)
+pair_there n (d ∷ cs) ps (suc i) c s e = let l = ap length s.2 in let m = pair_there n cs s.1 i c s.5 e in omega (arith, l, m)

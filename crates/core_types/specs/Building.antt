@@ -1,5 +1,5 @@
 -- Constraints, where pairs of terms stand for them.
-use Rattle.std.specs.Prelude.{◌≡◌, ℕ, ◌+◌, ◌==◌, if◌then◌else◌, List, [], ◌∷◌, ◌++◌, map, Option, Some, None, slice_get}
+use Rattle.std.specs.Prelude.{◌≡◌, ℕ, ◌+◌, ◌<◌, ◌==◌, if◌then◌else◌, List, [], ◌∷◌, ◌++◌, map, length, take, Option, Some, None, MatchOption, slice_get}
 use Rattle.std.specs.Ordering.{nat_cmp}
 use Rattle.std.specs.BTreeMap.{get}
 use Rattle.core_reader.specs.Tree.{Application}
@@ -8,6 +8,10 @@ use Rattle.arity_check.specs.Whole.{known_of}
 use Rattle.core_types.specs.declared.context.Context.{Context}
 use Rattle.core_types.specs.declared.building.ConstraintBuilder.{ConstraintBuilder}
 use Rattle.core_types.specs.declared.mismatch.Unsolved.{Unsolved}
+use Rattle.core_types.specs.declared.mismatch.Mismatch.{Mismatch}
+use Rattle.unification.specs.Terms.{equations}
+use Rattle.unification.specs.Solutions as equal
+use Rattle.unification.specs.Trees.{Tree}
 use Rattle.core_types.specs.Source.{Constructor, TypeDecl, Signature, Source, erased}
 use Rattle.core_types.specs.SourceOf.{source_of}
 use Rattle.core_types.specs.Typing.{Typed, Int, Named, AndTyped, NoTypeds, Constraint, Substitution, Solves, IsFirstUnsolved, Locals, constraints, constructor_by_name, function_of, integers, arrows, constraint, head_place, term_type, terms_types}
@@ -88,12 +92,34 @@ IsFirstIn b cs None = (σ : Substitution) × Solves σ cs
 IsFirstIn b cs (Some i) =
     (c : Constraint) × IsFirstUnsolved cs i c × (slice_get b.places.items i ≡ Some c.at)
 
+-- the equations between the terms of a builder's pairs
+abbrev pub equations_of : ConstraintBuilder → List (Tree × Tree)
+equations_of b = equations b.nodes.terms.items b.pairs.items
+
 -- The builder holds the constraints of a program, and this is the number of the first that has no
 -- solution with those before it.
 pub record IsUnsolvedOf (s : Source) (u : Unsolved) : Type 0 where
   pub sound : IsSound u.builder.nodes
   pub stands : Stands u.builder (constraints s)
   pub first : IsFirstIn u.builder (constraints s) u.number
+  pub terms : MatchOption u.number ((σ : equal.Substitution) × equal.Solves σ (equations_of u.builder))
+      (equal.IsFirstUnsolved (equations_of u.builder))
+
+-- The constraints of a program, the first of them that has no solution with those before it, and
+-- its place.
+pub record IsMismatchOf (s : Source) (m : Mismatch) : Type 0 where
+  pub sound : IsSound m.builder.nodes
+  pub stands : Stands m.builder (constraints s)
+  pub constraint : Constraint
+  pub first : IsFirstUnsolved (constraints s) m.number constraint
+  pub place : constraint.at ≡ m.at
+  pub before : equal.Substitution
+  pub solves : equal.Solves before (take m.number (equations_of m.builder))
+
+-- the first constraint that has no solution with those before it, or all of them have one
+abbrev pub IsMismatchIn : Source → Option Mismatch → Type 0
+IsMismatchIn s None = (σ : Substitution) × Solves σ (constraints s)
+IsMismatchIn s (Some m) = IsMismatchOf s m
 
 -- Pairs were added for these constraints.
 pub record Adds (b b' : ConstraintBuilder) (cs : List Constraint) : Type 0 where

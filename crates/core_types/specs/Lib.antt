@@ -7,6 +7,7 @@ pub mod Rules
 pub mod Refused
 -- types as constraints, and their solutions
 pub mod Typing
+pub mod Laws
 pub mod Nodes
 pub mod Instances
 pub mod Bare

@@ -13,10 +13,13 @@ use Rattle.core_types.specs.declared.refusal.TypeRefusal.{TypeRefusal}
 use Rattle.core_types.specs.declared.refusal.TypeRefusal.TheVariants as refusal
 use Rattle.core_types.specs.declared.sides.Ty.{Ty}
 use Rattle.core_types.specs.declared.accepted.Typed.{Typed}
+use Rattle.core_types.specs.declared.rules.Verdict.{Verdict}
+use Rattle.core_types.specs.declared.rules.Verdict.TheVariants as verdict
 use Rattle.core_types.specs.Source.{Source, erased}
 use Rattle.core_types.specs.Text.{IsSourceText, BreaksNoReadingRule, IsFirstReadingFault}
 use Rattle.core_types.specs.Typing.{Substitution, Solves, constraints}
 use Rattle.core_types.specs.Rules.{IsFirstBroken, IsUnbroken}
+use Rattle.core_types.specs.Building.{IsMismatchOf}
 use Rattle.core_types.specs.Sides.{type_of, IsMismatch}
 use Rattle.limits.specs.Limits.{most_bytes}
 
@@ -69,10 +72,23 @@ unread_fault e = fault.Unread e
 abbrev pub NamesFirstBrokenRule : Source → TypeFault → Type 0
 NamesFirstBrokenRule s f = IsFirstBroken s (rule f) (number f)
 
+-- the place at which types do not fit, where that is the fault
+abbrev pub mismatch_in : TypeFault → Option ℕ
+mismatch_in (fault.Unread e) = None
+mismatch_in (fault.Unchecked r) = None
+mismatch_in (fault.DuplicateType at) = None
+mismatch_in (fault.UnknownType at) = None
+mismatch_in (fault.Mismatch at) = Some at
+mismatch_in (fault.NotExhaustive at) = None
+mismatch_in (fault.BadSignature at) = None
+mismatch_in fault.ListType = None
+mismatch_in (fault.Memory e) = None
+
 -- the first rule that the program breaks; or it breaks none, and its constraints have a solution
-abbrev pub IsVerdict : Source → Option TypeFault → Type 0
-IsVerdict s None = IsUnbroken s × ((σ : Substitution) × Solves σ (constraints s))
-IsVerdict s (Some f) = NamesFirstBrokenRule s f
+abbrev pub IsVerdict : Source → Verdict → Type 0
+IsVerdict s verdict.Unbroken = IsUnbroken s × ((σ : Substitution) × Solves σ (constraints s))
+IsVerdict s (verdict.Broken f) = NamesFirstBrokenRule s f × (mismatch_in f ≡ None)
+IsVerdict s (verdict.Mismatch m) = IsFirstBroken s 83 m.at × IsMismatchOf s m
 
 -- Rule k is broken at this place, and no rule is broken before it: what cannot be read comes first.
 pub data IsFirstBrokenText (text : List ℕ) : (k at : ℕ) → Type 0 where
@@ -91,18 +107,6 @@ abbrev pub TextBreaksNoRule : List ℕ → Type 0
 TextBreaksNoRule text =
     BreaksNoReadingRule text × ((s : Source) → IsSourceText text s → IsUnbroken s)
 
--- the place at which types do not fit, where that is the fault
-abbrev pub mismatch_in : TypeFault → Option ℕ
-mismatch_in (fault.Unread e) = None
-mismatch_in (fault.Unchecked r) = None
-mismatch_in (fault.DuplicateType at) = None
-mismatch_in (fault.UnknownType at) = None
-mismatch_in (fault.Mismatch at) = Some at
-mismatch_in (fault.NotExhaustive at) = None
-mismatch_in (fault.BadSignature at) = None
-mismatch_in fault.ListType = None
-mismatch_in (fault.Memory e) = None
-
 -- At this place of the text the types of a constraint do not fit, and these are its two sides.
 abbrev pub AreSidesAt : List ℕ → ℕ → Ty → Ty → Type 0
 AreSidesAt text at left right =
@@ -113,6 +117,24 @@ abbrev pub IsRefusal : List ℕ → TypeRefusal → Type 0
 IsRefusal text (refusal.Mismatch at left right) =
     IsFirstBrokenText text 83 at × AreSidesAt text at left right
 IsRefusal text (refusal.Fault f) = IsCause text f × (mismatch_in f ≡ None)
+
+-- The refusal names the first rule that the program breaks. Want of memory has no cause in it.
+abbrev pub IsSourceCause : Source → TypeFault → Type 0
+IsSourceCause s (fault.Memory e) = Unit {0}
+IsSourceCause s f = NamesFirstBrokenRule s f
+
+-- The refusal names the first rule that the program breaks; where types do not fit, with the sides.
+abbrev pub IsSourceRefusal : Source → TypeRefusal → Type 0
+IsSourceRefusal s (refusal.Mismatch at left right) =
+    IsFirstBroken s 83 at × IsMismatch s at (type_of left) (type_of right)
+IsSourceRefusal s (refusal.Fault f) = IsSourceCause s f × (mismatch_in f ≡ None)
+
+-- What was found of a program whose types fit: the program without its types and its normal form.
+pub record IsTypedSource (source : Source) (found : Typed) : Type 0 where
+  pub core : program_of found.core ≡ erased source
+  pub normal : IsNormalForm (erased source) (normal_form found.checked)
+  pub solution : Substitution
+  pub solves : Solves solution (constraints source)
 
 -- What was found of a text that stands for a program whose types fit: the program without its types
 -- and its normal form.

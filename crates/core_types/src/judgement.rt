@@ -1,35 +1,47 @@
 //! Programs whose types fit, or the two sides that do not.
 
-ghost use Rattle.std.specs.Prelude.{OnOk, IfOk, IfErr};
-ghost use Rattle.core_types.specs.Refused.{IsTypedAs, TextBreaksNoRule, IsFirstBrokenText, AreSidesAt, IsRefusal};
+ghost use Rattle.std.specs.Prelude.{◌≡◌, OnOk, IfOk, IfErr};
+ghost use Rattle.core_reader.specs.Tree.{program as program_of};
+ghost use Rattle.core_reader.specs.Readable.{IsReadable};
+ghost use Rattle.core_types.specs.Source.{erased};
+ghost use Rattle.core_types.specs.SourceOf.{source_of};
+ghost use Rattle.core_types.specs.Rules.{IsUnbroken};
+ghost use Rattle.core_types.specs.Refused.{IsTypedAs, IsTypedSource, TextBreaksNoRule, IsSourceRefusal, IsRefusal};
 
-use crate::accepted::{Typed, typed_or_place};
-use crate::lists::list_type;
-use crate::mismatch::Unsolved;
-use crate::refusal::{TypeRefusal, mismatch_in};
-use crate::sides::{Ty, sides};
+use crate::accepted::Typed;
+use crate::refusal::{TypeFault, TypeRefusal};
+use crate::rules::{Verdict, judge};
+use crate::sides::sides;
+use crate::source::Source;
 use crate::text::read_source;
+use arity_check::check::normal_form;
 use arity_check::globals::Globals;
-use std::alloc::{AllocError, Global};
+use std::alloc::Global;
 
-/// The sides of the mismatch of a text, whose place this is.
-fn sides_at(alloc: Global, text: &[u8], at: u32) -> Result<(Ty, Ty), AllocError>
-    requires broken { IsFirstBrokenText text.now 83 at }
-    ensures { IfOk result (λ tys. AreSidesAt text.now at tys.0 tys.1) }
+/// Like `typed_source_or_place`, with the types of the two sides where types do not fit.
+pub fn typed_source(alloc: Global, source: Source) -> Result<Typed, TypeRefusal>
+    requires erased { program_of source.core ≡ erased (source_of source) }
+    requires readable { IsReadable (erased (source_of source)) }
+    ensures typed { IfOk result (IsTypedSource (source_of source)) }
+    ensures unbroken { OnOk result (IsUnbroken (source_of source)) }
+    ensures refused { IfErr result (IsSourceRefusal (source_of source)) }
 {
-    let Ok(source) = read_source(alloc, text) else {
-        return Err(AllocError);
-    };
     let globals = Globals::new(alloc, &source.core)?;
-    let Some(lists) = list_type(&globals, source.types.as_slice()) else {
-        return Err(AllocError);
-    };
-    let unsolved = Unsolved::new(alloc, &globals, &source, lists)?;
-    let Some(number) = unsolved.number else {
-        return Err(AllocError);
-    };
-    let tys = sides(alloc, &unsolved.builder, number)?;
-    Ok(tys)
+    let verdict = judge(alloc, &globals, &source)?;
+    match verdict {
+        Verdict::Broken(fault) => Err(TypeRefusal::Fault(fault)),
+        Verdict::Mismatch(found) => {
+            let tys = sides(alloc, &found.builder, found.number)?;
+            Err(TypeRefusal::Mismatch(found.at, tys.0, tys.1))
+        }
+        Verdict::Unbroken => {
+            let checked = normal_form(alloc, &globals, &source.core)?;
+            Ok(Typed {
+                core: source.core,
+                checked,
+            })
+        }
+    }
 }
 
 /// Like `typed_or_place`, with the types of the two sides where types do not fit. A side of more
@@ -40,13 +52,9 @@ pub fn typed(alloc: Global, text: &[u8]) -> Result<Typed, TypeRefusal>
     ensures unbroken { OnOk result (TextBreaksNoRule text.now) }
     ensures refused { IfErr result (IsRefusal text.now) }
 {
-    let fault = match typed_or_place(alloc, text) {
-        Ok(typed) => return Ok(typed),
-        Err(fault) => fault,
+    let source = match read_source(alloc, text) {
+        Ok(source) => source,
+        Err(refusal) => return Err(TypeRefusal::Fault(TypeFault::from(refusal))),
     };
-    let Some(at) = mismatch_in(&fault) else {
-        return Err(TypeRefusal::Fault(fault));
-    };
-    let (left, right) = sides_at(alloc, text, at)?;
-    Err(TypeRefusal::Mismatch(at, left, right))
+    typed_source(alloc, source)
 }

@@ -6,8 +6,7 @@ ghost use Rattle.arity_check.specs.Whole.{known_of};
 ghost use Rattle.core_types.specs.Source.{erased};
 ghost use Rattle.core_types.specs.SourceOf.{source_of};
 ghost use Rattle.core_types.specs.Typing.{Int, Named, AndTyped, NoTypeds, integers};
-ghost use Rattle.core_types.specs.Building.{IsUnsolvedOf};
-ghost use Rattle.core_types.specs.Found.{IsFirstMismatch};
+ghost use Rattle.core_types.specs.Building.{IsUnsolvedOf, IsMismatchIn};
 
 use crate::building::ConstraintBuilder;
 use crate::context::Context;
@@ -24,6 +23,15 @@ use unification::first_unsolved;
 pub struct Unsolved {
     pub builder: ConstraintBuilder,
     pub number: Option<usize>,
+}
+
+/// The constraints of a program, the number of the first that has no solution with those before it,
+/// and its place.
+#[derive(Drop)]
+pub struct Mismatch {
+    pub at: u32,
+    pub number: usize,
+    pub builder: ConstraintBuilder,
 }
 
 impl Unsolved {
@@ -54,21 +62,28 @@ fn place_of(builder: &ConstraintBuilder, number: usize) -> Option<u32>
     builder.places.as_slice().get(number).copied()
 }
 
-/// The place of the first constraint of a program that has no solution with those before it. Lists
-/// are of the type of this name.
-pub fn mismatch(
+/// The first constraint of a program that has no solution with those before it, where there is one.
+/// Lists are of the type of this name.
+pub fn first_mismatch(
     alloc: Global,
     globals: &Globals,
     source: &Source,
     lists: NameId,
-) -> Result<Option<u32>, AllocError>
+) -> Result<Option<Mismatch>, AllocError>
     requires tables { known globals.now ≡ known_of (erased (source_of source.now)) }
     requires lists { integers (source_of source.now) ≡ Named lists.0 (AndTyped Int NoTypeds) }
-    ensures { IfOk result (IsFirstMismatch (source_of source.now)) }
+    ensures { IfOk result (IsMismatchIn (source_of source.now)) }
 {
     let unsolved = Unsolved::new(alloc, globals, source, lists)?;
-    match unsolved.number {
-        Some(number) => Ok(place_of(&unsolved.builder, number)),
-        None => Ok(None),
-    }
+    let Some(number) = unsolved.number else {
+        return Ok(None);
+    };
+    let Some(at) = place_of(&unsolved.builder, number) else {
+        unreachable!()
+    };
+    Ok(Some(Mismatch {
+        at,
+        number,
+        builder: unsolved.builder,
+    }))
 }

@@ -1,12 +1,14 @@
 //! Types as terms in a vector.
 
-ghost use Rattle.std.specs.Prelude.{◌≡◌, ℕ, Bool, IfOk};
+ghost use Rattle.std.specs.Prelude.{◌≡◌, ℕ, Bool, IfOk, IfSome, IsTrue, Some, slice_get};
+ghost use Rattle.unification.specs.declared.term.Term.TheVariants as term;
 ghost use Rattle.core_types.specs.Nodes.{key_of, number_of, is_use, IsInRange, entry_of, entered, index_of_key, IsSound, IsSymbolAt, AreBelow, Denotes, DenoteAll, ExtendsNodes, AddsTermForType};
 ghost use Rattle.core_types.specs.Typing.{Typed, Types, Int, Open, Rigid, Named, Arrow};
 
 use seq::Seq;
 use std::alloc::{AllocError, Global};
 use std::collections::BTreeMap;
+use unification::term::{arguments_at, is_same, symbol_at};
 use unification::{Symbol, Term};
 
 /// What a variable of types is named by, with its place.
@@ -29,6 +31,49 @@ const KINDS: u64 = 4;
 
 /// How many names there are at most.
 const NAMES: u64 = 4294967296;
+
+/// The most terms. A program has at most 16,384 names, constructors and integers, so this is enough
+/// where signatures have sixteen parts that differ.
+const MOST_TERMS: usize = 262144;
+
+/// A large odd number, by which marks of terms are spread.
+const SPREAD: u64 = 6364136223846793005;
+
+/// A number for a symbol.
+fn symbol_mark(symbol: Symbol) -> u64 {
+    match symbol {
+        Symbol::Integer => 0,
+        Symbol::Arrow => 1,
+        Symbol::Named(name) => u64::from(name).wrapping_add(2),
+        Symbol::Rigid(function, variable) => u64::from(function)
+            .wrapping_mul(SPREAD)
+            .wrapping_sub(u64::from(variable)),
+    }
+}
+
+/// A number for a symbol with arguments, by which a term that was made is looked for.
+fn mark_of(symbol: Symbol, arguments: &[usize]) -> u64 {
+    let mut mark = symbol_mark(symbol);
+    for argument in arguments {
+        mark = mark.wrapping_add(*argument as u64).wrapping_mul(SPREAD);
+    }
+    mark
+}
+
+/// Whether the term at a place has this symbol and these arguments.
+fn is_made(terms: &[Term], at: usize, symbol: Symbol, arguments: &[usize]) -> bool
+    ensures { IsTrue result → slice_get terms.now at ≡ Some (term.Made symbol arguments.now) }
+{
+    match symbol_at(terms, at) {
+        None => false,
+        Some(found) => {
+            if !is_same(found, symbol) {
+                return false;
+            }
+            arguments_at(terms, at) == arguments
+        }
+    }
+}
 
 impl TypeVariableKey {
     /// The number of a key among the uses, or among the others.
@@ -59,7 +104,8 @@ impl TypeVariableKey {
     }
 }
 
-/// Types as terms. Each variable stands once.
+/// Types as terms. Each variable stands once, and so does each symbol with the same arguments, as
+/// far as it is found by its mark.
 #[derive(Drop)]
 pub struct Nodes {
     /// The terms, each behind its arguments.
@@ -69,6 +115,8 @@ pub struct Nodes {
     /// The places of the variables of uses by the numbers of their keys, and those of the others.
     pub uses: BTreeMap<u64, usize>,
     pub places: BTreeMap<u64, usize>,
+    /// The place of the last symbol with arguments of each mark.
+    pub marked: BTreeMap<u64, usize>,
 }
 
 impl Nodes {
@@ -81,16 +129,42 @@ impl Nodes {
             keys: Vec::new(alloc),
             uses: BTreeMap::new(alloc),
             places: BTreeMap::new(alloc),
+            marked: BTreeMap::new(alloc),
         }
     }
 
-    /// Adds a symbol with arguments.
+    /// The place of a symbol with arguments, where one with this mark is the same.
+    fn again(&self, mark: u64, symbol: Symbol, arguments: &[usize]) -> Option<usize>
+        ensures { IfSome result (λ x. IsSymbolAt self.now x symbol arguments.now) }
+    {
+        match self.marked.get(&mark) {
+            None => None,
+            Some(at) => {
+                if !is_made(self.terms.as_slice(), *at, symbol, arguments) {
+                    return None;
+                }
+                Some(*at)
+            }
+        }
+    }
+
+    /// A symbol with arguments, which is added where it does not stand there yet. More terms than
+    /// the most count as want of memory.
     fn made(&mut self, symbol: Symbol, arguments: Seq<usize>) -> Result<usize, AllocError>
         ensures grows { IfOk result (λ x. IsSound self.old → AreBelow self.old arguments
             → ExtendsNodes self.old self.new) }
         ensures made { IfOk result (λ x. IsSound self.old → IsSymbolAt self.new x symbol arguments) }
     {
+        let mark = mark_of(symbol, arguments.as_slice());
+        let again = self.again(mark, symbol, arguments.as_slice());
+        if let Some(at) = again {
+            return Ok(at);
+        }
         let at = self.terms.len();
+        if at >= MOST_TERMS {
+            return Err(AllocError);
+        }
+        self.marked.insert(mark, at)?;
         self.terms.push(Term::Made(symbol, arguments))?;
         self.keys.push(None)?;
         Ok(at)
@@ -178,6 +252,9 @@ impl Nodes {
             return Ok(at);
         }
         let at = self.terms.len();
+        if at >= MOST_TERMS {
+            return Err(AllocError);
+        }
         self.enter(key, at)?;
         self.terms.push(Term::Variable)?;
         self.keys.push(Some(key))?;

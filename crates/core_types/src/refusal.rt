@@ -3,7 +3,7 @@
 ghost use Rattle.std.specs.Prelude.{◌≡◌, alloc_error};
 ghost use Rattle.core_types.specs.declared.refusal.TypeFault.TheVariants.{Memory};
 ghost use Rattle.core_types.specs.declared.refusal.TypeRefusal.TheVariants.{Fault};
-ghost use Rattle.core_types.specs.Refused.{rule, number, unread_rule, unread_place, unread_fault, mismatch_in};
+ghost use Rattle.core_types.specs.Refused.{rule, number, unread_rule, unread_place, unread_fault};
 
 use crate::sides::Ty;
 use arity_check::refusal::CheckRefusal;
@@ -149,22 +149,5 @@ impl From<AllocError> for TypeRefusal {
 
     fn from(error: AllocError) -> TypeRefusal {
         TypeRefusal::Fault(TypeFault::Memory(error))
-    }
-}
-
-/// The place at which types do not fit, where that is the fault.
-pub fn mismatch_in(fault: &TypeFault) -> Option<u32>
-    ensures { result ≡ mismatch_in fault.now }
-{
-    match fault {
-        TypeFault::Mismatch(at) => Some(*at),
-        TypeFault::Unread(_)
-        | TypeFault::Unchecked(_)
-        | TypeFault::DuplicateType(_)
-        | TypeFault::UnknownType(_)
-        | TypeFault::NotExhaustive(_)
-        | TypeFault::BadSignature(_)
-        | TypeFault::ListType
-        | TypeFault::Memory(_) => None,
     }
 }

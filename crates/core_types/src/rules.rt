@@ -13,7 +13,7 @@ ghost use Rattle.core_types.specs.Found.{first_declaration_fault, declared_fault
 use crate::declared::{first_bad_signature, first_duplicate_type, first_unknown_type};
 use crate::exhaustive::first_partial_case;
 use crate::lists::list_type;
-use crate::mismatch::mismatch;
+use crate::mismatch::{Mismatch, first_mismatch};
 use crate::places::earlier_fault;
 use crate::refusal::TypeFault;
 use crate::source::Source;
@@ -21,6 +21,17 @@ use arity_check::globals::Globals;
 use arity_check::order::Order;
 use arity_check::program::first_refusal;
 use std::alloc::{AllocError, Global};
+
+/// What was found of a program.
+#[derive(Drop)]
+pub enum Verdict {
+    /// It breaks no rule.
+    Unbroken,
+    /// The first rule that it breaks, which is another one than 83.
+    Broken(TypeFault),
+    /// It first breaks rule 83.
+    Mismatch(Mismatch),
+}
 
 /// The first of the rules 81, 82 and 85 that a program breaks, by place.
 fn declared(
@@ -56,12 +67,8 @@ fn fault(rule: u8, at: u32) -> TypeFault
     TypeFault::BadSignature(at)
 }
 
-/// The first rule that a program breaks.
-pub fn first_broken_rule(
-    alloc: Global,
-    globals: &Globals,
-    source: &Source,
-) -> Result<Option<TypeFault>, AllocError>
+/// The first rule that a program breaks, or that it breaks none.
+pub fn judge(alloc: Global, globals: &Globals, source: &Source) -> Result<Verdict, AllocError>
     requires tables { known globals.now ≡ known_of (erased (source_of source.now)) }
     requires erased { program_of source.now.core ≡ erased (source_of source.now) }
     requires readable { IsReadable (erased (source_of source.now)) }
@@ -69,23 +76,23 @@ pub fn first_broken_rule(
 {
     let refusal = first_refusal(alloc, Order::Check, &source.core, globals)?;
     if let Some(refusal) = refusal {
-        return Ok(Some(TypeFault::Unchecked(refusal)));
+        return Ok(Verdict::Broken(TypeFault::Unchecked(refusal)));
     }
     let found = declared(alloc, globals, source)?;
     if let Some((rule, at)) = found {
-        return Ok(Some(fault(rule, at)));
+        return Ok(Verdict::Broken(fault(rule, at)));
     }
     let types = source.types.as_slice();
     let Some(lists) = list_type(globals, types) else {
-        return Ok(Some(TypeFault::ListType));
+        return Ok(Verdict::Broken(TypeFault::ListType));
     };
-    let mismatch = mismatch(alloc, globals, source, lists)?;
-    if let Some(at) = mismatch {
-        return Ok(Some(TypeFault::Mismatch(at)));
+    let mismatch = first_mismatch(alloc, globals, source, lists)?;
+    if let Some(mismatch) = mismatch {
+        return Ok(Verdict::Mismatch(mismatch));
     }
     let partial = first_partial_case(alloc, types, source.core.functions.as_slice())?;
     match partial {
-        Some(at) => Ok(Some(TypeFault::NotExhaustive(at))),
-        None => Ok(None),
+        Some(at) => Ok(Verdict::Broken(TypeFault::NotExhaustive(at))),
+        None => Ok(Verdict::Unbroken),
     }
 }

@@ -4,10 +4,11 @@ ghost use Rattle.std.specs.Prelude.{◌≡◌, ◌∷◌, [], ◌<◌, ℕ, List
 ghost use Rattle.unification.specs.Pieces.{pieces};
 ghost use Rattle.unification.specs.Shown.{AreClasses, ShowsTrees};
 ghost use Rattle.unification.specs.Terms.{AreEarlier};
+ghost use Rattle.unification.specs.Solutions.{Substitution, Solves};
 ghost use Rattle.unification.specs.Trees.{Tree, Made};
 ghost use Rattle.core_types.specs.Typing.{Typed, Arrow, Constraint};
 ghost use Rattle.core_types.specs.Nodes.{IsSound};
-ghost use Rattle.core_types.specs.Building.{Stands};
+ghost use Rattle.core_types.specs.Building.{Stands, equations_of};
 ghost use Rattle.core_types.specs.Sides.{type_of, typed_of, trees_from, read_piece, AreSides};
 
 use crate::building::ConstraintBuilder;
@@ -166,7 +167,7 @@ fn pair_at(builder: &ConstraintBuilder, number: usize) -> Option<(usize, usize)>
 }
 
 /// The sides of the constraint of this number, as the most general solution of those before it
-/// leaves them. Where there is none, that counts as want of memory.
+/// leaves them.
 pub fn sides(
     alloc: Global,
     builder: &ConstraintBuilder,
@@ -174,6 +175,8 @@ pub fn sides(
 ) -> Result<(Ty, Ty), AllocError>
     requires sound { IsSound builder.now.nodes }
     requires stands { (cs : List Constraint) × Stands builder.now cs }
+    requires within { number < length builder.now.pairs.items }
+    requires solvable { (σ : Substitution) × Solves σ (take number (equations_of builder.now)) }
     ensures { IfOk result (λ tys. (cs : List Constraint) (c : Constraint) → Stands builder.now cs
         → slice_get cs number ≡ Some c
         → AreSides (take number cs) c (type_of tys.0) (type_of tys.1)) }
@@ -181,14 +184,11 @@ pub fn sides(
     let terms = builder.nodes.terms.as_slice();
     let pairs = builder.pairs.as_slice();
     let Some(pair) = pair_at(builder, number) else {
-        return Err(AllocError);
+        unreachable!()
     };
-    if number > pairs.len() {
-        return Err(AllocError);
-    }
     let before = solve(alloc, terms, &pairs[..number])?;
     let Some(classes) = before else {
-        return Err(AllocError);
+        unreachable!()
     };
     let left = side(alloc, terms, &classes, pair.0)?;
     let right = side(alloc, terms, &classes, pair.1)?;

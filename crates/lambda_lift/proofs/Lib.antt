@@ -16,6 +16,7 @@ pub mod Entered
 -- the whole
 pub mod Program
 pub mod Whole
+pub mod Kept
 -- the code
 pub mod Leaving
 pub mod Folding

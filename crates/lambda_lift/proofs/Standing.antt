@@ -1,4 +1,5 @@
--- Which function of the lifted program stands for a function, a lambda or a local function of the text, and
+-- Which function of the lifted program stands for a function, a lambda or a local function of the
+-- text, and
 -- which names it is given first.
 use Rattle.std.proofs.Common.{◌≡◌, ℕ, suc, ◌+◌, List, [], ◌∷◌, ◌++◌, map, length, Some, slice_get, refl, sym, subst, arith}
 use Rattle.seq.proofs.Lists.{get_left, get_right}
@@ -24,17 +25,29 @@ abstraction s params body at = record { scope = s; params = params; body = body;
 pub record Located {X : Type 0} (whole part : List X) (k : ℕ) : Type 0 where
   pub at : (i : ℕ) (x : X) → slice_get part i ≡ Some x → slice_get whole (k + i) ≡ Some x
 
-pub located_left : {X : Type 0} (whole xs ys : List X) (k : ℕ) → Located whole (xs ++ ys) k → Located whole xs k
+pub located_left : {X : Type 0} (whole xs ys : List X) (k : ℕ) → Located whole (xs ++ ys) k
+    → Located whole xs k
 located_left whole xs ys k l = record { at = λ i x e. l.at i x (get_left xs ys i x e) }
 
-pub located_right : {X : Type 0} (whole xs ys : List X) (k : ℕ) → Located whole (xs ++ ys) k → Located whole ys (k + length xs)
-located_right whole xs ys k l = record { at = λ i x e. let same : k + length xs + i ≡ k + (length xs + i) = omega arith in subst (λ n. slice_get whole n ≡ Some x) (sym same) (l.at (length xs + i) x (get_right xs ys i x e)) }
+pub located_right : {X : Type 0} (whole xs ys : List X) (k : ℕ) → Located whole (xs ++ ys) k
+    → Located whole ys (k + length xs)
+located_right whole xs ys k l = record {
+  at = λ i x e. let same : k + length xs + i ≡ k + (length xs + i) = omega arith
+      in subst (λ n. slice_get whole n ≡ Some x) (sym same)
+      (l.at (length xs + i) x (get_right xs ys i x e));
+}
 
-pub located_first : {X : Type 0} (whole : List X) (x : X) (ys : List X) (k : ℕ) → Located whole (x ∷ ys) k → slice_get whole k ≡ Some x
-located_first whole x ys k l = let same : k + 0 ≡ k = omega arith in subst (λ n. slice_get whole n ≡ Some x) same (l.at 0 x refl)
+pub located_first : {X : Type 0} (whole : List X) (x : X) (ys : List X) (k : ℕ)
+    → Located whole (x ∷ ys) k → slice_get whole k ≡ Some x
+located_first whole x ys k l = let same : k + 0 ≡ k = omega arith
+    in subst (λ n. slice_get whole n ≡ Some x) same (l.at 0 x refl)
 
-pub located_rest : {X : Type 0} (whole : List X) (x : X) (ys : List X) (k : ℕ) → Located whole (x ∷ ys) k → Located whole ys (suc k)
-located_rest whole x ys k l = record { at = λ i y e. let same : k + suc i ≡ suc k + i = omega arith in subst (λ n. slice_get whole n ≡ Some y) same (l.at (suc i) y e) }
+pub located_rest : {X : Type 0} (whole : List X) (x : X) (ys : List X) (k : ℕ)
+    → Located whole (x ∷ ys) k → Located whole ys (suc k)
+located_rest whole x ys k l = record {
+  at = λ i y e. let same : k + suc i ≡ suc k + i = omega arith
+      in subst (λ n. slice_get whole n ≡ Some y) same (l.at (suc i) y e);
+}
 
 abbrev pub number_in : Meaning → ℕ
 number_in (Local a) = a
@@ -50,11 +63,13 @@ module _ (c : Program) where
   abbrev pub fronts : Scope → List ℕ → List ℕ
   fronts env xs = map (local_name env) xs
 
-  -- a text's lambda or local function that stands at number k, in a scope with the same names as its
+  -- a text's lambda or local function that stands at number k, in a scope with the same names as
+  -- its
   -- environment
   pub record Lifts (s env : Scope) (params : List Binder) (body : Expr) (k : ℕ) : Type 0 where
     pub at : ℕ
-    pub located : Located (abstractions c) (abstraction s params body at ∷ in_expr c (within c params s) body) k
+    pub located : Located (abstractions c)
+        (abstraction s params body at ∷ in_expr c (within c params s) body) k
     pub alike : Alike s env
     pub some : HasParameter params
     pub below : Below (length c.names) (names_of params)
@@ -62,5 +77,7 @@ module _ (c : Program) where
 
   pub data Stands : Fun → List ℕ → ℕ → Type 0 where
     AsTop : {f k : ℕ} → HasTop c f k → Stands (Top f) [] f
-    AsClosure : {s env : Scope} {params : List Binder} {body : Expr} {front : List ℕ} {g : ℕ} (k : ℕ) → Lifts s env params body k
-        → front ≡ fronts env (free c env params body) → g ≡ length c.functions + k → Stands (Closure params body env) front g
+    AsClosure : {s env : Scope} {params : List Binder} {body : Expr} {front : List ℕ} {g : ℕ}
+        (k : ℕ) → Lifts s env params body k
+        → front ≡ fronts env (free c env params body) → g ≡ length c.functions + k
+        → Stands (Closure params body env) front g

@@ -1,158 +1,116 @@
--- In the program of a text each name has a number below the number of names, and each lambda and each local
--- function has a parameter.
-use Rattle.std.proofs.Common.{◌≡◌, ℕ, suc, ◌<◌, Bool, true, List, [], ◌∷◌, ◌++◌, map, length, Option, Some, None, refl, sym, subst, inl}
-use Rattle.std.specs.Prelude.{is_none}
+-- In a readable program each name has a number below the number of names, and each lambda and each
+-- local
+-- function has a parameter. The program of a text that can be read is readable.
+use Rattle.std.proofs.Common.{◌≡◌, ℕ, ◌+◌, ◌<◌, ◌≤◌, Bool, true, false, nat_lt, List, [], ◌∷◌, ◌++◌, length, refl, sym, subst, arith, inl}
+use Rattle.std.specs.Prelude.{ℤ, pos, negsuc, All}
+use Rattle.std.proofs.lemmas.Bool.Decides.{nat_tests}
+use Rattle.std.proofs.lemmas.Int.{ints}
+use Rattle.std.proofs.lemmas.List.Elements.{All-head, All-tail}
 use Rattle.seq.specs.Lists.{AllOf}
 use Rattle.seq.proofs.Lists.{get_within}
 use Rattle.core_reader.specs.declared.dialect.Dialect.TheVariants.{Lambdas}
-use Rattle.core_reader.specs.declared.dialect.Dialect.{Dialect}
 use Rattle.core_reader.specs.declared.syntax.Binder.{Binder}
 use Rattle.core_reader.specs.declared.syntax.Pattern.{Pattern}
 use Rattle.core_reader.specs.declared.syntax.Pattern.TheVariants as pattern
-use Rattle.core_reader.specs.declared.look.TokenKind.{TokenKind}
-use Rattle.core_reader.specs.declared.look.TokenKind.TheVariants.{Lower, Upper, Digits, Sign}
-use Rattle.core_reader.specs.declared.token.Token.{Token}
-use Rattle.core_reader.specs.declared.token.Token.TheVariants as word
-use Rattle.core_reader.specs.declared.token.Lexeme.{Lexeme}
 use Rattle.core_reader.specs.Tree.{Data}
-use Rattle.core_reader.specs.Grammar.{NestingLimit, lexeme, binders, SpellsPattern}
-use Rattle.core_reader.specs.TokensOf.{Piece, kind_of}
-use Rattle.core_reader.specs.WordsOf.{said, said_by, keyword_or_name, keyword_of, sign_token, number_in}
-use Rattle.core_reader.specs.NamesOf.{is_numbered_by}
-use Rattle.core_reader.proofs.NamingOf.{Texts, has, EachHeld, each_held}
-use Rattle.core_reader.proofs.Proper.{IsWord, IsKeyword, sign_is_word, keyword_is_word}
-use Rattle.core_reader.proofs.Readability.{at_number}
+use Rattle.core_reader.specs.Grammar.{unlimited_nesting}
+use Rattle.core_reader.specs.TokensOf.{Piece, Reads, Stops, Passes, Takes, IsTokens}
+use Rattle.core_reader.specs.WordsOf.{written_number, IsInRange}
+use Rattle.core_reader.specs.RulesOf.{NumberRange, TextTooLong}
+use Rattle.core_reader.specs.LexedOf.{AreInRange}
+use Rattle.core_reader.specs.Readable.{IsName, IsConstructor, IsTextAt, IsBound, ReadablePattern, ReadableData}
+use Rattle.core_reader.proofs.FirstBroken.{one_last, begins_at}
+use Rattle.core_reader.proofs.Unique.{ends_at, longest_some}
 use Rattle.lambda_reader.specs.Tree.{Term, Terms, NoTerms, AndTerm, Group, NoBinds, AndValue, AndFunction, Expr, App, Let, Case, Alts, NoAlts, AndAlt, Function, Program}
 use Rattle.lambda_reader.specs.Tree as tree
-use Rattle.lambda_reader.specs.Grammar.{SpellsTerm, SpellsTerms, SpellsGroup, SpellsExpr, SpellsAlts}
-use Rattle.lambda_reader.specs.Programs.{Decl, Declares, Defines, SpellsDecls, constructors_of, functions_of, IsSourceText}
+use Rattle.lambda_reader.specs.Programs.{IsSourceText, BreaksNoReadingRule}
+use Rattle.lambda_reader.specs.Readable.{ReadableTerm, ReadableTerms, ReadableGroup, ReadableExpr, ReadableAlts, ReadableFunction, IsReadable}
+use Rattle.lambda_reader.proofs.Readability.{readable}
 use Rattle.lambda_lift.specs.Headers.{names_of, bound_by, binders_of}
 use Rattle.lambda_lift.proofs.Fits.{And, Below, FitsTerm, FitsTerms, FitsGroup, Fits, FitsAlts}
 
--- ---- tokens
+-- ---- names
 
-abbrev BelowToken : ℕ → Token → Type 0
-BelowToken N (word.Name n) = n.0 < N
-BelowToken N (word.Con n) = n.0 < N
-BelowToken N token = Unit {0}
+named_below : (names : List (List ℕ)) (Kind : List ℕ → Type 0) (n : ℕ) → IsTextAt names Kind n
+    → n < length names
+named_below names Kind n h = get_within names n h.0 h.1
 
-abbrev EachBelow : ℕ → List Lexeme → Type 0
-EachBelow N [] = Unit {0}
-EachBelow N (x ∷ xs) = BelowToken N x.token × EachBelow N xs
+module _ (names : List (List ℕ)) where
+  abbrev N : ℕ
+  N = length names
 
-front : (N : ℕ) (us vs : List Lexeme) → EachBelow N (us ++ vs) → EachBelow N us
-front N [] vs h = tt
-front N (u ∷ us) vs h = (h.0, front N us vs h.1)
+  binders_below : (bs : List Binder) → All (IsBound names) bs → Below N (names_of bs)
+  binders_below [] h = tt
+  binders_below (b ∷ bs) h = (
+    named_below names IsName b.name.0 (All-head (IsBound names) b bs h),
+    binders_below bs (All-tail (IsBound names) b bs h),
+  )
 
-back : (N : ℕ) (us vs : List Lexeme) → EachBelow N (us ++ vs) → EachBelow N vs
-back N [] vs h = h
-back N (u ∷ us) vs h = back N us vs h.1
+  pattern_below : (p : Pattern) → ReadablePattern names p → Below N (names_of (bound_by p))
+  pattern_below (pattern.Con c fields) h = binders_below fields h.1
+  pattern_below (pattern.Int v at) h = tt
+  pattern_below (pattern.Default x) h = (named_below names IsName x.name.0 h, tt)
 
-word_below : (N : ℕ) (token : Token) → IsWord token → BelowToken N token
-word_below N (word.Name n) h = absurd h
-word_below N (word.Con n) h = absurd h
-word_below N token h = tt
+  group_below : (g : Group) → ReadableGroup names g → Below N (names_of (binders_of g))
+  group_below NoBinds h = tt
+  group_below (AndValue b head args rest) h =
+      (named_below names IsName b.name.0 h.0, group_below rest h.3)
+  group_below (AndFunction b params body rest) h =
+      (named_below names IsName b.name.0 h.0, group_below rest h.4)
 
-number_below : (names : Texts) (w : List ℕ) → has names w ≡ true → number_in names w < length names
-number_below names w h = get_within names (number_in names w) w (at_number names w h)
-
-letters_below : (names : Texts) (w : List ℕ) (o : Option Token) → IsKeyword o → (is_none o ≡ true → has names w ≡ true) → BelowToken (length names) (keyword_or_name names w o)
-letters_below names w (Some token) k h = word_below (length names) token k
-letters_below names w None k h = number_below names w (h refl)
-
-token_below : (d : Dialect) (names : Texts) (w : List ℕ) (kind : Option TokenKind) → (is_numbered_by d w kind ≡ true → has names w ≡ true) → BelowToken (length names) (said_by d names w kind)
-token_below d names w None h = tt
-token_below d names w (Some Lower) h = letters_below names w (keyword_of d w) (keyword_is_word d w) h
-token_below d names w (Some Upper) h = number_below names w (h refl)
-token_below d names w (Some Digits) h = tt
-token_below d names w (Some (Sign s)) h = word_below (length names) (sign_token s) (sign_is_word s)
-
-each_below : (d : Dialect) (names : Texts) (ps : List Piece) → EachHeld d names ps → EachBelow (length names) (map (said d names) ps)
-each_below d names [] h = tt
-each_below d names (p ∷ ps) h = (token_below d names p.bytes (kind_of d p.bytes) h.0, each_below d names ps h.1)
-
--- ---- what the grammar derives from such tokens
-
-binders_below : (N : ℕ) (bs : List Binder) → EachBelow N (binders bs) → Below N (names_of bs)
-binders_below N [] k = tt
-binders_below N (b ∷ bs) k = (k.0, binders_below N bs k.1)
-
-pattern_below : (N : ℕ) (p : Pattern) (ts : List Lexeme) → SpellsPattern p ts → EachBelow N ts → Below N (names_of (bound_by p))
-pattern_below N (pattern.Con c fields) ts h k = binders_below N fields (subst (EachBelow N) h k).1
-pattern_below N (pattern.Int v at) ts h k = tt
-pattern_below N (pattern.Default x) ts h k = ((subst (EachBelow N) h k).0, tt)
-
-module _ (N : ℕ) (l : Bool) (room : NestingLimit) where
   mutual
-    term_fits : (V : ℕ → Type 0) → ((x : ℕ) → V x) → (d : ℕ) (a : Term) (ts : List Lexeme) → SpellsTerm l room d a ts → EachBelow N ts → FitsTerm N V a
-    term_fits V v d (tree.Name n at) ts h k = (v n, (subst (EachBelow N) h k).0)
-    term_fits V v d (tree.Con n at) ts h k = tt
-    term_fits V v d (tree.Int i at) ts h k = tt
-    term_fits V v d (tree.Bracket a xs at) ts h k =
-        let close = lexeme h.2 word.Close ∷ [] in
-        let k2 : EachBelow N (h.0 ++ (h.1 ++ close)) = (subst (EachBelow N) h.6 k).1 in
-        (term_fits V v (suc d) a h.0 h.4 (front N h.0 (h.1 ++ close) k2), terms_fit V v (suc d) xs h.1 h.5 (front N h.1 close (back N h.0 (h.1 ++ close) k2)))
-    term_fits V v d (tree.Lambda params body at) ts h k =
-        let close = lexeme h.2 word.Close ∷ [] in
-        let rest = lexeme h.1 word.Arrow ∷ (h.3 ++ close) in
-        let k2 : EachBelow N (binders params ++ rest) = (subst (EachBelow N) h.8 k).1.1 in
-        let k3 : EachBelow N (h.3 ++ close) = (back N (binders params) rest k2).1 in
-        (h.6, binders_below N params (front N (binders params) rest k2), expr_fits (And V (names_of params)) (λ x. inl (v x)) (suc d) body h.3 h.7 (front N h.3 close k3))
+    term_fits : (V : ℕ → Type 0) → ((x : ℕ) → V x) → (a : Term) → ReadableTerm names a
+        → FitsTerm N V a
+    term_fits V v (tree.Name n at) h = (v n, named_below names IsName n h)
+    term_fits V v (tree.Con n at) h = tt
+    term_fits V v (tree.Int i at) h = tt
+    term_fits V v (tree.Bracket a xs at) h = (term_fits V v a h.0, terms_fit V v xs h.1)
+    term_fits V v (tree.Lambda params body at) h = (
+      h.0,
+      binders_below params h.1,
+      expr_fits (And V (names_of params)) (λ x. inl (v x)) body
+          h.2,
+    )
 
-    terms_fit : (V : ℕ → Type 0) → ((x : ℕ) → V x) → (d : ℕ) (xs : Terms) (ts : List Lexeme) → SpellsTerms l room d xs ts → EachBelow N ts → FitsTerms N V xs
-    terms_fit V v d NoTerms ts h k = tt
-    terms_fit V v d (AndTerm a xs) ts h k =
-        let k2 = subst (EachBelow N) h.4 k in
-        (term_fits V v d a h.0 h.2 (front N h.0 h.1 k2), terms_fit V v d xs h.1 h.3 (back N h.0 h.1 k2))
+    terms_fit : (V : ℕ → Type 0) → ((x : ℕ) → V x) → (xs : Terms) → ReadableTerms names xs
+        → FitsTerms N V xs
+    terms_fit V v NoTerms h = tt
+    terms_fit V v (AndTerm a xs) h = (term_fits V v a h.0, terms_fit V v xs h.1)
 
-    group_fits : (V : ℕ → Type 0) → ((x : ℕ) → V x) → (d : ℕ) (g : Group) (ts : List Lexeme) → SpellsGroup l room d g ts → EachBelow N ts → Below N (names_of (binders_of g)) × FitsGroup N V g
-    group_fits V v d NoBinds ts h k = (tt, tt)
-    group_fits V v d (AndValue b head args rest) ts h k =
-        let r3 = h.3 ++ h.4 in
-        let r2 = h.2 ++ r3 in
-        let k1 = subst (EachBelow N) h.9 k in
-        let k2 : EachBelow N (h.1 ++ r2) = k1.1.1 in
-        let k3 : EachBelow N r2 = back N h.1 r2 k2 in
-        let k4 : EachBelow N r3 = back N h.2 r3 k3 in
-        let more = group_fits V v d rest h.4 h.8 (back N h.3 h.4 k4) in
-        ((k1.0, more.0), (term_fits V v d head h.1 h.5 (front N h.1 r2 k2), terms_fit V v d args h.2 h.6 (front N h.2 r3 k3), more.1))
-    group_fits V v d (AndFunction b params body rest) ts h k =
-        let r3 = h.2 ++ h.3 in
-        let r2 = lexeme h.0 word.Equals ∷ (h.1 ++ r3) in
-        let k1 = subst (EachBelow N) h.9 k in
-        let k2 : EachBelow N (binders params ++ r2) = k1.1 in
-        let k3 : EachBelow N (h.1 ++ r3) = (back N (binders params) r2 k2).1 in
-        let more = group_fits V v d rest h.3 h.8 (back N h.2 h.3 (back N h.1 r3 k3)) in
-        ((k1.0, more.0), (h.5, binders_below N params (front N (binders params) r2 k2), expr_fits (And V (names_of params)) (λ x. inl (v x)) d body h.1 h.6 (front N h.1 r3 k3), more.1))
+    group_fits : (V : ℕ → Type 0) → ((x : ℕ) → V x) → (g : Group) → ReadableGroup names g
+        → FitsGroup N V g
+    group_fits V v NoBinds h = tt
+    group_fits V v (AndValue b head args rest) h =
+        (term_fits V v head h.1, terms_fit V v args h.2, group_fits V v rest h.3)
+    group_fits V v (AndFunction b params body rest) h
+        = (
+          h.1,
+          binders_below params h.2,
+          expr_fits (And V (names_of params)) (λ x. inl (v x)) body
+              h.3,
+          group_fits V v rest h.4,
+        )
 
-    expr_fits : (V : ℕ → Type 0) → ((x : ℕ) → V x) → (d : ℕ) (e : Expr) (ts : List Lexeme) → SpellsExpr l room d e ts → EachBelow N ts → Fits N V e
-    expr_fits V v d (App head args) ts h k =
-        let k2 = subst (EachBelow N) h.4 k in
-        (term_fits V v d head h.0 h.2 (front N h.0 h.1 k2), terms_fit V v d args h.1 h.3 (back N h.0 h.1 k2))
-    expr_fits V v d (Let group e) ts h k =
-        let rest = lexeme h.1 word.In ∷ h.3 in
-        let k2 : EachBelow N (h.2 ++ rest) = (subst (EachBelow N) h.8 k).1 in
-        let names = names_of (binders_of group) in
-        let g = group_fits (And V names) (λ x. inl (v x)) (suc d) group h.2 h.6 (front N h.2 rest k2) in
-        (g.0, g.1, expr_fits (And V names) (λ x. inl (v x)) (suc d) e h.3 h.7 (back N h.2 rest k2).1)
-    expr_fits V v d (Case e alts) ts h k =
-        let close = lexeme h.3 word.CloseBrace ∷ [] in
-        let rest = lexeme h.1 word.Of ∷ lexeme h.2 word.OpenBrace ∷ (h.5 ++ close) in
-        let k2 : EachBelow N (h.4 ++ rest) = (subst (EachBelow N) h.10 k).1 in
-        let k3 = back N h.4 rest k2 in
-        (expr_fits V v (suc d) e h.4 h.8 (front N h.4 rest k2), alts_fit V v (suc d) alts h.5 h.9 (front N h.5 close k3.1.1))
+    expr_fits : (V : ℕ → Type 0) → ((x : ℕ) → V x) → (e : Expr) → ReadableExpr names e → Fits N V e
+    expr_fits V v (App head args) h = (term_fits V v head h.0, terms_fit V v args h.1)
+    expr_fits V v (Let group e) h =
+        let bound = names_of (binders_of group) in (
+          group_below group h.1,
+          group_fits (And V bound) (λ x. inl (v x)) group h.1,
+          expr_fits (And V bound) (λ x. inl (v x)) e h.2,
+        )
+    expr_fits V v (Case e alts) h = (expr_fits V v e h.1, alts_fit V v alts h.2)
 
-    alts_fit : (V : ℕ → Type 0) → ((x : ℕ) → V x) → (d : ℕ) (xs : Alts) (ts : List Lexeme) → SpellsAlts l room d xs ts → EachBelow N ts → FitsAlts N V xs
-    alts_fit V v d NoAlts ts h k = tt
-    alts_fit V v d (AndAlt p e xs) ts h k =
-        let rest2 = h.2 ++ h.3 in
-        let rest = lexeme h.4 word.Arrow ∷ (h.1 ++ rest2) in
-        let k2 = subst (EachBelow N) h.9 k in
-        let k3 : EachBelow N (h.1 ++ rest2) = (back N h.0 rest k2).1 in
-        let names = names_of (bound_by p) in
-        (pattern_below N p h.0 h.5 (front N h.0 rest k2), expr_fits (And V names) (λ x. inl (v x)) d e h.1 h.6 (front N h.1 rest2 k3), alts_fit V v d xs h.3 h.8 (back N h.2 h.3 (back N h.1 rest2 k3)))
+    alts_fit : (V : ℕ → Type 0) → ((x : ℕ) → V x) → (xs : Alts) → ReadableAlts names xs
+        → FitsAlts N V xs
+    alts_fit V v NoAlts h = tt
+    alts_fit V v (AndAlt p e xs) h = (
+      pattern_below p h.0,
+      expr_fits (And V (names_of (bound_by p))) (λ x. inl (v x)) e h.1,
+      alts_fit V v xs h.2,
+    )
 
--- ---- a text's program
+-- ---- a program
 
 pub record FunctionFits (N : ℕ) (f : Function) : Type 0 where
   pub name : f.name < N
@@ -163,36 +121,89 @@ pub record ProgramFits (c : Program) : Type 0 where
   pub constructors : AllOf (λ (d : Data). d.name < length c.names) c.constructors
   pub functions : AllOf (FunctionFits (length c.names)) c.functions
 
-record DeclsFit (N : ℕ) (ds : List Decl) : Type 0 where
-  constructors : AllOf (λ (d : Data). d.name < N) (constructors_of ds)
-  functions : AllOf (FunctionFits N) (functions_of ds)
+data_fit : (names : List (List ℕ)) (ds : List Data) → All (ReadableData names) ds
+    → AllOf (λ (d : Data). d.name < length names) ds
+data_fit names [] h = tt
+data_fit names (d ∷ ds) h =
+    let here = All-head (ReadableData names) d ds h in (
+      named_below names IsConstructor d.name here.0,
+      data_fit names ds (All-tail (ReadableData names) d ds h),
+    )
 
-decls_fit : (N : ℕ) (room : NestingLimit) (ds : List Decl) (ts : List Lexeme) → SpellsDecls room ds ts → EachBelow N ts → DeclsFit N ds
-decls_fit N room [] ts h k = record { constructors = tt; functions = tt }
-decls_fit N room (Declares d ∷ ds) ts h k =
-    let k2 = subst (EachBelow N) h.4 k in
-    let more = decls_fit N room ds h.1 h.3 (back N h.0 h.1 k2) in
-    let here = subst (EachBelow N) h.2.3 (front N h.0 h.1 k2) in
-    record { constructors = (here.1.0, more.constructors); functions = more.functions }
-decls_fit N room (Defines f ∷ ds) ts h k =
-    let k2 = subst (EachBelow N) h.4 k in
-    let more = decls_fit N room ds h.1 h.3 (back N h.0 h.1 k2) in
-    let g = h.2 in
-    let close = lexeme g.1 word.Semicolon ∷ [] in
-    let rest = lexeme g.0 word.Equals ∷ (g.2 ++ close) in
-    let here = subst (EachBelow N) g.4 (front N h.0 h.1 k2) in
-    let k3 : EachBelow N (g.2 ++ close) = (back N (binders f.params) rest here.1).1 in
-    record {
-      constructors = more.constructors;
-      functions = (record { name = here.0; params = binders_below N f.params (front N (binders f.params) rest here.1); body = expr_fits N true room (λ x. Unit {0}) (λ x. tt) 0 f.body g.2 g.3 (front N g.2 close k3) }, more.functions);
-    }
+functions_fit : (names : List (List ℕ)) (fs : List Function) → All (ReadableFunction names) fs
+    → AllOf (FunctionFits (length names)) fs
+functions_fit names [] h = tt
+functions_fit names (f ∷ fs) h =
+    let here = All-head (ReadableFunction names) f fs h in (
+      record {
+        name = named_below names IsName f.name here.0;
+        params = binders_below names f.params here.1;
+        body = expr_fits names (λ x. Unit {0}) (λ x. tt) f.body here.2;
+      },
+      functions_fit names fs (All-tail (ReadableFunction names) f fs h),
+    )
 
-pub text_fits : (text : List ℕ) (c : Program) → IsSourceText text c → ProgramFits c
-text_fits text c t =
-    let q = t.program in
-    let held : EachHeld Lambdas c.names t.pieces = subst (λ v. EachHeld Lambdas v t.pieces) (sym q.names) (each_held Lambdas [] t.pieces) in
-    let r = decls_fit (length c.names) _ q.decls (map (said Lambdas c.names) t.pieces) q.spelled (each_below Lambdas c.names t.pieces held) in
-    record {
-      constructors = subst (AllOf (λ (d : Data). d.name < length c.names)) q.constructors r.constructors;
-      functions = subst (AllOf (FunctionFits (length c.names))) q.functions r.functions;
-    }
+pub tree_fits : (c : Program) → IsReadable c → ProgramFits c
+tree_fits c h = record {
+  constructors = data_fit c.names c.constructors h.constructors;
+  functions
+      = functions_fit c.names c.functions h.functions;
+}
+
+-- ---- a text's program
+
+-- a number that is not out of range is in range
+in_range : (k : ℤ) → ((IsInRange k → ⊥) → ⊥) → IsInRange k
+in_range (pos n) h = go (nat_lt 2147483647 n) refl
+  where
+    go : (b : Bool) → nat_lt 2147483647 n ≡ b → IsInRange (pos n)
+    go true e = absurd
+        (h (λ r. let lt : 2147483647 < n = grind (arith, nat_tests) in omega (arith, ints, r.1)))
+    go false e = let le : n ≤ 2147483647 = grind (arith, nat_tests)
+        in (omega (arith, ints), omega (arith, ints))
+in_range (negsuc n) h = go (nat_lt 2147483647 n) refl
+  where
+    go : (b : Bool) → nat_lt 2147483647 n ≡ b → IsInRange (negsuc n)
+    go true e = absurd
+        (h (λ r. let lt : 2147483647 < n = grind (arith, nat_tests) in omega (arith, ints, r.0)))
+    go false e = let le : n ≤ 2147483647 = grind (arith, nat_tests)
+        in (omega (arith, ints), omega (arith, ints))
+
+all_in_range : (text : List ℕ) → BreaksNoReadingRule text → (us vs : List Piece)
+    → IsTokens Lambdas text (us ++ vs) → AreInRange Lambdas vs
+all_in_range text u us [] r = tt
+all_in_range text u us (x ∷ vs) r = (
+  λ digits. in_range (written_number x.bytes) (λ outside. u 3 x.at (NumberRange x.at (record {
+    before = us;
+    here = x;
+    begins = begins_at text (us ++ (x ∷ vs)) us x vs (length text) [] r refl;
+    integer = digits;
+    outside = outside;
+  }))),
+  all_in_range text u (us ++ x ∷ []) vs (subst (IsTokens Lambdas text) (sym (one_last us x vs)) r),
+)
+
+short_text : (text : List ℕ) → BreaksNoReadingRule text → length text ≤ 1048576
+short_text text u = go (nat_lt 1048576 (length text)) refl
+  where
+    go : (b : Bool) → nat_lt 1048576 (length text) ≡ b → length text ≤ 1048576
+    go true e = absurd (u 5 1048576 (TextTooLong (grind (arith, nat_tests))))
+    go false e = grind (arith, nat_tests)
+
+-- each token has a byte
+fewer : {at end : ℕ} {bytes rest : List ℕ} {pieces : List Piece}
+    → Reads Lambdas at bytes pieces end rest → at + length pieces ≤ end
+fewer (Stops at rest) = omega arith
+fewer (Passes at n bytes pieces end rest h r) = let f = fewer r in omega arith
+fewer (Takes at n bytes k pieces end rest h r) = let f = fewer r in let g = longest_some bytes n k h
+    in omega arith
+
+few : (text : List ℕ) (pieces : List Piece) → length text ≤ 1048576 → IsTokens Lambdas text pieces
+    → length pieces ≤ 1048576
+few text pieces short r = let f = fewer r in let g = ends_at r in omega arith
+
+pub text_readable : (text : List ℕ) (c : Program) → BreaksNoReadingRule text → IsSourceText text c
+    → IsReadable c
+text_readable text c u t =
+    readable unlimited_nesting c t.pieces t.program (all_in_range text u [] t.pieces t.tokens)
+    (few text t.pieces (short_text text u) t.tokens)

@@ -1,5 +1,5 @@
 -- The program of Core in which each lambda and each local function is a function of its own.
-use Rattle.std.specs.Prelude.{ℕ, zero, suc, ◌+◌, List, [], ◌∷◌, ◌++◌, map, length, codes, decimal}
+use Rattle.std.specs.Prelude.{◌≢◌, ℕ, zero, suc, ◌+◌, ◌<◌, List, [], ◌∷◌, ◌++◌, map, length, All, codes, decimal}
 use Rattle.core_reader.specs.declared.syntax.Binder.{Binder}
 use Rattle.core_reader.specs.Tree as core
 use Rattle.core_reader.specs.Grammar.{name_id}
@@ -115,3 +115,11 @@ lifted c = record {
   constructors = c.constructors;
   functions = lifted_bodies c 0 c.functions ++ lifted_functions c 0 (abstractions c);
 }
+
+-- a name is not that of one of the functions number 0 to n
+abbrev pub IsNotLifted : ℕ → List ℕ → Type 0
+IsNotLifted n w = (k : ℕ) → k < n → w ≢ codes "lift'" ++ decimal k
+
+-- no name of a program is that of a function that lifting adds
+abbrev pub HasNoLiftedName : Program → Type 0
+HasNoLiftedName c = All (IsNotLifted (length (abstractions c))) c.names

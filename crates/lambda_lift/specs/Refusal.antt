@@ -1,10 +1,11 @@
 -- What the refusals of lifting name.
-use Rattle.std.specs.Prelude.{ℕ, List}
+use Rattle.std.specs.Prelude.{ℕ, ◌≤◌, List}
 use Rattle.core_reader.specs.declared.refusal.ReadRefusal.{ReadRefusal}
 use Rattle.core_reader.specs.declared.refusal.ReadRefusal.TheVariants as from
 use Rattle.lambda_lift.specs.declared.refusal.LiftRefusal.{LiftRefusal}
 use Rattle.lambda_lift.specs.declared.refusal.LiftRefusal.TheVariants.{BadByte, Syntax, NumberRange, TooDeep, TextTooLong, TooManyParameters, ReservedLift, Memory}
-use Rattle.lambda_lift.specs.Rules.{IsFirstBroken}
+use Rattle.lambda_reader.specs.Tree.{Program}
+use Rattle.lambda_lift.specs.Rules.{IsFirstBroken, IsTooBroad}
 use Rattle.limits.specs.Limits.{most_bytes}
 
 -- the number of the broken rule
@@ -46,3 +47,19 @@ IsCause text TextTooLong = IsFirstBroken text 5 most_bytes
 IsCause text (TooManyParameters at) = IsFirstBroken text 61 at
 IsCause text (ReservedLift at) = IsFirstBroken text 62 at
 IsCause text (Memory e) = Unit {0}
+
+-- Rule 61 is broken at this place of a tree, and at none before it.
+pub record IsFirstTooBroad (c : Program) (at : ℕ) : Type 0 where
+  pub broken : IsTooBroad c at
+  pub first : (at' : ℕ) → IsTooBroad c at' → at ≤ at'
+
+-- Of a tree nothing else can be refused.
+abbrev pub IsTreeCause : Program → LiftRefusal → Type 0
+IsTreeCause c (BadByte at) = ⊥
+IsTreeCause c (Syntax at) = ⊥
+IsTreeCause c (NumberRange at) = ⊥
+IsTreeCause c (TooDeep at) = ⊥
+IsTreeCause c TextTooLong = ⊥
+IsTreeCause c (TooManyParameters at) = IsFirstTooBroad c at
+IsTreeCause c (ReservedLift at) = ⊥
+IsTreeCause c (Memory e) = Unit {0}

@@ -30,3 +30,8 @@ pub data IsFirstBroken (text : List ℕ) : (k at : ℕ) → Type 0 where
 pub record IsUnbroken (text : List ℕ) : Type 0 where
   pub read : BreaksNoReadingRule text
   pub lifted : (k at : ℕ) → Broken text k at → ⊥
+
+-- rule 61 is broken at a place of a tree
+pub data IsTooBroad (c : Program) : (at : ℕ) → Type 0 where
+  TooBroad : {a : Abstraction} (i : ℕ) → slice_get (abstractions c) i ≡ Some a
+      → 12 < length (free c a.scope a.params a.body) + length a.params → IsTooBroad c a.at

@@ -2,7 +2,7 @@
 //! function of its own, and what the text means without lifting.
 //!
 //! `lift` takes the bytes of a text and gives its lifted program, or the first rule that the text
-//! breaks.
+//! breaks. `lift_program` takes a tree.
 //!
 //! `specs/` has the free names of a lambda (`Free`), the lambdas of a text in order
 //! (`Abstractions`), the rules (`Rules`), what a refusal names (`Refusal`), the lifted program
@@ -21,7 +21,7 @@ mod words;
 
 ghost use Rattle.lambda_lift.specs.Examples.{Examples};
 
-pub use lifter::lift;
+pub use lifter::{lift, lift_program};
 pub use refusal::LiftRefusal;
 
 /// What small texts with lambdas put out and are lifted to, computed from the definitions.

@@ -1,11 +1,14 @@
 //! Each lambda and each local function as a function of its own.
 
-ghost use Rattle.std.specs.Prelude.{◌≡◌, ◌∷◌, [], length, IfOk, map};
+ghost use Rattle.std.specs.Prelude.{◌≡◌, ◌<◌, ◌∷◌, ◌++◌, [], length, set, IfOk, map};
+ghost use Rattle.core_reader.specs.declared.syntax.Function.{Function as code_function};
 ghost use Rattle.core_reader.specs.Grammar.{name_id};
 ghost use Rattle.core_reader.specs.Tree as core;
 ghost use Rattle.lambda_reader.specs.Tree.{NoBinds, NoAlts};
+ghost use Rattle.lambda_reader.specs.Tree as source;
 ghost use Rattle.lambda_reader.specs.Code.{term, application, member, group_of, expr as expr_of, alternative, alts_of, function as function_of};
 ghost use Rattle.lambda_lift.specs.Headers.{within};
+ghost use Rattle.lambda_lift.specs.Free.{free};
 ghost use Rattle.lambda_lift.specs.Abstractions.{in_term, in_group, in_expr, in_alts, in_functions};
 ghost use Rattle.lambda_lift.specs.Lifted.{arguments, parameters, lifted_name, applied, lift_term, lift_group, lift, lift_alts, lifted_bodies};
 ghost use Rattle.lambda_lift.specs.Gathered.{program_of_names};
@@ -22,6 +25,7 @@ use seq::Seq;
 use std::alloc::{AllocError, Global};
 
 /// The name of the function of this number.
+#[inline(never)]
 fn name_of(words: &Words, number: usize) -> Result<NameId, AllocError>
     ensures { IfOk result (λ name. name ≡ name_id (lifted_name (program_of_names words.now) number)) }
 {
@@ -35,6 +39,7 @@ fn name_of(words: &Words, number: usize) -> Result<NameId, AllocError>
 }
 
 /// Names as arguments.
+#[inline(never)]
 fn arguments(alloc: Global, names: &[u32], at: u32) -> Result<Seq<Atom>, AllocError>
     ensures { IfOk result (λ args. core.terms_of (map core.term args) ≡ arguments at names.now) }
 {
@@ -46,6 +51,7 @@ fn arguments(alloc: Global, names: &[u32], at: u32) -> Result<Seq<Atom>, AllocEr
 }
 
 /// Names as parameters.
+#[inline(never)]
 fn parameters(alloc: Global, names: &[u32], at: u32) -> Result<Seq<Binder>, AllocError>
     ensures { IfOk result (λ params. params ≡ parameters at names.now) }
 {
@@ -60,10 +66,95 @@ fn parameters(alloc: Global, names: &[u32], at: u32) -> Result<Seq<Binder>, Allo
 }
 
 /// What stands in the place of a body that is not lifted yet.
+#[inline(never)]
 fn no_body(alloc: Global) -> Expr {
     Expr::App(App {
         head: Atom::Int(0, 0),
         args: Seq::new(alloc),
+    })
+}
+
+/// A function whose body is not lifted yet: its name, the names that are free as arguments, and the
+/// same as parameters.
+#[derive(Drop)]
+struct Begun {
+    name: NameId,
+    args: Seq<Atom>,
+    params: Seq<Binder>,
+}
+
+/// A function whose body is not lifted yet stands behind the others. This is no part of the
+/// recursion, whose frames stay small so.
+#[inline(never)]
+fn begin(
+    alloc: Global,
+    words: &Words,
+    scope: &Scope,
+    made: &mut Seq<Function>,
+    params: &[Binder],
+    body: &lambda::Expr,
+    at: u32,
+) -> Result<Begun, AllocError>
+    ensures made { IfOk result (λ _. (f : code_function) × (made.new ≡ made.old ++ f ∷ [])) }
+    ensures name { IfOk result (λ begun. begun.name
+        ≡ name_id (lifted_name (program_of_names words.now) (length made.old))) }
+    ensures args { IfOk result (λ begun. core.terms_of (map core.term begun.args)
+        ≡ arguments at (free (program_of_names words.now) scope.now params.now (expr_of body.now))) }
+    ensures params { IfOk result (λ begun. begun.params
+        ≡ parameters at (free (program_of_names words.now) scope.now params.now (expr_of body.now))) }
+{
+    let name = name_of(words, made.len())?;
+    let free = free_names(alloc, words, scope, params, body)?;
+    let args = arguments(alloc, free.as_slice(), at)?;
+    let all = parameters(alloc, free.as_slice(), at)?;
+    made.push(Function {
+        name,
+        at,
+        params: Seq::new(alloc),
+        body: no_body(alloc),
+    })?;
+    Ok(Begun {
+        name,
+        args,
+        params: all,
+    })
+}
+
+/// The function of this number with its body in place of the one that was begun, and what stands
+/// for it. This is no part of the recursion either.
+#[inline(never)]
+fn finish(
+    made: &mut Seq<Function>,
+    number: usize,
+    begun: Begun,
+    at: u32,
+    params: Seq<Binder>,
+    body: Expr,
+) -> Result<App, AllocError>
+    requires { number < length made.old }
+    ensures made { IfOk result (λ _. made.new ≡ set made.old number
+        (record { name = begun.name; at = at; params = begun.params ++ params; body = body })) }
+    ensures app { IfOk result (λ app. core.application app
+        ≡ record { head = core.Name begun.name.0 at; args = core.terms_of (map core.term begun.args) }) }
+{
+    let Begun {
+        name,
+        args,
+        params: mut all,
+    } = begun;
+    all.append(params)?;
+    made.set(
+        number,
+        Function {
+            name,
+            at,
+            params: all,
+            body,
+        },
+    );
+    Ok(App {
+        head: Atom::Name(name, at),
+        args,
     })
 }
 
@@ -145,31 +236,10 @@ fn abstraction(
         ≡ applied (program_of_names words.now) scope.old (length made.old) params (expr_of body) at) }
 {
     let number = made.len();
-    let name = name_of(words, number)?;
-    let free = free_names(alloc, words, scope, params.as_slice(), &body)?;
-    let args = arguments(alloc, free.as_slice(), at)?;
-    let mut all = parameters(alloc, free.as_slice(), at)?;
-    made.push(Function {
-        name,
-        at,
-        params: Seq::new(alloc),
-        body: no_body(alloc),
-    })?;
+    let begun = begin(alloc, words, scope, made, params.as_slice(), &body, at)?;
     let body = under(alloc, words, scope, made, params.as_slice(), body)?;
-    all.append(params)?;
-    made.set(
-        number,
-        Function {
-            name,
-            at,
-            params: all,
-            body,
-        },
-    );
-    Ok(App {
-        head: Atom::Name(name, at),
-        args,
-    })
+    let app = finish(made, number, begun, at, params, body)?;
+    Ok(app)
 }
 
 /// An expression that binders stand around.
@@ -269,21 +339,63 @@ fn expr(
 {
     match source {
         lambda::Expr::App(inner) => Ok(Expr::App(app(alloc, words, scope, made, inner)?)),
-        lambda::Expr::Let(group, body) => {
-            let depth = scope.len();
-            let binders = binders_of(alloc, group.as_slice())?;
-            words.enter_all(scope, binders.as_slice())?;
-            let binds = members(alloc, words, scope, made, group)?;
-            let inner = expr(alloc, words, scope, made, Box::into_inner(body))?;
-            scope.leave(depth);
-            Ok(Expr::Let(binds, Box::new(alloc, inner)?))
-        }
-        lambda::Expr::Case(tested, alts) => {
-            let value = expr(alloc, words, scope, made, Box::into_inner(tested))?;
-            let arms = alternatives(alloc, words, scope, made, alts)?;
-            Ok(Expr::Case(Box::new(alloc, value)?, arms))
-        }
+        lambda::Expr::Let(group, body) => let_in(alloc, words, scope, made, group, body),
+        lambda::Expr::Case(tested, alts) => case_of(alloc, words, scope, made, tested, alts),
     }
+}
+
+/// An expression under a let group.
+#[cycle(lift)]
+#[inline(never)]
+fn let_in(
+    alloc: Global,
+    words: &Words,
+    scope: &mut Scope,
+    made: &mut Seq<Function>,
+    group: Seq<lambda::Bind>,
+    body: Box<lambda::Expr>,
+) -> Result<Expr, AllocError>
+    ensures scope { IfOk result (λ _. scope.new ≡ scope.old) }
+    ensures made { IfOk result (λ _. map core.function made.new
+        ≡ with_lifted_functions (program_of_names words.now) (map core.function made.old)
+        (in_expr (program_of_names words.now) scope.old
+        (source.Let (group_of (map member group)) (expr_of body.value)))) }
+    ensures lifted { IfOk result (λ new. core.expr new
+        ≡ lift (program_of_names words.now) scope.old (length made.old)
+        (source.Let (group_of (map member group)) (expr_of body.value))) }
+{
+    let depth = scope.len();
+    let binders = binders_of(alloc, group.as_slice())?;
+    words.enter_all(scope, binders.as_slice())?;
+    let binds = members(alloc, words, scope, made, group)?;
+    let inner = expr(alloc, words, scope, made, Box::into_inner(body))?;
+    scope.leave(depth);
+    Ok(Expr::Let(binds, Box::new(alloc, inner)?))
+}
+
+/// A case.
+#[cycle(lift)]
+#[inline(never)]
+fn case_of(
+    alloc: Global,
+    words: &Words,
+    scope: &mut Scope,
+    made: &mut Seq<Function>,
+    tested: Box<lambda::Expr>,
+    alts: Seq<lambda::Alt>,
+) -> Result<Expr, AllocError>
+    ensures scope { IfOk result (λ _. scope.new ≡ scope.old) }
+    ensures made { IfOk result (λ _. map core.function made.new
+        ≡ with_lifted_functions (program_of_names words.now) (map core.function made.old)
+        (in_expr (program_of_names words.now) scope.old
+        (source.Case (expr_of tested.value) (alts_of (map alternative alts))))) }
+    ensures lifted { IfOk result (λ new. core.expr new
+        ≡ lift (program_of_names words.now) scope.old (length made.old)
+        (source.Case (expr_of tested.value) (alts_of (map alternative alts)))) }
+{
+    let value = expr(alloc, words, scope, made, Box::into_inner(tested))?;
+    let arms = alternatives(alloc, words, scope, made, alts)?;
+    Ok(Expr::Case(Box::new(alloc, value)?, arms))
 }
 
 /// The alternatives of a case.

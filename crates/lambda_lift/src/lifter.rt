@@ -1,15 +1,17 @@
 //! Lambda lifting of a text.
 
-ghost use Rattle.std.specs.Prelude.{◌≡◌, ◌++◌, codes, decimal, All, OnOk, IfOk, IfErr};
-ghost use Rattle.core_reader.specs.Tree.{program};
+ghost use Rattle.std.specs.Prelude.{◌≡◌, ◌++◌, ℕ, codes, decimal, All, OnOk, IfOk, IfErr};
+ghost use Rattle.core_reader.specs.Tree.{program as core_tree};
 ghost use Rattle.core_reader.specs.Different.{AreDistinct};
 ghost use Rattle.core_reader.specs.Readable.{IsReadable};
-ghost use Rattle.lambda_reader.specs.Tree.{Program};
+ghost use Rattle.lambda_reader.specs.Code.{program as tree_of};
+ghost use Rattle.lambda_reader.specs.Tree.{Program as tree};
 ghost use Rattle.lambda_reader.specs.Programs.{IsSourceText};
-ghost use Rattle.lambda_lift.specs.Lifted.{lifted, lifted_names};
-ghost use Rattle.lambda_lift.specs.Rules.{IsUnbroken};
-ghost use Rattle.lambda_lift.specs.Refusal.{IsCause};
-ghost use Rattle.lambda_lift.specs.Choosing.{earliest_refusal, program_of_parts, IsUnreservedName};
+ghost use Rattle.lambda_reader.specs.Readable.{IsReadable as IsReadableTree};
+ghost use Rattle.lambda_lift.specs.Lifted.{lifted, lifted_names, IsNotLifted, HasNoLiftedName};
+ghost use Rattle.lambda_lift.specs.Rules.{IsTooBroad, IsUnbroken};
+ghost use Rattle.lambda_lift.specs.Refusal.{IsCause, IsTreeCause};
+ghost use Rattle.lambda_lift.specs.Choosing.{earliest_refusal, program_of_parts};
 
 use crate::lifted::bodies;
 use crate::refusal::LiftRefusal;
@@ -17,7 +19,7 @@ use crate::rules::first_over_parameter_limit;
 use crate::words::Words;
 use core_reader::{Core, Data, Names};
 use itoa::Buffer;
-use lambda_reader::{Function, read_lambdas};
+use lambda_reader::{Function, Program, read_lambdas};
 use seq::Seq;
 use std::alloc::{AllocError, Global};
 
@@ -54,7 +56,7 @@ fn name_text(alloc: Global, number: u32) -> Result<Seq<u8>, AllocError>
 /// Names with those of so many lifted functions behind them.
 fn with_lifted(alloc: Global, names: Names, count: usize) -> Result<Names, AllocError>
     requires different { AreDistinct names }
-    requires unreserved { All IsUnreservedName names }
+    requires free { All (IsNotLifted count) names }
     ensures { IfOk result (λ all. all ≡ names ++ lifted_names 0 count) }
 {
     let Ok(count) = u32::try_from(count) else {
@@ -67,7 +69,7 @@ fn with_lifted(alloc: Global, names: Names, count: usize) -> Result<Names, Alloc
     Ok(Names::from_vec(entries))
 }
 
-/// The lifted program of a text.
+/// The lifted program of a tree.
 fn lifted(
     alloc: Global,
     words: Words,
@@ -75,8 +77,8 @@ fn lifted(
     functions: Seq<Function>,
 ) -> Result<Core, AllocError>
     requires different { AreDistinct words }
-    requires unreserved { All IsUnreservedName words }
-    ensures { IfOk result (λ core. program core ≡ lifted (program_of_parts words constructors functions)) }
+    requires free { HasNoLiftedName (program_of_parts words constructors functions) }
+    ensures { IfOk result (λ core. core_tree core ≡ lifted (program_of_parts words constructors functions)) }
 {
     let mut made = Seq::new(alloc);
     let mut all = bodies(alloc, &words, &mut made, functions)?;
@@ -90,14 +92,36 @@ fn lifted(
     })
 }
 
+/// The program of Core in which each lambda and each local function of a readable tree is a function
+/// of its own, where none of the tree's names is one of the new ones; or the first place of rule 61.
+/// Want of memory may come in place of each answer.
+pub fn lift_program(alloc: Global, program: Program) -> Result<Core, LiftRefusal>
+    requires readable { IsReadableTree (tree_of program) }
+    requires free { HasNoLiftedName (tree_of program) }
+    ensures lifted { IfOk result (λ core. core_tree core ≡ lifted (tree_of program)) }
+    ensures unbroken { OnOk result ((at : ℕ) → IsTooBroad (tree_of program) at → ⊥) }
+    ensures readable { IfOk result (λ core. IsReadable (core_tree core)) }
+    ensures refused { IfErr result (IsTreeCause (tree_of program)) }
+{
+    let words = Words::new(alloc, program.names)?;
+    let too_broad = first_over_parameter_limit(alloc, &words, program.functions.as_slice())?;
+    match too_broad {
+        Some(at) => Err(LiftRefusal::TooManyParameters(at)),
+        None => {
+            let core = lifted(alloc, words, program.constructors, program.functions)?;
+            Ok(core)
+        }
+    }
+}
+
 /// The program of Core in which each lambda and each local function of a text is a function of its
 /// own, or the first rule that the text breaks: of the rules 1 to 5, and where it breaks none of
 /// these, of 61 and 62 by place, and at one place by number. Want of memory may come in place of
 /// each answer.
 pub fn lift(alloc: Global, text: &[u8]) -> Result<Core, LiftRefusal>
-    ensures lifted { IfOk result (λ core. (c : Program) × IsSourceText text.now c × (program core ≡ lifted c)) }
+    ensures lifted { IfOk result (λ core. (c : tree) × IsSourceText text.now c × (core_tree core ≡ lifted c)) }
     ensures unbroken { OnOk result (IsUnbroken text.now) }
-    ensures readable { IfOk result (λ core. IsReadable (program core)) }
+    ensures readable { IfOk result (λ core. IsReadable (core_tree core)) }
     ensures refused { IfErr result (IsCause text.now) }
 {
     let found = read_lambdas(alloc, text)?;

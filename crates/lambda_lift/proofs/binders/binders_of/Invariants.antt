@@ -4,4 +4,5 @@ use Rattle.lambda_lift.specs.Headers.{binders_of}
 use Rattle.lambda_lift.proofs.binders.binders_of.Given as goal
 
 abbrev pub invariant-loop-bind : goal.invariant-loop-bind
-invariant-loop-bind l = l.made ++ binders_of (group_of (map member (drop l.bind-index l.group))) ≡ binders_of (group_of (map member l.group))
+invariant-loop-bind l = l.made ++ binders_of (group_of (map member (drop l.bind-index l.group))) ≡
+    binders_of (group_of (map member l.group))

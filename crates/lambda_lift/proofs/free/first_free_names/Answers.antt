@@ -14,6 +14,9 @@ returns c =
     let s : Scope = c.args.scope.now in
     let e = expr c.args.body.now in
     c.in_ok-under.ensures.found
-    ∙ (λ i. collected_in_scope names s c.args.limit (c.new-found.ensures i) (uses (names_of c.args.params.now ++ scope_names (c.new-inside.ensures i)) e))
-    ∙ ap (λ xs. collected_in_scope names s c.args.limit [] (uses xs e)) (append-nil (names_of c.args.params.now))
-    ∙ gathered_free (is_local (program_of_names names) s) c.args.limit (uses (names_of c.args.params.now) e)
+    ∙ (λ i. collected_in_scope names s c.args.limit (c.new-found.ensures i)
+    (uses (names_of c.args.params.now ++ scope_names (c.new-inside.ensures i)) e))
+    ∙ ap (λ xs. collected_in_scope names s c.args.limit [] (uses xs e))
+    (append-nil (names_of c.args.params.now))
+    ∙ gathered_free (is_local (program_of_names names) s) c.args.limit
+    (uses (names_of c.args.params.now) e)

@@ -9,4 +9,7 @@ all_of : (n : ℕ) (found xs : List ℕ) → found ≡ take n xs → length foun
 all_of n found xs e l = e ∙ not_cut n xs (subst (λ ys. length ys < n) e l)
 
 pub returns : goal.returns
-returns c = all_of 18446744073709551615 c.in_ok-found.found (free (program_of_names c.args.words.now) c.args.scope.now c.args.params.now (expr c.args.body.now)) c.in_ok-found.ensures (omega (arith, c.len.ensures, c.if-len-ge18446744073709551615.false))
+returns c = all_of 18446744073709551615 c.in_ok-found.found
+    (free (program_of_names c.args.words.now) c.args.scope.now c.args.params.now
+    (expr c.args.body.now)) c.in_ok-found.ensures
+    (omega (arith, c.len.ensures, c.if-len-ge18446744073709551615.false))

@@ -11,9 +11,11 @@ same_test a b = grind arith
 
 hidden : (s : Scope) (x : ℕ) → is_some (innermost_local s x) ≡ is_among x (scope_names s)
 hidden [] x = refl
-hidden (b ∷ s) x = by (nat_eq b.0 x) (hidden s x) ∙ ap (λ t. t || is_among x (scope_names s)) (same_test b.0 x)
+hidden (b ∷ s) x = by (nat_eq b.0 x) (hidden s x) ∙ ap (λ t. t || is_among x (scope_names s))
+    (same_test b.0 x)
   where
-    by : (t : Bool) → is_some (innermost_local s x) ≡ is_among x (scope_names s) → is_some (if t then Some b.1 else innermost_local s x) ≡ (t || is_among x (scope_names s))
+    by : (t : Bool) → is_some (innermost_local s x) ≡ is_among x (scope_names s)
+        → is_some (if t then Some b.1 else innermost_local s x) ≡ (t || is_among x (scope_names s))
     by true h = refl
     by false h = h
 

@@ -9,6 +9,9 @@ use Rattle.lambda_lift.proofs.lifted.bodies.Given as goal
 
 abbrev pub invariant-loop-function : goal.invariant-loop-function
 invariant-loop-function l = record {
-  made : map core.function l.made ≡ with_lifted_functions (program_of_names l.words) (map core.function l.fn.made) (in_functions (program_of_names l.words) (map function l.yielded));
-  bodies : map core.function l.bodies ≡ lifted_bodies (program_of_names l.words) (length l.fn.made) (map function l.yielded);
+  made : map core.function l.made ≡ with_lifted_functions (program_of_names l.words)
+      (map core.function l.fn.made)
+      (in_functions (program_of_names l.words) (map function l.yielded));
+  bodies : map core.function l.bodies ≡ lifted_bodies (program_of_names l.words) (length l.fn.made)
+      (map function l.yielded);
 }

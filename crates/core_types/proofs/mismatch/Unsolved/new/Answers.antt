@@ -38,4 +38,4 @@ returns c =
     let b : ConstraintBuilder = c.in_ok-builder.builder in
     let h = c.in_ok-builder.ensures s c.in_ok-context.ensures in
     let u = answered c.as_slice.result.now b.nodes.terms.items c.as_slice-pairs.result.now b.pairs.items c.in_ok-number.number c.as_slice.ensures.value c.as_slice-pairs.ensures.value c.in_ok-number.ensures in
-    record { sound = h.0; stands = h.1; first = first_in b (constraints s) h.0 h.1 c.in_ok-number.number u }
+    record { sound = h.0; stands = h.1; first = first_in b (constraints s) h.0 h.1 c.in_ok-number.number u; terms = u }
