@@ -169,7 +169,7 @@ module _ (s : Source) (room : NestingLimit) where
 
   abbrev pattern_by : Typed → ℕ → Option (TypeDecl × Constructor) → List Constraint
   pattern_by u at o =
-      elim o [ | Some x ↦ constraint s at u (applied s x.0 (used_at s at)) ∷ [] | None ↦ [] ]
+      elim o [ Some x ↦ constraint s at u (applied s x.0 (used_at s at)) ∷ [] | None ↦ [] ]
 
   by_constructor : (u : Typed) (at : ℕ) (w : Token) (ts : List Lexeme) (o : Option (TypeDecl × Constructor)) → StandsIn (pattern_by u at o) (lexeme at w ∷ ts)
   by_constructor u at w ts (Some x) = first at w _ _ (nothing ts)
@@ -195,7 +195,7 @@ module _ (s : Source) (room : NestingLimit) where
 
   abbrev signed_by : Function → Option Signature → List Constraint
   signed_by f o =
-      elim o [ | Some g ↦ constraint s f.at (signed s (λ n. Rigid f.name n) g) (own_type s f) ∷ [] | None ↦ [] ]
+      elim o [ Some g ↦ constraint s f.at (signed s (λ n. Rigid f.name n) g) (own_type s f) ∷ [] | None ↦ [] ]
 
   by_signature : (f : Function) (w : Token) (o : Option Signature) → StandsIn (signed_by f o) (lexeme f.at w ∷ [])
   by_signature f w (Some g) = first f.at w _ _ (nothing [])
