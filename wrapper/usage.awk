@@ -5,12 +5,12 @@ function said(text) { printf "%s", text; exit }
 
 # The operands, the options with their ranges, and those that have to stand, of each command.
 function commands() {
-    many = "run check list build exec gen link lift match types sides points"
-    operand["run"] = operand["check"] = operand["list"] = operand["build"] = operand["lift"] = "FILE"
+    many = "run check list build costs exec gen link lift match types sides points"
+    operand["run"] = operand["check"] = operand["list"] = operand["build"] = operand["costs"] = operand["lift"] = "FILE"
     operand["match"] = operand["types"] = operand["sides"] = operand["points"] = operand["link"] = "FILE"
     operand["exec"] = "IMAGE"
     options["run"] = "--heap --stack --steps --stats"
-    options["build"] = "--heap --stack"
+    options["build"] = options["costs"] = "--heap --stack"
     options["list"] = needed["list"] = "--after"
     options["exec"] = "--steps --stats"
     options["gen"] = needed["gen"] = "--seed --size"

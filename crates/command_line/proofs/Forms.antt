@@ -4,7 +4,7 @@ use Rattle.std.specs.List.{list_any}
 use Rattle.std.specs.Option.{option_map, option_and_then}
 use Rattle.std.specs.Str.{bytes_eq}
 use Rattle.std.proofs.lemmas.Slice.Eq.{bytes_eq-Decides}
-use Rattle.command_line.specs.Commands.{CommandLine, RunFile, BuildFile, ExecImage, GenRun, Given, Form, only, option_number, option_stands, cells_of, stack_of, steps_of, stats_of, run_form, list_form, build_form, exec_form, gen_form, file_form, of_operand, without_operand, seed_of, size_of}
+use Rattle.command_line.specs.Commands.{CommandLine, RunFile, ExecImage, GenRun, Given, Form, only, option_number, option_stands, cells_of, stack_of, steps_of, stats_of, run_form, list_form, sized_form, exec_form, gen_form, file_form, of_operand, without_operand, seed_of, size_of}
 use Rattle.command_line.specs.Walk.{option_names}
 
 -- A form has no option but those that there are, and asks for nothing where there are two operands
@@ -95,7 +95,8 @@ run_once given name operands is two = of_none _ operands
       | inl heap ↦ rw (number_two 1000000 1 8000000 (given (codes "heap")) (rw heap at two)) refl
       | inr other ↦ elim
           (first_or_other name (codes "stack") (codes "steps" ∷ codes "stats" ∷ []) other) [
-            | inl stack ↦ no_stack file (cells_of given) (stack_of given) (steps_of given) (stats_of given)
+            | inl stack ↦ no_stack file (cells_of given) (stack_of given) (steps_of given)
+                (stats_of given)
                 (number_two 1048576 1024 67108864 (given (codes "stack")) (rw stack at two))
             | inr third ↦ elim (first_or_other name (codes "steps") (codes "stats" ∷ []) third) [
               | inl steps ↦ no_steps file (cells_of given) (stack_of given) (steps_of given)
@@ -119,20 +120,21 @@ list_once given name operands is two = of_none _ operands
       | inr none ↦ absurd (cc none)
     ])
 
--- the numbers of `build` where the second is none
-built_none : (file : List ℕ) (cells stack : Option ℕ) → stack ≡ None
-    → option_and_then (λ c. option_map (BuildFile file c) stack) cells ≡ None
-built_none file cells stack none = then_none cells (λ c. option_map (BuildFile file c) stack)
+-- two numbers where the second is none
+sized_none : (ask : (cells stack : ℕ) → CommandLine) (cells stack : Option ℕ) → stack ≡ None
+    → option_and_then (λ c. option_map (ask c) stack) cells ≡ None
+sized_none ask cells stack none = then_none cells (λ c. option_map (ask c) stack)
     (λ c. rw none refl)
 
-build_once : (given : Given) (name : List ℕ) (operands : List (List ℕ))
-    → list_any (bytes_eq name) build_form.options ≡ true → 2 ≤ length (given name)
-    → build_form.asks given operands ≡ None
-build_once given name operands is two = of_none _ operands
+sized_once : (ask : List ℕ → (cells stack : ℕ) → CommandLine) (given : Given) (name : List ℕ)
+    (operands : List (List ℕ))
+    → list_any (bytes_eq name) (sized_form ask).options ≡ true → 2 ≤ length (given name)
+    → (sized_form ask).asks given operands ≡ None
+sized_once ask given name operands is two = of_none _ operands
     (λ file. elim (first_or_other name (codes "heap") (codes "stack" ∷ []) is) [
       | inl heap ↦ rw (number_two 1000000 1 8000000 (given (codes "heap")) (rw heap at two)) refl
       | inr other ↦ elim (first_or_other name (codes "stack") [] other) [
-        | inl stack ↦ built_none file (cells_of given) (stack_of given)
+        | inl stack ↦ sized_none (ask file) (cells_of given) (stack_of given)
             (number_two 1048576 1024 67108864 (given (codes "stack")) (rw stack at two))
         | inr none ↦ absurd (cc none)
       ]
@@ -149,7 +151,8 @@ exec_once : (given : Given) (name : List ℕ) (operands : List (List ℕ))
     → exec_form.asks given operands ≡ None
 exec_once given name operands is two = of_none _ operands
     (λ image. elim (first_or_other name (codes "steps") (codes "stats" ∷ []) is) [
-      | inl steps ↦ rw (number_two 1000000000 1 1000000000000 (given (codes "steps")) (rw steps at two))
+      | inl steps ↦
+          rw (number_two 1000000000 1 1000000000000 (given (codes "steps")) (rw steps at two))
           refl
       | inr other ↦ elim (first_or_other name (codes "stats") [] other) [
         | inl stats ↦ executed_none image (steps_of given) (stats_of given)
@@ -235,10 +238,10 @@ list_strict = record {
       = λ given operands two. of_two _ operands two;
 }
 
-pub build_strict : Strict build_form
-build_strict = record {
-  known = known_among build_form.options option_names refl;
-  once = build_once;
+pub sized_strict : (ask : List ℕ → (cells stack : ℕ) → CommandLine) → Strict (sized_form ask)
+sized_strict ask = record {
+  known = known_among (codes "heap" ∷ codes "stack" ∷ []) option_names refl;
+  once = sized_once ask;
   alone
       = λ given operands two. of_two _ operands two;
 }

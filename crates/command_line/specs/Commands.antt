@@ -10,7 +10,7 @@ use Rattle.command_line.specs.declared.command.Listing.{Listing}
 use Rattle.command_line.specs.declared.command.Listing.TheVariants.{Read, Stage, Code}
 use Rattle.command_line.specs.declared.files.FileOperands.{FileOperands}
 use Rattle.command_line.specs.declared.command.Command.{Command}
-use Rattle.command_line.specs.declared.command.Command.TheVariants.{Run, Check, List as Listed, Build, Exec, Gen, Link, Lift, Match, Types, Sides, Points}
+use Rattle.command_line.specs.declared.command.Command.TheVariants.{Run, Check, List as Listed, Build, Costs, Exec, Gen, Link, Lift, Match, Types, Sides, Points}
 use Rattle.limits.specs.Limits.{default_cells, most_cells, default_stack, least_stack, most_stack, default_steps, most_steps}
 
 -- what a command line asks for
@@ -19,6 +19,7 @@ pub data CommandLine : Type 0 where
   CheckFile : (file : List ℕ) → CommandLine
   ListFile : (file : List ℕ) → (after : Listing) → CommandLine
   BuildFile : (file : List ℕ) → (cells stack : ℕ) → CommandLine
+  CostsFile : (file : List ℕ) → (cells stack : ℕ) → CommandLine
   ExecImage : (image : List ℕ) → (steps : ℕ) → (stats : Bool) → CommandLine
   GenRun : (seed size : ℕ) → CommandLine
   LinkFiles : (files : List (List ℕ)) → CommandLine
@@ -38,6 +39,7 @@ asked_by (Run file cells stack steps stats) = RunFile file.now cells stack steps
 asked_by (Check file) = CheckFile file.now
 asked_by (Listed file after) = ListFile file.now after
 asked_by (Build file cells stack) = BuildFile file.now cells stack
+asked_by (Costs file cells stack) = CostsFile file.now cells stack
 asked_by (Exec image steps stats) = ExecImage image.now steps stats
 asked_by (Gen seed size) = GenRun seed size
 asked_by (Link files) = LinkFiles (names_of files)
@@ -164,14 +166,22 @@ list_form = record {
       option_map (ListFile file) (option_and_then listing_of (only (given (codes "after")))));
 }
 
--- `build FILE`, with or without `--heap N` and `--stack N`
-abbrev pub build_form : Form
-build_form = record {
+-- a form with a file, with or without `--heap N` and `--stack N`
+abbrev pub sized_form : (ask : List ℕ → (cells stack : ℕ) → CommandLine) → Form
+sized_form ask = record {
   options = codes "heap" ∷ codes "stack" ∷ [];
   asks =
       λ given. of_operand (λ file. option_and_then (λ cells.
-      option_map (BuildFile file cells) (stack_of given)) (cells_of given));
+      option_map (ask file cells) (stack_of given)) (cells_of given));
 }
+
+-- `build FILE`, with or without `--heap N` and `--stack N`
+abbrev pub build_form : Form
+build_form = sized_form BuildFile
+
+-- `costs FILE`, with or without `--heap N` and `--stack N`
+abbrev pub costs_form : Form
+costs_form = sized_form CostsFile
 
 -- `exec IMAGE`, with or without `--steps N` and `--stats`
 abbrev pub exec_form : Form
@@ -227,6 +237,7 @@ by_name ask name =
     else (if bytes_eq name (codes "check") then ask check_form
     else (if bytes_eq name (codes "list") then ask list_form
     else (if bytes_eq name (codes "build") then ask build_form
+    else (if bytes_eq name (codes "costs") then ask costs_form
     else (if bytes_eq name (codes "exec") then ask exec_form
     else (if bytes_eq name (codes "gen") then ask gen_form
     else (if bytes_eq name (codes "lift") then ask lift_form
@@ -234,7 +245,7 @@ by_name ask name =
     else (if bytes_eq name (codes "types") then ask types_form
     else (if bytes_eq name (codes "sides") then ask sides_form
     else (if bytes_eq name (codes "points") then ask points_form
-    else None))))))))))
+    else None)))))))))))
 
 -- what parts with options of the form alone ask for
 abbrev pub asked : List OptionOrOperand → Form → Option CommandLine

@@ -2,7 +2,7 @@
 
 ghost use Rattle.std.specs.Prelude.{◌≡◌, ℕ, List, map, string_bytes};
 ghost use Rattle.std.specs.Option.{option_map, option_and_then};
-ghost use Rattle.command_line.specs.Commands.{asked_by, asked, command_from, listing_of, run_form, check_form, list_form, build_form, exec_form, gen_form, file_form, lift_form, match_form, types_form, sides_form, points_form, link_form, CommandLine};
+ghost use Rattle.command_line.specs.Commands.{asked_by, asked, command_from, listing_of, run_form, check_form, list_form, build_form, costs_form, sized_form, exec_form, gen_form, file_form, lift_form, match_form, types_form, sides_form, points_form, link_form, CommandLine};
 ghost use Rattle.command_line.specs.Parts.{parts_of};
 ghost use Rattle.command_line.specs.Walk.{said, asked_said, chosen};
 
@@ -47,6 +47,13 @@ pub enum Command<'a> {
     /// `build FILE --heap N --stack N`: write the image of the file with a heap of so many cells
     /// and a stack of so many bytes, a multiple of four or not.
     Build {
+        file: &'a str,
+        cells: u32,
+        stack: u32,
+    },
+    /// `costs FILE --heap N --stack N`: write what the image that `build` writes for the same words
+    /// needs.
+    Costs {
         file: &'a str,
         cells: u32,
         stack: u32,
@@ -128,6 +135,7 @@ impl<'a> Command<'a> {
             "check" => Command::check(arguments),
             "list" => Command::list(arguments),
             "build" => Command::build(arguments),
+            "costs" => Command::costs(arguments),
             "exec" => Command::exec(arguments),
             "gen" => Command::generate(arguments),
             "lift" => Command::lift(arguments),
@@ -257,9 +265,11 @@ impl<'a> Command<'a> {
         })
     }
 
-    /// `build` with its arguments.
-    fn build(arguments: Arguments<'a>) -> Option<Command<'a>>
-        ensures { option_map asked_by result ≡ asked_said (said arguments.entry) build_form }
+    /// The file of a command about an image, and the image's cells and bytes of stack.
+    fn file_and_sizes(arguments: Arguments<'a>) -> Option<(&'a str, u32, u32)>
+        ensures { (ask : List ℕ → (cells stack : ℕ) → CommandLine)
+            → option_map (λ (file, cells, stack). ask file.now cells stack) result
+            ≡ asked_said (said arguments.entry) (sized_form ask) }
     {
         let Arguments {
             operand: Some(file),
@@ -276,7 +286,23 @@ impl<'a> Command<'a> {
         };
         let cells = CELLS.read_u32(heap)?;
         let stack = STACK.read_u32(stack)?;
+        Some((file, cells, stack))
+    }
+
+    /// `build` with its arguments.
+    fn build(arguments: Arguments<'a>) -> Option<Command<'a>>
+        ensures { option_map asked_by result ≡ asked_said (said arguments.entry) build_form }
+    {
+        let (file, cells, stack) = Command::file_and_sizes(arguments)?;
         Some(Command::Build { file, cells, stack })
+    }
+
+    /// `costs` with its arguments.
+    fn costs(arguments: Arguments<'a>) -> Option<Command<'a>>
+        ensures { option_map asked_by result ≡ asked_said (said arguments.entry) costs_form }
+    {
+        let (file, cells, stack) = Command::file_and_sizes(arguments)?;
+        Some(Command::Costs { file, cells, stack })
     }
 
     /// `exec` with its arguments.

@@ -124,18 +124,20 @@ pub has_layers : (g : grin.Program) (cells stack : ℕ) (m : Layers) (items : Li
     (selects : Selects (low.program_of m.low) m.places cells stack items)
     → (placed : Placed items m.code.items)
     → m.starts.items ≡ addresses_of placed.lay items selects.begins
-    → m.names.items ≡ names_of g.procs
+    → m.names.items ≡ names_of g.procs → m.frames.items ≡ m.places.frames
     → AllDecode m.code.items → size_of items ≤ 268435456
     → UsesRegisters (low.program_of m.low) m.places → HasLayers g cells stack m
-has_layers g cells stack m items formed lowers small fits selects placed starts names decode few
-    uses = record {
+has_layers g cells stack m items formed lowers small fits selects placed starts names frames decode
+    few uses = record {
       formed = formed;
       items = items;
-      made = record { lowers = lowers; small = small; fits = fits; selects = selects; placed = placed };
+      made = record
+          { lowers = lowers; small = small; fits = fits; selects = selects; placed = placed };
       some_words = placed.some selects.some_item.0 selects.some_item.1;
       few_words = omega (arith, placed.few, few);
       decode = decode;
       uses = uses;
       starts = starts;
       names = names;
+      frames = frames;
     }

@@ -74,6 +74,7 @@ lowered c = record {
     code = c.code;
     starts = c.starts;
     names = c.names;
+    frames = c.frames;
   };
   image = c.image;
 }
@@ -129,6 +130,7 @@ module _ (does : ValidTranslationPreservesRuns) (p : core.Program) (valid : IsVa
     width = m.layers.low.width;
     starts = m.layers.starts;
     names = m.layers.names;
+    frames = m.layers.frames;
   })
   built = record {
     made = record {
@@ -148,8 +150,9 @@ module _ (does : ValidTranslationPreservesRuns) (p : core.Program) (valid : IsVa
     starts = refl;
     width = cell_bytes g m.layers.low.width made.lowers.width;
     names = has.layers.names;
+    frames = has.layers.frames;
     places = m.layers.places;
-    frames = refl;
+    placed_frames = refl;
     through = is_made_through;
   }
 
@@ -182,6 +185,7 @@ compilation does p valid cells stack c stages has =
           (λ hs. AllOf Formed (after c Translate ∷ after c Eval ∷ after c Apply ∷ hs)) is
           stages.formed;
       names = has.layers.names;
+      frames = has.layers.frames;
       image = is_image does p valid cells stack _ (later c) g chosen (lowered c) has;
       through = is_made_through does p valid cells stack _ (later c) g chosen (lowered c) has;
     }
@@ -209,6 +213,7 @@ pub built_of : (p : core.Program) (cells stack : ℕ) (c : Compiled) → IsCompi
       width = c.low.width;
       starts = c.starts;
       names = c.names;
+      frames = c.frames;
     })
 unfolding made_by
 built_of p cells stack c h = record {
@@ -217,7 +222,8 @@ built_of p cells stack c h = record {
   starts = refl;
   width = cell_bytes h.g c.low.width h.through.layers.lowers.width;
   names = h.names;
+  frames = h.frames;
   places = c.places;
-  frames = refl;
+  placed_frames = refl;
   through = h.through;
 }

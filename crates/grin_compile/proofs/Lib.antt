@@ -4,6 +4,7 @@ pub mod Images
 pub mod Layered
 pub mod WordsLeft
 pub mod WordsDone
+pub mod NextAddress
 pub mod ProcedureWords
 pub mod Paced
 pub mod Tells

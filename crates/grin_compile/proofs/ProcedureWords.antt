@@ -16,6 +16,7 @@ use Rattle.rv32_items.proofs.Stands.{stands}
 use Rattle.rv32_items.proofs.Addresses.{begin_at}
 use Rattle.grin_compile.specs.Limits.{greatest}
 use Rattle.grin_compile.specs.Words.{next_address, procedures_end, words_from, start_words, code_words, entered_words, most_steps}
+use Rattle.grin_compile.proofs.NextAddress.{next_within}
 use Rattle.grin_compile.proofs.WordsLeft.{end_at, end_before, end_by, left_in, stops_within, rise}
 
 -- ---- the next address
@@ -44,15 +45,6 @@ next_least (b ∷ bs) end a x top all =
         let here = all b first lt in
         omega (arith, here, rest)
     go false e rest = rest
-
-next_within : (bs : List ℕ) (end a : ℕ) → next_address bs end a ≤ end
-next_within [] end a = omega arith
-next_within (b ∷ bs) end a = go (nat_lt a b) (next_within bs end a)
-  where
-    go : (t : Bool) → next_address bs end a ≤ end
-        → (if t then min b (next_address bs end a) else next_address bs end a) ≤ end
-    go true rest = omega (arith, rest)
-    go false rest = rest
 
 -- ---- the words of one procedure
 

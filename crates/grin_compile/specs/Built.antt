@@ -10,14 +10,15 @@ use Rattle.grin_compile.specs.Provenance.{IsMadeThrough}
 
 -- an image that is made of the last slim stage of p: its code, which is made of low code with its
 -- variables at some places, the words of a cell of that stage, and of each of its procedures the
--- address at which it starts, and the name
+-- address at which it starts, the name, and the words of its frame
 pub record IsBuilt (p : core.Program) (cells stack : ℕ) (b : Built) : Type 0 where
   pub made : Made p cells stack b.image.items
   pub code : b.code.items ≡ made.code
   pub starts : b.starts.items ≡ made.addresses
   pub width : heap_bytes made.g 1 ≡ 4 * b.width
   pub names : b.names.items ≡ names_of made.g.procs
+  pub frames : b.frames.items ≡ made.frames
   pub places : Assignment
-  pub frames : made.frames ≡ places.frames
+  pub placed_frames : made.frames ≡ places.frames
   pub through :
       IsMadeThrough p made.solution made.g made.low places cells stack made.code made.addresses

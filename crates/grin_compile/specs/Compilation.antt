@@ -32,7 +32,7 @@ later c = map (after c) passes
 
 -- the stages of p, each well formed; an image that is made of the last one that is slim; its code,
 -- which is made of the low code with its variables at the places; and of each procedure the address
--- at which it starts, and the name
+-- at which it starts, the name, and the words of its frame
 pub record IsCompilation (p : core.Program) (cells stack : ℕ) (c : Compiled) : Type 0 where
   pub translated : IsStage p Translate (after c Translate)
   pub evaluated : IsStage p Eval (after c Eval)
@@ -45,6 +45,7 @@ pub record IsCompilation (p : core.Program) (cells stack : ℕ) (c : Compiled) :
   pub g : grin.Program
   pub last : IsLastSlim p solution (later c) g
   pub names : c.names.items ≡ names_of g.procs
+  pub frames : c.frames.items ≡ c.places.frames
   pub image :
       IsImageOf p solution g (low.program_of c.low) c.places.frames cells stack
       c.code.items c.starts.items c.image.items

@@ -63,7 +63,7 @@ pub record AreSizes (cells stack : ℕ) : Type 0 where
   pub words : stack % 4 ≡ 0
 
 -- the layers below a program of GRIN, with as much code as can be placed; where the labels of its
--- procedures stand, and their names
+-- procedures stand, their names, and the words of their frames
 pub record HasLayers (g : grin.Program) (cells stack : ℕ) (m : Layers) : Type 0 where
   pub formed : low_formed.Formed (low.program_of m.low)
   pub items : List Item
@@ -74,6 +74,7 @@ pub record HasLayers (g : grin.Program) (cells stack : ℕ) (m : Layers) : Type 
   pub uses : UsesRegisters (low.program_of m.low) m.places
   pub starts : m.starts.items ≡ addresses_of made.placed.lay items made.selects.begins
   pub names : m.names.items ≡ names_of g.procs
+  pub frames : m.frames.items ≡ m.places.frames
 
 -- the layers below a program of GRIN, and the file of the image of their words
 pub record HasImage (g : grin.Program) (cells stack : ℕ) (m : Lowered) : Type 0 where

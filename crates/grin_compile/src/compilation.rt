@@ -33,7 +33,7 @@ pub struct Options {
 
 /// A compiled program: its stages, the low code of the last of them of which code is made, the
 /// places of its variables, the words of the code, the address at which each procedure of that
-/// stage starts and its name, and the bytes of the image.
+/// stage starts, its name and the words of its frame, and the bytes of the image.
 #[derive(Drop)]
 pub struct Compiled {
     pub stages: Stages,
@@ -42,6 +42,7 @@ pub struct Compiled {
     pub code: Vec<u32>,
     pub starts: Vec<u32>,
     pub names: Vec<Text>,
+    pub frames: Vec<u32>,
     pub image: Vec<u8>,
 }
 
@@ -111,6 +112,7 @@ pub fn compile(alloc: Global, p: &Checked, options: Options) -> Result<Compiled,
         code: layers.code,
         starts: layers.starts,
         names: layers.names,
+        frames: layers.frames,
         image: lowered.image,
     })
 }

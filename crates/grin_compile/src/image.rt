@@ -23,7 +23,7 @@ use std::alloc::Global;
 use vectorised_form::vectorise_takes_inlined;
 
 /// An image and what else is asked of it: the words of its code, its bytes, the words of a cell,
-/// and of each procedure the address at which it starts, and the name.
+/// and of each procedure the address at which it starts, the name, and the words of its frame.
 #[derive(Drop)]
 pub struct Built {
     /// The words of the code.
@@ -36,6 +36,8 @@ pub struct Built {
     pub starts: Vec<u32>,
     /// The names of the procedures.
     pub names: Vec<Text>,
+    /// How many words the frames of the procedures have.
+    pub frames: Vec<u32>,
 }
 
 /// What of a compiled program an image is made of. All else of it is dropped here and nowhere else,
@@ -50,6 +52,7 @@ fn kept(compiled: Compiled) -> Built
         width: compiled.low.width,
         starts: compiled.starts,
         names: compiled.names,
+        frames: compiled.frames,
     }
 }
 
@@ -94,5 +97,6 @@ pub fn build(alloc: Global, p: &Checked, options: Options) -> Result<Built, Comp
         width: layers.low.width,
         starts: layers.starts,
         names: layers.names,
+        frames: layers.frames,
     })
 }

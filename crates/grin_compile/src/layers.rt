@@ -21,7 +21,7 @@ use seq::{Seq, Text};
 use std::alloc::{AllocError, Global};
 
 /// Low code, the places of its variables, the words that are made of them, and of each procedure
-/// the address at which its code starts, and the name.
+/// the address at which its code starts, the name, and the words of its frame.
 #[derive(Drop)]
 pub struct Layers {
     pub low: Low,
@@ -29,6 +29,7 @@ pub struct Layers {
     pub code: Vec<u32>,
     pub starts: Vec<u32>,
     pub names: Vec<Text>,
+    pub frames: Vec<u32>,
 }
 
 /// How many procedures there are.
@@ -50,6 +51,18 @@ fn names(alloc: Global, procs: &[Proc]) -> Result<Vec<Text>, AllocError>
     Ok(names)
 }
 
+/// The words of the frame of each of so many procedures.
+fn frames(alloc: Global, places: &Places, procs: u32) -> Result<Vec<u32>, AllocError>
+    requires { length places.now.frames ≡ procs }
+    ensures { IfOk result (λ frames. frames.items ≡ places.now.frames) }
+{
+    let mut frames = Vec::with_capacity(alloc, procs as usize)?;
+    for proc in 0..procs {
+        frames.push(places.frame_words(proc))?;
+    }
+    Ok(frames)
+}
+
 /// The layers below a program, for an image with so many cells and so many bytes of stack.
 /// `AllocError` where memory is wanting.
 pub fn layers_below(alloc: Global, g: &Grin, cells: u32, stack: u32) -> Result<Layers, AllocError>
@@ -62,14 +75,17 @@ pub fn layers_below(alloc: Global, g: &Grin, cells: u32, stack: u32) -> Result<L
     let low = lower(alloc, g)?;
     let places = allocate(alloc, &low)?;
     let asm = select(alloc, &low, &places, cells, stack)?;
-    let placement = place(alloc, &asm, procedures(&low))?;
+    let procs = procedures(&low);
+    let placement = place(alloc, &asm, procs)?;
     let names = names(alloc, g.procs.as_slice())?;
+    let frames = frames(alloc, &places, procs)?;
     Ok(Layers {
         low,
         places,
         code: placement.words,
         starts: placement.addresses,
         names,
+        frames,
     })
 }
 

@@ -7,6 +7,7 @@ mod later;
 pub mod laws;
 mod layers;
 mod stages;
+pub mod words;
 
 pub use compilation::{Compiled, Options, compile};
 pub use image::{Built, build};

@@ -2,6 +2,7 @@ pub mod Fronts
 pub mod Unread
 pub mod Outcomes
 pub mod TypedRuns
+pub mod WrittenRuns
 pub mod Execution
 pub mod Costs
 pub mod Stores

@@ -35,9 +35,8 @@ use Rattle.grin_driver.specs.Execution.{OfGiven, Stops, Fails, Execution, IsUnlo
 use Rattle.grin_driver.specs.Outcome.{IsRunRefusal, IsImageOf, IsBuildFailure, status_of_exit, RunsTo, Breaks, Says, Runs, Outcome}
 use Rattle.grin_syntax.specs.SameOutside.{names_of}
 use Rattle.grin_driver.specs.declared.cost.Cost.{Cost}
-use Rattle.grin_driver.specs.Costs.{has_stopped, state_at, AreCounts, IsRunCost, IsCostOf, Counted, CountsExecution, CostsRun, CostsText}
+use Rattle.grin_driver.specs.Costs.{has_stopped, state_at, AreCounts, IsRunCost, IsCostOf, ExecutesWithCounts, CountsOfExecution, CostsText, RunsAtCost}
 use Rattle.grin_driver.specs.declared.cost.RunCounts.{RunCounts}
-use Rattle.grin_driver.proofs.Costs.{counted_stops}
 use Rattle.text_commands.proofs.Texts.{refused_long, accepted_short}
 use Rattle.grin_driver.proofs.Fronts.{took_output, gave_used, took_front}
 use Rattle.grin_driver.proofs.Unread.{takes_no_byte}
@@ -53,6 +52,12 @@ named_stops (Exited (suc (suc (suc (suc (suc zero)))))) = refl
 named_stops (Exited (suc (suc (suc (suc (suc (suc k))))))) = refl
 named_stops _ = refl
 
+stop_stops : (stop : Stop) → has_stopped (status_of stop) ≡ true
+stop_stops Steps = refl
+stop_stops (Exit zero) = refl
+stop_stops (Exit (suc code)) = refl
+stop_stops (Trap kind pc) = refl
+
 -- ---- refusals
 
 abbrev is_translate : PassName → Bool
@@ -60,11 +65,14 @@ is_translate Translate = true
 is_translate _ = false
 
 -- a program that is too large has no stage behind the translation
-pub too_large : (p : Program) (refusal : CompileRefusal) → ExceedsSizeLimit p refusal → StageExceedsLimit p Eval refusal
-too_large p (ExpandedTooLarge size) h = ((λ e. let c : false ≡ true = ap is_translate e in absurd cc), h.0, h.1)
+pub too_large : (p : Program) (refusal : CompileRefusal) → ExceedsSizeLimit p refusal
+    → StageExceedsLimit p Eval refusal
+too_large p (ExpandedTooLarge size) h =
+    ((λ e. let c : false ≡ true = ap is_translate e in absurd cc), h.0, h.1)
 too_large p (Memory e) h = h
 
-pub unlisted_is_unmade : (text : List ℕ) (status : Status) → IsListFailure text Eval status → IsBuildFailure text status
+pub unlisted_is_unmade : (text : List ℕ) (status : Status) → IsListFailure text Eval status
+    → IsBuildFailure text status
 unlisted_is_unmade text (Refused k at) (inl h) = inl h
 unlisted_is_unmade text (Refused k at) (inr h) = inr (h.0, h.2)
 unlisted_is_unmade text OutOfMemory h = h
@@ -85,24 +93,34 @@ rule_below SegmentsTooLarge = omega arith
 rule_below (OutOfMemory' e) = omega arith
 
 -- a file that loads breaks no rule
-pub loadable : (file : List ℕ) (image : Image) (k at : ℕ) → Loads file image → IsUnloadable file k at → ⊥
+pub loadable : (file : List ℕ) (image : Image) (k at : ℕ) → Loads file image
+    → IsUnloadable file k at → ⊥
 loadable file image k at loads u = loads.unbroken u.refusal (rule_below u.refusal) u.broken
 
 -- whatever a text's file loads as carries the text's program
-pub carried : (text : List ℕ) (cells stack : ℕ) (file : List ℕ) (from : IsImageOf text cells stack file) (image : Image) → Loads file image
-    → Carries (HeapIsExceeded cells) (StackIsExceeded (largest_frame from.made.frames) (whole_words stack)) (core_program_meaning from.program) (observed_image image)
+pub carried : (text : List ℕ) (cells stack : ℕ) (file : List ℕ)
+    (from : IsImageOf text cells stack file) (image : Image) → Loads file image
+    → Carries (HeapIsExceeded cells)
+    (StackIsExceeded (largest_frame from.made.frames) (whole_words stack))
+    (core_program_meaning from.program) (observed_image image)
 carried text cells stack file from image loads =
-    subst (λ b. Carries (HeapIsExceeded cells) (StackIsExceeded (largest_frame from.made.frames) (whole_words stack)) (core_program_meaning from.program) (observed_image b))
+    subst (λ b. Carries (HeapIsExceeded cells)
+    (StackIsExceeded (largest_frame from.made.frames) (whole_words stack))
+    (core_program_meaning from.program) (observed_image b))
     (from.made.image.loads.program ∙ sym loads.program) from.made.image.code_for.carries
 
 -- and where it exits with 3, x5 tells its last step in the code of the procedures
-tells_last : (text : List ℕ) (cells stack : ℕ) (file : List ℕ) (from : IsImageOf text cells stack file) (image : Image) → Loads file image
-    → (bytes : List ℕ) → IsBytes bytes → (m : ℕ) → TellsLastStep from.stops.stops (start_of image) bytes m
+tells_last : (text : List ℕ) (cells stack : ℕ) (file : List ℕ)
+    (from : IsImageOf text cells stack file) (image : Image) → Loads file image
+    → (bytes : List ℕ) → IsBytes bytes → (m : ℕ) → TellsLastStep from.stops.stops (start_of image)
+    bytes m
 tells_last text cells stack file from image loads bytes are m =
     subst (λ b. TellsLastStep from.stops.stops (start_of b) bytes m)
     (from.made.image.loads.program ∙ sym loads.program) (from.stops.tells_last bytes are m)
 
-told_by : (e : MachineEnd) (stops : ℕ) (way : List ℕ) (x5 : ℕ) → ((s : State) → e ≡ exited 3 s → IsLastBefore stops way (s.regs 5 - 4)) → stop_at e ≡ Exit 3 → reg (state_at e) 5 ≡ x5
+told_by : (e : MachineEnd) (stops : ℕ) (way : List ℕ) (x5 : ℕ)
+    → ((s : State) → e ≡ exited 3 s → IsLastBefore stops way (s.regs 5 - 4)) → stop_at e ≡ Exit 3
+    → reg (state_at e) 5 ≡ x5
     → IsLastBefore stops way (x5 - 4)
 told_by (Going s) stops way x5 tells h x = cc
 told_by (exited code s) stops way x5 tells h x =
@@ -122,14 +140,18 @@ exits_with_3 (Exit (suc (suc (suc (suc (suc (suc k))))))) e = cc
 exits_with_3 (Trap kind pc) e = cc
 
 -- and keeps pace with it
-pub paced : (text : List ℕ) (cells stack : ℕ) (file : List ℕ) (from : IsImageOf text cells stack file) (image : Image) → Loads file image
-    → KeepsPace (most_steps from.made.code from.made.addresses) (core_program_meaning from.program) (observed_image image)
+pub paced : (text : List ℕ) (cells stack : ℕ) (file : List ℕ)
+    (from : IsImageOf text cells stack file) (image : Image) → Loads file image
+    → KeepsPace (most_steps from.made.code from.made.addresses) (core_program_meaning from.program)
+    (observed_image image)
 paced text cells stack file from image loads =
-    subst (λ b. KeepsPace (most_steps from.made.code from.made.addresses) (core_program_meaning from.program) (observed_image b))
+    subst (λ b. KeepsPace (most_steps from.made.code from.made.addresses)
+    (core_program_meaning from.program) (observed_image b))
     (from.made.image.loads.program ∙ sym loads.program) from.made.image.paced
 
 -- where a machine runs on, what it has come to has no end
-runs_on : (t : Telling) (s : MachineObservation) → s.finish ≡ runs → ReachesResult t s → (t.end ≡ going) × IsPrefixOf t.out s.out
+runs_on : (t : Telling) (s : MachineObservation) → s.finish ≡ runs → ReachesResult t s
+    → (t.end ≡ going) × IsPrefixOf t.out s.out
 runs_on t s on (inl r) = (by_end t.end r.1, r.0)
   where
     by_end : (e : carries.End) → EndMatchesExit e t s → e ≡ going
@@ -153,24 +175,35 @@ finish_at (Going s) = refl
 finish_at (exited code s) = refl
 finish_at (Stopped kind s) = refl
 
-module _ {I K : Type 0} (i : SourceChange I) (o : SinkChange K) (Heap Stack : Telling → Type 0) (told : ℕ → Telling) (image : Image) (steps : ℕ) (bytes given : List ℕ)
-    (c : (n : ℕ) × Comes Heap Stack told n (observed_image image bytes steps)) (each : ℕ) (reaches : (n : ℕ) → each * (n + 1) ≤ steps → ReachesResult (told n) (observed_image image bytes steps)) where
-  pub says_stopped : (stop : Stop) → (observed_image image bytes steps).finish ≡ finish_by stop → Finishes Heap Stack told c.0 (observed_image image bytes steps) (finish_by stop)
-      → TookExactly o (pieces steps bytes (start_of image)) → bytes ≡ given ++ (run steps bytes (start_of image)).left
+module _ {I K : Type 0} (i : SourceChange I) (o : SinkChange K) (Heap Stack : Telling → Type 0)
+    (told : ℕ → Telling) (image : Image) (steps : ℕ) (bytes given : List ℕ)
+    (c : (n : ℕ) × Comes Heap Stack told n (observed_image image bytes steps)) (each : ℕ)
+    (reaches : (n : ℕ) → each * (n + 1) ≤ steps
+    → ReachesResult (told n) (observed_image image bytes steps)) where
+  pub says_stopped : (stop : Stop) → (observed_image image bytes steps).finish ≡ finish_by stop
+      → Finishes Heap Stack told c.0 (observed_image image bytes steps) (finish_by stop)
+      → TookExactly o (pieces steps bytes (start_of image)) → bytes ≡ given
+      ++ (run steps bytes (start_of image)).left
       → Says i o Heap Stack told given each steps (status_of_exit (status_of stop))
   says_stopped Steps is f took left = record {
     keeps_pace = λ n enough.
-        let r = runs_on (told n) (observed_image image bytes steps) is (reaches n enough) in
-        (r.0, took_output i o steps bytes (start_of image) (λ out. IsPrefixOf (told n).out out) took r.1);
+        let r = runs_on (told n) (observed_image image bytes steps) is (reaches n enough) in (
+          r.0,
+          took_output i o steps bytes (start_of image) (λ out. IsPrefixOf (told n).out out) took
+              r.1,
+        );
     units = c.0;
-    took = took_output i o steps bytes (start_of image) (λ out. IsPrefixOf out (told c.0).out) took c.1.output;
-    gave = gave_used i o steps bytes (start_of image) given (λ count. count ≤ (told c.0).used) left c.1.used;
+    took = took_output i o steps bytes (start_of image) (λ out. IsPrefixOf out (told c.0).out) took
+        c.1.output;
+    gave = gave_used i o steps bytes (start_of image) given (λ count. count ≤ (told c.0).used) left
+        c.1.used;
   }
   says_stopped (Exit zero) is f took left = record {
     units = c.0;
     ended = f.2;
     took = took_output i o steps bytes (start_of image) (λ out. out ≡ (told c.0).out) took f.0;
-    gave = gave_used i o steps bytes (start_of image) given (λ count. count ≡ (told c.0).used) left f.1;
+    gave = gave_used i o steps bytes (start_of image) given (λ count. count ≡ (told c.0).used) left
+        f.1;
   }
   says_stopped (Exit (suc zero)) is f took left = absurd f
   says_stopped (Exit (suc (suc zero))) is f took left = absurd f
@@ -178,27 +211,36 @@ module _ {I K : Type 0} (i : SourceChange I) (o : SinkChange K) (Heap Stack : Te
     units = c.0;
     ended = f.2;
     took = took_output i o steps bytes (start_of image) (λ out. out ≡ (told c.0).out) took f.0;
-    gave = gave_used i o steps bytes (start_of image) given (λ count. count ≡ (told c.0).used) left f.1;
+    gave = gave_used i o steps bytes (start_of image) given (λ count. count ≡ (told c.0).used) left
+        f.1;
   }
   says_stopped (Exit (suc (suc (suc (suc zero))))) is f took left = record {
     units = c.0;
     needs = f.0;
-    took = took_output i o steps bytes (start_of image) (λ out. ExtendsShorterRun told c.0 out × IsPrefixOf out (told c.0).out) took (f.1, c.1.output);
-    gave = gave_used i o steps bytes (start_of image) given (λ count. count ≤ (told c.0).used) left c.1.used;
+    took = took_output i o steps bytes (start_of image)
+        (λ out. ExtendsShorterRun told c.0 out × IsPrefixOf out (told c.0).out) took
+        (f.1, c.1.output);
+    gave = gave_used i o steps bytes (start_of image) given (λ count. count ≤ (told c.0).used) left
+        c.1.used;
   }
   says_stopped (Exit (suc (suc (suc (suc (suc zero)))))) is f took left = record {
     units = c.0;
     needs = f.0;
-    took = took_output i o steps bytes (start_of image) (λ out. ExtendsShorterRun told c.0 out × IsPrefixOf out (told c.0).out) took (f.1, c.1.output);
-    gave = gave_used i o steps bytes (start_of image) given (λ count. count ≤ (told c.0).used) left c.1.used;
+    took = took_output i o steps bytes (start_of image)
+        (λ out. ExtendsShorterRun told c.0 out × IsPrefixOf out (told c.0).out) took
+        (f.1, c.1.output);
+    gave = gave_used i o steps bytes (start_of image) given (λ count. count ≤ (told c.0).used) left
+        c.1.used;
   }
   says_stopped (Exit (suc (suc (suc (suc (suc (suc k))))))) is f took left = absurd f
   says_stopped (Trap kind pc) is f took left = absurd f
 
-  pub finish_is : (stop : Stop) → stop_at (run steps bytes (start_of image)).end ≡ stop → (observed_image image bytes steps).finish ≡ finish_by stop
+  pub finish_is : (stop : Stop) → stop_at (run steps bytes (start_of image)).end ≡ stop
+      → (observed_image image bytes steps).finish ≡ finish_by stop
   finish_is stop is = finish_at (run steps bytes (start_of image)).end ∙ ap finish_by is
 
-  pub finishes : (stop : Stop) → stop_at (run steps bytes (start_of image)).end ≡ stop → Finishes Heap Stack told c.0 (observed_image image bytes steps) (finish_by stop)
+  pub finishes : (stop : Stop) → stop_at (run steps bytes (start_of image)).end ≡ stop
+      → Finishes Heap Stack told c.0 (observed_image image bytes steps) (finish_by stop)
   finishes stop is =
       subst (λ f. Finishes Heap Stack told c.0 (observed_image image bytes steps) f)
       (finish_is stop is) c.1.finish
@@ -210,20 +252,27 @@ one_byte_more [] b are small = (small, tt)
 one_byte_more (x ∷ bs) b are small = (are.0, one_byte_more bs b are.1 small)
 
 -- what reads gave are bytes
-pub are_bytes : {I : Type 0} (gives : I → ℕ → Option (List ℕ) → I → Type 0) (from to : I) (given : List ℕ) (ended : Bool) → ReadBytes gives from given ended to → IsBytes given
+pub are_bytes : {I : Type 0} (gives : I → ℕ → Option (List ℕ) → I → Type 0) (from to : I)
+    (given : List ℕ) (ended : Bool) → ReadBytes gives from given ended to → IsBytes given
 are_bytes gives from to given ended no_read = tt
-are_bytes gives from end all ended (next_byte {before} {given} {byte} {last} {to} g exactly small is) =
-    subst IsBytes (sym is) (one_byte_more before byte (are_bytes gives from last before false g) small)
-are_bytes gives from end all over (at_end {given} {ended} {last} {to} g exactly) = are_bytes gives from last given ended g
+are_bytes gives from end all ended
+    (next_byte {before} {given} {byte} {last} {to} g exactly small is) =
+    subst IsBytes (sym is)
+    (one_byte_more before byte (are_bytes gives from last before false g) small)
+are_bytes gives from end all over (at_end {given} {ended} {last} {to} g exactly)
+    = are_bytes gives from last given ended g
 
 length_zero : (bs : List ℕ) → length bs ≡ 0 → bs ≡ []
 length_zero [] e = refl
 length_zero (b ∷ bs) e = cc
 
 -- where no bytes were given and the end wasn't met, there was no read
-no_reads : {I : Type 0} (gives : I → ℕ → Option (List ℕ) → I → Type 0) (from to : I) (given : List ℕ) (ended : Bool) → ReadBytes gives from given ended to → given ≡ [] → ended ≡ false → to ≡ from
+no_reads : {I : Type 0} (gives : I → ℕ → Option (List ℕ) → I → Type 0) (from to : I)
+    (given : List ℕ) (ended : Bool) → ReadBytes gives from given ended to → given ≡ []
+    → ended ≡ false → to ≡ from
 no_reads gives from to given ended no_read none goes_on = refl
-no_reads gives from end all ended (next_byte {before} {given} {byte} {last} {to} g exactly small is) none goes_on = absurd (some before (sym is ∙ none))
+no_reads gives from end all ended (next_byte {before} {given} {byte} {last} {to} g exactly small is)
+    none goes_on = absurd (some before (sym is ∙ none))
   where
     some : (bs : List ℕ) → bs ++ (byte ∷ []) ≡ [] → ⊥
     some [] e = cc
@@ -235,10 +284,12 @@ not_ended true never = absurd (never refl)
 not_ended false never = refl
 
 -- a program whose `main` has no parameter, and its image
-module _ (text : List ℕ) (cells stack : ℕ) (file : List ℕ) (from : IsImageOf text cells stack file) (image : Image) (loads : Loads file image)
+module _ (text : List ℕ) (cells stack : ℕ) (file : List ℕ) (from : IsImageOf text cells stack file)
+    (image : Image) (loads : Loads file image)
     (none : params from.program from.program.main ≡ 0) (steps : ℕ) where
   -- its run uses nothing of an input
-  uses_nothing : (bytes : List ℕ) → IsBytes bytes → used bytes (run steps bytes (start_of image)) ≡ 0
+  uses_nothing : (bytes : List ℕ) → IsBytes bytes → used bytes (run steps bytes (start_of image)) ≡
+      0
   uses_nothing bytes are =
       let c = (carried text cells stack file from image loads).comes bytes are steps in
       let most = c.1.used in
@@ -246,8 +297,10 @@ module _ (text : List ℕ) (cells stack : ℕ) (file : List ℕ) (from : IsImage
       omega (arith, most, told)
 
   -- so none is given
-  given_none : (given : List ℕ) → IsBytes given → length given ≤ used given (run steps given (start_of image)) → given ≡ []
-  given_none given are uses = let nothing = uses_nothing given are in length_zero given (omega (arith, uses, nothing))
+  given_none : (given : List ℕ) → IsBytes given → length given ≤ used given
+      (run steps given (start_of image)) → given ≡ []
+  given_none given are uses = let nothing = uses_nothing given are
+      in length_zero given (omega (arith, uses, nothing))
 
   -- nor asked for
   asks_nothing : (given : List ℕ) → IsBytes given → AsksForMore steps (start_of image) given → ⊥
@@ -258,37 +311,53 @@ module _ (text : List ℕ) (cells stack : ℕ) (file : List ℕ) (from : IsImage
       let count : length one ≡ length given + 1 = length-append given (0 ∷ []) in
       omega (arith, nothing, left, count)
 
-module _ {I K : Type 0} (i : SourceChange I) (o : SinkChange K) (text : List ℕ) (cells stack steps : ℕ) (file : List ℕ) (from : IsImageOf text cells stack file) where
+module _ {I K : Type 0} (i : SourceChange I) (o : SinkChange K) (text : List ℕ)
+    (cells stack steps : ℕ) (file : List ℕ) (from : IsImageOf text cells stack file) where
   -- the program says this status, on whatever input begins with these bytes
   abbrev Said : (given : List ℕ) → (ended : Bool) → Status → Type 0
   Said given ended status =
       (bytes : List ℕ) → BeginsWith given ended bytes → IsBytes bytes
-      → Says i o (HeapIsExceeded cells) (StackIsExceeded (largest_frame from.made.frames) (whole_words stack)) (core_program_meaning from.program bytes) given
+      → Says i o (HeapIsExceeded cells)
+      (StackIsExceeded (largest_frame from.made.frames) (whole_words stack))
+      (core_program_meaning from.program bytes) given
       (most_steps from.made.code from.made.addresses) steps status
 
   module _ (image : Image) (loads : Loads file image) (given : List ℕ) (ended : Bool) where
-    said : (stop : Stop) → Stops i o image steps stop given ended → Said given ended (status_of_exit (status_of stop))
+    said : (stop : Stop) → Stops i o image steps stop given ended
+        → Said given ended (status_of_exit (status_of stop))
     said stop stops bytes begins are =
         let c = (carried text cells stack file from image loads).comes bytes are steps in
         let s = stops.stands bytes begins in
         let each = most_steps from.made.code from.made.addresses in
-        let reaches = λ (n : ℕ) (enough : each * (n + 1) ≤ steps). paced text cells stack file from image loads bytes are n steps enough in
+        let reaches = λ (n : ℕ) (enough : each * (n + 1) ≤ steps). paced text cells stack file from
+        image loads bytes are n steps enough in
         let Heap = HeapIsExceeded cells in
         let Stack = StackIsExceeded (largest_frame from.made.frames) (whole_words stack) in
-        says_stopped i o Heap Stack (core_program_meaning from.program bytes) image steps bytes given c each reaches stop
-        (finish_is i o Heap Stack (core_program_meaning from.program bytes) image steps bytes given c each reaches stop s.0)
-        (finishes i o Heap Stack (core_program_meaning from.program bytes) image steps bytes given c each reaches stop s.0) (stops.took bytes begins) s.1
+        says_stopped i o Heap Stack (core_program_meaning from.program bytes) image steps bytes
+        given c each reaches stop
+        (finish_is i o Heap Stack (core_program_meaning from.program bytes) image steps bytes given
+        c each reaches stop s.0)
+        (finishes i o Heap Stack (core_program_meaning from.program bytes) image steps bytes given c
+        each reaches stop s.0) (stops.took bytes begins) s.1
 
     -- where `main` has no parameter nothing was read
-    untouched : (stop : Stop) → Stops i o image steps stop given ended → params from.program from.program.main ≡ 0 → i.new ≡ i.old
+    untouched : (stop : Stop) → Stops i o image steps stop given ended
+        → params from.program from.program.main ≡ 0 → i.new ≡ i.old
     untouched stop stops none =
         let gave = stops.gave.reads in
         let are = are_bytes i.gives i.old i.new given ended gave in
-        let used_up = gave_used i o steps given (start_of image) given (λ count. count ≤ used given (run steps given (start_of image))) (stops.stands given (itself given ended)).1 (omega arith) in
-        no_reads i.gives i.old i.new given ended gave (given_none text cells stack file from image loads none steps given are used_up)
-        (not_ended ended (λ e. asks_nothing text cells stack file from image loads none steps given are (stops.wanted e)))
+        let used_up = gave_used i o steps given (start_of image) given
+        (λ count. count ≤ used given (run steps given (start_of image)))
+        (stops.stands given (itself given ended)).1 (omega arith) in
+        no_reads i.gives i.old i.new given ended gave
+        (given_none text cells stack file from image loads none steps given are used_up)
+        (not_ended ended
+        (λ e. asks_nothing text cells stack file from image loads none steps given are
+        (stops.wanted e)))
 
-    runs_from : (status : Status) (stop : Stop) → Stops i o image steps stop given ended → RunsTo i o image steps status given ended → Said given ended status → Runs i o text cells stack steps status
+    runs_from : (status : Status) (stop : Stop) → Stops i o image steps stop given ended
+        → RunsTo i o image steps status given ended → Said given ended status
+        → Runs i o text cells stack steps status
     runs_from status stop stops ran says = record {
       file = file;
       from = from;
@@ -303,85 +372,156 @@ module _ {I K : Type 0} (i : SourceChange I) (o : SinkChange K) (text : List ℕ
     }
 
     -- no program says this of the bytes that were given
-    never : (status : Status) → ReadExactly i given ended → Said given ended status → Says i o (HeapIsExceeded cells) (StackIsExceeded (largest_frame from.made.frames) (whole_words stack)) (core_program_meaning from.program given) given
+    never : (status : Status) → ReadExactly i given ended → Said given ended status
+        → Says i o (HeapIsExceeded cells)
+        (StackIsExceeded (largest_frame from.made.frames) (whole_words stack))
+        (core_program_meaning from.program given) given
         (most_steps from.made.code from.made.addresses) steps status
-    never status gave says = says given (itself given ended) (are_bytes i.gives i.old i.new given ended gave.reads)
-
-    -- the run stopped
-    runs_to : (stop : Stop) → Stops i o image steps stop given ended → Said given ended (status_of_exit (status_of stop)) → Outcome i o text cells stack steps (status_of_exit (status_of stop))
-    runs_to Steps ran says = runs_from (status_of_exit (status_of Steps)) Steps ran ran says
-    runs_to (Exit zero) ran says = runs_from (status_of_exit (status_of (Exit 0))) (Exit 0) ran ran says
-    runs_to (Exit (suc zero)) ran says = absurd (never (status_of_exit (status_of (Exit 1))) ran.gave says)
-    runs_to (Exit (suc (suc zero))) ran says = absurd (never (status_of_exit (status_of (Exit 2))) ran.gave says)
-    runs_to (Exit (suc (suc (suc zero)))) ran says = runs_from (status_of_exit (status_of (Exit 3))) (Exit 3) ran ran says
-    runs_to (Exit (suc (suc (suc (suc zero))))) ran says = runs_from (status_of_exit (status_of (Exit 4))) (Exit 4) ran ran says
-    runs_to (Exit (suc (suc (suc (suc (suc zero)))))) ran says = runs_from (status_of_exit (status_of (Exit 5))) (Exit 5) ran ran says
-    runs_to (Exit (suc (suc (suc (suc (suc (suc k))))))) ran says = absurd (never (status_of_exit (status_of (Exit (suc (suc (suc (suc (suc (suc k))))))))) ran.gave says)
-    runs_to (Trap kind pc) ran says = absurd (never (status_of_exit (status_of (Trap kind pc))) ran.gave says)
+    never status gave says = says given (itself given ended)
+        (are_bytes i.gives i.old i.new given ended gave.reads)
 
     -- where its last step in the code of the procedures stood
-    stood : (stop : Stop) → Stops i o image steps stop given ended → (c : RunCounts) → AreCounts image steps given ended c → status_of_exit (status_of stop) ≡ NoAlternative
-        → (bytes : List ℕ) → BeginsWith given ended bytes → IsBytes bytes → IsLastBefore from.stops.stops (trace steps bytes (start_of image)) (c.link - 4)
+    stood : (stop : Stop) → Stops i o image steps stop given ended → (c : RunCounts)
+        → AreCounts image steps given ended c → status_of_exit (status_of stop) ≡ NoAlternative
+        → (bytes : List ℕ) → BeginsWith given ended bytes → IsBytes bytes
+        → IsLastBefore from.stops.stops (trace steps bytes (start_of image)) (c.link - 4)
     stood stop ran c are is bytes begins all =
-        told_by (run steps bytes (start_of image)).end from.stops.stops (trace steps bytes (start_of image)) c.link
-        (tells_last text cells stack file from image loads bytes all steps) ((ran.stands bytes begins).0 ∙ exits_with_3 stop is) (are.x5 bytes begins)
+        told_by (run steps bytes (start_of image)).end from.stops.stops
+        (trace steps bytes (start_of image)) c.link
+        (tells_last text cells stack file from image loads bytes all steps)
+        ((ran.stands bytes begins).0 ∙ exits_with_3 stop is) (are.x5 bytes begins)
 
-    -- what it cost
-    costs_to : (stop : Stop) → Stops i o image steps stop given ended → Said given ended (status_of_exit (status_of stop))
-        → (c : RunCounts) → AreCounts image steps given ended c → (cost : Cost) → IsRunCost (heap_bytes from.made.g 1) cells from.made.addresses (names_of from.made.g.procs) (status_of_exit (status_of stop)) (c.link - 4) c cost
-        → CostsRun i o text cells stack steps (status_of_exit (status_of stop)) cost
+    -- the run stopped, and what it cost
+    costs_to : (stop : Stop) → Stops i o image steps stop given ended
+        → Said given ended (status_of_exit (status_of stop))
+        → (c : RunCounts) → AreCounts image steps given ended c → (cost : Cost)
+        → IsRunCost (heap_bytes from.made.g 1) cells from.made.addresses
+        (names_of from.made.g.procs) (status_of_exit (status_of stop)) (c.link - 4) c cost
+        → RunsAtCost i o text cells stack steps (status_of_exit (status_of stop)) (Some cost)
     unfolding runs_from
-    costs_to Steps ran says c are cost is = record { runs = runs_from (status_of_exit (status_of Steps)) Steps ran ran says; counts = c; are = are; at = c.link - 4; stood = stood Steps ran c are; cost_is = is }
-    costs_to (Exit zero) ran says c are cost is = record { runs = runs_from (status_of_exit (status_of (Exit 0))) (Exit 0) ran ran says; counts = c; are = are; at = c.link - 4; stood = stood (Exit zero) ran c are; cost_is = is }
-    costs_to (Exit (suc zero)) ran says c are cost is = absurd (never (status_of_exit (status_of (Exit 1))) ran.gave says)
-    costs_to (Exit (suc (suc zero))) ran says c are cost is = absurd (never (status_of_exit (status_of (Exit 2))) ran.gave says)
-    costs_to (Exit (suc (suc (suc zero)))) ran says c are cost is = record { runs = runs_from (status_of_exit (status_of (Exit 3))) (Exit 3) ran ran says; counts = c; are = are; at = c.link - 4; stood = stood (Exit (suc (suc (suc zero)))) ran c are; cost_is = is }
-    costs_to (Exit (suc (suc (suc (suc zero))))) ran says c are cost is = record { runs = runs_from (status_of_exit (status_of (Exit 4))) (Exit 4) ran ran says; counts = c; are = are; at = c.link - 4; stood = stood (Exit (suc (suc (suc (suc zero))))) ran c are; cost_is = is }
-    costs_to (Exit (suc (suc (suc (suc (suc zero)))))) ran says c are cost is = record { runs = runs_from (status_of_exit (status_of (Exit 5))) (Exit 5) ran ran says; counts = c; are = are; at = c.link - 4; stood = stood (Exit (suc (suc (suc (suc (suc zero)))))) ran c are; cost_is = is }
-    costs_to (Exit (suc (suc (suc (suc (suc (suc k))))))) ran says c are cost is = absurd (never (status_of_exit (status_of (Exit (suc (suc (suc (suc (suc (suc k))))))))) ran.gave says)
-    costs_to (Trap kind pc) ran says c are cost is = absurd (never (status_of_exit (status_of (Trap kind pc))) ran.gave says)
+    costs_to Steps ran says c are cost is = (
+      runs_from (status_of_exit (status_of Steps)) Steps ran ran says,
+      (
+        refl,
+        record
+            { counts = c; are = are; at = c.link - 4; stood = stood Steps ran c are; cost_is = is },
+      ),
+    )
+    costs_to (Exit zero) ran says c are cost is = (
+      runs_from (status_of_exit (status_of (Exit 0))) (Exit 0) ran ran says,
+      (
+        refl,
+        record {
+          counts = c;
+          are = are;
+          at = c.link - 4;
+          stood = stood (Exit zero) ran c are;
+          cost_is
+              = is;
+        },
+      ),
+    )
+    costs_to (Exit (suc zero)) ran says c are cost is
+        = absurd (never (status_of_exit (status_of (Exit 1))) ran.gave says)
+    costs_to (Exit (suc (suc zero))) ran says c are cost is
+        = absurd (never (status_of_exit (status_of (Exit 2))) ran.gave says)
+    costs_to (Exit (suc (suc (suc zero)))) ran says c are cost is = (
+      runs_from (status_of_exit (status_of (Exit 3))) (Exit 3) ran ran says,
+      (
+        refl,
+        record {
+          counts = c;
+          are = are;
+          at = c.link - 4;
+          stood = stood (Exit 3) ran c are;
+          cost_is
+              = is;
+        },
+      ),
+    )
+    costs_to (Exit (suc (suc (suc (suc zero))))) ran says c are cost is = (
+      runs_from (status_of_exit (status_of (Exit 4))) (Exit 4) ran ran says,
+      (
+        refl,
+        record {
+          counts = c;
+          are = are;
+          at = c.link - 4;
+          stood = stood (Exit 4) ran c are;
+          cost_is
+              = is;
+        },
+      ),
+    )
+    costs_to (Exit (suc (suc (suc (suc (suc zero)))))) ran says c are cost is = (
+      runs_from (status_of_exit (status_of (Exit 5))) (Exit 5) ran ran says,
+      (
+        refl,
+        record {
+          counts = c;
+          are = are;
+          at = c.link - 4;
+          stood = stood (Exit 5) ran c are;
+          cost_is
+              = is;
+        },
+      ),
+    )
+    costs_to (Exit (suc (suc (suc (suc (suc (suc k))))))) ran says c are cost is
+        = absurd (never (status_of_exit (status_of (Exit (suc (suc (suc (suc (suc (suc k)))))))))
+        ran.gave says)
+    costs_to (Trap kind pc) ran says c are cost is = absurd
+        (never (status_of_exit (status_of (Trap kind pc))) ran.gave says)
 
-  costs : (status : Status) (c : RunCounts) → Counted i o file steps status c → (cost : Cost) → IsRunCost (heap_bytes from.made.g 1) cells from.made.addresses (names_of from.made.g.procs) (status_of_exit status) (c.link - 4) c cost
-      → CostsRun i o text cells stack steps (status_of_exit status) cost
-  costs status c h cost is =
+  stopped_costs : (status : Status) (h : (image : Image) × Loads file image
+      × ((stop : Stop) × (status_of stop ≡ status) × OfGiven i o (Stops i o image steps stop)))
+      → (c : RunCounts) → AreCounts h.0 steps h.2.2.0 h.2.2.1.0 c → (cost : Cost)
+      → IsRunCost (heap_bytes from.made.g 1) cells from.made.addresses (names_of from.made.g.procs)
+      (status_of_exit status) (c.link - 4) c cost
+      → RunsAtCost i o text cells stack steps (status_of_exit status) (Some cost)
+  stopped_costs status h c are cost is =
       let g = h.2.2 in
-      let is' = subst (λ s. IsRunCost (heap_bytes from.made.g 1) cells from.made.addresses (names_of from.made.g.procs) (status_of_exit s) (c.link - 4) c cost) (sym h.2.1) is in
-      subst (λ s. CostsRun i o text cells stack steps (status_of_exit s) cost) h.2.1
-      (costs_to h.0 h.1 g.0 g.1.0 h.2.0 g.1.1.0 (said h.0 h.1 g.0 g.1.0 h.2.0 g.1.1.0) c g.1.1.1 cost is')
+      let is' = subst
+      (λ s. IsRunCost (heap_bytes from.made.g 1) cells from.made.addresses
+      (names_of from.made.g.procs) (status_of_exit s) (c.link - 4) c cost) (sym h.2.1) is in
+      subst (λ s. RunsAtCost i o text cells stack steps (status_of_exit s) (Some cost)) h.2.1
+      (costs_to h.0 h.1 g.0 g.1.0 h.2.0 g.1.1 (said h.0 h.1 g.0 g.1.0 h.2.0 g.1.1) c are cost is')
 
-  -- the cost of the run of a text's file is that of the text
-  pub costs_text : (cell_bytes : ℕ) (starts : List ℕ) (names : List (List ℕ)) → heap_bytes from.made.g 1 ≡ cell_bytes → starts ≡ from.made.addresses → names ≡ names_of from.made.g.procs
-      → (status : Status) (counts : Option RunCounts) → CountsExecution i o file steps status counts → (cost : Option Cost) → IsCostOf cell_bytes cells starts names (status_of_exit status) counts cost
-      → CostsText i o text cells stack steps (status_of_exit status) cost
-  costs_text cell_bytes starts names bytes are named' status None h None is = named_stops status ∙ h
-  costs_text cell_bytes starts names bytes are named' status None h (Some cost) is = absurd is
-  costs_text cell_bytes starts names bytes are named' status (Some c) h None is = absurd is
-  costs_text cell_bytes starts names bytes are named' status (Some c) h (Some cost) is = (
-    named_stops status ∙ counted_stops i o file steps status c h,
-    costs status c h cost (subst (λ n. IsRunCost n cells from.made.addresses (names_of from.made.g.procs) (status_of_exit status) (c.link - 4) c cost) (sym bytes)
-        (subst (λ as'. IsRunCost cell_bytes cells as' (names_of from.made.g.procs) (status_of_exit status) (c.link - 4) c cost) are
-        (subst (λ ns. IsRunCost cell_bytes cells starts ns (status_of_exit status) (c.link - 4) c cost) named' is))),
-  )
-
-  stopped : (status : Status) → (image : Image) × Loads file image × ((stop : Stop) × (status_of stop ≡ status) × OfGiven i o (Stops i o image steps stop))
-      → Outcome i o text cells stack steps (status_of_exit status)
-  stopped status h =
-      let g = h.2.2 in
-      subst (λ s. Outcome i o text cells stack steps (status_of_exit s)) h.2.1 (runs_to h.0 h.1 g.0 g.1.0 h.2.0 g.1.1 (said h.0 h.1 g.0 g.1.0 h.2.0 g.1.1))
+  costs : (status : Status) (h : Execution i o file steps status) (c : RunCounts)
+      → CountsOfExecution i o file steps status h c
+      → (cost : Cost) → IsRunCost (heap_bytes from.made.g 1) cells from.made.addresses
+      (names_of from.made.g.procs)
+      (status_of_exit status) (c.link - 4) c cost
+      → RunsAtCost i o text cells stack steps (status_of_exit status) (Some cost)
+  costs (Refused k at) h c are cost is = absurd are
+  costs OutOfMemory h c are cost is = absurd are
+  costs ReadFault h c are cost is = absurd are
+  costs WriteFault h c are cost is = absurd are
+  costs status h c are cost is = stopped_costs status h c are cost is
 
   -- a call failed
-  broken : (fault : Fault) (image : Image) → Loads file image → (given : List ℕ) (ended : Bool) → IsBytes given → (f : Fails i o image steps fault given ended)
+  broken : (fault : Fault) (image : Image) → Loads file image → (given : List ℕ) (ended : Bool)
+      → IsBytes given → (f : Fails i o image steps fault given ended)
       → (bytes : List ℕ) → BeginsWith given ended bytes → IsBytes bytes
-      → Breaks i o (HeapIsExceeded cells) (StackIsExceeded (largest_frame from.made.frames) (whole_words stack)) (core_program_meaning from.program bytes) given
+      → Breaks i o (HeapIsExceeded cells)
+      (StackIsExceeded (largest_frame from.made.frames) (whole_words stack))
+      (core_program_meaning from.program bytes) given
   broken fault image loads given ended are f bytes begins all =
       let c = (carried text cells stack file from image loads).comes bytes all steps in
-      record { units = c.0; took = took_front i o steps bytes (start_of image) fault (core_program_meaning from.program bytes c.0).out (f.puts bytes begins) c.1.output; gave = let uses = f.uses bytes begins in let most = c.1.used in omega (arith, uses, most) }
+      record {
+        units = c.0;
+        took = took_front i o steps bytes (start_of image) fault
+            (core_program_meaning from.program bytes c.0).out (f.puts bytes begins) c.1.output;
+        gave
+            = let uses = f.uses bytes begins in let most = c.1.used in omega (arith, uses, most);
+      }
 
-  -- the status of the run of a text's file is that of the text, under its name
-  pub outcome : (status : Status) → Execution i o file steps status → Outcome i o text cells stack steps (status_of_exit status)
-  outcome (Refused k at) h = absurd (loadable file _ k at from.made.image.loads h.0)
-  outcome OutOfMemory h = h
-  outcome ReadFault h =
+  -- the status of the run of a text's file is that of the text, where it did not stop
+  outcome : (status : Status) → Execution i o file steps status → has_stopped status ≡ false
+      → Outcome i o text cells stack steps (status_of_exit status)
+  outcome (Refused k at) h stays = absurd (loadable file _ k at from.made.image.loads h.0)
+  outcome OutOfMemory h stays = h
+  outcome ReadFault h stays =
       let g = h.2 in
       let gave = g.1.1.gave in
       let are = are_bytes i.gives i.old gave.last g.0 g.1.0 gave.gave.reads in record {
@@ -392,11 +532,13 @@ module _ {I K : Type 0} (i : SourceChange I) (o : SinkChange K) (text : List ℕ
         given = g.0;
         ended = g.1.0;
         are_bytes = are;
-        unread = λ none. absurd (asks_nothing text cells stack file from h.0 h.1 none steps g.0 are (g.1.1.wanted (inr refl)));
+        unread = λ none. absurd
+            (asks_nothing text cells stack file from h.0 h.1 none steps g.0 are
+            (g.1.1.wanted (inr refl)));
         ran = g.1.1;
         says = λ bytes begins all. broken Read h.0 h.1 g.0 g.1.0 are g.1.1 bytes begins all;
       }
-  outcome WriteFault h =
+  outcome WriteFault h stays =
       let g = h.2 in
       let are = are_bytes i.gives i.old i.new g.0 g.1.0 g.1.1.gave.reads in record {
         file = file;
@@ -407,22 +549,62 @@ module _ {I K : Type 0} (i : SourceChange I) (o : SinkChange K) (text : List ℕ
         ended = g.1.0;
         are_bytes = are;
         unread = λ none.
-            no_reads i.gives i.old i.new g.0 g.1.0 g.1.1.gave.reads (given_none text cells stack file from h.0 h.1 none steps g.0 are (g.1.1.uses g.0 (itself g.0 g.1.0)))
-            (not_ended g.1.0 (λ e. asks_nothing text cells stack file from h.0 h.1 none steps g.0 are (g.1.1.wanted (inl e))));
+            no_reads i.gives i.old i.new g.0 g.1.0 g.1.1.gave.reads
+            (given_none text cells stack file from h.0 h.1 none steps g.0 are
+            (g.1.1.uses g.0 (itself g.0 g.1.0)))
+            (not_ended g.1.0
+            (λ e. asks_nothing text cells stack file from h.0 h.1 none steps g.0 are
+            (g.1.1.wanted (inl e))));
         ran = g.1.1;
         says = λ bytes begins all. broken Write h.0 h.1 g.0 g.1.0 are g.1.1 bytes begins all;
       }
-  outcome status h = stopped status h
+  outcome status h stays =
+      let both : false ≡ true = sym stays ∙ ap has_stopped (sym h.2.1) ∙ stop_stops h.2.0
+      in absurd cc
+
+  -- the status and the cost of the run of a text's file are those of the text, under the status's
+  -- name
+  pub outcome_at_cost : (cell_bytes : ℕ) (starts : List ℕ) (names : List (List ℕ))
+      → heap_bytes from.made.g 1 ≡ cell_bytes → starts ≡ from.made.addresses
+      → names ≡ names_of from.made.g.procs
+      → (status : Status) (counts : Option RunCounts)
+      → ExecutesWithCounts i o file steps status counts
+      → (cost : Option Cost) → IsCostOf cell_bytes cells starts names (status_of_exit status) counts
+      cost
+      → RunsAtCost i o text cells stack steps (status_of_exit status) cost
+  outcome_at_cost cell_bytes starts names bytes are named' status None h None is =
+      (outcome status h.0 h.1, named_stops status ∙ h.1)
+  outcome_at_cost cell_bytes starts names bytes are named' status None h (Some cost) is = absurd is
+  outcome_at_cost cell_bytes starts names bytes are named' status (Some c) h None is = absurd is
+  outcome_at_cost cell_bytes starts names bytes are named' status (Some c) h (Some cost) is =
+      costs status h.0 c h.1 cost
+      (subst (λ n. IsRunCost n cells from.made.addresses (names_of from.made.g.procs)
+      (status_of_exit status)
+      (c.link - 4) c cost) (sym bytes)
+      (subst (λ as'. IsRunCost cell_bytes cells as' (names_of from.made.g.procs)
+      (status_of_exit status) (c.link - 4)
+      c cost) are
+      (subst (λ ns. IsRunCost cell_bytes cells starts ns (status_of_exit status) (c.link - 4) c
+      cost) named' is)))
 
 -- ---- texts that are too long
 
-pub not_run_long : (front text : List ℕ) → 1048576 < length front → 1048576 < length text → (k at : ℕ) → IsRunRefusal front k at → IsRunRefusal text k at
+pub not_run_long : (front text : List ℕ) → 1048576 < length front → 1048576 < length text
+    → (k at : ℕ) → IsRunRefusal front k at → IsRunRefusal text k at
 not_run_long front text short long k at (inl h) = inl (refused_long front text short long k at h)
-not_run_long front text short long k at (inr h) = accepted_short front h.1.source h.1.program short h.1.accepted
+not_run_long front text short long k at (inr h) = accepted_short front h.1.source h.1.program short
+    h.1.accepted
 
-pub outcome_long : {I K : Type 0} (i : SourceChange I) (o : SinkChange K) (front text : List ℕ) (cells stack steps : ℕ)
+pub outcome_long : {I K : Type 0} (i : SourceChange I) (o : SinkChange K) (front text : List ℕ)
+    (cells stack steps : ℕ)
     → 1048576 < length front → 1048576 < length text → (status : Status)
-    → Outcome i o front cells stack steps status → Outcome i o text cells stack steps status
-outcome_long i o front text cells stack steps short long (Refused k at) h = (not_run_long front text short long k at h.0, h.1)
-outcome_long i o front text cells stack steps short long OutOfMemory h = h
-outcome_long i o front text cells stack steps short long _ h = accepted_short front h.from.source h.from.program short h.from.accepted
+    → (h : Outcome i o front cells stack steps status)
+    → (cost : Option Cost) → CostsText i o front cells stack steps status h cost
+    → RunsAtCost i o text cells stack steps status cost
+outcome_long i o front text cells stack steps short long (Refused k at) h None none =
+    ((not_run_long front text short long k at h.0, h.1), none)
+outcome_long i o front text cells stack steps short long (Refused k at) h (Some cost) is = absurd is
+outcome_long i o front text cells stack steps short long OutOfMemory h None none = (h, none)
+outcome_long i o front text cells stack steps short long OutOfMemory h (Some cost) is = absurd is
+outcome_long i o front text cells stack steps short long _ h cost is =
+    accepted_short front h.from.source h.from.program short h.from.accepted

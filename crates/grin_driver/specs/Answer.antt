@@ -1,6 +1,6 @@
 -- What each status says of the words of a command line.
 use Rattle.std.specs.Prelude.{◌≡◌, ℕ, List, Option, Some, None}
-use Rattle.command_line.specs.Commands.{CommandLine, RunFile, CheckFile, ListFile, BuildFile, ExecImage, GenRun, LinkFiles, LiftFile, MatchFile, TypesFile, SidesFile, PointsFile}
+use Rattle.command_line.specs.Commands.{CommandLine, RunFile, CheckFile, ListFile, BuildFile, CostsFile, ExecImage, GenRun, LinkFiles, LiftFile, MatchFile, TypesFile, SidesFile, PointsFile}
 use Rattle.grin_io.specs.Changes.{ShelfChange, SourceChange, SinkChange}
 use Rattle.text_commands.specs.declared.status.Status.{Status}
 use Rattle.text_commands.specs.declared.status.Status.TheVariants.{Usage}
@@ -11,6 +11,7 @@ use Rattle.grin_driver.specs.Outcome.{Outcome}
 use Rattle.text_commands.specs.Checking.{IsCheckOutcome}
 use Rattle.grin_driver.specs.After.{IsListAfterOutcome}
 use Rattle.grin_driver.specs.Building.{IsBuildOutcome}
+use Rattle.grin_driver.specs.Needs.{IsNeedsOutcome}
 use Rattle.grin_driver.specs.Execution.{IsUntouched, Execution}
 use Rattle.text_commands.specs.Linking.{IsLinkOutcome}
 use Rattle.text_commands.specs.Lifting.{IsLiftOutcome}
@@ -30,6 +31,7 @@ HoldsOfNamedFiles Holds (RunFile file cells stack steps stats) = Holds file
 HoldsOfNamedFiles Holds (CheckFile file) = Holds file
 HoldsOfNamedFiles Holds (ListFile file after) = Holds file
 HoldsOfNamedFiles Holds (BuildFile file cells stack) = Holds file
+HoldsOfNamedFiles Holds (CostsFile file cells stack) = Holds file
 HoldsOfNamedFiles Holds (ExecImage image steps stats) = Holds image
 HoldsOfNamedFiles Holds (GenRun seed size) = Unit {0}
 HoldsOfNamedFiles Holds (LinkFiles files) = HoldsOfEachFile Holds files
@@ -39,10 +41,11 @@ HoldsOfNamedFiles Holds (TypesFile file) = Holds file
 HoldsOfNamedFiles Holds (SidesFile file) = Holds file
 HoldsOfNamedFiles Holds (PointsFile file) = Holds file
 
--- what `run` and `build` ask of an image is within the limits
+-- what `run`, `build` and `costs` ask of an image is within the limits
 abbrev pub SizesAreWithinLimits : CommandLine → Type 0
 SizesAreWithinLimits (RunFile file cells stack steps stats) = SizesAreInRange cells stack
 SizesAreWithinLimits (BuildFile file cells stack) = SizesAreInRange cells stack
+SizesAreWithinLimits (CostsFile file cells stack) = SizesAreInRange cells stack
 SizesAreWithinLimits _ = Unit {0}
 
 -- what a command line did to a shelf, an input and an output
@@ -69,6 +72,8 @@ module _ {F I K : Type 0} (f : ShelfChange F) (i : SourceChange I) (o : SinkChan
       FromText file (λ text status. IsListAfterOutcome o text after status) status
   Answers (Some (BuildFile file cells stack)) status =
       FromText file (λ text status. IsBuildOutcome o text cells stack status) status
+  Answers (Some (CostsFile file cells stack)) status =
+      FromText file (λ text status. IsNeedsOutcome o text cells stack status) status
   Answers (Some (ExecImage image steps stats)) status =
       HoldsOfOperandFile f image_read_limit (IsUntouched i o) image
       (λ bytes status. Execution i o bytes steps status) status

@@ -1,8 +1,8 @@
 -- What a run cost: the instructions that were done, and the cells that were bound; and where it
 -- found no alternative.
-use Rattle.std.specs.Prelude.{◌≡◌, ℕ, ◌-◌, ◌/◌, min, ◌⊎◌, ◌≤◌, Bool, true, false, ◌&&◌, if◌then◌else◌, List, [], ◌++◌, codes, decimal, Option, Some, None}
+use Rattle.std.specs.Prelude.{◌≡◌, ℕ, ◌-◌, ◌/◌, min, ◌⊎◌, ◌≤◌, Bool, true, false, List, [], ◌++◌, codes, decimal, Option, Some, None}
+use mathlib.Core.Logic.{inl, inr}
 use Rattle.elf32.specs.Image.{Image}
-use Rattle.elf32.specs.Rules.{Loads}
 use Rattle.command_line.specs.Commands.{CommandLine, RunFile, ExecImage}
 use Rattle.headline.specs.Carries.{IsBytes}
 use Rattle.grin_io.specs.Causes.{CountGrew}
@@ -10,17 +10,16 @@ use Rattle.grin_io.specs.Changes.{KnownContent, ShelfChange, SourceChange, SinkC
 use Rattle.grin_syntax.specs.SameOutside.{names_of}
 use Rattle.rv32_machine.specs.Steps.{State, reg, start_of}
 use Rattle.rv32_machine.specs.Runs.{MachineEnd, Going, Exited as exited, Stopped, run, IsCount}
-use Rattle.rv32_machine.specs.declared.machine.Stop.{Stop}
 use Rattle.rv32_steps.specs.Trace.{trace, IsLastBefore}
 use Rattle.text_commands.specs.declared.status.Status.{Status}
-use Rattle.text_commands.specs.declared.status.Status.TheVariants.{Done, NoAlternative, HeapFull, StackFull, StepLimit, Exited, Trapped}
-use Rattle.text_commands.specs.Operands.{HoldsOfFileBytes, text_read_limit}
+use Rattle.text_commands.specs.declared.status.Status.TheVariants.{Done, Refused, NoAlternative, HeapFull, StackFull, StepLimit, Exited, Trapped, OutOfMemory, ReadFault, WriteFault}
+use Rattle.text_commands.specs.Operands.{HoldsOfOperandFile, text_read_limit}
 use Rattle.text_commands.specs.Telling.{IsSinglePut, StatusIsPrinted}
 use Rattle.grin_compile.specs.Limits.{heap_bytes}
 use Rattle.grin_driver.specs.Standing.{IsPlaceLine}
-use Rattle.grin_driver.specs.Execution.{OfGiven, Stops, status_of}
-use Rattle.grin_driver.specs.Outcome.{Runs}
-use Rattle.grin_driver.specs.Answer.{image_read_limit}
+use Rattle.grin_driver.specs.Execution.{IsUntouched, Executes, Execution}
+use Rattle.grin_driver.specs.Outcome.{Runs, Outcome}
+use Rattle.grin_driver.specs.Answer.{Answers, image_read_limit}
 use Rattle.grin_driver.specs.declared.cost.RunCounts.{RunCounts}
 use Rattle.grin_driver.specs.declared.cost.Cost.{Cost}
 use Rattle.limits.specs.Limits.{heap_start}
@@ -91,37 +90,47 @@ exec_cost c = record { instructions = c.instructions; cells = None; place = None
 -- ---- a run from a source to a sink
 
 module _ {I K : Type 0} (i : SourceChange I) (o : SinkChange K) where
-  -- the run of a program stopped as the status says, and has these counts
-  abbrev pub StopsWithin : (program : Image) → (steps : ℕ) → Status → RunCounts → Type 0
-  StopsWithin program steps status c =
-      (stop : Stop) × (status_of stop ≡ status)
-      × OfGiven i o (λ given ended. Stops i o program steps stop given ended
-      × AreCounts program steps given ended c)
+  -- the counts of the run of a program, of which the status speaks, and which stopped
+  abbrev pub CountsOfRun : (program : Image) → (steps : ℕ) → (status : Status)
+      → Executes i o program steps status → RunCounts → Type 0
+  CountsOfRun program steps ReadFault ran c = ⊥
+  CountsOfRun program steps WriteFault ran c = ⊥
+  CountsOfRun program steps OutOfMemory ran c = ⊥
+  CountsOfRun program steps status ran c = AreCounts program steps ran.2.0 ran.2.1.0 c
 
-  -- there are counts just where the run of a program stopped
-  abbrev pub CountsRun : (program : Image) → (steps : ℕ) → Status → Option RunCounts → Type 0
-  CountsRun program steps status None = has_stopped status ≡ false
-  CountsRun program steps status (Some c) = StopsWithin program steps status c
+  -- those of the program of a file
+  abbrev pub CountsOfExecution : (bytes : List ℕ) → (steps : ℕ) → (status : Status)
+      → Execution i o bytes steps status → RunCounts → Type 0
+  CountsOfExecution bytes steps (Refused rule number) ran c = ⊥
+  CountsOfExecution bytes steps OutOfMemory ran c = ⊥
+  CountsOfExecution bytes steps status ran c = CountsOfRun ran.0 steps status ran.2 c
 
-  -- the counts of the program of a file
-  abbrev pub Counted : (bytes : List ℕ) → (steps : ℕ) → Status → RunCounts → Type 0
-  Counted bytes steps status c =
-      (program : Image) × Loads bytes program × StopsWithin program steps status c
+  -- there are counts just where the run stopped, and they are those of this run
+  abbrev pub RunsWithCounts : (program : Image) → (steps : ℕ) → Status → Option RunCounts → Type 0
+  RunsWithCounts program steps status None =
+      Executes i o program steps status × (has_stopped status ≡ false)
+  RunsWithCounts program steps status (Some c) =
+      (ran : Executes i o program steps status) × CountsOfRun program steps status ran c
 
-  abbrev pub CountsExecution : (bytes : List ℕ) → (steps : ℕ) → Status → Option RunCounts → Type 0
-  CountsExecution bytes steps status None = has_stopped status ≡ false
-  CountsExecution bytes steps status (Some c) = Counted bytes steps status c
+  abbrev pub ExecutesWithCounts :
+      (bytes : List ℕ) → (steps : ℕ) → Status → Option RunCounts → Type 0
+  ExecutesWithCounts bytes steps status None =
+      Execution i o bytes steps status × (has_stopped status ≡ false)
+  ExecutesWithCounts bytes steps status (Some c) =
+      (ran : Execution i o bytes steps status) × CountsOfExecution bytes steps status ran c
 
-  -- what the run of the program of a file cost
-  abbrev pub CostsExecution : (bytes : List ℕ) → (steps : ℕ) → Status → Cost → Type 0
-  CostsExecution bytes steps status cost =
-      (c : RunCounts) × (cost ≡ exec_cost c) × Counted bytes steps status c
+  -- what the run of the program of a file cost, of which the status speaks: there is a cost just
+  -- where it stopped
+  abbrev pub CostsExecution : (bytes : List ℕ) → (steps : ℕ) → (status : Status)
+      → Execution i o bytes steps status → Option Cost → Type 0
+  CostsExecution bytes steps status ran None = has_stopped status ≡ false
+  CostsExecution bytes steps status ran (Some cost) =
+      (c : RunCounts) × (cost ≡ exec_cost c) × CountsOfExecution bytes steps status ran c
 
-  -- What the run of a text cost, which is the one that the status speaks of. Where it found no
-  -- alternative, its last step in the code of procedures, which ends at `stops`, stood at `at`.
-  pub record CostsRun (text : List ℕ) (cells stack steps : ℕ) (status : Status) (cost : Cost)
-      : Type 0 where
-    pub runs : Runs i o text cells stack steps status
+  -- What the run of a text cost, of which the status speaks. Where it found no alternative, its
+  -- last step in the code of procedures, which ends at `stops`, stood at `at`.
+  pub record CostsRun (text : List ℕ) (cells stack steps : ℕ) (status : Status)
+      (runs : Runs i o text cells stack steps status) (cost : Cost) : Type 0 where
     pub counts : RunCounts
     pub are : AreCounts runs.image steps runs.given runs.ended counts
     pub at : ℕ
@@ -131,38 +140,60 @@ module _ {I K : Type 0} (i : SourceChange I) (o : SinkChange K) where
         IsRunCost (heap_bytes runs.from.made.g 1) cells runs.from.made.addresses
         (names_of runs.from.made.g.procs) status at counts cost
 
+  -- the cost of a text's run, which stopped
+  abbrev pub CostsStopped : (text : List ℕ) → (cells stack steps : ℕ) → (status : Status)
+      → Outcome i o text cells stack steps status → Cost → Type 0
+  CostsStopped text cells stack steps (Refused rule number) ran cost = ⊥
+  CostsStopped text cells stack steps OutOfMemory ran cost = ⊥
+  CostsStopped text cells stack steps status ran cost =
+      (has_stopped status ≡ true) × CostsRun text cells stack steps status ran cost
+
   -- there is a cost just where the run of a text stopped
-  abbrev pub CostsText : (text : List ℕ) → (cells stack steps : ℕ) → Status → Option Cost → Type 0
-  CostsText text cells stack steps status None = has_stopped status ≡ false
-  CostsText text cells stack steps status (Some cost) =
-      (has_stopped status ≡ true) × CostsRun text cells stack steps status cost
+  abbrev pub CostsText : (text : List ℕ) → (cells stack steps : ℕ) → (status : Status)
+      → Outcome i o text cells stack steps status → Option Cost → Type 0
+  CostsText text cells stack steps status ran None = has_stopped status ≡ false
+  CostsText text cells stack steps status ran (Some cost) =
+      CostsStopped text cells stack steps status ran cost
+
+  -- the status of a text that is run, and what its run cost
+  abbrev pub RunsAtCost : (text : List ℕ) → (cells stack steps : ℕ) → Status → Option Cost → Type 0
+  RunsAtCost text cells stack steps status cost =
+      (ran : Outcome i o text cells stack steps status)
+      × CostsText text cells stack steps status ran cost
 
 -- ---- commands
 
--- a cost is asked for
-abbrev pub asks_cost : Option CommandLine → Bool
-asks_cost (Some (RunFile file cells stack steps stats)) = stats
-asks_cost (Some (ExecImage image steps stats)) = stats
-asks_cost _ = false
+-- What is said of a file, and of what it cost: nothing where the file was not read.
+module _ {F : Type 0} (f : ShelfChange F) (most : ℕ) (untouched : Type 0) (file : List ℕ)
+    (outcome : List ℕ → Status → Type 0)
+    (Costs : (bytes : List ℕ) → (status : Status) → outcome bytes status → Option Cost → Type 0)
+  where
+    abbrev pub OfOperandFile : (status : Status)
+        → HoldsOfOperandFile f most untouched file outcome status → Option Cost → Type 0
+    OfOperandFile status (inl unread) cost = cost ≡ None
+    OfOperandFile status (inr (bytes, taken, ran)) cost = Costs bytes status ran cost
 
 module _ {F I K : Type 0} (f : ShelfChange F) (i : SourceChange I) (o : SinkChange K) where
-  -- there is a cost just where the run of the bytes of a file stopped
-  abbrev pub OfRun : (most : ℕ) → (file : List ℕ) → (Costs : List ℕ → Status → Cost → Type 0)
-      → Status → Option Cost → Type 0
-  OfRun most file Costs status None = has_stopped status ≡ false
-  OfRun most file Costs status (Some cost) =
-      (has_stopped status ≡ true) × HoldsOfFileBytes f most file (λ bytes. Costs bytes status cost)
+  -- There is a cost just where one is asked for and the run stopped of which the answer speaks, and
+  -- it is that of this run: of the same text or image, and of what the same source gave.
+  abbrev pub CostOf : (command : Option CommandLine) → (status : Status)
+      → Answers f i o command status → Option Cost → Type 0
+  CostOf (Some (RunFile file cells stack steps true)) status answer cost =
+      OfOperandFile f text_read_limit (IsUntouched i o) file
+      (λ text status. Outcome i o text cells stack steps status)
+      (λ text status ran cost. CostsText i o text cells stack steps status ran cost)
+      status answer cost
+  CostOf (Some (ExecImage image steps true)) status answer cost =
+      OfOperandFile f image_read_limit (IsUntouched i o) image
+      (λ bytes status. Execution i o bytes steps status)
+      (λ bytes status ran cost. CostsExecution i o bytes steps status ran cost)
+      status answer cost
+  CostOf command status answer cost = cost ≡ None
 
-  -- There is a cost just where one is asked for and the run stopped, and it is that of this run.
-  abbrev pub CostOf : Option CommandLine → Status → Option Cost → Type 0
-  CostOf command status None = (asks_cost command && has_stopped status) ≡ false
-  CostOf (Some (RunFile file cells stack steps stats)) status (Some cost) =
-      (stats ≡ true) × OfRun text_read_limit file
-      (λ text status cost. CostsRun i o text cells stack steps status cost) status (Some cost)
-  CostOf (Some (ExecImage image steps stats)) status (Some cost) =
-      (stats ≡ true) × OfRun image_read_limit image
-      (λ bytes status cost. CostsExecution i o bytes steps status cost) status (Some cost)
-  CostOf _ status (Some cost) = ⊥
+  -- the answer to a command line, and what its run cost
+  abbrev pub AnswersAtCost : Option CommandLine → Status → Option Cost → Type 0
+  AnswersAtCost command status cost =
+      (answer : Answers f i o command status) × CostOf command status answer cost
 
 -- ---- the line
 
@@ -198,3 +229,13 @@ StatusAndCostArePrinted {K} o status (Some cost) =
     (between : K) × StatusIsPrinted (sink_change o.gives o.taken o.faults o.old between) status
     × LinesArePrinted (sink_change o.gives o.taken o.faults between o.new)
     (cost_line cost) cost.place
+
+-- What a command line did, and what is told of it: the line of the status, and behind it the cost
+-- of the run of which the status speaks, where one is asked for and that run stopped.
+pub record AnswersAndTells {F I K E : Type 0} (f : ShelfChange F) (i : SourceChange I)
+    (o : SinkChange K) (e : SinkChange E) (command : Option CommandLine) (status : Status)
+    : Type 0 where
+  pub answer : Answers f i o command status
+  pub cost : Option Cost
+  pub cost_is : CostOf f i o command status answer cost
+  pub told : StatusAndCostArePrinted e status cost

@@ -1,5 +1,6 @@
 pub mod Outcome
 pub mod TypedRuns
+pub mod WrittenRuns
 pub mod Listing
 pub mod CodeListing
 pub mod After
@@ -10,5 +11,6 @@ pub mod Execution
 pub mod Answer
 pub mod Standing
 pub mod Kept
+pub mod Needs
 pub mod Costs
 pub mod Completeness

@@ -1,21 +1,20 @@
 //! The command line as a whole.
 
-ghost use Rattle.std.specs.Prelude.{◌≡◌, ◌≤◌, Option, Some, IfSome};
+ghost use Rattle.std.specs.Prelude.{◌≡◌, ◌≤◌, true, Some, IfSome};
 ghost use Rattle.grin_io.specs.Changes.{shelf_change, source_change, sink_change};
-ghost use Rattle.command_line.specs.Commands.{command_of, asked_by};
+ghost use Rattle.command_line.specs.Commands.{command_of, asked_by, RunFile, ExecImage};
 ghost use Rattle.core_link.specs.Laws.{TextOrderIsIrrelevant, LinkingKeepsNameRules, SingleModuleKeepsMeaning};
 ghost use Rattle.lambda_lift.specs.Laws.{LiftingPreservesMeaning};
 ghost use Rattle.match_compile.specs.Laws.{SizeIsBounded, BreaksOnlySize, SimpleStaysOneFunction, TranslationKeepsMeaning};
 ghost use Rattle.grin_compile.specs.Limits.{SizesAreInRange};
-ghost use Rattle.grin_driver.specs.Outcome.{Outcome};
 ghost use Rattle.grin_driver.specs.Building.{IsBuildOutcome};
+ghost use Rattle.grin_driver.specs.Needs.{IsNeedsOutcome};
 ghost use Rattle.grin_driver.specs.After.{IsListAfterOutcome};
-ghost use Rattle.grin_driver.specs.Costs.{OfRun, CostsRun, CostsExecution, CostOf, StatusAndCostArePrinted};
-ghost use Rattle.grin_driver.specs.declared.cost.Cost.{Cost};
-ghost use Rattle.grin_driver.specs.Execution.{Execution};
+ghost use Rattle.grin_driver.specs.Costs.{AnswersAtCost, AnswersAndTells};
 ghost use Rattle.grin_driver.specs.TypedRuns.{TypedNeverExits};
+ghost use Rattle.grin_driver.specs.WrittenRuns.{LinkedImagesKeepMeaning, LiftedImagesKeepMeaning, MatchedImagesKeepMeaning};
 ghost use Rattle.text_commands.specs.Operands.{HoldsOfOperandFile, text_read_limit};
-ghost use Rattle.grin_driver.specs.Answer.{Answers, SizesAreWithinLimits, HoldsOfNamedFiles, image_read_limit};
+ghost use Rattle.grin_driver.specs.Answer.{SizesAreWithinLimits, HoldsOfNamedFiles};
 ghost use Rattle.grin_driver.specs.Completeness.{NothingFailed, Gives};
 ghost use Rattle.text_commands.specs.declared.status.Status.TheVariants.{OutOfMemory};
 
@@ -23,10 +22,14 @@ use crate::build::build_text;
 use crate::cost::{Cost, EndedWithCost};
 use crate::exec::exec_counted;
 use crate::generate::generate;
-use crate::laws::typed_never_exits;
+use crate::laws::{
+    lifted_images_keep_meaning, linked_images_keep_meaning, matched_images_keep_meaning,
+    typed_never_exits,
+};
 use crate::list::list_after;
+use crate::needs::tell_needs;
 use crate::points::Points;
-use crate::run::run_counted;
+use crate::run::run_text;
 use command_line::{Command, Line, Listing};
 use core_link::laws::{
     linking_keeps_name_rules, single_module_keeps_meaning, text_order_is_irrelevant,
@@ -64,24 +67,15 @@ fn run_file<F: Shelf, I: Source, K: Sink>(
 ) -> EndedWithCost
     requires permitted { F.permitted file.now }
     requires within { SizesAreInRange options.cells options.stack }
-    ensures answer { HoldsOfOperandFile (shelf_change F.content F.faults shelf.old shelf.new) text_read_limit
-        ((input.new ≡ input.old)
-        × (out.new ≡ out.old)) file.now (λ text status.
-        Outcome (source_change I.read_gives I.left I.is_over I.faults input.old input.new)
-        (sink_change K.put_gives K.taken K.faults out.old out.new) text options.cells options.stack
-        steps status) result.status }
-    ensures cost { OfRun (shelf_change F.content F.faults shelf.old shelf.new)
+    ensures answer { AnswersAtCost (shelf_change F.content F.faults shelf.old shelf.new)
         (source_change I.read_gives I.left I.is_over I.faults input.old input.new)
-        (sink_change K.put_gives K.taken K.faults out.old out.new) text_read_limit file.now
-        (λ text status cost.
-        CostsRun (source_change I.read_gives I.left I.is_over I.faults input.old input.new)
-        (sink_change K.put_gives K.taken K.faults out.old out.new) text options.cells options.stack
-        steps status cost) result.status result.cost }
+        (sink_change K.put_gives K.taken K.faults out.old out.new)
+        (Some (RunFile file.now options.cells options.stack steps true)) result.status result.cost }
     ensures later { (F.faults shelf.old ≤ F.faults shelf.new)
         × ((I.faults input.old ≤ I.faults input.new) × (K.faults out.old ≤ K.faults out.new)) }
 {
     match read_file(alloc, shelf, file, MOST_OF_TEXT) {
-        Ok(text) => run_counted(alloc, text.as_slice(), options, steps, input, out),
+        Ok(text) => run_text(alloc, text.as_slice(), options, steps, input, out),
         Err(status) => EndedWithCost::of(status),
     }
 }
@@ -131,6 +125,29 @@ fn build_file<F: Shelf, K: Sink>(
     }
 }
 
+/// Puts what the image of the text of a file needs, with so many cells and bytes of stack.
+fn costs_file<F: Shelf, K: Sink>(
+    alloc: Global,
+    file: &str,
+    options: Options,
+    shelf: &mut F,
+    out: &mut K,
+) -> Status
+    requires permitted { F.permitted file.now }
+    requires within { SizesAreInRange options.cells options.stack }
+    ensures answer { HoldsOfOperandFile (shelf_change F.content F.faults shelf.old shelf.new) text_read_limit
+        (out.new ≡ out.old) file.now (λ text status.
+        IsNeedsOutcome (sink_change K.put_gives K.taken K.faults out.old out.new) text options.cells
+        options.stack status) result }
+    ensures later { (F.faults shelf.old ≤ F.faults shelf.new)
+        × (K.faults out.old ≤ K.faults out.new) }
+{
+    match read_file(alloc, shelf, file, MOST_OF_TEXT) {
+        Ok(text) => tell_needs(alloc, text.as_slice(), options, out),
+        Err(status) => status,
+    }
+}
+
 /// Runs the executable of a file on the input for at most so many instructions.
 fn exec_file<F: Shelf, I: Source, K: Sink>(
     alloc: Global,
@@ -141,18 +158,10 @@ fn exec_file<F: Shelf, I: Source, K: Sink>(
     out: &mut K,
 ) -> EndedWithCost
     requires { F.permitted file.now }
-    ensures answer { HoldsOfOperandFile (shelf_change F.content F.faults shelf.old shelf.new) image_read_limit
-        ((input.new ≡ input.old)
-        × (out.new ≡ out.old)) file.now (λ bytes status.
-        Execution (source_change I.read_gives I.left I.is_over I.faults input.old input.new)
-        (sink_change K.put_gives K.taken K.faults out.old out.new) bytes steps status) result.status }
-    ensures cost { OfRun (shelf_change F.content F.faults shelf.old shelf.new)
+    ensures answer { AnswersAtCost (shelf_change F.content F.faults shelf.old shelf.new)
         (source_change I.read_gives I.left I.is_over I.faults input.old input.new)
-        (sink_change K.put_gives K.taken K.faults out.old out.new) image_read_limit file.now
-        (λ bytes status cost.
-        CostsExecution (source_change I.read_gives I.left I.is_over I.faults input.old input.new)
-        (sink_change K.put_gives K.taken K.faults out.old out.new) bytes steps status cost)
-        result.status result.cost }
+        (sink_change K.put_gives K.taken K.faults out.old out.new)
+        (Some (ExecImage file.now steps true)) result.status result.cost }
     ensures later { (F.faults shelf.old ≤ F.faults shelf.new)
         × ((I.faults input.old ≤ I.faults input.new) × (K.faults out.old ≤ K.faults out.new)) }
 {
@@ -178,11 +187,7 @@ fn run_command<F: Shelf, I: Source, K: Sink>(
 ) -> EndedWithCost
     requires permitted { HoldsOfNamedFiles F.permitted (asked_by command.now) }
     requires within { SizesAreWithinLimits (asked_by command.now) }
-    ensures answer { Answers (shelf_change F.content F.faults shelf.old shelf.new)
-        (source_change I.read_gives I.left I.is_over I.faults input.old input.new)
-        (sink_change K.put_gives K.taken K.faults out.old out.new) (Some (asked_by command.now))
-        result.status }
-    ensures cost { CostOf (shelf_change F.content F.faults shelf.old shelf.new)
+    ensures answer { AnswersAtCost (shelf_change F.content F.faults shelf.old shelf.new)
         (source_change I.read_gives I.left I.is_over I.faults input.old input.new)
         (sink_change K.put_gives K.taken K.faults out.old out.new) (Some (asked_by command.now))
         result.status result.cost }
@@ -219,6 +224,13 @@ fn run_command<F: Shelf, I: Source, K: Sink>(
             };
             EndedWithCost::of(build_file(alloc, file, options, shelf, out))
         }
+        Command::Costs { file, cells, stack } => {
+            let options = Options {
+                cells: *cells,
+                stack: *stack,
+            };
+            EndedWithCost::of(costs_file(alloc, file, options, shelf, out))
+        }
         Command::Gen { seed, size } => EndedWithCost::of(generate(alloc, *seed, *size, out)),
         Command::Link { files } => EndedWithCost::of(link_files(alloc, files, shelf, out)),
         Command::Lift { file } => EndedWithCost::of(write_file(alloc, &Lift, file, shelf, out)),
@@ -240,11 +252,7 @@ fn run_line<F: Shelf, I: Source, K: Sink>(
     out: &mut K,
 ) -> EndedWithCost
     requires { IfSome (command_of line.now) (HoldsOfNamedFiles F.permitted) }
-    ensures answer { Answers (shelf_change F.content F.faults shelf.old shelf.new)
-        (source_change I.read_gives I.left I.is_over I.faults input.old input.new)
-        (sink_change K.put_gives K.taken K.faults out.old out.new) (command_of line.now)
-        result.status }
-    ensures cost { CostOf (shelf_change F.content F.faults shelf.old shelf.new)
+    ensures answer { AnswersAtCost (shelf_change F.content F.faults shelf.old shelf.new)
         (source_change I.read_gives I.left I.is_over I.faults input.old input.new)
         (sink_change K.put_gives K.taken K.faults out.old out.new) (command_of line.now) result.status
         result.cost }
@@ -260,8 +268,8 @@ fn run_line<F: Shelf, I: Source, K: Sink>(
 /// Runs the command that the words of a line stand for, and puts the line of its status on `err`.
 ///
 /// `run FILE` compiles a text and runs it on the input, `check FILE` puts the line of its program,
-/// `list FILE` lists it, `build FILE` puts its image, and `exec IMAGE` runs an executable on the
-/// input; `gen` runs a generated text and puts its summary, `link FILE..` puts the text that
+/// `list FILE` lists it, `build FILE` puts its image, `costs FILE` what that image needs, and
+/// `exec IMAGE` runs an executable on the input; `gen` runs a generated text and puts its summary, `link FILE..` puts the text that
 /// modules are together, `lift FILE` the text of Core that a text with lambdas and local functions
 /// stands for, `match FILE` that of a text of equations, `types FILE` that of a text with types,
 /// which fit, and `sides FILE` the two sides where they do not; `points FILE` puts what the
@@ -277,14 +285,10 @@ pub fn grinc_main<F: Shelf, I: Source, K: Sink, E: Sink>(
     err: &mut E,
 ) -> Status
     requires permitted { IfSome (command_of line.now) (HoldsOfNamedFiles F.permitted) }
-    ensures answer { Answers (shelf_change F.content F.faults shelf.old shelf.new)
+    ensures answer { AnswersAndTells (shelf_change F.content F.faults shelf.old shelf.new)
         (source_change I.read_gives I.left I.is_over I.faults input.old input.new)
-        (sink_change K.put_gives K.taken K.faults out.old out.new) (command_of line.now) result }
-    ensures told { (cost : Option Cost)
-        × CostOf (shelf_change F.content F.faults shelf.old shelf.new)
-        (source_change I.read_gives I.left I.is_over I.faults input.old input.new)
-        (sink_change K.put_gives K.taken K.faults out.old out.new) (command_of line.now) result cost
-        × StatusAndCostArePrinted (sink_change E.put_gives E.taken E.faults err.old err.new) result cost }
+        (sink_change K.put_gives K.taken K.faults out.old out.new)
+        (sink_change E.put_gives E.taken E.faults err.old err.new) (command_of line.now) result }
     ensures complete { NothingFailed (shelf_change F.content F.faults shelf.old shelf.new)
         (source_change I.read_gives I.left I.is_over I.faults input.old input.new)
         (sink_change K.put_gives K.taken K.faults out.old out.new)
@@ -294,6 +298,9 @@ pub fn grinc_main<F: Shelf, I: Source, K: Sink, E: Sink>(
     ensures lifting { LiftingPreservesMeaning }
     ensures matching { (SizeIsBounded × BreaksOnlySize) × (SimpleStaysOneFunction × TranslationKeepsMeaning) }
     ensures typing { TypedNeverExits }
+    ensures linked { LinkedImagesKeepMeaning }
+    ensures lifted { LiftedImagesKeepMeaning }
+    ensures matched { MatchedImagesKeepMeaning }
     ensures later { (F.faults shelf.old ≤ F.faults shelf.new)
         × ((I.faults input.old ≤ I.faults input.new) × (K.faults out.old ≤ K.faults out.new)) }
 {
@@ -312,6 +319,10 @@ pub fn grinc_main<F: Shelf, I: Source, K: Sink, E: Sink>(
     translation_keeps_meaning();
     // A law of what is made of a text with types.
     typed_never_exits();
+    // Laws of the images of what is linked, lifted and matched.
+    linked_images_keep_meaning();
+    lifted_images_keep_meaning();
+    matched_images_keep_meaning();
     let ended = run_line(alloc, line, shelf, input, out);
     ended.tell(err);
     ended.status

@@ -33,21 +33,23 @@ pub(crate) struct Counted {
 
 /// What a run cost, and where it found no alternative.
 #[derive(Drop)]
-pub(crate) struct Cost {
+pub struct Cost {
     /// The instructions that were done.
-    pub(crate) instructions: u64,
+    pub instructions: u64,
     /// The cells that were bound, where it is known how large they are.
-    pub(crate) cells: Option<u64>,
+    pub cells: Option<u64>,
     /// The line that names the procedure in whose code the image found no alternative, where it
     /// ended so.
-    pub(crate) place: Option<Note>,
+    pub place: Option<Note>,
 }
 
 /// How a command ended, and what its run cost, where that is told.
 #[derive(Drop)]
-pub(crate) struct EndedWithCost {
-    pub(crate) status: Status,
-    pub(crate) cost: Option<Cost>,
+pub struct EndedWithCost {
+    /// How it ended.
+    pub status: Status,
+    /// What its run cost.
+    pub cost: Option<Cost>,
 }
 
 /// The cells of so many words that stand before an address, and at most `cells`.

@@ -3,8 +3,8 @@
 ghost use Rattle.std.specs.Prelude.{◌≡◌, ℕ, ◌≤◌, List};
 ghost use Rattle.elf32.specs.Rules.{NamesLeastBrokenRule};
 ghost use Rattle.grin_io.specs.Changes.{source_change, sink_change};
-ghost use Rattle.grin_driver.specs.Costs.{CountsRun, CountsExecution};
-ghost use Rattle.grin_driver.specs.Execution.{Executes, Execution, IsExecLoadFailure, status_of};
+ghost use Rattle.grin_driver.specs.Costs.{RunsWithCounts, ExecutesWithCounts};
+ghost use Rattle.grin_driver.specs.Execution.{Execution, IsExecLoadFailure, status_of};
 
 use crate::cost::{Counted, RunCounts};
 use elf32::{ElfRefusal, Loaded, read};
@@ -52,9 +52,7 @@ fn execute<I: Source, K: Sink>(
     input: &mut I,
     out: &mut K,
 ) -> Counted
-    ensures executes { Executes (source_change I.read_gives I.left I.is_over I.faults input.old input.new)
-        (sink_change K.put_gives K.taken K.faults out.old out.new) program.now steps result.status }
-    ensures counts { CountsRun (source_change I.read_gives I.left I.is_over I.faults input.old input.new)
+    ensures ran { RunsWithCounts (source_change I.read_gives I.left I.is_over I.faults input.old input.new)
         (sink_change K.put_gives K.taken K.faults out.old out.new) program.now steps result.status
         result.counts }
     ensures input_later { I.faults input.old ≤ I.faults input.new }
@@ -94,9 +92,7 @@ pub(crate) fn exec_counted<I: Source, K: Sink>(
     input: &mut I,
     out: &mut K,
 ) -> Counted
-    ensures executes { Execution (source_change I.read_gives I.left I.is_over I.faults input.old input.new)
-        (sink_change K.put_gives K.taken K.faults out.old out.new) bytes.now steps result.status }
-    ensures counts { CountsExecution
+    ensures ran { ExecutesWithCounts
         (source_change I.read_gives I.left I.is_over I.faults input.old input.new)
         (sink_change K.put_gives K.taken K.faults out.old out.new) bytes.now steps result.status
         result.counts }

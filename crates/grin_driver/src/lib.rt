@@ -10,12 +10,15 @@ mod generate;
 mod image;
 pub mod laws;
 mod list;
+mod needs;
 mod points;
 mod run;
 mod standing;
 
 pub use command::grinc_main;
 pub use command_line::Line;
+pub use cost::{Cost, EndedWithCost};
+pub use grin_compile::Options;
 pub use list::list_text;
 pub use run::run_text;
 pub use text_commands::status::Status;

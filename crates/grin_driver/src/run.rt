@@ -3,8 +3,8 @@
 ghost use Rattle.std.specs.Prelude.{◌≡◌, ◌≤◌};
 ghost use Rattle.grin_io.specs.Changes.{source_change, sink_change};
 ghost use Rattle.grin_compile.specs.Limits.{SizesAreInRange};
-ghost use Rattle.grin_driver.specs.Costs.{CostsText};
-ghost use Rattle.grin_driver.specs.Outcome.{status_of_exit, Outcome};
+ghost use Rattle.grin_driver.specs.Costs.{RunsAtCost};
+ghost use Rattle.grin_driver.specs.Outcome.{status_of_exit};
 
 use crate::cost::{Cost, EndedWithCost};
 use crate::exec::exec_counted;
@@ -30,7 +30,7 @@ pub(crate) fn status_of_exit(status: Status) -> Status
 /// at most so many instructions. The stack is rounded down to a multiple of four. Whatever the
 /// input gives, the status says what the program does on the bytes that its reads gave; `Exited`
 /// and `Trapped` are no status of it. The cost is that of this run.
-pub(crate) fn run_counted<I: Source, K: Sink>(
+pub fn run_text<I: Source, K: Sink>(
     alloc: Global,
     text: &[u8],
     options: Options,
@@ -39,10 +39,7 @@ pub(crate) fn run_counted<I: Source, K: Sink>(
     out: &mut K,
 ) -> EndedWithCost
     requires { SizesAreInRange options.cells options.stack }
-    ensures outcome { Outcome (source_change I.read_gives I.left I.is_over I.faults input.old input.new)
-        (sink_change K.put_gives K.taken K.faults out.old out.new) text.now options.cells options.stack
-        steps result.status }
-    ensures cost { CostsText (source_change I.read_gives I.left I.is_over I.faults input.old input.new)
+    ensures outcome { RunsAtCost (source_change I.read_gives I.left I.is_over I.faults input.old input.new)
         (sink_change K.put_gives K.taken K.faults out.old out.new) text.now options.cells options.stack
         steps result.status result.cost }
     ensures input_later { I.faults input.old ≤ I.faults input.new }
@@ -59,23 +56,4 @@ pub(crate) fn run_counted<I: Source, K: Sink>(
         }
         Err(status) => EndedWithCost { status, cost: None },
     }
-}
-
-/// The status of the run of a text, with so many cells and bytes of stack.
-pub fn run_text<I: Source, K: Sink>(
-    alloc: Global,
-    text: &[u8],
-    cells: u32,
-    stack: u32,
-    steps: u64,
-    input: &mut I,
-    out: &mut K,
-) -> Status
-    requires { SizesAreInRange cells stack }
-    ensures outcome { Outcome (source_change I.read_gives I.left I.is_over I.faults input.old input.new)
-        (sink_change K.put_gives K.taken K.faults out.old out.new) text.now cells stack steps result }
-    ensures input_later { I.faults input.old ≤ I.faults input.new }
-    ensures out_later { K.faults out.old ≤ K.faults out.new }
-{
-    run_counted(alloc, text, Options { cells, stack }, steps, input, out).status
 }

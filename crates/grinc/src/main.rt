@@ -39,7 +39,10 @@ fn main(runtime: HostRuntime) -> ExitCode {
             let mut shelf = FileShelf::new(runtime);
             grinc_main(alloc, &line, &mut shelf, &mut input, &mut out, &mut err)
         }
-        Err(status) => status,
+        Err(status) => {
+            status.tell(&mut err);
+            status
+        }
     };
     ExitCode::from(status.code())
 }

@@ -6,7 +6,7 @@ ghost use Rattle.raise_theory.specs.Laws.{RaisingKeeps};
 
 mod raising;
 
-pub use raise_theory::Raising;
+pub use raising::Raising;
 
 /// Where it is decided by a solution of the program's flow system which parameters are replaced,
 /// the program that is made does the same and stays fit for the passes.

@@ -5,7 +5,7 @@ ghost use Rattle.text_commands.specs.declared.status.Status.TheVariants.{Exited,
 ghost use Rattle.rv32_machine.specs.declared.machine.TrapKind.{TrapKind};
 
 use crate::outside::LISTS;
-use grin_driver::{Status, run_text};
+use grin_driver::{Options, Status, run_text};
 use grin_io::{Failed, MemSink, Source, SureSource};
 use std::alloc::{AllocError, Global};
 use std::test::Fail;
@@ -35,7 +35,11 @@ fn status_on(alloc: Global, text: &[u8], input: &mut Quiet, out: &mut MemSink) -
     ensures exits { (code : ℕ) → result ≡ Exited code → ⊥ }
     ensures traps { (kind : TrapKind) (pc : ℕ) → result ≡ Trapped kind pc → ⊥ }
 {
-    run_text(alloc, text, 1_000_000, 1_048_576, 1_000_000_000, input, out)
+    let options = Options {
+        cells: 1_000_000,
+        stack: 1_048_576,
+    };
+    run_text(alloc, text, options, 1_000_000_000, input, out).status
 }
 
 /// Whether a text behind `LISTS` on these bytes ends with this status, and puts out this text.

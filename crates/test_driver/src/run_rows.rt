@@ -1,7 +1,7 @@
 //! Texts that are run: programs that end, one that doesn't, and refusals.
 
 use crate::outside::{LISTS, Outside, RUN, program_answers};
-use grin_driver::run_text;
+use grin_driver::{Options, run_text};
 use grin_io::{MemSink, MemSource};
 use std::alloc::{AllocError, Global};
 use std::test::Fail;
@@ -132,16 +132,19 @@ fn a_text_that_is_run_alone(rt: HostRuntime) -> Result<(), Fail> {
     let text = format!(in rt.alloc(); "{LISTS}main xs = Cons 72 xs;")?;
     let mut input = MemSource::new(Vec::from_slice(rt.alloc(), b"i")?, Vec::new(rt.alloc()));
     let mut out = MemSink::new(rt.alloc(), 2, Vec::new(rt.alloc()))?;
-    let status = run_text(
+    let options = Options {
+        cells: 1000,
+        stack: 4096,
+    };
+    let ended = run_text(
         rt.alloc(),
         text.as_bytes(),
-        1000,
-        4096,
+        options,
         1_000_000,
         &mut input,
         &mut out,
     );
-    assert_eq!(rt; (status.code(), out.taken()), (0, &b"Hi"[..]));
+    assert_eq!(rt; (ended.status.code(), out.taken()), (0, &b"Hi"[..]));
     Ok(())
 }
 

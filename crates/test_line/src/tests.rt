@@ -224,6 +224,44 @@ fn lines_of_build(rt: HostRuntime) -> Result<(), Fail> {
     Ok(())
 }
 
+/// `costs a` with a number of cells and of bytes of the stack.
+const fn costs_a(cells: u32, stack: u32) -> Option<Command<'static>> {
+    Some(Command::Costs {
+        file: "a",
+        cells,
+        stack,
+    })
+}
+
+#[test]
+fn lines_of_costs(rt: HostRuntime) -> Result<(), Fail> {
+    let rows = [
+        ("grinc costs a", costs_a(1_000_000, 1_048_576)),
+        ("grinc costs --heap=7 -- a", costs_a(7, 1_048_576)),
+        ("grinc costs --stack 1024 a", costs_a(1_000_000, 1_024)),
+        (
+            "grinc costs a --stack=67108864 --heap 8000000",
+            costs_a(8_000_000, 67_108_864),
+        ),
+        ("grinc costs --heap 0 a", None),
+        ("grinc costs --heap 8000001 a", None),
+        ("grinc costs --stack 1023 a", None),
+        ("grinc costs --stack 67108865 a", None),
+        ("grinc costs", None),
+        ("grinc costs a b", None),
+        ("grinc costs a --steps 1", None),
+        ("grinc costs a --stats", None),
+        ("grinc costs a --after code", None),
+        ("grinc costs --heap 1 --heap 1 a", None),
+        ("grinc cost a", None),
+    ];
+    for (words, want) in rows {
+        let line = line_of(rt.alloc(), words)?;
+        assert_eq!(rt; line.command(), want, "{words}");
+    }
+    Ok(())
+}
+
 /// `gen` with a seed and a size.
 const fn gen_of(seed: u32, size: u32) -> Option<Command<'static>> {
     Some(Command::Gen { seed, size })

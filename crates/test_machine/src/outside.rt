@@ -3,13 +3,13 @@
 ghost use Rattle.std.specs.Prelude.{◌≡◌, true};
 
 use grin_io::{
-    Failed, FileShelf, MemFile, MemShelf, MemSink, MemSource, Shelf, Sink, Source, StdIn,
-    SureShelf, SureSource, WriterSink, std_err, std_out,
+    Failed, MemFile, MemShelf, MemSink, MemSource, Shelf, Sink, Source, SureShelf, SureSource,
 };
 use std::alloc::{AllocError, Global};
 use std::fs::{self, File};
 use std::process::Abort;
 use std::test::Fail;
+use system_io::{FileShelf, StdIn, WriterSink, std_err, std_out};
 
 fn file(alloc: Global, name: &str, bytes: &[u8]) -> Result<MemFile, AllocError> {
     Ok(MemFile {

@@ -9,5 +9,6 @@ pub mod Linked
 pub mod Lifted
 pub mod Matched
 pub mod TypesFit
-pub mod Shallow
 pub mod Gives
+pub mod SameRules
+pub mod Rereading

@@ -11,6 +11,7 @@ pub mod Writing
 pub mod Text
 pub mod Checking
 pub mod Printing
+pub mod Rereading
 pub mod Linking
 pub mod Lifting
 pub mod Matching

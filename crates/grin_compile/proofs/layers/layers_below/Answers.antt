@@ -1,4 +1,4 @@
-use Rattle.std.proofs.Common.{◌≡◌, map, length, subst, arith}
+use Rattle.std.proofs.Common.{◌≡◌, ◌∙◌, map, length, sym, subst, arith}
 use Rattle.grin_syntax.specs.SameOutside.{names_of}
 use Rattle.grin_syntax.specs.Tree.{program_of, procedure_of}
 use Rattle.low_code.specs.Tree as low
@@ -74,7 +74,16 @@ place-requires-clause-asked c k lt =
     (c.in_ok-places.ensures.fits made.formed (few_parameters g l made.lowers)
     (few_results g l made.lowers)) given.sizes c.in_ok-asm.asm.items c.selection_refines.ensures
     c.in_ok-asm.ensures.selected
-    k (omega (arith, c.procedures.ensures))
+    k (omega (arith, c.procedures-procs.ensures))
+
+pub frames-requires : goal.frames-requires
+frames-requires c =
+    let g = program_of c.args.g.now in
+    let l = low.program_of c.in_ok-low.low in
+    let made = c.in_ok-low.ensures in
+    let fits = c.in_ok-places.ensures.fits made.formed (few_parameters g l made.lowers)
+    (few_results g l made.lowers) in
+    fits.covers.frames ∙ sym c.procedures-procs.ensures
 
 pub returns : goal.returns
 returns c =
@@ -102,12 +111,13 @@ returns c =
       starts
           = placement.addresses;
       names = c.in_ok-names.names;
+      frames = c.in_ok-frames.frames;
     }) items made.formed made.lowers small
     fits
     chosen placed.placed
     (starts_by placed.placed.lay items chosen.begins placement.addresses.items
-    c.procedures.result (length l.procs) chosen.begins_are c.procedures.ensures
-    placed.addresses) named
+    c.procedures-procs.result (length l.procs) chosen.begins_are c.procedures-procs.ensures
+    placed.addresses) named c.in_ok-frames.ensures
     c.in_ok-placement.ensures.decode
     (items_fit g l a c.args.cells c.args.stack given.lowerable made.formed made.lowers small fits
     given.sizes items law c.in_ok-asm.ensures.selected)

@@ -5,4 +5,5 @@ use Rattle.grin_driver.proofs.code.code_listing.Given as goal
 
 abbrev pub invariant-loop-word : goal.invariant-loop-word
 invariant-loop-word l =
-    (l.address ≡ 65536 + 4 * l.word-index) × (l.bytes.items ++ lines_from l.address (drop l.word-index l.code) ≡ code_listing l.code)
+    (l.address ≡ 65536 + 4 * l.word-index) ×
+    (l.bytes.items ++ lines_from l.address (drop l.word-index l.code) ≡ code_listing l.code)

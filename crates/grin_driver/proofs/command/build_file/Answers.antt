@@ -8,8 +8,13 @@ use Rattle.grin_driver.proofs.command.build_file.Goals as goal
 
 pub returns-in-Ok-clause-answer : goal.returns-in-Ok-clause-answer
 returns-in-Ok-clause-answer g c =
-    let o = sink_change g.K.Sink.put_gives g.K.Sink.taken g.K.Sink.faults c.args.out.now c.build_text.new.out in
-    let says = λ (text : List ℕ). IsBuildOutcome o text c.args.options.cells c.args.options.stack c.build_text.result in
-    inr (of_file (shelf_change g.F.Shelf.content g.F.Shelf.faults c.args.shelf.now c.read_file.new.shelf) 1048577 c.args.file.now c.in-Ok.text.items says
-    (λ text full long h. builds_long o c.in-Ok.text.items text c.args.options.cells c.args.options.stack (omega (arith, full)) (omega (arith, long)) c.build_text.result h)
+    let o = sink_change g.K.Sink.put_gives g.K.Sink.taken g.K.Sink.faults c.args.out.now
+    c.build_text.new.out in
+    let says = λ (text : List ℕ). IsBuildOutcome o text c.args.options.cells c.args.options.stack
+    c.build_text.result in
+    inr (of_file
+    (shelf_change g.F.Shelf.content g.F.Shelf.faults c.args.shelf.now c.read_file.new.shelf)
+    1048577 c.args.file.now c.in-Ok.text.items says
+    (λ text full long h. builds_long o c.in-Ok.text.items text c.args.options.cells
+    c.args.options.stack (omega (arith, full)) (omega (arith, long)) c.build_text.result h)
     c.in-Ok.ensures.read (rw c.as_slice.ensures.value at c.build_text.ensures.builds))

@@ -1,26 +1,91 @@
-use Rattle.std.proofs.Common.{refl}
+use Rattle.std.proofs.Common.{Some, refl, sym, subst}
 use Rattle.grin_io.specs.Changes.{shelf_change, source_change, sink_change}
+use Rattle.command_line.specs.Commands.{asked_by}
+use Rattle.grin_driver.specs.Costs.{AnswersAtCost}
 use Rattle.grin_driver.proofs.Costs.{asked_run, asked_exec}
 use Rattle.grin_driver.proofs.command.run_command.Goals as goal
 
-pub returns-in-Build-clause-answer : goal.returns-in-Build-clause-answer
-returns-in-Build-clause-answer g c = rw (c.in-Build.is, c.of-in-Build.ensures.status) (c.build_file.ensures.answer, refl)
+pub returns-in-Run-clause-answer : goal.returns-in-Run-clause-answer
+returns-in-Run-clause-answer g c =
+    let i = (source_change g.I.Source.read_gives g.I.Source.left g.I.Source.is_over
+    g.I.Source.faults c.args.input.now
+    c.run_file.new.input) in
+    let o = (sink_change g.K.Sink.put_gives g.K.Sink.taken g.K.Sink.faults c.args.out.now
+    c.run_file.new.out) in
+    let f = (shelf_change g.F.Shelf.content g.F.Shelf.faults c.args.shelf.now c.run_file.new.shelf)
+    in
+    let ended = c.asked.result in
+    subst (λ x. AnswersAtCost f i o (Some (asked_by x)) ended.status ended.cost) (sym c.in-Run.is)
+    (asked_run i o f _ _ _ _ _ c.run_file.result.status ended.status c.run_file.result.cost
+    ended.cost
+    c.asked.ensures.status c.asked.ensures.cost c.run_file.ensures.answer)
 
-pub returns-in-Link-clause-answer : goal.returns-in-Link-clause-answer
-returns-in-Link-clause-answer g c = rw (c.in-Link.is, c.of-in-Link.ensures.status) (c.link_files.ensures.answer, refl)
+pub returns-in-Exec-clause-answer : goal.returns-in-Exec-clause-answer
+returns-in-Exec-clause-answer g c =
+    let i = (source_change g.I.Source.read_gives g.I.Source.left g.I.Source.is_over
+    g.I.Source.faults c.args.input.now
+    c.exec_file.new.input) in
+    let o = (sink_change g.K.Sink.put_gives g.K.Sink.taken g.K.Sink.faults c.args.out.now
+    c.exec_file.new.out) in
+    let f = (shelf_change g.F.Shelf.content g.F.Shelf.faults c.args.shelf.now c.exec_file.new.shelf)
+    in
+    let ended = c.asked-in-Exec.result in
+    subst (λ x. AnswersAtCost f i o (Some (asked_by x)) ended.status ended.cost) (sym c.in-Exec.is)
+    (asked_exec i o f _ _ _ c.exec_file.result.status ended.status c.exec_file.result.cost
+    ended.cost
+    c.asked-in-Exec.ensures.status c.asked-in-Exec.ensures.cost c.exec_file.ensures.answer)
+
+pub returns-in-Check-clause-answer : goal.returns-in-Check-clause-answer
+returns-in-Check-clause-answer g c =
+    rw (c.in-Check.is, c.of.ensures.status, c.of.ensures.cost)
+    ((c.check_file.ensures.answer, refl), refl)
+
+pub returns-in-List-clause-answer : goal.returns-in-List-clause-answer
+returns-in-List-clause-answer g c =
+    rw (c.in-List.is, c.of-in-List.ensures.status, c.of-in-List.ensures.cost)
+    ((c.list_file.ensures.answer, refl), refl)
+
+pub returns-in-Build-clause-answer : goal.returns-in-Build-clause-answer
+returns-in-Build-clause-answer g c =
+    rw (c.in-Build.is, c.of-in-Build.ensures.status, c.of-in-Build.ensures.cost)
+    ((c.build_file.ensures.answer, refl), refl)
+
+pub returns-in-Costs-clause-answer : goal.returns-in-Costs-clause-answer
+returns-in-Costs-clause-answer g c =
+    rw (c.in-Costs.is, c.of-in-Costs.ensures.status, c.of-in-Costs.ensures.cost)
+    ((c.costs_file.ensures.answer, refl), refl)
 
 pub returns-in-Gen-clause-answer : goal.returns-in-Gen-clause-answer
-returns-in-Gen-clause-answer g c = rw (c.in-Gen.is, c.of-in-Gen.ensures.status) (c.generate.ensures.generates, refl, refl)
+returns-in-Gen-clause-answer g c =
+    rw (c.in-Gen.is, c.of-in-Gen.ensures.status, c.of-in-Gen.ensures.cost)
+    ((c.generate.ensures.generates, refl, refl), refl)
 
-pub returns-in-Run-clause-answer : goal.returns-in-Run-clause-answer
-returns-in-Run-clause-answer g c = rw (c.in-Run.is, c.asked.ensures.status) c.run_file.ensures.answer
+pub returns-in-Link-clause-answer : goal.returns-in-Link-clause-answer
+returns-in-Link-clause-answer g c =
+    rw (c.in-Link.is, c.of-in-Link.ensures.status, c.of-in-Link.ensures.cost)
+    ((c.link_files.ensures.answer, refl), refl)
 
-pub returns-in-Run-clause-cost : goal.returns-in-Run-clause-cost
-returns-in-Run-clause-cost g c =
-    let f = shelf_change g.F.Shelf.content g.F.Shelf.faults c.args.shelf.now c.run_file.new.shelf in
-    rw (c.in-Run.is, c.asked.ensures.status, c.asked.ensures.cost) (asked_run (source_change g.I.Source.read_gives g.I.Source.left g.I.Source.is_over g.I.Source.faults c.args.input.now c.run_file.new.input) (sink_change g.K.Sink.put_gives g.K.Sink.taken g.K.Sink.faults c.args.out.now c.run_file.new.out) f _ _ _ _ _ c.run_file.result.status c.run_file.result.cost c.run_file.ensures.cost)
+pub returns-in-Lift-clause-answer : goal.returns-in-Lift-clause-answer
+returns-in-Lift-clause-answer g c =
+    rw (c.in-Lift.is, c.of-in-Lift.ensures.status, c.of-in-Lift.ensures.cost)
+    ((c.write_file.ensures.answer, refl), refl)
 
-pub returns-in-Exec-clause-cost : goal.returns-in-Exec-clause-cost
-returns-in-Exec-clause-cost g c =
-    let f = shelf_change g.F.Shelf.content g.F.Shelf.faults c.args.shelf.now c.exec_file.new.shelf in
-    rw (c.in-Exec.is, c.asked-in-Exec.ensures.status, c.asked-in-Exec.ensures.cost) (asked_exec (source_change g.I.Source.read_gives g.I.Source.left g.I.Source.is_over g.I.Source.faults c.args.input.now c.exec_file.new.input) (sink_change g.K.Sink.put_gives g.K.Sink.taken g.K.Sink.faults c.args.out.now c.exec_file.new.out) f _ _ _ c.exec_file.result.status c.exec_file.result.cost c.exec_file.ensures.cost)
+pub returns-in-Match-clause-answer : goal.returns-in-Match-clause-answer
+returns-in-Match-clause-answer g c =
+    rw (c.in-Match.is, c.of-in-Match.ensures.status, c.of-in-Match.ensures.cost)
+    ((c.write_file-in-Match.ensures.answer, refl), refl)
+
+pub returns-in-Types-clause-answer : goal.returns-in-Types-clause-answer
+returns-in-Types-clause-answer g c =
+    rw (c.in-Types.is, c.of-in-Types.ensures.status, c.of-in-Types.ensures.cost)
+    ((c.write_file-in-Types.ensures.answer, refl), refl)
+
+pub returns-in-Sides-clause-answer : goal.returns-in-Sides-clause-answer
+returns-in-Sides-clause-answer g c =
+    rw (c.in-Sides.is, c.of-in-Sides.ensures.status, c.of-in-Sides.ensures.cost)
+    ((c.write_file-in-Sides.ensures.answer, refl), refl)
+
+pub returns-in-Points-clause-answer : goal.returns-in-Points-clause-answer
+returns-in-Points-clause-answer g c =
+    rw (c.in-Points.is, c.of-in-Points.ensures.status, c.of-in-Points.ensures.cost)
+    ((c.write_file-in-Points.ensures.answer, refl), refl)

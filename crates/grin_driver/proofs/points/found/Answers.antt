@@ -12,6 +12,7 @@ returns c =
     record {
       solution = A;
       least = subst (λ g. IsLeast (tables g) (flow.system g) A) c.in_ok-translation.ensures
-          (rw (c.in_ok-system.ensures.tables, c.in_ok-system.ensures.inclusions) at c.in_ok-flow.ensures);
+          (rw (c.in_ok-system.ensures.tables, c.in_ok-system.ensures.inclusions) at
+          c.in_ok-flow.ensures);
       is_text = c.in_ok-text.ensures ∙ ap (λ g. points g A) c.in_ok-translation.ensures;
     }

@@ -6,7 +6,12 @@ use Rattle.core_types.specs.SourceOf.{source_of}
 use Rattle.core_types.specs.Sides.{type_of}
 use Rattle.core_types.specs.Shown.{shown_sides}
 use Rattle.core_types.proofs.SourceReading.{source_reads}
+use Rattle.text_commands.proofs.TypesFit.{only_memory}
 use Rattle.text_commands.proofs.sides.line.Goals as goal
+
+pub memory_in-requires : goal.memory_in-requires
+memory_in-requires c = only_memory c.args.text.now c.requires c.in-Err.refusal
+    c.in-Err.ensures.refused
 
 pub returns : goal.returns
 returns c = λ s t.

@@ -2,6 +2,7 @@ use Rattle.std.proofs.Common.{ℕ, subst}
 use Rattle.core_types.specs.declared.refusal.TypeRefusal.TheVariants as refusal
 use Rattle.core_types.specs.Refused.{IsRefusal}
 use Rattle.text_commands.specs.Typing.{Apart}
+use Rattle.text_commands.proofs.TypesFit.{unfitting_is_read}
 use Rattle.text_commands.proofs.sides.sided.Goals as goal
 
 pub returns-in-Fault-clause-refused : goal.returns-in-Fault-clause-refused
@@ -16,3 +17,10 @@ returns-in-Ok-clause-made c =
     let h : IsRefusal c.args.text.now (refusal.Mismatch at c.in-Mismatch.left c.in-Mismatch.right)
     = subst (IsRefusal c.args.text.now) c.in-Mismatch.is c.requires in
     Apart h.1.0 h.0 h.1.1 h.1.2 (c.in-Ok.ensures h.1.0 h.1.1)
+
+pub line-requires : goal.line-requires
+line-requires c =
+    let at : ℕ = c.in-Mismatch.field-0 in
+    let h : IsRefusal c.args.text.now (refusal.Mismatch at c.in-Mismatch.left c.in-Mismatch.right)
+    = subst (IsRefusal c.args.text.now) c.in-Mismatch.is c.requires in
+    unfitting_is_read c.args.text.now at h.0

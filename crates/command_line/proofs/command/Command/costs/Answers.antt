@@ -1,0 +1,8 @@
+use Rattle.command_line.specs.Commands.{CostsFile}
+use Rattle.command_line.proofs.command.Command.costs.Goals as goal
+
+pub returns : goal.returns
+returns c = c.in_ok-file.ensures CostsFile
+
+pub returns-in_err-file : goal.returns-in_err-file
+returns-in_err-file c = rw c.from_residual.ensures (c.in_err-file.ensures CostsFile)
