@@ -1,16 +1,12 @@
-# Writes what bash completes the words of grinc by, from docs/commands.md: its commands, their options, and what stands behind `--after`.
-/^    (\.\/)?grinc / { command = $2; if (!(command in options)) order[++count] = command; options[command] = options[command] ""; begin = 3 }
-/^    / && command {
-    for (i = begin; i <= NF; i++) if ($i ~ /^\[?--[a-z]/) { word = $i; gsub(/[][]/, "", word); options[command] = options[command] " " word }
-    begin = 1
+# Writes what bash completes the words of grinc by, from docs/help.txt: its commands, their options, and what stands behind `--after`.
+/^(\.\/)?grinc / {
+    command = $2
+    order[++count] = command
+    options[command] = ""
+    for (i = 3; i <= NF; i++) if ($i ~ /^\[?--[a-z]/) { word = $i; gsub(/[][]/, "", word); options[command] = options[command] " " word }
 }
-!/^    / { command = "" }
-/^- PASS is / { in_passes = 1 }
-/^- / && !/^- PASS/ { in_passes = 0 }
-in_passes {
-    line = $0
-    while (match(line, /`[a-z]+` \(/)) { passes = passes " " substr(line, RSTART + 1, RLENGTH - 4); line = substr(line, RSTART + RLENGTH) }
-}
+/^[^ ]/ { in_passes = $0 == "PASS" }
+in_passes && /^    `[a-z]+`: / { word = $1; gsub(/[`:]/, "", word); passes = passes " " word }
 END {
     for (i = 1; i <= count; i++) words = words " " order[i]
     print "# Completion of grinc for bash, written by `grinc completion`."

@@ -1,20 +1,29 @@
-# Of docs/commands.md what it says of a command: its lines, what the words in them mean, and its examples.
-/^    (\.\/)?grinc / { here = $2 == command }
-!/^    / { here = 0 }
-here {
-    print substr($0, 5)
-    found = 1
-    for (i = 1; i <= NF; i++) { word = $i; gsub(/[^A-Z]/, "", word); wanted[word] = 1 }
-    for (i = 1; i <= NF; i++) { word = $i; gsub(/[][]/, "", word); wanted[word] = 1 }
+# What docs/help.txt says: of a command, or of all of them where none is named. A line at the left begins what is said of it.
+
+# The words of a command line of which something is said apart: those in capitals, and options.
+function words_of(line, count, i, part) {
+    count = split(line, part, /[][ .]+/)
+    for (i = 3; i <= count; i++) wanted[part[i]] = 1
 }
-/^- / { word = $2; gsub(/[`,]/, "", word); told = word == command || (word in wanted) && word != "grinc" }
-!/^- / && !/^  [^ ]/ { told = 0 }
-told { print }
-index($0, "| `grinc " command " ") == 1 {
-    split($0, cell, "|")
-    line = cell[2] ":" cell[3]
-    gsub(/`/, "", line)
-    gsub(/^ +| +$/, "", line)
-    print line
+
+# The words and options of a command behind its operands.
+function in_short(line, text, bare) {
+    bare = line
+    sub(/^\.\//, "", bare)
+    if (match(bare, / \[/)) { more = substr(bare, RSTART + 1); bare = substr(bare, 1, RSTART - 1) } else more = ""
+    printf "%-33s%s\n", bare, text
+    if (more) printf "%-33s%s\n", "", more
 }
-END { exit !found }
+
+/^#/ { next }
+/^[^ ]/ {
+    head = $0
+    is_command = /^(\.\/)?grinc /
+    told = command != "" && (is_command ? $2 == command : $0 in wanted)
+    if (told && is_command) { words_of($0); found = 1 }
+    fresh = 1
+}
+command == "" && /^    / && is_command && fresh { in_short(head, substr($0, 5)) }
+/^    / { fresh = 0 }
+told && !/^$/ { print (begun && /^[^ ]/ ? "\n" : "") $0; begun = 1 }
+END { exit command != "" && !found }

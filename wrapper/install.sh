@@ -11,10 +11,10 @@ install_in() {
     cp "$kept" "$lib/.grinc/" && { [ ! -f "$kept.version" ] || cp "$kept.version" "$lib/.grinc/"; } &&
         cp "$top/grinc" "$lib/" && rm -rf "$lib/wrapper" && cp -r "$top/wrapper" "$lib/" &&
         rm -f "$lib/wrapper/check" "$lib/wrapper/look" "$lib/wrapper/native" &&
-        cp "$top/docs/commands.md" "$top/docs/rules.txt" "$lib/docs/" &&
+        cp "$top/docs/commands.md" "$top/docs/help.txt" "$top/docs/rules.txt" "$lib/docs/" &&
         ln -sf ../lib/grinc/grinc "$1/bin/grinc" &&
-        awk -f "$top/wrapper/man.awk" <"$top/docs/commands.md" >"$share/man/man1/grinc.1" &&
-        awk -f "$top/wrapper/completion.awk" <"$top/docs/commands.md" >"$share/bash-completion/completions/grinc" &&
+        manual >"$share/man/man1/grinc.1" &&
+        awk -f "$top/wrapper/completion.awk" <"$top/docs/help.txt" >"$share/bash-completion/completions/grinc" &&
         cp "$top/wrapper/editors/core.vim" "$vim/syntax/" &&
         printf 'autocmd BufRead,BufNewFile *.core setfiletype core\n' >"$vim/ftdetect/core.vim" &&
         cp "$top/wrapper/editors/core-mode.el" "$share/emacs/site-lisp/" || return 1

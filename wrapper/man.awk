@@ -1,4 +1,5 @@
-# Writes the page of the manual from docs/commands.md: its sections, paragraphs, lists, tables and blocks.
+# Writes the page of the manual: what the first file has, which is what `grinc help` says, and of docs/commands.md, the second, the
+# sections with their paragraphs, lists, tables and blocks.
 
 # A text as roff has it: what stands between backquotes in bold.
 function roff(text, out, bold) {
@@ -37,8 +38,12 @@ BEGIN {
     print ".SH NAME"
     print "grinc \\- compiles Core, a small lazy language, to executables for RV32IM, and runs them"
     print ".SH SYNOPSIS"
+    print ".nf"
+    state = "block"
 }
-/^# / { next }
+FNR == NR { print roff($0); next }
+/^## / { begun_sections = 1 }
+!begun_sections { next }
 /^## / { leave(""); print ".SH " toupper(roff(substr($0, 4))); next }
 !/^\|/ { begun = 0 }
 /^\|/ { leave("table"); row($0); next }
@@ -48,13 +53,11 @@ BEGIN {
     next
 }
 /^$/ { leave(""); next }
-/^- / { leave("item"); print ".IP \\(bu 2"; print roff(substr($0, 3)); next }
+/^ *- / { leave("item"); print ".IP \\(bu " (/^-/ ? 2 : 4); sub(/^ *- /, ""); print roff($0); next }
 {
     sub(/^ +/, "")
     if (state == "") {
-        # The text begins behind the first block.
-        if (!described++) print ".SH DESCRIPTION"
-        else print ".PP"
+        print ".PP"
         leave("text")
     }
     print roff($0)

@@ -1,12 +1,16 @@
 # shellcheck shell=sh disable=SC2034,SC2154,SC2016,SC1091
 # The words that ./grinc does itself, without the program: help, its version, a rule with its example, a page, and what puts it
-# where the path finds it. docs/commands.md is the one text of help: all that is shown here is made of it.
+# where the path finds it. docs/help.txt has the texts of help, and docs/rules.txt those of rules.
 
-# The commands, as the page lists them, and the script's own.
+# The program's commands, and the script's own.
 help() {
-    awk '/^    / { print substr($0, 5); begun = 1; next } begun && NF { exit }' <"$top/docs/commands.md"
-    awk '/^    \.\/grinc / { $0 = substr($0, 7); sub(/  +/, "&  "); print; begun = 1; next } begun { exit }' <"$top/docs/commands.md"
+    awk -f "$top/wrapper/help.awk" <"$top/docs/help.txt"
     echo 'docs/commands.md has how commands end, and every rule.'
+}
+
+# The page of the manual.
+manual() {
+    awk -f "$top/wrapper/help.awk" <"$top/docs/help.txt" | awk -f "$top/wrapper/man.awk" - "$top/docs/commands.md"
 }
 
 # Which toolchain built the program, or, where nothing is built, which one would; what it says of itself is kept.
@@ -29,35 +33,30 @@ version() {
 
 # The texts of a rule, and its examples: a rule has more than one where a command has another meaning for its number.
 explain_rule() {
-    awk -v rule="${1#0}" '
-        function cell(i) { gsub(/^ +| +$/, "", part[i]); return part[i] }
-        /^## / { section = substr($0, 4) }
-        /^\| [a-z ]*[0-9]+ \|/ {
-            line = $0
-            gsub(/\\\|/, "\001", line)
-            count = split(line, part, "|")
-            for (i in part) gsub(/\001/, "|", part[i])
-            number = cell(2)
+    awk -F '\t' -v rule="${1#0}" '
+        {
+            number = $1
             sub(/^[a-z]+ /, "", number)
-            if (number != rule) next
-            print (found ? "\n" : "") "rule " cell(2) ": " cell(3)
-            print "  " section
-            if (count > 5) print "  NUMBER: " cell(4)
-            print "  example: " cell(count - 1)
+        }
+        number == rule {
+            print (found ? "\n" : "") "rule " $1 ": " $2
+            print "  " $3
+            if ($4 != "") print "  NUMBER: " $4
+            print "  example: " $5
             found = 1
         }
-        END { exit !found }' <"$top/docs/commands.md" || { say "no rule has the number $1; docs/rules.txt lists them"; exit 2; }
+        END { exit !found }' <"$top/docs/rules.txt" || { say "no rule has the number $1; docs/rules.txt lists them"; exit 2; }
 }
 
 # Does the words, or comes back where they are none of these.
 own_words() {
     case $#:$1 in
         1:--help | 1:help) help; exit ;;
-        2:help) awk -v command="$2" -f "$top/wrapper/help.awk" <"$top/docs/commands.md" || { help >&2; exit 2; }; exit ;;
+        2:help) awk -v command="$2" -f "$top/wrapper/help.awk" <"$top/docs/help.txt" || { help >&2; exit 2; }; exit ;;
         1:--version) version; exit ;;
         2:--explain) explain_rule "$2"; exit ;;
-        1:man) awk -f "$top/wrapper/man.awk" <"$top/docs/commands.md"; exit ;;
-        1:completion) awk -f "$top/wrapper/completion.awk" <"$top/docs/commands.md"; exit ;;
+        1:man) manual; exit ;;
+        1:completion) awk -f "$top/wrapper/completion.awk" <"$top/docs/help.txt"; exit ;;
         2:install | 2:page) . "$top/wrapper/build.sh"; reading=''; is_kept || build_once || exit 125 ;;
     esac
     case $#:$1 in
