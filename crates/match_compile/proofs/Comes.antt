@@ -7,20 +7,19 @@ use Rattle.std.specs.declared.alloc.Global.{Global}
 use Rattle.seq.specs.Lists.{numbers_from}
 use Rattle.core_reader.specs.declared.syntax.Binder.{Binder}
 use Rattle.core_reader.specs.declared.syntax.Expr as code-expr
-use Rattle.core_reader.specs.Tree.{Expr}
+use Rattle.core_reader.specs.Tree.{Expr, expr}
 use Rattle.match_compile.specs.declared.row.Pending.{Pending}
 use Rattle.match_compile.specs.declared.row.Test.{Test}
 use Rattle.match_compile.specs.declared.tree.Tree as code-tree
 use Rattle.match_compile.specs.declared.tree.Tree.TheVariants as code
 use Rattle.match_compile.specs.declared.tree.Branch.{Branch}
 use Rattle.match_compile.specs.declared.tree.TreeAfterInsertion.{TreeAfterInsertion}
-use Rattle.match_compile.specs.declared.tree.Put.{Put}
 use Rattle.match_compile.specs.Heads.{Head, Integer, Constructor, same_head}
 use Rattle.match_compile.specs.Source.{Pat, Name, Int, Con, Pats, NoPats, AndPat}
 use Rattle.match_compile.specs.Parts.{count, tests_in, tests_of}
 use Rattle.match_compile.specs.Trees.{PendingPattern, Row, row, pending_patterns_at, head_of, fields_of, Tree, Body, Case, Branches, NoBranch, AndBranch, NoDefault, ATree, branches_fail, fits, opened, places_from, tests_left, one_branch, by_head, alone, alone_from, in_default, in_branch, in_later, or_default, pred, max_chained_cases, insert, insert_branch}
 use Rattle.match_compile.specs.RowOf.{rows_of, row_with_field_places, test_at_place, first_of}
-use Rattle.match_compile.specs.TreeOf.{tree_of, branches_of, left_of, insertion_result, tree_after_insertion, branches_after_insertion, if_fits, in_branches, joined, behind, with_new, or_alone, after_branches, branch_for, replaced}
+use Rattle.match_compile.specs.TreeOf.{tree_of, branches_of, left_of, insertion_result, tree_after_insertion, branches_after_insertion, as_default, if_fits, is_closed, in_branches, joined, behind, with_new, or_alone, without_default, with_default, after_branches, branch_for, replaced}
 use Rattle.match_compile.proofs.TreesOf.{tree_of-Body, tree_of-Tests, tree_of-Otherwise, branch_is}
 use Rattle.match_compile.proofs.Inserted.{some_is, settled_tests, tests_append, test_counts}
 
@@ -119,7 +118,7 @@ module _ (body : Expr) (bound : List (Binder × ℕ)) where
 
 module _ (pat : Pat) (h : Head) (n : ℕ) (r : Row) where
   abbrev by_same : Branches → Branch → Bool → Option (Branches × ℕ)
-  by_same rest b y = elim y [ true ↦ in_branch b.head b.places rest (insert max_chained_cases (tree_of b.tree) n (opened r pat b.places)) | false ↦ in_later b.head b.places (tree_of b.tree) (insert_branch pat h rest n r) ]
+  by_same rest b y = elim y [ true ↦ in_branch b.head b.places rest (insert max_chained_cases (tree_of b.tree.value) n (opened r pat b.places)) | false ↦ in_later b.head b.places (tree_of b.tree.value) (insert_branch pat h rest n r) ]
 
   one_first : (b : Branch) (bs : List Branch) → insert_branch pat h (branches_of (b ∷ bs)) n r ≡ by_same (branches_of bs) b (same_head b.head h)
   one_first b bs = ap (λ w. insert_branch pat h w n r) (branch_is b (branches_of bs))
@@ -134,22 +133,22 @@ module _ (pat : Pat) (h : Head) (n : ℕ) (r : Row) where
       more : Branches
       more = AndBranch h (places_from n (fields_of pat)) fresh.0 NoBranch
 
-      go : (branch_for h bs ≡ length bs → insert_branch pat h (branches_of bs) n r ≡ Some (joined (branches_of bs) (AndBranch h (places_from n (fields_of pat)) fresh.0 NoBranch), fresh.1)) → (y : Bool) → cond (not y) (1 + branch_for h bs) 0 ≡ length (b ∷ bs) → by_same (branches_of bs) b y ≡ Some (joined (AndBranch b.head b.places (tree_of b.tree) (branches_of bs)) more, fresh.1)
+      go : (branch_for h bs ≡ length bs → insert_branch pat h (branches_of bs) n r ≡ Some (joined (branches_of bs) (AndBranch h (places_from n (fields_of pat)) fresh.0 NoBranch), fresh.1)) → (y : Bool) → cond (not y) (1 + branch_for h bs) 0 ≡ length (b ∷ bs) → by_same (branches_of bs) b y ≡ Some (joined (AndBranch b.head b.places (tree_of b.tree.value) (branches_of bs)) more, fresh.1)
       go ih true f = absurd (omega (arith, f))
-      go ih false f = ap (in_later b.head b.places (tree_of b.tree)) (ih (omega (arith, f)))
+      go ih false f = ap (in_later b.head b.places (tree_of b.tree.value)) (ih (omega (arith, f)))
 
   abbrev pub with_tree : (Tree → Branches) → Option (Tree × ℕ) → Option (Branches × ℕ)
   with_tree f None = None
   with_tree f (Some u) = Some (f u.0, u.1)
 
   abbrev pub goes_on : Branch → Option (Tree × ℕ)
-  goes_on b = insert max_chained_cases (tree_of b.tree) n (opened r pat b.places)
+  goes_on b = insert max_chained_cases (tree_of b.tree.value) n (opened r pat b.places)
 
   branch_tree : (b : Branch) (rest : Branches) (o : Option (Tree × ℕ)) → in_branch b.head b.places rest o ≡ with_tree (λ u. AndBranch b.head b.places u rest) o
   branch_tree b rest None = refl
   branch_tree b rest (Some u) = refl
 
-  later_tree : (b : Branch) (f : Tree → Branches) (o : Option (Tree × ℕ)) → in_later b.head b.places (tree_of b.tree) (with_tree f o) ≡ with_tree (λ u. AndBranch b.head b.places (tree_of b.tree) (f u)) o
+  later_tree : (b : Branch) (f : Tree → Branches) (o : Option (Tree × ℕ)) → in_later b.head b.places (tree_of b.tree.value) (with_tree f o) ≡ with_tree (λ u. AndBranch b.head b.places (tree_of b.tree.value) (f u)) o
   later_tree b f None = refl
   later_tree b f (Some u) = refl
 
@@ -160,44 +159,44 @@ module _ (pat : Pat) (h : Head) (n : ℕ) (r : Row) where
       step : 1 + branch_for h cs ≡ suc (branch_for h cs)
       step = omega arith
 
-      go : (slice_get cs (branch_for h cs) ≡ Some b → insert_branch pat h (branches_of cs) n r ≡ with_tree (λ u. replaced (branches_of cs) (branch_for h cs) u) (goes_on b)) → (y : Bool) → slice_get (c ∷ cs) (cond (not y) (1 + branch_for h cs) 0) ≡ Some b → by_same (branches_of cs) c y ≡ with_tree (λ u. replaced (AndBranch c.head c.places (tree_of c.tree) (branches_of cs)) (cond (not y) (1 + branch_for h cs) 0) u) (goes_on b)
+      go : (slice_get cs (branch_for h cs) ≡ Some b → insert_branch pat h (branches_of cs) n r ≡ with_tree (λ u. replaced (branches_of cs) (branch_for h cs) u) (goes_on b)) → (y : Bool) → slice_get (c ∷ cs) (cond (not y) (1 + branch_for h cs) 0) ≡ Some b → by_same (branches_of cs) c y ≡ with_tree (λ u. replaced (AndBranch c.head c.places (tree_of c.tree.value) (branches_of cs)) (cond (not y) (1 + branch_for h cs) 0) u) (goes_on b)
       go ih true f = branch_tree c (branches_of cs) (goes_on c) ∙ ap (λ x. with_tree (λ u. AndBranch c.head c.places u (branches_of cs)) (goes_on x)) (some_is c b f)
       go ih false f =
-          ap (in_later c.head c.places (tree_of c.tree)) (ih (ap (slice_get (c ∷ cs)) (sym step) ∙ f))
+          ap (in_later c.head c.places (tree_of c.tree.value)) (ih (ap (slice_get (c ∷ cs)) (sym step) ∙ f))
           ∙ later_tree c (λ u. replaced (branches_of cs) (branch_for h cs) u) (goes_on b)
-          ∙ ap (λ k. with_tree (λ u. replaced (AndBranch c.head c.places (tree_of c.tree) (branches_of cs)) k u) (goes_on b)) (sym step)
+          ∙ ap (λ k. with_tree (λ u. replaced (AndBranch c.head c.places (tree_of c.tree.value) (branches_of cs)) k u) (goes_on b)) (sym step)
 
 -- one more behind the others
-pub one_behind : (bs : List Branch) (b : Branch) → branches_of (bs ++ b ∷ []) ≡ joined (branches_of bs) (AndBranch b.head b.places (tree_of b.tree) NoBranch)
+pub one_behind : (bs : List Branch) (b : Branch) → branches_of (bs ++ b ∷ []) ≡ joined (branches_of bs) (AndBranch b.head b.places (tree_of b.tree.value) NoBranch)
 one_behind [] b = branch_is b NoBranch
 one_behind (c ∷ cs) b =
     branch_is c (branches_of (cs ++ b ∷ []))
-    ∙ ap (AndBranch c.head c.places (tree_of c.tree)) (one_behind cs b)
-    ∙ sym (ap (λ w. joined w (AndBranch b.head b.places (tree_of b.tree) NoBranch)) (branch_is c (branches_of cs)))
+    ∙ ap (AndBranch c.head c.places (tree_of c.tree.value)) (one_behind cs b)
+    ∙ sym (ap (λ w. joined w (AndBranch b.head b.places (tree_of b.tree.value) NoBranch)) (branch_is c (branches_of cs)))
 
 -- a branch that is taken out and put back with another tree
-pub put_back : (bs : List Branch) (k : ℕ) (b x : Branch) → slice_get bs k ≡ Some b → x.head ≡ b.head → x.places ≡ b.places → branches_of (put_at (remove bs k) k x) ≡ replaced (branches_of bs) k (tree_of x.tree)
+pub put_back : (bs : List Branch) (k : ℕ) (b x : Branch) → slice_get bs k ≡ Some b → x.head ≡ b.head → x.places ≡ b.places → branches_of (put_at (remove bs k) k x) ≡ replaced (branches_of bs) k (tree_of x.tree.value)
 put_back [] k b x e f g = absurd cc
 put_back (c ∷ cs) zero b x e f g =
     let same : c ≡ b = some_is c b e in
     branch_is x (branches_of cs)
-    ∙ (λ i. AndBranch (f i) (g i) (tree_of x.tree) (branches_of cs))
-    ∙ ap (λ (b : Branch). AndBranch b.head b.places (tree_of x.tree) (branches_of cs)) (sym same)
-    ∙ sym (ap (λ w. replaced w 0 (tree_of x.tree)) (branch_is c (branches_of cs)))
+    ∙ (λ i. AndBranch (f i) (g i) (tree_of x.tree.value) (branches_of cs))
+    ∙ ap (λ (b : Branch). AndBranch b.head b.places (tree_of x.tree.value) (branches_of cs)) (sym same)
+    ∙ sym (ap (λ w. replaced w 0 (tree_of x.tree.value)) (branch_is c (branches_of cs)))
 put_back (c ∷ cs) (suc k) b x e f g =
     branch_is c (branches_of (put_at (remove cs k) k x))
-    ∙ ap (AndBranch c.head c.places (tree_of c.tree)) (put_back cs k b x e f g)
-    ∙ sym (ap (λ w. replaced w (suc k) (tree_of x.tree)) (branch_is c (branches_of cs)))
+    ∙ ap (AndBranch c.head c.places (tree_of c.tree.value)) (put_back cs k b x e f g)
+    ∙ sym (ap (λ w. replaced w (suc k) (tree_of x.tree.value)) (branch_is c (branches_of cs)))
 
-kept_one : (bs : List Branch) (k : ℕ) (b : Branch) → slice_get bs k ≡ Some b → replaced (branches_of bs) k (tree_of b.tree) ≡ branches_of bs
+kept_one : (bs : List Branch) (k : ℕ) (b : Branch) → slice_get bs k ≡ Some b → replaced (branches_of bs) k (tree_of b.tree.value) ≡ branches_of bs
 kept_one [] k b e = absurd cc
 kept_one (c ∷ cs) zero b e =
-    ap (λ w. replaced w 0 (tree_of b.tree)) (branch_is c (branches_of cs))
-    ∙ ap (λ (b : Branch). AndBranch c.head c.places (tree_of b.tree) (branches_of cs)) (sym (some_is c b e))
+    ap (λ w. replaced w 0 (tree_of b.tree.value)) (branch_is c (branches_of cs))
+    ∙ ap (λ (b : Branch). AndBranch c.head c.places (tree_of b.tree.value) (branches_of cs)) (sym (some_is c b e))
     ∙ sym (branch_is c (branches_of cs))
 kept_one (c ∷ cs) (suc k) b e =
-    ap (λ w. replaced w (suc k) (tree_of b.tree)) (branch_is c (branches_of cs))
-    ∙ ap (AndBranch c.head c.places (tree_of c.tree)) (kept_one cs k b e)
+    ap (λ w. replaced w (suc k) (tree_of b.tree.value)) (branch_is c (branches_of cs))
+    ∙ ap (AndBranch c.head c.places (tree_of c.tree.value)) (kept_one cs k b e)
     ∙ sym (branch_is c (branches_of cs))
 
 -- ---- what became of a row at the branches of a test
@@ -242,15 +241,15 @@ module _ (body : Expr) (bound : List (Binder × ℕ)) (js : List PendingPattern)
         ∙ ap (λ r. ((joined (branches_of bs) (AndBranch t.head (numbers_from n t.fields) (alone_from (n + t.fields) r).0 NoBranch), (alone_from (n + t.fields) r).1), None)) (sym (opens body bound js t h (numbers_from n t.fields))))
 
     pub goes_to_one : (t.place == p) ≡ true → fits t.head (branches_of bs) ≡ true → (k : ℕ) (b x : Branch) (g : TreeAfterInsertion) → branch_for t.head bs ≡ k → slice_get bs k ≡ Some b → x.head ≡ b.head → x.places ≡ b.places → x.tree ≡ g.tree
-        → tree_after_insertion g ≡ insertion_result (tree_of b.tree, n) body (insert max_chained_cases (tree_of b.tree) n (row_with_field_places the_row b.places))
+        → tree_after_insertion g ≡ insertion_result (tree_of b.tree.value, n) body (insert max_chained_cases (tree_of b.tree.value) n (row_with_field_places the_row b.places))
         → PutIn ((branches_of (put_at (remove bs k) k x), g.free), left_of g.left)
     goes_to_one f fit k b x g is at hd ps tr e' =
         let there : slice_get bs (branch_for t.head bs) ≡ Some b = ap (slice_get bs) is ∙ at in
         let o : Option (Tree × ℕ) = goes_on h.pat t.head n the_row b in
         (λ i. ((put_back bs k b x at hd ps i, g.free), left_of g.left))
-        ∙ (λ i. ((replaced (branches_of bs) k (tree_of (tr i)), g.free), left_of g.left))
-        ∙ ap (in_replaced (branches_of bs) k) (e' ∙ ap (λ r. insertion_result (tree_of b.tree, n) body (insert max_chained_cases (tree_of b.tree) n r)) (opens body bound js t h b.places))
-        ∙ replaced_outcome h.pat t.head n the_row (branches_of bs) k (tree_of b.tree) body o (kept_one bs k b at)
+        ∙ (λ i. ((replaced (branches_of bs) k (tree_of (tr i).value), g.free), left_of g.left))
+        ∙ ap (in_replaced (branches_of bs) k) (e' ∙ ap (λ r. insertion_result (tree_of b.tree.value, n) body (insert max_chained_cases (tree_of b.tree.value) n r)) (opens body bound js t h b.places))
+        ∙ replaced_outcome h.pat t.head n the_row (branches_of bs) k (tree_of b.tree.value) body o (kept_one bs k b at)
         ∙ ap (insertion_result (branches_of bs, n) body) (sym (goes_in f fit ∙ known_one h.pat t.head n the_row bs b there ∙ ap (λ k. with_tree h.pat t.head n the_row (λ u. replaced (branches_of bs) k u) o) is))
 
 -- ---- what became of it at a tree
@@ -263,25 +262,20 @@ module _ (room n : ℕ) (body : Expr) (r : Row) (t : code-tree.Tree) where
   abbrev pub GrowsTo : (Tree × ℕ) × Option Expr → Type 0
   GrowsTo g = g ≡ insertion_result (tree_of t, n) body (insert room (tree_of t) n r)
 
-  pub at_body : (e : code-expr.Expr) (w : Pending) → t ≡ code.Body e w → GrowsTo ((tree_of (code.Body e w), n), Some body)
-  at_body e w is =
-      ap (λ x. ((x, n), Some body)) (tree_of-Body e w)
-      ∙ ap (λ x. insertion_result (x, n) body (insert room x n r)) (sym (ap tree_of is ∙ tree_of-Body e w))
+  pub at_body : (e : code-expr.Expr) (w : Pending) (g : TreeAfterInsertion) → t ≡ code.Body e w → tree_after_insertion g ≡ insertion_result (Body (rows_of w (expr e)), n) body None
+      → GrowsTo (tree_after_insertion g)
+  at_body e w g is h = h ∙ ap (λ x. insertion_result (x, n) body (insert room x n r)) (sym (ap tree_of is ∙ tree_of-Body e w))
 
-  abbrev pub in_other : ℕ → Branches → (Tree × ℕ) × Option Expr → (Tree × ℕ) × Option Expr
-  in_other p bs g = ((Case p bs (ATree g.0.0), g.0.1), g.1)
-
-  other_outcome : (p : ℕ) (bs : Branches) (u : Tree) (o : Option (Tree × ℕ)) → in_other p bs (insertion_result (u, n) body o) ≡ insertion_result (Case p bs (ATree u), n) body (in_default p bs o)
+  other_outcome : (p : ℕ) (bs : Branches) (u : Tree) (o : Option (Tree × ℕ)) → as_default p bs (insertion_result (u, n) body o) ≡ insertion_result (Case p bs (ATree u), n) body (in_default p bs o)
   other_outcome p bs u None = refl
   other_outcome p bs u (Some v) = refl
 
-  pub at_otherwise : (p : ℕ) (bs : List Branch) (d d' : Box code-tree.Tree Global) (m : ℕ) (g : TreeAfterInsertion) → t ≡ code.Otherwise p bs d → m ≡ pred room → d'.value ≡ g.tree
+  pub at_otherwise : (p : ℕ) (bs : List Branch) (d : Box code-tree.Tree Global) (m : ℕ) (g w : TreeAfterInsertion) → t ≡ code.Otherwise p bs d → m ≡ pred room
       → tree_after_insertion g ≡ insertion_result (tree_of d.value, n) body (insert m (tree_of d.value) n r)
-      → GrowsTo ((tree_of (code.Otherwise p bs d'), g.free), left_of g.left)
-  at_otherwise p bs d d' m g is e v f =
-      ap (λ x. ((x, g.free), left_of g.left)) (tree_of-Otherwise p bs d')
-      ∙ ap (λ x. ((Case p (branches_of bs) (ATree (tree_of x)), g.free), left_of g.left)) v
-      ∙ ap (in_other p (branches_of bs)) (f ∙ ap (λ m. insertion_result (tree_of d.value, n) body (insert m (tree_of d.value) n r)) e)
+      → tree_after_insertion w ≡ as_default p (branches_of bs) (tree_after_insertion g)
+      → GrowsTo (tree_after_insertion w)
+  at_otherwise p bs d m g w is e f h =
+      h ∙ ap (as_default p (branches_of bs)) (f ∙ ap (λ m. insertion_result (tree_of d.value, n) body (insert m (tree_of d.value) n r)) e)
       ∙ other_outcome p (branches_of bs) (tree_of d.value) (insert (pred room) (tree_of d.value) n r)
       ∙ ap (λ x. insertion_result (x, n) body (insert room x n r)) (sym (ap tree_of is ∙ tree_of-Otherwise p bs d))
 
@@ -303,11 +297,27 @@ module _ (way : Pending) (body : Expr) where
   after_outcome room p bs n (Some b) = refl
   after_outcome room p bs n None = alone_or room p bs n (branches_fail bs) ∙ ap (insertion_result (Case p bs NoDefault, n) body) (is_default room p bs n)
 
-  pub at_tests : (room n : ℕ) (t : code-tree.Tree) (p : ℕ) (bs : List Branch) (m : ℕ) (put : Put) (g : TreeAfterInsertion) → t ≡ code.Tests p bs → m ≡ pred room
-      → branches_after_insertion put ≡ insertion_result (branches_of bs, n) body (in_branches p (branches_of bs) n (rows_of way body))
-      → tree_after_insertion g ≡ after_branches m p (branches_after_insertion put) (rows_of way)
+  abbrev pub put_in : Branches → ℕ → Option (Branches × ℕ) → (Branches × ℕ) × Option Expr
+  put_in bs n o = insertion_result (bs, n) body o
+
+  -- no tree for other values can come
+  pub closed_stays : (room p : ℕ) (bs : Branches) (n : ℕ) (o : Option (Branches × ℕ)) → is_closed room bs ≡ true
+      → without_default p (put_in bs n o) ≡ after_branches room p (put_in bs n o) (rows_of way)
+  closed_stays room p bs n (Some b) e = refl
+  closed_stays zero p bs n None e = refl
+  closed_stays (suc room) p bs n None e = sym (ap (or_alone (suc room) p bs n (rows_of way body)) e)
+
+  -- one comes where the row was left
+  pub open_takes : (room p : ℕ) (bs : Branches) (n : ℕ) (o : Option (Branches × ℕ)) → is_closed room bs ≡ false
+      → with_default p (put_in bs n o) (rows_of way) ≡ after_branches room p (put_in bs n o) (rows_of way)
+  open_takes room p bs n (Some b) e = refl
+  open_takes zero p bs n None e = absurd cc
+  open_takes (suc room) p bs n None e = sym (ap (or_alone (suc room) p bs n (rows_of way body)) e)
+
+  pub at_tests : (room n : ℕ) (t : code-tree.Tree) (p : ℕ) (bs : List Branch) (m : ℕ) (g : TreeAfterInsertion) → t ≡ code.Tests p bs → m ≡ pred room
+      → tree_after_insertion g ≡ after_branches m p (put_in (branches_of bs) n (in_branches p (branches_of bs) n (rows_of way body))) (rows_of way)
       → GrowsTo room n body (rows_of way body) t (tree_after_insertion g)
-  at_tests room n t p bs m put g is e f k =
-      k ∙ (λ i. after_branches (e i) p (f i) (rows_of way))
+  at_tests room n t p bs m g is e k =
+      k ∙ ap (λ m. after_branches m p (put_in (branches_of bs) n (in_branches p (branches_of bs) n (rows_of way body))) (rows_of way)) e
       ∙ after_outcome (pred room) p (branches_of bs) n (in_branches p (branches_of bs) n (rows_of way body))
       ∙ ap (λ x. insertion_result (x, n) body (insert room x n (rows_of way body))) (sym (ap tree_of is ∙ tree_of-Tests p bs))

@@ -21,7 +21,7 @@ use Rattle.match_compile.specs.DecisionOf.{goes_before, clause_of, clauses_of, f
 abbrev pub all_tests : List code-pat.Pat → ℕ
 all_tests ps = tests_of (pats_of (map pat_of ps))
 
-first_pat : (ps : List code-pat.Pat) (i : ℕ) (p : code-pat.Pat) → i < length ps → p ≡ get_or ps i p → all_tests (drop i ps) ≡ tests_in (pat_of p) + all_tests (drop (i + 1) ps)
+pub first_pat : (ps : List code-pat.Pat) (i : ℕ) (p : code-pat.Pat) → i < length ps → p ≡ get_or ps i p → all_tests (drop i ps) ≡ tests_in (pat_of p) + all_tests (drop (i + 1) ps)
 first_pat ps i p l is = ap all_tests (drop_more ps i p l ∙ ap (λ y. y ∷ drop (i + 1) ps) (sym is))
 
 pub next_name : (ps : List code-pat.Pat) (i : ℕ) (p : code-pat.Pat) (all : ℕ) → i < length ps → p ≡ get_or ps i p → tests_in (pat_of p) ≡ 0 → all_tests (drop i ps) ≡ all → all_tests (drop (i + 1) ps) ≡ all

@@ -62,7 +62,7 @@ module _ (w : Words) (at params : ℕ) (rest : Alts) where
   alts_more s [] b others = refl
   alts_more s (d ∷ bs) b others =
       ap (λ x. alts_for s x others) (branch_is d (branches_of (bs ++ b ∷ [])))
-      ∙ ap (λ others. core.AndAlt (pattern_of w at params d.head (binders w at params (with_fields w at params (tree_of d.tree) d.places s) d.places)) (expr_of w at params rest (with_fields w at params (tree_of d.tree) d.places s) (tree_of d.tree)) others) (alts_more s bs b others)
+      ∙ ap (λ others. core.AndAlt (pattern_of w at params d.head (binders w at params (with_fields w at params (tree_of d.tree.value) d.places s) d.places)) (expr_of w at params rest (with_fields w at params (tree_of d.tree.value) d.places s) (tree_of d.tree.value)) others) (alts_more s bs b others)
       ∙ sym (ap (λ x. alts_for s x (alts_for s (branch_of b NoBranch) others)) (branch_is d (branches_of bs)))
 
   -- one more branch has become an alternative

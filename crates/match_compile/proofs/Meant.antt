@@ -21,7 +21,7 @@ use Rattle.core_meaning.specs.WellFormed.{WellFormed}
 use Rattle.core_meaning.proofs.Valid.{valid_is_well_formed, different_places}
 use Rattle.match_compile.specs.Source.{NoPats, AndPat, Equation, Source}
 use Rattle.match_compile.specs.Parts.{count, names_of, tests_of}
-use Rattle.match_compile.specs.Rules.{OfSource, Broken}
+use Rattle.match_compile.specs.Rules.{Broken}
 use Rattle.match_compile.specs.Sizes.{functions, rows, most_equations, is_simple, is_plain}
 use Rattle.match_compile.specs.Trees.{pending_patterns_at, places_from}
 use Rattle.match_compile.specs.Renamed.{renamed_name}
@@ -39,13 +39,12 @@ use Rattle.match_compile.proofs.Grouped.{all_are, all_in, all_of, rows_all, func
 use Rattle.match_compile.proofs.Decided.{trees_stand}
 use Rattle.match_compile.proofs.Sown.{names_at, numbers_differ, Takes, takes_all}
 use Rattle.match_compile.proofs.Placed.{WasRead}
-use Rattle.match_compile.proofs.AsRead.{was_read}
 use Rattle.match_compile.proofs.Single.{HasFirst, functions_first, whole}
 use Rattle.match_compile.proofs.Whole.{served_within, served_in_step}
 use Rattle.match_compile.proofs.Grounds as grounds
 use Rattle.match_compile.proofs.Grounds.{SameHead, NoHead, OneHead, same_head, first_decided, as_many_long, rows_within}
 use Rattle.match_compile.proofs.Aligned.{SameParams, SomeParams, Aligned, same_heap, same_params, same_name}
-use Rattle.match_compile.proofs.InTable.{EquationFits, text_fits, constructors_fit}
+use Rattle.match_compile.proofs.InTable.{EquationFits, was_read, equations_fit, constructors_fit}
 use Rattle.match_compile.proofs.Rowed.{JobsAs, settled_as, fields_as, fields_fit, fields_used}
 use Rattle.match_compile.proofs.Coded.{InScope, local_of, Stands}
 use Rattle.match_compile.proofs.Chained.{parts_of, chained_serves}
@@ -354,9 +353,8 @@ module _ (c : Source) (unbroken : (k at : ℕ) → Broken c k at → ⊥) (read 
       one_tree (e ∷ es) k some h = let w = whole k e es h in ap (λ z. length (decisions_from k z)) w.all ∙ ap length w.one.is
 
 pub means_its_equations : TranslationKeepsMeaning
-means_its_equations text c p is unbroken readable whole_out nf =
-    let fine : (k at : ℕ) → Broken c k at → ⊥ = λ k at h. unbroken.sound k at (OfSource c is h) in
-    let read = was_read text c unbroken.read is in
-    let fits = text_fits text c is in
-    let low = constructors_fit text c is in
-    (form c fine read fits low p nf whole_out readable, is_form c fine read fits low p nf whole_out readable, is_within c fine read fits low p nf whole_out readable, is_in_step c fine read fits low p nf whole_out readable)
+means_its_equations c p readable fine whole_out whole nf =
+    let read = was_read c readable in
+    let fits = equations_fit c readable in
+    let low = constructors_fit c readable in
+    (form c fine read fits low p nf whole whole_out, is_form c fine read fits low p nf whole whole_out, is_within c fine read fits low p nf whole whole_out, is_in_step c fine read fits low p nf whole whole_out)

@@ -38,7 +38,8 @@ use Rattle.match_compile.specs.Trees.{Tree, Body, Case, Branches, NoBranch, AndB
 use Rattle.match_compile.specs.Decisions.{Decision, decisions}
 use Rattle.match_compile.specs.Renamed.{renamed_name, shadowing, renamed_term, renamed_terms, renamed_bind, renamed_expr, renamed_alts}
 use Rattle.match_compile.specs.Translated.{name_supply_of, bound_at, first_bound, first_bound_in, all_bind, stays, is_nameless, param_name, field_name, most_params, most_fields, most_fields_of, with_nameless, numbered_texts, nameless, equation_name, keeps, place_name, taken, binder, name_or, with_fields, binders, pattern_of, expr_of, alts_of, default_of, param_stays, with_params, arguments, call, is_called, function_of, next_of, first_of, each_of, others_of, firsts, others, translated}
-use Rattle.match_compile.specs.NamesOf.{IsUnreservedName, NewNamesFit}
+use Rattle.match_compile.specs.NamesOf.{NewNamesFit}
+use Rattle.match_compile.specs.Premises.{HasNoNewName}
 use Rattle.match_compile.proofs.NewNames.{new_different}
 use Rattle.match_compile.proofs.NamedAs.{translated_text, nameless_text}
 use Rattle.match_compile.proofs.Grouped.{all_are, all_in, all_of, front_all, back_all, functions_all, total, other_numbers, numbers_of, others_climb, all_below}
@@ -437,7 +438,7 @@ module _ (c : Source) where
     whole_all (ds ∷ fs) s h l =
         (both_all (Stood c) (λ d. HasReadable c.names d × (d.free - d.params ≤ fields_most)) ds s.0 (both_all (HasReadable c.names) (λ d. d.free - d.params ≤ fields_most) ds h.0 l.0), whole_all fs s.1 h.1 l.1)
 
-    pub translated_readable : IsReadable c → All IsUnreservedName c.names → ((k at : ℕ) → Broken c k at → ⊥) → core-readable.IsReadable (translated c)
+    pub translated_readable : IsReadable c → HasNoNewName c → ((k at : ℕ) → Broken c k at → ⊥) → core-readable.IsReadable (translated c)
     translated_readable read free unbroken =
         let fs : List (List Decision) = decisions c in
         let trees = all_readable c.names 0 (functions c.equations) (functions_all (ReadableEquation c.names) c.equations read.equations) in

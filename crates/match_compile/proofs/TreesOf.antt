@@ -23,7 +23,7 @@ tree_of-Tests p bs = ap tree_of (sym (code.rolls-Tests p bs)) ∙ fold-roll-Tree
 pub tree_of-Otherwise : (p : ℕ) (bs : List Branch) (t : Box code-tree.Tree Global) → tree_of (code.Otherwise p bs t) ≡ Case p (branches_of bs) (ATree (tree_of t.value))
 tree_of-Otherwise p bs t = ap tree_of (sym (code.rolls-Otherwise p bs t)) ∙ fold-roll-Tree Tree (Branches → Branches) tree_layer branch_layer (layer.Otherwise p bs t)
 
-pub branch_is : (b : Branch) (rest : Branches) → branch_of b rest ≡ AndBranch b.head b.places (tree_of b.tree) rest
+pub branch_is : (b : Branch) (rest : Branches) → branch_of b rest ≡ AndBranch b.head b.places (tree_of b.tree.value) rest
 branch_is b rest = λ i. fold_out-Branch Tree (Branches → Branches) tree_layer branch_layer b i rest
 
 pub ruleset trees = (tree_of-Body, tree_of-Tests, tree_of-Otherwise, branch_is)

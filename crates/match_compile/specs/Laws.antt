@@ -12,8 +12,9 @@ use Rattle.arity_check.specs.Normal.{IsNormalForm}
 use Rattle.core_meaning.specs.Told.{core_program_meaning}
 use Rattle.match_compile.specs.Source.{Equation, Source}
 use Rattle.match_compile.specs.Grammar.{IsSourceText, BreaksNoReadingRule}
-use Rattle.match_compile.specs.Rules.{IsUnbroken, IsFirstBroken}
+use Rattle.match_compile.specs.Rules.{IsFirstBroken}
 use Rattle.match_compile.specs.Readable.{IsReadable}
+use Rattle.match_compile.specs.Premises.{BreakNoRule}
 use Rattle.match_compile.specs.Sound.{IsSound}
 use Rattle.match_compile.specs.Sizes.{source_size, tests, most_equations, functions, is_simple, is_plain}
 use Rattle.match_compile.specs.Translated.{translated}
@@ -66,14 +67,13 @@ SizeIsBounded = (c : Source) → program_size (translated c) ≤ source_size c +
 -- none, become a program that breaks no rule but the one on its size.
 abbrev pub BreaksOnlySize : Type 0
 BreaksOnlySize =
-    (text : List ℕ) (c : Source) → IsSourceText text c → IsUnbroken text → IsSound c → (k at : ℕ)
+    (c : Source) → IsReadable c → BreakNoRule c → IsSound c → (k at : ℕ)
     → program.Broken (translated c) k at → k ≡ 35
 
 -- A function that is simple, or one equation of names alone, becomes one function.
 abbrev pub SimpleStaysOneFunction : Type 0
 SimpleStaysOneFunction =
-    (text : List ℕ) (c : Source) → IsSourceText text c → IsUnbroken text
-    → (before after : List (List Equation)) (es : List Equation)
+    (c : Source) → IsReadable c → (before after : List (List Equation)) (es : List Equation)
     → functions c.equations ≡ before ++ es ∷ after → (is_simple es || is_plain es) ≡ true
     → IsOneFunction c (length before) (sum_of (map length before)) es
 
@@ -96,7 +96,7 @@ ServedInStep =
 -- alone.
 abbrev pub TranslationKeepsMeaning : Type 0
 TranslationKeepsMeaning =
-    (text : List ℕ) (c : Source) (p : normal.Program) → IsSourceText text c → IsUnbroken text
+    (c : Source) (p : normal.Program) → IsReadable c → BreakNoRule c
     → program-text.IsReadable (translated c) → check.BreaksNoRule (translated c)
     → IsNormalForm (translated c) p
     → (q : Equations) × IsFormOf c q
