@@ -18,15 +18,20 @@ in_range : (k : ℤ) → ((IsInRange k → ⊥) → ⊥) → IsInRange k
 in_range (pos n) h = go (nat_lt 2147483647 n) refl
   where
     go : (b : Bool) → nat_lt 2147483647 n ≡ b → IsInRange (pos n)
-    go true e = absurd (h (λ r. let lt : 2147483647 < n = grind (arith, nat_tests) in omega (arith, ints, r.1)))
-    go false e = let le : n ≤ 2147483647 = grind (arith, nat_tests) in (omega (arith, ints), omega (arith, ints))
+    go true e = absurd
+        (h (λ r. let lt : 2147483647 < n = grind (arith, nat_tests) in omega (arith, ints, r.1)))
+    go false e = let le : n ≤ 2147483647 = grind (arith, nat_tests)
+        in (omega (arith, ints), omega (arith, ints))
 in_range (negsuc n) h = go (nat_lt 2147483647 n) refl
   where
     go : (b : Bool) → nat_lt 2147483647 n ≡ b → IsInRange (negsuc n)
-    go true e = absurd (h (λ r. let lt : 2147483647 < n = grind (arith, nat_tests) in omega (arith, ints, r.0)))
-    go false e = let le : n ≤ 2147483647 = grind (arith, nat_tests) in (omega (arith, ints), omega (arith, ints))
+    go true e = absurd
+        (h (λ r. let lt : 2147483647 < n = grind (arith, nat_tests) in omega (arith, ints, r.0)))
+    go false e = let le : n ≤ 2147483647 = grind (arith, nat_tests)
+        in (omega (arith, ints), omega (arith, ints))
 
-pub all_in_range : (text : List ℕ) → BreaksNoReadingRule text → (us vs : List Piece) → IsTokens Core text (us ++ vs) → AreInRange Core vs
+pub all_in_range : (text : List ℕ) → BreaksNoReadingRule text → (us vs : List Piece)
+    → IsTokens Core text (us ++ vs) → AreInRange Core vs
 all_in_range text u us [] r = tt
 all_in_range text u us (x ∷ vs) r = (
   λ digits. in_range (written_number x.bytes) (λ outside. u 3 x.at (NumberRange x.at (record {

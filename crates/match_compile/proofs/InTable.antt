@@ -30,7 +30,8 @@ module _ (names : List (List ℕ)) where
 
     pats_bound : (ps : Pats) → ReadablePats names ps → AllOf (IsBound names) (names_of ps)
     pats_bound NoPats h = tt
-    pats_bound (AndPat p ps) h = all_append (IsBound names) (names_in p) (names_of ps) (pat_bound p h.0) (pats_bound ps h.1)
+    pats_bound (AndPat p ps) h = all_append (IsBound names) (names_in p) (names_of ps)
+        (pat_bound p h.0) (pats_bound ps h.1)
 
 one_of : {X : Type 0} (P : X → Type 0) (xs : List X) → AllOf P xs → (x : X) → In x xs → P x
 one_of P [] h x i = none_in i
@@ -39,10 +40,12 @@ one_of P (y ∷ ys) h x (there i) = one_of P ys h.1 x i
 
 pub was_read : (c : Source) → IsReadable c → WasRead c
 was_read c read =
-    let of : (e : Equation) → In e c.equations → ReadableEquation c.names e = one_of (ReadableEquation c.names) c.equations read.equations in
+    let of : (e : Equation) → In e c.equations → ReadableEquation c.names e
+    = one_of (ReadableEquation c.names) c.equations read.equations in
     record {
       names = λ e i. (of e i).0;
-      patterns = λ e i b j. one_of (IsBound c.names) (names_of e.pats) (pats_bound c.names e.pats (of e i).1) b j;
+      patterns = λ e i b j. one_of (IsBound c.names) (names_of e.pats)
+          (pats_bound c.names e.pats (of e i).1) b j;
       bodies = λ e i. (of e i).2;
     }
 
@@ -60,7 +63,10 @@ module _ (names : List (List ℕ)) where
 
   all_below : (bs : List Binder) → All (IsBound names) bs → AllOf (BinderFits N) bs
   all_below [] h = tt
-  all_below (b ∷ bs) h = (named_below b.name.0 (All-head (IsBound names) b bs h), all_below bs (All-tail (IsBound names) b bs h))
+  all_below (b ∷ bs) h = (
+    named_below b.name.0 (All-head (IsBound names) b bs h),
+    all_below bs (All-tail (IsBound names) b bs h),
+  )
 
   each_below : (bs : List Binder) → AllOf (IsBound names) bs → AllOf (BinderFits N) bs
   each_below [] h = tt
@@ -87,8 +93,10 @@ module _ (names : List (List ℕ)) where
   binds_below [] h = (tt, tt)
   binds_below (b ∷ bs) h =
       let one : ReadableBind names b = All-head (ReadableBind names) b bs h in
-      let more = binds_below bs (All-tail (ReadableBind names) b bs h) in
-      ((named_below b.binder.name.0 one.0, more.0), (terms_below (AndTerm b.app.head b.app.args) one.1, more.1))
+      let more = binds_below bs (All-tail (ReadableBind names) b bs h) in (
+        (named_below b.binder.name.0 one.0, more.0),
+        (terms_below (AndTerm b.app.head b.app.args) one.1, more.1),
+      )
 
   mutual
     expr_below : (e : Expr) → ReadableExpr names e → FitsExpr N e
@@ -107,18 +115,32 @@ pub record EquationFits (N : ℕ) (e : Equation) : Type 0 where
   pub pats : AllOf (BinderFits N) (names_of e.pats)
   pub body : FitsExpr N e.body
 
-all_fit : (names : List (List ℕ)) (es : List Equation) → AllOf (ReadableEquation names) es → AllOf (EquationFits (length names)) es
+all_fit : (names : List (List ℕ)) (es : List Equation) → AllOf (ReadableEquation names) es
+    → AllOf (EquationFits (length names)) es
 all_fit names [] h = tt
-all_fit names (e ∷ es) h =
-    (record { name = named_below names e.name h.0.0; pats = each_below names (names_of e.pats) (pats_bound names e.pats h.0.1); body = expr_below names e.body h.0.2 }, all_fit names es h.1)
+all_fit names (e ∷ es) h = (
+  record {
+    name = named_below names e.name h.0.0;
+    pats
+        = each_below names (names_of e.pats) (pats_bound names e.pats h.0.1);
+    body
+        = expr_below names e.body h.0.2;
+  },
+  all_fit names es h.1,
+)
 
 pub equations_fit : (c : Source) → IsReadable c → AllOf (EquationFits (length c.names)) c.equations
 equations_fit c read = all_fit c.names c.equations read.equations
 
-declared_below : (names : List (List ℕ)) (ds : List Data) → All (ReadableData names) ds → AllOf (λ (d : Data). d.name < length names) ds
+declared_below : (names : List (List ℕ)) (ds : List Data) → All (ReadableData names) ds
+    → AllOf (λ (d : Data). d.name < length names) ds
 declared_below names [] h = tt
-declared_below names (d ∷ ds) h = (text_below names _ d.name (All-head (ReadableData names) d ds h).0, declared_below names ds (All-tail (ReadableData names) d ds h))
+declared_below names (d ∷ ds) h = (
+  text_below names _ d.name (All-head (ReadableData names) d ds h).0,
+  declared_below names ds (All-tail (ReadableData names) d ds h),
+)
 
 -- the names of its constructors are below the number of names too
-pub constructors_fit : (c : Source) → IsReadable c → AllOf (λ (d : Data). d.name < length c.names) c.constructors
+pub constructors_fit : (c : Source) → IsReadable c → AllOf (λ (d : Data). d.name < length c.names)
+    c.constructors
 constructors_fit c read = declared_below c.names c.constructors read.constructors

@@ -1,8 +1,9 @@
--- What the laws of equations ask of them, beside that they are readable.
+-- What laws and `compile_source` ask of equations.
 use Rattle.std.specs.Prelude.{ℕ, List, ◌++◌, length}
 use Rattle.seq.specs.Lists.{In}
 use Rattle.match_compile.specs.Source.{Source}
 use Rattle.match_compile.specs.Rules.{Broken}
+use Rattle.match_compile.specs.Readable.{IsReadable}
 use Rattle.match_compile.specs.Sound.{name_of_equation}
 use Rattle.match_compile.specs.Decisions.{decisions}
 use Rattle.match_compile.specs.Translated.{numbered_texts, param_name, field_name, most_params, most_fields_of}
@@ -26,3 +27,9 @@ AreFree equations params fields names =
 abbrev pub HasNoNewName : Source → Type 0
 HasNoNewName c =
     AreFree (length c.equations) (most_params c.equations) (most_fields_of (decisions c)) c.names
+
+-- the equations can be compiled
+pub record IsCompilable (c : Source) : Type 0 where
+  pub readable : IsReadable c
+  pub unbroken : BreakNoRule c
+  pub no_new_name : HasNoNewName c

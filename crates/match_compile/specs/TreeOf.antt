@@ -1,5 +1,5 @@
 -- The trees that the code keeps, and what becomes of an equation that comes to one.
-use Rattle.std.specs.Prelude.{ℕ, zero, suc, ◌+◌, Bool, true, false, List, [], ◌∷◌, map, Option, Some, None}
+use Rattle.std.specs.Prelude.{◌≡◌, ◌==◌, ℕ, zero, suc, ◌+◌, Bool, true, false, List, [], ◌∷◌, map, length, Option, Some, None}
 use Rattle.std.specs.List.{position_or_len}
 use Rattle.std.specs.declared.boxed.Box.{Box}
 use Rattle.std.specs.declared.alloc.Global.{Global}
@@ -13,8 +13,8 @@ use Rattle.match_compile.specs.declared.tree.Branch.{Branch, Branch-F, fold-Bran
 use Rattle.match_compile.specs.declared.tree.TreeAfterInsertion.{TreeAfterInsertion}
 use Rattle.match_compile.specs.declared.tree.Put.{Put}
 use Rattle.match_compile.specs.Heads.{Head, same_head}
-use Rattle.match_compile.specs.Trees.{Row, Tree, Body, Case, Branches, NoBranch, AndBranch, NoDefault, ATree, test_at, head_of, fits, insert_branch, alone_from, branches_fail}
-use Rattle.match_compile.specs.RowOf.{rows_of, row_with_field_places}
+use Rattle.match_compile.specs.Trees.{PendingPattern, Row, Tree, Body, Case, Branches, NoBranch, AndBranch, NoDefault, ATree, test_at, head_of, fits, insert_branch, alone_from, branches_fail}
+use Rattle.match_compile.specs.RowOf.{rows_of, row_with_field_places, first_of}
 
 -- a branch is put before others
 abbrev pub branches_from : List (Branches → Branches) → Branches
@@ -125,6 +125,13 @@ after_branches room p ((bs, n), Some body) r = or_alone room p bs n (r body) (br
 -- the branch that accepts what this head does, by its number
 abbrev pub branch_for : Head → List Branch → ℕ
 branch_for h bs = position_or_len (λ b. same_head b.head h) bs
+
+-- the test is the next one of a row, at this place, and no branch there is for its value
+pub record IsNew (p : ℕ) (bs : List Branch) (jobs : List PendingPattern) (t : Test) : Type 0 where
+  pub first : first_of jobs ≡ Some t
+  pub here : (t.place == p) ≡ true
+  pub fits_in : fits t.head (branches_of bs) ≡ true
+  pub number : branch_for t.head bs ≡ length bs
 
 -- the branches with another tree in one of them
 abbrev pub replaced : Branches → ℕ → Tree → Branches

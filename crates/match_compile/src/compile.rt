@@ -7,10 +7,9 @@ ghost use Rattle.core_reader.specs.Readable.{IsReadable};
 ghost use Rattle.match_compile.specs.Source.{Source as ASource};
 ghost use Rattle.match_compile.specs.SourceOf.{equation_of, equation_source_of};
 ghost use Rattle.match_compile.specs.Grammar.{IsSourceText};
-ghost use Rattle.match_compile.specs.Readable.{IsReadable as IsReadableSource};
 ghost use Rattle.match_compile.specs.Rules.{IsUnbroken, IsCause};
 ghost use Rattle.match_compile.specs.NamesOf.{NewNamesFit};
-ghost use Rattle.match_compile.specs.Premises.{BreakNoRule, HasNoNewName};
+ghost use Rattle.match_compile.specs.Premises.{HasNoNewName, IsCompilable};
 ghost use Rattle.match_compile.specs.ApartOf.{equation_at, equations_with_bodies};
 ghost use Rattle.match_compile.specs.Translated as translated;
 ghost use Rattle.match_compile.specs.Translates.{Translates};
@@ -224,18 +223,15 @@ fn translated(alloc: Global, source: Source) -> Result<Core, AllocError>
     })
 }
 
-/// The program of Core that equations become which break no rule and have no new name.
+/// The program of Core that equations become.
 pub fn compile_source(alloc: Global, source: Source) -> Result<Core, AllocError>
-    requires readable { IsReadableSource (equation_source_of source) }
-    requires unbroken { BreakNoRule (equation_source_of source) }
-    requires new { HasNoNewName (equation_source_of source) }
+    requires { IsCompilable (equation_source_of source) }
     ensures compiled { IfOk result (λ core. program core
         ≡ translated.translated (equation_source_of source)) }
     ensures translates { IfOk result (λ core. Translates (equation_source_of source) (program core)) }
     ensures readable { IfOk result (λ core. IsReadable (program core)) }
 {
-    let core = translated(alloc, source)?;
-    Ok(core)
+    translated(alloc, source)
 }
 
 /// The program of Core that a text of equations becomes, or the first rule that the text breaks: of

@@ -143,21 +143,16 @@ fn grow<'a>(
         free,
     } = decision;
     let (way, _) = way(alloc, clause.pats)?;
-    let grown = insert(
-        alloc,
-        MOST_DEEP,
-        MOST_CHAINED,
-        Box::new(alloc, tree)?,
-        free,
-        Box::new(alloc, clause.body)?,
-        way,
-    )?;
+    let boxed = Box::new(alloc, tree)?;
+    let body = Box::new(alloc, clause.body)?;
+    let grown = insert(alloc, MOST_DEEP, MOST_CHAINED, boxed, free, body, way)?;
+    let tree = Box::into_inner(grown.tree);
     let decision = Decision {
         name,
         at,
         number,
         params,
-        tree: Box::into_inner(grown.tree),
+        tree,
         free: grown.free,
     };
     let left = left_over(clause.name, clause.at, clause.pats, grown.left);

@@ -4,8 +4,8 @@
 ghost use Rattle.std.specs.Prelude.{◌≡◌, ◌<◌, None, IfOk, MatchOption, IfSome, length};
 ghost use Rattle.core_reader.specs.Tree.{expr};
 ghost use Rattle.match_compile.specs.Trees as trees;
-ghost use Rattle.match_compile.specs.RowOf.{rows_of};
-ghost use Rattle.match_compile.specs.TreeOf.{tree_of, branches_of, planted_of, tree_after_insertion, branches_after_insertion, insertion_result, in_branches, with_new, as_default, is_closed, after_branches, without_default, with_default, branch_for};
+ghost use Rattle.match_compile.specs.RowOf.{pending, rows_of};
+ghost use Rattle.match_compile.specs.TreeOf.{tree_of, branches_of, planted_of, tree_after_insertion, branches_after_insertion, insertion_result, in_branches, with_new, as_default, IsNew, is_closed, after_branches, without_default, with_default, branch_for};
 
 use crate::head::Head;
 use crate::row::{Pending, Test, numbers_from};
@@ -104,6 +104,25 @@ fn fits(branches: &[Branch], head: Head) -> bool
     match branches.get(0) {
         None => true,
         Some(branch) => branch.head.is_like(head),
+    }
+}
+
+/// The test of an equation that begins a branch of its own here, if it does.
+fn new_test(place: u32, branches: &[Branch], way: &Pending) -> Option<Test>
+    ensures { IfSome result (IsNew place branches.now (pending way.now.jobs)) }
+{
+    let Some(test) = way.first() else {
+        return None;
+    };
+    if test.place != place {
+        return None;
+    }
+    if !fits(branches, test.head) {
+        return None;
+    }
+    match branch_for(branches, test.head) {
+        None => Some(test),
+        Some(_) => None,
     }
 }
 
@@ -230,8 +249,9 @@ fn in_default<'a>(
     })
 }
 
-/// An equation goes into a test that has no tree for other values, or its body is left. Its way is
-/// kept only where it can become that tree, so that one way is kept at most.
+/// An equation goes into a test that has no tree for other values, or its body is left. Where it
+/// begins a branch, nobody asks whether the others can fail. Its way is kept only where it can
+/// become the tree for other values, so that one way is kept at most.
 #[cycle(insert)]
 #[inline(never)]
 fn insert_test<'a>(
@@ -249,6 +269,10 @@ fn insert_test<'a>(
         (in_branches place (branches_of branches.entry) free (rows_of way.entry (expr body.value))))
         (rows_of way.entry)) }
 {
+    if let Some(test) = new_test(place, branches.as_slice(), &way) {
+        let put = new_branch(alloc, depth, test, branches, free, body, way)?;
+        return without_default(alloc, place, put);
+    }
     if is_closed(room, branches.as_slice()) {
         let put = insert_branch(alloc, depth, place, branches, free, body, way)?;
         return without_default(alloc, place, put);

@@ -17,8 +17,13 @@ alt-returns-clause-places t c =
     let at : ℕ = c.args.self.now.at in
     let params : ℕ = c.args.self.now.params in
     let s : Scope = c.args.places.now in
-    leaves w at params (alternatives_of_rest w at c.args.onward.now) (tree_of c.into_inner-tree.result) c.args.branch.places s c.bind_fields.new.places c.expr.new.places c.leave.new.self c.len-depth.result
-    c.len-depth.ensures (c.in_ok-bind_fields.ensures ∙ ap (λ ps. with_fields w at params (tree_of c.into_inner-tree.result) ps s) c.as_slice.ensures) c.in_ok-body.ensures.places c.leave.ensures
+    leaves w at params (alternatives_of_rest w at c.args.onward.now)
+    (tree_of c.into_inner-tree.result) c.args.branch.places s c.bind_fields.new.places
+    c.expr.new.places c.leave.new.self c.len-depth.result
+    c.len-depth.ensures
+    (c.in_ok-bind_fields.ensures ∙ ap
+    (λ ps. with_fields w at params (tree_of c.into_inner-tree.result) ps s) c.as_slice.ensures)
+    c.in_ok-body.ensures.places c.leave.ensures
 
 pub alts-loop-branch-preserved : goal.alts-loop-branch-preserved
 alts-loop-branch-preserved t c =
@@ -26,8 +31,11 @@ alts-loop-branch-preserved t c =
     let at : ℕ = c.args.self.now.at in
     record {
       places = c.in_ok-alt.ensures.places ∙ c.loop-branch.invariant.places;
-      made = one_more w at c.args.self.now.params (alternatives_of_rest w at c.args.onward.now) c.args.places.now c.loop-branch.places c.loop-branch.yielded c.in-Some.branch c.loop-branch.made c.push.new.self c.in_ok-alt.field-0
-          c.loop-branch.invariant.places c.loop-branch.invariant.made c.in_ok-alt.ensures.made c.in_ok-push.ensures.ok;
+      made = one_more w at c.args.self.now.params (alternatives_of_rest w at c.args.onward.now)
+          c.args.places.now c.loop-branch.places c.loop-branch.yielded c.in-Some.branch
+          c.loop-branch.made c.push.new.self c.in_ok-alt.field-0
+          c.loop-branch.invariant.places c.loop-branch.invariant.made c.in_ok-alt.ensures.made
+          c.in_ok-push.ensures.ok;
     }
 
 pub expr-returns-in-Body-clause-made : goal.expr-returns-in-Body-clause-made
@@ -37,8 +45,11 @@ expr-returns-in-Body-clause-made t c =
     let params : ℕ = c.args.self.now.params in
     let rest : Alts = alternatives_of_rest w at c.args.onward.now in
     let s : Scope = c.args.places.now in
-    ok_follows _ _ c.body.result (λ made e. e ∙ ap (λ bound. renamed_expr (taken w s bound) (expr c.in-Body.body)) c.as_slice.ensures
-    ∙ sym (ap (expr_of w at params rest s) (ap tree_of c.in-Body.is ∙ tree_of-Body c.in-Body.body c.in-Body.way))) c.body.ensures
+    ok_follows _ _ c.body.result
+    (λ made e. e ∙ ap (λ bound. renamed_expr (taken w s bound) (expr c.in-Body.body))
+    c.as_slice.ensures
+    ∙ sym (ap (expr_of w at params rest s)
+    (ap tree_of c.in-Body.is ∙ tree_of-Body c.in-Body.body c.in-Body.way))) c.body.ensures
 
 pub expr-returns-in-Tests-clause-made : goal.expr-returns-in-Tests-clause-made
 expr-returns-in-Tests-clause-made t c =
@@ -47,7 +58,9 @@ expr-returns-in-Tests-clause-made t c =
     let params : ℕ = c.args.self.now.params in
     let rest : Alts = alternatives_of_rest w at c.args.onward.now in
     ok_follows _ _ c.tests.result (λ made e. e
-    ∙ sym (ap (expr_of w at params rest c.args.places.now) (ap tree_of c.in-Tests.is ∙ tree_of-Tests c.in-Tests.place c.in-Tests.branches))) c.tests.ensures.made
+    ∙ sym (ap (expr_of w at params rest c.args.places.now)
+    (ap tree_of c.in-Tests.is ∙ tree_of-Tests c.in-Tests.place c.in-Tests.branches)))
+    c.tests.ensures.made
 
 pub expr-returns-in-Otherwise-clause-made : goal.expr-returns-in-Otherwise-clause-made
 expr-returns-in-Otherwise-clause-made t c =
@@ -56,7 +69,9 @@ expr-returns-in-Otherwise-clause-made t c =
     let params : ℕ = c.args.self.now.params in
     let rest : Alts = alternatives_of_rest w at c.args.onward.now in
     ok_follows _ _ c.otherwise_tests.result (λ made e. e
-    ∙ sym (ap (expr_of w at params rest c.args.places.now) (ap tree_of c.in-Otherwise.is ∙ tree_of-Otherwise c.in-Otherwise.place c.in-Otherwise.branches c.in-Otherwise.other))) c.otherwise_tests.ensures.made
+    ∙ sym (ap (expr_of w at params rest c.args.places.now)
+    (ap tree_of c.in-Otherwise.is ∙ tree_of-Otherwise c.in-Otherwise.place
+    c.in-Otherwise.branches c.in-Otherwise.other))) c.otherwise_tests.ensures.made
 
 pub tests-returns-clause-made : goal.tests-returns-clause-made
 tests-returns-clause-made t c =
@@ -66,8 +81,12 @@ tests-returns-clause-made t c =
     let rest : Alts = alternatives_of_rest w at c.args.onward.now in
     let s : Scope = c.args.places.now in
     expr_of-Case c.in_ok-new.field-0 c.append.new.self
-    ∙ case_is _ _ _ _ (ap expr c.in_ok-new.ensures.ok ∙ c.alone-tested.ensures ∙ ap (λ x. alone x.0 at) c.renamed_name.ensures)
-    (then_others w at params rest s c.args.branches c.in_ok-alts.alts c.in_ok-call.field-0 c.append.new.self rest c.in_ok-alts.ensures.made c.in_ok-call.ensures c.in_ok-append.ensures.ok)
+    ∙ case_is _ _ _ _
+    (ap expr c.in_ok-new.ensures.ok ∙ c.alone-tested.ensures ∙ ap (λ x. alone x.0 at)
+    c.renamed_name.ensures)
+    (then_others w at params rest s c.args.branches c.in_ok-alts.alts c.in_ok-call.field-0
+    c.append.new.self rest c.in_ok-alts.ensures.made c.in_ok-call.ensures
+    c.in_ok-append.ensures.ok)
 
 pub otherwise_tests-returns-clause-made : goal.otherwise_tests-returns-clause-made
 otherwise_tests-returns-clause-made t c =
@@ -76,9 +95,16 @@ otherwise_tests-returns-clause-made t c =
     let params : ℕ = c.args.self.now.params in
     let rest : Alts = alternatives_of_rest w at c.args.onward.now in
     let s : Scope = c.args.places.now in
-    let others : Alts = otherwise w at params (expr_of w at params rest s (tree_of c.args.other.value)) in
+    let others : Alts = otherwise w at params
+    (expr_of w at params rest s (tree_of c.args.other.value)) in
     expr_of-Case c.in_ok-new.field-0 c.push.new.self
-    ∙ case_is _ _ _ _ (ap expr c.in_ok-new.ensures.ok ∙ c.alone-tested.ensures ∙ ap (λ x. alone x.0 at) c.renamed_name.ensures)
-    (then_others w at params rest s c.args.branches c.in_ok-alts.alts (c.otherwise.result ∷ []) c.push.new.self others c.in_ok-alts.ensures.made
-    (c.otherwise.ensures ∙ ap (otherwise w at params) (c.in_ok-other.ensures.made ∙ (λ i. expr_of w at params rest (c.in_ok-alts.ensures.places i) (tree_of (c.into_inner.ensures i)))))
+    ∙ case_is _ _ _ _
+    (ap expr c.in_ok-new.ensures.ok ∙ c.alone-tested.ensures ∙ ap (λ x. alone x.0 at)
+    c.renamed_name.ensures)
+    (then_others w at params rest s c.args.branches c.in_ok-alts.alts (c.otherwise.result ∷ [])
+    c.push.new.self others c.in_ok-alts.ensures.made
+    (c.otherwise.ensures ∙ ap (otherwise w at params)
+    (c.in_ok-other.ensures.made ∙
+    (λ i. expr_of w at params rest (c.in_ok-alts.ensures.places i)
+    (tree_of (c.into_inner.ensures i)))))
     c.in_ok-push.ensures.ok)
