@@ -198,9 +198,28 @@ impl<'a> Writer<'a> {
             Tree::Body(body, way) => self.body(places, body, way.bound.as_slice()),
             Tree::Tests(place, branches) => self.tests(onward, places, place, branches),
             Tree::Otherwise(place, branches, other) => {
+                let other = self.boxed(onward, places, other)?;
                 self.otherwise_tests(onward, places, place, branches, other)
             }
         }
+    }
+
+    /// A tree in a box as an expression in one.
+    #[cycle(write)]
+    #[inline(never)]
+    fn boxed(
+        &self,
+        onward: &Onward,
+        places: &mut Scope,
+        tree: Box<Tree>,
+    ) -> Result<Box<Expr>, AllocError>
+        ensures places { IfOk result (λ _. places.new ≡ places.old) }
+        ensures made { IfOk result (λ made. expr made.value ≡ translated.expr_of self.now.words.now
+            self.now.at self.now.params (alternatives_of_rest self.now.words.now self.now.at onward.now)
+            places.old (tree_of tree.entry.value)) }
+    {
+        let made = self.expr(onward, places, Box::into_inner(tree))?;
+        Ok(Box::new(self.alloc, made)?)
     }
 
     /// The body of an equation that has bound these names.
@@ -234,7 +253,7 @@ impl<'a> Writer<'a> {
         Ok(Expr::Case(Box::new(self.alloc, tested)?, alts))
     }
 
-    /// One with a tree for all other values.
+    /// One with an expression for all other values.
     #[cycle(write)]
     #[inline(never)]
     fn otherwise_tests(
@@ -243,17 +262,18 @@ impl<'a> Writer<'a> {
         places: &mut Scope,
         place: u32,
         branches: Seq<Branch>,
-        other: Box<Tree>,
+        other: Box<Expr>,
     ) -> Result<Expr, AllocError>
         ensures places { IfOk result (λ _. places.new ≡ places.old) }
-        ensures made { IfOk result (λ made. expr made ≡ translated.expr_of self.now.words.now
+        ensures made { IfOk result (λ made. (t : trees.Tree) → expr other.value ≡ translated.expr_of
+            self.now.words.now self.now.at self.now.params (alternatives_of_rest self.now.words.now
+            self.now.at onward.now) places.old t → expr made ≡ translated.expr_of self.now.words.now
             self.now.at self.now.params (alternatives_of_rest self.now.words.now self.now.at onward.now)
-            places.old (trees.Case place (branches_of branches.entry) (trees.ATree (tree_of other.entry.value)))) }
+            places.old (trees.Case place (branches_of branches.entry) (trees.ATree t))) }
     {
         let tested = self.alone(renamed_name(places, NameId(place)));
         let mut alts = self.alts(onward, places, branches)?;
-        let other = self.expr(onward, places, Box::into_inner(other))?;
-        alts.push(self.otherwise(other))?;
+        alts.push(self.otherwise(Box::into_inner(other)))?;
         Ok(Expr::Case(Box::new(self.alloc, tested)?, alts))
     }
 

@@ -3,7 +3,7 @@
 
 ghost use Rattle.std.specs.Prelude.{◌≡◌, [], ◌∷◌, IfOk, map};
 ghost use Rattle.core_reader.specs.Grammar.{name_id};
-ghost use Rattle.core_reader.specs.Tree.{Let, Case, Alts, term, application, bind, expr as expr_of, alternative, alts_of};
+ghost use Rattle.core_reader.specs.Tree.{Let, Alts, term, application, bind, expr as expr_of, alternative, alts_of};
 ghost use Rattle.arity_check.specs.Pieces.{binders_of, bound_by};
 ghost use Rattle.match_compile.specs.Renamed.{renamed_name, shadowing, renamed_term, renamed_app, renamed_bind, renamed_expr, renamed_alts};
 
@@ -119,7 +119,11 @@ pub fn renamed(alloc: Global, scope: &mut Scope, expr: Expr) -> Result<Expr, All
     match expr {
         Expr::App(app) => Ok(Expr::App(renamed_app(alloc, scope, app)?)),
         Expr::Let(group, body) => renamed_let(alloc, scope, group, body),
-        Expr::Case(tested, alts) => renamed_case(alloc, scope, tested, alts),
+        Expr::Case(tested, alts) => {
+            let tested = renamed_box(alloc, scope, tested)?;
+            let alts = renamed_alts(alloc, scope, alts)?;
+            Ok(Expr::Case(tested, alts))
+        }
     }
 }
 
@@ -150,31 +154,25 @@ fn renamed_let(
 {
     let depth = scope.len();
     hide_group(scope, group.as_slice())?;
-    let group = renamed_group(alloc, scope, group)?;
+    let members = renamed_group(alloc, scope, group)?;
     let body = renamed_box(alloc, scope, body)?;
     scope.leave(depth);
-    Ok(Expr::Let(group, body))
+    Ok(Expr::Let(members, body))
 }
 
-/// An expression that is tested, and its alternatives.
+/// Alternatives.
 #[cycle(rename_expr)]
 #[inline(never)]
-fn renamed_case(
-    alloc: Global,
-    scope: &mut Scope,
-    tested: Box<Expr>,
-    alts: Seq<Alt>,
-) -> Result<Expr, AllocError>
+fn renamed_alts(alloc: Global, scope: &mut Scope, alts: Seq<Alt>) -> Result<Seq<Alt>, AllocError>
     ensures scope { IfOk result (λ _. scope.new ≡ scope.old) }
-    ensures renamed { IfOk result (λ made. expr_of made
-        ≡ renamed_expr scope.old (Case (expr_of tested.value) (alts_of (map alternative alts)))) }
+    ensures renamed { IfOk result (λ made. alts_of (map alternative made)
+        ≡ renamed_alts scope.old (alts_of (map alternative alts))) }
 {
-    let tested = renamed_box(alloc, scope, tested)?;
     let mut made = Seq::new(alloc);
     for alt in alts.into_vec() {
         made.push(renamed_alt(alloc, scope, alt)?)?;
     }
-    Ok(Expr::Case(tested, made))
+    Ok(made)
 }
 
 /// An alternative.

@@ -22,8 +22,8 @@ insert-returns-in-Body t c =
     c.in-Body.taken g
     (sym c.into_inner.ensures ∙ c.in-Body.is) e) c.not_taken.ensures
 
-pub insert-returns-in_ok-depth-in-Tests : goal.insert-returns-in_ok-depth-in-Tests
-insert-returns-in_ok-depth-in-Tests t c =
+pub insert-returns-in-Tests : goal.insert-returns-in-Tests
+insert-returns-in-Tests t c =
     let m : c.saturating_sub-room.result ≡ c.args.room - 1
     = omega (arith, c.saturating_sub-room.ensures) in
     ok_follows _ _ c.insert_test.result (λ g e.
@@ -31,24 +31,13 @@ insert-returns-in_ok-depth-in-Tests t c =
     c.in-Tests.place c.in-Tests.branches c.saturating_sub-room.result g
     (sym c.into_inner.ensures ∙ c.in-Tests.is) (m ∙ less_one c.args.room) e) c.insert_test.ensures
 
-pub insert-returns-in_ok-grown-in-Otherwise : goal.insert-returns-in_ok-grown-in-Otherwise
-insert-returns-in_ok-grown-in-Otherwise t c =
-    let room = c.saturating_sub-room-in-Otherwise.result in
-    let m : room ≡ c.args.room - 1 = omega (arith, c.saturating_sub-room-in-Otherwise.ensures) in
-    ok_follows _ _ c.in_default.result (λ w e.
-    at_otherwise c.args.room c.args.free (expr c.args.body.value)
-    (rows_of c.args.way (expr c.args.body.value)) c.args.tree.value c.in-Otherwise.place
-    c.in-Otherwise.branches c.in-Otherwise.other room
-    c.in_ok-grown-in-Otherwise.grown w (sym c.into_inner.ensures ∙ c.in-Otherwise.is)
-    (m ∙ less_one c.args.room) c.in_ok-grown-in-Otherwise.ensures e) c.in_default.ensures
-
-pub insert_test-returns-in_ok-put-in-Some : goal.insert_test-returns-in_ok-put-in-Some
-insert_test-returns-in_ok-put-in-Some t c =
+pub insert_test-returns-in-Some : goal.insert_test-returns-in-Some
+insert_test-returns-in-Some t c =
     let new : IsNew c.args.place c.args.branches (pending c.args.way.jobs) c.in-Some.test =
     subst (λ bs. IsNew c.args.place bs (pending c.args.way.jobs) c.in-Some.test) c.as_slice.ensures
     c.in-Some.ensures in
     ok_follows _ _ c.without_default.result
-    (λ g e. e ∙ ap (without_default c.args.place) c.in_ok-put-in-Some.ensures
+    (λ g e. e ∙ ap (without_default c.args.place) c.in_ok-put.ensures
     ∙ ap (λ q. after_branches c.args.room c.args.place q (rows_of c.args.way))
     (makes_one (expr c.args.body.value) c.args.way.bound (pending c.args.way.jobs) c.args.place
     c.args.free c.args.branches c.in-Some.test
@@ -58,21 +47,21 @@ pub insert_test-returns-then-is_closed : goal.insert_test-returns-then-is_closed
 insert_test-returns-then-is_closed t c =
     let bs : List Branch = c.args.branches in
     let closed : is_closed c.args.room (branches_of bs) ≡ true =
-    ap (λ xs. is_closed c.args.room (branches_of xs)) (sym c.as_slice.ensures) ∙ sym
+    ap (λ xs. is_closed c.args.room (branches_of xs)) (sym c.as_slice-2.ensures) ∙ sym
     c.is_closed.ensures ∙ c.if-is_closed.true in
-    ok_follows _ _ c.without_default.result
-    (λ g e. e ∙ ap (without_default c.args.place) c.in_ok-put-then-is_closed.ensures
+    ok_follows _ _ c.without_default-then-is_closed.result
+    (λ g e. e ∙ ap (without_default c.args.place) c.in_ok-put-2.ensures
     ∙ closed_stays c.args.way (expr c.args.body.value) c.args.room c.args.place (branches_of bs)
-    c.args.free _ closed) c.without_default.ensures
+    c.args.free _ closed) c.without_default-then-is_closed.ensures
 
 pub insert_test-returns : goal.insert_test-returns
 insert_test-returns t c =
     let bs : List Branch = c.args.branches in
     let opens : is_closed c.args.room (branches_of bs) ≡ false =
-    ap (λ xs. is_closed c.args.room (branches_of xs)) (sym c.as_slice.ensures) ∙ sym
+    ap (λ xs. is_closed c.args.room (branches_of xs)) (sym c.as_slice-2.ensures) ∙ sym
     c.is_closed.ensures ∙ c.if-is_closed.false in
     ok_follows _ _ c.with_default.result (λ g e. e
-    ∙ (λ i. with_default c.args.place (c.in_ok-put.ensures i) (rows_of (c.in_ok-kept.ensures i)))
+    ∙ (λ i. with_default c.args.place (c.in_ok-put-3.ensures i) (rows_of (c.in_ok-kept.ensures i)))
     ∙ open_takes c.args.way (expr c.args.body.value) c.args.room c.args.place (branches_of bs)
     c.args.free _ opens) c.with_default.ensures
 
