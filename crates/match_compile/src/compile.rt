@@ -1,5 +1,5 @@
 //! The program of Core that equations are.
-#![tactic(auto, using(crate::proofs::Compiled::backward_more, crate::proofs::NewNames::with_counts))]
+#![tactic(auto, using(crate::proofs::Compiled::backward_more))]
 
 ghost use Rattle.std.specs.Prelude.{◌≡◌, ◌++◌, IfOk, IfErr, OnOk, map, reverse};
 ghost use Rattle.core_reader.specs.Tree.{expr, function, program};
