@@ -11,10 +11,12 @@ use Rattle.std.proofs.lemmas.Bool.Decides.{nat_tests}
 abbrev pub NoLater : MatchRefusal → MatchRefusal → Type 0
 NoLater r q = (place r < place q) ⊎ ((place r ≡ place q) × (rule r ≤ rule q))
 
-first_by : (a b m n : ℕ) → (nat_lt a b || ((a == b) && nat_lt m n)) ≡ true → (a < b) ⊎ ((a ≡ b) × (m ≤ n))
+first_by : (a b m n : ℕ) → (nat_lt a b || ((a == b) && nat_lt m n)) ≡ true → (a < b)
+    ⊎ ((a ≡ b) × (m ≤ n))
 first_by a b m n e = grind (arith, nat_tests)
 
-other_by : (a b m n : ℕ) → (nat_lt a b || ((a == b) && nat_lt m n)) ≡ false → (b < a) ⊎ ((b ≡ a) × (n ≤ m))
+other_by : (a b m n : ℕ) → (nat_lt a b || ((a == b) && nat_lt m n)) ≡ false → (b < a)
+    ⊎ ((b ≡ a) × (n ≤ m))
 other_by a b m n e = grind (arith, nat_tests)
 
 is_first : (r q : MatchRefusal) → precedes r q ≡ true → NoLater r q
@@ -26,7 +28,8 @@ is_later r q e = other_by (place r) (place q) (rule r) (rule q) e
 itself : (r : MatchRefusal) → NoLater r r
 itself r = inr (refl, omega arith)
 
-trans_by : (a b c m n o : ℕ) → (a < b) ⊎ ((a ≡ b) × (m ≤ n)) → (b < c) ⊎ ((b ≡ c) × (n ≤ o)) → (a < c) ⊎ ((a ≡ c) × (m ≤ o))
+trans_by : (a b c m n o : ℕ) → (a < b) ⊎ ((a ≡ b) × (m ≤ n)) → (b < c) ⊎ ((b ≡ c) × (n ≤ o))
+    → (a < c) ⊎ ((a ≡ c) × (m ≤ o))
 trans_by a b c m n o (inl h) (inl g) = inl (omega arith)
 trans_by a b c m n o (inl h) (inr g) = inl (omega (arith, g.0))
 trans_by a b c m n o (inr h) (inl g) = inl (omega (arith, h.0))
@@ -41,26 +44,36 @@ record First (o r : MatchRefusal) (rs : List MatchRefusal) : Type 0 where
   first : NoLater r o
   all : (q : MatchRefusal) → In q rs → NoLater r q
 
-with_one : (x r : MatchRefusal) (rs : List MatchRefusal) → NoLater r x → ((q : MatchRefusal) → In q rs → NoLater r q) → (q : MatchRefusal) → In q (x ∷ rs) → NoLater r q
+with_one : (x r : MatchRefusal) (rs : List MatchRefusal) → NoLater r x
+    → ((q : MatchRefusal) → In q rs → NoLater r q) → (q : MatchRefusal) → In q (x ∷ rs)
+    → NoLater r q
 with_one x r rs h all q here = h
 with_one x r rs h all q (there i) = all q i
 
 some_same : (a b : MatchRefusal) → Some a ≡ Some b → a ≡ b
 some_same a b e = cc
 
-first : (o r : MatchRefusal) (rs : List MatchRefusal) → least_refusal (Some o) rs ≡ Some r → First o r rs
+first : (o r : MatchRefusal) (rs : List MatchRefusal) → least_refusal (Some o) rs ≡ Some r
+    → First o r rs
 unfolding earlier_refusal
-first o r [] e = record { among = inl (some_same o r e); first = subst (λ r. NoLater r o) (some_same o r e) (itself o); all = λ q i. elim i [ ] }
+first o r [] e = record {
+  among = inl (some_same o r e);
+  first = subst (λ r. NoLater r o) (some_same o r e) (itself o);
+  all = λ q i. elim i [ ];
+}
 first o r (x ∷ rs) e = elim (two_ways (precedes x o)) [
   | inl y ↦
-      let w = first x r rs (ap (λ b. least_refusal (if b then Some x else Some o) rs) (sym y) ∙ e) in
+      let w = first x r rs (ap (λ b. least_refusal (if b then Some x else Some o) rs) (sym y) ∙ e)
+      in
       record {
-        among = elim w.among [ inl s ↦ inr (subst (λ r. In r (x ∷ rs)) s here) | inr i ↦ inr (there i) ];
+        among = elim w.among
+            [ inl s ↦ inr (subst (λ r. In r (x ∷ rs)) s here) | inr i ↦ inr (there i) ];
         first = trans r x o w.first (is_first x o y);
         all = with_one x r rs w.first w.all;
       }
   | inr n ↦
-      let w = first o r rs (ap (λ b. least_refusal (if b then Some x else Some o) rs) (sym n) ∙ e) in
+      let w = first o r rs (ap (λ b. least_refusal (if b then Some x else Some o) rs) (sym n) ∙ e)
+      in
       record {
         among = elim w.among [ inl s ↦ inl s | inr i ↦ inr (there i) ];
         first = w.first;
@@ -68,12 +81,15 @@ first o r (x ∷ rs) e = elim (two_ways (precedes x o)) [
       }
 ]
 
-pub some_first : (rs : List MatchRefusal) (r : MatchRefusal) → least_refusal None rs ≡ Some r → In r rs × ((q : MatchRefusal) → In q rs → NoLater r q)
+pub some_first : (rs : List MatchRefusal) (r : MatchRefusal) → least_refusal None rs ≡ Some r
+    → In r rs × ((q : MatchRefusal) → In q rs → NoLater r q)
 unfolding earlier_refusal
 some_first [] r e = absurd cc
 some_first (x ∷ rs) r e =
-    let w = first x r rs e in
-    (elim w.among [ inl s ↦ subst (λ r. In r (x ∷ rs)) s here | inr i ↦ there i ], with_one x r rs w.first w.all)
+    let w = first x r rs e in (
+      elim w.among [ inl s ↦ subst (λ r. In r (x ∷ rs)) s here | inr i ↦ there i ],
+      with_one x r rs w.first w.all,
+    )
 
 some_stays : (o : MatchRefusal) (rs : List MatchRefusal) → least_refusal (Some o) rs ≡ None → ⊥
 unfolding earlier_refusal

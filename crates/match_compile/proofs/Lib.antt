@@ -61,6 +61,7 @@ pub mod Compiled
 pub mod NewNames
 pub mod ApartIs
 pub mod ReadableSources
+pub mod Premised
 pub mod ReadableTrees
 pub mod Readably
 pub mod Translating

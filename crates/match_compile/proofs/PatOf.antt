@@ -12,7 +12,10 @@ pub pat_of-Name : (b : Binder) → pat_of (code.Name b) ≡ Name b
 pat_of-Name b = ap pat_of (sym (code.rolls-Name b)) ∙ fold-roll-Pat Pat pat_layer (layer.Name b)
 
 pub pat_of-Int : (k : ℤ) (at : ℕ) → pat_of (code.Int k at) ≡ Int k at
-pat_of-Int k at = ap pat_of (sym (code.rolls-Int k at)) ∙ fold-roll-Pat Pat pat_layer (layer.Int k at)
+pat_of-Int k at = ap pat_of (sym (code.rolls-Int k at)) ∙ fold-roll-Pat Pat pat_layer
+    (layer.Int k at)
 
-pub pat_of-Con : (c : Binder) (ps : List code-pat.Pat) → pat_of (code.Con c ps) ≡ Con c (pats_of (map pat_of ps))
-pat_of-Con c ps = ap pat_of (sym (code.rolls-Con c ps)) ∙ fold-roll-Pat Pat pat_layer (layer.Con c ps)
+pub pat_of-Con : (c : Binder) (ps : List code-pat.Pat)
+    → pat_of (code.Con c ps) ≡ Con c (pats_of (map pat_of ps))
+pat_of-Con c ps = ap pat_of (sym (code.rolls-Con c ps)) ∙ fold-roll-Pat Pat pat_layer
+    (layer.Con c ps)

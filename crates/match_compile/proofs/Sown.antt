@@ -1,4 +1,5 @@
--- What holds of the tree that equations go into: its places are known where they are looked at, each row has the
+-- What holds of the tree that equations go into: its places are known where they are looked at,
+-- each row has the
 -- names and the body of an equation, and branches have the fields of their constructors.
 use Rattle.std.proofs.Common.{◌≡◌, ℕ, zero, suc, ◌+◌, ◌<◌, ◌≤◌, Bool, true, false, cond, List, [], ◌∷◌, ◌++◌, length, refl, sym, ap, subst, ◌∙◌, append_assoc, arith, Option, Some, None, ◌⊎◌, inl, inr, ⊎_elim}
 use Rattle.std.specs.Prelude.{◌≢◌, ◌==◌, ◌&&◌, if◌then◌else◌}
@@ -29,42 +30,71 @@ NotIn p ps = In p ps → ⊥
 
 numbers_above : (n k : ℕ) → AllOf (λ p. n ≤ p) (numbers_from n k)
 numbers_above n zero = tt
-numbers_above n (suc k) = (omega arith, all_are (λ p. suc n ≤ p) (λ p. n ≤ p) (λ p le. omega (arith, le)) (numbers_from (suc n) k) (numbers_above (suc n) k))
+numbers_above n (suc k) = (
+  omega arith,
+  all_are (λ p. suc n ≤ p) (λ p. n ≤ p) (λ p le. omega (arith, le))
+      (numbers_from (suc n) k) (numbers_above (suc n) k),
+)
 
 pub numbers_below : (n k : ℕ) → AllOf (λ p. p < n + k) (numbers_from n k)
 numbers_below n zero = tt
-numbers_below n (suc k) = (omega arith, all_are (λ p. p < suc n + k) (λ p. p < n + suc k) (λ p lt. omega (arith, lt)) (numbers_from (suc n) k) (numbers_below (suc n) k))
+numbers_below n (suc k) = (
+  omega arith,
+  all_are (λ p. p < suc n + k) (λ p. p < n + suc k) (λ p lt. omega (arith, lt))
+      (numbers_from (suc n) k) (numbers_below (suc n) k),
+)
 
 pub numbers_differ : (n k : ℕ) → Differ (numbers_from n k)
 numbers_differ n zero = tt
-numbers_differ n (suc k) = (all_are (λ p. suc n ≤ p) (λ p. p ≢ n) (λ p le e. omega (arith, le, e)) (numbers_from (suc n) k) (numbers_above (suc n) k), numbers_differ (suc n) k)
+numbers_differ n (suc k) = (
+  all_are (λ p. suc n ≤ p) (λ p. p ≢ n) (λ p le e. omega (arith, le, e)) (numbers_from (suc n) k)
+      (numbers_above (suc n) k),
+  numbers_differ (suc n) k,
+)
 
-above_none : (n : ℕ) (ps ks : List ℕ) → AllOf (λ p. n ≤ p) ps → AllOf (λ p. p < n) ks → AllOf (λ p. NotIn p ks) ps
-above_none n ps ks h g = all_are (λ p. n ≤ p) (λ p. NotIn p ks) (λ p le i. let lt : p < n = all_of (λ p. p < n) ks g i in omega (arith, le, lt)) ps h
+above_none : (n : ℕ) (ps ks : List ℕ) → AllOf (λ p. n ≤ p) ps → AllOf (λ p. p < n) ks
+    → AllOf (λ p. NotIn p ks) ps
+above_none n ps ks h g = all_are (λ p. n ≤ p) (λ p. NotIn p ks)
+    (λ p le i. let lt : p < n = all_of (λ p. p < n) ks g i in omega (arith, le, lt)) ps h
 
 -- ---- places of which each stands once
 
-differ_join : (ps ys ks : List ℕ) → Differ ps → Differ ys → AllOf (λ p. NotIn p ks) ps → AllOf (λ y. In y ks) ys → Differ (ps ++ ys)
+differ_join : (ps ys ks : List ℕ) → Differ ps → Differ ys → AllOf (λ p. NotIn p ks) ps
+    → AllOf (λ y. In y ks) ys → Differ (ps ++ ys)
 differ_join [] ys ks d e n k = e
-differ_join (p ∷ ps) ys ks d e n k =
-    (all_append (λ y. y ≢ p) ps ys d.0 (all_are (λ y. In y ks) (λ y. y ≢ p) (λ y i q. n.0 (subst (λ z. In z ks) q i)) ys k), differ_join ps ys ks d.1 e n.1 k)
+differ_join (p ∷ ps) ys ks d e n k = (
+  all_append (λ y. y ≢ p) ps ys d.0
+      (all_are (λ y. In y ks) (λ y. y ≢ p) (λ y i q. n.0 (subst (λ z. In z ks) q i)) ys k),
+  differ_join ps ys ks d.1 e n.1 k,
+)
 
 -- places of fields in the place of the one that is looked at
-differ_open : (xs ps ys ks : List ℕ) (p : ℕ) → Differ (xs ++ p ∷ ys) → Differ ps → AllOf (λ p. NotIn p ks) ps → AllOf (λ y. In y ks) (xs ++ p ∷ ys) → Differ (xs ++ (ps ++ ys))
+differ_open : (xs ps ys ks : List ℕ) (p : ℕ) → Differ (xs ++ p ∷ ys) → Differ ps
+    → AllOf (λ p. NotIn p ks) ps → AllOf (λ y. In y ks) (xs ++ p ∷ ys) → Differ (xs ++ (ps ++ ys))
 differ_open [] ps ys ks p d e n k = differ_join ps ys ks e d.1 n k.1
 differ_open (x ∷ xs) ps ys ks p d e n k =
-    let apart : AllOf (λ y. y ≢ x) ps = all_are (λ q. NotIn q ks) (λ y. y ≢ x) (λ y m q. m (subst (λ z. In z ks) (sym q) k.0)) ps n in
-    (all_append (λ y. y ≢ x) xs (ps ++ ys) (front_all (λ y. y ≢ x) xs (p ∷ ys) d.0) (all_append (λ y. y ≢ x) ps ys apart (back_all (λ y. y ≢ x) xs (p ∷ ys) d.0).1), differ_open xs ps ys ks p d.1 e n k.1)
+    let apart : AllOf (λ y. y ≢ x) ps = all_are (λ q. NotIn q ks) (λ y. y ≢ x)
+    (λ y m q. m (subst (λ z. In z ks) (sym q) k.0)) ps n in (
+      all_append (λ y. y ≢ x) xs (ps ++ ys) (front_all (λ y. y ≢ x) xs (p ∷ ys) d.0)
+          (all_append (λ y. y ≢ x) ps ys apart (back_all (λ y. y ≢ x) xs (p ∷ ys) d.0).1),
+      differ_open xs ps ys ks p d.1 e n k.1,
+    )
 
-known_open : (xs ps ys ks : List ℕ) (p : ℕ) → AllOf (λ y. In y ks) (xs ++ p ∷ ys) → AllOf (λ y. In y (ps ++ ks)) (xs ++ (ps ++ ys))
+known_open : (xs ps ys ks : List ℕ) (p : ℕ) → AllOf (λ y. In y ks) (xs ++ p ∷ ys)
+    → AllOf (λ y. In y (ps ++ ks)) (xs ++ (ps ++ ys))
 known_open xs ps ys ks p k =
-    let more : (zs : List ℕ) → AllOf (λ y. In y ks) zs → AllOf (λ y. In y (ps ++ ks)) zs = λ zs h. all_are (λ y. In y ks) (λ y. In y (ps ++ ks)) (λ y i. in_right ps ks i) zs h in
-    all_append (λ y. In y (ps ++ ks)) xs (ps ++ ys) (more xs (front_all (λ y. In y ks) xs (p ∷ ys) k))
-    (all_append (λ y. In y (ps ++ ks)) ps ys (all_are (λ y. In y ps) (λ y. In y (ps ++ ks)) (λ y i. in_left ps ks i) ps (all_in ps)) (more ys (back_all (λ y. In y ks) xs (p ∷ ys) k).1))
+    let more : (zs : List ℕ) → AllOf (λ y. In y ks) zs → AllOf (λ y. In y (ps ++ ks)) zs
+    = λ zs h. all_are (λ y. In y ks) (λ y. In y (ps ++ ks)) (λ y i. in_right ps ks i) zs h in
+    all_append (λ y. In y (ps ++ ks)) xs (ps ++ ys)
+    (more xs (front_all (λ y. In y ks) xs (p ∷ ys) k))
+    (all_append (λ y. In y (ps ++ ks)) ps ys
+    (all_are (λ y. In y ps) (λ y. In y (ps ++ ks)) (λ y i. in_left ps ks i) ps (all_in ps))
+    (more ys (back_all (λ y. In y ks) xs (p ∷ ys) k).1))
 
 not_middle : (xs ys : List ℕ) (p : ℕ) → Differ (xs ++ p ∷ ys) → NotIn p (xs ++ ys)
 not_middle [] ys p d i = all_of (λ y. y ≢ p) ys d.0 i refl
-not_middle (x ∷ xs) ys p d i = ⊎_elim (λ q. (back_all (λ y. y ≢ x) xs (p ∷ ys) d.0).0 q) (λ j. not_middle xs ys p d.1 j) (cons_in x (xs ++ ys) i)
+not_middle (x ∷ xs) ys p d i = ⊎_elim (λ q. (back_all (λ y. y ≢ x) xs (p ∷ ys) d.0).0 q)
+    (λ j. not_middle xs ys p d.1 j) (cons_in x (xs ++ ys) i)
 
 -- ---- names, constructors and places of what is still to be matched
 
@@ -88,42 +118,57 @@ abbrev pub bound_places : List (Binder × ℕ) → List ℕ
 bound_places [] = []
 bound_places (b ∷ bs) = b.1 ∷ bound_places bs
 
-pub names_append : (xs ys : List PendingPattern) → job_names (xs ++ ys) ≡ job_names xs ++ job_names ys
+pub names_append : (xs ys : List PendingPattern) → job_names (xs ++ ys) ≡ job_names xs
+    ++ job_names ys
 names_append [] ys = refl
-names_append (x ∷ xs) ys = ap (λ w. names_in x.1 ++ w) (names_append xs ys) ∙ sym (append_assoc (names_in x.1) (job_names xs) (job_names ys))
+names_append (x ∷ xs) ys = ap (λ w. names_in x.1 ++ w) (names_append xs ys) ∙ sym
+    (append_assoc (names_in x.1) (job_names xs) (job_names ys))
 
-places_append : (xs ys : List PendingPattern) → job_places (xs ++ ys) ≡ job_places xs ++ job_places ys
+places_append : (xs ys : List PendingPattern) → job_places (xs ++ ys) ≡ job_places xs
+    ++ job_places ys
 places_append [] ys = refl
 places_append (x ∷ xs) ys = ap (λ w. x.0 ∷ w) (places_append xs ys)
 
-constructors_split : (xs ys : List PendingPattern) {b : Binder × ℕ} → In b (job_constructors (xs ++ ys)) → In b (job_constructors xs) ⊎ In b (job_constructors ys)
+constructors_split : (xs ys : List PendingPattern) {b : Binder × ℕ}
+    → In b (job_constructors (xs ++ ys)) → In b (job_constructors xs) ⊎ In b (job_constructors ys)
 constructors_split [] ys h = inr h
-constructors_split (x ∷ xs) ys h = elim (in_split (constructors_in x.1) (job_constructors (xs ++ ys)) h) [
-  | inl i ↦ inl (in_left (constructors_in x.1) (job_constructors xs) i)
-  | inr i ↦ ⊎_elim (λ l. inl (in_right (constructors_in x.1) (job_constructors xs) l)) (λ r. inr r) (constructors_split xs ys i)
-]
+constructors_split (x ∷ xs) ys h = elim
+    (in_split (constructors_in x.1) (job_constructors (xs ++ ys)) h) [
+      | inl i ↦ inl (in_left (constructors_in x.1) (job_constructors xs) i)
+      | inr i ↦ ⊎_elim (λ l. inl (in_right (constructors_in x.1) (job_constructors xs) l)) (λ r. inr r)
+          (constructors_split xs ys i)
+    ]
 
-pub names_at : (places : List ℕ) (ps : Pats) → length places ≡ count ps → job_names (pending_patterns_at places ps) ≡ names_of ps
+pub names_at : (places : List ℕ) (ps : Pats) → length places ≡ count ps
+    → job_names (pending_patterns_at places ps) ≡ names_of ps
 names_at places NoPats e = refl
 names_at [] (AndPat p ps) e = absurd (omega (arith, e))
-names_at (x ∷ places) (AndPat p ps) e = ap (λ w. names_in p ++ w) (names_at places ps (omega (arith, e)))
+names_at (x ∷ places) (AndPat p ps) e = ap (λ w. names_in p ++ w)
+    (names_at places ps (omega (arith, e)))
 
-places_at : (places : List ℕ) (ps : Pats) → length places ≡ count ps → job_places (pending_patterns_at places ps) ≡ places
+places_at : (places : List ℕ) (ps : Pats) → length places ≡ count ps
+    → job_places (pending_patterns_at places ps) ≡ places
 places_at [] NoPats e = refl
 places_at (x ∷ places) NoPats e = absurd (omega (arith, e))
 places_at [] (AndPat p ps) e = absurd (omega (arith, e))
 places_at (x ∷ places) (AndPat p ps) e = ap (λ w. x ∷ w) (places_at places ps (omega (arith, e)))
 
-constructors_at : (places : List ℕ) (ps : Pats) {b : Binder × ℕ} → In b (job_constructors (pending_patterns_at places ps)) → In b (constructors_of ps)
+constructors_at : (places : List ℕ) (ps : Pats) {b : Binder × ℕ}
+    → In b (job_constructors (pending_patterns_at places ps)) → In b (constructors_of ps)
 constructors_at places NoPats h = h
 constructors_at [] (AndPat p ps) h = none_in h
-constructors_at (x ∷ places) (AndPat p ps) h = ⊎_elim (λ l. in_left (constructors_in p) (constructors_of ps) l) (λ r. in_right (constructors_in p) (constructors_of ps) (constructors_at places ps r)) (in_split (constructors_in p) (job_constructors (pending_patterns_at places ps)) h)
+constructors_at (x ∷ places) (AndPat p ps) h = ⊎_elim
+    (λ l. in_left (constructors_in p) (constructors_of ps) l)
+    (λ r. in_right (constructors_in p) (constructors_of ps) (constructors_at places ps r))
+    (in_split (constructors_in p) (job_constructors (pending_patterns_at places ps)) h)
 
-pub bound_names_last : (bs : List (Binder × ℕ)) (b : Binder) (p : ℕ) (ys : List Binder) → bound_names (bs ++ (b, p) ∷ []) ++ ys ≡ bound_names bs ++ b ∷ ys
+pub bound_names_last : (bs : List (Binder × ℕ)) (b : Binder) (p : ℕ) (ys : List Binder)
+    → bound_names (bs ++ (b, p) ∷ []) ++ ys ≡ bound_names bs ++ b ∷ ys
 bound_names_last [] b p ys = refl
 bound_names_last (x ∷ bs) b p ys = ap (λ w. x.0 ∷ w) (bound_names_last bs b p ys)
 
-bound_places_last : (bs : List (Binder × ℕ)) (b : Binder) (p : ℕ) (ys : List ℕ) → bound_places (bs ++ (b, p) ∷ []) ++ ys ≡ bound_places bs ++ p ∷ ys
+bound_places_last : (bs : List (Binder × ℕ)) (b : Binder) (p : ℕ) (ys : List ℕ)
+    → bound_places (bs ++ (b, p) ∷ []) ++ ys ≡ bound_places bs ++ p ∷ ys
 bound_places_last [] b p ys = refl
 bound_places_last (x ∷ bs) b p ys = ap (λ w. x.1 ∷ w) (bound_places_last bs b p ys)
 
@@ -131,23 +176,28 @@ bound_places_last (x ∷ bs) b p ys = ap (λ w. x.1 ∷ w) (bound_places_last bs
 abbrev pub places_of : Row → List ℕ
 places_of r = bound_places r.bound ++ job_places r.jobs
 
-settled_places : (body : Expr) (bound : List (Binder × ℕ)) (js : List PendingPattern) → places_of (settled body bound js) ≡ bound_places bound ++ job_places js
+settled_places : (body : Expr) (bound : List (Binder × ℕ)) (js : List PendingPattern)
+    → places_of (settled body bound js) ≡ bound_places bound ++ job_places js
 settled_places body bound [] = refl
-settled_places body bound ((p, Name b) ∷ js) = settled_places body (bound ++ (b, p) ∷ []) js ∙ bound_places_last bound b p (job_places js)
+settled_places body bound ((p, Name b) ∷ js) = settled_places body (bound ++ (b, p) ∷ []) js ∙
+    bound_places_last bound b p (job_places js)
 settled_places body bound ((p, Int k at) ∷ js) = refl
 settled_places body bound ((p, Con c ps) ∷ js) = refl
 
-pub pat_names : (pat : Pat) (h : Head) → head_of pat ≡ Some h → names_in pat ≡ names_of (fields_of pat)
+pub pat_names : (pat : Pat) (h : Head) → head_of pat ≡ Some h
+    → names_in pat ≡ names_of (fields_of pat)
 pat_names (Name b) h e = absurd cc
 pat_names (Int k at) h e = refl
 pat_names (Con c ps) h e = refl
 
-pat_constructors : (pat : Pat) {b : Binder × ℕ} → In b (constructors_of (fields_of pat)) → In b (constructors_in pat)
+pat_constructors : (pat : Pat) {b : Binder × ℕ} → In b (constructors_of (fields_of pat))
+    → In b (constructors_in pat)
 pat_constructors (Name b) h = h
 pat_constructors (Int k at) h = h
 pat_constructors (Con c ps) h = there h
 
-pub test_is : (p : ℕ) (js : List PendingPattern) (pat : Pat) → test_at p js ≡ Some pat → js ≡ (p, pat) ∷ later js
+pub test_is : (p : ℕ) (js : List PendingPattern) (pat : Pat) → test_at p js ≡ Some pat
+    → js ≡ (p, pat) ∷ later js
 test_is p [] pat e = absurd cc
 test_is p (j ∷ js) pat e = go (j.0 == p) refl e
   where
@@ -159,7 +209,8 @@ unbound_at : (p : ℕ) (bs : List (Binder × ℕ)) → NotIn p (bound_places bs)
 unbound_at p [] n = refl
 unbound_at p (b ∷ bs) n = go (b.1 == p) refl (unbound_at p bs (λ i. n (there i)))
   where
-    go : (t : Bool) → (b.1 == p) ≡ t → bound_at p bs ≡ None → (if t then Some b.0.name.0 else bound_at p bs) ≡ None
+    go : (t : Bool) → (b.1 == p) ≡ t → bound_at p bs ≡ None
+        → (if t then Some b.0.name.0 else bound_at p bs) ≡ None
     go true h e = absurd (n (subst (λ q. In q (b.1 ∷ bound_places bs)) (eq_from b.1 p h) here))
     go false h e = e
 
@@ -167,8 +218,10 @@ and_kept : (a b b' : Bool) → (b ≡ false → b' ≡ false) → (a && b) ≡ f
 and_kept true b b' f e = f e
 and_kept false b b' f e = refl
 
-and_both : (a a' b b' : Bool) → (a ≡ false → a' ≡ false) → (b ≡ false → b' ≡ false) → (a && b) ≡ false → (a' && b') ≡ false
-and_both a a' b b' f g e = elim (either_false a b e) [ inl x ↦ ap (λ w. w && b') (f x) | inr y ↦ and_not_right a' b' (g y) ]
+and_both : (a a' b b' : Bool) → (a ≡ false → a' ≡ false) → (b ≡ false → b' ≡ false)
+    → (a && b) ≡ false → (a' && b') ≡ false
+and_both a a' b b' f g e = elim (either_false a b e)
+    [ inl x ↦ ap (λ w. w && b') (f x) | inr y ↦ and_not_right a' b' (g y) ]
   where
     either_false : (a b : Bool) → (a && b) ≡ false → (a ≡ false) ⊎ (b ≡ false)
     either_false true b e = inr e
@@ -236,31 +289,45 @@ abbrev mutual
 abbrev pub leaf_of : Row → Leaf
 leaf_of r = (r.body, bound_names r.bound ++ job_names r.jobs)
 
-settled_leaf : (body : Expr) (bound : List (Binder × ℕ)) (js : List PendingPattern) → leaf_of (settled body bound js) ≡ (body, bound_names bound ++ job_names js)
+settled_leaf : (body : Expr) (bound : List (Binder × ℕ)) (js : List PendingPattern)
+    → leaf_of (settled body bound js) ≡ (body, bound_names bound ++ job_names js)
 settled_leaf body bound [] = refl
-settled_leaf body bound ((p, Name b) ∷ js) = settled_leaf body (bound ++ (b, p) ∷ []) js ∙ ap (λ (w : List Binder). (body, w)) (bound_names_last bound b p (job_names js))
+settled_leaf body bound ((p, Name b) ∷ js) = settled_leaf body (bound ++ (b, p) ∷ []) js ∙ ap
+    (λ (w : List Binder). (body, w)) (bound_names_last bound b p (job_names js))
 settled_leaf body bound ((p, Int k at) ∷ js) = refl
 settled_leaf body bound ((p, Con c ps) ∷ js) = refl
 
 -- behind its first test a row comes to the same
-opened_leaf : (p : ℕ) (r : Row) (pat : Pat) (h : Head) (ps : List ℕ) → test_at p r.jobs ≡ Some pat → head_of pat ≡ Some h → length ps ≡ count (fields_of pat) → leaf_of (opened r pat ps) ≡ leaf_of r
+opened_leaf : (p : ℕ) (r : Row) (pat : Pat) (h : Head) (ps : List ℕ) → test_at p r.jobs ≡ Some pat
+    → head_of pat ≡ Some h → length ps ≡ count (fields_of pat)
+    → leaf_of (opened r pat ps) ≡ leaf_of r
 opened_leaf p r pat h ps t e len =
     let fs : List PendingPattern = pending_patterns_at ps (fields_of pat) in
     let js : List PendingPattern = later r.jobs in
-    let same : job_names fs ≡ names_in pat = names_at ps (fields_of pat) len ∙ sym (pat_names pat h e) in
-    let all : job_names (fs ++ js) ≡ job_names r.jobs = names_append fs js ∙ ap (λ w. w ++ job_names js) same ∙ sym (ap job_names (test_is p r.jobs pat t)) in
-    settled_leaf r.body r.bound (fs ++ js) ∙ ap (λ (w : List Binder). (r.body, bound_names r.bound ++ w)) all
+    let same : job_names fs ≡ names_in pat = names_at ps (fields_of pat) len ∙ sym
+    (pat_names pat h e) in
+    let all : job_names (fs ++ js) ≡ job_names r.jobs
+    = names_append fs js ∙ ap (λ w. w ++ job_names js) same ∙ sym
+    (ap job_names (test_is p r.jobs pat t)) in
+    settled_leaf r.body r.bound (fs ++ js) ∙ ap
+    (λ (w : List Binder). (r.body, bound_names r.bound ++ w)) all
 
 -- a leaf stays where the second leaves do
-either_side : (xs ys zs : List Leaf) (l : Leaf) → (In l ys → In l zs) → In l (xs ++ ys) → In l (xs ++ zs)
-either_side xs ys zs l f i = ⊎_elim (λ a. in_left xs zs a) (λ b. in_right xs zs (f b)) (in_split xs ys i)
+either_side : (xs ys zs : List Leaf) (l : Leaf) → (In l ys → In l zs) → In l (xs ++ ys)
+    → In l (xs ++ zs)
+either_side xs ys zs l f i = ⊎_elim (λ a. in_left xs zs a) (λ b. in_right xs zs (f b))
+    (in_split xs ys i)
 
 -- and where the first do
-other_side : (xs ys zs : List Leaf) (l : Leaf) → (In l xs → In l ys) → In l (xs ++ zs) → In l (ys ++ zs)
-other_side xs ys zs l f i = ⊎_elim (λ a. in_left ys zs (f a)) (λ b. in_right ys zs b) (in_split xs zs i)
+other_side : (xs ys zs : List Leaf) (l : Leaf) → (In l xs → In l ys) → In l (xs ++ zs)
+    → In l (ys ++ zs)
+other_side xs ys zs l f i = ⊎_elim (λ a. in_left ys zs (f a)) (λ b. in_right ys zs b)
+    (in_split xs zs i)
 
 row_leaf : (e : Equation) → leaf_of (row_of e) ≡ (e.body, names_of e.pats)
-row_leaf e = settled_leaf e.body [] (pending_patterns_at (places_from 0 e.pats) e.pats) ∙ ap (λ (w : List Binder). (e.body, w)) (names_at (places_from 0 e.pats) e.pats (length_numbers 0 (count e.pats)))
+row_leaf e = settled_leaf e.body [] (pending_patterns_at (places_from 0 e.pats) e.pats) ∙ ap
+    (λ (w : List Binder). (e.body, w))
+    (names_at (places_from 0 e.pats) e.pats (length_numbers 0 (count e.pats)))
 
 module _ (c : Source) where
   -- ---- rows
@@ -271,69 +338,99 @@ module _ (c : Source) where
     pub is_in : In equation c.equations
     pub body : r.body ≡ equation.body
     pub names : bound_names r.bound ++ job_names r.jobs ≡ names_of equation.pats
-    pub constructors : (b : Binder × ℕ) → In b (job_constructors r.jobs) → In b (constructors_of equation.pats)
+    pub constructors : (b : Binder × ℕ) → In b (job_constructors r.jobs)
+        → In b (constructors_of equation.pats)
     pub once : Differ (places_of r)
     pub known : AllOf (λ p. In p ks) (places_of r)
 
-  settled_comes : (ks : List ℕ) (body : Expr) (bound : List (Binder × ℕ)) (js : List PendingPattern) → Comes ks (row body bound js) → Comes ks (settled body bound js)
+  settled_comes : (ks : List ℕ) (body : Expr) (bound : List (Binder × ℕ)) (js : List PendingPattern)
+      → Comes ks (row body bound js) → Comes ks (settled body bound js)
   settled_comes ks body bound [] h = h
   settled_comes ks body bound ((p, Int k at) ∷ js) h = h
   settled_comes ks body bound ((p, Con d ps) ∷ js) h = h
-  settled_comes ks body bound ((p, Name b) ∷ js) h = settled_comes ks body (bound ++ (b, p) ∷ []) js (record {
-    equation = h.equation;
-    is_in = h.is_in;
-    body = h.body;
-    names = bound_names_last bound b p (job_names js) ∙ h.names;
-    constructors = h.constructors;
-    once = subst Differ (sym (bound_places_last bound b p (job_places js))) h.once;
-    known = subst (AllOf (λ q. In q ks)) (sym (bound_places_last bound b p (job_places js))) h.known;
-  })
+  settled_comes ks body bound ((p, Name b) ∷ js) h = settled_comes ks body (bound ++ (b, p) ∷ []) js
+      (record {
+        equation = h.equation;
+        is_in = h.is_in;
+        body = h.body;
+        names = bound_names_last bound b p (job_names js) ∙ h.names;
+        constructors = h.constructors;
+        once = subst Differ (sym (bound_places_last bound b p (job_places js))) h.once;
+        known = subst (AllOf (λ q. In q ks)) (sym (bound_places_last bound b p (job_places js)))
+            h.known;
+      })
 
-  first_comes : (ks : List ℕ) (p : ℕ) (r : Row) (pat : Pat) → test_at p r.jobs ≡ Some pat → Comes ks r → Comes ks (row r.body r.bound ((p, pat) ∷ later r.jobs))
-  first_comes ks p r pat t h = subst (λ js. Comes ks (row r.body r.bound js)) (test_is p r.jobs pat t) h
+  first_comes : (ks : List ℕ) (p : ℕ) (r : Row) (pat : Pat) → test_at p r.jobs ≡ Some pat
+      → Comes ks r → Comes ks (row r.body r.bound ((p, pat) ∷ later r.jobs))
+  first_comes ks p r pat t h = subst (λ js. Comes ks (row r.body r.bound js))
+      (test_is p r.jobs pat t) h
 
   -- behind its first test, whose fields have new places
-  opened_comes : (ks : List ℕ) (p : ℕ) (r : Row) (pat : Pat) (h : Head) (ps : List ℕ) → test_at p r.jobs ≡ Some pat → head_of pat ≡ Some h → length ps ≡ count (fields_of pat) → Differ ps → AllOf (λ q. NotIn q ks) ps → Comes ks r
+  opened_comes : (ks : List ℕ) (p : ℕ) (r : Row) (pat : Pat) (h : Head) (ps : List ℕ)
+      → test_at p r.jobs ≡ Some pat → head_of pat ≡ Some h → length ps ≡ count (fields_of pat)
+      → Differ ps → AllOf (λ q. NotIn q ks) ps → Comes ks r
       → Comes (ps ++ ks) (opened r pat ps)
   opened_comes ks p r pat h ps t e len d n w =
       let f = first_comes ks p r pat t w in
       let fs : List PendingPattern = pending_patterns_at ps (fields_of pat) in
       let js : List PendingPattern = later r.jobs in
-      let are : job_places (fs ++ js) ≡ ps ++ job_places js = places_append fs js ∙ ap (λ w. w ++ job_places js) (places_at ps (fields_of pat) len) in
-      let places : bound_places r.bound ++ job_places (fs ++ js) ≡ bound_places r.bound ++ (ps ++ job_places js) = ap (λ w. bound_places r.bound ++ w) are in
-      let same : names_in pat ≡ job_names fs = pat_names pat h e ∙ sym (names_at ps (fields_of pat) len) in
+      let are : job_places (fs ++ js) ≡ ps ++ job_places js
+      = places_append fs js ∙ ap (λ w. w ++ job_places js) (places_at ps (fields_of pat) len) in
+      let places : bound_places r.bound ++ job_places (fs ++ js) ≡ bound_places r.bound
+      ++ (ps ++ job_places js) = ap (λ w. bound_places r.bound ++ w) are in
+      let same : names_in pat ≡ job_names fs = pat_names pat h e ∙ sym
+      (names_at ps (fields_of pat) len) in
       settled_comes (ps ++ ks) r.body r.bound (fs ++ js) (record {
         equation = f.equation;
         is_in = f.is_in;
         body = f.body;
-        names = ap (λ w. bound_names r.bound ++ w) (names_append fs js ∙ ap (λ w. w ++ job_names js) (sym same)) ∙ f.names;
-        constructors = λ b i. f.constructors b (⊎_elim (λ l. in_left (constructors_in pat) (job_constructors js) (pat_constructors pat (constructors_at ps (fields_of pat) l))) (λ m. in_right (constructors_in pat) (job_constructors js) m) (constructors_split fs js i));
-        once = subst Differ (sym places) (differ_open (bound_places r.bound) ps (job_places js) ks p f.once d n f.known);
-        known = subst (AllOf (λ q. In q (ps ++ ks))) (sym places) (known_open (bound_places r.bound) ps (job_places js) ks p f.known);
+        names = ap (λ w. bound_names r.bound ++ w)
+            (names_append fs js ∙ ap (λ w. w ++ job_names js) (sym same)) ∙ f.names;
+        constructors = λ b i. f.constructors b
+            (⊎_elim (λ l. in_left (constructors_in pat) (job_constructors js)
+            (pat_constructors pat (constructors_at ps (fields_of pat) l)))
+            (λ m. in_right (constructors_in pat) (job_constructors js) m)
+            (constructors_split fs js i));
+        once = subst Differ (sym places)
+            (differ_open (bound_places r.bound) ps (job_places js) ks p f.once d n f.known);
+        known = subst (AllOf (λ q. In q (ps ++ ks))) (sym places)
+            (known_open (bound_places r.bound) ps (job_places js) ks p f.known);
       })
 
   -- the place that is looked at is then none of its places
-  opened_past : (ks : List ℕ) (p : ℕ) (r : Row) (pat : Pat) (ps : List ℕ) → test_at p r.jobs ≡ Some pat → length ps ≡ count (fields_of pat) → NotIn p ps → Comes ks r → NotIn p (places_of (opened r pat ps))
+  opened_past : (ks : List ℕ) (p : ℕ) (r : Row) (pat : Pat) (ps : List ℕ)
+      → test_at p r.jobs ≡ Some pat → length ps ≡ count (fields_of pat) → NotIn p ps → Comes ks r
+      → NotIn p (places_of (opened r pat ps))
   opened_past ks p r pat ps t len n w i =
       let f = first_comes ks p r pat t w in
       let fs : List PendingPattern = pending_patterns_at ps (fields_of pat) in
       let js : List PendingPattern = later r.jobs in
-      let are : job_places (fs ++ js) ≡ ps ++ job_places js = places_append fs js ∙ ap (λ w. w ++ job_places js) (places_at ps (fields_of pat) len) in
-      let places : places_of (opened r pat ps) ≡ bound_places r.bound ++ (ps ++ job_places js) = settled_places r.body r.bound (fs ++ js) ∙ ap (λ w. bound_places r.bound ++ w) are in
+      let are : job_places (fs ++ js) ≡ ps ++ job_places js
+      = places_append fs js ∙ ap (λ w. w ++ job_places js) (places_at ps (fields_of pat) len) in
+      let places : places_of (opened r pat ps) ≡ bound_places r.bound ++ (ps ++ job_places js)
+      = settled_places r.body r.bound (fs ++ js) ∙ ap (λ w. bound_places r.bound ++ w) are in
       let m = not_middle (bound_places r.bound) (job_places js) p f.once in
       ⊎_elim (λ l. m (in_left (bound_places r.bound) (job_places js) l))
-      (λ k. ⊎_elim n (λ l. m (in_right (bound_places r.bound) (job_places js) l)) (in_split ps (job_places js) k))
+      (λ k. ⊎_elim n (λ l. m (in_right (bound_places r.bound) (job_places js) l))
+      (in_split ps (job_places js) k))
       (in_split (bound_places r.bound) (ps ++ job_places js) (subst (In p) places i))
 
   -- and another place that is none of the row's is none then, if it is none of the fields'
-  opened_other : (p q : ℕ) (r : Row) (pat : Pat) (ps : List ℕ) → test_at p r.jobs ≡ Some pat → length ps ≡ count (fields_of pat) → NotIn q ps → NotIn q (places_of r) → NotIn q (places_of (opened r pat ps))
+  opened_other : (p q : ℕ) (r : Row) (pat : Pat) (ps : List ℕ) → test_at p r.jobs ≡ Some pat
+      → length ps ≡ count (fields_of pat) → NotIn q ps → NotIn q (places_of r)
+      → NotIn q (places_of (opened r pat ps))
   opened_other p q r pat ps t len n m i =
       let fs : List PendingPattern = pending_patterns_at ps (fields_of pat) in
       let js : List PendingPattern = later r.jobs in
-      let are : job_places (fs ++ js) ≡ ps ++ job_places js = places_append fs js ∙ ap (λ w. w ++ job_places js) (places_at ps (fields_of pat) len) in
-      let places : places_of (opened r pat ps) ≡ bound_places r.bound ++ (ps ++ job_places js) = settled_places r.body r.bound (fs ++ js) ∙ ap (λ w. bound_places r.bound ++ w) are in
+      let are : job_places (fs ++ js) ≡ ps ++ job_places js
+      = places_append fs js ∙ ap (λ w. w ++ job_places js) (places_at ps (fields_of pat) len) in
+      let places : places_of (opened r pat ps) ≡ bound_places r.bound ++ (ps ++ job_places js)
+      = settled_places r.body r.bound (fs ++ js) ∙ ap (λ w. bound_places r.bound ++ w) are in
       ⊎_elim (λ l. m (in_left (bound_places r.bound) (job_places r.jobs) l))
-      (λ k. ⊎_elim n (λ l. m (in_right (bound_places r.bound) (job_places r.jobs) (subst (λ w. In q (job_places w)) (sym (test_is p r.jobs pat t)) (there l)))) (in_split ps (job_places js) k))
+      (λ k. ⊎_elim n
+      (λ l. m (in_right (bound_places r.bound) (job_places r.jobs)
+      (subst (λ w. In q (job_places w)) (sym (test_is p r.jobs pat t)) (there l))))
+      (in_split ps (job_places js) k))
       (in_split (bound_places r.bound) (ps ++ job_places js) (subst (In q) places i))
 
   -- ---- fields
@@ -351,27 +448,37 @@ module _ (c : Source) where
       go (Constructor d) a b = some_is n m (sym a ∙ b)
 
   module _ (unbroken : (k at : ℕ) → Broken c k at → ⊥) where
-    pub declared : {e : Equation} → In e c.equations → (d : Binder) (n : ℕ) → In (d, n) (constructors_of e.pats) → fields_in c.constructors d.name.0 ≡ Some n
+    pub declared : {e : Equation} → In e c.equations → (d : Binder) (n : ℕ)
+        → In (d, n) (constructors_of e.pats) → fields_in c.constructors d.name.0 ≡ Some n
     declared {e = e} i d n h = go (fields_in c.constructors d.name.0) refl
       where
-        go : (o : Option ℕ) → fields_in c.constructors d.name.0 ≡ o → fields_in c.constructors d.name.0 ≡ Some n
+        go : (o : Option ℕ) → fields_in c.constructors d.name.0 ≡ o
+            → fields_in c.constructors d.name.0 ≡ Some n
         go None q = absurd (unbroken 14 d.at (UnknownName i h q))
         go (Some m) q = elim (same_or_not m n) [
           | inl same ↦ q ∙ ap Some same
           | inr differs ↦ absurd (unbroken 73 d.at (PatternArity i h q differs))
         ]
 
-    test_suits : (ks : List ℕ) (p : ℕ) (r : Row) (pat : Pat) (h : Head) → test_at p r.jobs ≡ Some pat → head_of pat ≡ Some h → Comes ks r → Suits h (count (fields_of pat))
+    test_suits : (ks : List ℕ) (p : ℕ) (r : Row) (pat : Pat) (h : Head)
+        → test_at p r.jobs ≡ Some pat → head_of pat ≡ Some h → Comes ks r
+        → Suits h (count (fields_of pat))
     test_suits ks p r pat h t e w =
         let f = first_comes ks p r pat t w in
-        go f.equation f.is_in pat h e (λ b i. f.constructors b (in_left (constructors_in pat) (job_constructors (later r.jobs)) i))
+        go f.equation f.is_in pat h e
+        (λ b i. f.constructors b
+        (in_left (constructors_in pat) (job_constructors (later r.jobs)) i))
       where
-        go : (q : Equation) → In q c.equations → (pat : Pat) (h : Head) → head_of pat ≡ Some h → ((b : Binder × ℕ) → In b (constructors_in pat) → In b (constructors_of q.pats)) → Suits h (count (fields_of pat))
+        go : (q : Equation) → In q c.equations → (pat : Pat) (h : Head) → head_of pat ≡ Some h
+            → ((b : Binder × ℕ) → In b (constructors_in pat) → In b (constructors_of q.pats))
+            → Suits h (count (fields_of pat))
         go q i (Name b) h e g = absurd cc
         go q i (Int k at) (Integer j) e g = refl
         go q i (Int k at) (Constructor d) e g = absurd cc
         go q i (Con d ps) (Integer j) e g = absurd cc
-        go q i (Con d ps) (Constructor f) e g = let same : d.name.0 ≡ f = cc in ap (fields_in c.constructors) (sym same) ∙ declared i d (count ps) (g (d, count ps) here)
+        go q i (Con d ps) (Constructor f) e g = let same : d.name.0 ≡ f = cc
+            in ap (fields_in c.constructors) (sym same) ∙ declared i d (count ps)
+            (g (d, count ps) here)
 
   -- ---- trees
 
@@ -379,12 +486,14 @@ module _ (c : Source) where
     -- places below n are in use
     pub Fine : (n : ℕ) → List ℕ → Tree → Type 0
     Fine n ks (Body r) = Comes ks r × (r.jobs ≡ [])
-    Fine n ks (Case p bs o) = In p ks × ((x : ℕ) → branches_bind p x bs ≡ false) × EachBeside bs × FineBranches n ks bs × FineDefault n ks o
+    Fine n ks (Case p bs o) = In p ks × ((x : ℕ) → branches_bind p x bs ≡ false) × EachBeside bs
+        × FineBranches n ks bs × FineDefault n ks o
 
     pub FineBranches : (n : ℕ) → List ℕ → Branches → Type 0
     FineBranches n ks NoBranch = Unit {0}
     FineBranches n ks (AndBranch h ps t bs) =
-        Suits h (length ps) × Differ ps × AllOf (λ p. NotIn p ks) ps × AllOf (λ p. p < n) ps × Fine n (ps ++ ks) t × FineBranches n ks bs
+        Suits h (length ps) × Differ ps × AllOf (λ p. NotIn p ks) ps × AllOf (λ p. p < n) ps
+        × Fine n (ps ++ ks) t × FineBranches n ks bs
 
     pub FineDefault : (n : ℕ) → List ℕ → Default → Type 0
     FineDefault n ks NoDefault = Unit {0}
@@ -396,13 +505,24 @@ module _ (c : Source) where
   mutual
     fine_more : (n m : ℕ) (ks : List ℕ) (t : Tree) → n ≤ m → Fine n ks t → Fine m ks t
     fine_more n m ks (Body r) le f = f
-    fine_more n m ks (Case p bs o) le f = (f.0, f.1, f.2, branches_more n m ks bs le f.3, default_more n m ks o le f.4)
+    fine_more n m ks (Case p bs o) le f =
+        (f.0, f.1, f.2, branches_more n m ks bs le f.3, default_more n m ks o le f.4)
 
-    branches_more : (n m : ℕ) (ks : List ℕ) (bs : Branches) → n ≤ m → FineBranches n ks bs → FineBranches m ks bs
+    branches_more : (n m : ℕ) (ks : List ℕ) (bs : Branches) → n ≤ m → FineBranches n ks bs
+        → FineBranches m ks bs
     branches_more n m ks NoBranch le f = tt
-    branches_more n m ks (AndBranch h ps t bs) le f = (f.0, f.1, f.2, below_more n m ps le f.3, fine_more n m (ps ++ ks) t le f.4, branches_more n m ks bs le f.5)
+    branches_more n m ks (AndBranch h ps t bs) le f
+        = (
+          f.0,
+          f.1,
+          f.2,
+          below_more n m ps le f.3,
+          fine_more n m (ps ++ ks) t le f.4,
+          branches_more n m ks bs le f.5,
+        )
 
-    default_more : (n m : ℕ) (ks : List ℕ) (o : Default) → n ≤ m → FineDefault n ks o → FineDefault m ks o
+    default_more : (n m : ℕ) (ks : List ℕ) (o : Default) → n ≤ m → FineDefault n ks o
+        → FineDefault m ks o
     default_more n m ks NoDefault le f = tt
     default_more n m ks (ATree t) le f = fine_more n m ks t le f
 
@@ -422,7 +542,8 @@ module _ (c : Source) where
     old : (l : Leaf) → In l (leaves t) → In l (leaves u.0)
     leaf : In (leaf_of r) (leaves u.0)
 
-  record SownIn (n : ℕ) (ks : List ℕ) (r : Row) (h : Head) (bs : Branches) (v : Branches × ℕ) : Type 0 where
+  record SownIn (n : ℕ) (ks : List ℕ) (r : Row) (h : Head) (bs : Branches) (v : Branches × ℕ)
+      : Type 0 where
     fine : FineBranches v.1 ks v.0
     more : n ≤ v.1
     kept : (p x : ℕ) → branches_bind p x bs ≡ false → branches_bind p x v.0 ≡ false
@@ -440,11 +561,13 @@ module _ (c : Source) where
       new : AllOf (λ q. NotIn q ks) (places_from n (fields_of pat))
       below : AllOf (λ q. q < n + count (fields_of pat)) (places_from n (fields_of pat))
       under : AllOf (λ q. q < n + count (fields_of pat)) (places_from n (fields_of pat) ++ ks)
-      comes : Comes (places_from n (fields_of pat) ++ ks) (opened r pat (places_from n (fields_of pat)))
+      comes : Comes (places_from n (fields_of pat) ++ ks)
+          (opened r pat (places_from n (fields_of pat)))
       past : (q : ℕ) → q < n → NotIn q (places_from n (fields_of pat))
       leaf : leaf_of (opened r pat (places_from n (fields_of pat))) ≡ leaf_of r
 
-    opens : (n : ℕ) (ks : List ℕ) (p : ℕ) (r : Row) (pat : Pat) (h : Head) → AllOf (λ q. q < n) ks → test_at p r.jobs ≡ Some pat → head_of pat ≡ Some h → Comes ks r → Opened n ks p r pat h
+    opens : (n : ℕ) (ks : List ℕ) (p : ℕ) (r : Row) (pat : Pat) (h : Head) → AllOf (λ q. q < n) ks
+        → test_at p r.jobs ≡ Some pat → head_of pat ≡ Some h → Comes ks r → Opened n ks p r pat h
     opens n ks p r pat h low t e w =
         let k : ℕ = count (fields_of pat) in
         let ps : List ℕ = places_from n (fields_of pat) in
@@ -456,36 +579,60 @@ module _ (c : Source) where
           differ = numbers_differ n k;
           new = new;
           below = numbers_below n k;
-          under = all_append (λ q. q < n + k) ps ks (numbers_below n k) (below_more n (n + k) ks (omega arith) low);
+          under = all_append (λ q. q < n + k) ps ks (numbers_below n k)
+              (below_more n (n + k) ks (omega arith) low);
           comes = opened_comes ks p r pat h ps t e len (numbers_differ n k) new w;
-          past = λ q lt i. let le : n ≤ q = all_of (λ q. n ≤ q) ps (numbers_above n k) i in omega (arith, le, lt);
+          past = λ q lt i. let le : n ≤ q = all_of (λ q. n ≤ q) ps (numbers_above n k) i
+              in omega (arith, le, lt);
           leaf = opened_leaf p r pat h ps t e len;
         }
 
-    one_case : (n : ℕ) (ks : List ℕ) (p : ℕ) (r : Row) (pat : Pat) (h : Head) (t : Tree × ℕ) → AllOf (λ q. q < n) ks → In p ks → test_at p r.jobs ≡ Some pat → Comes ks r → Opened n ks p r pat h
-        → Alone (n + count (fields_of pat)) (places_from n (fields_of pat) ++ ks) (opened r pat (places_from n (fields_of pat))) t → Alone n ks r (one_branch p h (places_from n (fields_of pat)) t)
+    one_case : (n : ℕ) (ks : List ℕ) (p : ℕ) (r : Row) (pat : Pat) (h : Head) (t : Tree × ℕ)
+        → AllOf (λ q. q < n) ks → In p ks → test_at p r.jobs ≡ Some pat → Comes ks r
+        → Opened n ks p r pat h
+        → Alone (n + count (fields_of pat)) (places_from n (fields_of pat) ++ ks)
+        (opened r pat (places_from n (fields_of pat))) t
+        → Alone n ks r (one_branch p h (places_from n (fields_of pat)) t)
     one_case n ks p r pat h t low i test w o a =
         let k : ℕ = count (fields_of pat) in
         let ps : List ℕ = places_from n (fields_of pat) in
         let le : n + k ≤ t.1 = a.more in
         let lt : p < n = all_of (λ q. q < n) ks low i in
-        let only : (q x : ℕ) → q < n → NotIn q (places_of (opened r pat ps)) → branches_bind q x (AndBranch h ps t.0 NoBranch) ≡ false = λ q x l m. and_kept true (all_bind q x t.0) (all_bind q x t.0 && true) (λ f. ap (λ b. b && true) f) (a.free q x (omega (arith, l)) m) in
+        let only : (q x : ℕ) → q < n → NotIn q (places_of (opened r pat ps))
+        → branches_bind q x (AndBranch h ps t.0 NoBranch) ≡ false
+        = λ q x l m. and_kept true (all_bind q x t.0) (all_bind q x t.0 && true)
+        (λ f. ap (λ b. b && true) f) (a.free q x (omega (arith, l)) m) in
         record {
-          fine = (i, (λ x. only p x lt (opened_past ks p r pat ps test o.count_is (o.past p lt) w)), (tt, tt), (o.suits, o.differ, o.new, below_more (n + k) t.1 ps le o.below, a.fine, tt), tt);
+          fine = (
+            i,
+            (λ x. only p x lt (opened_past ks p r pat ps test o.count_is (o.past p lt) w)),
+            (tt, tt),
+            (o.suits, o.differ, o.new, below_more (n + k) t.1 ps le o.below, a.fine, tt),
+            tt,
+          );
           more = omega (arith, le);
-          free = λ q x l m. ap (λ b. b && true) (only q x l (opened_other p q r pat ps test o.count_is (o.past q l) m));
-          leaf = in_left (leaves t.0 ++ []) [] (in_left (leaves t.0) [] (subst (λ w. In w (leaves t.0)) o.leaf a.leaf));
+          free = λ q x l m. ap (λ b. b && true)
+              (only q x l (opened_other p q r pat ps test o.count_is (o.past q l) m));
+          leaf = in_left (leaves t.0 ++ []) []
+              (in_left (leaves t.0) [] (subst (λ w. In w (leaves t.0)) o.leaf a.leaf));
         }
 
-    body_alone : (n : ℕ) (ks : List ℕ) (body : Expr) (bound : List (Binder × ℕ)) → Comes ks (row body bound []) → Alone n ks (row body bound []) (Body (row body bound []), n)
+    body_alone : (n : ℕ) (ks : List ℕ) (body : Expr) (bound : List (Binder × ℕ))
+        → Comes ks (row body bound []) → Alone n ks (row body bound [])
+        (Body (row body bound []), n)
     body_alone n ks body bound w = record {
       fine = (w, refl);
       more = omega arith;
-      free = λ p x lt m. ap (is_name x) (unbound_at p bound (λ i. m (in_left (bound_places bound) [] i)));
-      leaf = subst (λ (w : List Binder). In {X = Leaf} (body, w) ((body, bound_names bound) ∷ [])) (sym (append_nil (bound_names bound))) here;
+      free = λ p x lt m. ap (is_name x)
+          (unbound_at p bound (λ i. m (in_left (bound_places bound) [] i)));
+      leaf = subst (λ (w : List Binder). In {X = Leaf} (body, w) ((body, bound_names bound) ∷ []))
+          (sym (append_nil (bound_names bound))) here;
     }
 
-    alone_fine : (k n : ℕ) (ks : List ℕ) (body : Expr) (bound : List (Binder × ℕ)) (js : List PendingPattern) → AllOf (λ q. q < n) ks → BeginsWithTest js → tests_left js ≤ k → Comes ks (row body bound js) → Alone n ks (row body bound js) (alone k n (row body bound js))
+    alone_fine : (k n : ℕ) (ks : List ℕ) (body : Expr) (bound : List (Binder × ℕ))
+        (js : List PendingPattern) → AllOf (λ q. q < n) ks → BeginsWithTest js → tests_left js ≤ k
+        → Comes ks (row body bound js) → Alone n ks (row body bound js)
+        (alone k n (row body bound js))
     alone_fine zero n ks body bound [] low s l w = body_alone n ks body bound w
     alone_fine zero n ks body bound (j ∷ js) low s l w = absurd (no_tests j js s.0 s.1 l)
     alone_fine (suc k) n ks body bound [] low s l w = body_alone n ks body bound w
@@ -495,36 +642,53 @@ module _ (c : Source) where
         let next : Row = opened r j.1 ps in
         let test = first_test j js in
         let o = opens n ks j.0 r j.1 s.0 low test s.1 w in
-        let inner = alone_fine k (n + count (fields_of j.1)) (ps ++ ks) next.body next.bound next.jobs o.under (settled_is body bound (pending_patterns_at ps (fields_of j.1) ++ js)) (fewer body bound j js ps s.0 k s.1 l) o.comes in
-        let i : In j.0 ks = (back_all (λ q. In q ks) (bound_places bound) (j.0 ∷ job_places js) w.known).0 in
-        subst (λ g. Alone n ks r (by_head (Body r, n) (λ h. one_branch j.0 h ps (alone k (n + count (fields_of j.1)) next)) g)) (sym s.1)
-        (one_case n ks j.0 r j.1 s.0 (alone k (n + count (fields_of j.1)) next) low i test w o inner)
+        let inner = alone_fine k (n + count (fields_of j.1)) (ps ++ ks) next.body next.bound
+        next.jobs o.under (settled_is body bound (pending_patterns_at ps (fields_of j.1) ++ js))
+        (fewer body bound j js ps s.0 k s.1 l) o.comes in
+        let i : In j.0 ks =
+        (back_all (λ q. In q ks) (bound_places bound) (j.0 ∷ job_places js) w.known).0 in
+        subst (λ g. Alone n ks r
+        (by_head (Body r, n)
+        (λ h. one_branch j.0 h ps (alone k (n + count (fields_of j.1)) next)) g)) (sym s.1)
+        (one_case n ks j.0 r j.1 s.0 (alone k (n + count (fields_of j.1)) next) low i test w o
+        inner)
 
-    alone_sown : (n : ℕ) (ks : List ℕ) (r : Row) → AllOf (λ q. q < n) ks → BeginsWithTest r.jobs → Comes ks r → Alone n ks r (alone_from n r)
-    alone_sown n ks r low s w = alone_fine (tests_left r.jobs) n ks r.body r.bound r.jobs low s (omega arith) w
+    alone_sown : (n : ℕ) (ks : List ℕ) (r : Row) → AllOf (λ q. q < n) ks → BeginsWithTest r.jobs
+        → Comes ks r → Alone n ks r (alone_from n r)
+    alone_sown n ks r low s w = alone_fine (tests_left r.jobs) n ks r.body r.bound r.jobs low s
+        (omega arith) w
 
-    sown_default : (n : ℕ) (ks : List ℕ) (p : ℕ) (bs : Branches) (t : Tree) (r : Row) (o : Option (Tree × ℕ)) (u : Tree × ℕ) → Fine n ks (Case p bs (ATree t)) → in_default p bs o ≡ Some u → ((v : Tree × ℕ) → o ≡ Some v → Sown n ks r t v) → Sown n ks r (Case p bs (ATree t)) u
+    sown_default : (n : ℕ) (ks : List ℕ) (p : ℕ) (bs : Branches) (t : Tree) (r : Row)
+        (o : Option (Tree × ℕ)) (u : Tree × ℕ) → Fine n ks (Case p bs (ATree t))
+        → in_default p bs o ≡ Some u → ((v : Tree × ℕ) → o ≡ Some v → Sown n ks r t v)
+        → Sown n ks r (Case p bs (ATree t)) u
     sown_default n ks p bs t r None u f e ih = absurd cc
     sown_default n ks p bs t r (Some v) u f e ih =
         let s = ih v refl in
-        subst (Sown n ks r (Case p bs (ATree t))) (some_is (Case p bs (ATree v.0), v.1) u e) (record {
+        subst (Sown n ks r (Case p bs (ATree t))) (some_is (Case p bs (ATree v.0), v.1) u e)
+        (record {
           fine = (f.0, f.1, f.2, branches_more n v.1 ks bs s.more f.3, s.fine);
           more = s.more;
-          kept = λ q x h. and_kept (branches_bind q x bs) (all_bind q x t) (all_bind q x v.0) (s.kept q x) h;
+          kept = λ q x h. and_kept (branches_bind q x bs) (all_bind q x t) (all_bind q x v.0)
+              (s.kept q x) h;
           old = λ l i. either_side (leaves_in bs) (leaves t) (leaves v.0) l (s.old l) i;
           leaf = in_right (leaves_in bs) (leaves v.0) s.leaf;
         })
 
-    sown_new : (n : ℕ) (ks : List ℕ) (p : ℕ) (bs : Branches) (r : Row) (room : ℕ) (u : Tree × ℕ) → Fine n ks (Case p bs NoDefault) → AllOf (λ q. q < n) ks → BeginsWithTest r.jobs → Comes ks r → or_default room p bs n r None ≡ Some u → Sown n ks r (Case p bs NoDefault) u
+    sown_new : (n : ℕ) (ks : List ℕ) (p : ℕ) (bs : Branches) (r : Row) (room : ℕ) (u : Tree × ℕ)
+        → Fine n ks (Case p bs NoDefault) → AllOf (λ q. q < n) ks → BeginsWithTest r.jobs
+        → Comes ks r → or_default room p bs n r None ≡ Some u → Sown n ks r (Case p bs NoDefault) u
     sown_new n ks p bs r zero u f low s w e = absurd cc
     sown_new n ks p bs r (suc room) u f low s w e = go (branches_fail bs) e
       where
-        go : (b : Bool) → cond b None (in_default p bs (Some (alone_from n r))) ≡ Some u → Sown n ks r (Case p bs NoDefault) u
+        go : (b : Bool) → cond b None (in_default p bs (Some (alone_from n r))) ≡ Some u
+            → Sown n ks r (Case p bs NoDefault) u
         go true e = absurd cc
         go false e =
             let t : Tree × ℕ = alone_from n r in
             let a = alone_sown n ks r low s w in
-            subst (Sown n ks r (Case p bs NoDefault)) (some_is (Case p bs (ATree t.0), t.1) u e) (record {
+            subst (Sown n ks r (Case p bs NoDefault)) (some_is (Case p bs (ATree t.0), t.1) u e)
+            (record {
               fine = (f.0, f.1, f.2, branches_more n t.1 ks bs a.more f.3, a.fine);
               more = a.more;
               kept = λ q x h. and_less (branches_bind q x bs) (all_bind q x t.0) h;
@@ -532,56 +696,96 @@ module _ (c : Source) where
               leaf = in_right (leaves_in bs) (leaves t.0) a.leaf;
             })
 
-    sown_case : (n : ℕ) (ks : List ℕ) (p : ℕ) (bs : Branches) (r : Row) (room : ℕ) (o : Option (Branches × ℕ)) (u : Tree × ℕ) → Fine n ks (Case p bs NoDefault) → AllOf (λ q. q < n) ks → BeginsWithTest r.jobs → Comes ks r → or_default room p bs n r o ≡ Some u
-        → ((v : Branches × ℕ) → o ≡ Some v → (h : Head) × AllKind h bs × SownIn n ks r h bs v) → Sown n ks r (Case p bs NoDefault) u
+    sown_case : (n : ℕ) (ks : List ℕ) (p : ℕ) (bs : Branches) (r : Row) (room : ℕ)
+        (o : Option (Branches × ℕ)) (u : Tree × ℕ) → Fine n ks (Case p bs NoDefault)
+        → AllOf (λ q. q < n) ks → BeginsWithTest r.jobs → Comes ks r
+        → or_default room p bs n r o ≡ Some u
+        → ((v : Branches × ℕ) → o ≡ Some v → (h : Head) × AllKind h bs × SownIn n ks r h bs v)
+        → Sown n ks r (Case p bs NoDefault) u
     sown_case n ks p bs r room None u f low s w e ih = sown_new n ks p bs r room u f low s w e
     sown_case n ks p bs r room (Some v) u f low s w e ih =
         let i = ih v refl in
         let g = i.2 in
-        subst (Sown n ks r (Case p bs NoDefault)) (some_is (Case p v.0 NoDefault, v.1) u e) (record {
+        subst (Sown n ks r (Case p bs NoDefault)) (some_is (Case p v.0 NoDefault, v.1) u e)
+        (record {
           fine = (f.0, (λ x. g.kept p x (f.1 x)), g.each f.2 i.1, g.fine, tt);
           more = g.more;
-          kept = λ q x h. and_both (branches_bind q x bs) (branches_bind q x v.0) true true (g.kept q x) (λ z. z) h;
+          kept = λ q x h. and_both (branches_bind q x bs) (branches_bind q x v.0) true true
+              (g.kept q x) (λ z. z) h;
           old = λ l k. other_side (leaves_in bs) (leaves_in v.0) [] l (g.old l) k;
           leaf = in_left (leaves_in v.0) [] g.leaf;
         })
 
-    sown_branch : (n : ℕ) (ks : List ℕ) (g h : Head) (ps : List ℕ) (t : Tree) (bs : Branches) (r w : Row) → leaf_of w ≡ leaf_of r → (o : Option (Tree × ℕ)) (v : Branches × ℕ) → FineBranches n ks (AndBranch g ps t bs) → in_branch g ps bs o ≡ Some v → ((x : Tree × ℕ) → o ≡ Some x → Sown n (ps ++ ks) w t x)
+    sown_branch : (n : ℕ) (ks : List ℕ) (g h : Head) (ps : List ℕ) (t : Tree) (bs : Branches)
+        (r w : Row) → leaf_of w ≡ leaf_of r → (o : Option (Tree × ℕ)) (v : Branches × ℕ)
+        → FineBranches n ks (AndBranch g ps t bs) → in_branch g ps bs o ≡ Some v
+        → ((x : Tree × ℕ) → o ≡ Some x → Sown n (ps ++ ks) w t x)
         → SownIn n ks r h (AndBranch g ps t bs) v
     sown_branch n ks g h ps t bs r w same None v f e ih = absurd cc
     sown_branch n ks g h ps t bs r w same (Some x) v f e ih =
         let s = ih x refl in
-        subst (SownIn n ks r h (AndBranch g ps t bs)) (some_is (AndBranch g ps x.0 bs, x.1) v e) (record {
-          fine = (f.0, f.1, f.2, below_more n x.1 ps s.more f.3, s.fine, branches_more n x.1 ks bs s.more f.5);
+        subst (SownIn n ks r h (AndBranch g ps t bs)) (some_is (AndBranch g ps x.0 bs, x.1) v e)
+        (record {
+          fine = (
+            f.0,
+            f.1,
+            f.2,
+            below_more n x.1 ps s.more f.3,
+            s.fine,
+            branches_more n x.1 ks bs s.more f.5,
+          );
           more = s.more;
-          kept = λ q y z. and_both (all_bind q y t) (all_bind q y x.0) (branches_bind q y bs) (branches_bind q y bs) (s.kept q y) (λ w. w) z;
+          kept = λ q y z. and_both (all_bind q y t) (all_bind q y x.0) (branches_bind q y bs)
+              (branches_bind q y bs) (s.kept q y) (λ w. w) z;
           beside = λ k a b. a;
           each = λ e k. e;
           old = λ l i. other_side (leaves t) (leaves x.0) (leaves_in bs) l (s.old l) i;
           leaf = in_left (leaves x.0) (leaves_in bs) (subst (λ z. In z (leaves x.0)) same s.leaf);
         })
 
-    sown_later : (n : ℕ) (ks : List ℕ) (g h : Head) (ps : List ℕ) (t : Tree) (bs : Branches) (r : Row) (o : Option (Branches × ℕ)) (v : Branches × ℕ) → same_head g h ≡ false → FineBranches n ks (AndBranch g ps t bs) → in_later g ps t o ≡ Some v → ((x : Branches × ℕ) → o ≡ Some x → SownIn n ks r h bs x)
+    sown_later : (n : ℕ) (ks : List ℕ) (g h : Head) (ps : List ℕ) (t : Tree) (bs : Branches)
+        (r : Row) (o : Option (Branches × ℕ)) (v : Branches × ℕ) → same_head g h ≡ false
+        → FineBranches n ks (AndBranch g ps t bs) → in_later g ps t o ≡ Some v
+        → ((x : Branches × ℕ) → o ≡ Some x → SownIn n ks r h bs x)
         → SownIn n ks r h (AndBranch g ps t bs) v
     sown_later n ks g h ps t bs r None v m f e ih = absurd cc
     sown_later n ks g h ps t bs r (Some x) v m f e ih =
         let s = ih x refl in
-        subst (SownIn n ks r h (AndBranch g ps t bs)) (some_is (AndBranch g ps t x.0, x.1) v e) (record {
-          fine = (f.0, f.1, f.2, below_more n x.1 ps s.more f.3, fine_more n x.1 (ps ++ ks) t s.more f.4, s.fine);
+        subst (SownIn n ks r h (AndBranch g ps t bs)) (some_is (AndBranch g ps t x.0, x.1) v e)
+        (record {
+          fine = (
+            f.0,
+            f.1,
+            f.2,
+            below_more n x.1 ps s.more f.3,
+            fine_more n x.1 (ps ++ ks) t s.more f.4,
+            s.fine,
+          );
           more = s.more;
-          kept = λ q y z. and_kept (all_bind q y t) (branches_bind q y bs) (branches_bind q y x.0) (s.kept q y) z;
+          kept = λ q y z. and_kept (all_bind q y t) (branches_bind q y bs) (branches_bind q y x.0)
+              (s.kept q y) z;
           beside = λ k a b. (a.0, s.beside k a.1 b);
           each = λ a k. (s.beside g a.0 (m, k.0), s.each a.1 k.1);
           old = λ l i. either_side (leaves t) (leaves_in bs) (leaves_in x.0) l (s.old l) i;
           leaf = in_right (leaves t) (leaves_in x.0) s.leaf;
         })
 
-    sown_first : (n : ℕ) (ks : List ℕ) (p : ℕ) (r : Row) (pat : Pat) (h : Head) (t : Tree × ℕ) → Opened n ks p r pat h → Alone (n + count (fields_of pat)) (places_from n (fields_of pat) ++ ks) (opened r pat (places_from n (fields_of pat))) t
+    sown_first : (n : ℕ) (ks : List ℕ) (p : ℕ) (r : Row) (pat : Pat) (h : Head) (t : Tree × ℕ)
+        → Opened n ks p r pat h → Alone (n + count (fields_of pat))
+        (places_from n (fields_of pat) ++ ks) (opened r pat (places_from n (fields_of pat))) t
         → SownIn n ks r h NoBranch (new_branch h (places_from n (fields_of pat)) t)
     sown_first n ks p r pat h t o a =
         let le : n + count (fields_of pat) ≤ t.1 = a.more in
         record {
-          fine = (o.suits, o.differ, o.new, below_more (n + count (fields_of pat)) t.1 (places_from n (fields_of pat)) le o.below, a.fine, tt);
+          fine = (
+            o.suits,
+            o.differ,
+            o.new,
+            below_more (n + count (fields_of pat)) t.1
+                (places_from n (fields_of pat)) le o.below,
+            a.fine,
+            tt,
+          );
           more = omega (arith, le);
           kept = λ q x e. absurd cc;
           beside = λ g a b. (b, tt);
@@ -591,31 +795,57 @@ module _ (c : Source) where
         }
 
     mutual
-      sown : (room : ℕ) (t : Tree) (n : ℕ) (r : Row) (ks : List ℕ) → AllOf (λ q. q < n) ks → BeginsWithTest r.jobs → Fine n ks t → Comes ks r → (u : Tree × ℕ) → insert room t n r ≡ Some u → Sown n ks r t u
+      sown : (room : ℕ) (t : Tree) (n : ℕ) (r : Row) (ks : List ℕ) → AllOf (λ q. q < n) ks
+          → BeginsWithTest r.jobs → Fine n ks t → Comes ks r → (u : Tree × ℕ)
+          → insert room t n r ≡ Some u → Sown n ks r t u
       sown room (Body q) n r ks low s f w u e = absurd cc
-      sown room (Case p bs (ATree t)) n r ks low s f w u e = sown_default n ks p bs t r (insert (pred room) t n r) u f e (λ v i. sown (pred room) t n r ks low s f.4 w v i)
+      sown room (Case p bs (ATree t)) n r ks low s f w u e
+          = sown_default n ks p bs t r (insert (pred room) t n r) u f e
+          (λ v i. sown (pred room) t n r ks low s f.4 w v i)
       sown room (Case p bs NoDefault) n r ks low s f w u e =
-          sown_case n ks p bs r (pred room) (at_test (λ pat. at_pat (λ h. at_head (insert_branch pat h bs n r) (fits h bs)) (head_of pat)) (test_at p r.jobs)) u f low s w e
-          (λ v i. by_test ((h : Head) × AllKind h bs × SownIn n ks r h bs v) p bs n r v (λ pat h test head fit g. (h, all_fit h bs f.2 fit, sown_in pat h bs n r p ks low test head f.3 w v g)) (test_at p r.jobs) refl i)
+          sown_case n ks p bs r (pred room)
+          (at_test (λ pat. at_pat (λ h. at_head (insert_branch pat h bs n r) (fits h bs))
+          (head_of pat)) (test_at p r.jobs)) u f low s w e
+          (λ v i. by_test ((h : Head) × AllKind h bs × SownIn n ks r h bs v) p bs n r v
+          (λ pat h test head fit g.
+          (h, all_fit h bs f.2 fit, sown_in pat h bs n r p ks low test head f.3 w v g))
+          (test_at p r.jobs) refl i)
 
-      sown_in : (pat : Pat) (h : Head) (bs : Branches) (n : ℕ) (r : Row) (p : ℕ) (ks : List ℕ) → AllOf (λ q. q < n) ks → test_at p r.jobs ≡ Some pat → head_of pat ≡ Some h → FineBranches n ks bs → Comes ks r → (v : Branches × ℕ) → insert_branch pat h bs n r ≡ Some v → SownIn n ks r h bs v
+      sown_in : (pat : Pat) (h : Head) (bs : Branches) (n : ℕ) (r : Row) (p : ℕ) (ks : List ℕ)
+          → AllOf (λ q. q < n) ks → test_at p r.jobs ≡ Some pat → head_of pat ≡ Some h
+          → FineBranches n ks bs → Comes ks r → (v : Branches × ℕ)
+          → insert_branch pat h bs n r ≡ Some v → SownIn n ks r h bs v
       sown_in pat h NoBranch n r p ks low test head f w v e =
           let ps : List ℕ = places_from n (fields_of pat) in
           let o = opens n ks p r pat h low test head w in
           let next : Row = opened r pat ps in
-          let a = alone_sown (n + count (fields_of pat)) (ps ++ ks) next o.under (settled_is r.body r.bound (pending_patterns_at ps (fields_of pat) ++ later r.jobs)) o.comes in
-          subst (SownIn n ks r h NoBranch) (some_is (new_branch h ps (alone_from (n + count (fields_of pat)) next)) v e) (sown_first n ks p r pat h (alone_from (n + count (fields_of pat)) next) o a)
-      sown_in pat h (AndBranch g ps t bs) n r p ks low test head f w v e = elim (two_ways (same_head g h)) [
-        | inl y ↦
-            let len : length ps ≡ count (fields_of pat) = suits_same g h (length ps) (count (fields_of pat)) y f.0 (test_suits unbroken ks p r pat h test head w) in
-            sown_branch n ks g h ps t bs r (opened r pat ps) (opened_leaf p r pat h ps test head len) (insert max_chained_cases t n (opened r pat ps)) v f
-            (ap (branch_by (in_branch g ps bs (insert max_chained_cases t n (opened r pat ps))) (in_later g ps t (insert_branch pat h bs n r))) (sym y) ∙ e)
-            (λ x i. sown max_chained_cases t n (opened r pat ps) (ps ++ ks) (all_append (λ q. q < n) ps ks f.3 low) (settled_is r.body r.bound (pending_patterns_at ps (fields_of pat) ++ later r.jobs)) f.4 (opened_comes ks p r pat h ps test head len f.1 f.2 w) x i)
-        | inr m ↦
-            sown_later n ks g h ps t bs r (insert_branch pat h bs n r) v m f
-            (ap (branch_by (in_branch g ps bs (insert max_chained_cases t n (opened r pat ps))) (in_later g ps t (insert_branch pat h bs n r))) (sym m) ∙ e)
-            (λ x i. sown_in pat h bs n r p ks low test head f.5 w x i)
-      ]
+          let a = alone_sown (n + count (fields_of pat)) (ps ++ ks) next o.under
+          (settled_is r.body r.bound (pending_patterns_at ps (fields_of pat) ++ later r.jobs))
+          o.comes in
+          subst (SownIn n ks r h NoBranch)
+          (some_is (new_branch h ps (alone_from (n + count (fields_of pat)) next)) v e)
+          (sown_first n ks p r pat h (alone_from (n + count (fields_of pat)) next) o a)
+      sown_in pat h (AndBranch g ps t bs) n r p ks low test head f w v e
+          = elim (two_ways (same_head g h)) [
+            | inl y ↦
+                let len : length ps ≡ count (fields_of pat)
+                = suits_same g h (length ps) (count (fields_of pat)) y f.0
+                (test_suits unbroken ks p r pat h test head w) in
+                sown_branch n ks g h ps t bs r (opened r pat ps)
+                (opened_leaf p r pat h ps test head len)
+                (insert max_chained_cases t n (opened r pat ps)) v f
+                (ap (branch_by (in_branch g ps bs (insert max_chained_cases t n (opened r pat ps)))
+                (in_later g ps t (insert_branch pat h bs n r))) (sym y) ∙ e)
+                (λ x i. sown max_chained_cases t n (opened r pat ps) (ps ++ ks)
+                (all_append (λ q. q < n) ps ks f.3 low)
+                (settled_is r.body r.bound (pending_patterns_at ps (fields_of pat) ++ later r.jobs))
+                f.4 (opened_comes ks p r pat h ps test head len f.1 f.2 w) x i)
+            | inr m ↦
+                sown_later n ks g h ps t bs r (insert_branch pat h bs n r) v m f
+                (ap (branch_by (in_branch g ps bs (insert max_chained_cases t n (opened r pat ps)))
+                (in_later g ps t (insert_branch pat h bs n r))) (sym m) ∙ e)
+                (λ x i. sown_in pat h bs n r p ks low test head f.5 w x i)
+          ]
 
     -- ---- the trees of the text
 
@@ -654,86 +884,135 @@ module _ (c : Source) where
 
   module _ (unbroken : (k at : ℕ) → Broken c k at → ⊥) where
     params_low : (n m : ℕ) → n ≤ m → AllOf (λ q. q < m) (numbers_from 0 n)
-    params_low n m le = all_are (λ q. q < 0 + n) (λ q. q < m) (λ q lt. omega (arith, lt, le)) (numbers_from 0 n) (numbers_below 0 n)
+    params_low n m le = all_are (λ q. q < 0 + n) (λ q. q < m) (λ q lt. omega (arith, lt, le))
+        (numbers_from 0 n) (numbers_below 0 n)
 
     begun_stood : (k : ℕ) (e : Equation) → In e c.equations → Stood (begun k e)
     begun_stood k e i =
         let n : ℕ = count e.pats in
-        let a = alone_sown unbroken n (numbers_from 0 n) (row_of e) (params_low n n (omega arith)) (settled_is e.body [] (pending_patterns_at (places_from 0 e.pats) e.pats)) (row_comes unbroken e i) in
+        let a = alone_sown unbroken n (numbers_from 0 n) (row_of e) (params_low n n (omega arith))
+        (settled_is e.body [] (pending_patterns_at (places_from 0 e.pats) e.pats))
+        (row_comes unbroken e i) in
         record { first = e; is_in = i; name = refl; params = refl; low = a.more; fine = a.fine }
 
-    equation_sown : (d : Decision) (e : Equation) (t : Tree × ℕ) → Stood d → In e c.equations → count e.pats ≡ d.params → insert max_chained_cases d.tree d.free (row_of e) ≡ Some t → Sown d.free (numbers_from 0 d.params) (row_of e) d.tree t
+    equation_sown : (d : Decision) (e : Equation) (t : Tree × ℕ) → Stood d → In e c.equations
+        → count e.pats ≡ d.params → insert max_chained_cases d.tree d.free (row_of e) ≡ Some t
+        → Sown d.free (numbers_from 0 d.params) (row_of e) d.tree t
     equation_sown d e t s i n q =
-        let w : Comes (numbers_from 0 d.params) (row_of e) = subst (λ n. Comes (numbers_from 0 n) (row_of e)) n (row_comes unbroken e i) in
-        sown unbroken max_chained_cases d.tree d.free (row_of e) (numbers_from 0 d.params) (params_low d.params d.free s.low) (settled_is e.body [] (pending_patterns_at (places_from 0 e.pats) e.pats)) s.fine w t q
+        let w : Comes (numbers_from 0 d.params) (row_of e)
+        = subst (λ n. Comes (numbers_from 0 n) (row_of e)) n (row_comes unbroken e i) in
+        sown unbroken max_chained_cases d.tree d.free (row_of e) (numbers_from 0 d.params)
+        (params_low d.params d.free s.low)
+        (settled_is e.body [] (pending_patterns_at (places_from 0 e.pats) e.pats)) s.fine w t q
 
-    grown_stood : (d : Decision) (e : Equation) (t : Tree × ℕ) → Stood d → In e c.equations → count e.pats ≡ d.params → insert max_chained_cases d.tree d.free (row_of e) ≡ Some t → Stood (grown d t)
+    grown_stood : (d : Decision) (e : Equation) (t : Tree × ℕ) → Stood d → In e c.equations
+        → count e.pats ≡ d.params → insert max_chained_cases d.tree d.free (row_of e) ≡ Some t
+        → Stood (grown d t)
     grown_stood d e t s i n q =
         let le : d.params ≤ d.free = s.low in
         let g = equation_sown d e t s i n q in
         let more : d.free ≤ t.1 = g.more in
-        record { first = s.first; is_in = s.is_in; name = s.name; params = s.params; low = omega (arith, le, more); fine = g.fine }
+        record {
+          first = s.first;
+          is_in = s.is_in;
+          name = s.name;
+          params = s.params;
+          low
+              = omega (arith, le, more);
+          fine = g.fine;
+        }
 
     -- an equation of the text with so many patterns
     abbrev pub Takes : ℕ → Equation → Type 0
     Takes n e = In e c.equations × (count e.pats ≡ n)
 
-    decided_stood : (d : Decision) (k : ℕ) (es : List Equation) → Stood d → AllOf (Takes d.params) es → AllOf Stood (decided d k es)
+    decided_stood : (d : Decision) (k : ℕ) (es : List Equation) → Stood d
+        → AllOf (Takes d.params) es → AllOf Stood (decided d k es)
     decided_stood d k [] s h = (s, tt)
     decided_stood d k (e ∷ es) s h =
         by_insert (AllOf Stood) d k e es (insert max_chained_cases d.tree d.free (row_of e))
-        (λ t i. decided_stood (grown d t) (suc k) es (grown_stood d e t s h.0.0 h.0.1 i) h.1)
-        (s, decided_stood (begun k e) (suc k) es (begun_stood k e h.0.0) (all_are (Takes d.params) (Takes (count e.pats)) (λ f g. (g.0, g.1 ∙ sym h.0.1)) es h.1))
+        (λ t i. decided_stood (grown d t) (suc k) es (grown_stood d e t s h.0.0 h.0.1 i) h.1) (
+          s,
+          decided_stood (begun k e) (suc k) es (begun_stood k e h.0.0)
+              (all_are (Takes d.params) (Takes (count e.pats)) (λ f g. (g.0, g.1 ∙ sym h.0.1)) es
+              h.1),
+        )
 
-    begun_leaf : (k : ℕ) (e : Equation) → In e c.equations → In (e.body, names_of e.pats) (leaves (begun k e).tree)
+    begun_leaf : (k : ℕ) (e : Equation) → In e c.equations
+        → In (e.body, names_of e.pats) (leaves (begun k e).tree)
     begun_leaf k e i =
         let n : ℕ = count e.pats in
-        let a = alone_sown unbroken n (numbers_from 0 n) (row_of e) (params_low n n (omega arith)) (settled_is e.body [] (pending_patterns_at (places_from 0 e.pats) e.pats)) (row_comes unbroken e i) in
+        let a = alone_sown unbroken n (numbers_from 0 n) (row_of e) (params_low n n (omega arith))
+        (settled_is e.body [] (pending_patterns_at (places_from 0 e.pats) e.pats))
+        (row_comes unbroken e i) in
         subst (λ l. In l (leaves (begun k e).tree)) (row_leaf e) a.leaf
 
     -- the leaves that there are stay, and each equation has one
-    decided_leaves : (d : Decision) (k : ℕ) (es : List Equation) → Stood d → AllOf (Takes d.params) es
-        → ((l : Leaf) → In l (leaves d.tree) → HasLeaf (decided d k es) l) × AllOf (λ e. HasLeaf (decided d k es) (e.body, names_of e.pats)) es
+    decided_leaves : (d : Decision) (k : ℕ) (es : List Equation) → Stood d
+        → AllOf (Takes d.params) es
+        → ((l : Leaf) → In l (leaves d.tree) → HasLeaf (decided d k es) l)
+        × AllOf (λ e. HasLeaf (decided d k es) (e.body, names_of e.pats)) es
     decided_leaves d k [] s h = ((λ l i. record { decision = d; is_in = here; leaf = i }), tt)
     decided_leaves d k (e ∷ es) s h =
-        by_insert (λ ds. ((l : Leaf) → In l (leaves d.tree) → HasLeaf ds l) × AllOf (λ e. HasLeaf ds (e.body, names_of e.pats)) (e ∷ es)) d k e es (insert max_chained_cases d.tree d.free (row_of e))
+        by_insert
+        (λ ds. ((l : Leaf) → In l (leaves d.tree) → HasLeaf ds l)
+        × AllOf (λ e. HasLeaf ds (e.body, names_of e.pats)) (e ∷ es)) d k e es
+        (insert max_chained_cases d.tree d.free (row_of e))
         (λ t i.
         let g = equation_sown d e t s h.0.0 h.0.1 i in
-        let r = decided_leaves (grown d t) (suc k) es (grown_stood d e t s h.0.0 h.0.1 i) h.1 in
-        ((λ l j. r.0 l (g.old l j)), (r.0 (e.body, names_of e.pats) (subst (λ l. In l (leaves t.0)) (row_leaf e) g.leaf), r.1)))
-        (let r = decided_leaves (begun k e) (suc k) es (begun_stood k e h.0.0) (all_are (Takes d.params) (Takes (count e.pats)) (λ f g. (g.0, g.1 ∙ sym h.0.1)) es h.1) in
+        let r = decided_leaves (grown d t) (suc k) es (grown_stood d e t s h.0.0 h.0.1 i) h.1 in (
+          (λ l j. r.0 l (g.old l j)),
+          (
+            r.0 (e.body, names_of e.pats) (subst (λ l. In l (leaves t.0)) (row_leaf e) g.leaf),
+            r.1,
+          ),
+        ))
+        (let r = decided_leaves (begun k e) (suc k) es (begun_stood k e h.0.0)
+        (all_are (Takes d.params) (Takes (count e.pats)) (λ f g. (g.0, g.1 ∙ sym h.0.1)) es h.1)
+        in
         let ds : List Decision = decided (begun k e) (suc k) es in (
           (λ l i. record { decision = d; is_in = here; leaf = i }),
           (
-            leaf_behind d ds (e.body, names_of e.pats) (r.0 (e.body, names_of e.pats) (begun_leaf k e h.0.0)),
-            all_are (λ (f : Equation). HasLeaf ds (f.body, names_of f.pats)) (λ (f : Equation). HasLeaf (d ∷ ds) (f.body, names_of f.pats)) (λ f x. leaf_behind d ds (f.body, names_of f.pats) x) es r.1,
+            leaf_behind d ds (e.body, names_of e.pats)
+                (r.0 (e.body, names_of e.pats) (begun_leaf k e h.0.0)),
+            all_are (λ (f : Equation). HasLeaf ds (f.body, names_of f.pats))
+                (λ (f : Equation). HasLeaf (d ∷ ds) (f.body, names_of f.pats))
+                (λ f x. leaf_behind d ds (f.body, names_of f.pats) x) es r.1,
           ),
         ))
 
     -- equations of one name with the same number of patterns
-    pub takes_all : (e : Equation) (es : List Equation) → AllOf (λ e. In e c.equations) (e ∷ es) → OneName (e ∷ es) → AllOf (Takes (count e.pats)) (e ∷ es)
+    pub takes_all : (e : Equation) (es : List Equation) → AllOf (λ e. In e c.equations) (e ∷ es)
+        → OneName (e ∷ es) → AllOf (Takes (count e.pats)) (e ∷ es)
     takes_all e es h o = ((h.0, refl), both_are es h.1 o)
       where
-        both_are : (es : List Equation) → AllOf (λ e. In e c.equations) es → AllOf (λ (f : Equation). f.name ≡ e.name) es → AllOf (Takes (count e.pats)) es
+        both_are : (es : List Equation) → AllOf (λ e. In e c.equations) es
+            → AllOf (λ (f : Equation). f.name ≡ e.name) es → AllOf (Takes (count e.pats)) es
         both_are [] i q = tt
         both_are (f ∷ es) i q = ((i.0, same_count c unbroken i.0 h.0 q.0), both_are es i.1 q.1)
 
     -- each equation of a function that is tried has a leaf in one of its trees
-    pub rows_leaves : (k : ℕ) (es : List Equation) → AllOf (λ e. In e c.equations) es → OneName es → AllOf (λ e. HasLeaf (decisions_from k (rows es)) (e.body, names_of e.pats)) (rows es)
+    pub rows_leaves : (k : ℕ) (es : List Equation) → AllOf (λ e. In e c.equations) es → OneName es
+        → AllOf (λ e. HasLeaf (decisions_from k (rows es)) (e.body, names_of e.pats)) (rows es)
     rows_leaves k [] h o = tt
     rows_leaves k (e ∷ es) h o =
         let takes = takes_all e es h o in
-        let r = decided_leaves (begun k e) (suc k) (if tests_of e.pats == 0 then [] else rows es) (begun_stood k e h.0) (rows_all (Takes (count e.pats)) (e ∷ es) takes).1 in
+        let r = decided_leaves (begun k e) (suc k) (if tests_of e.pats == 0 then [] else rows es)
+        (begun_stood k e h.0) (rows_all (Takes (count e.pats)) (e ∷ es) takes).1 in
         (r.0 (e.body, names_of e.pats) (begun_leaf k e h.0), r.1)
 
-    all_stood : (k : ℕ) (fs : List (List Equation)) → AllOf (AllOf (λ e. In e c.equations)) fs → AllOf OneName fs → AllOf (AllOf Stood) (all_decisions k fs)
+    all_stood : (k : ℕ) (fs : List (List Equation)) → AllOf (AllOf (λ e. In e c.equations)) fs
+        → AllOf OneName fs → AllOf (AllOf Stood) (all_decisions k fs)
     all_stood k [] h o = tt
     all_stood k ([] ∷ fs) h o = (tt, all_stood (k + 0) fs h.1 o.1)
     all_stood k ((e ∷ es) ∷ fs) h o =
         let takes : AllOf (Takes (count e.pats)) (e ∷ es) = takes_all e es h.0 o.0 in (
-          decided_stood (begun k e) (suc k) (if tests_of e.pats == 0 then [] else rows es) (begun_stood k e h.0.0) (rows_all (Takes (count e.pats)) (e ∷ es) takes).1,
+          decided_stood (begun k e) (suc k) (if tests_of e.pats == 0 then [] else rows es)
+              (begun_stood k e h.0.0) (rows_all (Takes (count e.pats)) (e ∷ es) takes).1,
           all_stood (k + length (e ∷ es)) fs h.1 o.1,
         )
 
     pub decisions_stood : AllOf (AllOf Stood) (decisions c)
-    decisions_stood = all_stood 0 (functions c.equations) (functions_all (λ e. In e c.equations) c.equations (all_in c.equations)) (functions_one c.equations)
+    decisions_stood = all_stood 0 (functions c.equations)
+        (functions_all (λ e. In e c.equations) c.equations (all_in c.equations))
+        (functions_one c.equations)

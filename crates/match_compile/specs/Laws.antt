@@ -14,6 +14,7 @@ use Rattle.match_compile.specs.Source.{Equation, Source}
 use Rattle.match_compile.specs.Grammar.{IsSourceText, BreaksNoReadingRule}
 use Rattle.match_compile.specs.Rules.{IsUnbroken, IsFirstBroken}
 use Rattle.match_compile.specs.Readable.{IsReadable}
+use Rattle.match_compile.specs.Premises.{BreakNoRule, IsCompilable}
 use Rattle.match_compile.specs.Sound.{IsSound}
 use Rattle.match_compile.specs.Sizes.{source_size, tests, most_equations, functions, is_simple, is_plain}
 use Rattle.match_compile.specs.Translated.{translated}
@@ -23,6 +24,7 @@ use Rattle.match_compile.specs.Within.{Within, SameWithinSameUnits}
 use Rattle.match_compile.specs.Decides.{AreServed}
 use Rattle.match_compile.specs.Decisions.{decisions_from, DecideAllEquations}
 use Rattle.match_compile.specs.OneFunction.{IsOneFunction}
+use Rattle.match_compile.specs.Translates.{AreSimple}
 use Rattle.match_compile.specs.Trees.{PendingPattern, Row, settled, Tree, IsTree, alone_from, insert}
 
 -- A text stands for the equations of one source at most.
@@ -62,20 +64,37 @@ TreesCoverEquations = (k : ℕ) (es : List Equation) → DecideAllEquations k es
 abbrev pub SizeIsBounded : Type 0
 SizeIsBounded = (c : Source) → program_size (translated c) ≤ source_size c + 16 * tests c
 
--- Equations that break no rule, of which each as a function of its own is in a program that breaks
--- none, become a program that breaks no rule but the one on its size.
+-- The equations of a text that breaks no rule can be compiled.
+abbrev pub UnbrokenIsCompilable : Type 0
+UnbrokenIsCompilable =
+    (text : List ℕ) (c : Source) → IsSourceText text c → IsUnbroken text → IsCompilable c
+
+-- Where each equation as a function of its own is in a program that breaks no rule, the program
+-- that they become breaks no rule but the one on its size.
+abbrev pub BreaksSizeAlone : Source → Type 0
+BreaksSizeAlone c = IsSound c → (k at : ℕ) → program.Broken (translated c) k at → k ≡ 35
+
+-- so do those that break no rule
+abbrev pub SourceBreaksOnlySize : Type 0
+SourceBreaksOnlySize = (c : Source) → IsReadable c → BreakNoRule c → BreaksSizeAlone c
+
+-- and those of a text that breaks none
 abbrev pub BreaksOnlySize : Type 0
-BreaksOnlySize =
-    (text : List ℕ) (c : Source) → IsSourceText text c → IsUnbroken text → IsSound c → (k at : ℕ)
-    → program.Broken (translated c) k at → k ≡ 35
+BreaksOnlySize = (text : List ℕ) (c : Source) → IsSourceText text c → IsUnbroken text → BreaksSizeAlone c
 
 -- A function that is simple, or one equation of names alone, becomes one function.
-abbrev pub SimpleStaysOneFunction : Type 0
-SimpleStaysOneFunction =
-    (text : List ℕ) (c : Source) → IsSourceText text c → IsUnbroken text
-    → (before after : List (List Equation)) (es : List Equation)
+abbrev pub KeepsSimpleWhole : Source → Type 0
+KeepsSimpleWhole c =
+    (before after : List (List Equation)) (es : List Equation)
     → functions c.equations ≡ before ++ es ∷ after → (is_simple es || is_plain es) ≡ true
     → IsOneFunction c (length before) (sum_of (map length before)) es
+
+abbrev pub SourceKeepsSimpleWhole : Type 0
+SourceKeepsSimpleWhole = (c : Source) → IsReadable c → KeepsSimpleWhole c
+
+abbrev pub SimpleStaysOneFunction : Type 0
+SimpleStaysOneFunction =
+    (text : List ℕ) (c : Source) → IsSourceText text c → IsUnbroken text → KeepsSimpleWhole c
 
 -- A program whose functions serve equations puts out what they do, and needs no more units for one
 -- of theirs than the functions that serve one function at most.
@@ -90,16 +109,23 @@ ServedInStep =
     (q : Equations) (p : normal.Program) → AreServed q 1 p
     → SameWithinSameUnits (equations_meaning q) (core_program_meaning p)
 
--- Where equations that break no rule become a program that breaks none, they have a normal form,
--- and the program puts out what they do: it needs no more units for one of theirs than the largest
--- function has equations, and the same where each function is simple, or one equation of names
--- alone.
-abbrev pub TranslationKeepsMeaning : Type 0
-TranslationKeepsMeaning =
-    (text : List ℕ) (c : Source) (p : normal.Program) → IsSourceText text c → IsUnbroken text
-    → program-text.IsReadable (translated c) → check.BreaksNoRule (translated c)
+-- Where equations become a program that breaks no rule, they have a normal form, and the program
+-- puts out what they do: it needs no more units for one of theirs than the largest function has
+-- equations, and the same where each function is simple, or one equation of names alone.
+abbrev pub KeepsMeaning : Source → normal.Program → Type 0
+KeepsMeaning c p =
+    program-text.IsReadable (translated c) → check.BreaksNoRule (translated c)
     → IsNormalForm (translated c) p
     → (q : Equations) × IsFormOf c q
     × Within (most_equations c) (equations_meaning q) (core_program_meaning p)
-    × (((es : List Equation) → In es (functions c.equations) → (is_simple es || is_plain es) ≡ true)
-    → SameWithinSameUnits (equations_meaning q) (core_program_meaning p))
+    × (AreSimple c → SameWithinSameUnits (equations_meaning q) (core_program_meaning p))
+
+-- so it is with equations that break no rule
+abbrev pub SourceKeepsMeaning : Type 0
+SourceKeepsMeaning = (c : Source) (p : normal.Program) → IsReadable c → BreakNoRule c → KeepsMeaning c p
+
+-- and with those of a text that breaks none
+abbrev pub TranslationKeepsMeaning : Type 0
+TranslationKeepsMeaning =
+    (text : List ℕ) (c : Source) (p : normal.Program) → IsSourceText text c → IsUnbroken text
+    → KeepsMeaning c p

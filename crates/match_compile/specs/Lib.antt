@@ -21,8 +21,9 @@ pub mod Renamed
 pub mod Translated
 pub mod OneFunction
 pub mod Translates
--- what holds of all equations that were read
+-- what holds of all equations that were read, and what laws ask of equations
 pub mod Readable
+pub mod Premises
 -- examples
 pub mod Examples
 -- laws

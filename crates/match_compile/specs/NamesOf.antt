@@ -1,12 +1,8 @@
--- Names that no rule reserves, and how many new ones there may be. A device of the proofs.
-use Rattle.std.specs.Prelude.{◌≢◌, ℕ, ◌<◌, ◌^◌, List, ◌++◌, codes, length}
+-- How many new names there may be. A device of the proofs.
+use Rattle.std.specs.Prelude.{ℕ, ◌<◌, ◌^◌, length}
 use Rattle.match_compile.specs.Source.{Source}
 use Rattle.match_compile.specs.Decisions.{decisions}
 use Rattle.match_compile.specs.Translated.{most_params, most_fields_of}
-
--- the name does not begin with `match'`
-abbrev pub IsUnreservedName : List ℕ → Type 0
-IsUnreservedName w = (rest : List ℕ) → w ≢ codes "match'" ++ rest
 
 -- the new names have numbers of 32 bits
 pub record NewNamesFit (c : Source) : Type 0 where

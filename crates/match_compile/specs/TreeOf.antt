@@ -1,6 +1,8 @@
 -- The trees that the code keeps, and what becomes of an equation that comes to one.
-use Rattle.std.specs.Prelude.{ℕ, zero, suc, ◌+◌, Bool, true, false, List, [], ◌∷◌, map, Option, Some, None}
+use Rattle.std.specs.Prelude.{◌≡◌, ◌==◌, ℕ, zero, suc, ◌+◌, Bool, true, false, List, [], ◌∷◌, map, length, Option, Some, None}
 use Rattle.std.specs.List.{position_or_len}
+use Rattle.std.specs.declared.boxed.Box.{Box}
+use Rattle.std.specs.declared.alloc.Global.{Global}
 use Rattle.seq.specs.Lists.{numbers_from}
 use Rattle.core_reader.specs.declared.syntax.Expr as code-expr
 use Rattle.core_reader.specs.Tree.{Expr, expr}
@@ -11,8 +13,8 @@ use Rattle.match_compile.specs.declared.tree.Branch.{Branch, Branch-F, fold-Bran
 use Rattle.match_compile.specs.declared.tree.TreeAfterInsertion.{TreeAfterInsertion}
 use Rattle.match_compile.specs.declared.tree.Put.{Put}
 use Rattle.match_compile.specs.Heads.{Head, same_head}
-use Rattle.match_compile.specs.Trees.{Row, Tree, Body, Case, Branches, NoBranch, AndBranch, NoDefault, ATree, test_at, head_of, fits, insert_branch, alone_from, branches_fail}
-use Rattle.match_compile.specs.RowOf.{rows_of, row_with_field_places}
+use Rattle.match_compile.specs.Trees.{PendingPattern, Row, Tree, Body, Case, Branches, NoBranch, AndBranch, NoDefault, ATree, test_at, head_of, fits, insert_branch, alone_from, branches_fail}
+use Rattle.match_compile.specs.RowOf.{rows_of, row_with_field_places, first_of}
 
 -- a branch is put before others
 abbrev pub branches_from : List (Branches → Branches) → Branches
@@ -25,7 +27,7 @@ tree_layer (layer.Tests p bs) = Case p (branches_from bs) NoDefault
 tree_layer (layer.Otherwise p bs t) = Case p (branches_from bs) (ATree t.value)
 
 abbrev pub branch_layer : Branch-F Tree (Branches → Branches) → Branches → Branches
-branch_layer b rest = AndBranch b.head b.places b.tree rest
+branch_layer b rest = AndBranch b.head b.places b.tree.value rest
 
 abbrev pub tree_of : code-tree.Tree → Tree
 tree_of t = code-tree.fold-Tree Tree (Branches → Branches) tree_layer branch_layer t
@@ -42,9 +44,9 @@ planted_of (t, n) = (tree_of t, n)
 
 -- ---- an equation that comes to a tree
 
-abbrev pub left_of : Option code-expr.Expr → Option Expr
+abbrev pub left_of : Option (Box code-expr.Expr Global) → Option Expr
 left_of None = None
-left_of (Some e) = Some (expr e)
+left_of (Some e) = Some (expr e.value)
 
 -- the body is left where a tree, or the branches of a test, stay as they were
 abbrev pub insertion_result : {X : Type 0} → X × ℕ → Expr → Option (X × ℕ) → (X × ℕ) × Option Expr
@@ -52,10 +54,14 @@ insertion_result old body None = (old, Some body)
 insertion_result old body (Some new) = (new, None)
 
 abbrev pub tree_after_insertion : TreeAfterInsertion → (Tree × ℕ) × Option Expr
-tree_after_insertion g = ((tree_of g.tree, g.free), left_of g.left)
+tree_after_insertion g = ((tree_of g.tree.value, g.free), left_of g.left)
 
 abbrev pub branches_after_insertion : Put → (Branches × ℕ) × Option Expr
 branches_after_insertion p = ((branches_of p.branches, p.free), left_of p.left)
+
+-- a test with the tree for all other values to which an equation came
+abbrev pub as_default : ℕ → Branches → (Tree × ℕ) × Option Expr → (Tree × ℕ) × Option Expr
+as_default p bs g = ((Case p bs (ATree g.0.0), g.0.1), g.1)
 
 abbrev pub if_fits : Bool → Option (Branches × ℕ) → Option (Branches × ℕ)
 if_fits b o = elim b [ true ↦ o | false ↦ None ]
@@ -95,6 +101,22 @@ or_alone (suc room) p bs n r true = ((Case p bs NoDefault, n), Some r.body)
 or_alone (suc room) p bs n r false =
     ((Case p bs (ATree (alone_from n r).0), (alone_from n r).1), None)
 
+-- a test with these branches can have no tree for other values
+abbrev pub is_closed : ℕ → Branches → Bool
+is_closed zero bs = true
+is_closed (suc room) bs = branches_fail bs
+
+-- a test that has no tree for other values
+abbrev pub without_default : ℕ → (Branches × ℕ) × Option Expr → (Tree × ℕ) × Option Expr
+without_default p ((bs, n), left) = ((Case p bs NoDefault, n), left)
+
+-- one where the row that was left becomes that tree
+abbrev pub with_default : ℕ → (Branches × ℕ) × Option Expr → (Expr → Row)
+    → (Tree × ℕ) × Option Expr
+with_default p ((bs, n), None) r = ((Case p bs NoDefault, n), None)
+with_default p ((bs, n), Some body) r =
+    ((Case p bs (ATree (alone_from n (r body)).0), (alone_from n (r body)).1), None)
+
 abbrev pub after_branches : ℕ → ℕ → (Branches × ℕ) × Option Expr
     → (Expr → Row) → (Tree × ℕ) × Option Expr
 after_branches room p ((bs, n), None) r = ((Case p bs NoDefault, n), None)
@@ -103,6 +125,13 @@ after_branches room p ((bs, n), Some body) r = or_alone room p bs n (r body) (br
 -- the branch that accepts what this head does, by its number
 abbrev pub branch_for : Head → List Branch → ℕ
 branch_for h bs = position_or_len (λ b. same_head b.head h) bs
+
+-- the test is the next one of a row, at this place, and no branch there is for its value
+pub record IsNew (p : ℕ) (bs : List Branch) (jobs : List PendingPattern) (t : Test) : Type 0 where
+  pub first : first_of jobs ≡ Some t
+  pub here : (t.place == p) ≡ true
+  pub fits_in : fits t.head (branches_of bs) ≡ true
+  pub number : branch_for t.head bs ≡ length bs
 
 -- the branches with another tree in one of them
 abbrev pub replaced : Branches → ℕ → Tree → Branches

@@ -1,14 +1,15 @@
 //! The program of Core that equations are.
 #![tactic(auto, using(crate::proofs::Compiled::backward_more))]
 
-ghost use Rattle.std.specs.Prelude.{◌≡◌, ◌++◌, All, IfOk, IfErr, OnOk, map, reverse};
+ghost use Rattle.std.specs.Prelude.{◌≡◌, ◌++◌, IfOk, IfErr, OnOk, map, reverse};
 ghost use Rattle.core_reader.specs.Tree.{expr, function, program};
 ghost use Rattle.core_reader.specs.Readable.{IsReadable};
 ghost use Rattle.match_compile.specs.Source.{Source as ASource};
 ghost use Rattle.match_compile.specs.SourceOf.{equation_of, equation_source_of};
 ghost use Rattle.match_compile.specs.Grammar.{IsSourceText};
 ghost use Rattle.match_compile.specs.Rules.{IsUnbroken, IsCause};
-ghost use Rattle.match_compile.specs.NamesOf.{IsUnreservedName, NewNamesFit};
+ghost use Rattle.match_compile.specs.NamesOf.{NewNamesFit};
+ghost use Rattle.match_compile.specs.Premises.{HasNoNewName, IsCompilable};
 ghost use Rattle.match_compile.specs.ApartOf.{equation_at, equations_with_bodies};
 ghost use Rattle.match_compile.specs.Translated as translated;
 ghost use Rattle.match_compile.specs.Translates.{Translates};
@@ -195,9 +196,9 @@ fn clauses<'a>(
     Ok(made)
 }
 
-/// The program that equations are, of which no name begins with `match'`.
+/// The program that equations are, of which no name is a new one.
 fn translated(alloc: Global, source: Source) -> Result<Core, AllocError>
-    requires { All IsUnreservedName source.names }
+    requires { HasNoNewName (equation_source_of source) }
     ensures is { IfOk result (λ core. program core ≡ translated.translated (equation_source_of source)) }
     ensures few { IfOk result (λ _. NewNamesFit (equation_source_of source)) }
 {
@@ -222,6 +223,17 @@ fn translated(alloc: Global, source: Source) -> Result<Core, AllocError>
     })
 }
 
+/// The program of Core that equations become.
+pub fn compile_source(alloc: Global, source: Source) -> Result<Core, AllocError>
+    requires { IsCompilable (equation_source_of source) }
+    ensures compiled { IfOk result (λ core. program core
+        ≡ translated.translated (equation_source_of source)) }
+    ensures translates { IfOk result (λ core. Translates (equation_source_of source) (program core)) }
+    ensures readable { IfOk result (λ core. IsReadable (program core)) }
+{
+    translated(alloc, source)
+}
+
 /// The program of Core that a text of equations becomes, or the first rule that the text breaks: of
 /// the rules 1 to 5, and where it breaks none of these, of the others by place, and at one place by
 /// number. Want of memory may come in place of each answer.
@@ -235,6 +247,6 @@ pub fn compile_matches(alloc: Global, text: &[u8]) -> Result<Core, MatchRefusal>
     ensures refused { IfErr result (IsCause text.now) }
 {
     let source = read_equations(alloc, text)?;
-    let core = translated(alloc, source)?;
+    let core = compile_source(alloc, source)?;
     Ok(core)
 }

@@ -12,16 +12,19 @@ ghost use Rattle.match_compile.specs.RowOf.{rows_of, names_bound_row};
 ghost use Rattle.match_compile.specs.DecisionOf.{goes_before, clause_of, clauses_of, functions_of, decision_of, decisions_of, left_clause, with_body, insertion_outcome, decision_or_left};
 ghost use Rattle.match_compile.specs.TreeOf.{left_of};
 
+use crate::parts::tests_of;
 use crate::row::{Pending, begun, numbers_from};
 use crate::source::Pat;
 use crate::tree::{MOST_CHAINED, Tree, alone, insert};
 use crate::words::checked_sum;
 use core_reader::{Expr, NameId};
+use limits::MOST_OPEN;
 use seq::Seq;
 use std::alloc::{AllocError, Global};
 
-/// The most tests that stand one behind the other.
-const MOST_DEEP: u32 = 4096;
+/// The most tests that stand one behind the other. Each becomes a case in those before it, and a
+/// text with more of them open can't be read.
+const MOST_DEEP: u32 = MOST_OPEN;
 
 /// An equation whose patterns stand elsewhere.
 #[derive(Drop)]
@@ -64,12 +67,16 @@ fn are_names(pats: &[Pat]) -> bool
     true
 }
 
-/// The way of an equation with these patterns, and their number.
+/// The way of an equation with these patterns, and their number. Where they have more tests than
+/// may stand one behind the other, memory is wanting before any is taken.
 fn way<'a>(alloc: Global, pats: &'a [Pat]) -> Result<(Pending<'a>, u32), AllocError>
     ensures way { IfOk result (λ made. rows_of made.0 ≡ names_bound_row []
         (pending_patterns_at (places_from 0 (pats_of (map pat_of pats.now))) (pats_of (map pat_of pats.now)))) }
     ensures count { IfOk result (λ made. made.1 ≡ count (pats_of (map pat_of pats.now))) }
 {
+    if tests_of(pats, 0)? > MOST_DEEP {
+        return Err(AllocError);
+    }
     let (places, params) = numbers_from(alloc, 0, pats.len())?;
     let way = begun(alloc, places.as_slice(), pats)?;
     Ok((way, params))
@@ -98,7 +105,12 @@ fn plant<'a>(alloc: Global, number: u32, clause: Clause<'a>) -> Result<Decision<
 }
 
 /// The equation of a body that is left.
-fn left_over<'a>(name: NameId, at: u32, pats: &'a [Pat], left: Option<Expr>) -> Option<Clause<'a>>
+fn left_over<'a>(
+    name: NameId,
+    at: u32,
+    pats: &'a [Pat],
+    left: Option<Box<Expr>>,
+) -> Option<Clause<'a>>
     ensures { left_clause result
         ≡ with_body name.0 at (pats_of (map pat_of pats.now)) (left_of left) }
 {
@@ -108,7 +120,7 @@ fn left_over<'a>(name: NameId, at: u32, pats: &'a [Pat], left: Option<Expr>) -> 
             name,
             at,
             pats,
-            body,
+            body: Box::into_inner(body),
         }),
     }
 }
@@ -131,21 +143,16 @@ fn grow<'a>(
         free,
     } = decision;
     let (way, _) = way(alloc, clause.pats)?;
-    let grown = insert(
-        alloc,
-        MOST_DEEP,
-        MOST_CHAINED,
-        tree,
-        free,
-        clause.body,
-        &way,
-    )?;
+    let boxed = Box::new(alloc, tree)?;
+    let body = Box::new(alloc, clause.body)?;
+    let grown = insert(alloc, MOST_DEEP, MOST_CHAINED, boxed, free, body, way)?;
+    let tree = Box::into_inner(grown.tree);
     let decision = Decision {
         name,
         at,
         number,
         params,
-        tree: grown.tree,
+        tree,
         free: grown.free,
     };
     let left = left_over(clause.name, clause.at, clause.pats, grown.left);

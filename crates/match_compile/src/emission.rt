@@ -3,7 +3,9 @@
 
 ghost use Rattle.std.specs.Prelude.{◌≡◌, [], IfOk, map};
 ghost use Rattle.core_reader.specs.Tree.{Alts, NoAlts, alternative, expr, function, term};
+ghost use Rattle.match_compile.specs.Trees as trees;
 ghost use Rattle.match_compile.specs.Trees.{NoBranch};
+ghost use Rattle.match_compile.specs.Renamed.{renamed_expr};
 ghost use Rattle.match_compile.specs.Translated as translated;
 ghost use Rattle.match_compile.specs.TreeOf.{tree_of, branch_of, branches_of};
 ghost use Rattle.match_compile.specs.DecisionOf.{decision_of};
@@ -56,6 +58,7 @@ fn take(
 }
 
 /// What the names in the patterns of an equation have become, where the places have these names.
+#[inline(never)]
 fn taken(
     alloc: Global,
     words: &Words,
@@ -94,6 +97,7 @@ impl<'a> Writer<'a> {
     }
 
     /// The fields of a branch have names from here on.
+    #[inline(never)]
     fn bind_fields(&self, tree: &Tree, fields: &[u32], places: &mut Scope) -> Result<(), AllocError>
         ensures { IfOk result (λ _. places.new ≡ translated.with_fields self.now.words.now
             self.now.at self.now.params (tree_of tree.now) fields.now places.old) }
@@ -106,6 +110,7 @@ impl<'a> Writer<'a> {
     }
 
     /// The names of places.
+    #[inline(never)]
     fn binders(&self, places: &Scope, fields: &[u32]) -> Result<Seq<Binder>, AllocError>
         ensures { IfOk result (λ made. made ≡ translated.binders self.now.words.now self.now.at
             self.now.params places.now fields.now) }
@@ -118,6 +123,7 @@ impl<'a> Writer<'a> {
     }
 
     /// What a branch accepts, with these names for the fields.
+    #[inline(never)]
     fn pattern(&self, head: Head, fields: Seq<Binder>) -> Pattern
         ensures { result ≡ translated.pattern_of self.now.words.now self.now.at self.now.params
             head fields }
@@ -129,6 +135,7 @@ impl<'a> Writer<'a> {
     }
 
     /// The alternative for all other values.
+    #[inline(never)]
     fn otherwise(&self, body: Expr) -> Alt
         ensures { alternative result NoAlts ≡ translated.otherwise self.now.words.now self.now.at
             self.now.params (expr body) }
@@ -140,6 +147,7 @@ impl<'a> Writer<'a> {
     }
 
     /// A name that stands alone.
+    #[inline(never)]
     fn alone(&self, name: NameId) -> Expr
         ensures { expr result ≡ alone name.0 self.now.at }
     {
@@ -161,6 +169,7 @@ impl<'a> Writer<'a> {
     }
 
     /// The alternatives for values that no equation of the tree accepts.
+    #[inline(never)]
     fn call(&self, onward: &Onward) -> Result<Seq<Alt>, AllocError>
         ensures { IfOk result (λ made. alternatives made
             ≡ alternatives_of_rest self.now.words.now self.now.at onward.now) }
@@ -186,25 +195,86 @@ impl<'a> Writer<'a> {
             places.old (tree_of tree.entry)) }
     {
         match tree {
-            Tree::Body(body, way) => {
-                let mut scope = taken(self.alloc, self.words, places, way.bound.as_slice())?;
-                let body = renamed(self.alloc, &mut scope, body)?;
-                Ok(body)
-            }
-            Tree::Tests(place, branches) => {
-                let tested = self.alone(renamed_name(places, NameId(place)));
-                let mut alts = self.alts(onward, places, branches)?;
-                alts.append(self.call(onward)?)?;
-                Ok(Expr::Case(Box::new(self.alloc, tested)?, alts))
-            }
+            Tree::Body(body, way) => self.body(places, body, way.bound.as_slice()),
+            Tree::Tests(place, branches) => self.tests(onward, places, place, branches),
             Tree::Otherwise(place, branches, other) => {
-                let tested = self.alone(renamed_name(places, NameId(place)));
-                let mut alts = self.alts(onward, places, branches)?;
-                let other = self.expr(onward, places, Box::into_inner(other))?;
-                alts.push(self.otherwise(other))?;
-                Ok(Expr::Case(Box::new(self.alloc, tested)?, alts))
+                let other = self.boxed(onward, places, other)?;
+                self.otherwise_tests(onward, places, place, branches, other)
             }
         }
+    }
+
+    /// A tree in a box as an expression in one.
+    #[cycle(write)]
+    #[inline(never)]
+    fn boxed(
+        &self,
+        onward: &Onward,
+        places: &mut Scope,
+        tree: Box<Tree>,
+    ) -> Result<Box<Expr>, AllocError>
+        ensures places { IfOk result (λ _. places.new ≡ places.old) }
+        ensures made { IfOk result (λ made. expr made.value ≡ translated.expr_of self.now.words.now
+            self.now.at self.now.params (alternatives_of_rest self.now.words.now self.now.at onward.now)
+            places.old (tree_of tree.entry.value)) }
+    {
+        let made = self.expr(onward, places, Box::into_inner(tree))?;
+        Ok(Box::new(self.alloc, made)?)
+    }
+
+    /// The body of an equation that has bound these names.
+    #[inline(never)]
+    fn body(&self, places: &Scope, body: Expr, bound: &[(Binder, u32)]) -> Result<Expr, AllocError>
+        ensures { IfOk result (λ made. expr made
+            ≡ renamed_expr (translated.taken self.now.words.now places.now bound.now) (expr body)) }
+    {
+        let mut scope = taken(self.alloc, self.words, places, bound)?;
+        renamed(self.alloc, &mut scope, body)
+    }
+
+    /// A test at a place as a case of the place's name.
+    #[cycle(write)]
+    #[inline(never)]
+    fn tests(
+        &self,
+        onward: &Onward,
+        places: &mut Scope,
+        place: u32,
+        branches: Seq<Branch>,
+    ) -> Result<Expr, AllocError>
+        ensures places { IfOk result (λ _. places.new ≡ places.old) }
+        ensures made { IfOk result (λ made. expr made ≡ translated.expr_of self.now.words.now
+            self.now.at self.now.params (alternatives_of_rest self.now.words.now self.now.at onward.now)
+            places.old (trees.Case place (branches_of branches.entry) trees.NoDefault)) }
+    {
+        let tested = self.alone(renamed_name(places, NameId(place)));
+        let mut alts = self.alts(onward, places, branches)?;
+        alts.append(self.call(onward)?)?;
+        Ok(Expr::Case(Box::new(self.alloc, tested)?, alts))
+    }
+
+    /// One with an expression for all other values.
+    #[cycle(write)]
+    #[inline(never)]
+    fn otherwise_tests(
+        &self,
+        onward: &Onward,
+        places: &mut Scope,
+        place: u32,
+        branches: Seq<Branch>,
+        other: Box<Expr>,
+    ) -> Result<Expr, AllocError>
+        ensures places { IfOk result (λ _. places.new ≡ places.old) }
+        ensures made { IfOk result (λ made. (t : trees.Tree) → expr other.value ≡ translated.expr_of
+            self.now.words.now self.now.at self.now.params (alternatives_of_rest self.now.words.now
+            self.now.at onward.now) places.old t → expr made ≡ translated.expr_of self.now.words.now
+            self.now.at self.now.params (alternatives_of_rest self.now.words.now self.now.at onward.now)
+            places.old (trees.Case place (branches_of branches.entry) (trees.ATree t))) }
+    {
+        let tested = self.alone(renamed_name(places, NameId(place)));
+        let mut alts = self.alts(onward, places, branches)?;
+        alts.push(self.otherwise(Box::into_inner(other)))?;
+        Ok(Expr::Case(Box::new(self.alloc, tested)?, alts))
     }
 
     /// The alternatives of branches.
@@ -230,6 +300,7 @@ impl<'a> Writer<'a> {
 
     /// The alternative of a branch.
     #[cycle(write)]
+    #[inline(never)]
     fn alt(&self, onward: &Onward, places: &mut Scope, branch: Branch) -> Result<Alt, AllocError>
         ensures places { IfOk result (λ _. places.new ≡ places.old) }
         ensures made { IfOk result (λ made. (others : Alts) → alternative made others
@@ -242,6 +313,7 @@ impl<'a> Writer<'a> {
             places: fields,
             tree,
         } = branch;
+        let tree = Box::into_inner(tree);
         let depth = places.len();
         self.bind_fields(&tree, fields.as_slice(), places)?;
         let binders = self.binders(places, fields.as_slice())?;

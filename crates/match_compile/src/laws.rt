@@ -1,6 +1,6 @@
 //! What the definitions of equations, their rules and their trees say by themselves.
 
-ghost use Rattle.match_compile.specs.Laws.{SourceIsUnique, FirstFaultIsUnique, ReadIsReadable, InsertionKeepsTree, SingleRowIsTree, TreesCoverEquations, SizeIsBounded, BreaksOnlySize, SimpleStaysOneFunction, ServedWithin, ServedInStep, TranslationKeepsMeaning};
+ghost use Rattle.match_compile.specs.Laws.{SourceIsUnique, FirstFaultIsUnique, ReadIsReadable, UnbrokenIsCompilable, InsertionKeepsTree, SingleRowIsTree, TreesCoverEquations, SizeIsBounded, SourceBreaksOnlySize, BreaksOnlySize, SourceKeepsSimpleWhole, SimpleStaysOneFunction, ServedWithin, ServedInStep, SourceKeepsMeaning, TranslationKeepsMeaning};
 ghost use Rattle.match_compile.specs.Stays.{EvaluationKeepsValues};
 ghost use Rattle.match_compile.specs.Jobs.{KnownValueSpecialises};
 ghost use Rattle.match_compile.specs.Examples.{Examples};
@@ -18,6 +18,11 @@ pub fn first_fault_is_unique()
 /// The equations of a text that breaks none of the rules 1 to 5 are readable.
 pub fn read_is_readable()
     ensures { ReadIsReadable }
+{}
+
+/// The equations of a text that breaks no rule can be compiled.
+pub fn unbroken_is_compilable()
+    ensures { UnbrokenIsCompilable }
 {}
 
 /// A row that goes into a tree for others makes it a tree for all of them, in their order.
@@ -47,11 +52,21 @@ pub fn size_is_bounded()
 
 /// Equations that break no rule, of which each as a function of its own is in a program that breaks
 /// none, become a program that breaks no rule but the one on its size.
+pub fn source_breaks_only_size()
+    ensures { SourceBreaksOnlySize }
+{}
+
+/// The same of the equations of a text.
 pub fn breaks_only_size()
     ensures { BreaksOnlySize }
 {}
 
 /// A function that is simple, or one equation of names alone, becomes one function.
+pub fn source_keeps_simple_whole()
+    ensures { SourceKeepsSimpleWhole }
+{}
+
+/// The same of the equations of a text.
 pub fn simple_stays_one_function()
     ensures { SimpleStaysOneFunction }
 {}
@@ -74,6 +89,11 @@ pub fn served_in_step()
 
 /// Where equations that have a meaning become a program that breaks no rule, they have a normal
 /// form, and the program puts out what they do.
+pub fn source_keeps_meaning()
+    ensures { SourceKeepsMeaning }
+{}
+
+/// The same of the equations of a text.
 pub fn translation_keeps_meaning()
     ensures { TranslationKeepsMeaning }
 {}

@@ -1,7 +1,8 @@
 //! Pattern equations: texts of Core in which a function is one or more equations over patterns.
 //!
 //! `read_equations` takes the bytes of a text and gives its equations, or the first rule that the
-//! text breaks. `compile_matches` gives the program of Core that they become.
+//! text breaks. `compile_matches` gives the program of Core that they become, and `compile_source`
+//! that of equations that are there as a tree.
 //!
 //! `specs/Source` says what equations are, `specs/Grammar` which tokens spell them, `specs/Parts`
 //! which names and constructors stand in patterns, and `specs/Rules` what equations must not have.
@@ -33,7 +34,7 @@ mod stays;
 mod tree;
 mod words;
 
-pub use compile::compile_matches;
+pub use compile::{compile_matches, compile_source};
 pub use reader::read_equations;
 pub use refusal::MatchRefusal;
 pub use source::{Equation, Pat, Source};

@@ -1,15 +1,15 @@
 //! The names of the program that equations are.
 #![tactic(auto, using(crate::proofs::Decides::count_is))]
 
-ghost use Rattle.std.specs.Prelude.{◌≡◌, ◌-◌, ◌++◌, All, IfOk, max, map, length, nat_lt, codes, decimal};
+ghost use Rattle.std.specs.Prelude.{◌≡◌, ◌-◌, ◌++◌, IfOk, max, map, length, nat_lt, codes, decimal};
 ghost use Rattle.std.specs.List.{position_or_len};
+ghost use Rattle.match_compile.specs.Premises.{AreFree};
 ghost use Rattle.core_reader.specs.Different.{AreDistinct};
 ghost use Rattle.match_compile.specs.SourceOf.{equation_of};
 ghost use Rattle.match_compile.specs.Parts.{count};
 ghost use Rattle.match_compile.specs.Sound.{name_of_equation};
 ghost use Rattle.match_compile.specs.Translated.{is_nameless, with_nameless, numbered_texts, param_name, field_name, most_params, most_fields, most_fields_of};
 ghost use Rattle.match_compile.specs.DecisionOf.{decisions_of};
-ghost use Rattle.match_compile.specs.NamesOf.{IsUnreservedName};
 
 use crate::decide::Decision;
 use crate::source::Equation;
@@ -81,7 +81,7 @@ pub fn with_new(
     params: u32,
     fields: u32,
 ) -> Result<Names, AllocError>
-    requires { All IsUnreservedName names }
+    requires { AreFree equations params fields names }
     ensures { IfOk result (λ all. all ≡ with_nameless names ++ (numbered_texts equations name_of_equation
         ++ (numbered_texts params param_name ++ numbered_texts fields field_name))) }
 {

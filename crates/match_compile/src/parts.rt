@@ -1,10 +1,11 @@
 //! The names and the constructors in patterns, each in text order.
 
-ghost use Rattle.std.specs.Prelude.{◌≡◌, ◌++◌, IfOk, map};
+ghost use Rattle.std.specs.Prelude.{◌≡◌, ◌+◌, ◌++◌, IfOk, map};
 ghost use Rattle.match_compile.specs.SourceOf.{pat_of, pats_of};
 ghost use Rattle.match_compile.specs.Parts as parts;
 
 use crate::source::Pat;
+use crate::words::checked_sum;
 use core_reader::Binder;
 use std::alloc::{AllocError, Global};
 
@@ -66,4 +67,28 @@ pub fn constructors_of(alloc: Global, pats: &[Pat]) -> Result<Vec<(Binder, usize
         add_constructors(pat, &mut constructors)?;
     }
     Ok(constructors)
+}
+
+/// The tests in a pattern, with those that were counted.
+#[cycle(tests)]
+fn add_tests(pat: &Pat, counted: u32) -> Result<u32, AllocError>
+    ensures { IfOk result (λ n. n ≡ counted + parts.tests_in (pat_of pat.now)) }
+{
+    match pat {
+        Pat::Name(_) => Ok(counted),
+        Pat::Int(_, _) => checked_sum(counted, 1),
+        Pat::Con(_, fields) => tests_of(fields.as_slice(), checked_sum(counted, 1)?),
+    }
+}
+
+/// The tests in patterns, with those that were counted.
+#[cycle(tests)]
+pub fn tests_of(pats: &[Pat], counted: u32) -> Result<u32, AllocError>
+    ensures { IfOk result (λ n. n ≡ counted + parts.tests_of (pats_of (map pat_of pats.now))) }
+{
+    let mut counted = counted;
+    for pat in pats {
+        counted = add_tests(pat, counted)?;
+    }
+    Ok(counted)
 }

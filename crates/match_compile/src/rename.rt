@@ -3,7 +3,7 @@
 
 ghost use Rattle.std.specs.Prelude.{◌≡◌, [], ◌∷◌, IfOk, map};
 ghost use Rattle.core_reader.specs.Grammar.{name_id};
-ghost use Rattle.core_reader.specs.Tree.{Alts, term, application, bind, expr as expr_of, alternative};
+ghost use Rattle.core_reader.specs.Tree.{Let, Alts, term, application, bind, expr as expr_of, alternative, alts_of};
 ghost use Rattle.arity_check.specs.Pieces.{binders_of, bound_by};
 ghost use Rattle.match_compile.specs.Renamed.{renamed_name, shadowing, renamed_term, renamed_app, renamed_bind, renamed_expr, renamed_alts};
 
@@ -41,6 +41,7 @@ fn hide_all(scope: &mut Scope, binders: &[Binder]) -> Result<(), AllocError>
 }
 
 /// The names of a let group stand for themselves.
+#[inline(never)]
 fn hide_group(scope: &mut Scope, group: &[Bind]) -> Result<(), AllocError>
     ensures { IfOk result (λ _. scope.new
         ≡ shadowing (binders_of (map bind group.now)) scope.old) }
@@ -52,6 +53,7 @@ fn hide_group(scope: &mut Scope, group: &[Bind]) -> Result<(), AllocError>
 }
 
 /// What a pattern binds stands for itself.
+#[inline(never)]
 fn hide_bound(scope: &mut Scope, pattern: &Pattern) -> Result<(), AllocError>
     ensures { IfOk result (λ _. scope.new ≡ shadowing (bound_by pattern.now) scope.old) }
 {
@@ -80,6 +82,7 @@ fn renamed_atom(alloc: Global, scope: &Scope, atom: Atom) -> Result<Atom, AllocE
 
 /// An application.
 #[cycle(rename_app)]
+#[inline(never)]
 fn renamed_app(alloc: Global, scope: &Scope, app: App) -> Result<App, AllocError>
     ensures { IfOk result (λ made. application made ≡ renamed_app scope.now (application app)) }
 {
@@ -92,6 +95,7 @@ fn renamed_app(alloc: Global, scope: &Scope, app: App) -> Result<App, AllocError
 }
 
 /// The members of a let group, whose names are hidden.
+#[inline(never)]
 fn renamed_group(alloc: Global, scope: &Scope, group: Seq<Bind>) -> Result<Seq<Bind>, AllocError>
     ensures { IfOk result (λ made. map bind made
         ≡ map (renamed_bind scope.now) (map bind group)) }
@@ -114,27 +118,66 @@ pub fn renamed(alloc: Global, scope: &mut Scope, expr: Expr) -> Result<Expr, All
 {
     match expr {
         Expr::App(app) => Ok(Expr::App(renamed_app(alloc, scope, app)?)),
-        Expr::Let(group, body) => {
-            let depth = scope.len();
-            hide_group(scope, group.as_slice())?;
-            let group = renamed_group(alloc, scope, group)?;
-            let body = renamed(alloc, scope, Box::into_inner(body))?;
-            scope.leave(depth);
-            Ok(Expr::Let(group, Box::new(alloc, body)?))
-        }
+        Expr::Let(group, body) => renamed_let(alloc, scope, group, body),
         Expr::Case(tested, alts) => {
-            let tested = renamed(alloc, scope, Box::into_inner(tested))?;
-            let mut made = Seq::new(alloc);
-            for alt in alts.into_vec() {
-                made.push(renamed_alt(alloc, scope, alt)?)?;
-            }
-            Ok(Expr::Case(Box::new(alloc, tested)?, made))
+            let tested = renamed_box(alloc, scope, tested)?;
+            let alts = renamed_alts(alloc, scope, alts)?;
+            Ok(Expr::Case(tested, alts))
         }
     }
 }
 
+/// An expression in a box.
+#[cycle(rename_expr)]
+#[inline(never)]
+fn renamed_box(alloc: Global, scope: &mut Scope, expr: Box<Expr>) -> Result<Box<Expr>, AllocError>
+    ensures scope { IfOk result (λ _. scope.new ≡ scope.old) }
+    ensures renamed { IfOk result (λ made. expr_of made.value
+        ≡ renamed_expr scope.old (expr_of expr.value)) }
+{
+    let made = renamed(alloc, scope, Box::into_inner(expr))?;
+    Ok(Box::new(alloc, made)?)
+}
+
+/// A let group and its body.
+#[cycle(rename_expr)]
+#[inline(never)]
+fn renamed_let(
+    alloc: Global,
+    scope: &mut Scope,
+    group: Seq<Bind>,
+    body: Box<Expr>,
+) -> Result<Expr, AllocError>
+    ensures scope { IfOk result (λ _. scope.new ≡ scope.old) }
+    ensures renamed { IfOk result (λ made. expr_of made
+        ≡ renamed_expr scope.old (Let (map bind group) (expr_of body.value))) }
+{
+    let depth = scope.len();
+    hide_group(scope, group.as_slice())?;
+    let members = renamed_group(alloc, scope, group)?;
+    let body = renamed_box(alloc, scope, body)?;
+    scope.leave(depth);
+    Ok(Expr::Let(members, body))
+}
+
+/// Alternatives.
+#[cycle(rename_expr)]
+#[inline(never)]
+fn renamed_alts(alloc: Global, scope: &mut Scope, alts: Seq<Alt>) -> Result<Seq<Alt>, AllocError>
+    ensures scope { IfOk result (λ _. scope.new ≡ scope.old) }
+    ensures renamed { IfOk result (λ made. alts_of (map alternative made)
+        ≡ renamed_alts scope.old (alts_of (map alternative alts))) }
+{
+    let mut made = Seq::new(alloc);
+    for alt in alts.into_vec() {
+        made.push(renamed_alt(alloc, scope, alt)?)?;
+    }
+    Ok(made)
+}
+
 /// An alternative.
 #[cycle(rename_expr)]
+#[inline(never)]
 fn renamed_alt(alloc: Global, scope: &mut Scope, alt: Alt) -> Result<Alt, AllocError>
     ensures scope { IfOk result (λ _. scope.new ≡ scope.old) }
     ensures renamed { IfOk result (λ made. (rest : Alts) → alternative made

@@ -136,11 +136,10 @@ impl<'a> Pending<'a> {
     }
 
     /// The way behind its first pattern, where the fields have these places.
-    pub fn opened(&self, alloc: Global, places: &[u32]) -> Result<Pending<'a>, AllocError>
-        ensures { IfOk result (λ made. rows_of made ≡ opening self.now places.now) }
+    pub fn opened(self, places: &[u32]) -> Result<Pending<'a>, AllocError>
+        ensures { IfOk result (λ made. rows_of made ≡ opening self.entry places.now) }
     {
-        let bound = self.bound.copied(alloc)?;
-        let mut jobs = self.jobs.copied(alloc)?;
+        let Pending { bound, mut jobs } = self;
         match jobs.pop() {
             None => Ok(Pending { bound, jobs }),
             Some((_, pat)) => {

@@ -4,8 +4,8 @@
 ghost use Rattle.std.specs.Prelude.{◌≡◌, ◌<◌, None, IfOk, MatchOption, IfSome, length};
 ghost use Rattle.core_reader.specs.Tree.{expr};
 ghost use Rattle.match_compile.specs.Trees as trees;
-ghost use Rattle.match_compile.specs.RowOf.{rows_of};
-ghost use Rattle.match_compile.specs.TreeOf.{tree_of, branches_of, planted_of, tree_after_insertion, branches_after_insertion, insertion_result, in_branches, with_new, after_branches, branch_for};
+ghost use Rattle.match_compile.specs.RowOf.{pending, rows_of};
+ghost use Rattle.match_compile.specs.TreeOf.{tree_of, branches_of, planted_of, tree_after_insertion, branches_after_insertion, insertion_result, in_branches, with_new, as_default, IsNew, is_closed, after_branches, without_default, with_default, branch_for};
 
 use crate::head::Head;
 use crate::row::{Pending, Test, numbers_from};
@@ -37,16 +37,17 @@ pub struct Branch<'a> {
     /// The places of the fields.
     pub places: Seq<u32>,
     /// The tree behind it.
-    pub tree: Tree<'a>,
+    pub tree: Box<Tree<'a>>,
 }
 
 /// A tree and the first place that is free, after an equation came to it. A body is left where the
-/// tree does not take the equation.
+/// tree does not take the equation. Trees and bodies are in boxes here, so that a recursion over a
+/// deep tree takes little of the stack.
 #[derive(Drop)]
 pub struct TreeAfterInsertion<'a> {
-    pub tree: Tree<'a>,
+    pub tree: Box<Tree<'a>>,
     pub free: u32,
-    pub left: Option<Expr>,
+    pub left: Option<Box<Expr>>,
 }
 
 /// The same for the branches of a test.
@@ -54,7 +55,7 @@ pub struct TreeAfterInsertion<'a> {
 pub struct Put<'a> {
     pub branches: Seq<Branch<'a>>,
     pub free: u32,
-    pub left: Option<Expr>,
+    pub left: Option<Box<Expr>>,
 }
 
 /// Whether values may come that no equation in the tree accepts.
@@ -106,7 +107,38 @@ fn fits(branches: &[Branch], head: Head) -> bool
     }
 }
 
+/// The test of an equation that begins a branch of its own here, if it does.
+fn new_test(place: u32, branches: &[Branch], way: &Pending) -> Option<Test>
+    ensures { IfSome result (IsNew place branches.now (pending way.now.jobs)) }
+{
+    let Some(test) = way.first() else {
+        return None;
+    };
+    if test.place != place {
+        return None;
+    }
+    if !fits(branches, test.head) {
+        return None;
+    }
+    match branch_for(branches, test.head) {
+        None => Some(test),
+        Some(_) => None,
+    }
+}
+
+/// Whether a test with these branches can have no tree for other values: one of them can fail, or
+/// there is no room.
+fn is_closed(room: u32, branches: &[Branch]) -> bool
+    ensures { result ≡ is_closed room (branches_of branches.now) }
+{
+    if room == 0 {
+        return true;
+    }
+    branches_fail(branches)
+}
+
 /// Behind a test one branch alone.
+#[inline(never)]
 fn one_branch<'a>(
     alloc: Global,
     test: Test,
@@ -117,10 +149,11 @@ fn one_branch<'a>(
         ≡ trees.AndBranch test.head places (tree_of tree.entry) trees.NoBranch) }
 {
     let mut branches = Seq::new(alloc);
+    let boxed = Box::new(alloc, tree)?;
     branches.push(Branch {
         head: test.head,
         places,
-        tree,
+        tree: boxed,
     })?;
     Ok(branches)
 }
@@ -142,7 +175,7 @@ pub fn alone<'a>(
     };
     let depth = depth.checked_sub(1).ok_or(AllocError)?;
     let (places, next) = numbers_from(alloc, free, test.fields)?;
-    let opened = way.opened(alloc, places.as_slice())?;
+    let opened = way.opened(places.as_slice())?;
     let (tree, free) = alone(alloc, depth, next, body, opened)?;
     let branches = one_branch(alloc, test, places, tree)?;
     Ok((Tree::Tests(test.place, branches), free))
@@ -154,52 +187,117 @@ pub fn insert<'a>(
     alloc: Global,
     depth: u32,
     room: u32,
-    tree: Tree<'a>,
+    tree: Box<Tree<'a>>,
     free: u32,
-    body: Expr,
-    way: &Pending<'a>,
+    body: Box<Expr>,
+    way: Pending<'a>,
 ) -> Result<TreeAfterInsertion<'a>, AllocError>
-    ensures { IfOk result (λ grown. tree_after_insertion grown ≡ insertion_result (tree_of tree.entry, free) (expr body)
-        (trees.insert room (tree_of tree.entry) free (rows_of way.now (expr body)))) }
+    ensures { IfOk result (λ grown. tree_after_insertion grown
+        ≡ insertion_result (tree_of tree.entry.value, free) (expr body.value)
+        (trees.insert room (tree_of tree.entry.value) free (rows_of way.entry (expr body.value)))) }
 {
-    let depth = depth.checked_sub(1).ok_or(AllocError)?;
-    match tree {
-        Tree::Body(old, taken) => Ok(TreeAfterInsertion {
-            tree: Tree::Body(old, taken),
-            free,
-            left: Some(body),
-        }),
+    match Box::into_inner(tree) {
+        Tree::Body(old, taken) => not_taken(alloc, old, taken, free, body),
         Tree::Tests(place, branches) => {
-            let put = insert_branch(alloc, depth, place, branches, free, body, way)?;
-            or_default(alloc, depth, room.saturating_sub(1), place, put, way)
+            let depth = depth.checked_sub(1).ok_or(AllocError)?;
+            let room = room.saturating_sub(1);
+            insert_test(alloc, depth, room, place, branches, free, body, way)
         }
         Tree::Otherwise(place, branches, other) => {
+            let depth = depth.checked_sub(1).ok_or(AllocError)?;
             let room = room.saturating_sub(1);
-            let grown = insert(alloc, depth, room, Box::into_inner(other), free, body, way)?;
-            Ok(TreeAfterInsertion {
-                tree: Tree::Otherwise(place, branches, Box::new(alloc, grown.tree)?),
-                free: grown.free,
-                left: grown.left,
-            })
+            let grown = insert(alloc, depth, room, other, free, body, way)?;
+            in_default(alloc, place, branches, grown)
         }
     }
 }
 
+/// The tree that a body is takes no equation.
+#[inline(never)]
+fn not_taken<'a>(
+    alloc: Global,
+    old: Expr,
+    taken: Pending<'a>,
+    free: u32,
+    body: Box<Expr>,
+) -> Result<TreeAfterInsertion<'a>, AllocError>
+    ensures { IfOk result (λ grown. tree_after_insertion grown
+        ≡ insertion_result (trees.Body (rows_of taken.entry (expr old)), free) (expr body.value) None) }
+{
+    Ok(TreeAfterInsertion {
+        tree: Box::new(alloc, Tree::Body(old, taken))?,
+        free,
+        left: Some(body),
+    })
+}
+
+/// A test with the tree for all other values to which an equation came.
+#[inline(never)]
+fn in_default<'a>(
+    alloc: Global,
+    place: u32,
+    branches: Seq<Branch<'a>>,
+    grown: TreeAfterInsertion<'a>,
+) -> Result<TreeAfterInsertion<'a>, AllocError>
+    ensures { IfOk result (λ whole. tree_after_insertion whole
+        ≡ as_default place (branches_of branches.entry) (tree_after_insertion grown.entry)) }
+{
+    Ok(TreeAfterInsertion {
+        tree: Box::new(alloc, Tree::Otherwise(place, branches, grown.tree))?,
+        free: grown.free,
+        left: grown.left,
+    })
+}
+
+/// An equation goes into a test that has no tree for other values, or its body is left. Where it
+/// begins a branch, nobody asks whether the others can fail. Its way is kept only where it can
+/// become the tree for other values, so that one way is kept at most.
+#[cycle(insert)]
+#[inline(never)]
+fn insert_test<'a>(
+    alloc: Global,
+    depth: u32,
+    room: u32,
+    place: u32,
+    branches: Seq<Branch<'a>>,
+    free: u32,
+    body: Box<Expr>,
+    way: Pending<'a>,
+) -> Result<TreeAfterInsertion<'a>, AllocError>
+    ensures { IfOk result (λ grown. tree_after_insertion grown ≡ after_branches room place
+        (insertion_result (branches_of branches.entry, free) (expr body.value)
+        (in_branches place (branches_of branches.entry) free (rows_of way.entry (expr body.value))))
+        (rows_of way.entry)) }
+{
+    if let Some(test) = new_test(place, branches.as_slice(), &way) {
+        let put = new_branch(alloc, depth, test, branches, free, body, way)?;
+        return without_default(alloc, place, put);
+    }
+    if is_closed(room, branches.as_slice()) {
+        let put = insert_branch(alloc, depth, place, branches, free, body, way)?;
+        return without_default(alloc, place, put);
+    }
+    let kept = way.copied(alloc)?;
+    let put = insert_branch(alloc, depth, place, branches, free, body, way)?;
+    with_default(alloc, depth, place, put, kept)
+}
+
 /// An equation goes into the branches of a test, or its body is left.
 #[cycle(insert)]
+#[inline(never)]
 fn insert_branch<'a>(
     alloc: Global,
     depth: u32,
     place: u32,
     branches: Seq<Branch<'a>>,
     free: u32,
-    body: Expr,
-    way: &Pending<'a>,
+    body: Box<Expr>,
+    way: Pending<'a>,
 ) -> Result<Put<'a>, AllocError>
     ensures { IfOk result (λ put. branches_after_insertion put
-        ≡ insertion_result (branches_of branches.entry, free) (expr body)
+        ≡ insertion_result (branches_of branches.entry, free) (expr body.value)
         (in_branches place (branches_of branches.entry) free
-        (rows_of way.now (expr body)))) }
+        (rows_of way.entry (expr body.value)))) }
 {
     let Some(test) = way.first() else {
         return Ok(not_put(branches, free, body));
@@ -215,8 +313,8 @@ fn insert_branch<'a>(
         Some(k) => {
             let mut branches = branches.into_vec();
             let branch = branches.remove(k);
-            let opened = way.opened(alloc, branch.places.as_slice())?;
-            let grown = insert(alloc, depth, MOST_CHAINED, branch.tree, free, body, &opened)?;
+            let opened = way.opened(branch.places.as_slice())?;
+            let grown = insert(alloc, depth, MOST_CHAINED, branch.tree, free, body, opened)?;
             branches.insert(
                 k,
                 Branch {
@@ -235,9 +333,9 @@ fn insert_branch<'a>(
 }
 
 /// The branches as they were, with a body that is left.
-fn not_put<'a>(branches: Seq<Branch<'a>>, free: u32, body: Expr) -> Put<'a>
+fn not_put<'a>(branches: Seq<Branch<'a>>, free: u32, body: Box<Expr>) -> Put<'a>
     ensures { branches_after_insertion result
-        ≡ insertion_result (branches_of branches.entry, free) (expr body) None }
+        ≡ insertion_result (branches_of branches.entry, free) (expr body.value) None }
 {
     Put {
         branches,
@@ -247,26 +345,28 @@ fn not_put<'a>(branches: Seq<Branch<'a>>, free: u32, body: Expr) -> Put<'a>
 }
 
 /// A branch of its own behind those that are there.
+#[inline(never)]
 fn new_branch<'a>(
     alloc: Global,
     depth: u32,
     test: Test,
     branches: Seq<Branch<'a>>,
     free: u32,
-    body: Expr,
-    way: &Pending<'a>,
+    body: Box<Expr>,
+    way: Pending<'a>,
 ) -> Result<Put<'a>, AllocError>
     ensures { IfOk result (λ put. branches_after_insertion put
-        ≡ with_new test (branches_of branches.entry) free (rows_of way.now (expr body))) }
+        ≡ with_new test (branches_of branches.entry) free (rows_of way.entry (expr body.value))) }
 {
     let mut branches = branches;
     let (places, next) = numbers_from(alloc, free, test.fields)?;
-    let opened = way.opened(alloc, places.as_slice())?;
-    let (tree, free) = alone(alloc, depth, next, body, opened)?;
+    let opened = way.opened(places.as_slice())?;
+    let (tree, free) = alone(alloc, depth, next, Box::into_inner(body), opened)?;
+    let boxed = Box::new(alloc, tree)?;
     branches.push(Branch {
         head: test.head,
         places,
-        tree,
+        tree: boxed,
     })?;
     Ok(Put {
         branches,
@@ -275,44 +375,52 @@ fn new_branch<'a>(
     })
 }
 
-/// An equation that no branch takes becomes the tree for all other values, where no branch can fail
-/// and there is room.
-fn or_default<'a>(
+/// A test without a tree for other values.
+#[inline(never)]
+fn without_default<'a>(
     alloc: Global,
-    depth: u32,
-    room: u32,
     place: u32,
     put: Put<'a>,
-    way: &Pending<'a>,
 ) -> Result<TreeAfterInsertion<'a>, AllocError>
     ensures { IfOk result (λ grown. tree_after_insertion grown
-        ≡ after_branches room place (branches_after_insertion put.entry) (rows_of way.now)) }
+        ≡ without_default place (branches_after_insertion put.entry)) }
+{
+    Ok(TreeAfterInsertion {
+        tree: Box::new(alloc, Tree::Tests(place, put.branches))?,
+        free: put.free,
+        left: put.left,
+    })
+}
+
+/// An equation that no branch takes becomes the tree for all other values.
+#[inline(never)]
+fn with_default<'a>(
+    alloc: Global,
+    depth: u32,
+    place: u32,
+    put: Put<'a>,
+    way: Pending<'a>,
+) -> Result<TreeAfterInsertion<'a>, AllocError>
+    ensures { IfOk result (λ grown. tree_after_insertion grown
+        ≡ with_default place (branches_after_insertion put.entry) (rows_of way.entry)) }
 {
     let Put {
         branches,
         free,
         left,
     } = put;
-    match left {
-        None => Ok(TreeAfterInsertion {
-            tree: Tree::Tests(place, branches),
+    let Some(body) = left else {
+        return Ok(TreeAfterInsertion {
+            tree: Box::new(alloc, Tree::Tests(place, branches))?,
             free,
             left: None,
-        }),
-        Some(body) => {
-            if room == 0 || branches_fail(branches.as_slice()) {
-                return Ok(TreeAfterInsertion {
-                    tree: Tree::Tests(place, branches),
-                    free,
-                    left: Some(body),
-                });
-            }
-            let (tree, free) = alone(alloc, depth, free, body, way.copied(alloc)?)?;
-            Ok(TreeAfterInsertion {
-                tree: Tree::Otherwise(place, branches, Box::new(alloc, tree)?),
-                free,
-                left: None,
-            })
-        }
-    }
+        });
+    };
+    let (other, free) = alone(alloc, depth, free, Box::into_inner(body), way)?;
+    let boxed = Box::new(alloc, other)?;
+    Ok(TreeAfterInsertion {
+        tree: Box::new(alloc, Tree::Otherwise(place, branches, boxed))?,
+        free,
+        left: None,
+    })
 }

@@ -13,7 +13,11 @@ returns-clause-firsts c =
     let w : Words = c.args.words.now in
     let d = c.in-Some.decision in
     ok_follows _ _ c.add_others.result (λ x e.
-    ap (map function) c.in_ok-push.ensures.ok ∙ map-append function c.args.firsts.now (c.in_ok-first.first ∷ [])
+    ap (map function) c.in_ok-push.ensures.ok ∙ map-append function c.args.firsts.now
+    (c.in_ok-first.first ∷ [])
     ∙ ap (λ fs. map function c.args.firsts.now ++ fs)
-    (first_is w (decisions_of c.args.decisions) c.pop.new.self c.in_ok-left.left d (number_of c.in_ok-next.next) (function c.in_ok-first.first)
-    c.in_ok-left.ensures c.in-Some.ensures (c.in_ok-next.ensures ∙ ap (λ ds. next_of w (decision_of d) (backward ds)) c.as_slice.ensures) c.in_ok-first.ensures).0) c.add_others.ensures
+    (first_is w (decisions_of c.args.decisions) c.pop.new.self c.in_ok-left.left d
+    (number_of c.in_ok-next.next) (function c.in_ok-first.first)
+    c.in_ok-left.ensures c.in-Some.ensures
+    (c.in_ok-next.ensures ∙ ap (λ ds. next_of w (decision_of d) (backward ds))
+    c.as_slice.ensures) c.in_ok-first.ensures).0) c.add_others.ensures

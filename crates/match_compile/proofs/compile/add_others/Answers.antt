@@ -11,11 +11,18 @@ pub decisions-preserved : goal.decisions-preserved
 decisions-preserved c =
     let w = c.args.words.now in
     let d = c.in-Some.decision in
-    other_more w c.decisions.decisions c.pop.new.self d (map function c.decisions.others) (map function c.push.new.self) _ (number_of c.in_ok-next.next) (function c.in_ok-other.other)
-    c.in-Some.ensures (c.in_ok-next.ensures ∙ ap (λ ds. next_of w (decision_of d) (backward ds)) c.as_slice.ensures)
-    (c.in_ok-other.ensures ∙ ap (λ x. function_of w x (decision_of d) (number_of c.in_ok-next.next)) c.in_ok-name.ensures)
-    (ap (map function) c.in_ok-push.ensures.ok ∙ map-append function c.decisions.others (c.in_ok-other.other ∷ []))
+    other_more w c.decisions.decisions c.pop.new.self d (map function c.decisions.others)
+    (map function c.push.new.self) _ (number_of c.in_ok-next.next)
+    (function c.in_ok-other.other)
+    c.in-Some.ensures
+    (c.in_ok-next.ensures ∙ ap (λ ds. next_of w (decision_of d) (backward ds))
+    c.as_slice.ensures)
+    (c.in_ok-other.ensures ∙ ap (λ x. function_of w x (decision_of d) (number_of c.in_ok-next.next))
+    c.in_ok-name.ensures)
+    (ap (map function) c.in_ok-push.ensures.ok ∙ map-append function c.decisions.others
+    (c.in_ok-other.other ∷ []))
     c.decisions.invariant
 
 pub returns : goal.returns
-returns c = others_end c.args.words.now c.decisions.decisions (map function c.decisions.others) _ c.in_default.ensures.0 c.decisions.invariant
+returns c = others_end c.args.words.now c.decisions.decisions (map function c.decisions.others) _
+    c.in_default.ensures.0 c.decisions.invariant

@@ -11,6 +11,11 @@ loop-body-init c = record {
 
 pub loop-body-preserved : goal.loop-body-preserved
 loop-body-preserved c = record {
-  count = omega (arith, c.loop-body.invariant.count, length-append c.loop-body.yielded (c.in-Some.body ∷ []));
-  clauses = clause_more c.args.headings.now c.loop-body.k c.in-Some.body c.loop-body.yielded c.loop-body.made c.push.new.self c.in-Some-clause_at.clause (sym (ap left_clause c.in-Some-clause_at.is) ∙ c.clause_at.ensures) c.loop-body.invariant.count c.in_ok-push-in-Some-clause_at.ensures.ok c.loop-body.invariant.clauses;
+  count = omega
+      (arith, c.loop-body.invariant.count, length-append c.loop-body.yielded (c.in-Some.body ∷ []));
+  clauses = clause_more c.args.headings.now c.loop-body.k c.in-Some.body c.loop-body.yielded
+      c.loop-body.made c.push.new.self c.in-Some-clause_at.clause
+      (sym (ap left_clause c.in-Some-clause_at.is) ∙ c.clause_at.ensures)
+      c.loop-body.invariant.count c.in_ok-push-in-Some-clause_at.ensures.ok
+      c.loop-body.invariant.clauses;
 }

@@ -6,7 +6,8 @@ use Rattle.match_compile.proofs.Decides.{open_rows}
 use Rattle.match_compile.proofs.decide.function_trees.Given as goal
 
 abbrev pub invariant-equations : goal.invariant-equations
-invariant-equations l = decisions_of l.made ++ decided (decision_of l.decision) (suc l.number) (open_rows l.is_last l.function) ≡ decisions_from l.fn.number (rows (clauses_of l.fn.function))
+invariant-equations l = decisions_of l.made ++ decided (decision_of l.decision) (suc l.number)
+    (open_rows l.is_last l.function) ≡ decisions_from l.fn.number (rows (clauses_of l.fn.function))
 
 abbrev pub decreases-equations : goal.decreases-equations
 decreases-equations l = length l.function

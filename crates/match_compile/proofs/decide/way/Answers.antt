@@ -10,7 +10,10 @@ pub returns-clause-way : goal.returns-clause-way
 returns-clause-way c =
     let ps = c.args.pats.now in
     c.in_ok-way.ensures
-    ∙ ap (λ places. names_bound_row [] (pending_patterns_at places (pats_of (map pat_of ps)))) (c.as_slice.ensures ∙ c.in_ok-places.ensures.numbers ∙ ap (numbers_from 0) (sym (count_is ps)))
+    ∙ ap (λ places. names_bound_row [] (pending_patterns_at places (pats_of (map pat_of ps))))
+    (c.as_slice.ensures ∙ c.in_ok-places.ensures.numbers ∙ ap (numbers_from 0)
+    (sym (count_is ps)))
 
 pub returns-clause-count : goal.returns-clause-count
-returns-clause-count c = let ps = c.args.pats.now in omega (arith, c.in_ok-places.ensures.next, count_is ps)
+returns-clause-count c = let ps = c.args.pats.now in omega
+    (arith, c.in_ok-places.ensures.next, count_is ps)

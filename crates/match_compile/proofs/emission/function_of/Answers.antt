@@ -15,8 +15,11 @@ returns c =
     let next : Option ℕ = number_of c.args.next in
     let places : Scope = c.in_ok-places.places in
     let called : Bool = c.is_called-is_called.result in
-    function_is w c.args.name.0 d next c.in_ok-columns.columns places c.in_ok-params.params (expr c.in_ok-body.body) called
+    function_is w c.args.name.0 d next c.in_ok-columns.columns places c.in_ok-params.params
+    (expr c.in_ok-body.body) called
     c.in_ok-columns.ensures.numbers c.is_called-is_called.ensures
-    (c.in_ok-places.ensures ∙ ap (λ cs. places_of w d.at d.params called d.tree cs []) c.as_slice.ensures)
+    (c.in_ok-places.ensures ∙ ap (λ cs. places_of w d.at d.params called d.tree cs [])
+    c.as_slice.ensures)
     (c.in_ok-params.ensures ∙ ap (λ cs. binders w d.at d.params places cs) c.as_slice-2.ensures)
-    (c.in_ok-body.ensures.made ∙ ap (λ bs. expr_of w d.at d.params (call w d.at next bs) places d.tree) c.as_slice-3.ensures)
+    (c.in_ok-body.ensures.made ∙ ap
+    (λ bs. expr_of w d.at d.params (call w d.at next bs) places d.tree) c.as_slice-3.ensures)

@@ -5,8 +5,12 @@ use Rattle.match_compile.proofs.names.add_numbered.Goals as goal
 
 pub loop-number-preserved : goal.loop-number-preserved
 loop-number-preserved c =
-    one_behind (λ k. c.args.start.now ++ decimal k) c.loop-number.entries.items c.push.new.self.items _ c.loop-number.number c.args.count (omega arith) (c.in_ok-push.ensures.items ∙ ap (λ t. c.loop-number.entries.items ++ t ∷ []) c.in_ok-numbered.ensures)
+    one_behind (λ k. c.args.start.now ++ decimal k) c.loop-number.entries.items
+    c.push.new.self.items _ c.loop-number.number c.args.count (omega arith)
+    (c.in_ok-push.ensures.items ∙ ap (λ t. c.loop-number.entries.items ++ t ∷ [])
+    c.in_ok-numbered.ensures)
     c.loop-number.invariant
 
 pub returns : goal.returns
-returns c = all_behind (λ k. c.args.start.now ++ decimal k) c.loop-number.entries.items _ c.loop-number.number c.args.count (omega arith) c.loop-number.invariant
+returns c = all_behind (λ k. c.args.start.now ++ decimal k) c.loop-number.entries.items _
+    c.loop-number.number c.args.count (omega arith) c.loop-number.invariant

@@ -5,4 +5,6 @@ use Rattle.match_compile.specs.DecisionOf.{decisions_of}
 use Rattle.match_compile.proofs.names.most_fields.Given as goal
 
 abbrev pub invariant-loop-decision : goal.invariant-loop-decision
-invariant-loop-decision l = max l.most (most_fields (decisions_of (drop l.decision-index l.decisions))) ≡ max l.least (most_fields (decisions_of l.decisions))
+invariant-loop-decision l = max l.most
+    (most_fields (decisions_of (drop l.decision-index l.decisions))) ≡ max l.least
+    (most_fields (decisions_of l.decisions))

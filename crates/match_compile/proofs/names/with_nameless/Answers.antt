@@ -8,9 +8,12 @@ abbrev has : List (List ℕ) → Bool
 has ns = nat_lt (position_or_len is_nameless ns) (length ns)
 
 pub returns-then-has_nameless : goal.returns-then-has_nameless
-returns-then-has_nameless c = sym (with_nameless_is c.args.names.items true (sym (c.has_nameless.ensures ∙ ap has c.as_slice.ensures.value) ∙ c.if-has_nameless.true))
+returns-then-has_nameless c = sym
+    (with_nameless_is c.args.names.items true
+    (sym (c.has_nameless.ensures ∙ ap has c.as_slice.ensures.value) ∙ c.if-has_nameless.true))
 
 pub returns : goal.returns
 returns c =
     c.in_ok-push.ensures.items ∙ ap (λ t. c.args.names.items ++ t ∷ []) c.in_ok-text.ensures
-    ∙ sym (with_nameless_is c.args.names.items false (sym (c.has_nameless.ensures ∙ ap has c.as_slice.ensures.value) ∙ c.if-has_nameless.false))
+    ∙ sym (with_nameless_is c.args.names.items false
+    (sym (c.has_nameless.ensures ∙ ap has c.as_slice.ensures.value) ∙ c.if-has_nameless.false))

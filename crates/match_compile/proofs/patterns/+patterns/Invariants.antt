@@ -17,7 +17,9 @@ decreases-bracket l = 3 * length l.parser.now.rest.now
 abbrev pub invariant-patterns-loop-pats : goal.invariant-patterns-loop-pats
 invariant-patterns-loop-pats l =
     record {
-      reads : (b : EquationStart) (k : Place) → opens k ≡ l.fn.parser.depth → run (Outside (Matching b k NoPats)) l.fn.parser.rest.now ≡ run (Outside (Matching b k (pats_of (map pat_of l.pats.items)))) l.parser.rest.now;
+      reads : (b : EquationStart) (k : Place) → opens k ≡ l.fn.parser.depth
+          → run (Outside (Matching b k NoPats)) l.fn.parser.rest.now ≡ run
+          (Outside (Matching b k (pats_of (map pat_of l.pats.items)))) l.parser.rest.now;
       shorter : length l.parser.rest.now ≤ length l.fn.parser.rest.now;
       depth : l.parser.depth ≡ l.fn.parser.depth;
     }

@@ -8,7 +8,9 @@ use Rattle.match_compile.proofs.reader.declarations.Given as goal
 abbrev pub invariant-loop-constructors : goal.invariant-loop-constructors
 invariant-loop-constructors l =
     record {
-      reads : (ds : List Decl) × (constructors_of ds ≡ map data_of l.constructors.items) × (equations_of ds ≡ map equation_of l.equations.items) × (run (top []) l.fn.parser.rest.now ≡ run (top ds) l.parser.rest.now);
+      reads : (ds : List Decl) × (constructors_of ds ≡ map data_of l.constructors.items)
+          × (equations_of ds ≡ map equation_of l.equations.items)
+          × (run (top []) l.fn.parser.rest.now ≡ run (top ds) l.parser.rest.now);
       depth : l.parser.depth ≡ 0;
     }
 

@@ -3,9 +3,8 @@ use Rattle.std.specs.List.{AllZip}
 use Rattle.match_compile.proofs.Renames.{Renews}
 use Rattle.match_compile.proofs.rename.+rename_expr.Given as goal
 
-abbrev pub invariant-renamed-loop-alt : goal.invariant-renamed-loop-alt
-invariant-renamed-loop-alt l = record {
-  tested : l.tested ≡ l.initial.tested;
+abbrev pub invariant-renamed_alts-loop-alt : goal.invariant-renamed_alts-loop-alt
+invariant-renamed_alts-loop-alt l = record {
   scope : l.scope ≡ l.fn.scope;
   alts : AllZip (Renews l.fn.scope) l.yielded l.made;
 }

@@ -13,6 +13,9 @@ pats-preserved c =
       within = omega (arith, c.pats.invariant.within);
       jobs =
           c.pats.invariant.jobs
-          ∙ ap (λ k. pending_patterns_at (drop k c.args.places.now) (all_pats (drop k c.args.pats.now)) ++ pending c.args.jobs.now) one
-          ∙ none_there c.args.places.now (all_pats (drop (n + 1) c.args.pats.now)) (all_pats (drop n c.args.pats.now)) n (pending c.args.jobs.now) (ltb-false _ _ (sym c.in_default.ensures.lookup.0));
+          ∙ ap (λ k. pending_patterns_at (drop k c.args.places.now)
+          (all_pats (drop k c.args.pats.now)) ++ pending c.args.jobs.now) one
+          ∙ none_there c.args.places.now (all_pats (drop (n + 1) c.args.pats.now))
+          (all_pats (drop n c.args.pats.now)) n (pending c.args.jobs.now)
+          (ltb-false _ _ (sym c.in_default.ensures.lookup.0));
     }

@@ -7,7 +7,8 @@ use Rattle.match_compile.proofs.row.put.Given as goal
 abbrev pub invariant-pats : goal.invariant-pats
 invariant-pats l = record {
   within : l.at ≤ length l.pats;
-  jobs : pending l.jobs ≡ pending_patterns_at (drop l.at l.places) (all_pats (drop l.at l.pats)) ++ pending l.initial.jobs;
+  jobs : pending l.jobs ≡ pending_patterns_at (drop l.at l.places) (all_pats (drop l.at l.pats))
+      ++ pending l.initial.jobs;
 }
 
 abbrev pub decreases-pats : goal.decreases-pats

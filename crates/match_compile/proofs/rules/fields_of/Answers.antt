@@ -10,5 +10,10 @@ use Rattle.match_compile.proofs.rules.fields_of.Goals.{then-not-contains_key+in_
 pub loop-constructor-preserved : goal.loop-constructor-preserved
 loop-constructor-preserved c = λ q.
     let none : Data = record { name = record { 0 = 0 }; fields = 0; at = 0 } in
-    let h = more_fields c.args.constructors.now c.loop-constructor.constructor-index none (get nat_cmp c.loop-constructor.fields q) q _ (omega arith) (c.loop-constructor.invariant q) in
-    elim c.if-not-contains_key.branch [ then-not-contains_key+in_ok-insert w ↦ grind (arith, common_steps, h) | else-not-contains_key w ↦ grind (arith, common_steps, h) ]
+    let h = more_fields c.args.constructors.now c.loop-constructor.constructor-index none
+    (get nat_cmp c.loop-constructor.fields q) q _ (omega arith) (c.loop-constructor.invariant q)
+    in
+    elim c.if-not-contains_key.branch [
+      | then-not-contains_key+in_ok-insert w ↦ grind (arith, common_steps, h)
+      | else-not-contains_key w ↦ grind (arith, common_steps, h)
+    ]

@@ -7,4 +7,6 @@ use Rattle.match_compile.proofs.Tables.{or_else}
 use Rattle.match_compile.proofs.rules.fields_of.Given as goal
 
 abbrev pub invariant-loop-constructor : goal.invariant-loop-constructor
-invariant-loop-constructor l = (x : ℕ) → or_else (get nat_cmp l.fields x) (fields_in (map data_of (drop l.constructor-index l.constructors)) x) ≡ fields_in (map data_of l.constructors) x
+invariant-loop-constructor l = (x : ℕ) → or_else (get nat_cmp l.fields x)
+    (fields_in (map data_of (drop l.constructor-index l.constructors)) x) ≡ fields_in
+    (map data_of l.constructors) x

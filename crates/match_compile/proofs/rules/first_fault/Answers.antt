@@ -12,6 +12,13 @@ returns c =
     let source = c.args.source.now in
     let equations = map equation_of source.equations in
     let fields = fields_in (map data_of source.constructors) in
-    two (orders_faults (λ x. None) None equations) (patterns_faults source.names fields equations) c.args.first c.in_ok-first.first c.in_ok-next.next
-    (c.in_ok-first.ensures ∙ ap (λ es. least_refusal c.args.first (orders_faults (λ x. None) None (map equation_of es))) c.as_slice-equations.ensures)
-    (c.in_ok-next.ensures ∙ (λ i. least_refusal c.in_ok-first.first (patterns_faults (c.texts.ensures i) (λ x. (c.in_ok-fields.ensures x ∙ ap (λ ds. fields_in (map data_of ds) x) c.as_slice.ensures) i) (map equation_of (c.as_slice-equations.ensures i)))))
+    two (orders_faults (λ x. None) None equations) (patterns_faults source.names fields equations)
+    c.args.first c.in_ok-first.first c.in_ok-next.next
+    (c.in_ok-first.ensures ∙ ap
+    (λ es. least_refusal c.args.first (orders_faults (λ x. None) None (map equation_of es)))
+    c.as_slice-equations.ensures)
+    (c.in_ok-next.ensures ∙
+    (λ i. least_refusal c.in_ok-first.first
+    (patterns_faults (c.texts.ensures i)
+    (λ x. (c.in_ok-fields.ensures x ∙ ap (λ ds. fields_in (map data_of ds) x)
+    c.as_slice.ensures) i) (map equation_of (c.as_slice-equations.ensures i)))))

@@ -9,6 +9,10 @@ pub loop-binder-preserved : goal.loop-binder-preserved
 loop-binder-preserved c =
     let none : Binder = record { name = record { 0 = 0 }; at = 0 } in
     let x : Binder = get_or c.args.binders.now c.loop-binder.binder-index none in
-    let at : x ≡ get_or c.args.binders.now c.loop-binder.binder-index x = same_item c.args.binders.now c.loop-binder.binder-index none x (omega arith) in
-    more_names c.args.texts.now (contains nat_cmp c.loop-binder.seen) (contains nat_cmp c.name.new.seen) c.args.binders.now c.loop-binder.binder-index x (omega arith) at
-    _ c.loop-binder.first c.in_ok-first.first c.in_ok-first.ensures.seen c.in_ok-first.ensures.first c.loop-binder.invariant
+    let at : x ≡ get_or c.args.binders.now c.loop-binder.binder-index x
+    = same_item c.args.binders.now c.loop-binder.binder-index none x (omega arith) in
+    more_names c.args.texts.now (contains nat_cmp c.loop-binder.seen)
+    (contains nat_cmp c.name.new.seen) c.args.binders.now c.loop-binder.binder-index x
+    (omega arith) at
+    _ c.loop-binder.first c.in_ok-first.first c.in_ok-first.ensures.seen c.in_ok-first.ensures.first
+    c.loop-binder.invariant

@@ -12,8 +12,11 @@ loop-equation-preserved c =
     let old : ℕ → Option ℕ = λ y. get nat_cmp c.loop-equation.arities y in
     let new : ℕ → Option ℕ = λ y. get nat_cmp c.first_arity.new.arities y in
     let counted = ap length c.as_slice-count.ensures in
-    more_orders old new c.loop-equation.last _ c.args.equations.now c.loop-equation.equation-index x (omega arith) c.equation-item.is _ c.loop-equation.first c.order-first.result
+    more_orders old new c.loop-equation.last _ c.args.equations.now c.loop-equation.equation-index x
+    (omega arith) c.equation-item.is _ c.loop-equation.first c.order-first.result
     (λ y. c.in_ok-arity.ensures.kept y ∙ ap (λ n. with_equation x.name.0 n old y) counted)
     refl
-    (c.order-first.ensures ∙ (λ i. least_refusal c.loop-equation.first (order_faults (c.in_ok-arity.ensures.before i) (c.is_last.ensures i) (counted i) x.at)))
+    (c.order-first.ensures ∙
+    (λ i. least_refusal c.loop-equation.first
+    (order_faults (c.in_ok-arity.ensures.before i) (c.is_last.ensures i) (counted i) x.at)))
     c.loop-equation.invariant

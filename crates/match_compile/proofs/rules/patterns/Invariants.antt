@@ -7,4 +7,7 @@ use Rattle.match_compile.specs.Faults.{patterns_faults}
 use Rattle.match_compile.proofs.rules.patterns.Given as goal
 
 abbrev pub invariant-loop-equation : goal.invariant-loop-equation
-invariant-loop-equation l = least_refusal l.first (patterns_faults l.texts (λ x. get nat_cmp l.fields x) (map equation_of (drop l.equation-index l.equations))) ≡ least_refusal l.initial.first (patterns_faults l.texts (λ x. get nat_cmp l.fields x) (map equation_of l.equations))
+invariant-loop-equation l = least_refusal l.first
+    (patterns_faults l.texts (λ x. get nat_cmp l.fields x)
+    (map equation_of (drop l.equation-index l.equations))) ≡ least_refusal l.initial.first
+    (patterns_faults l.texts (λ x. get nat_cmp l.fields x) (map equation_of l.equations))

@@ -6,6 +6,8 @@ use Rattle.match_compile.proofs.tree.+alone.Goals as goal
 
 pub returns : goal.returns
 returns t c =
-    alone_test c.args.free (expr c.args.body) c.args.way c.in_ok-opened.opened c.in-Some.test c.in_ok-places.places c.in_ok-places.next (c.in_ok-tree.tree, c.in_ok-tree.free)
-    c.in_ok-places.ensures.numbers c.in_ok-places.ensures.next (c.in_ok-opened.ensures ∙ ap (opening c.args.way) c.as_slice.ensures) c.in_ok-tree.ensures
+    alone_test c.args.free (expr c.args.body) c.args.way c.in_ok-opened.opened c.in-Some.test
+    c.in_ok-places.places c.in_ok-places.next (c.in_ok-tree.tree, c.in_ok-tree.free)
+    c.in_ok-places.ensures.numbers c.in_ok-places.ensures.next
+    (c.in_ok-opened.ensures ∙ ap (opening c.args.way) c.as_slice.ensures) c.in_ok-tree.ensures
     c.in_ok-branches.branches (sym c.first.ensures ∙ c.in-Some.is) c.in_ok-branches.ensures

@@ -8,5 +8,7 @@ use Rattle.match_compile.proofs.emission.Writer.+write.Given as goal
 abbrev pub invariant-alts-loop-branch : goal.invariant-alts-loop-branch
 invariant-alts-loop-branch l = record {
   places : l.places ≡ l.fn.places;
-  made : (others : Alts) → put_before (map alternative l.made) others ≡ alts_of l.self.words.now l.self.at l.self.params (alternatives_of_rest l.self.words.now l.self.at l.onward) l.fn.places (branches_of l.yielded) others;
+  made : (others : Alts) → put_before (map alternative l.made) others ≡ alts_of l.self.words.now
+      l.self.at l.self.params (alternatives_of_rest l.self.words.now l.self.at l.onward) l.fn.places
+      (branches_of l.yielded) others;
 }

@@ -10,7 +10,10 @@ returns-in_ok-push-in-Some c =
     let w : Words = c.args.self.now.words.now in
     let at : ℕ = c.args.self.now.at in
     let bs : List Binder = c.args.onward.now.arguments.now in
-    ap alternatives (c.in_ok-push-in-Some.ensures.ok ∙ ap (λ m. m ++ c.otherwise.result ∷ []) c.new-made.ensures)
+    ap alternatives
+    (c.in_ok-push-in-Some.ensures.ok ∙ ap (λ m. m ++ c.otherwise.result ∷ [])
+    c.new-made.ensures)
     ∙ c.otherwise.ensures
-    ∙ ap (otherwise w at 0) (applied w at c.in-Some.name c.in_ok-args-in-Some.args bs c.in_ok-args-in-Some.ensures)
+    ∙ ap (otherwise w at 0)
+    (applied w at c.in-Some.name c.in_ok-args-in-Some.args bs c.in_ok-args-in-Some.ensures)
     ∙ sym (ap (λ o. call w at (number_of o) bs) c.in-Some.is)
