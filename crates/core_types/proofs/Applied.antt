@@ -17,22 +17,36 @@ made head args = record { head = head; args = args }
 
 module _ (s : Source) (ls : Locals) (t : Typed) (app : App) where
   abbrev IsWhole : Application → Type 0
-  IsWhole a = of_app s ls t a ≡ application_constraint s ls t a ∷ (within_term s ls a.head ++ within_terms s ls a.args)
+  IsWhole a = of_app s ls t a ≡ application_constraint s ls t a ∷
+      (within_term s ls a.head ++ within_terms s ls a.args)
 
   pub with_some : (app.args ≡ [] → ⊥) → IsWhole (application app)
-  with_some some = subst IsWhole (sym (application_of app)) (some_arguments s ls t (term app.head) app.args some)
+  with_some some = subst IsWhole (sym (application_of app))
+      (some_arguments s ls t (term app.head) app.args some)
 
-  pub parts_are : application_constraint s ls t (application app) ∷ (within_term s ls (application app).head ++ within_terms s ls (application app).args)
-      ≡ application_constraint s ls t (application app) ∷ (within_term s ls (term app.head) ++ within_terms s ls (terms_of (map term app.args)))
-  parts_are = ap (λ (a : Application). application_constraint s ls t (application app) ∷ (within_term s ls a.head ++ within_terms s ls a.args)) (application_of app)
+  pub parts_are : application_constraint s ls t (application app) ∷
+      (within_term s ls (application app).head ++ within_terms s ls (application app).args)
+      ≡ application_constraint s ls t (application app) ∷
+      (within_term s ls (term app.head) ++ within_terms s ls (terms_of (map term app.args)))
+  parts_are = ap
+      (λ (a : Application). application_constraint s ls t (application app) ∷
+      (within_term s ls a.head ++ within_terms s ls a.args)) (application_of app)
 
 module _ (s : Source) (ls : Locals) (a : Atom) where
-  bracket_is : (app : Box App Global) (at : ℕ) → a ≡ atom.Bracket app at → term a ≡ Bracket (term app.value.head) (terms_of (map term app.value.args)) at
-  bracket_is app at e = ap term e ∙ term_of-Bracket app at ∙ ap (λ (b : Application). Bracket b.head b.args at) (application_of app.value)
+  bracket_is : (app : Box App Global) (at : ℕ) → a ≡ atom.Bracket app at
+      → term a ≡ Bracket (term app.value.head) (terms_of (map term app.value.args)) at
+  bracket_is app at e = ap term e ∙ term_of-Bracket app at ∙ ap
+      (λ (b : Application). Bracket b.head b.args at) (application_of app.value)
 
-  pub lone_within : (app : Box App Global) (at : ℕ) → a ≡ atom.Bracket app at → app.value.args ≡ [] → within_term s ls (term a) ≡ within_term s ls (term app.value.head)
-  lone_within app at e f = ap (within_term s ls) (bracket_is app at e ∙ ap (λ atoms. Bracket (term app.value.head) (terms_of (map term atoms)) at) f)
+  pub lone_within : (app : Box App Global) (at : ℕ) → a ≡ atom.Bracket app at → app.value.args ≡ []
+      → within_term s ls (term a) ≡ within_term s ls (term app.value.head)
+  lone_within app at e f = ap (within_term s ls)
+      (bracket_is app at e ∙ ap
+      (λ atoms. Bracket (term app.value.head) (terms_of (map term atoms)) at) f)
 
-  pub some_within : (app : Box App Global) (at : ℕ) → a ≡ atom.Bracket app at → (app.value.args ≡ [] → ⊥) → within_term s ls (term a) ≡ of_app s ls (Open (AtBracket at)) (application app.value)
-  some_within app at e some = ap (within_term s ls) (bracket_is app at e) ∙ bracket_within s ls (term app.value.head) app.value.args at some
+  pub some_within : (app : Box App Global) (at : ℕ) → a ≡ atom.Bracket app at
+      → (app.value.args ≡ [] → ⊥) → within_term s ls (term a) ≡ of_app s ls (Open (AtBracket at))
+      (application app.value)
+  some_within app at e some = ap (within_term s ls) (bracket_is app at e) ∙ bracket_within s ls
+      (term app.value.head) app.value.args at some
       ∙ ap (of_app s ls (Open (AtBracket at))) (sym (application_of app.value))

@@ -15,12 +15,19 @@ use Rattle.core_types.specs.Typing.{Typed, Int, Constraint, Locals, constructor_
 
 module _ (s : Source) (u : Typed) (ls : Locals) (p : Pattern) where
   module _ (c : Binder) (xs : List Binder) (is : p ≡ pattern.Con c xs) where
-    module _ (d : TypeDecl) (b : Constructor) (e : constructor_by_name s.types c.name.0 ≡ Some (d, b)) where
-      pub con_constraint : of_pattern s u p ≡ constraint s c.at u (applied s d (used_at s c.at)) ∷ []
-      con_constraint = ap (of_pattern s u) is ∙ ap (λ (o : Option (TypeDecl × Constructor)). elim o [ Some x ↦ constraint s c.at u (applied s x.0 (used_at s c.at)) ∷ [] | None ↦ [] ]) e
+    module _ (d : TypeDecl) (b : Constructor)
+        (e : constructor_by_name s.types c.name.0 ≡ Some (d, b)) where
+      pub con_constraint : of_pattern s u p ≡ constraint s c.at u (applied s d (used_at s c.at)) ∷
+          []
+      con_constraint = ap (of_pattern s u) is ∙ ap
+          (λ (o : Option (TypeDecl × Constructor)). elim o
+          [ Some x ↦ constraint s c.at u (applied s x.0 (used_at s c.at)) ∷ [] | None ↦ [] ]) e
 
-      pub con_names : with_pattern s u p ls ≡ binds_all s xs (read_list s (used_at s c.at) b.fields) ls
-      con_names = ap (λ p. with_pattern s u p ls) is ∙ ap (λ (o : Option (TypeDecl × Constructor)). elim o [ Some x ↦ binds_all s xs (read_list s (used_at s c.at) x.1.fields) ls | None ↦ ls ]) e
+      pub con_names : with_pattern s u p ls ≡ binds_all s xs (read_list s (used_at s c.at) b.fields)
+          ls
+      con_names = ap (λ p. with_pattern s u p ls) is ∙ ap
+          (λ (o : Option (TypeDecl × Constructor)). elim o
+          [ Some x ↦ binds_all s xs (read_list s (used_at s c.at) x.1.fields) ls | None ↦ ls ]) e
 
   module _ (k : ℤ) (at : ℕ) (is : p ≡ pattern.Int k at) where
     pub int_constraint : of_pattern s u p ≡ constraint s at u Int ∷ []
@@ -41,7 +48,8 @@ module _ (s : Source) (ls : Locals) (u t : Typed) where
 
   next : (a : Alt) (alts : List Alt) → of_list (a ∷ alts) ≡ of_alt a ++ of_list alts
   next a alts = ap (of_alts s ls u t) (alternative_of a (alts_of (map alternative alts)))
-      ∙ sym (append_assoc (of_pattern s u a.pattern) (of_expr s (with_pattern s u a.pattern ls) t (expr a.body)) (of_list alts))
+      ∙ sym (append_assoc (of_pattern s u a.pattern)
+      (of_expr s (with_pattern s u a.pattern ls) t (expr a.body)) (of_list alts))
 
   alts_last : (alts : List Alt) (a : Alt) → of_list (alts ++ a ∷ []) ≡ of_list alts ++ of_alt a
   alts_last [] a = next a [] ∙ go (of_alt a)
@@ -50,7 +58,10 @@ module _ (s : Source) (ls : Locals) (u t : Typed) where
       go [] = refl
       go (c ∷ cs) = ap (λ cs. c ∷ cs) (go cs)
   alts_last (b ∷ alts) a = next b (alts ++ a ∷ []) ∙ ap (λ l. of_alt b ++ l) (alts_last alts a)
-      ∙ sym (append_assoc (of_alt b) (of_list alts) (of_alt a)) ∙ ap (λ l. l ++ of_alt a) (sym (next b alts))
+      ∙ sym (append_assoc (of_alt b) (of_list alts) (of_alt a)) ∙ ap (λ l. l ++ of_alt a)
+      (sym (next b alts))
 
-  pub one_alt : (alts : List Alt) (i : ℕ) (a : Alt) → i < length alts → a ≡ get_or alts i a → of_list (take (i + 1) alts) ≡ of_list (take i alts) ++ of_alt a
-  one_alt alts i a l is = ap of_list (take_more alts i a l ∙ ap (λ y. take i alts ++ y ∷ []) (sym is)) ∙ alts_last (take i alts) a
+  pub one_alt : (alts : List Alt) (i : ℕ) (a : Alt) → i < length alts → a ≡ get_or alts i a
+      → of_list (take (i + 1) alts) ≡ of_list (take i alts) ++ of_alt a
+  one_alt alts i a l is = ap of_list
+      (take_more alts i a l ∙ ap (λ y. take i alts ++ y ∷ []) (sym is)) ∙ alts_last (take i alts) a

@@ -19,13 +19,16 @@ use Rattle.core_types.specs.Refused.{NamesFirstBrokenRule, TextBreaksNoRule, IsC
 use Rattle.core_types.proofs.SourceReading.{source_reads}
 
 -- a text breaks no rule where its one program breaks none
-pub text_unbroken : (text : List ℕ) (s : Source) → IsSourceText text s → BreaksNoReadingRule text → IsUnbroken s → TextBreaksNoRule text
-text_unbroken text s is read none = (read, λ s' is'. subst IsUnbroken (one_thing source_reads text s s' is is') none)
+pub text_unbroken : (text : List ℕ) (s : Source) → IsSourceText text s → BreaksNoReadingRule text
+    → IsUnbroken s → TextBreaksNoRule text
+text_unbroken text s is read none =
+    (read, λ s' is'. subst IsUnbroken (one_thing source_reads text s s' is is') none)
 
 pub core_unbroken : (s : Source) (p : Program) → p ≡ erased s → IsUnbroken s → core.BreaksNoRule p
 core_unbroken s p e none = subst core.BreaksNoRule (sym e) (λ k at b. none k at (InCore b))
 
-pub unread_caused : (text : List ℕ) (r : ReadRefusal) → IsReadCause text r → IsCause text (unread_fault r)
+pub unread_caused : (text : List ℕ) (r : ReadRefusal) → IsReadCause text r
+    → IsCause text (unread_fault r)
 unread_caused text (unread.BadByte at) h = Unread h
 unread_caused text (unread.Syntax at) h = Unread h
 unread_caused text (unread.NumberRange at) h = Unread h
@@ -53,7 +56,8 @@ source_caused s (fault.BadSignature at) h = h
 source_caused s fault.ListType h = h
 source_caused s (fault.Memory e) h = tt
 
-pub untyped_caused : (text : List ℕ) (s : Source) (f : TypeFault) → BreaksNoReadingRule text → IsSourceText text s → IsSourceCause s f → IsCause text f
+pub untyped_caused : (text : List ℕ) (s : Source) (f : TypeFault) → BreaksNoReadingRule text
+    → IsSourceText text s → IsSourceCause s f → IsCause text f
 untyped_caused text s (fault.Unread r) read is h = Untyped read s is h
 untyped_caused text s (fault.Unchecked r) read is h = Untyped read s is h
 untyped_caused text s (fault.DuplicateType at) read is h = Untyped read s is h
@@ -66,20 +70,34 @@ untyped_caused text s (fault.Memory e) read is h = tt
 
 -- ---- what is answered for the program of a text says what is answered for the text
 
-module _ (text : List ℕ) (s : Source) (is : IsSourceText text s) (read : BreaksNoReadingRule text) where
-  pub typed_text : {E : Type 0} → IsReadable (erased s) → (r : Result Typed E) → IfOk r (IsTypedSource s) → IfOk r (IsTypedAs text)
-  typed_text readable (Ok t) h = record { source = s; is_text = is; core = h.core; readable = readable; normal = h.normal; solution = h.solution; solves = h.solves }
-  typed_text readable (Err e) h = tt
+module _ (text : List ℕ) (s : Source) (is : IsSourceText text s) (read : BreaksNoReadingRule text)
+  where
+    pub typed_text : {E : Type 0} → IsReadable (erased s) → (r : Result Typed E)
+        → IfOk r (IsTypedSource s) → IfOk r (IsTypedAs text)
+    typed_text readable (Ok t) h = record {
+      source = s;
+      is_text = is;
+      core = h.core;
+      readable = readable;
+      normal = h.normal;
+      solution
+          = h.solution;
+      solves = h.solves;
+    }
+    typed_text readable (Err e) h = tt
 
-  pub unbroken_text : {T E : Type 0} (r : Result T E) → OnOk r (IsUnbroken s) → OnOk r (TextBreaksNoRule text)
-  unbroken_text (Ok x) h = text_unbroken text s is read h
-  unbroken_text (Err e) h = tt
+    pub unbroken_text : {T E : Type 0} (r : Result T E) → OnOk r (IsUnbroken s)
+        → OnOk r (TextBreaksNoRule text)
+    unbroken_text (Ok x) h = text_unbroken text s is read h
+    unbroken_text (Err e) h = tt
 
-  pub caused_text : {T : Type 0} (r : Result T TypeFault) → IfErr r (IsSourceCause s) → IfErr r (IsCause text)
-  caused_text (Ok x) h = tt
-  caused_text (Err f) h = untyped_caused text s f read is h
+    pub caused_text : {T : Type 0} (r : Result T TypeFault) → IfErr r (IsSourceCause s)
+        → IfErr r (IsCause text)
+    caused_text (Ok x) h = tt
+    caused_text (Err f) h = untyped_caused text s f read is h
 
-  pub refused_text : {T : Type 0} (r : Result T TypeRefusal) → IfErr r (IsSourceRefusal s) → IfErr r (IsRefusal text)
-  refused_text (Ok x) h = tt
-  refused_text (Err (refusal.Mismatch at left right)) h = (Untyped read s is h.0, (s, is, h.1))
-  refused_text (Err (refusal.Fault f)) h = (untyped_caused text s f read is h.0, h.1)
+    pub refused_text : {T : Type 0} (r : Result T TypeRefusal) → IfErr r (IsSourceRefusal s)
+        → IfErr r (IsRefusal text)
+    refused_text (Ok x) h = tt
+    refused_text (Err (refusal.Mismatch at left right)) h = (Untyped read s is h.0, (s, is, h.1))
+    refused_text (Err (refusal.Fault f)) h = (untyped_caused text s f read is h.0, h.1)

@@ -26,13 +26,18 @@ pub type-Open : (n : ℕ) → type_of (variant.Open n) ≡ variable n
 type-Open n = ap type_of (sym (variant.rolls-Open n)) ∙ fold-roll-Ty Typed type_layer (layer.Open n)
 
 pub type-Rigid : (f v : NameId) → type_of (variant.Rigid f v) ≡ Rigid f.0 v.0
-type-Rigid f v = ap type_of (sym (variant.rolls-Rigid f v)) ∙ fold-roll-Ty Typed type_layer (layer.Rigid f v)
+type-Rigid f v = ap type_of (sym (variant.rolls-Rigid f v)) ∙ fold-roll-Ty Typed type_layer
+    (layer.Rigid f v)
 
-pub type-Named : (name : NameId) (args : List Ty) → type_of (variant.Named name args) ≡ Named name.0 (types_from (map type_of args))
-type-Named name args = ap type_of (sym (variant.rolls-Named name args)) ∙ fold-roll-Ty Typed type_layer (layer.Named name args)
+pub type-Named : (name : NameId) (args : List Ty) → type_of (variant.Named name args) ≡ Named name.0
+    (types_from (map type_of args))
+type-Named name args = ap type_of (sym (variant.rolls-Named name args)) ∙ fold-roll-Ty Typed
+    type_layer (layer.Named name args)
 
-pub type-Arrow : (from to : Box Ty Global) → type_of (variant.Arrow from to) ≡ Arrow (type_of from.value) (type_of to.value)
-type-Arrow from to = ap type_of (sym (variant.rolls-Arrow from to)) ∙ fold-roll-Ty Typed type_layer (layer.Arrow from to)
+pub type-Arrow : (from to : Box Ty Global) → type_of (variant.Arrow from to) ≡ Arrow
+    (type_of from.value) (type_of to.value)
+type-Arrow from to = ap type_of (sym (variant.rolls-Arrow from to)) ∙ fold-roll-Ty Typed type_layer
+    (layer.Arrow from to)
 
 pub ruleset types = (type-Int, type-Open, type-Rigid, type-Named, type-Arrow)
 
@@ -42,14 +47,19 @@ back_all_from : (ts : List Tree) → back_all variable (trees_from ts) ≡ types
 back_all_from [] = refl
 back_all_from (t ∷ ts) = ap (AndTyped (typed_of t)) (back_all_from ts)
 
-pub named_from : (c : ℕ) (args : List Typed) (ts : List Tree) → args ≡ map typed_of ts → Named c (types_from args) ≡ typed_of (Made (symbol.Named c) (trees_from ts))
-named_from c args ts e = ap (λ us. Named c (types_from us)) e ∙ sym (ap (Named c) (back_all_from ts))
+pub named_from : (c : ℕ) (args : List Typed) (ts : List Tree) → args ≡ map typed_of ts
+    → Named c (types_from args) ≡ typed_of (Made (symbol.Named c) (trees_from ts))
+named_from c args ts e = ap (λ us. Named c (types_from us)) e ∙ sym
+    (ap (Named c) (back_all_from ts))
 
-pub integer_from : (args : List Typed) (ts : List Tree) → args ≡ [] → args ≡ map typed_of ts → Int ≡ typed_of (Made symbol.Integer (trees_from ts))
+pub integer_from : (args : List Typed) (ts : List Tree) → args ≡ [] → args ≡ map typed_of ts
+    → Int ≡ typed_of (Made symbol.Integer (trees_from ts))
 integer_from args [] e f = refl
-integer_from args (t ∷ ts) e f = absurd (let g : [] ≡ typed_of t ∷ map typed_of ts = sym e ∙ f in cc)
+integer_from args (t ∷ ts) e f = absurd
+    (let g : [] ≡ typed_of t ∷ map typed_of ts = sym e ∙ f in cc)
 
-pub arrow_from : (u v : Typed) (ts : List Tree) → u ∷ (v ∷ []) ≡ map typed_of ts → Arrow u v ≡ typed_of (Made symbol.Arrow (trees_from ts))
+pub arrow_from : (u v : Typed) (ts : List Tree) → u ∷ (v ∷ []) ≡ map typed_of ts
+    → Arrow u v ≡ typed_of (Made symbol.Arrow (trees_from ts))
 arrow_from u v [] e = absurd cc
 arrow_from u v (t ∷ []) e = absurd cc
 arrow_from u v (t ∷ (w ∷ [])) e = cc
@@ -69,21 +79,27 @@ many_in : (ts : Trees) → length (trees_in ts) ≡ tree_count ts
 many_in NoTrees = refl
 many_in (AndTree t ts) = ap suc (many_in ts)
 
-read_append : (ps qs : List Piece) (ts : List Tree) → read_back (ps ++ qs) ts ≡ read_back ps (read_back qs ts)
+read_append : (ps qs : List Piece) (ts : List Tree)
+    → read_back (ps ++ qs) ts ≡ read_back ps (read_back qs ts)
 read_append [] qs ts = refl
 read_append (p ∷ ps) qs ts = ap (read_piece p) (read_append ps qs ts)
 
-whole : (s : Symbol) (us : Trees) (ts : List Tree) → read_piece (piece.Made s (tree_count us)) (ts ++ trees_in us) ≡ ts ++ Made s us ∷ []
+whole : (s : Symbol) (us : Trees) (ts : List Tree) → read_piece (piece.Made s (tree_count us))
+    (ts ++ trees_in us) ≡ ts ++ Made s us ∷ []
 whole s us ts =
-    let n : length (ts ++ trees_in us) - tree_count us ≡ length ts = (let a = length-append ts (trees_in us) in let b = many_in us in omega (arith, a, b)) in
-    (λ i. take (n i) (ts ++ trees_in us) ++ Made s (trees_from (drop (n i) (ts ++ trees_in us))) ∷ [])
-    ∙ (λ i. take_at ts (trees_in us) (length ts) refl i ++ Made s (trees_from (drop_at ts (trees_in us) (length ts) refl i)) ∷ [])
+    let n : length (ts ++ trees_in us) - tree_count us ≡ length ts
+    = (let a = length-append ts (trees_in us) in let b = many_in us in omega (arith, a, b)) in
+    (λ i. take (n i) (ts ++ trees_in us) ++ Made s (trees_from (drop (n i) (ts ++ trees_in us))) ∷
+    [])
+    ∙ (λ i. take_at ts (trees_in us) (length ts) refl i
+    ++ Made s (trees_from (drop_at ts (trees_in us) (length ts) refl i)) ∷ [])
     ∙ ap (λ us. ts ++ Made s us ∷ []) (in_and_from us)
 
 mutual
   read_tree : (t : Tree) (ts : List Tree) → read_back (pieces t) ts ≡ ts ++ t ∷ []
   read_tree (Open n) ts = refl
-  read_tree (Made s us) ts = ap (read_piece (piece.Made s (tree_count us))) (read_trees us ts) ∙ whole s us ts
+  read_tree (Made s us) ts = ap (read_piece (piece.Made s (tree_count us))) (read_trees us ts) ∙
+      whole s us ts
 
   read_trees : (us : Trees) (ts : List Tree) → read_back (pieces_all us) ts ≡ ts ++ trees_in us
   read_trees NoTrees ts = sym (append_nil ts)
@@ -102,9 +118,13 @@ pub record Reads (row : List Piece) (read : List Typed) (t : Tree) : Type 0 wher
   pub rest : read_back row trees ≡ t ∷ []
 
 pub reads_first : (row : List Piece) (t : Tree) → row ≡ pieces t → Reads row [] t
-reads_first row t e = record { trees = []; are = refl; rest = ap (λ ps. read_back ps []) e ∙ read_tree t [] }
+reads_first row t e = record
+    { trees = []; are = refl; rest = ap (λ ps. read_back ps []) e ∙ read_tree t [] }
 
-pub reads_next : (row row' : List Piece) (p : Piece) (read read' : List Typed) (t : Tree) → row ≡ row' ++ p ∷ [] → ((ts : List Tree) → read ≡ map typed_of ts → read' ≡ map typed_of (read_piece p ts)) → Reads row read t → Reads row' read' t
+pub reads_next : (row row' : List Piece) (p : Piece) (read read' : List Typed) (t : Tree)
+    → row ≡ row' ++ p ∷ [] →
+    ((ts : List Tree) → read ≡ map typed_of ts → read' ≡ map typed_of (read_piece p ts))
+    → Reads row read t → Reads row' read' t
 reads_next row row' p read read' t e step h = record {
   trees = read_piece p h.trees;
   are = step h.trees h.are;
@@ -115,13 +135,20 @@ pub reads_last : (read : List Typed) (t : Tree) → Reads [] read t → read ≡
 reads_last read t h = h.are ∙ ap (map typed_of) h.rest
 
 -- one more piece is read
-pub piece_open : (n : ℕ) (read : List Typed) (ts : List Tree) → read ≡ map typed_of ts → read ++ variable n ∷ [] ≡ map typed_of (read_piece (piece.Open n) ts)
+pub piece_open : (n : ℕ) (read : List Typed) (ts : List Tree) → read ≡ map typed_of ts → read
+    ++ variable n ∷ [] ≡ map typed_of (read_piece (piece.Open n) ts)
 piece_open n read ts e = ap (λ us. us ++ variable n ∷ []) e ∙ sym (map_push typed_of ts (Open n))
 
-pub piece_made : (s : Symbol) (n : ℕ) (read : List Typed) (u : Typed) (before : ℕ) → before ≡ length read - n → ((ts : List Tree) → drop before read ≡ map typed_of ts → u ≡ typed_of (Made s (trees_from ts)))
-    → (ts : List Tree) → read ≡ map typed_of ts → take before read ++ u ∷ [] ≡ map typed_of (read_piece (piece.Made s n) ts)
+pub piece_made : (s : Symbol) (n : ℕ) (read : List Typed) (u : Typed) (before : ℕ)
+    → before ≡ length read - n →
+    ((ts : List Tree) → drop before read ≡ map typed_of ts → u ≡ typed_of (Made s (trees_from ts)))
+    → (ts : List Tree) → read ≡ map typed_of ts → take before read
+    ++ u ∷ [] ≡ map typed_of (read_piece (piece.Made s n) ts)
 piece_made s n read u before e made ts f =
-    let m : before ≡ length ts - n = e ∙ ap (λ us. length us - n) f ∙ ap (λ k. k - n) (length_map typed_of ts) in
+    let m : before ≡ length ts - n = e ∙ ap (λ us. length us - n) f ∙ ap (λ k. k - n)
+    (length_map typed_of ts) in
     (λ i. take (m i) (f i) ++ u ∷ [])
-    ∙ (λ i. take-map typed_of (length ts - n) ts i ++ made (drop (length ts - n) ts) ((λ j. drop (m j) (f j)) ∙ drop-map typed_of (length ts - n) ts) i ∷ [])
-    ∙ sym (map_push typed_of (take (length ts - n) ts) (Made s (trees_from (drop (length ts - n) ts))))
+    ∙ (λ i. take-map typed_of (length ts - n) ts i ++ made (drop (length ts - n) ts)
+    ((λ j. drop (m j) (f j)) ∙ drop-map typed_of (length ts - n) ts) i ∷ [])
+    ∙ sym (map_push typed_of (take (length ts - n) ts)
+    (Made s (trees_from (drop (length ts - n) ts))))

@@ -23,9 +23,14 @@ use Rattle.core_types.specs.Nodes.{IsInRange, index_of_key, named_by, IsVariable
 -- a variable as a tree without variables, which no other type becomes
 abbrev marked : TypeVariableKey → Tree
 marked (AtBinder at) = Made symbol.Integer (AndTree (Made (symbol.Named at) NoTrees) NoTrees)
-marked (AtResult at) = Made symbol.Integer (AndTree (Made (symbol.Named at) (AndTree (trees.Open 0) NoTrees)) NoTrees)
-marked (AtBracket at) = Made symbol.Integer (AndTree (Made (symbol.Named at) (AndTree (trees.Open 0) (AndTree (trees.Open 0) NoTrees))) NoTrees)
-marked (AtScrutinee at) = Made symbol.Integer (AndTree (Made (symbol.Named at) (AndTree (trees.Open 0) (AndTree (trees.Open 0) (AndTree (trees.Open 0) NoTrees)))) NoTrees)
+marked (AtResult at) = Made symbol.Integer
+    (AndTree (Made (symbol.Named at) (AndTree (trees.Open 0) NoTrees)) NoTrees)
+marked (AtBracket at) = Made symbol.Integer
+    (AndTree (Made (symbol.Named at) (AndTree (trees.Open 0) (AndTree (trees.Open 0) NoTrees)))
+    NoTrees)
+marked (AtScrutinee at) = Made symbol.Integer
+    (AndTree (Made (symbol.Named at)
+    (AndTree (trees.Open 0) (AndTree (trees.Open 0) (AndTree (trees.Open 0) NoTrees)))) NoTrees)
 marked (AtUse at v) = Made symbol.Integer (AndTree (Made (symbol.Rigid at v) NoTrees) NoTrees)
 
 -- a variable as the integers
@@ -38,7 +43,8 @@ abbrev mutual
   tree_with o (Open q) = o q
   tree_with o (Rigid f v) = Made (symbol.Rigid f v) NoTrees
   tree_with o (Named c ts) = Made (symbol.Named c) (trees_with o ts)
-  tree_with o (Arrow t u) = Made symbol.Arrow (AndTree (tree_with o t) (AndTree (tree_with o u) NoTrees))
+  tree_with o (Arrow t u) = Made symbol.Arrow
+      (AndTree (tree_with o t) (AndTree (tree_with o u) NoTrees))
 
   trees_with : (TypeVariableKey → Tree) → Types → Trees
   trees_with o NoTypeds = NoTrees
@@ -77,7 +83,8 @@ abbrev mutual
   AllFormed (AndTree t ts) = IsFormed t × AllFormed ts
 
 mutual
-  formed_by : (ρ : ℕ → Tree) (t : Tree) (u : Typed) → trees.substituted ρ t ≡ tree_with ground u → IsFormed t
+  formed_by : (ρ : ℕ → Tree) (t : Tree) (u : Typed) → trees.substituted ρ t ≡ tree_with ground u
+      → IsFormed t
   formed_by ρ (trees.Open y) u e = tt
   formed_by ρ (Made symbol.Integer NoTrees) u e = tt
   formed_by ρ (Made symbol.Integer (AndTree t ts)) Int e = absurd cc
@@ -105,16 +112,21 @@ mutual
   formed_by ρ (Made symbol.Arrow (AndTree t (AndTree u ts))) (Open q) e = absurd cc
   formed_by ρ (Made symbol.Arrow (AndTree t (AndTree u ts))) (Rigid f v) e = absurd cc
   formed_by ρ (Made symbol.Arrow (AndTree t (AndTree u ts))) (Named c us) e = absurd cc
-  formed_by ρ (Made symbol.Arrow (AndTree t (AndTree u ts))) (Arrow a b) e =
-      (formed_by ρ t a (head_same (arguments_same e)), formed_by ρ u b (head_same (rest_same (arguments_same e))))
+  formed_by ρ (Made symbol.Arrow (AndTree t (AndTree u ts))) (Arrow a b) e = (
+    formed_by ρ t a (head_same (arguments_same e)),
+    formed_by ρ u b (head_same (rest_same (arguments_same e))),
+  )
 
-  all_formed_by : (ρ : ℕ → Tree) (ts : Trees) (us : Types) → trees.all_substituted ρ ts ≡ trees_with ground us → AllFormed ts
+  all_formed_by : (ρ : ℕ → Tree) (ts : Trees) (us : Types)
+      → trees.all_substituted ρ ts ≡ trees_with ground us → AllFormed ts
   all_formed_by ρ NoTrees us e = tt
   all_formed_by ρ (AndTree t ts) NoTypeds e = absurd cc
-  all_formed_by ρ (AndTree t ts) (AndTyped u us) e = (formed_by ρ t u (head_same e), all_formed_by ρ ts us (rest_same e))
+  all_formed_by ρ (AndTree t ts) (AndTyped u us) e =
+      (formed_by ρ t u (head_same e), all_formed_by ρ ts us (rest_same e))
 
 -- a substitution of trees is one of types
-module _ (ρ : ℕ → Tree) (f g : ℕ → Typed) (τ : Substitution) (fits : (y : ℕ) → back f (ρ y) ≡ under τ (g y)) where
+module _ (ρ : ℕ → Tree) (f g : ℕ → Typed) (τ : Substitution)
+    (fits : (y : ℕ) → back f (ρ y) ≡ under τ (g y)) where
   mutual
     under_back : (t : Tree) → IsFormed t → back f (trees.substituted ρ t) ≡ under τ (back g t)
     under_back (trees.Open y) h = fits y
@@ -124,18 +136,22 @@ module _ (ρ : ℕ → Tree) (f g : ℕ → Typed) (τ : Substitution) (fits : (
     under_back (Made (symbol.Named c) ts) h = ap (Named c) (under_back_all ts h)
     under_back (Made symbol.Arrow NoTrees) h = absurd h
     under_back (Made symbol.Arrow (AndTree t NoTrees)) h = absurd h
-    under_back (Made symbol.Arrow (AndTree t (AndTree u ts))) h = λ i. Arrow (under_back t h.0 i) (under_back u h.1 i)
+    under_back (Made symbol.Arrow (AndTree t (AndTree u ts))) h
+        = λ i. Arrow (under_back t h.0 i) (under_back u h.1 i)
 
-    under_back_all : (ts : Trees) → AllFormed ts → back_all f (trees.all_substituted ρ ts) ≡ under_all τ (back_all g ts)
+    under_back_all : (ts : Trees) → AllFormed ts → back_all f (trees.all_substituted ρ ts) ≡
+        under_all τ (back_all g ts)
     under_back_all NoTrees h = refl
     under_back_all (AndTree t ts) h = λ i. AndTyped (under_back t h.0 i) (under_back_all ts h.1 i)
 
 -- ---- lists
 
-take_equations : (terms : List Term) (k : ℕ) (ps : List (ℕ × ℕ)) → take k (equations terms ps) ≡ equations terms (take k ps)
+take_equations : (terms : List Term) (k : ℕ) (ps : List (ℕ × ℕ))
+    → take k (equations terms ps) ≡ equations terms (take k ps)
 take_equations terms zero ps = refl
 take_equations terms (suc k) [] = refl
-take_equations terms (suc k) (p ∷ ps) = ap (λ es. (tree terms p.0, tree terms p.1) ∷ es) (take_equations terms k ps)
+take_equations terms (suc k) (p ∷ ps) = ap (λ es. (tree terms p.0, tree terms p.1) ∷ es)
+    (take_equations terms k ps)
 
 take_past : {T : Type 0} (k : ℕ) (xs : List T) → slice_get xs k ≡ None → take (suc k) xs ≡ take k xs
 take_past zero [] e = refl
@@ -149,56 +165,78 @@ module _ (n : Nodes) (h : IsSound n) where
   abbrev value : (ℕ → Tree) → ℕ → Tree
   value σ x = trees.substituted σ (tree n.terms.items x)
 
-  made_value : (σ : ℕ → Tree) (x : ℕ) (s : Symbol) (xs : List ℕ) → IsSymbolAt n x s xs → value σ x ≡ Made s (trees (value σ) xs)
-  made_value σ x s xs e = value_respects n.terms.items h.earlier σ x s (ap symbol_in e) ∙ ap (λ o. Made s (trees (value σ) (arguments_in o))) e
+  made_value : (σ : ℕ → Tree) (x : ℕ) (s : Symbol) (xs : List ℕ) → IsSymbolAt n x s xs
+      → value σ x ≡ Made s (trees (value σ) xs)
+  made_value σ x s xs e = value_respects n.terms.items h.earlier σ x s (ap symbol_in e) ∙ ap
+      (λ o. Made s (trees (value σ) (arguments_in o))) e
 
   open_value : (σ : ℕ → Tree) (q : TypeVariableKey) (x : ℕ) → IsVariableAt n q x → value σ x ≡ σ x
   open_value σ q x e = value_open n.terms.items σ x (ap symbol_in e.0)
 
   -- types by the trees of their terms
-  module _ (σ : ℕ → Tree) (f : ℕ → Typed) (τ : Substitution) (fits : (q : TypeVariableKey) (x : ℕ) → IsVariableAt n q x → τ q ≡ back f (σ x)) where
+  module _ (σ : ℕ → Tree) (f : ℕ → Typed) (τ : Substitution)
+      (fits : (q : TypeVariableKey) (x : ℕ) → IsVariableAt n q x → τ q ≡ back f (σ x)) where
     mutual
       shown : (t : Typed) (x : ℕ) → Denotes n t x → under τ t ≡ back f (value σ x)
       shown Int x e = sym (ap (back f) (made_value σ x symbol.Integer [] e))
       shown (Open q) x e = fits q x e ∙ sym (ap (back f) (open_value σ q x e))
       shown (Rigid g v) x e = sym (ap (back f) (made_value σ x (symbol.Rigid g v) [] e))
-      shown (Named c ts) x e = ap (Named c) (all_shown ts e.0 e.2) ∙ sym (ap (back f) (made_value σ x (symbol.Named c) e.0 e.1))
-      shown (Arrow t u) x e = (λ i. Arrow (shown t e.0 e.3 i) (shown u e.1 e.4 i)) ∙ sym (ap (back f) (made_value σ x symbol.Arrow (e.0 ∷ (e.1 ∷ [])) e.2))
+      shown (Named c ts) x e = ap (Named c) (all_shown ts e.0 e.2) ∙ sym
+          (ap (back f) (made_value σ x (symbol.Named c) e.0 e.1))
+      shown (Arrow t u) x e = (λ i. Arrow (shown t e.0 e.3 i) (shown u e.1 e.4 i)) ∙ sym
+          (ap (back f) (made_value σ x symbol.Arrow (e.0 ∷ (e.1 ∷ [])) e.2))
 
-      all_shown : (ts : Types) (xs : List ℕ) → DenoteAll n ts xs → under_all τ ts ≡ back_all f (trees (value σ) xs)
+      all_shown : (ts : Types) (xs : List ℕ) → DenoteAll n ts xs
+          → under_all τ ts ≡ back_all f (trees (value σ) xs)
       all_shown NoTypeds xs e = sym (ap (λ ys. back_all f (trees (value σ) ys)) e)
-      all_shown (AndTyped t ts) xs e = (λ i. AndTyped (shown t e.0 e.3 i) (all_shown ts e.1 e.4 i)) ∙ sym (ap (λ ys. back_all f (trees (value σ) ys)) e.2)
+      all_shown (AndTyped t ts) xs e = (λ i. AndTyped (shown t e.0 e.3 i) (all_shown ts e.1 e.4 i))
+          ∙ sym (ap (λ ys. back_all f (trees (value σ) ys)) e.2)
 
-    solves_shown : (cs : List Constraint) (ps : List (ℕ × ℕ)) → PairsDenote n cs ps → equal.Solves σ (equations n.terms.items ps) → Solves τ cs
+    solves_shown : (cs : List Constraint) (ps : List (ℕ × ℕ)) → PairsDenote n cs ps
+        → equal.Solves σ (equations n.terms.items ps) → Solves τ cs
     solves_shown [] ps s e = tt
     solves_shown (c ∷ cs) ps s e =
-        let k : equal.Solves σ (equations n.terms.items (s.0 ∷ s.1)) = subst (λ ps. equal.Solves σ (equations n.terms.items ps)) s.2 e in
-        (shown c.left s.0.0 s.3 ∙ ap (back f) k.0 ∙ sym (shown c.right s.0.1 s.4), solves_shown cs s.1 s.5 k.1)
+        let k : equal.Solves σ (equations n.terms.items (s.0 ∷ s.1))
+        = subst (λ ps. equal.Solves σ (equations n.terms.items ps)) s.2 e in (
+          shown c.left s.0.0 s.3 ∙ ap (back f) k.0 ∙ sym (shown c.right s.0.1 s.4),
+          solves_shown cs s.1 s.5 k.1,
+        )
 
   -- trees by the types that their terms stand for
-  module _ (o : TypeVariableKey → Tree) (τ : Substitution) (σ : ℕ → Tree) (fits : (q : TypeVariableKey) (x : ℕ) → IsVariableAt n q x → σ x ≡ tree_with o (τ q)) where
+  module _ (o : TypeVariableKey → Tree) (τ : Substitution) (σ : ℕ → Tree)
+      (fits : (q : TypeVariableKey) (x : ℕ) → IsVariableAt n q x → σ x ≡ tree_with o (τ q)) where
     mutual
       made : (t : Typed) (x : ℕ) → Denotes n t x → value σ x ≡ tree_with o (under τ t)
       made Int x e = made_value σ x symbol.Integer [] e
       made (Open q) x e = open_value σ q x e ∙ fits q x e
       made (Rigid g v) x e = made_value σ x (symbol.Rigid g v) [] e
-      made (Named c ts) x e = made_value σ x (symbol.Named c) e.0 e.1 ∙ ap (Made (symbol.Named c)) (all_made ts e.0 e.2)
+      made (Named c ts) x e = made_value σ x (symbol.Named c) e.0 e.1 ∙ ap (Made (symbol.Named c))
+          (all_made ts e.0 e.2)
       made (Arrow t u) x e = made_value σ x symbol.Arrow (e.0 ∷ (e.1 ∷ [])) e.2
-          ∙ (λ i. Made symbol.Arrow (AndTree (made t e.0 e.3 i) (AndTree (made u e.1 e.4 i) NoTrees)))
+          ∙ (λ i. Made symbol.Arrow
+          (AndTree (made t e.0 e.3 i) (AndTree (made u e.1 e.4 i) NoTrees)))
 
-      all_made : (ts : Types) (xs : List ℕ) → DenoteAll n ts xs → trees (value σ) xs ≡ trees_with o (under_all τ ts)
+      all_made : (ts : Types) (xs : List ℕ) → DenoteAll n ts xs
+          → trees (value σ) xs ≡ trees_with o (under_all τ ts)
       all_made NoTypeds xs e = ap (trees (value σ)) e
-      all_made (AndTyped t ts) xs e = ap (trees (value σ)) e.2 ∙ (λ i. AndTree (made t e.0 e.3 i) (all_made ts e.1 e.4 i))
+      all_made (AndTyped t ts) xs e = ap (trees (value σ)) e.2 ∙
+          (λ i. AndTree (made t e.0 e.3 i) (all_made ts e.1 e.4 i))
 
-    solves_made : (cs : List Constraint) (ps : List (ℕ × ℕ)) → PairsDenote n cs ps → Solves τ cs → equal.Solves σ (equations n.terms.items ps)
+    solves_made : (cs : List Constraint) (ps : List (ℕ × ℕ)) → PairsDenote n cs ps → Solves τ cs
+        → equal.Solves σ (equations n.terms.items ps)
     solves_made [] ps s e = subst (λ ps. equal.Solves σ (equations n.terms.items ps)) (sym s) tt
-    solves_made (c ∷ cs) ps s e = subst (λ ps. equal.Solves σ (equations n.terms.items ps)) (sym s.2)
-        (made c.left s.0.0 s.3 ∙ ap (tree_with o) e.0 ∙ sym (made c.right s.0.1 s.4), solves_made cs s.1 s.5 e.1)
+    solves_made (c ∷ cs) ps s e = subst (λ ps. equal.Solves σ (equations n.terms.items ps))
+        (sym s.2) (
+          made c.left s.0.0 s.3 ∙ ap (tree_with o) e.0 ∙ sym (made c.right s.0.1 s.4),
+          solves_made cs s.1 s.5 e.1,
+        )
 
-  stand_take : (k : ℕ) (cs : List Constraint) (ps : List (ℕ × ℕ)) → PairsDenote n cs ps → PairsDenote n (take k cs) (take k ps)
+  stand_take : (k : ℕ) (cs : List Constraint) (ps : List (ℕ × ℕ)) → PairsDenote n cs ps
+      → PairsDenote n (take k cs) (take k ps)
   stand_take zero cs ps s = refl
   stand_take (suc k) [] ps s = ap (take (suc k)) s
-  stand_take (suc k) (c ∷ cs) ps s = (s.0, take k s.1, ap (take (suc k)) s.2, s.3, s.4, stand_take k cs s.1 s.5)
+  stand_take (suc k) (c ∷ cs) ps s =
+      (s.0, take k s.1, ap (take (suc k)) s.2, s.3, s.4, stand_take k cs s.1 s.5)
 
 -- ---- variables and their keys
 
@@ -259,12 +297,14 @@ module _ (n : Nodes) (h : IsSound n) where
   place_of q = if in_range q then index_of_key n q else None
 
   place_is : (q : TypeVariableKey) (x : ℕ) → IsVariableAt n q x → place_of q ≡ Some x
-  place_is q x e = ap (λ b. if b then index_of_key n q else None) (is_in_range q (h.ranged q x e)) ∙ h.listed q x e
+  place_is q x e = ap (λ b. if b then index_of_key n q else None) (is_in_range q (h.ranged q x e)) ∙
+      h.listed q x e
 
   place_has : (q : TypeVariableKey) (x : ℕ) → place_of q ≡ Some x → IsVariableAt n q x
   place_has q x e = go (in_range q) refl e
     where
-      go : (b : Bool) → in_range q ≡ b → (if b then index_of_key n q else None) ≡ Some x → IsVariableAt n q x
+      go : (b : Bool) → in_range q ≡ b → (if b then index_of_key n q else None) ≡ Some x
+          → IsVariableAt n q x
       go true r e = h.held q x (has_range q r) e
       go false r e = absurd cc
 
@@ -275,26 +315,37 @@ module _ (n : Nodes) (h : IsSound n) where
   abbrev from_trees : (ℕ → Tree) → Substitution
   from_trees σ q = or_aside σ q (place_of q)
 
-  from_fits : (σ : ℕ → Tree) (q : TypeVariableKey) (x : ℕ) → IsVariableAt n q x → from_trees σ q ≡ back variable (σ x)
+  from_fits : (σ : ℕ → Tree) (q : TypeVariableKey) (x : ℕ) → IsVariableAt n q x
+      → from_trees σ q ≡ back variable (σ x)
   from_fits σ q x e = ap (or_aside σ q) (place_is q x e)
 
   abbrev to_trees : (TypeVariableKey → Tree) → Substitution → ℕ → Tree
   to_trees o τ x = tree_with o (τ (key_at x))
 
-  to_fits : (o : TypeVariableKey → Tree) (τ : Substitution) (q : TypeVariableKey) (x : ℕ) → IsVariableAt n q x → to_trees o τ x ≡ tree_with o (τ q)
+  to_fits : (o : TypeVariableKey → Tree) (τ : Substitution) (q : TypeVariableKey) (x : ℕ)
+      → IsVariableAt n q x → to_trees o τ x ≡ tree_with o (τ q)
   to_fits o τ q x e = ap (λ k. tree_with o (τ (key_or k))) e.1
 
   module _ (cs : List Constraint) (ps : List (ℕ × ℕ)) (s : PairsDenote n cs ps) where
-    pub types_solve : (σ : ℕ → Tree) → equal.Solves σ (equations n.terms.items ps) → Solves (from_trees σ) cs
+    pub types_solve : (σ : ℕ → Tree) → equal.Solves σ (equations n.terms.items ps)
+        → Solves (from_trees σ) cs
     types_solve σ e = solves_shown n h σ variable (from_trees σ) (from_fits σ) cs ps s e
 
-    pub trees_solve : (o : TypeVariableKey → Tree) (τ : Substitution) → Solves τ cs → equal.Solves (to_trees o τ) (equations n.terms.items ps)
+    pub trees_solve : (o : TypeVariableKey → Tree) (τ : Substitution) → Solves τ cs
+        → equal.Solves (to_trees o τ) (equations n.terms.items ps)
     trees_solve o τ e = solves_made n h o τ (to_trees o τ) (to_fits o τ) cs ps s e
 
-    pub types_general : (σ : ℕ → Tree) → equal.IsMostGeneral σ (equations n.terms.items ps) → IsMostGeneral (from_trees σ) cs
-    types_general σ g = record { solves = types_solve σ g.solves; general = λ τ e. (moved (g.general (to_trees marked τ) (trees_solve marked τ e)).0 τ, others τ e) }
+    pub types_general : (σ : ℕ → Tree) → equal.IsMostGeneral σ (equations n.terms.items ps)
+        → IsMostGeneral (from_trees σ) cs
+    types_general σ g = record {
+      solves = types_solve σ g.solves;
+      general = λ τ e.
+          (moved (g.general (to_trees marked τ) (trees_solve marked τ e)).0 τ, others τ e);
+    }
       where
-        others : (τ : Substitution) (e : Solves τ cs) (q : TypeVariableKey) → τ q ≡ under (moved (g.general (to_trees marked τ) (trees_solve marked τ e)).0 τ) (from_trees σ q)
+        others : (τ : Substitution) (e : Solves τ cs) (q : TypeVariableKey)
+            → τ q ≡ under (moved (g.general (to_trees marked τ) (trees_solve marked τ e)).0 τ)
+            (from_trees σ q)
         others τ e q = go (place_of q) refl
           where
             m : (ρ : ℕ → Tree) × ((x : ℕ) → to_trees marked τ x ≡ trees.substituted ρ (σ x))
@@ -310,33 +361,58 @@ module _ (n : Nodes) (h : IsSound n) where
                 ap (λ k. τ (key_or k)) (sym v.1)
                 ∙ sym (back_with variable (τ (key_at x)))
                 ∙ ap (back variable) (m.1 x)
-                ∙ under_back m.0 variable variable (moved m.0 τ) (λ y. refl) (σ x) (formed_by l.0 (σ x) (τ (key_at x)) (sym (l.1 x)))
+                ∙ under_back m.0 variable variable (moved m.0 τ) (λ y. refl) (σ x)
+                (formed_by l.0 (σ x) (τ (key_at x)) (sym (l.1 x)))
 
   module _ (cs : List Constraint) (ps : List (ℕ × ℕ)) (s : PairsDenote n cs ps) where
-    first_solves : (k : ℕ) (σ : ℕ → Tree) → equal.Solves σ (take k (equations n.terms.items ps)) → Solves (from_trees σ) (take k cs)
-    first_solves k σ e = types_solve (take k cs) (take k ps) (stand_take n h k cs ps s) σ (subst (equal.Solves σ) (take_equations n.terms.items k ps) e)
+    first_solves : (k : ℕ) (σ : ℕ → Tree) → equal.Solves σ (take k (equations n.terms.items ps))
+        → Solves (from_trees σ) (take k cs)
+    first_solves k σ e = types_solve (take k cs) (take k ps) (stand_take n h k cs ps s) σ
+        (subst (equal.Solves σ) (take_equations n.terms.items k ps) e)
 
-    pub none_solves : (k : ℕ) → equal.AreUnsolvable (take k (equations n.terms.items ps)) → (τ : Substitution) → Solves τ (take k cs) → ⊥
-    none_solves k u τ e = u (to_trees ground τ) (subst (equal.Solves (to_trees ground τ)) (sym (take_equations n.terms.items k ps)) (trees_solve (take k cs) (take k ps) (stand_take n h k cs ps s) ground τ e))
+    pub none_solves : (k : ℕ) → equal.AreUnsolvable (take k (equations n.terms.items ps))
+        → (τ : Substitution) → Solves τ (take k cs) → ⊥
+    none_solves k u τ e = u (to_trees ground τ)
+        (subst (equal.Solves (to_trees ground τ)) (sym (take_equations n.terms.items k ps))
+        (trees_solve (take k cs) (take k ps) (stand_take n h k cs ps s) ground τ e))
 
-    pub first_is : (i : ℕ) (c : Constraint) → slice_get cs i ≡ Some c → equal.IsFirstUnsolved (equations n.terms.items ps) i → IsFirstUnsolved cs i c
-    first_is i c e u = record { is = e; before = from_trees u.before; solves = first_solves i u.before u.solves; none = none_solves (suc i) u.none }
+    pub first_is : (i : ℕ) (c : Constraint) → slice_get cs i ≡ Some c
+        → equal.IsFirstUnsolved (equations n.terms.items ps) i → IsFirstUnsolved cs i c
+    first_is i c e u = record {
+      is = e;
+      before = from_trees u.before;
+      solves = first_solves i u.before u.solves;
+      none
+          = none_solves (suc i) u.none;
+    }
 
-    pub first_there : (i : ℕ) → slice_get cs i ≡ None → equal.IsFirstUnsolved (equations n.terms.items ps) i → ⊥
-    first_there i e u = none_solves (suc i) u.none (from_trees u.before) (subst (Solves (from_trees u.before)) (sym (take_past i cs e)) (first_solves i u.before u.solves))
+    pub first_there : (i : ℕ) → slice_get cs i ≡ None
+        → equal.IsFirstUnsolved (equations n.terms.items ps) i → ⊥
+    first_there i e u = none_solves (suc i) u.none (from_trees u.before)
+        (subst (Solves (from_trees u.before)) (sym (take_past i cs e))
+        (first_solves i u.before u.solves))
 
 -- ---- the sides of a constraint
 
-stand_at : (n : Nodes) (k : ℕ) (cs : List Constraint) (ps : List (ℕ × ℕ)) → PairsDenote n cs ps → (c : Constraint) (p : ℕ × ℕ) → slice_get cs k ≡ Some c → slice_get ps k ≡ Some p → Denotes n c.left p.0 × Denotes n c.right p.1
+stand_at : (n : Nodes) (k : ℕ) (cs : List Constraint) (ps : List (ℕ × ℕ)) → PairsDenote n cs ps
+    → (c : Constraint) (p : ℕ × ℕ) → slice_get cs k ≡ Some c → slice_get ps k ≡ Some p
+    → Denotes n c.left p.0 × Denotes n c.right p.1
 stand_at n k [] ps s c p e f = absurd cc
 stand_at n zero (d ∷ cs) ps s c p e f =
     let same : d ≡ c = cc in
     let there : s.0 ≡ p = some_is (ap (λ ps. slice_get ps zero) (sym s.2) ∙ f) in
-    subst (λ (q : ℕ × ℕ). Denotes n c.left q.0 × Denotes n c.right q.1) there (subst (λ (d : Constraint). Denotes n d.left s.0.0 × Denotes n d.right s.0.1) same (s.3, s.4))
-stand_at n (suc k) (d ∷ cs) ps s c p e f = stand_at n k cs s.1 s.5 c p e (ap (λ ps. slice_get ps (suc k)) (sym s.2) ∙ f)
+    subst (λ (q : ℕ × ℕ). Denotes n c.left q.0 × Denotes n c.right q.1) there
+    (subst (λ (d : Constraint). Denotes n d.left s.0.0 × Denotes n d.right s.0.1) same
+    (s.3, s.4))
+stand_at n (suc k) (d ∷ cs) ps s c p e f = stand_at n k cs s.1 s.5 c p e
+    (ap (λ ps. slice_get ps (suc k)) (sym s.2) ∙ f)
 
-pub sides_shown : (n : Nodes) (h : IsSound n) (cs : List Constraint) (ps : List (ℕ × ℕ)) → PairsDenote n cs ps → (k : ℕ) (c : Constraint) (p : ℕ × ℕ) → slice_get cs k ≡ Some c → slice_get ps k ≡ Some p
-    → (σ : ℕ → Tree) → equal.IsMostGeneral σ (equations n.terms.items (take k ps)) → AreSides (take k cs) c (typed_of (trees.substituted σ (tree n.terms.items p.0))) (typed_of (trees.substituted σ (tree n.terms.items p.1)))
+pub sides_shown : (n : Nodes) (h : IsSound n) (cs : List Constraint) (ps : List (ℕ × ℕ))
+    → PairsDenote n cs ps → (k : ℕ) (c : Constraint) (p : ℕ × ℕ) → slice_get cs k ≡ Some c
+    → slice_get ps k ≡ Some p
+    → (σ : ℕ → Tree) → equal.IsMostGeneral σ (equations n.terms.items (take k ps))
+    → AreSides (take k cs) c (typed_of (trees.substituted σ (tree n.terms.items p.0)))
+    (typed_of (trees.substituted σ (tree n.terms.items p.1)))
 sides_shown n h cs ps s k c p e f σ g =
     let d = stand_at n k cs ps s c p e f in
     record {

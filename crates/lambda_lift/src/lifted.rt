@@ -5,7 +5,6 @@ ghost use Rattle.core_reader.specs.declared.syntax.Function.{Function as code_fu
 ghost use Rattle.core_reader.specs.Grammar.{name_id};
 ghost use Rattle.core_reader.specs.Tree as core;
 ghost use Rattle.lambda_reader.specs.Tree.{NoBinds, NoAlts};
-ghost use Rattle.lambda_reader.specs.Tree as source;
 ghost use Rattle.lambda_reader.specs.Code.{term, application, member, group_of, expr as expr_of, alternative, alts_of, function as function_of};
 ghost use Rattle.lambda_lift.specs.Headers.{within};
 ghost use Rattle.lambda_lift.specs.Free.{free};
@@ -339,63 +338,21 @@ fn expr(
 {
     match source {
         lambda::Expr::App(inner) => Ok(Expr::App(app(alloc, words, scope, made, inner)?)),
-        lambda::Expr::Let(group, body) => let_in(alloc, words, scope, made, group, body),
-        lambda::Expr::Case(tested, alts) => case_of(alloc, words, scope, made, tested, alts),
+        lambda::Expr::Let(group, body) => {
+            let depth = scope.len();
+            let binders = binders_of(alloc, group.as_slice())?;
+            words.enter_all(scope, binders.as_slice())?;
+            let binds = members(alloc, words, scope, made, group)?;
+            let inner = expr(alloc, words, scope, made, Box::into_inner(body))?;
+            scope.leave(depth);
+            Ok(Expr::Let(binds, Box::new(alloc, inner)?))
+        }
+        lambda::Expr::Case(tested, alts) => {
+            let value = expr(alloc, words, scope, made, Box::into_inner(tested))?;
+            let arms = alternatives(alloc, words, scope, made, alts)?;
+            Ok(Expr::Case(Box::new(alloc, value)?, arms))
+        }
     }
-}
-
-/// An expression under a let group.
-#[cycle(lift)]
-#[inline(never)]
-fn let_in(
-    alloc: Global,
-    words: &Words,
-    scope: &mut Scope,
-    made: &mut Seq<Function>,
-    group: Seq<lambda::Bind>,
-    body: Box<lambda::Expr>,
-) -> Result<Expr, AllocError>
-    ensures scope { IfOk result (λ _. scope.new ≡ scope.old) }
-    ensures made { IfOk result (λ _. map core.function made.new
-        ≡ with_lifted_functions (program_of_names words.now) (map core.function made.old)
-        (in_expr (program_of_names words.now) scope.old
-        (source.Let (group_of (map member group)) (expr_of body.value)))) }
-    ensures lifted { IfOk result (λ new. core.expr new
-        ≡ lift (program_of_names words.now) scope.old (length made.old)
-        (source.Let (group_of (map member group)) (expr_of body.value))) }
-{
-    let depth = scope.len();
-    let binders = binders_of(alloc, group.as_slice())?;
-    words.enter_all(scope, binders.as_slice())?;
-    let binds = members(alloc, words, scope, made, group)?;
-    let inner = expr(alloc, words, scope, made, Box::into_inner(body))?;
-    scope.leave(depth);
-    Ok(Expr::Let(binds, Box::new(alloc, inner)?))
-}
-
-/// A case.
-#[cycle(lift)]
-#[inline(never)]
-fn case_of(
-    alloc: Global,
-    words: &Words,
-    scope: &mut Scope,
-    made: &mut Seq<Function>,
-    tested: Box<lambda::Expr>,
-    alts: Seq<lambda::Alt>,
-) -> Result<Expr, AllocError>
-    ensures scope { IfOk result (λ _. scope.new ≡ scope.old) }
-    ensures made { IfOk result (λ _. map core.function made.new
-        ≡ with_lifted_functions (program_of_names words.now) (map core.function made.old)
-        (in_expr (program_of_names words.now) scope.old
-        (source.Case (expr_of tested.value) (alts_of (map alternative alts))))) }
-    ensures lifted { IfOk result (λ new. core.expr new
-        ≡ lift (program_of_names words.now) scope.old (length made.old)
-        (source.Case (expr_of tested.value) (alts_of (map alternative alts)))) }
-{
-    let value = expr(alloc, words, scope, made, Box::into_inner(tested))?;
-    let arms = alternatives(alloc, words, scope, made, alts)?;
-    Ok(Expr::Case(Box::new(alloc, value)?, arms))
 }
 
 /// The alternatives of a case.

@@ -10,11 +10,13 @@ use Rattle.core_types.proofs.accepted.typed_source_or_place.Goals as goal
 pub normal_form-requires-clause-unbroken : goal.normal_form-requires-clause-unbroken
 normal_form-requires-clause-unbroken c =
     let s : Source = source_of c.args.source in
-    let judged : IsVerdict s verdict.Unbroken = subst (IsVerdict s) c.in-Unbroken.is c.in_ok-verdict.ensures in
+    let judged : IsVerdict s verdict.Unbroken = subst (IsVerdict s) c.in-Unbroken.is
+    c.in_ok-verdict.ensures in
     core_unbroken s (program c.args.source.core) c.requires.erased judged.0
 
 pub returns-in-Broken-clause-refused : goal.returns-in-Broken-clause-refused
 returns-in-Broken-clause-refused c =
     let s : Source = source_of c.args.source in
-    let judged : IsVerdict s (verdict.Broken c.in-Broken.fault) = subst (IsVerdict s) c.in-Broken.is c.in_ok-verdict.ensures in
+    let judged : IsVerdict s (verdict.Broken c.in-Broken.fault)
+    = subst (IsVerdict s) c.in-Broken.is c.in_ok-verdict.ensures in
     source_caused s c.in-Broken.fault judged.0

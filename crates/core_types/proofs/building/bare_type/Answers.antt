@@ -8,14 +8,18 @@ use Rattle.core_types.proofs.building.bare_type.Goals as goal
 
 pub returns-in_ok-term-in-Name : goal.returns-in_ok-term-in-Name
 returns-in_ok-term-in-Name c = λ s ls t e k h d.
-    gives_as c.args.nodes.now c.name_type.new.nodes (name_type s ls c.in-Name.name.0 c.in-Name.at) (term_type s ls t) c.in_ok-term-in-Name.term
-    (bare_type s ls t ∙ ap (term_type s ls) (sym e ∙ ap term_of c.in-Name.is ∙ term_of-Name c.in-Name.name c.in-Name.at))
+    gives_as c.args.nodes.now c.name_type.new.nodes (name_type s ls c.in-Name.name.0 c.in-Name.at)
+    (term_type s ls t) c.in_ok-term-in-Name.term
+    (bare_type s ls t ∙ ap (term_type s ls)
+    (sym e ∙ ap term_of c.in-Name.is ∙ term_of-Name c.in-Name.name c.in-Name.at))
     (c.in_ok-term-in-Name.ensures s ls k h d)
 
 pub returns-in_ok-term-in-Con : goal.returns-in_ok-term-in-Con
 returns-in_ok-term-in-Con c = λ s ls t e k h d.
-    gives_as c.args.nodes.now c.constructor_type.new.nodes (constructor_type s c.in-Con.name.0 c.in-Con.at) (term_type s ls t) c.in_ok-term-in-Con.term
-    (bare_type s ls t ∙ ap (term_type s ls) (sym e ∙ ap term_of c.in-Con.is ∙ term_of-Con c.in-Con.name c.in-Con.at))
+    gives_as c.args.nodes.now c.constructor_type.new.nodes
+    (constructor_type s c.in-Con.name.0 c.in-Con.at) (term_type s ls t) c.in_ok-term-in-Con.term
+    (bare_type s ls t ∙ ap (term_type s ls)
+    (sym e ∙ ap term_of c.in-Con.is ∙ term_of-Con c.in-Con.name c.in-Con.at))
     (c.in_ok-term-in-Con.ensures s k h)
 
 pub returns-in_ok-term-in-Int : goal.returns-in_ok-term-in-Int
@@ -26,6 +30,8 @@ returns-in_ok-term-in-Int c = λ s ls t e k h d.
 
 pub returns-in_ok-term-in-Bracket : goal.returns-in_ok-term-in-Bracket
 returns-in_ok-term-in-Bracket c = λ s ls t e k h d.
-    gives_as c.args.nodes.now c.variable.new.self (Open (AtBracket c.in-Bracket.at)) (term_type s ls t) c.in_ok-term-in-Bracket.term
-    (bracket_type s ls t _ _ c.in-Bracket.at (sym (ap term_of c.in-Bracket.is ∙ term_of-Bracket _ c.in-Bracket.at) ∙ e))
+    gives_as c.args.nodes.now c.variable.new.self (Open (AtBracket c.in-Bracket.at))
+    (term_type s ls t) c.in_ok-term-in-Bracket.term
+    (bracket_type s ls t _ _ c.in-Bracket.at
+    (sym (ap term_of c.in-Bracket.is ∙ term_of-Bracket _ c.in-Bracket.at) ∙ e))
     (c.in_ok-term-in-Bracket.ensures h)

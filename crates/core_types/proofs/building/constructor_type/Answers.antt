@@ -20,7 +20,13 @@ returns c = λ s k h.
     let to = applied s d (used_at s at) in
     let g = c.in_ok-from.ensures s k.names h in
     let r = c.in_ok-to.ensures s g.grows.sound in
-    gives_as n c.arrows.new.nodes (arrows ts to) (constructor_type s c.args.name.0 at) c.in_ok-term-2.term
-    (known_constructor s c.args.name.0 at d b (c.in-Some.ensures s k) ∙ ap (λ ws. arrows (read_list s (used_at s at) (types_in ws)) to) (sym c.as_slice-fields.ensures))
-    (gives_then n n'' c.arrows.new.nodes (arrows ts to) c.in_ok-term-2.term (grows_then n n' n'' g.grows r.grows)
-    (c.in_ok-term-2.ensures ts to r.grows.sound (subst (DenoteEach n'' ts) (sym c.deref.ensures.value) (each_kept n' n'' r.grows ts c.in_ok-from.from.items g.each)) r.denotes))
+    gives_as n c.arrows.new.nodes (arrows ts to) (constructor_type s c.args.name.0 at)
+    c.in_ok-term-2.term
+    (known_constructor s c.args.name.0 at d b (c.in-Some.ensures s k) ∙ ap
+    (λ ws. arrows (read_list s (used_at s at) (types_in ws)) to)
+    (sym c.as_slice-fields.ensures))
+    (gives_then n n'' c.arrows.new.nodes (arrows ts to) c.in_ok-term-2.term
+    (grows_then n n' n'' g.grows r.grows)
+    (c.in_ok-term-2.ensures ts to r.grows.sound
+    (subst (DenoteEach n'' ts) (sym c.deref.ensures.value)
+    (each_kept n' n'' r.grows ts c.in_ok-from.from.items g.each)) r.denotes))

@@ -10,13 +10,17 @@ pub returns-in_ok-term-in-Some-signature : goal.returns-in_ok-term-in-Some-signa
 returns-in_ok-term-in-Some-signature c = λ s k h.
     let f = function_tree c.in-Some.function.now in
     let g = signature_tree c.in-Some-signature.signature.now in
-    gives_as c.args.nodes.now c.signed.new.nodes (signed s (used_at s c.args.at) g) (global_type s c.args.name.0 c.args.at) c.in_ok-term-in-Some-signature.term
-    (known_global s c.args.name.0 c.args.at f (c.in-Some.ensures s k) ∙ signed_type s f g c.args.at (c.in-Some-signature.ensures s k))
+    gives_as c.args.nodes.now c.signed.new.nodes (signed s (used_at s c.args.at) g)
+    (global_type s c.args.name.0 c.args.at) c.in_ok-term-in-Some-signature.term
+    (known_global s c.args.name.0 c.args.at f (c.in-Some.ensures s k) ∙ signed_type s f g c.args.at
+    (c.in-Some-signature.ensures s k))
     (c.in_ok-term-in-Some-signature.ensures s k.names h)
 
 pub returns-in_ok-term-in-None : goal.returns-in_ok-term-in-None
 returns-in_ok-term-in-None c = λ s k h.
     let f = function_tree c.in-Some.function.now in
-    gives_as c.args.nodes.now c.own_type.new.nodes (own_type s f) (global_type s c.args.name.0 c.args.at) c.in_ok-term-in-None.term
-    (known_global s c.args.name.0 c.args.at f (c.in-Some.ensures s k) ∙ unsigned_type s f c.args.at (c.in-None.ensures s k))
+    gives_as c.args.nodes.now c.own_type.new.nodes (own_type s f)
+    (global_type s c.args.name.0 c.args.at) c.in_ok-term-in-None.term
+    (known_global s c.args.name.0 c.args.at f (c.in-Some.ensures s k) ∙ unsigned_type s f c.args.at
+    (c.in-None.ensures s k))
     (c.in_ok-term-in-None.ensures s k h)

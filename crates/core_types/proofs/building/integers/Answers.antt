@@ -12,4 +12,10 @@ returns c = λ s k h.
     let t = Named c.args.context.now.lists.0 (AndTyped Int NoTypeds) in
     gives_as n c.named.new.self t (integers s) c.in_ok-at.at k.lists
     (gives_then n n' c.named.new.self t c.in_ok-at.at i.grows
-    (c.in_ok-at.ensures (AndTyped Int NoTypeds) i.grows.sound (x, [], c.in_ok-push.ensures.ok ∙ ap (λ l. l ++ x ∷ []) c.new-arguments.ensures, i.denotes, refl)))
+    (c.in_ok-at.ensures (AndTyped Int NoTypeds) i.grows.sound (
+      x,
+      [],
+      c.in_ok-push.ensures.ok ∙ ap (λ l. l ++ x ∷ []) c.new-arguments.ensures,
+      i.denotes,
+      refl,
+    )))

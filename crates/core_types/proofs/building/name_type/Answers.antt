@@ -9,24 +9,30 @@ use Rattle.core_types.proofs.building.name_type.Goals as goal
 pub returns-then-is_reserved : goal.returns-then-is_reserved
 returns-then-is_reserved c = λ s ls k h d.
     let x = c.args.name.0 in
-    gives_as c.args.nodes.now c.primitive_type.new.nodes (Arrow Int (Arrow Int Int)) (name_type s ls x c.args.at) c.in_ok-term.term
-    (primitive_name s ls (known c.args.context.now.globals.now) x c.args.at c.is_reserved.result k.names c.is_reserved.ensures c.if-is_reserved.true)
+    gives_as c.args.nodes.now c.primitive_type.new.nodes (Arrow Int (Arrow Int Int))
+    (name_type s ls x c.args.at) c.in_ok-term.term
+    (primitive_name s ls (known c.args.context.now.globals.now) x c.args.at c.is_reserved.result
+    k.names c.is_reserved.ensures c.if-is_reserved.true)
     (c.in_ok-term.ensures h)
 
 pub returns-in-Some : goal.returns-in-Some
 returns-in-Some c = λ s ls k h d.
     let x = c.args.name.0 in
     let n = c.args.nodes.now in
-    let f = local_found n ls c.args.scope.now x c.in-Some.local d (sym c.find-local.ensures ∙ c.in-Some.is) in
+    let f = local_found n ls c.args.scope.now x c.in-Some.local d
+    (sym c.find-local.ensures ∙ c.in-Some.is) in
     gives_as n n f.0 (name_type s ls x c.args.at) c.in-Some.local
-    (local_name s ls (known c.args.context.now.globals.now) x c.args.at c.is_reserved.result k.names c.is_reserved.ensures f.0 c.if-is_reserved.false f.1)
+    (local_name s ls (known c.args.context.now.globals.now) x c.args.at c.is_reserved.result k.names
+    c.is_reserved.ensures f.0 c.if-is_reserved.false f.1)
     (record { grows = grows_refl n h; denotes = f.2 })
 
 pub returns-in_ok-term-in-None : goal.returns-in_ok-term-in-None
 returns-in_ok-term-in-None c = λ s ls k h d.
     let x = c.args.name.0 in
     let n = c.args.nodes.now in
-    gives_as n c.global_type.new.nodes (global_type s x c.args.at) (name_type s ls x c.args.at) c.in_ok-term-in-None.term
-    (global_name s ls (known c.args.context.now.globals.now) x c.args.at c.is_reserved.result k.names c.is_reserved.ensures c.if-is_reserved.false
+    gives_as n c.global_type.new.nodes (global_type s x c.args.at) (name_type s ls x c.args.at)
+    c.in_ok-term-in-None.term
+    (global_name s ls (known c.args.context.now.globals.now) x c.args.at c.is_reserved.result
+    k.names c.is_reserved.ensures c.if-is_reserved.false
     (local_missing n ls c.args.scope.now x d (sym c.find-local.ensures ∙ c.in-None.is)))
     (c.in_ok-term-in-None.ensures s k h)

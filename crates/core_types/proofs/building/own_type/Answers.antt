@@ -16,5 +16,8 @@ returns c = λ s k h.
     let to = result_type s f in
     let g = c.in_ok-params.ensures s k h in
     let r = c.in_ok-result.ensures s k g.grows.sound in
-    gives_then n n'' c.arrows.new.nodes (arrows ts to) c.in_ok-at.at (grows_then n n' n'' g.grows r.grows)
-    (c.in_ok-at.ensures ts to r.grows.sound (subst (DenoteEach n'' ts) (sym c.deref.ensures.value) (each_kept n' n'' r.grows ts c.in_ok-params.params.items g.each)) r.denotes)
+    gives_then n n'' c.arrows.new.nodes (arrows ts to) c.in_ok-at.at
+    (grows_then n n' n'' g.grows r.grows)
+    (c.in_ok-at.ensures ts to r.grows.sound
+    (subst (DenoteEach n'' ts) (sym c.deref.ensures.value)
+    (each_kept n' n'' r.grows ts c.in_ok-params.params.items g.each)) r.denotes)

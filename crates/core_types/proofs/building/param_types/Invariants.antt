@@ -9,4 +9,6 @@ use Rattle.core_types.proofs.building.param_types.Given as goal
 
 abbrev pub invariant-loop-param : goal.invariant-loop-param
 invariant-loop-param l = (s : Source) → IsContextOf l.context s → IsSound l.initial.nodes
-    → AddsTermsForTypes l.initial.nodes l.nodes (map (param_type s (function_tree l.function)) (take l.param-index l.param-items)) l.terms.items
+    → AddsTermsForTypes l.initial.nodes l.nodes
+    (map (param_type s (function_tree l.function)) (take l.param-index l.param-items))
+    l.terms.items

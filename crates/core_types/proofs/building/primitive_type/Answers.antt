@@ -10,5 +10,7 @@ returns c = λ h.
     let n'' = c.arrow.new.self in
     let i = c.in_ok-integer.ensures h in
     let a = c.in_ok-second.ensures Int Int i.grows.sound i.denotes i.denotes in
-    gives_then n n'' c.arrow-2.new.self (Arrow Int (Arrow Int Int)) c.in_ok-at.at (grows_then n n' n'' i.grows a.grows)
-    (c.in_ok-at.ensures Int (Arrow Int Int) a.grows.sound (a.grows.one Int c.in_ok-integer.integer i.denotes) a.denotes)
+    gives_then n n'' c.arrow-2.new.self (Arrow Int (Arrow Int Int)) c.in_ok-at.at
+    (grows_then n n' n'' i.grows a.grows)
+    (c.in_ok-at.ensures Int (Arrow Int Int) a.grows.sound
+    (a.grows.one Int c.in_ok-integer.integer i.denotes) a.denotes)

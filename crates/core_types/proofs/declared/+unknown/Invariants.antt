@@ -6,4 +6,7 @@ use Rattle.core_types.specs.Kept.{is_known_variable, type_arity_by}
 use Rattle.core_types.proofs.declared.+unknown.Given as goal
 
 abbrev pub invariant-unknown_in_all-loop-written : goal.invariant-unknown_in_all-loop-written
-invariant-unknown_in_all-loop-written l = unknown_in_all (type_arity_by (known l.globals) l.params) (is_known_variable l.variables) l.first (types_in (drop l.written-index l.types)) ≡ unknown_in_all (type_arity_by (known l.globals) l.params) (is_known_variable l.variables) l.initial.first (types_in l.types)
+invariant-unknown_in_all-loop-written l = unknown_in_all (type_arity_by (known l.globals) l.params)
+    (is_known_variable l.variables) l.first (types_in (drop l.written-index l.types)) ≡
+    unknown_in_all (type_arity_by (known l.globals) l.params) (is_known_variable l.variables)
+    l.initial.first (types_in l.types)

@@ -8,4 +8,6 @@ use Rattle.core_types.specs.Found.{first_bad_signature}
 use Rattle.core_types.proofs.declared.first_bad_signature.Given as goal
 
 abbrev pub invariant-loop-signature : goal.invariant-loop-signature
-invariant-loop-signature l = first_bad_signature (known l.globals) (contains nat_cmp l.seen) l.first (map signature_of (drop l.signature-index l.signatures)) ≡ first_bad_signature (known l.globals) (λ n. false) None (map signature_of l.signatures)
+invariant-loop-signature l = first_bad_signature (known l.globals) (contains nat_cmp l.seen) l.first
+    (map signature_of (drop l.signature-index l.signatures)) ≡ first_bad_signature (known l.globals)
+    (λ n. false) None (map signature_of l.signatures)

@@ -5,4 +5,6 @@ use Rattle.core_types.proofs.Walks.{both_walked}
 use Rattle.core_types.proofs.declared.first_unknown_type.Goals as goal
 
 pub returns : goal.returns
-returns c = both_walked (known c.args.globals.now) c.in_ok-params.params (map type_of c.args.types.now) (map signature_of c.args.signatures.now) _ _ c.in_ok-params.ensures c.in_ok-first.ensures c.unknown_in_signatures.ensures
+returns c = both_walked (known c.args.globals.now) c.in_ok-params.params
+    (map type_of c.args.types.now) (map signature_of c.args.signatures.now) _ _
+    c.in_ok-params.ensures c.in_ok-first.ensures c.unknown_in_signatures.ensures

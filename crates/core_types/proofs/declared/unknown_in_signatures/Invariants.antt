@@ -6,4 +6,6 @@ use Rattle.core_types.specs.Kept.{type_arity_by}
 use Rattle.core_types.proofs.declared.unknown_in_signatures.Given as goal
 
 abbrev pub invariant-loop-signature : goal.invariant-loop-signature
-invariant-loop-signature l = unknown_in_signatures (type_arity_by (known l.globals) l.params) l.first (map signature_of (drop l.signature-index l.signatures)) ≡ unknown_in_signatures (type_arity_by (known l.globals) l.params) l.initial.first (map signature_of l.signatures)
+invariant-loop-signature l = unknown_in_signatures (type_arity_by (known l.globals) l.params)
+    l.first (map signature_of (drop l.signature-index l.signatures)) ≡ unknown_in_signatures
+    (type_arity_by (known l.globals) l.params) l.initial.first (map signature_of l.signatures)

@@ -24,7 +24,8 @@ loop-function-preserved c = λ s k.
     let own = of_function s (function_tree f) in
     let e = c.in_ok-function.ensures s k h.0 in (
       at_kept b b' own [] e h.0,
-      subst (Stands b') (sym (one_function s fs i f (omega arith) c.function-item.is)) (e.stands (flat_map (of_function s) (map function_tree (take i fs))) h.1),
+      subst (Stands b') (sym (one_function s fs i f (omega arith) c.function-item.is))
+          (e.stands (flat_map (of_function s) (map function_tree (take i fs))) h.1),
     )
 
 pub returns : goal.returns
@@ -33,7 +34,9 @@ returns c = λ s k.
     let h = c.loop-function.invariant s k in (
       h.0.sound,
       subst (Stands b)
-          (ap (λ fs. flat_map (of_function s) (map function_tree fs)) (take_all c.loop-function.function-index c.as_slice-function-items.result.now (omega arith) ∙ c.as_slice-function-items.ensures)
+          (ap (λ fs. flat_map (of_function s) (map function_tree fs))
+          (take_all c.loop-function.function-index c.as_slice-function-items.result.now
+          (omega arith) ∙ c.as_slice-function-items.ensures)
           ∙ ap (λ (s' : Source). flat_map (of_function s) s'.functions) k.source)
           h.1,
     )

@@ -8,4 +8,5 @@ use Rattle.core_types.proofs.functions.program_constraints.Given as goal
 
 abbrev pub invariant-loop-function : goal.invariant-loop-function
 invariant-loop-function l = (s : Source) → IsContextOf l.context s
-    → HasLocalsInScope l.builder [] × Stands l.builder (flat_map (of_function s) (map function_tree (take l.function-index l.function-items)))
+    → HasLocalsInScope l.builder [] × Stands l.builder
+    (flat_map (of_function s) (map function_tree (take l.function-index l.function-items)))

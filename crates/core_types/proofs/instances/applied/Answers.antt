@@ -10,6 +10,12 @@ returns c = λ s h.
     let n' = c.parameters.new.nodes in
     let ts = map (λ (b : Binder). used_at s c.args.at b.name.0) c.as_slice.result.now in
     let g = c.in_ok-params.ensures s h in
-    subst (λ bs. AddsTermForType c.args.nodes.now c.named.new.self (Named c.args.declared.now.name.name.0 (all_of s (map (λ (b : Binder). used_at s c.args.at b.name.0) bs))) c.in_ok-at.at) c.as_slice.ensures
-    (gives_then c.args.nodes.now n' c.named.new.self (Named c.args.declared.now.name.name.0 (all_of s ts)) c.in_ok-at.at g.grows
-    (c.in_ok-at.ensures (all_of s ts) g.grows.sound (subst (DenoteAll n' (all_of s ts)) (sym c.from_vec.ensures) (all_denoted n' s ts c.in_ok-params.params.items g.each))))
+    subst (λ bs. AddsTermForType c.args.nodes.now c.named.new.self
+    (Named c.args.declared.now.name.name.0
+    (all_of s (map (λ (b : Binder). used_at s c.args.at b.name.0) bs))) c.in_ok-at.at)
+    c.as_slice.ensures
+    (gives_then c.args.nodes.now n' c.named.new.self
+    (Named c.args.declared.now.name.name.0 (all_of s ts)) c.in_ok-at.at g.grows
+    (c.in_ok-at.ensures (all_of s ts) g.grows.sound
+    (subst (DenoteAll n' (all_of s ts)) (sym c.from_vec.ensures)
+    (all_denoted n' s ts c.in_ok-params.params.items g.each))))

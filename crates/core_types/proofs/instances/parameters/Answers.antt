@@ -11,5 +11,7 @@ loop-param-preserved c = λ h.
     let i = c.loop-param.param-index in
     let at = c.args.at in
     let g = c.loop-param.invariant h in
-    one_given c.args.nodes.now c.loop-param.nodes c.variable.new.self _ _ c.loop-param.terms.items c.push.new.self.items (Open (AtUse at (get_or bs i none).name.0)) c.in_ok-variable.variable
-    (uses_more at bs i none (omega arith)) c.in_ok-push.ensures.items g (c.in_ok-variable.ensures g.grows.sound)
+    one_given c.args.nodes.now c.loop-param.nodes c.variable.new.self _ _ c.loop-param.terms.items
+    c.push.new.self.items (Open (AtUse at (get_or bs i none).name.0)) c.in_ok-variable.variable
+    (uses_more at bs i none (omega arith)) c.in_ok-push.ensures.items g
+    (c.in_ok-variable.ensures g.grows.sound)

@@ -18,7 +18,11 @@ returns c = λ s k h.
     let to = read s v (tree_of c.args.signature.now.result) in
     let g = c.in_ok-from.ensures s k h in
     let r = c.in_ok-to.ensures s k g.grows.sound in
-    gives_as n c.arrows.new.nodes (arrows ts to) (arrows (read_list s v (types_in c.args.signature.now.args)) to) c.in_ok-at.at
+    gives_as n c.arrows.new.nodes (arrows ts to)
+    (arrows (read_list s v (types_in c.args.signature.now.args)) to) c.in_ok-at.at
     (ap (λ ws. arrows (read_list s v (types_in ws)) to) (sym c.as_slice.ensures))
-    (gives_then n n'' c.arrows.new.nodes (arrows ts to) c.in_ok-at.at (grows_then n n' n'' g.grows r.grows)
-    (c.in_ok-at.ensures ts to r.grows.sound (subst (DenoteEach n'' ts) (sym c.deref.ensures.value) (each_kept n' n'' r.grows ts c.in_ok-from.from.items g.each)) r.denotes))
+    (gives_then n n'' c.arrows.new.nodes (arrows ts to) c.in_ok-at.at
+    (grows_then n n' n'' g.grows r.grows)
+    (c.in_ok-at.ensures ts to r.grows.sound
+    (subst (DenoteEach n'' ts) (sym c.deref.ensures.value)
+    (each_kept n' n'' r.grows ts c.in_ok-from.from.items g.each)) r.denotes))

@@ -7,23 +7,28 @@ use Rattle.core_types.proofs.judgement.typed.Goals as goal
 
 pub returns-in-Err-clause-refused : goal.returns-in-Err-clause-refused
 returns-in-Err-clause-refused c =
-    subst (λ f. IsCause c.args.text.now f × (mismatch_in f ≡ None)) (sym c.from.ensures)
-    (unread_caused c.args.text.now c.in-Err.refusal c.in-Err.ensures.refused, unread_fits c.in-Err.refusal)
+    subst (λ f. IsCause c.args.text.now f × (mismatch_in f ≡ None)) (sym c.from.ensures) (
+      unread_caused c.args.text.now c.in-Err.refusal c.in-Err.ensures.refused,
+      unread_fits c.in-Err.refusal,
+    )
 
 pub returns-clause-typed : goal.returns-clause-typed
 returns-clause-typed c =
     let s : Source = source_of c.in-Ok.source in
     let read = c.in-Ok.ensures in
-    typed_text c.args.text.now s read.found read.unbroken read.readable c.typed_source.result c.typed_source.ensures.typed
+    typed_text c.args.text.now s read.found read.unbroken read.readable c.typed_source.result
+    c.typed_source.ensures.typed
 
 pub returns-clause-unbroken : goal.returns-clause-unbroken
 returns-clause-unbroken c =
     let s : Source = source_of c.in-Ok.source in
     let read = c.in-Ok.ensures in
-    unbroken_text c.args.text.now s read.found read.unbroken c.typed_source.result c.typed_source.ensures.unbroken
+    unbroken_text c.args.text.now s read.found read.unbroken c.typed_source.result
+    c.typed_source.ensures.unbroken
 
 pub returns-clause-refused : goal.returns-clause-refused
 returns-clause-refused c =
     let s : Source = source_of c.in-Ok.source in
     let read = c.in-Ok.ensures in
-    refused_text c.args.text.now s read.found read.unbroken c.typed_source.result c.typed_source.ensures.refused
+    refused_text c.args.text.now s read.found read.unbroken c.typed_source.result
+    c.typed_source.ensures.refused

@@ -9,7 +9,8 @@ and_false : (b : Bool) → false ≡ (b && false)
 and_false true = refl
 and_false false = refl
 
-two_types : (n : ℕ) (ts : List code-written.Written) → 2 ≤ length ts → false ≡ is_one_var n (types_in ts)
+two_types : (n : ℕ) (ts : List code-written.Written) → 2 ≤ length ts
+    → false ≡ is_one_var n (types_in ts)
 two_types n [] l = absurd (omega (arith, l))
 two_types n (t ∷ []) l = absurd (omega (arith, l))
 two_types n (t ∷ u ∷ ts) l = and_false (is_var n (written t))

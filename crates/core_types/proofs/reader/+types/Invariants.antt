@@ -22,7 +22,10 @@ decreases-in_brackets l = 4 * length l.parser.now.rest.now + 3
 
 abbrev pub invariant-types-loop-parser : goal.invariant-types-loop-parser
 invariant-types-loop-parser l = record {
-  reads : (state : WrittenTypes → Own) (frame : WrittenTypes → Frame) → CollectsTypes state frame → ((ts : WrittenTypes) → nests (frame ts) ≡ l.fn.parser.depth) → reading.at (state NoTypes) l.fn.parser.rest.now ≡ reading.at (state (types_in l.types.items)) l.parser.rest.now;
+  reads : (state : WrittenTypes → Own) (frame : WrittenTypes → Frame) → CollectsTypes state frame
+      → ((ts : WrittenTypes) → nests (frame ts) ≡ l.fn.parser.depth)
+      → reading.at (state NoTypes) l.fn.parser.rest.now ≡ reading.at
+      (state (types_in l.types.items)) l.parser.rest.now;
   shorter : length l.parser.rest.now ≤ length l.fn.parser.rest.now;
   depth : l.parser.depth ≡ l.fn.parser.depth;
 }

@@ -15,13 +15,20 @@ use Rattle.core_types.proofs.reader.constructors.Goals as goal
 
 pub returns-in_err-take-clause-reads : goal.returns-in_err-take-clause-reads
 returns-in_err-take-clause-reads c = λ ds b ps.
-    let q = err_from_is_err_and c.from_residual-in_err-take.result c.from_residual-in_err-take.ensures.1 in
+    let q = err_from_is_err_and c.from_residual-in_err-take.result
+    c.from_residual-in_err-take.ensures.1 in
     let d = type_with b ps (map constructor_of c.loop-constructors.constructors.items) in
     let con = c.in_ok-constructor.constructor in
     let rest = c.constructor.new.parser.rest.now in
-    rw (q.1, q.2) (fails_from c.in_err-take.field-0.0 _ _ (c.loop-constructors.invariant.reads ds b ps ∙ c.in_ok-constructor.ensures.reads ds d)
-    (refuses_at (Fields ds d con.name (types_in con.fields)) rest c.in_err-take.field-0.0 c.in_err-take.ensures.takes.1
-    (no_fields_end ds d con.name (types_in con.fields) (front rest).at (front rest).token c.in_ok-constructor.ensures.whole (λ e. let f : c.peek.result.token ≡ word.Further further.Bar = ap (λ y. y.token) c.peek.ensures ∙ e in search rules) c.in_err-take.ensures.takes.0)))
+    rw (q.1, q.2)
+    (fails_from c.in_err-take.field-0.0 _ _
+    (c.loop-constructors.invariant.reads ds b ps ∙ c.in_ok-constructor.ensures.reads ds d)
+    (refuses_at (Fields ds d con.name (types_in con.fields)) rest c.in_err-take.field-0.0
+    c.in_err-take.ensures.takes.1
+    (no_fields_end ds d con.name (types_in con.fields) (front rest).at (front rest).token
+    c.in_ok-constructor.ensures.whole
+    (λ e. let f : c.peek.result.token ≡ word.Further further.Bar
+    = ap (λ y. y.token) c.peek.ensures ∙ e in search rules) c.in_err-take.ensures.takes.0)))
 
 pub returns-then-ne-clause-reads : goal.returns-then-ne-clause-reads
 returns-then-ne-clause-reads c = λ ds b ps.
@@ -32,8 +39,14 @@ returns-then-ne-clause-reads c = λ ds b ps.
     let after = c.take.new.self.rest.now in
     c.loop-constructors.invariant.reads ds b ps
     ∙ c.in_ok-constructor.ensures.reads ds d
-    ∙ takes (Outside (Fields ds d con.name (types_in con.fields))) (Outside (Top (ds ++ Declares (with_new_constructor d con.name (types_in con.fields)) ∷ []))) rest (front rest) word.Semicolon after refl c.in_ok-take.ensures.takes.0 c.in_ok-take.ensures.takes.1 refl
-    ∙ ap (λ w. reading.at (Top (ds ++ Declares (type_with b ps w) ∷ [])) after) (sym (map_push constructor_of items con) ∙ ap (map constructor_of) (sym c.in_ok-push.ensures.items))
+    ∙ takes (Outside (Fields ds d con.name (types_in con.fields)))
+    (Outside (Top
+    (ds ++ Declares (with_new_constructor d con.name (types_in con.fields)) ∷ []))) rest
+    (front rest) word.Semicolon after refl c.in_ok-take.ensures.takes.0
+    c.in_ok-take.ensures.takes.1 refl
+    ∙ ap (λ w. reading.at (Top (ds ++ Declares (type_with b ps w) ∷ [])) after)
+    (sym (map_push constructor_of items con) ∙ ap (map constructor_of)
+    (sym c.in_ok-push.ensures.items))
 
 pub loop-constructors-preserved : goal.loop-constructors-preserved
 loop-constructors-preserved c =
@@ -47,8 +60,13 @@ loop-constructors-preserved c =
           let d = type_with b ps (map constructor_of items) in
           c.loop-constructors.invariant.reads ds b ps
           ∙ c.in_ok-constructor.ensures.reads ds d
-          ∙ takes (Outside (Fields ds d con.name (types_in con.fields))) (Outside (ConName ds (with_new_constructor d con.name (types_in con.fields)))) rest c.peek.result bar after c.peek.ensures t c.advance.ensures.rest refl
-          ∙ ap (λ w. reading.at (ConName ds (type_with b ps w)) after) (sym (map_push constructor_of items con) ∙ ap (map constructor_of) (sym c.in_ok-push.ensures.items));
-      shorter = nearer_still _ _ _ _ _ (ap length c.advance.ensures.rest) (behind_shorter rest) c.in_ok-constructor.ensures.shorter c.loop-constructors.invariant.shorter;
+          ∙ takes (Outside (Fields ds d con.name (types_in con.fields)))
+          (Outside (ConName ds (with_new_constructor d con.name (types_in con.fields)))) rest
+          c.peek.result bar after c.peek.ensures t c.advance.ensures.rest refl
+          ∙ ap (λ w. reading.at (ConName ds (type_with b ps w)) after)
+          (sym (map_push constructor_of items con) ∙ ap (map constructor_of)
+          (sym c.in_ok-push.ensures.items));
+      shorter = nearer_still _ _ _ _ _ (ap length c.advance.ensures.rest) (behind_shorter rest)
+          c.in_ok-constructor.ensures.shorter c.loop-constructors.invariant.shorter;
       depth = c.advance.ensures.depth ∙ c.in_ok-constructor.ensures.depth;
     }

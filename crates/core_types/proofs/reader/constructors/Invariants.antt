@@ -9,7 +9,9 @@ use Rattle.core_types.proofs.reader.constructors.Given as goal
 
 abbrev pub invariant-loop-constructors : goal.invariant-loop-constructors
 invariant-loop-constructors l = record {
-  reads : (ds : List Decl) (b : Binder) (ps : List Binder) → reading.at (ConName ds (empty_type_decl b ps)) l.fn.parser.rest.now ≡ reading.at (ConName ds (type_with b ps (map constructor_of l.constructors.items))) l.parser.rest.now;
+  reads : (ds : List Decl) (b : Binder) (ps : List Binder)
+      → reading.at (ConName ds (empty_type_decl b ps)) l.fn.parser.rest.now ≡ reading.at
+      (ConName ds (type_with b ps (map constructor_of l.constructors.items))) l.parser.rest.now;
   shorter : length l.parser.rest.now ≤ length l.fn.parser.rest.now;
   depth : l.parser.depth ≡ 0;
 }

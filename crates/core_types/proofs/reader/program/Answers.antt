@@ -19,7 +19,8 @@ loop-found-preserved-in-TypeDecl-1 c =
     record {
       reads = (
         i.0 ++ x ∷ [],
-        more_by types_of types_append type_of i.0 x c.loop-found.found.types.items c.push.new.self.items d refl i.1 c.in_ok-push-in-Further-TypeDecl.ensures.items,
+        more_by types_of types_append type_of i.0 x c.loop-found.found.types.items
+            c.push.new.self.items d refl i.1 c.in_ok-push-in-Further-TypeDecl.ensures.items,
         kept_by signatures_of signatures_append i.0 x _ refl i.2,
         kept_by functions_of functions_append i.0 x _ refl i.3,
         i.4 ∙ c.in_ok-type_decl-in-Further-TypeDecl.ensures.reads i.0,
@@ -36,7 +37,9 @@ loop-found-preserved-in-Signature-1 c =
       reads = (
         i.0 ++ x ∷ [],
         kept_by types_of types_append i.0 x _ refl i.1,
-        more_by signatures_of signatures_append signature_of i.0 x c.loop-found.found.signatures.items c.push-in-Further-Signature.new.self.items d refl i.2 c.in_ok-push-in-Further-Signature.ensures.items,
+        more_by signatures_of signatures_append signature_of i.0 x
+            c.loop-found.found.signatures.items c.push-in-Further-Signature.new.self.items d refl
+            i.2 c.in_ok-push-in-Further-Signature.ensures.items,
         kept_by functions_of functions_append i.0 x _ refl i.3,
         i.4 ∙ c.in_ok-signature-in-Further-Signature.ensures.reads i.0,
       );
@@ -53,7 +56,8 @@ loop-found-preserved c =
         i.0 ++ x ∷ [],
         kept_by types_of types_append i.0 x _ refl i.1,
         kept_by signatures_of signatures_append i.0 x _ refl i.2,
-        more_by functions_of functions_append tree.function i.0 x c.loop-found.found.functions.items c.push-in-Name.new.self.items d refl i.3 c.in_ok-push-in-Name.ensures.items,
+        more_by functions_of functions_append tree.function i.0 x c.loop-found.found.functions.items
+            c.push-in-Name.new.self.items d refl i.3 c.in_ok-push-in-Name.ensures.items,
         i.4 ∙ c.in_ok-function-in-Name.ensures.reads i.0,
       );
       depth = c.in_ok-function-in-Name.ensures.depth;
@@ -61,16 +65,31 @@ loop-found-preserved c =
 
 pub returns-in-End : goal.returns-in-End
 returns-in-End c =
-    let i = c.loop-found.invariant.reads in
-    (i.0, i.1, i.2, i.3, i.4 ∙ finishes i.0 c.loop-found.parser.rest.now c.peek-next.result c.peek-next.ensures c.in-End.is)
+    let i = c.loop-found.invariant.reads in (
+      i.0,
+      i.1,
+      i.2,
+      i.3,
+      i.4 ∙ finishes i.0 c.loop-found.parser.rest.now c.peek-next.result
+          c.peek-next.ensures c.in-End.is,
+    )
 
 pub returns-in_default : goal.returns-in_default
 returns-in_default c =
     let i = c.loop-found.invariant.reads in
     let ts = c.loop-found.parser.rest.now in
-    let token : c.peek-next.result.token ≡ (front ts).token = ap (λ y. y.token) c.peek-next.ensures in
+    let token : c.peek-next.result.token ≡ (front ts).token = ap (λ y. y.token) c.peek-next.ensures
+    in
     let refused = refuses_at (Top i.0) ts c.refusal.result c.refusal.ensures in
     fails_from c.refusal.result _ _ i.4 (elim c.in_default.branch [
-      | in_default-via-in-Further+in_default w ↦ refused (further_decl i.0 (front ts).at (front ts).token w.in_default.field-0 (sym token ∙ w.in_default.is) (λ e. search rules) (λ e. search rules))
-      | in_default-via-in_default w ↦ refused (no_decl i.0 (front ts).at (front ts).token (λ e. let g : c.peek-next.result.token ≡ word.Further further.TypeDecl = token ∙ e in search rules) (λ e. let g : c.peek-next.result.token ≡ word.Further further.Signature = token ∙ e in search rules) (λ n e. w.in_default.not-Name n (token ∙ e)) (λ e. w.in_default.not-End (token ∙ e)))
+      | in_default-via-in-Further+in_default w ↦ refused
+          (further_decl i.0 (front ts).at (front ts).token w.in_default.field-0
+          (sym token ∙ w.in_default.is) (λ e. search rules) (λ e. search rules))
+      | in_default-via-in_default w ↦ refused
+          (no_decl i.0 (front ts).at (front ts).token
+          (λ e. let g : c.peek-next.result.token ≡ word.Further further.TypeDecl = token ∙ e
+          in search rules)
+          (λ e. let g : c.peek-next.result.token ≡ word.Further further.Signature = token ∙ e
+          in search rules) (λ n e. w.in_default.not-Name n (token ∙ e))
+          (λ e. w.in_default.not-End (token ∙ e)))
     ])

@@ -8,7 +8,10 @@ use Rattle.core_types.proofs.reader.program.Given as goal
 
 abbrev pub invariant-loop-found : goal.invariant-loop-found
 invariant-loop-found l = record {
-  reads : (ds : List Decl) × (types_of ds ≡ map type_of l.found.types.items) × (signatures_of ds ≡ map signature_of l.found.signatures.items) × (functions_of ds ≡ map function l.found.functions.items) × (reading.at (Top []) l.fn.parser.rest.now ≡ reading.at (Top ds) l.parser.rest.now);
+  reads : (ds : List Decl) × (types_of ds ≡ map type_of l.found.types.items)
+      × (signatures_of ds ≡ map signature_of l.found.signatures.items)
+      × (functions_of ds ≡ map function l.found.functions.items)
+      × (reading.at (Top []) l.fn.parser.rest.now ≡ reading.at (Top ds) l.parser.rest.now);
   depth : l.parser.depth ≡ 0;
 }
 

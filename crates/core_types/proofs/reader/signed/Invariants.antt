@@ -8,7 +8,9 @@ use Rattle.core_types.proofs.reader.signed.Given as goal
 
 abbrev pub invariant-loop-args : goal.invariant-loop-args
 invariant-loop-args l = record {
-  reads : (ds : List Decl) → reading.at (OneType (InParts ds l.fn.function NoTypes)) l.fn.parser.rest.now ≡ reading.at (OneType (InParts ds l.fn.function (types_in l.args.items))) l.parser.rest.now;
+  reads : (ds : List Decl) → reading.at (OneType (InParts ds l.fn.function NoTypes))
+      l.fn.parser.rest.now ≡ reading.at (OneType (InParts ds l.fn.function (types_in l.args.items)))
+      l.parser.rest.now;
   shorter : length l.parser.rest.now ≤ length l.fn.parser.rest.now;
   depth : l.parser.depth ≡ 0;
   function : l.function ≡ l.fn.function;

@@ -4,8 +4,11 @@ use Rattle.core_types.proofs.Sided.{Reads, reads_first, reads_next}
 use Rattle.core_types.proofs.sides.read_row.Goals as goal
 
 pub reading-init : goal.reading-init
-reading-init c = λ t e. subst (λ xs. Reads c.args.row.items (map type_of xs) t) (sym c.new-read.ensures.items) (reads_first c.args.row.items t e)
+reading-init c = λ t e. subst (λ xs. Reads c.args.row.items (map type_of xs) t)
+    (sym c.new-read.ensures.items) (reads_first c.args.row.items t e)
 
 pub reading-preserved : goal.reading-preserved
 reading-preserved c = λ t e.
-    reads_next c.reading.row.items c.pop.new.self.items c.in-Some.piece (map type_of c.reading.read.items) (map type_of c.read_piece.new.read.items) t c.in-Some.ensures.items c.in_ok-read_piece.ensures (c.reading.invariant t e)
+    reads_next c.reading.row.items c.pop.new.self.items c.in-Some.piece
+    (map type_of c.reading.read.items) (map type_of c.read_piece.new.read.items) t
+    c.in-Some.ensures.items c.in_ok-read_piece.ensures (c.reading.invariant t e)

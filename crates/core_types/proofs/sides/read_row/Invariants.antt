@@ -6,7 +6,8 @@ use Rattle.core_types.proofs.Sided.{Reads}
 use Rattle.core_types.proofs.sides.read_row.Given as goal
 
 abbrev pub invariant-reading : goal.invariant-reading
-invariant-reading l = (t : Tree) → l.initial.row.items ≡ pieces t → Reads l.row.items (map type_of l.read.items) t
+invariant-reading l = (t : Tree) → l.initial.row.items ≡ pieces t
+    → Reads l.row.items (map type_of l.read.items) t
 
 abbrev pub decreases-reading : goal.decreases-reading
 decreases-reading l = length l.row.items

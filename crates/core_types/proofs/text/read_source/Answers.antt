@@ -19,13 +19,18 @@ returns-then-text-clause-refused c = too_long c.args.text.now (omega arith)
 
 pub returns-in_err-found-clause-refused : goal.returns-in_err-found-clause-refused
 returns-in_err-found-clause-refused c =
-    let q = err_from_is_err_and c.from_residual-in_err-found.result c.from_residual-in_err-found.ensures.1 in
+    let q = err_from_is_err_and c.from_residual-in_err-found.result
+    c.from_residual-in_err-found.ensures.1 in
     let short : length c.args.text.now ≤ 1048576 = omega arith in
     let e = c.in_err-found.field-0.0 in
     let lexemes = c.in_ok-lexed.lexed.lexemes.items in
-    let rest_is : c.new-parser.result.rest.now ≡ lexemes = c.new-parser.ensures.rest ∙ c.as_slice.ensures.value in
-    let parsed : ReadsSource lexemes (Err e) = subst (λ w. ReadsSource w (Err e)) rest_is c.in_err-found.ensures in
-    rw (q.1, q.2) (refused c.args.text.now lexemes (texts_of c.in_ok-lexed.lexed.names.keys) e short c.in_ok-lexed.ensures parsed)
+    let rest_is : c.new-parser.result.rest.now ≡ lexemes
+    = c.new-parser.ensures.rest ∙ c.as_slice.ensures.value in
+    let parsed : ReadsSource lexemes (Err e) = subst (λ w. ReadsSource w (Err e)) rest_is
+    c.in_err-found.ensures in
+    rw (q.1, q.2)
+    (refused c.args.text.now lexemes (texts_of c.in_ok-lexed.lexed.names.keys) e short
+    c.in_ok-lexed.ensures parsed)
 
 pub copied_names-requires : goal.copied_names-requires
 copied_names-requires c =
@@ -38,11 +43,28 @@ returns-clause-found c =
     let lexemes = c.in_ok-lexed.lexed.lexemes.items in
     let names = texts_of c.in_ok-lexed.lexed.names.keys in
     let decls = c.in_ok-found.found in
-    let rest_is : c.new-parser.result.rest.now ≡ lexemes = c.new-parser.ensures.rest ∙ c.as_slice.ensures.value in
-    let parsed : ReadsSource lexemes (Ok decls) = subst (λ w. ReadsSource w (Ok decls)) rest_is c.in_ok-found.ensures in
-    let s : Source = record { names = c.in_ok-copied_names.field-0; types = map type_of c.from_vec.result; signatures = map signature_of c.from_vec-2.result; functions = map function c.from_vec-3.result } in
-    let same : source_from names decls ≡ s = λ i. record { names = sym c.in_ok-copied_names.ensures i; types = map type_of (sym c.from_vec.ensures i); signatures = map signature_of (sym c.from_vec-2.ensures i); functions = map function (sym c.from_vec-3.ensures i) } in
-    subst (IsSourceText c.args.text.now) same (found c.args.text.now lexemes names decls short c.in_ok-lexed.ensures parsed).is_text
+    let rest_is : c.new-parser.result.rest.now ≡ lexemes
+    = c.new-parser.ensures.rest ∙ c.as_slice.ensures.value in
+    let parsed : ReadsSource lexemes (Ok decls) = subst (λ w. ReadsSource w (Ok decls)) rest_is
+    c.in_ok-found.ensures in
+    let s : Source = record {
+      names = c.in_ok-copied_names.field-0;
+      types = map type_of c.from_vec.result;
+      signatures
+          = map signature_of c.from_vec-2.result;
+      functions = map function c.from_vec-3.result;
+    } in
+    let same : source_from names decls ≡ s = λ i. record {
+      names = sym c.in_ok-copied_names.ensures i;
+      types
+          = map type_of (sym c.from_vec.ensures i);
+      signatures
+          = map signature_of (sym c.from_vec-2.ensures i);
+      functions
+          = map function (sym c.from_vec-3.ensures i);
+    } in
+    subst (IsSourceText c.args.text.now) same
+    (found c.args.text.now lexemes names decls short c.in_ok-lexed.ensures parsed).is_text
 
 pub returns-clause-unbroken : goal.returns-clause-unbroken
 returns-clause-unbroken c =
@@ -50,8 +72,10 @@ returns-clause-unbroken c =
     let lexemes = c.in_ok-lexed.lexed.lexemes.items in
     let names = texts_of c.in_ok-lexed.lexed.names.keys in
     let decls = c.in_ok-found.found in
-    let rest_is : c.new-parser.result.rest.now ≡ lexemes = c.new-parser.ensures.rest ∙ c.as_slice.ensures.value in
-    let parsed : ReadsSource lexemes (Ok decls) = subst (λ w. ReadsSource w (Ok decls)) rest_is c.in_ok-found.ensures in
+    let rest_is : c.new-parser.result.rest.now ≡ lexemes
+    = c.new-parser.ensures.rest ∙ c.as_slice.ensures.value in
+    let parsed : ReadsSource lexemes (Ok decls) = subst (λ w. ReadsSource w (Ok decls)) rest_is
+    c.in_ok-found.ensures in
     (found c.args.text.now lexemes names decls short c.in_ok-lexed.ensures parsed).unbroken
 
 pub returns-clause-readable : goal.returns-clause-readable
@@ -60,8 +84,25 @@ returns-clause-readable c =
     let lexemes = c.in_ok-lexed.lexed.lexemes.items in
     let names = texts_of c.in_ok-lexed.lexed.names.keys in
     let decls = c.in_ok-found.found in
-    let rest_is : c.new-parser.result.rest.now ≡ lexemes = c.new-parser.ensures.rest ∙ c.as_slice.ensures.value in
-    let parsed : ReadsSource lexemes (Ok decls) = subst (λ w. ReadsSource w (Ok decls)) rest_is c.in_ok-found.ensures in
-    let s : Source = record { names = c.in_ok-copied_names.field-0; types = map type_of c.from_vec.result; signatures = map signature_of c.from_vec-2.result; functions = map function c.from_vec-3.result } in
-    let same : source_from names decls ≡ s = λ i. record { names = sym c.in_ok-copied_names.ensures i; types = map type_of (sym c.from_vec.ensures i); signatures = map signature_of (sym c.from_vec-2.ensures i); functions = map function (sym c.from_vec-3.ensures i) } in
-    subst (λ (w : Source). IsReadable (erased w)) same (found_readable c.args.text.now lexemes names decls short c.in_ok-lexed.ensures parsed)
+    let rest_is : c.new-parser.result.rest.now ≡ lexemes
+    = c.new-parser.ensures.rest ∙ c.as_slice.ensures.value in
+    let parsed : ReadsSource lexemes (Ok decls) = subst (λ w. ReadsSource w (Ok decls)) rest_is
+    c.in_ok-found.ensures in
+    let s : Source = record {
+      names = c.in_ok-copied_names.field-0;
+      types = map type_of c.from_vec.result;
+      signatures
+          = map signature_of c.from_vec-2.result;
+      functions = map function c.from_vec-3.result;
+    } in
+    let same : source_from names decls ≡ s = λ i. record {
+      names = sym c.in_ok-copied_names.ensures i;
+      types
+          = map type_of (sym c.from_vec.ensures i);
+      signatures
+          = map signature_of (sym c.from_vec-2.ensures i);
+      functions
+          = map function (sym c.from_vec-3.ensures i);
+    } in
+    subst (λ (w : Source). IsReadable (erased w)) same
+    (found_readable c.args.text.now lexemes names decls short c.in_ok-lexed.ensures parsed)

@@ -1,11 +1,9 @@
-use Rattle.std.proofs.Common.{◌≡◌, ℕ, suc, ◌+◌, ◌<◌, List, [], ◌∷◌, ◌++◌, map, set, length, refl, sym, ap, subst, ◌∙◌, arith, rules, length-append}
-use Rattle.std.specs.Prelude.{IfOk}
+use Rattle.std.proofs.Common.{◌≡◌, ℕ, suc, ◌+◌, ◌<◌, List, [], ◌∷◌, ◌++◌, map, set, length, refl, sym, ap, ◌∙◌, arith, rules, length-append}
 use Rattle.std.proofs.lemmas.List.{length-map, map-append, map-set}
 use Rattle.core_reader.specs.declared.syntax.Binder.{Binder}
 use Rattle.std.proofs.lemmas.Iterator.Adapters.{YieldsList-from_vec}
 use Rattle.std.proofs.lemmas.Iterator.Consumers.{YieldsList-end}
 use Rattle.seq.proofs.Lists.{map_same}
-use Rattle.core_reader.specs.declared.syntax.Atom.TheVariants as code-atom
 use Rattle.core_reader.specs.declared.syntax.Expr.TheVariants as code-expr
 use Rattle.core_reader.specs.declared.syntax.Function as code-function
 use Rattle.core_reader.specs.Tree as core
@@ -377,119 +375,95 @@ abstraction-returns-clause-lifted t c =
     c.as_slice.ensures in
     c.in_ok-app.ensures.app ∙ (λ i. record { head = head i; args = args i })
 
-pub let_in-returns-in_ok-new-clause-scope : goal.let_in-returns-in_ok-new-clause-scope
-let_in-returns-in_ok-new-clause-scope t c =
-    leaves (program_of_names c.args.words.now) c.as_slice-2.result.now c.args.scope.now
+pub expr-returns-in_ok-new-in-Let-clause-scope : goal.expr-returns-in_ok-new-in-Let-clause-scope
+expr-returns-in_ok-new-in-Let-clause-scope t c =
+    leaves (program_of_names c.args.words.now) c.as_slice-in-Let.result.now c.args.scope.now
     c.enter_all.new.scope c.expr.new.scope c.leave.new.self c.len-depth.result
-    c.len-depth.ensures c.in_ok-enter_all.ensures
-    (c.in_ok-inner.ensures.scope ∙ c.in_ok-binds.ensures.scope) c.leave.ensures
+    c.len-depth.ensures c.in_ok-enter_all-in-Let.ensures
+    (c.in_ok-inner-in-Let.ensures.scope ∙ c.in_ok-binds-in-Let.ensures.scope) c.leave.ensures
 
-pub let_in-returns-in_ok-new-clause-made : goal.let_in-returns-in_ok-new-clause-made
-let_in-returns-in_ok-new-clause-made t c =
+pub expr-returns-in_ok-new-in-Let-clause-made : goal.expr-returns-in_ok-new-in-Let-clause-made
+expr-returns-in_ok-new-in-Let-clause-made t c =
     let d : Program = program_of_names c.args.words.now in
     let s : Scope = c.args.scope.now in
     let start : List core.Function = map core.function c.args.made.now in
-    let g = group_of (map member c.args.group) in
-    let body : Expr = expr c.args.body.value in
+    let g = group_of (map member c.in-Let.group) in
+    let body : Expr = expr c.in-Let.body.value in
     let inner : Scope = within d (binders_of g) s in
     let entered : c.enter_all.new.scope ≡ inner =
-    c.in_ok-enter_all.ensures ∙ ap (λ bs. within d bs s)
-    (c.as_slice-2.ensures ∙ c.in_ok-binders.ensures ∙ ap
+    c.in_ok-enter_all-in-Let.ensures ∙ ap (λ bs. within d bs s)
+    (c.as_slice-in-Let.ensures ∙ c.in_ok-binders-in-Let.ensures ∙ ap
     (λ g. binders_of (group_of (map member g))) c.as_slice.ensures) in
-    c.in_ok-inner.ensures.made
-    ∙ (λ i. with_lifted_functions d (c.in_ok-binds.ensures.made i)
-    (in_expr d (c.in_ok-binds.ensures.scope i) (expr (c.into_inner.ensures i))))
+    c.in_ok-inner-in-Let.ensures.made
+    ∙ (λ i. with_lifted_functions d (c.in_ok-binds-in-Let.ensures.made i)
+    (in_expr d (c.in_ok-binds-in-Let.ensures.scope i) (expr (c.into_inner.ensures i))))
     ∙ (λ i. with_lifted_functions d (with_lifted_functions d start (in_group d (entered i) g))
     (in_expr d (entered i) body))
     ∙ sym (grows_joined d start (in_group d inner g) (in_expr d inner body))
+    ∙ ap (λ e. with_lifted_functions d start (in_expr d s e))
+    (sym (expr_of-Let c.in-Let.group c.in-Let.body) ∙ ap expr (sym c.in-Let.is))
 
-pub let_in-returns-in_ok-new-clause-lifted : goal.let_in-returns-in_ok-new-clause-lifted
-let_in-returns-in_ok-new-clause-lifted t c =
+pub expr-returns-in_ok-new-in-Let-clause-lifted : goal.expr-returns-in_ok-new-in-Let-clause-lifted
+expr-returns-in_ok-new-in-Let-clause-lifted t c =
     let d : Program = program_of_names c.args.words.now in
     let s : Scope = c.args.scope.now in
     let k : ℕ = length c.args.made.now in
-    let g = group_of (map member c.args.group) in
-    let body : Expr = expr c.args.body.value in
+    let g = group_of (map member c.in-Let.group) in
+    let body : Expr = expr c.in-Let.body.value in
     let inner : Scope = within d (binders_of g) s in
     let entered : c.enter_all.new.scope ≡ inner =
-    c.in_ok-enter_all.ensures ∙ ap (λ bs. within d bs s)
-    (c.as_slice-2.ensures ∙ c.in_ok-binders.ensures ∙ ap
+    c.in_ok-enter_all-in-Let.ensures ∙ ap (λ bs. within d bs s)
+    (c.as_slice-in-Let.ensures ∙ c.in_ok-binders-in-Let.ensures ∙ ap
     (λ g. binders_of (group_of (map member g))) c.as_slice.ensures) in
     let many : length c.members.new.made ≡ k + length (in_group d inner g) =
-    made_count d c.args.made.now c.members.new.made _ c.in_ok-binds.ensures.made ∙
+    made_count d c.args.made.now c.members.new.made _ c.in_ok-binds-in-Let.ensures.made ∙
     (λ i. k + length (in_group d (entered i) g)) in
-    let binds : map core.bind c.in_ok-binds.binds ≡ lift_group d inner k g
-    = c.in_ok-binds.ensures.lifted ∙ (λ i. lift_group d (entered i) k g) in
-    let new : core.expr c.in_ok-new.field-0.value ≡ lift d inner
+    let binds : map core.bind c.in_ok-binds-in-Let.binds ≡ lift_group d inner k g
+    = c.in_ok-binds-in-Let.ensures.lifted ∙ (λ i. lift_group d (entered i) k g) in
+    let new : core.expr c.in_ok-new-in-Let.field-0.value ≡ lift d inner
     (k + length (in_group d inner g)) body =
-    ap core.expr c.in_ok-new.ensures.ok ∙ c.in_ok-inner.ensures.lifted
-    ∙ (λ i. lift d ((c.in_ok-binds.ensures.scope ∙ entered) i) (many i)
+    ap core.expr c.in_ok-new-in-Let.ensures.ok ∙ c.in_ok-inner-in-Let.ensures.lifted
+    ∙ (λ i. lift d ((c.in_ok-binds-in-Let.ensures.scope ∙ entered) i) (many i)
     (expr (c.into_inner.ensures i))) in
-    ap (λ bs. core.expr (code-expr.Let bs c.in_ok-new.field-0)) c.binds.view_is ∙
-    core-tree.expr_of-Let c.in_ok-binds.binds c.in_ok-new.field-0 ∙
+    ap (λ bs. core.expr (code-expr.Let bs c.in_ok-new-in-Let.field-0)) c.binds.view_is ∙
+    core-tree.expr_of-Let c.in_ok-binds-in-Let.binds c.in_ok-new-in-Let.field-0 ∙
     (λ i. core.Let (binds i) (new i))
+    ∙ ap (lift d s k) (sym (expr_of-Let c.in-Let.group c.in-Let.body) ∙ ap expr (sym c.in-Let.is))
 
-pub case_of-returns-in_ok-new-clause-made : goal.case_of-returns-in_ok-new-clause-made
-case_of-returns-in_ok-new-clause-made t c =
+pub expr-returns-in_ok-new-in-Case-clause-made : goal.expr-returns-in_ok-new-in-Case-clause-made
+expr-returns-in_ok-new-in-Case-clause-made t c =
     let d : Program = program_of_names c.args.words.now in
     let s : Scope = c.args.scope.now in
     let start : List core.Function = map core.function c.args.made.now in
-    let tested : Expr = expr c.args.tested.value in
-    let alts : Alts = alts_of (map alternative c.args.alts) in
-    c.in_ok-arms.ensures.made
+    let tested : Expr = expr c.in-Case.tested.value in
+    let alts : Alts = alts_of (map alternative c.in-Case.alts) in
+    c.in_ok-arms-in-Case.ensures.made
     ∙ (λ i. with_lifted_functions d
-    ((c.in_ok-value.ensures.made ∙ ap
-    (λ e. with_lifted_functions d start (in_expr d s (expr e))) c.into_inner.ensures) i)
-    (in_alts d (c.in_ok-value.ensures.scope i) alts))
+    ((c.in_ok-value-in-Case.ensures.made ∙ ap
+    (λ e. with_lifted_functions d start (in_expr d s (expr e))) c.into_inner-in-Case.ensures) i)
+    (in_alts d (c.in_ok-value-in-Case.ensures.scope i) alts))
     ∙ sym (grows_joined d start (in_expr d s tested) (in_alts d s alts))
+    ∙ ap (λ e. with_lifted_functions d start (in_expr d s e))
+    (sym (expr_of-Case c.in-Case.tested c.in-Case.alts) ∙ ap expr (sym c.in-Case.is))
 
-pub case_of-returns-in_ok-new-clause-lifted : goal.case_of-returns-in_ok-new-clause-lifted
-case_of-returns-in_ok-new-clause-lifted t c =
+pub expr-returns-in_ok-new-in-Case-clause-lifted : goal.expr-returns-in_ok-new-in-Case-clause-lifted
+expr-returns-in_ok-new-in-Case-clause-lifted t c =
     let d : Program = program_of_names c.args.words.now in
     let s : Scope = c.args.scope.now in
     let k : ℕ = length c.args.made.now in
-    let tested : Expr = expr c.args.tested.value in
-    let alts : Alts = alts_of (map alternative c.args.alts) in
-    let many : length c.expr.new.made ≡ k + length (in_expr d s tested) =
-    made_count d c.args.made.now c.expr.new.made _ c.in_ok-value.ensures.made ∙ ap
-    (λ e. k + length (in_expr d s (expr e))) c.into_inner.ensures in
-    let value : core.expr c.in_ok-new.field-0.value ≡ lift d s k tested =
-    ap core.expr c.in_ok-new.ensures.ok ∙ c.in_ok-value.ensures.lifted ∙ ap
-    (λ e. lift d s k (expr e)) c.into_inner.ensures in
-    let arms : core.alts_of (map core.alternative c.in_ok-arms.arms) ≡ lift_alts d s
+    let tested : Expr = expr c.in-Case.tested.value in
+    let alts : Alts = alts_of (map alternative c.in-Case.alts) in
+    let many : length c.expr-in-Case.new.made ≡ k + length (in_expr d s tested) =
+    made_count d c.args.made.now c.expr-in-Case.new.made _ c.in_ok-value-in-Case.ensures.made ∙ ap
+    (λ e. k + length (in_expr d s (expr e))) c.into_inner-in-Case.ensures in
+    let value : core.expr c.in_ok-new-in-Case.field-0.value ≡ lift d s k tested =
+    ap core.expr c.in_ok-new-in-Case.ensures.ok ∙ c.in_ok-value-in-Case.ensures.lifted ∙ ap
+    (λ e. lift d s k (expr e)) c.into_inner-in-Case.ensures in
+    let arms : core.alts_of (map core.alternative c.in_ok-arms-in-Case.arms) ≡ lift_alts d s
     (k + length (in_expr d s tested)) alts =
-    c.in_ok-arms.ensures.lifted ∙
-    (λ i. lift_alts d (c.in_ok-value.ensures.scope i) (many i) alts) in
-    core-tree.expr_of-Case c.in_ok-new.field-0 c.in_ok-arms.arms ∙
+    c.in_ok-arms-in-Case.ensures.lifted ∙
+    (λ i. lift_alts d (c.in_ok-value-in-Case.ensures.scope i) (many i) alts) in
+    core-tree.expr_of-Case c.in_ok-new-in-Case.field-0 c.in_ok-arms-in-Case.arms ∙
     (λ i. core.Case (value i) (arms i))
-
--- a let group and a case are lifted by functions of their own
-pub expr-returns-in-Let-clause-made : goal.expr-returns-in-Let-clause-made
-expr-returns-in-Let-clause-made t c =
-    subst (λ e. IfOk c.let_in.result (λ _. map core.function c.let_in.new.made
-    ≡ with_lifted_functions (program_of_names c.args.words.now) (map core.function c.args.made.now)
-    (in_expr (program_of_names c.args.words.now) c.args.scope.now e)))
-    (sym (expr_of-Let c.in-Let.group c.in-Let.body) ∙ ap expr (sym c.in-Let.is))
-    c.let_in.ensures.made
-
-pub expr-returns-in-Let-clause-lifted : goal.expr-returns-in-Let-clause-lifted
-expr-returns-in-Let-clause-lifted t c =
-    subst (λ e. IfOk c.let_in.result (λ new. core.expr new
-    ≡ lift (program_of_names c.args.words.now) c.args.scope.now (length c.args.made.now) e))
-    (sym (expr_of-Let c.in-Let.group c.in-Let.body) ∙ ap expr (sym c.in-Let.is))
-    c.let_in.ensures.lifted
-
-pub expr-returns-in-Case-clause-made : goal.expr-returns-in-Case-clause-made
-expr-returns-in-Case-clause-made t c =
-    subst (λ e. IfOk c.case_of.result (λ _. map core.function c.case_of.new.made
-    ≡ with_lifted_functions (program_of_names c.args.words.now) (map core.function c.args.made.now)
-    (in_expr (program_of_names c.args.words.now) c.args.scope.now e)))
+    ∙ ap (lift d s k)
     (sym (expr_of-Case c.in-Case.tested c.in-Case.alts) ∙ ap expr (sym c.in-Case.is))
-    c.case_of.ensures.made
-
-pub expr-returns-in-Case-clause-lifted : goal.expr-returns-in-Case-clause-lifted
-expr-returns-in-Case-clause-lifted t c =
-    subst (λ e. IfOk c.case_of.result (λ new. core.expr new
-    ≡ lift (program_of_names c.args.words.now) c.args.scope.now (length c.args.made.now) e))
-    (sym (expr_of-Case c.in-Case.tested c.in-Case.alts) ∙ ap expr (sym c.in-Case.is))
-    c.case_of.ensures.lifted

@@ -21,8 +21,10 @@ loop-i-preserved c = λ s ls ts k i d.
     let bs = c.args.binders.now in
     let before = binds_all s (take n bs) ts ls in
     let g = c.loop-i.invariant s ls ts k i d in
-    let f = each_found a.nodes ts c.args.terms.now n c.in-Some.term.now d c.in-Some.ensures.lookup.3.0 c.in-Some.ensures.lookup.1 in
-    let e = c.in_ok-bind.ensures s before f.0 k (enters_at a b before g) (g.grows.one f.0 c.in-Some.term.now f.2) in
+    let f = each_found a.nodes ts c.args.terms.now n c.in-Some.term.now d
+    c.in-Some.ensures.lookup.3.0 c.in-Some.ensures.lookup.1 in
+    let e = c.in_ok-bind.ensures s before f.0 k (enters_at a b before g)
+    (g.grows.one f.0 c.in-Some.term.now f.2) in
     subst (EntersLocals a b') (sym (binds_one s bs ts ls n none f.0 (omega arith) f.1))
     (enters_then a b b' before (binds s (get_or bs n none) f.0 before) g e)
 
@@ -30,7 +32,8 @@ pub returns-in_default : goal.returns-in_default
 returns-in_default c = λ s ls ts k i d.
     let n = c.loop-i.i in
     subst (EntersLocals c.args.self.now c.loop-i.self)
-    (sym (binds_stop s c.args.binders.now ts ls n (each_missing c.args.self.now.nodes ts c.args.terms.now n d c.in_default.ensures.lookup.3)))
+    (sym (binds_stop s c.args.binders.now ts ls n
+    (each_missing c.args.self.now.nodes ts c.args.terms.now n d c.in_default.ensures.lookup.3)))
     (c.loop-i.invariant s ls ts k i d)
 
 pub returns : goal.returns

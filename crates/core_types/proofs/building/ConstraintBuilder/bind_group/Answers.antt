@@ -23,13 +23,18 @@ loop-member-preserved c = λ s ls k i.
     let at = enters_at a b (with_group s ms ls) g in
     let v = c.in_ok-term.ensures at.sound in
     let t = Open (AtBinder member.binder.at) in
-    let e = c.in_ok-bind.ensures s (with_group s ms ls) t k (at_kept b b1 _ (with_group s ms ls) (adds_nodes b b1 v.grows refl refl refl) at) v.denotes in
-    subst (EntersLocals a b2) (sym (with_one s c.args.group.now c.loop-member.member-index member (omega arith) c.member-item.is ls))
+    let e = c.in_ok-bind.ensures s (with_group s ms ls) t k
+    (at_kept b b1 _ (with_group s ms ls) (adds_nodes b b1 v.grows refl refl refl) at) v.denotes
+    in
+    subst (EntersLocals a b2)
+    (sym (with_one s c.args.group.now c.loop-member.member-index member (omega arith)
+    c.member-item.is ls))
     (enters_then a b b2 (with_group s ms ls) (binds s member.binder t (with_group s ms ls)) g
     (enters_after b b1 b2 (binds s member.binder t (with_group s ms ls)) v.grows refl refl refl e))
 
 pub returns : goal.returns
 returns c = λ s ls k i.
     subst (EntersLocals c.args.self.now c.loop-member.self)
-    (ap (λ ms. with_group s (map bind ms) ls) (take_all c.loop-member.member-index c.args.group.now (omega arith)))
+    (ap (λ ms. with_group s (map bind ms) ls)
+    (take_all c.loop-member.member-index c.args.group.now (omega arith)))
     (c.loop-member.invariant s ls k i)

@@ -18,13 +18,19 @@ returns-in_ok-bind_all-in-Con c = λ s ls u k i d.
     let at = name.at in
     let ts = read_list s (used_at s at) (types_in c.as_slice-fields.result.now) in
     let r = c.in_ok-terms-in-Con.ensures s k.names i.sound in
-    let e = c.in_ok-bind_all-in-Con.ensures s ls ts k (at_kept b b1 _ ls (adds_nodes b b1 r.grows refl refl refl) i) (subst (DenoteEach b1.nodes ts) (sym c.deref.ensures.value) r.each) in
+    let e = c.in_ok-bind_all-in-Con.ensures s ls ts k
+    (at_kept b b1 _ ls (adds_nodes b b1 r.grows refl refl refl) i)
+    (subst (DenoteEach b1.nodes ts) (sym c.deref.ensures.value) r.each) in
     let same : with_pattern s u p ls ≡ binds_all s c.as_slice.result.now ts ls =
-    con_names s u ls p name c.in-Con.binders c.in-Con.is (type_of c.in-Some.found.declared.now) (constructor_of c.in-Some.found.constructor.now) (c.in-Some.ensures s k)
-    ∙ (λ j. binds_all s (sym c.as_slice.ensures j) (read_list s (used_at s at) (types_in (sym c.as_slice-fields.ensures j))) ls) in
-    subst (EntersLocals b b2) (sym same) (enters_after b b1 b2 (binds_all s c.as_slice.result.now ts ls) r.grows refl refl refl e)
+    con_names s u ls p name c.in-Con.binders c.in-Con.is (type_of c.in-Some.found.declared.now)
+    (constructor_of c.in-Some.found.constructor.now) (c.in-Some.ensures s k)
+    ∙ (λ j. binds_all s (sym c.as_slice.ensures j)
+    (read_list s (used_at s at) (types_in (sym c.as_slice-fields.ensures j))) ls) in
+    subst (EntersLocals b b2) (sym same)
+    (enters_after b b1 b2 (binds_all s c.as_slice.result.now ts ls) r.grows refl refl refl e)
 
 pub returns-in_ok-bind-in-Default : goal.returns-in_ok-bind-in-Default
 returns-in_ok-bind-in-Default c = λ s ls u k i d.
-    subst (EntersLocals c.args.self.now c.bind.new.self) (sym (default_names s u ls c.args.pattern.now c.in-Default.binder c.in-Default.is))
+    subst (EntersLocals c.args.self.now c.bind.new.self)
+    (sym (default_names s u ls c.args.pattern.now c.in-Default.binder c.in-Default.is))
     (c.in_ok-bind-in-Default.ensures s ls u k i d)

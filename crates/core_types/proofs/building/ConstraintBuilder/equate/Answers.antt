@@ -8,4 +8,5 @@ pub returns : goal.returns
 returns c = λ s t u h l r.
     let b : ConstraintBuilder = c.args.self.now in
     let b' : ConstraintBuilder = record b { pairs = c.push.new.self; places = c.push-2.new.self } in
-    adds_one b b' (constraint s c.args.at t u) c.args.left c.args.right refl refl c.in_ok-push.ensures.items c.in_ok-push-2.ensures.items h l r
+    adds_one b b' (constraint s c.args.at t u) c.args.left c.args.right refl refl
+    c.in_ok-push.ensures.items c.in_ok-push-2.ensures.items h l r

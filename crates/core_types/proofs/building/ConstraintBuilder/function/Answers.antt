@@ -30,10 +30,15 @@ returns c = λ s k i.
     let r = c.in_ok-result.ensures s k ps.grows.sound in
     let both = grows_then b.nodes n1 b2.nodes ps.grows r.grows in
     let at2 = at_kept b b2 [] [] (adds_nodes b b2 both refl refl refl) at in
-    let e = c.in_ok-bind_all.ensures s [] ts k at2 (subst (DenoteEach b2.nodes ts) (sym c.deref.ensures.value) (each_kept n1 b2.nodes r.grows ts c.in_ok-params.params.items ps.each)) in
-    let x = c.in_ok-expression.ensures s inner to k (enters_at b2 b3 inner e) (e.grows.one to c.in_ok-result.result r.denotes) in
+    let e = c.in_ok-bind_all.ensures s [] ts k at2
+    (subst (DenoteEach b2.nodes ts) (sym c.deref.ensures.value)
+    (each_kept n1 b2.nodes r.grows ts c.in_ok-params.params.items ps.each)) in
+    let x = c.in_ok-expression.ensures s inner to k (enters_at b2 b3 inner e)
+    (e.grows.one to c.in_ok-result.result r.denotes) in
     adds_as a b5 (own ++ body) (of_function s f)
-    (ap (λ bs. own ++ of_expr s (binds_all s bs ts []) to (expr c.args.function.now.body)) (sym c.as_slice.ensures))
+    (ap (λ bs. own ++ of_expr s (binds_all s bs ts []) to (expr c.args.function.now.body))
+    (sym c.as_slice.ensures))
     (adds_then a b b5 own body h
-    (leaves b b3 b4 b5 inner body (enters_after b b2 b3 inner both refl refl refl e) x refl refl refl
+    (leaves b b3 b4 b5 inner body (enters_after b b2 b3 inner both refl refl refl e) x refl refl
+    refl
     (c.leave.ensures ∙ ap (λ n. drop (length b4.scope - n) b4.scope) c.len-depth.ensures)))

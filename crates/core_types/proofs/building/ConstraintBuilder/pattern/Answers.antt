@@ -16,10 +16,13 @@ returns-in_ok-equate-in-Con c = λ s ls u k i d.
     let declared = type_of c.in-Some.found.declared.now in
     let t = applied s declared (used_at s name.at) in
     let r = c.in_ok-right-in-Con.ensures s i.sound in
-    let e = c.in_ok-equate-in-Con.ensures s u t r.grows.sound (r.grows.one u c.args.scrutinee d) r.denotes in
+    let e = c.in_ok-equate-in-Con.ensures s u t r.grows.sound (r.grows.one u c.args.scrutinee d)
+    r.denotes in
     adds_as b b2 (constraint s name.at u t ∷ []) (of_pattern s u p)
-    (con_constraint s u ls p name c.in-Con.field-1 c.in-Con.is declared (constructor_of c.in-Some.found.constructor.now) (c.in-Some.ensures s k))
-    (adds_then b b1 b2 [] (constraint s name.at u t ∷ []) (adds_nodes b b1 r.grows refl refl refl) e)
+    (con_constraint s u ls p name c.in-Con.field-1 c.in-Con.is declared
+    (constructor_of c.in-Some.found.constructor.now) (c.in-Some.ensures s k))
+    (adds_then b b1 b2 [] (constraint s name.at u t ∷ []) (adds_nodes b b1 r.grows refl refl refl)
+    e)
 
 pub returns-in_ok-equate-in-Int : goal.returns-in_ok-equate-in-Int
 returns-in_ok-equate-in-Int c = λ s ls u k i d.
@@ -29,6 +32,8 @@ returns-in_ok-equate-in-Int c = λ s ls u k i d.
     let p = c.args.pattern.now in
     let at = c.in-Int.at in
     let r = c.in_ok-right-in-Int.ensures i.sound in
-    let e = c.in_ok-equate-in-Int.ensures s u Int r.grows.sound (r.grows.one u c.args.scrutinee d) r.denotes in
-    adds_as b b2 (constraint s at u Int ∷ []) (of_pattern s u p) (int_constraint s u ls p c.in-Int.field-0 at c.in-Int.is)
+    let e = c.in_ok-equate-in-Int.ensures s u Int r.grows.sound (r.grows.one u c.args.scrutinee d)
+    r.denotes in
+    adds_as b b2 (constraint s at u Int ∷ []) (of_pattern s u p)
+    (int_constraint s u ls p c.in-Int.field-0 at c.in-Int.is)
     (adds_then b b1 b2 [] (constraint s at u Int ∷ []) (adds_nodes b b1 r.grows refl refl refl) e)

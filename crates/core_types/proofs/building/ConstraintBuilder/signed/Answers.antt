@@ -22,5 +22,7 @@ returns c = λ s k h.
     let r = c.in_ok-right.ensures s k l.grows.sound in
     let own = constraint s f.at left right ∷ [] in
     adds_as b b3 own (of_signature s f) (with_signature s f g (c.in-Some.ensures s k))
-    (adds_then b b2 b3 [] own (adds_nodes b b2 (grows_then b.nodes n1 b2.nodes l.grows r.grows) refl refl refl)
-    (c.in_ok-equate.ensures s left right r.grows.sound (r.grows.one left c.in_ok-left.left l.denotes) r.denotes))
+    (adds_then b b2 b3 [] own
+    (adds_nodes b b2 (grows_then b.nodes n1 b2.nodes l.grows r.grows) refl refl refl)
+    (c.in_ok-equate.ensures s left right r.grows.sound
+    (r.grows.one left c.in_ok-left.left l.denotes) r.denotes))

@@ -13,7 +13,11 @@ returns c =
       source = refl;
       names = c.requires.tables;
       functions = λ n. function_found c.args.globals.now s c.requires.tables n;
-      signatures = λ n. signature_found s.signatures n _ (c.in_ok-signatures.ensures n ∙ ap (λ gs. signature_number (map signature_of gs) 0 n) c.as_slice.ensures);
-      constructors = λ n. constructor_found s.types n _ (c.in_ok-constructors.ensures n ∙ ap (λ ds. number_in_types (map type_of ds) 0 n) c.as_slice-2.ensures);
+      signatures = λ n. signature_found s.signatures n _
+          (c.in_ok-signatures.ensures n ∙ ap (λ gs. signature_number (map signature_of gs) 0 n)
+          c.as_slice.ensures);
+      constructors = λ n. constructor_found s.types n _
+          (c.in_ok-constructors.ensures n ∙ ap (λ ds. number_in_types (map type_of ds) 0 n)
+          c.as_slice-2.ensures);
       lists = c.requires.lists;
     }

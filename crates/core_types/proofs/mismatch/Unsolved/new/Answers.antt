@@ -12,10 +12,13 @@ use Rattle.core_types.proofs.mismatch.Unsolved.new.Goals as goal
 
 -- what unification answers for terms and pairs
 abbrev IsAnswer : List Term → List (ℕ × ℕ) → Option ℕ → Type 0
-IsAnswer ts ps o = MatchOption o ((σ : Substitution) × Solves σ (equations ts ps)) (IsFirstUnsolved (equations ts ps))
+IsAnswer ts ps o = MatchOption o ((σ : Substitution) × Solves σ (equations ts ps))
+    (IsFirstUnsolved (equations ts ps))
 
-answered : (ts ts' : List Term) (ps ps' : List (ℕ × ℕ)) (o : Option ℕ) → ts ≡ ts' → ps ≡ ps' → IsAnswer ts ps o → IsAnswer ts' ps' o
-answered ts ts' ps ps' o e f h = subst (λ ts. IsAnswer ts ps' o) e (subst (λ ps. IsAnswer ts ps o) f h)
+answered : (ts ts' : List Term) (ps ps' : List (ℕ × ℕ)) (o : Option ℕ) → ts ≡ ts' → ps ≡ ps'
+    → IsAnswer ts ps o → IsAnswer ts' ps' o
+answered ts ts' ps ps' o e f h = subst (λ ts. IsAnswer ts ps' o) e
+    (subst (λ ps. IsAnswer ts ps o) f h)
 
 pub first_unsolved-requires-clause-earlier : goal.first_unsolved-requires-clause-earlier
 first_unsolved-requires-clause-earlier c =
@@ -29,13 +32,23 @@ first_unsolved-requires-clause-below c =
     let s : Source = source_of c.args.source.now in
     let b : ConstraintBuilder = c.in_ok-builder.builder in
     let h = c.in_ok-builder.ensures s c.in_ok-context.ensures in
-    subst (λ (ts : List Term). PairsAreBelow (length ts) c.as_slice-pairs.result.now) (sym c.as_slice.ensures.value)
-    (subst (PairsAreBelow (length b.nodes.terms.items)) (sym c.as_slice-pairs.ensures.value) (pairs_below b (constraints s) h.1))
+    subst (λ (ts : List Term). PairsAreBelow (length ts) c.as_slice-pairs.result.now)
+    (sym c.as_slice.ensures.value)
+    (subst (PairsAreBelow (length b.nodes.terms.items)) (sym c.as_slice-pairs.ensures.value)
+    (pairs_below b (constraints s) h.1))
 
 pub returns : goal.returns
 returns c =
     let s : Source = source_of c.args.source.now in
     let b : ConstraintBuilder = c.in_ok-builder.builder in
     let h = c.in_ok-builder.ensures s c.in_ok-context.ensures in
-    let u = answered c.as_slice.result.now b.nodes.terms.items c.as_slice-pairs.result.now b.pairs.items c.in_ok-number.number c.as_slice.ensures.value c.as_slice-pairs.ensures.value c.in_ok-number.ensures in
-    record { sound = h.0; stands = h.1; first = first_in b (constraints s) h.0 h.1 c.in_ok-number.number u; terms = u }
+    let u = answered c.as_slice.result.now b.nodes.terms.items c.as_slice-pairs.result.now
+    b.pairs.items c.in_ok-number.number c.as_slice.ensures.value c.as_slice-pairs.ensures.value
+    c.in_ok-number.ensures in
+    record {
+      sound = h.0;
+      stands = h.1;
+      first = first_in b (constraints s) h.0 h.1
+          c.in_ok-number.number u;
+      terms = u;
+    }

@@ -6,4 +6,7 @@ pub returns : goal.returns
 returns c =
     let from = c.args.from in
     let to = c.args.to in
-    arrow_gives _ _ _ from to _ (c.in_ok-push-2.ensures.ok ∙ ap (λ l. l ++ to ∷ []) (c.in_ok-push.ensures.ok ∙ ap (λ l. l ++ from ∷ []) c.new-arguments.ensures)) c.in_ok-at.ensures.grows c.in_ok-at.ensures.made
+    arrow_gives _ _ _ from to _
+    (c.in_ok-push-2.ensures.ok ∙ ap (λ l. l ++ to ∷ [])
+    (c.in_ok-push.ensures.ok ∙ ap (λ l. l ++ from ∷ []) c.new-arguments.ensures))
+    c.in_ok-at.ensures.grows c.in_ok-at.ensures.made
