@@ -19,7 +19,7 @@ use Rattle.match_compile.specs.Source.{Pat, Name, Int, Con, Pats, NoPats, AndPat
 use Rattle.match_compile.specs.Parts.{count, tests_in, tests_of}
 use Rattle.match_compile.specs.Trees.{PendingPattern, Row, row, pending_patterns_at, head_of, fields_of, Tree, Body, Case, Branches, NoBranch, AndBranch, NoDefault, ATree, branches_fail, fits, opened, places_from, tests_left, one_branch, by_head, alone, alone_from, in_default, in_branch, in_later, or_default, pred, max_chained_cases, insert, insert_branch}
 use Rattle.match_compile.specs.RowOf.{rows_of, row_with_field_places, test_at_place, first_of}
-use Rattle.match_compile.specs.TreeOf.{tree_of, branches_of, left_of, insertion_result, tree_after_insertion, branches_after_insertion, as_default, if_fits, is_closed, in_branches, joined, behind, with_new, or_alone, without_default, with_default, after_branches, branch_for, replaced}
+use Rattle.match_compile.specs.TreeOf.{tree_of, branches_of, left_of, insertion_result, tree_after_insertion, as_default, if_fits, is_closed, in_branches, joined, behind, with_new, or_alone, without_default, with_default, after_branches, branch_for, replaced}
 use Rattle.match_compile.proofs.TreesOf.{tree_of-Body, tree_of-Tests, tree_of-Otherwise, branch_is}
 use Rattle.match_compile.proofs.Inserted.{some_is, settled_tests, tests_append, test_counts}
 

@@ -1,6 +1,6 @@
 -- What the definitions of equations, their rules and their trees say by themselves.
 use Rattle.std.specs.Prelude.{◌≡◌, ℕ, ◌+◌, ◌*◌, ◌≤◌, true, ◌||◌, List, [], ◌∷◌, ◌++◌, map, length, Some}
-use Rattle.seq.specs.Lists.{In, sum_of}
+use Rattle.seq.specs.Lists.{sum_of}
 use Rattle.core_reader.specs.declared.syntax.Binder.{Binder}
 use Rattle.core_reader.specs.Tree.{Expr}
 use Rattle.core_reader.specs.Size.{program_size}

@@ -1,5 +1,5 @@
 -- How many new names there may be. A device of the proofs.
-use Rattle.std.specs.Prelude.{ℕ, ◌<◌, ◌^◌, length}
+use Rattle.std.specs.Prelude.{◌<◌, ◌^◌, length}
 use Rattle.match_compile.specs.Source.{Source}
 use Rattle.match_compile.specs.Decisions.{decisions}
 use Rattle.match_compile.specs.Translated.{most_params, most_fields_of}

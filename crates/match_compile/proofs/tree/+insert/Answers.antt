@@ -10,7 +10,7 @@ use Rattle.match_compile.specs.declared.tree.TreeAfterInsertion.{TreeAfterInsert
 use Rattle.match_compile.specs.Trees.{fits, insert, max_chained_cases}
 use Rattle.match_compile.specs.RowOf.{pending, rows_of, row_with_field_places, opening}
 use Rattle.match_compile.specs.TreeOf.{tree_of, branches_of, left_of, insertion_result, IsNew, is_closed, without_default, with_default, after_branches, branch_for}
-use Rattle.match_compile.proofs.Comes.{less_one, at_body, at_tests, closed_stays, open_takes, at_otherwise, makes_one, goes_to_one}
+use Rattle.match_compile.proofs.Comes.{less_one, at_body, at_tests, closed_stays, open_takes, makes_one, goes_to_one}
 use Rattle.match_compile.proofs.Grows.{got}
 use Rattle.match_compile.proofs.tree.+insert.Goals as goal
 
