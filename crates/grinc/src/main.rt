@@ -5,7 +5,7 @@ use grin_driver::{Line, Status, grinc_main};
 use std::env;
 use std::io::ErrorKind;
 use std::process::ExitCode;
-use system_io::{FileShelf, StdIn, std_err, std_out};
+use system_io::{FileShelf, std_err, std_in, std_out};
 
 /// The words of the command line. `Usage` where one of them isn't UTF-8, and `OutOfMemory` where
 /// memory is wanting.
@@ -31,7 +31,7 @@ fn words(runtime: &HostRuntime) -> Result<Line, Status> {
 
 fn main(runtime: HostRuntime) -> ExitCode {
     let alloc = runtime.alloc();
-    let mut input = StdIn::new(&runtime);
+    let mut input = std_in(&runtime);
     let mut out = std_out(&runtime);
     let mut err = std_err(&runtime);
     let status = match words(&runtime) {

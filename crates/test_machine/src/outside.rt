@@ -9,7 +9,7 @@ use std::alloc::{AllocError, Global};
 use std::fs::{self, File};
 use std::process::Abort;
 use std::test::Fail;
-use system_io::{FileShelf, StdIn, WriterSink, std_err, std_out};
+use system_io::{FileShelf, WriterSink, std_err, std_in, std_out};
 
 fn file(alloc: Global, name: &str, bytes: &[u8]) -> Result<MemFile, AllocError> {
     Ok(MemFile {
@@ -159,7 +159,7 @@ fn files_of_the_system(rt: HostRuntime) -> Result<(), Fail> {
 
 #[test]
 fn streams(rt: HostRuntime) {
-    assert_eq!(rt; StdIn::new(&rt).read(&mut []), Ok(0));
+    assert_eq!(rt; std_in(&rt).read(&mut []), Ok(0));
     assert_eq!(rt; std_out(&rt).put(b"out\n"), Ok(()));
     assert_eq!(rt; std_err(&rt).put(b"err\n"), Ok(()));
 }

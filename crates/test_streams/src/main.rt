@@ -4,7 +4,7 @@
 
 use grin_io::{Failed, Sink, Source};
 use std::process::ExitCode;
-use system_io::{StdIn, std_err, std_out};
+use system_io::{std_err, std_in, std_out};
 
 /// Copies what a source gives in at most a thousand readings.
 fn copy(input: &mut impl Source, out: &mut impl Sink) -> Result<(), Failed> {
@@ -20,7 +20,7 @@ fn copy(input: &mut impl Source, out: &mut impl Sink) -> Result<(), Failed> {
 }
 
 fn main(rt: HostRuntime) -> ExitCode {
-    let mut input = StdIn::new(&rt);
+    let mut input = std_in(&rt);
     let mut out = std_out(&rt);
     let copied = copy(&mut input, &mut out);
     if copied.is_err() || std_err(&rt).put(b"copied\n").is_err() {
