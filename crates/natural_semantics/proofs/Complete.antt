@@ -10,8 +10,9 @@ use Rattle.arity_check.specs.Program.{Program, Function, Term, App, Let, Case, B
 use Rattle.core_meaning.specs.Heap.{Value, Int, Con, Part, Delayed, Call, Apply, Prim, Global, Input, Binding, Known, Waiting, Heap, Env, with_local, with_locals}
 use Rattle.core_meaning.specs.Numbers.{primitive_result}
 use Rattle.core_meaning.specs.Evaluation.{State, Answer, Gives, NoAlternative, OutOfBound, and_then, with_number, is_con, fields_of, is_int, spend_of, spend, append, update, DelayedEvaluator, next_byte, with_group, binding, params, parameters, nil, cons, give, give_all, force_binding, force, apply, prim, form, eval, select, enter_body, proceed, within}
-use Rattle.natural_semantics.specs.Natural.{World, extended, updated, after_byte, Forces, Runs, Takes, Evaluates, Selects, Is, Becomes, Calls, Shared, Applies, Computes, NoByte, Byte, Nothing, Waits, Enters, AtOnce, Computed, Binds, Chooses, OfCon, OfInt, OfAny, OfNamed, PastCon, PastInt}
-use Rattle.natural_semantics.specs.Stuck.{NoNumber, AConstructor, AFunction, NoFunction, ANumber, AConstructor', ForceSticks, RunSticks, TakingSticks, EvaluationSticks, SelectionSticks, Becoming, Calling, Sharing, AtHead, AtArguments, AtFirst, FirstIsNone, AtSecond, SecondIsNone, TakesNone, Waiting', Entering, Behind, Computing, Binding as Binding', AtTested, AtBranches, NoneLeft, InCon, InInt, InAny, InNamed, PastCon', PastInt'}
+use Rattle.natural_semantics.specs.World.{World, extended, updated, after_byte, NoNumber, AConstructor, AFunction, NoFunction, ANumber, AConstructor'}
+use Rattle.natural_semantics.specs.Natural.{Forces, Runs, Takes, Evaluates, Selects, Is, Becomes, Calls, Shared, Applies, Computes, NoByte, Byte, Nothing, Waits, Enters, AtOnce, Computed, Binds, Chooses, OfCon, OfInt, OfAny, OfNamed, PastCon, PastInt}
+use Rattle.natural_semantics.specs.Stuck.{ForceSticks, RunSticks, TakingSticks, EvaluationSticks, SelectionSticks, Becoming, Calling, Sharing, AtHead, AtArguments, AtFirst, FirstIsNone, AtSecond, SecondIsNone, TakesNone, Waiting', Entering, Behind, Computing, Binding as Binding', AtTested, AtBranches, NoneLeft, InCon, InInt, InAny, InNamed, PastCon', PastInt'}
 use Rattle.natural_semantics.proofs.Sound.{world}
 
 -- the answer of a state is this value in this world, for at most k units

@@ -8,9 +8,11 @@ use Rattle.core_meaning.specs.Heap.{Value, Int, Con, Part, Call, Input, Waiting}
 use Rattle.core_meaning.specs.Evaluation.{State, Answer, Gives, NoAlternative, OutOfBound, spend_of, append, nil, cons, global, globals, params, start, force, within}
 use Rattle.core_meaning.specs.Printing.{PrintingEnd, Done, Unaccepted, Going, PrintedRun, stops, on_value, on_list, on_byte, print, printed, printed_from_input}
 use Rattle.numbers.specs.Numbers.{low_byte}
-use Rattle.natural_semantics.specs.Natural.{World, extended, Forces}
-use Rattle.natural_semantics.specs.Stuck.{NoNumber, AConstructor, AFunction, ForceSticks}
-use Rattle.natural_semantics.specs.Prints.{NoList, ANumber, AFunction as AFunction', NotNil, OneField, NotCons, ManyFields, Prints, Behind, AtNil, NoList', ListSticks, Puts, NoByte', ByteSticks, first_world, ProgramPrints, OfItself, OfInput}
+use Rattle.natural_semantics.specs.World.{World, extended, NoNumber, AConstructor, AFunction}
+use Rattle.natural_semantics.specs.any.Prints.{NoList, ANumber, AFunction as AFunction', NotNil, OneField, NotCons, ManyFields}
+use Rattle.natural_semantics.specs.Natural.{Forces}
+use Rattle.natural_semantics.specs.Stuck.{ForceSticks}
+use Rattle.natural_semantics.specs.Prints.{Prints, Behind, AtNil, NoList', ListSticks, Puts, NoByte', ByteSticks, first_world, ProgramPrints, OfItself, OfInput}
 use Rattle.natural_semantics.proofs.Sound.{world}
 use Rattle.natural_semantics.proofs.Complete.{Found, Finds, forces_found}
 use Rattle.natural_semantics.proofs.Sticking.{Ends, Sticks, force_sticks}
@@ -136,7 +138,7 @@ module _ (p : Program) where
       ap (λ l. elim l as (λ x. PrintedRun) [ true ↦ go h t | false ↦ stops o Unaccepted s ])
       (eq-eqb (cons p) (cons p) refl)
 
-  at_none : (v : Value) (o : List ℕ) (s : State) (go : ℕ → ℕ → PrintedRun) → NoList p v
+  at_none : (v : Value) (o : List ℕ) (s : State) (go : ℕ → ℕ → PrintedRun) → NoList (nil p) (cons p) v
       → on_list (nil p) (cons p) v o s go ≡ stops o Unaccepted s
   at_none v o s go ANumber = refl
   at_none v o s go AFunction' = refl

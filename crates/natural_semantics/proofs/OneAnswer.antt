@@ -6,7 +6,8 @@ use Rattle.core_meaning.specs.Heap.{Value, Env}
 use Rattle.core_meaning.specs.Evaluation.{State, Answer, Gives, NoAlternative, OutOfBound}
 use Rattle.core_meaning.specs.Printing.{PrintingEnd, Done, Unaccepted, Going, PrintedRun, printed}
 use Rattle.core_meaning.specs.ByNeed as by_need
-use Rattle.natural_semantics.specs.Natural.{World, Evaluates}
+use Rattle.natural_semantics.specs.World.{World}
+use Rattle.natural_semantics.specs.Natural.{Evaluates}
 use Rattle.natural_semantics.specs.Stuck.{EvaluationSticks}
 use Rattle.natural_semantics.specs.Prints.{Prints, Behind, AtNil, NoList', ListSticks, Puts, NoByte', ByteSticks, ProgramPrints, OfItself, OfInput}
 use Rattle.natural_semantics.proofs.Sound.{world}

@@ -8,9 +8,11 @@ use Rattle.core_meaning.specs.Evaluation.{State, Answer, Gives, NoAlternative, O
 use Rattle.core_meaning.specs.Printing.{PrintingEnd, Done, Unaccepted, Going, PrintedRun, stops, on_value, on_list, on_byte, print, printed, printed_from_input}
 use Rattle.core_meaning.specs.ByNeed as by_need
 use Rattle.numbers.specs.Numbers.{low_byte}
-use Rattle.natural_semantics.specs.Natural.{World, extended, Forces}
-use Rattle.natural_semantics.specs.Stuck.{NoNumber, AConstructor, AFunction, ForceSticks}
-use Rattle.natural_semantics.specs.Prints.{NoList, ANumber, AFunction as AFunction', NotNil, OneField, NotCons, ManyFields, Prints, Behind, AtNil, NoList', ListSticks, Puts, NoByte', ByteSticks, first_world, ProgramPrints, OfItself, OfInput}
+use Rattle.natural_semantics.specs.World.{World, extended, NoNumber, AConstructor, AFunction}
+use Rattle.natural_semantics.specs.any.Prints.{NoList, ANumber, AFunction as AFunction', NotNil, OneField, NotCons, ManyFields}
+use Rattle.natural_semantics.specs.Natural.{Forces}
+use Rattle.natural_semantics.specs.Stuck.{ForceSticks}
+use Rattle.natural_semantics.specs.Prints.{Prints, Behind, AtNil, NoList', ListSticks, Puts, NoByte', ByteSticks, first_world, ProgramPrints, OfItself, OfInput}
 use Rattle.natural_semantics.proofs.Sound.{world, Meets, Derived, Stuck, Cut, forced_within}
 
 -- a run that puts out more than this puts out what is derived

@@ -2,12 +2,13 @@
 use Rattle.std.specs.Prelude.{◌≡◌, ◌≢◌, ◌↔◌, ℕ, List}
 use Rattle.arity_check.specs.Program.{Program}
 use Rattle.arity_check.specs.Accepted.{IsValid}
-use Rattle.core_meaning.specs.Heap.{Value, Env, Delayed}
+use Rattle.core_meaning.specs.Heap.{Value, Env}
 use Rattle.core_meaning.specs.Printing.{PrintingEnd, Going, printed}
 use Rattle.headline.specs.Carries.{IsPrefixOf}
 use Rattle.arity_check.specs.Program.{Term}
-use Rattle.natural_semantics.specs.Natural.{World, Forces, Runs, Evaluates}
-use Rattle.natural_semantics.specs.Stuck.{ForceSticks, RunSticks, EvaluationSticks}
+use Rattle.natural_semantics.specs.World.{World}
+use Rattle.natural_semantics.specs.Natural.{Evaluates}
+use Rattle.natural_semantics.specs.Stuck.{EvaluationSticks}
 use Rattle.natural_semantics.specs.Prints.{Prints, ProgramPrints}
 
 -- one value and one heap at most; and where there is one, nothing is met that nothing accepts

@@ -11,23 +11,7 @@ use Rattle.arity_check.specs.Program.{Program, Function, Term, App, Let, Case, B
 use Rattle.core_meaning.specs.Heap.{Value, Int, Con, Part, Delayed, Call, Apply, Prim, Global, Input, Known, Waiting, Heap, Env, with_local, with_locals}
 use Rattle.core_meaning.specs.Numbers.{primitive_result}
 use Rattle.core_meaning.specs.Evaluation.{nil, cons, params, binding, with_group, parameters, is_con, fields_of, is_int}
-
--- the heap, and the bytes of the input that are left
-pub record World : Type 0 where
-  pub heap : Heap
-  pub input : List ℕ
-
--- with more bindings; with a value for a name
-abbrev pub extended : World → Heap → World
-extended w more = record w { heap = w.heap ++ more }
-
-abbrev pub updated : World → ℕ → Value → World
-updated w a v = record w { heap = slice_set w.heap a (Known v) }
-
--- the first byte that is left as a cell, and the others as one that waits
-abbrev pub after_byte : World → ℕ → List ℕ → World
-after_byte w k rest =
-    record { heap = w.heap ++ Known (Int (pos k)) ∷ Waiting Input ∷ []; input = rest }
+use Rattle.natural_semantics.specs.World.{World, extended, updated, after_byte}
 
 module _ (p : Program) where
   mutual
