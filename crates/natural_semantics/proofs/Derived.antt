@@ -1,21 +1,21 @@
 -- The examples, derived by hand.
-use Rattle.std.proofs.Common.{◌≡◌, ◌≢◌, ℕ, zero, suc, true, false, List, [], ◌∷◌, length, Option, Some, None, refl, ap, sym, ◌∙◌, subst, arith}
+use Rattle.std.proofs.Common.{◌≡◌, ◌≢◌, ℕ, suc, false, List, [], ◌∷◌, length, Option, Some, None, refl, ap, sym, ◌∙◌, subst}
 use Rattle.std.specs.Int.{int_wrap}
 use Rattle.std.specs.Prelude.{ℤ, pos, codes, slice_get}
 use Rattle.arity_check.specs.declared.normal.Flat.TheVariants as flat
 use Rattle.arity_check.specs.declared.normal.PrimOp.{PrimOp}
 use Rattle.arity_check.specs.declared.normal.PrimOp.TheVariants.{Add, Sub}
 use Rattle.arity_check.specs.declared.normal.Var.TheVariants as var
-use Rattle.arity_check.specs.Program.{Program, Function, Term, App, Let}
+use Rattle.arity_check.specs.Program.{Program, Function, App}
 use Rattle.core_meaning.specs.Examples.{take_three, shared}
-use Rattle.core_meaning.specs.Heap.{Value, Int, Con, Part, Delayed, Call, Apply, Prim, Global, Input, Binding, Known, Waiting, Env, with_local}
+use Rattle.core_meaning.specs.Heap.{Value, Int, Con, Delayed, Call, Apply, Prim, Global, Input, Binding, Known, Waiting, Env, with_local}
 use Rattle.core_meaning.specs.Evaluation.{parameters, is_int}
-use Rattle.core_meaning.specs.Printing.{PrintingEnd, Done, Unaccepted, Going}
+use Rattle.core_meaning.specs.Printing.{PrintingEnd, Done, Going}
 use Rattle.natural_semantics.specs.World.{World, extended}
-use Rattle.natural_semantics.specs.Natural.{Forces, Runs, Takes, Evaluates, Selects, Is, Becomes, Calls, Shared, Applies, Computes, NoByte, Byte, Nothing, Waits, Enters, AtOnce, Computed, Binds, Chooses, OfCon, OfInt, OfAny, OfNamed, PastCon, PastInt}
+use Rattle.natural_semantics.specs.Natural.{Forces, Runs, Evaluates, Is, Becomes, Calls, Shared, Applies, Computes, NoByte, Byte, Nothing, AtOnce, Computed, Binds, Chooses, OfCon, OfInt, OfNamed, PastCon, PastInt}
 use Rattle.natural_semantics.specs.Stuck.{ForceSticks, RunSticks, EvaluationSticks, Becoming, Calling, Sharing, AtHead, AtArguments, AtFirst, FirstIsNone, AtSecond, SecondIsNone, Computing, Binding as Binding'}
 use Rattle.natural_semantics.specs.Prints.{Prints, Behind, AtNil, NoList', ListSticks, Puts, NoByte', ByteSticks, first_world, ProgramPrints, OfItself, OfInput}
-use Rattle.natural_semantics.specs.Examples.{needs_itself, SelfDemandHasNoDerivation, listed, summed, SumIsShared, ExamplesAreDerived}
+use Rattle.natural_semantics.specs.Examples.{needs_itself, SelfDemandHasNoDerivation, listed, summed, SumIsShared}
 
 -- ---- a sum in two places
 

@@ -1,10 +1,9 @@
 -- What the relation of Core derives to be printed that of its moves derives, and the other way
 -- round.
-use Rattle.std.proofs.Common.{◌≡◌, ◌≢◌, ℕ, suc, List, [], ◌∷◌, ◌++◌, length, refl, subst}
-use Rattle.std.specs.Prelude.{ℤ}
+use Rattle.std.proofs.Common.{ℕ, suc, List, [], ◌∷◌, length, refl, subst}
 use Rattle.arity_check.specs.Program.{Program}
-use Rattle.core_meaning.specs.Heap.{Value, Int, Con, Call, Input, Waiting}
-use Rattle.core_meaning.specs.Evaluation.{nil, cons, global, globals}
+use Rattle.core_meaning.specs.Heap.{Int, Call, Input, Waiting}
+use Rattle.core_meaning.specs.Evaluation.{global, globals}
 use Rattle.core_meaning.specs.Printing.{PrintingEnd}
 use Rattle.natural_semantics.specs.World.{World, extended}
 use Rattle.natural_semantics.specs.Prints.{Prints, Behind, AtNil, NoList', ListSticks, Puts, NoByte', ByteSticks, first_world, ProgramPrints, OfItself, OfInput}

@@ -1,10 +1,8 @@
 -- The relation of Core and that of its moves derive the same.
-use Rattle.std.proofs.Common.{◌≡◌, ◌≢◌, ℕ, suc, ◌<◌, ◌≤◌, Bool, true, false, List, [], ◌∷◌, ◌++◌, map, length, Option, Some, None, refl, ap, sym, ◌∙◌, subst}
+use Rattle.std.proofs.Common.{◌≡◌, ℕ, Bool, true, false, List, [], ◌∷◌, ◌++◌, map, length, Option, Some, None, refl, ap, sym, subst}
 use Rattle.std.specs.Prelude.{ℤ, slice_get}
-use Rattle.arity_check.specs.declared.normal.Flat.{Flat}
-use Rattle.arity_check.specs.declared.normal.Bound.{Bound}
 use Rattle.arity_check.specs.Program.{Program, Function, Term, App, Let, Case, Branches, NoMore, OnCon, OnInt, OnAny}
-use Rattle.core_meaning.specs.Heap.{Value, Int, Con, Part, Delayed, Call, Apply, Prim, Global, Input, Binding, Known, Waiting, Heap, Env, with_local, with_locals}
+use Rattle.core_meaning.specs.Heap.{Value, Int, Part, Delayed, Call, Prim, Binding, Known, Waiting, Heap, Env, with_local, with_locals}
 use Rattle.core_meaning.specs.Evaluation.{binding, with_group, parameters, is_con, fields_of, is_int}
 use Rattle.natural_semantics.specs.World.{World, extended}
 use Rattle.natural_semantics.specs.Natural.{Forces, Runs, Takes, Evaluates, Selects, Is, Becomes, Calls, Shared, Applies, Computes, NoByte, Byte, Nothing, Waits, Enters, AtOnce, Computed, Binds, Chooses, OfCon, OfInt, OfAny, OfNamed, PastCon, PastInt}

@@ -1,11 +1,10 @@
 -- What nothing accepts is met by the relation of Core where it is met by that of its moves.
-use Rattle.std.proofs.Common.{◌≡◌, ◌≢◌, ℕ, suc, ◌<◌, ◌≤◌, Bool, true, false, List, [], ◌∷◌, ◌++◌, map, length, Option, Some, None, refl, ap, sym, ◌∙◌, subst}
+use Rattle.std.proofs.Common.{◌≡◌, ℕ, Bool, true, false, List, [], ◌∷◌, ◌++◌, map, length, Option, Some, None, refl, ap, sym, subst}
 use Rattle.std.specs.Prelude.{ℤ, slice_get}
 use Rattle.arity_check.specs.Program.{Program, Function, Term, App, Let, Case, Branches, NoMore, OnCon, OnInt, OnAny}
-use Rattle.core_meaning.specs.Heap.{Value, Int, Con, Part, Delayed, Call, Apply, Prim, Global, Binding, Known, Waiting, Heap, Env, with_local, with_locals}
+use Rattle.core_meaning.specs.Heap.{Value, Int, Part, Delayed, Call, Prim, Known, Waiting, Heap, Env, with_local, with_locals}
 use Rattle.core_meaning.specs.Evaluation.{binding, with_group, parameters, is_con, fields_of, is_int}
 use Rattle.natural_semantics.specs.World.{World, extended}
-use Rattle.natural_semantics.specs.Natural.{Runs}
 use Rattle.natural_semantics.specs.Stuck.{ForceSticks, RunSticks, TakingSticks, EvaluationSticks, SelectionSticks, Becoming, Calling, Sharing, AtHead, AtArguments, AtFirst, FirstIsNone, AtSecond, SecondIsNone, TakesNone, Waiting', Entering, Behind, Computing, Binding as Binding', AtTested, AtBranches, NoneLeft, InCon, InInt, InAny, InNamed, PastCon', PastInt'}
 use Rattle.natural_semantics.specs.any.Moves.{Moves, Ends, Adds, Demands, Then, Refuses, Absent}
 use Rattle.natural_semantics.specs.any.Stuck as any

@@ -1,5 +1,5 @@
 -- Core as a language: the moves of an expression in normal form.
-use Rattle.std.specs.Prelude.{ℕ, Bool, true, false, List, [], ◌∷◌, map, Option, Some, None, slice_get}
+use Rattle.std.specs.Prelude.{ℕ, true, false, List, [], ◌∷◌, map, Option, Some, None, slice_get}
 use Rattle.arity_check.specs.Program.{Program, Function, Term, App, Let, Case, Branches, NoMore, OnCon, OnInt, OnAny}
 use Rattle.core_meaning.specs.Heap.{Value, Known, Env, with_local, with_locals}
 use Rattle.core_meaning.specs.Evaluation.{nil, cons, params, global, globals, binding, with_group, parameters, is_con, fields_of, is_int}

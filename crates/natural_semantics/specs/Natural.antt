@@ -3,12 +3,12 @@
 --
 -- A name that waits stays in the heap while it is evaluated, so one that needs itself has no
 -- derivation. Names are places in the heap, and an application takes its arguments one at a time.
-use Rattle.std.specs.Prelude.{◌≡◌, ℕ, suc, ◌<◌, ◌≤◌, ℤ, pos, Bool, true, false, List, [], ◌∷◌, ◌++◌, map, length, Option, Some, None, slice_get, slice_set}
+use Rattle.std.specs.Prelude.{◌≡◌, ℕ, suc, ◌<◌, ◌≤◌, ℤ, true, false, List, [], ◌∷◌, ◌++◌, map, length, Some, None, slice_get}
 use Rattle.arity_check.specs.declared.normal.Bound.{Bound}
 use Rattle.arity_check.specs.declared.normal.Flat.{Flat}
 use Rattle.arity_check.specs.declared.normal.PrimOp.{PrimOp}
 use Rattle.arity_check.specs.Program.{Program, Function, Term, App, Let, Case, Branches, OnCon, OnInt, OnAny}
-use Rattle.core_meaning.specs.Heap.{Value, Int, Con, Part, Delayed, Call, Apply, Prim, Global, Input, Known, Waiting, Heap, Env, with_local, with_locals}
+use Rattle.core_meaning.specs.Heap.{Value, Int, Con, Part, Delayed, Call, Apply, Prim, Global, Input, Known, Waiting, Env, with_local, with_locals}
 use Rattle.core_meaning.specs.Numbers.{primitive_result}
 use Rattle.core_meaning.specs.Evaluation.{nil, cons, params, binding, with_group, parameters, is_con, fields_of, is_int}
 use Rattle.natural_semantics.specs.World.{World, extended, updated, after_byte}

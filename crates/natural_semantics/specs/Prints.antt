@@ -1,7 +1,7 @@
 -- Printing as a relation: the elements of a list are put out one by one, each as its low byte.
-use Rattle.std.specs.Prelude.{◌≡◌, ◌≢◌, ℕ, ℤ, suc, List, [], ◌∷◌, ◌++◌, length}
+use Rattle.std.specs.Prelude.{◌≡◌, ◌≢◌, ℕ, ℤ, suc, List, [], ◌∷◌, length}
 use Rattle.arity_check.specs.Program.{Program}
-use Rattle.core_meaning.specs.Heap.{Value, Int, Con, Part, Call, Input, Waiting}
+use Rattle.core_meaning.specs.Heap.{Value, Int, Con, Call, Input, Waiting}
 use Rattle.core_meaning.specs.Evaluation.{nil, cons, global, globals, params}
 use Rattle.core_meaning.specs.Printing.{PrintingEnd, Done, Unaccepted, Going}
 use Rattle.numbers.specs.Numbers.{low_byte}

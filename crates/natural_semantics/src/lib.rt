@@ -5,7 +5,7 @@
 //! of functions without a body.
 #![tactic(auto)]
 
-ghost use Rattle.natural_semantics.specs.Laws.{EvaluationIsFunction, PrintingIsFunction, EndsAreThoseOfTheRelation, OutputIsThatOfTheRelation, GoesOnWithoutDerivation};
+ghost use Rattle.natural_semantics.specs.Laws.{EvaluationIsFunction, PrintingIsFunction, EndsAreThoseOfTheRelation, OutputIsThatOfTheRelation, GoesOnWithoutDerivation, RelationIsThatOfItsMoves};
 ghost use Rattle.natural_semantics.specs.Examples.{ExamplesAreDerived};
 
 use core_meaning::no_lookup_fails;
@@ -47,4 +47,9 @@ pub fn goes_on_without_derivation()
 /// its first elements, a sum in two places is done once, and what needs itself has no derivation.
 pub fn examples_are_derived()
     ensures { ExamplesAreDerived }
+{}
+
+/// The relation of Core is an instance of that of any language.
+pub fn relation_is_that_of_its_moves()
+    ensures { RelationIsThatOfItsMoves }
 {}

@@ -1,13 +1,11 @@
 -- What is derived the evaluator answers, given enough units.
-use Rattle.std.proofs.Common.{◌≡◌, ℕ, zero, suc, ◌+◌, ◌<◌, ◌≤◌, max, Bool, true, false, List, [], ◌∷◌, ◌++◌, length, Option, Some, None, refl, ap, sym, ◌∙◌, subst, arith}
-use Rattle.std.specs.Prelude.{ℤ, pos, nat_lt, slice_get, if◌then◌else◌}
+use Rattle.std.proofs.Common.{◌≡◌, ℕ, zero, suc, ◌+◌, ◌<◌, ◌≤◌, max, List, [], ◌∷◌, ◌++◌, length, Some, refl, ap, sym, ◌∙◌, subst, arith}
+use Rattle.std.specs.Prelude.{slice_get, if◌then◌else◌}
 use Rattle.std.proofs.lemmas.Bool.{lt-ltb, le-ltb}
-use Rattle.arity_check.specs.declared.normal.PrimOp.{PrimOp}
-use Rattle.core_meaning.specs.Heap.{ValueOf, Int, Con, Part, DelayedOf, Call, Apply, Prim, Global, Input, BindingOf, Known, Waiting, HeapOf}
-use Rattle.core_meaning.specs.Numbers.{primitive_result}
-use Rattle.core_meaning.specs.Forcing.{StateOf, AnswerOf, Gives, NoAlternative, OutOfBound, and_then, with_number, spend_of, append, update, DelayedEvaluatorOf, next_byte}
-use Rattle.natural_semantics.specs.World.{WorldOf, extended, updated, after_byte, NoNumber, AConstructor, AFunction, NoFunction, ANumber, AConstructor'}
-use Rattle.natural_semantics.specs.any.Moves.{Moves, Ends, Adds, Demands, Then, Refuses, Absent, ProgramOf, lost_where, force_binding, force, apply, prim, give, give_all, ends, does, proceed, within}
+use Rattle.core_meaning.specs.Heap.{ValueOf, Int, Con, Part, DelayedOf, Call, Apply, Prim, Global, Input, BindingOf, Known, Waiting}
+use Rattle.core_meaning.specs.Forcing.{StateOf, AnswerOf, Gives, and_then, spend_of, append, update, next_byte}
+use Rattle.natural_semantics.specs.World.{WorldOf, extended, updated, after_byte}
+use Rattle.natural_semantics.specs.any.Moves.{Moves, Ends, ProgramOf, force_binding, force, apply, give_all, does, proceed, within}
 use Rattle.natural_semantics.specs.any.Natural.{Forces, Runs, Takes, Yields, Is, Becomes, Calls, Shared, Applies, Computes, NoByte, Byte, Nothing, Waits, Enters, AtOnce, Computed, Binds, Needs, GoesOn}
 use Rattle.natural_semantics.proofs.any.Sound.{world}
 

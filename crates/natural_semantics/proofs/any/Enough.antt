@@ -1,6 +1,6 @@
 -- What is derived to be printed the evaluator prints, given enough units.
-use Rattle.std.proofs.Common.{◌≡◌, ◌≢◌, ℕ, zero, suc, ◌+◌, ◌<◌, ◌≤◌, max, Bool, true, false, List, [], ◌∷◌, ◌++◌, length, Option, Some, None, refl, ap, sym, ◌∙◌, subst, arith, append_assoc, append-nil, eqb-true}
-use Rattle.std.specs.Prelude.{ℤ, ◌==◌, if◌then◌else◌}
+use Rattle.std.proofs.Common.{◌≡◌, ℕ, zero, suc, ◌+◌, ◌≤◌, max, Bool, true, false, List, [], ◌∷◌, ◌++◌, length, refl, ap, sym, ◌∙◌, subst, arith, append_assoc, append-nil}
+use Rattle.std.specs.Prelude.{◌==◌, if◌then◌else◌}
 use Rattle.std.proofs.lemmas.Bool.{eq-eqb, ne_eqb}
 use Rattle.headline.specs.Carries.{IsPrefixOf}
 use Rattle.core_meaning.specs.Heap.{ValueOf, Int, Con, Part, Call, Input, Waiting}
@@ -8,12 +8,10 @@ use Rattle.core_meaning.specs.Forcing.{StateOf, AnswerOf, Gives, NoAlternative, 
 use Rattle.numbers.specs.Numbers.{low_byte}
 use Rattle.natural_semantics.specs.World.{WorldOf, extended, NoNumber, AConstructor, AFunction}
 use Rattle.natural_semantics.specs.any.Moves.{ProgramOf, force, within, print, printed, printed_from_input}
-use Rattle.natural_semantics.specs.any.Natural.{Forces}
-use Rattle.natural_semantics.specs.any.Stuck.{ForceSticks}
 use Rattle.natural_semantics.specs.any.Prints.{NoList, ANumber, AFunction as AFunction', NotNil, OneField, NotCons, ManyFields, Prints, Behind, AtNil, NoList', ListSticks, Puts, NoByte', ByteSticks, first_world, ProgramPrints, OfItself, OfInput}
 use Rattle.natural_semantics.proofs.any.Sound.{world}
-use Rattle.natural_semantics.proofs.any.Complete.{Found, Finds, forces_found}
-use Rattle.natural_semantics.proofs.any.Sticking.{Ends, Sticks, force_sticks}
+use Rattle.natural_semantics.proofs.any.Complete.{Finds, forces_found}
+use Rattle.natural_semantics.proofs.any.Sticking.{Sticks, force_sticks}
 
 -- a run that has ended is this output and this end; one that goes on begins so
 abbrev pub Shows : PrintingEnd → List ℕ → PrintedRun → Type 0

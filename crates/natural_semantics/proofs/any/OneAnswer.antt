@@ -1,5 +1,5 @@
 -- A relation that an evaluator answers has one answer, and what it derives is what is printed.
-use Rattle.std.proofs.Common.{◌≡◌, ◌≢◌, ℕ, ◌+◌, ◌≤◌, List, [], ◌∷◌, refl, ap, sym, ◌∙◌, subst, arith}
+use Rattle.std.proofs.Common.{◌≡◌, ◌≢◌, ℕ, ◌+◌, List, refl, ap, sym, ◌∙◌, subst, arith}
 use Rattle.headline.specs.Carries.{IsPrefixOf}
 use Rattle.core_meaning.specs.Heap.{ValueOf}
 use Rattle.core_meaning.specs.Forcing.{StateOf, AnswerOf, Gives, NoAlternative, OutOfBound, PrintingEnd, Done, Unaccepted, Going, PrintedRun}
@@ -8,7 +8,7 @@ use Rattle.natural_semantics.specs.any.Moves.{Moves, ProgramOf, printed}
 use Rattle.natural_semantics.specs.any.Natural.{Yields}
 use Rattle.natural_semantics.specs.any.Stuck.{YieldSticks}
 use Rattle.natural_semantics.specs.any.Prints.{Prints, Behind, AtNil, NoList', ListSticks, Puts, NoByte', ByteSticks, ProgramPrints, OfItself, OfInput}
-use Rattle.natural_semantics.specs.any.Laws.{YieldsIsFunction, SaysWhatRunsDo}
+use Rattle.natural_semantics.specs.any.Laws.{SaysWhatRunsDo}
 use Rattle.natural_semantics.proofs.any.Sound.{world}
 use Rattle.natural_semantics.proofs.any.Complete.{yields_found}
 use Rattle.natural_semantics.proofs.any.Sticking.{yield_sticks}
@@ -120,11 +120,10 @@ going_unless_derived p i n d h = go (printed p i n).end refl
         (h (printed p i n).out (printed p i n).end
         (λ z. let w : Unaccepted ≡ Going = sym q ∙ z in cc) d)
 
-pub is_function : {F : Type 0} (p : ProgramOf F) → YieldsIsFunction p
-is_function p = record { one_value = one_value p; never_both = never_both p }
-
 pub says_what_runs_do : {F : Type 0} (p : ProgramOf F) → SaysWhatRunsDo p (printed p)
 says_what_runs_do p = record {
+  one_value = one_value p;
+  never_both = never_both p;
   one_output = one_output p;
   ends = λ i out end h. (
     λ t. subst (λ o. ProgramPrints p i o end) t.1

@@ -1,15 +1,15 @@
 -- Printing by the evaluator and by the relation.
-use Rattle.std.proofs.Common.{◌≡◌, ◌≢◌, ℕ, zero, suc, ◌+◌, ◌<◌, ◌≤◌, max, Bool, true, false, List, [], ◌∷◌, ◌++◌, length, Option, Some, None, refl, ap, sym, ◌∙◌, subst, arith, append_assoc, append-nil, eqb-true}
-use Rattle.std.specs.Prelude.{ℤ, ◌==◌, if◌then◌else◌}
-use Rattle.std.proofs.lemmas.Bool.{eq-eqb, ne_eqb}
+use Rattle.std.proofs.Common.{◌≡◌, ◌≢◌, ℕ, zero, suc, max, Bool, true, false, List, [], ◌∷◌, ◌++◌, length, refl, sym, ◌∙◌, subst, append_assoc, append-nil, eqb-true}
+use Rattle.std.specs.Prelude.{◌==◌, if◌then◌else◌}
+use Rattle.std.proofs.lemmas.Bool.{eq-eqb}
 use Rattle.core_meaning.specs.Heap.{ValueOf, Int, Con, Part, Call, Input, Waiting}
-use Rattle.core_meaning.specs.Forcing.{StateOf, AnswerOf, Gives, NoAlternative, OutOfBound, spend_of, append, start, PrintingEnd, Done, Unaccepted, Going, PrintedRun, stops, on_value, on_list, on_byte}
+use Rattle.core_meaning.specs.Forcing.{StateOf, AnswerOf, spend_of, append, start, PrintingEnd, Done, Unaccepted, Going, PrintedRun, stops, on_value, on_list, on_byte}
 use Rattle.numbers.specs.Numbers.{low_byte}
-use Rattle.natural_semantics.specs.World.{WorldOf, extended, NoNumber, AConstructor, AFunction}
+use Rattle.natural_semantics.specs.World.{WorldOf, AConstructor, AFunction}
 use Rattle.natural_semantics.specs.any.Moves.{ProgramOf, force, within, print, printed, printed_from_input}
 use Rattle.natural_semantics.specs.any.Natural.{Forces}
 use Rattle.natural_semantics.specs.any.Stuck.{ForceSticks}
-use Rattle.natural_semantics.specs.any.Prints.{NoList, ANumber, AFunction as AFunction', NotNil, OneField, NotCons, ManyFields, Prints, Behind, AtNil, NoList', ListSticks, Puts, NoByte', ByteSticks, first_world, ProgramPrints, OfItself, OfInput}
+use Rattle.natural_semantics.specs.any.Prints.{ANumber, AFunction as AFunction', NotNil, OneField, NotCons, ManyFields, Prints, Behind, AtNil, NoList', ListSticks, Puts, NoByte', ByteSticks, ProgramPrints, OfItself, OfInput}
 use Rattle.natural_semantics.proofs.any.Sound.{world, Meets, Derived, Stuck, Cut, forced_within}
 
 -- a run that puts out more than this puts out what is derived

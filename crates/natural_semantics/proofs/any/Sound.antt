@@ -1,12 +1,12 @@
 -- What the evaluator answers is derived.
-use Rattle.std.proofs.Common.{◌≡◌, ℕ, zero, suc, ◌+◌, ◌<◌, ◌≤◌, max, Bool, true, false, List, [], ◌∷◌, ◌++◌, length, Option, Some, None, refl, ap, sym, ◌∙◌, subst, arith}
-use Rattle.std.specs.Prelude.{ℤ, pos, nat_lt, slice_get, if◌then◌else◌}
+use Rattle.std.proofs.Common.{◌≡◌, ℕ, zero, suc, ◌<◌, ◌≤◌, max, Bool, true, false, List, [], ◌∷◌, ◌++◌, length, Option, Some, None, refl}
+use Rattle.std.specs.Prelude.{ℤ, nat_lt, slice_get, if◌then◌else◌}
 use Rattle.std.proofs.lemmas.Bool.{ltb-true, ltb-false}
 use Rattle.arity_check.specs.declared.normal.PrimOp.{PrimOp}
-use Rattle.core_meaning.specs.Heap.{ValueOf, Int, Con, Part, DelayedOf, Call, Apply, Prim, Global, Input, BindingOf, Known, Waiting, HeapOf}
+use Rattle.core_meaning.specs.Heap.{ValueOf, Int, Con, Part, DelayedOf, Call, Apply, Prim, Global, Input, BindingOf, Known, Waiting}
 use Rattle.core_meaning.specs.Numbers.{primitive_result}
 use Rattle.core_meaning.specs.Forcing.{StateOf, AnswerOf, Gives, NoAlternative, OutOfBound, and_then, with_number, spend_of, append, update, DelayedEvaluatorOf, next_byte}
-use Rattle.natural_semantics.specs.World.{WorldOf, extended, updated, after_byte, NoNumber, AConstructor, AFunction, NoFunction, ANumber, AConstructor'}
+use Rattle.natural_semantics.specs.World.{WorldOf, AConstructor, AFunction, ANumber, AConstructor'}
 use Rattle.natural_semantics.specs.any.Moves.{Moves, Ends, Adds, Demands, Then, Refuses, Absent, ProgramOf, lost_where, force_binding, force, apply, prim, give, give_all, ends, does, proceed, within}
 use Rattle.natural_semantics.specs.any.Natural.{Forces, Runs, Takes, Yields, Is, Becomes, Calls, Shared, Applies, Computes, NoByte, Byte, Nothing, Waits, Enters, AtOnce, Computed, Binds, Needs, GoesOn}
 use Rattle.natural_semantics.specs.any.Stuck.{ForceSticks, RunSticks, TakingSticks, YieldSticks, NoName, Becoming, Calling, Sharing, AtHead, AtArguments, AtFirst, FirstIsNone, AtSecond, SecondIsNone, TakesNone, Waiting', Entering, Behind, Refused, NoFunction', Computing, Binding as Binding', AtDemand, BehindDemand, AtMoves, BehindMoves}

@@ -1,14 +1,11 @@
 -- What is derived to meet what nothing accepts the evaluator answers so, given enough units.
-use Rattle.std.proofs.Common.{◌≡◌, ℕ, zero, suc, ◌+◌, ◌<◌, ◌≤◌, max, Bool, true, false, List, [], ◌∷◌, ◌++◌, length, Option, Some, None, refl, ap, sym, ◌∙◌, subst, arith}
-use Rattle.std.specs.Prelude.{ℤ, pos, nat_lt, slice_get, if◌then◌else◌}
+use Rattle.std.proofs.Common.{◌≡◌, ℕ, zero, suc, ◌+◌, ◌<◌, ◌≤◌, max, true, List, [], ◌∷◌, ◌++◌, length, refl, ap, sym, ◌∙◌, subst, arith}
+use Rattle.std.specs.Prelude.{ℤ, slice_get, if◌then◌else◌}
 use Rattle.std.proofs.lemmas.Bool.{lt-ltb, le-ltb}
-use Rattle.arity_check.specs.declared.normal.PrimOp.{PrimOp}
-use Rattle.core_meaning.specs.Heap.{ValueOf, Int, Con, Part, DelayedOf, Call, Apply, Prim, Global, Input, BindingOf, Known, Waiting, HeapOf}
-use Rattle.core_meaning.specs.Numbers.{primitive_result}
-use Rattle.core_meaning.specs.Forcing.{StateOf, AnswerOf, Gives, NoAlternative, OutOfBound, and_then, with_number, spend_of, append, update, DelayedEvaluatorOf, next_byte}
-use Rattle.natural_semantics.specs.World.{WorldOf, extended, updated, after_byte, NoNumber, AConstructor, AFunction, NoFunction, ANumber, AConstructor'}
-use Rattle.natural_semantics.specs.any.Moves.{Moves, Ends as Ends', Adds, Demands, Then, Refuses, Absent, ProgramOf, lost_where, force_binding, force, apply, prim, give, give_all, ends, does, proceed, within}
-use Rattle.natural_semantics.specs.any.Natural.{Forces, Runs, Takes, Yields}
+use Rattle.core_meaning.specs.Heap.{ValueOf, Int, Part, DelayedOf, Call, Apply, Prim, Global, Input, Waiting}
+use Rattle.core_meaning.specs.Forcing.{StateOf, AnswerOf, Gives, NoAlternative, and_then, with_number, spend_of, append}
+use Rattle.natural_semantics.specs.World.{WorldOf, extended, NoNumber, AConstructor, AFunction, NoFunction, ANumber, AConstructor'}
+use Rattle.natural_semantics.specs.any.Moves.{Moves, Ends as Ends', ProgramOf, lost_where, force_binding, force, apply, give_all, does, proceed, within}
 use Rattle.natural_semantics.specs.any.Stuck.{ForceSticks, RunSticks, TakingSticks, YieldSticks, NoName, Becoming, Calling, Sharing, AtHead, AtArguments, AtFirst, FirstIsNone, AtSecond, SecondIsNone, TakesNone, Waiting', Entering, Behind, Refused, NoFunction', Computing, Binding as Binding', AtDemand, BehindDemand, AtMoves, BehindMoves}
 use Rattle.natural_semantics.proofs.any.Sound.{world}
 use Rattle.natural_semantics.proofs.any.Complete.{Found, Finds, forces_found, runs_found, yields_found, within_finds, heap_of}

@@ -11,17 +11,15 @@ use Rattle.natural_semantics.specs.any.Stuck.{YieldSticks}
 use Rattle.natural_semantics.specs.any.Prints.{ProgramPrints}
 
 module _ {F : Type 0} (p : ProgramOf F) where
-  -- one value and one heap at most; and where there is one, nothing is met that nothing accepts
-  pub record YieldsIsFunction : Type 0 where
+  -- The relation says of a program what its runs within a number of units do: moves have one value
+  -- and one heap at most, and where they have one, nothing is met that nothing accepts; the program
+  -- has one output and one end at most, it has them exactly where some run does, what a run puts out
+  -- is derived and what is derived is put out, and it has no end exactly where every run goes on.
+  pub record SaysWhatRunsDo (run : List ℕ → ℕ → PrintedRun) : Type 0 where
     pub one_value : (w w' w'' : WorldOf F) (m : Moves F) (u v : ValueOf F)
         → Yields p w m u w' → Yields p w m v w'' → (u ≡ v) × (w' ≡ w'')
     pub never_both : (w w' : WorldOf F) (m : Moves F) (v : ValueOf F)
         → Yields p w m v w' → YieldSticks p w m → ⊥
-
-  -- The relation says of a program what its runs within a number of units do: it has one output
-  -- and one end at most, it has them exactly where some run does, what a run puts out is derived
-  -- and what is derived is put out, and it has no end exactly where every run goes on.
-  pub record SaysWhatRunsDo (run : List ℕ → ℕ → PrintedRun) : Type 0 where
     pub one_output : (i out out' : List ℕ) (end end' : PrintingEnd) → end ≢ Going → end' ≢ Going
         → ProgramPrints p i out end → ProgramPrints p i out' end' → (out ≡ out') × (end ≡ end')
     pub ends : (i out : List ℕ) (end : PrintingEnd) → end ≢ Going

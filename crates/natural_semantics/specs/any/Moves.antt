@@ -1,8 +1,8 @@
 -- A program of any language that is evaluated by need: what a function's body does, where it has
 -- been entered, is a tree of a few moves.
-use Rattle.std.specs.Prelude.{ℕ, suc, Bool, true, false, List, [], ◌∷◌, length, Option}
+use Rattle.std.specs.Prelude.{ℕ, suc, Bool, true, false, List, length, Option}
 use Rattle.arity_check.specs.declared.normal.PrimOp.{PrimOp}
-use Rattle.core_meaning.specs.Heap.{ValueOf, DelayedOf, Call, Apply, Prim, Global, Input, BindingOf, Known, Waiting, HeapOf}
+use Rattle.core_meaning.specs.Heap.{ValueOf, Call, Apply, Prim, Global, Input, BindingOf, Known, Waiting, HeapOf}
 use Rattle.core_meaning.specs.Forcing as forcing
 use Rattle.core_meaning.specs.Forcing.{StateOf, AnswerOf, DelayedEvaluatorOf, PrintedRun, Gives, NoAlternative, OutOfBound, and_then, append}
 

@@ -2,7 +2,7 @@
 -- defaults. A name that waits stays in the heap while it is evaluated.
 use Rattle.std.specs.Prelude.{◌≡◌, ℕ, suc, ◌<◌, ◌≤◌, ℤ, List, [], ◌∷◌, ◌++◌, length, Some, slice_get}
 use Rattle.arity_check.specs.declared.normal.PrimOp.{PrimOp}
-use Rattle.core_meaning.specs.Heap.{ValueOf, Int, Con, Part, DelayedOf, Call, Apply, Prim, Global, Input, BindingOf, Known, Waiting, HeapOf}
+use Rattle.core_meaning.specs.Heap.{ValueOf, Int, Con, Part, DelayedOf, Call, Apply, Prim, Global, Input, Known, Waiting, HeapOf}
 use Rattle.core_meaning.specs.Numbers.{primitive_result}
 use Rattle.natural_semantics.specs.World.{WorldOf, extended, updated, after_byte}
 use Rattle.natural_semantics.specs.any.Moves.{Moves, Ends, Adds, Demands, Then, ProgramOf}

@@ -1,5 +1,5 @@
 -- Printing as a relation, for a program of any language.
-use Rattle.std.specs.Prelude.{◌≡◌, ◌≢◌, ℕ, ℤ, suc, List, [], ◌∷◌, ◌++◌, length}
+use Rattle.std.specs.Prelude.{◌≡◌, ◌≢◌, ℕ, ℤ, suc, List, [], ◌∷◌, length}
 use Rattle.core_meaning.specs.Heap.{ValueOf, Int, Con, Part, Call, Input, Waiting}
 use Rattle.core_meaning.specs.Forcing.{PrintingEnd, Done, Unaccepted, Going}
 use Rattle.numbers.specs.Numbers.{low_byte}

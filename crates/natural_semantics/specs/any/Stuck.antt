@@ -1,12 +1,12 @@
 -- Evaluation by need that meets what nothing accepts, for a program of any language: moves that
 -- refuse a value, a number or a constructor that is given a name, an operation on something else
 -- than a number, or a name that the heap doesn't have.
-use Rattle.std.specs.Prelude.{◌≡◌, ℕ, ℤ, suc, ◌<◌, ◌≤◌, true, List, [], ◌∷◌, ◌++◌, length, Option, Some, None, slice_get}
+use Rattle.std.specs.Prelude.{◌≡◌, ℕ, ℤ, suc, ◌<◌, ◌≤◌, true, List, [], ◌∷◌, ◌++◌, length, Some, None, slice_get}
 use Rattle.arity_check.specs.declared.normal.PrimOp.{PrimOp}
-use Rattle.core_meaning.specs.Heap.{ValueOf, Int, Con, Part, DelayedOf, Call, Apply, Prim, Global, Waiting, HeapOf}
+use Rattle.core_meaning.specs.Heap.{ValueOf, Int, Part, DelayedOf, Call, Apply, Prim, Global, Waiting, HeapOf}
 use Rattle.natural_semantics.specs.World.{WorldOf, extended, NoNumber, NoFunction}
 use Rattle.natural_semantics.specs.any.Moves.{Moves, Ends, Adds, Demands, Then, Refuses, Absent, ProgramOf}
-use Rattle.natural_semantics.specs.any.Natural.{Forces, Runs, Takes, Yields}
+use Rattle.natural_semantics.specs.any.Natural.{Forces, Runs, Yields}
 
 module _ {F : Type 0} (p : ProgramOf F) where
   mutual
