@@ -1,5 +1,6 @@
 mod Derived
 pub mod any
+pub mod by_name
 pub mod Performed
 mod SameRelation
 mod SameSticking

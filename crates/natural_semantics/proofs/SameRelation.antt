@@ -105,7 +105,8 @@ module _ (p : Program) where
         → Selects p w env bs u v w' → any.Yields (core_program p) w (choice_of p bs u env) v w'
     selects_to w w' env bs u v (OfCon {xs = xs} {body = body} {rest = rest} i r) =
         subst (λ l. any.Yields (core_program p) w
-        (one_of (moves_of p body (with_locals env xs (fields_of u))) (choice_of p rest u env) l) v w')
+        (one_of (moves_of p body (with_locals env xs (fields_of u))) (choice_of p rest u env) l) v
+        w')
         (sym i) (evaluates_to w w' (with_locals env xs (fields_of u)) body v r)
     selects_to w w' env bs u v (OfInt {body = body} {rest = rest} i r) =
         subst (λ l. any.Yields (core_program p) w
@@ -117,7 +118,8 @@ module _ (p : Program) where
         body v r)
     selects_to w w' env bs u v (PastCon {xs = xs} {body = body} {rest = rest} i r) =
         subst (λ l. any.Yields (core_program p) w
-        (one_of (moves_of p body (with_locals env xs (fields_of u))) (choice_of p rest u env) l) v w')
+        (one_of (moves_of p body (with_locals env xs (fields_of u))) (choice_of p rest u env) l) v
+        w')
         (sym i) (selects_to w w' env rest u v r)
     selects_to w w' env bs u v (PastInt {body = body} {rest = rest} i r) =
         subst (λ l. any.Yields (core_program p) w
@@ -274,13 +276,14 @@ module _ (p : Program) where
       is_not_absent = λ q. cc;
       is_not_refused = λ q. cc;
     }
-    yields_from w w' m v (any.GoesOn {w' = w1} {moves = moves} {next = next} {u = u} r r') = record {
-      expression = then_from w w1 w' moves next u v (yields_from w w1 moves u r)
-          (yields_from w1 w' (next u) v r');
-      named = λ x body env u q. cc;
-      is_not_absent = λ q. cc;
-      is_not_refused = λ q. cc;
-    }
+    yields_from w w' m v (any.GoesOn {w' = w1} {moves = moves} {next = next} {u = u} r r')
+        = record {
+          expression = then_from w w1 w' moves next u v (yields_from w w1 moves u r)
+              (yields_from w1 w' (next u) v r');
+          named = λ x body env u q. cc;
+          is_not_absent = λ q. cc;
+          is_not_refused = λ q. cc;
+        }
 
   pub evaluates_from : (w w' : World) (env : Env) (e : Term) (v : Value)
       → any.Yields (core_program p) w (moves_of p e env) v w' → Evaluates p w env e v w'

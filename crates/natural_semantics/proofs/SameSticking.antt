@@ -268,4 +268,5 @@ module _ (p : Program) where
 
   pub evaluation_sticks_from : (w : World) (env : Env) (e : Term)
       → any.YieldSticks (core_program p) w (moves_of p e env) → EvaluationSticks p w env e
-  evaluation_sticks_from w env e r = (yield_sticks_from w (moves_of p e env) r).expression e env refl
+  evaluation_sticks_from w env e r = (yield_sticks_from w (moves_of p e env) r).expression e env
+      refl

@@ -6,3 +6,4 @@ pub mod Laws
 pub mod Examples
 pub mod any
 pub mod CoreMoves
+pub mod ByName

@@ -5,10 +5,10 @@
 //! of functions without a body.
 #![tactic(auto)]
 
-ghost use Rattle.natural_semantics.specs.Laws.{EvaluationIsFunction, PrintingIsFunction, EndsAreThoseOfTheRelation, OutputIsThatOfTheRelation, GoesOnWithoutDerivation, RelationIsThatOfItsMoves};
+ghost use Rattle.natural_semantics.specs.Laws.{EvaluationIsFunction, PrintingIsFunction, EndsAreThoseOfTheRelation, OutputIsThatOfTheRelation, GoesOnWithoutDerivation, RelationIsThatOfItsMoves, SharingChangesNothing};
 ghost use Rattle.natural_semantics.specs.Examples.{ExamplesAreDerived};
 
-use core_meaning::no_lookup_fails;
+use core_meaning::{no_lookup_fails, valid_programs_are_well_formed};
 
 /// An expression has one value and one heap after it at most, and where it has one, its evaluation
 /// meets nothing that nothing accepts.
@@ -53,3 +53,10 @@ pub fn examples_are_derived()
 pub fn relation_is_that_of_its_moves()
     ensures { RelationIsThatOfItsMoves }
 {}
+
+/// Evaluation by name, where nothing is shared, derives the same.
+pub fn sharing_changes_nothing()
+    ensures { SharingChangesNothing }
+{
+    valid_programs_are_well_formed();
+}

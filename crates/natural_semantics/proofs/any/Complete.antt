@@ -10,7 +10,8 @@ use Rattle.natural_semantics.specs.any.Natural.{Forces, Runs, Takes, Yields, Is,
 use Rattle.natural_semantics.proofs.any.Sound.{world}
 
 -- the answer of a state is this value in this world, for at most k units
-pub record Found {F : Type 0} (s : StateOf F) (k : ℕ) (v : ValueOf F) (w : WorldOf F) (r : AnswerOf F) : Type 0 where
+pub record Found {F : Type 0} (s : StateOf F) (k : ℕ) (v : ValueOf F) (w : WorldOf F)
+    (r : AnswerOf F) : Type 0 where
   pub state : StateOf F
   pub is : r ≡ Gives v state
   pub there : world state ≡ w
@@ -19,12 +20,14 @@ pub record Found {F : Type 0} (s : StateOf F) (k : ℕ) (v : ValueOf F) (w : Wor
 
 -- so does an evaluation answer in each state of a world that has as many units; it recurs as often
 -- as there are units
-pub record Finds {F : Type 0} (w : WorldOf F) (c : ℕ → ℕ → StateOf F → AnswerOf F) (v : ValueOf F) (w' : WorldOf F) : Type 0 where
+pub record Finds {F : Type 0} (w : WorldOf F) (c : ℕ → ℕ → StateOf F → AnswerOf F) (v : ValueOf F)
+    (w' : WorldOf F) : Type 0 where
   pub units : ℕ
   pub finds : (n d : ℕ) (s : StateOf F) → world s ≡ w → units ≤ s.left → s.left ≤ n
       → Found s units v w' (c n d s)
 
-found_then : {F : Type 0} (s : StateOf F) (n k l : ℕ) (v x : ValueOf F) (w w' : WorldOf F) (r : AnswerOf F)
+found_then : {F : Type 0} (s : StateOf F) (n k l : ℕ) (v x : ValueOf F) (w w' : WorldOf F)
+    (r : AnswerOf F)
     (go : ValueOf F → StateOf F → AnswerOf F) → Found s k v w r
     → k + l ≤ s.left → s.left ≤ n
     → ((s' : StateOf F) → world s' ≡ w → l ≤ s'.left → s'.left ≤ n → Found s' l x w' (go v s'))
@@ -40,13 +43,15 @@ found_then s n k l v x w w' r go f le top g =
     }
 
 -- a value that is there already
-found_at_once : {F : Type 0} (s : StateOf F) (v : ValueOf F) (w : WorldOf F) (t : StateOf F) → world t ≡ w → t.left ≡ s.left
+found_at_once : {F : Type 0} (s : StateOf F) (v : ValueOf F) (w : WorldOf F) (t : StateOf F)
+    → world t ≡ w → t.left ≡ s.left
     → Found s 0 v w (Gives v t)
 found_at_once s v w t e l = record
     { state = t; is = refl; there = e; spent = omega (arith, l); kept = omega (arith, l) }
 
 -- the same with an answer that is equal
-found_as : {F : Type 0} (s : StateOf F) (k : ℕ) (v : ValueOf F) (w : WorldOf F) (r r' : AnswerOf F) → r' ≡ r → Found s k v w r
+found_as : {F : Type 0} (s : StateOf F) (k : ℕ) (v : ValueOf F) (w : WorldOf F) (r r' : AnswerOf F)
+    → r' ≡ r → Found s k v w r
     → Found s k v w r'
 found_as s k v w r r' e f = record
     { state = f.state; is = e ∙ f.is; there = f.there; spent = f.spent; kept = f.kept }
@@ -98,7 +103,8 @@ module _ {F : Type 0} (p : ProgramOf F) where
       (λ s' e' le' top'. m'.finds n d s' e' le' top')
 
   -- what a function does that lacks more than one name
-  waited : (w w' : WorldOf F) (f : F) (b : ℕ) (xs cs : List ℕ) (v : ValueOf F) → suc (length xs) < p.arity f
+  waited : (w w' : WorldOf F) (f : F) (b : ℕ) (xs cs : List ℕ) (v : ValueOf F)
+      → suc (length xs) < p.arity f
       → (m : Finds w (λ n d s. give_all p (within p n) (Part f (xs ++ b ∷ [])) cs d s) v w')
       (n d : ℕ) (s : StateOf F) → world s ≡ w
       → m.units ≤ s.left → s.left ≤ n → Found s m.units v w'
@@ -235,12 +241,14 @@ module _ {F : Type 0} (p : ProgramOf F) where
       units = 0;
       finds = λ n d s e le top. found_as s 0 v w' _ _
           (ap (λ x. next_byte p.nil p.cons x s) (ap (λ (x : WorldOf F). x.input) e ∙ i))
-          (subst (λ (x : WorldOf F). Found s 0 (Con (p.cons) (length x.heap ∷ suc (length x.heap) ∷ []))
+          (subst (λ (x : WorldOf F). Found s 0
+          (Con (p.cons) (length x.heap ∷ suc (length x.heap) ∷ []))
           (after_byte x k rest)
           (next_byte p.nil p.cons (k ∷ rest) s)) e (found_at_once s _ _ _ refl refl));
     }
 
-    takes_found : (w w' : WorldOf F) (u : ValueOf F) (bs : List ℕ) (v : ValueOf F) → Takes p w u bs v w'
+    takes_found : (w w' : WorldOf F) (u : ValueOf F) (bs : List ℕ) (v : ValueOf F)
+        → Takes p w u bs v w'
         → Finds w (λ n d s. give_all p (within p n) u bs d s) v w'
     takes_found w w' u bs v Nothing = record
         { units = 0; finds = λ n d s e le top. found_at_once s v w' s e refl }
@@ -271,7 +279,8 @@ module _ {F : Type 0} (p : ProgramOf F) where
         record {
           units = m.units;
           finds = λ n d s e le top.
-              let h : length w.heap ≡ length s.heap = ap (λ (y : WorldOf F). length y.heap) (sym e) in
+              let h : length w.heap ≡ length s.heap = ap (λ (y : WorldOf F). length y.heap) (sym e)
+              in
               subst (λ k. Found s m.units v w'
               (does p (within p n) (next k) d (append s (more k)))) h
               (let f = m.finds n d (append s (more (length w.heap)))

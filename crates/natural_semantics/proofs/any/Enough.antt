@@ -28,12 +28,14 @@ value_keeps (Gives v s) o go h = h v s
 value_keeps (NoAlternative s) o go h = ([], sym (append-nil o))
 value_keeps (OutOfBound s) o go h = ([], sym (append-nil o))
 
-choice_keeps : {F : Type 0} (b : Bool) (o : List ℕ) (x : PrintedRun) (s : StateOf F) → IsPrefixOf o x.out
+choice_keeps : {F : Type 0} (b : Bool) (o : List ℕ) (x : PrintedRun) (s : StateOf F)
+    → IsPrefixOf o x.out
     → IsPrefixOf o (elim b as (λ y. PrintedRun) [ true ↦ x | false ↦ stops o Unaccepted s ]).out
 choice_keeps true o x s h = h
 choice_keeps false o x s h = ([], sym (append-nil o))
 
-list_keeps : {F : Type 0} (n c : ℕ) (v : ValueOf F) (o : List ℕ) (s : StateOf F) (go : ℕ → ℕ → PrintedRun)
+list_keeps : {F : Type 0} (n c : ℕ) (v : ValueOf F) (o : List ℕ) (s : StateOf F)
+    (go : ℕ → ℕ → PrintedRun)
     → ((h t : ℕ) → IsPrefixOf o (go h t).out)
     → IsPrefixOf o (on_list n c v o s go).out
 list_keeps n c (Int k) o s go h = ([], sym (append-nil o))
@@ -72,7 +74,8 @@ module _ {F : Type 0} (p : ProgramOf F) where
       (λ w s. on_byte w o s (λ b. print p n t (o ++ b ∷ []) s))
 
   -- the list's name has this value, and printing goes on with it
-  record Steps (s : StateOf F) (n a : ℕ) (o : List ℕ) (k : ℕ) (v : ValueOf F) (w : WorldOf F) : Type 0 where
+  record Steps (s : StateOf F) (n a : ℕ) (o : List ℕ) (k : ℕ) (v : ValueOf F) (w : WorldOf F)
+      : Type 0 where
     pub state : StateOf F
     pub turns : ℕ
     pub is : print p n a o s ≡ on_list (p.nil) (p.cons) v o state (after_list turns o state)
@@ -134,7 +137,8 @@ module _ {F : Type 0} (p : ProgramOf F) where
       ap (λ l. elim l as (λ x. PrintedRun) [ true ↦ go h t | false ↦ stops o Unaccepted s ])
       (eq-eqb (p.cons) (p.cons) refl)
 
-  at_none : (v : ValueOf F) (o : List ℕ) (s : StateOf F) (go : ℕ → ℕ → PrintedRun) → NoList p.nil p.cons v
+  at_none : (v : ValueOf F) (o : List ℕ) (s : StateOf F) (go : ℕ → ℕ → PrintedRun)
+      → NoList p.nil p.cons v
       → on_list (p.nil) (p.cons) v o s go ≡ stops o Unaccepted s
   at_none v o s go ANumber = refl
   at_none v o s go AFunction' = refl
@@ -166,7 +170,8 @@ module _ {F : Type 0} (p : ProgramOf F) where
     pub shown : (n : ℕ) (s : StateOf F) (o : List ℕ) → world s ≡ w → units ≤ s.left → s.left ≤ n
         → Shows end (o ++ out) (print p n a o s)
 
-  pub prints_shown : (w : WorldOf F) (a : ℕ) (out : List ℕ) (end : PrintingEnd) → Prints p w a out end
+  pub prints_shown : (w : WorldOf F) (a : ℕ) (out : List ℕ) (end : PrintingEnd)
+      → Prints p w a out end
       → Shown w a out end
   prints_shown w a out end Behind =
       record {

@@ -29,7 +29,8 @@ state_of (OutOfBound s) = s
 abbrev with_units : {F : Type 0} → WorldOf F → ℕ → StateOf F
 with_units w n = record { heap = w.heap; left = n; depth = 0; input = w.input; used = 0 }
 
-pub one_value : {F : Type 0} (p : ProgramOf F) (w w' w'' : WorldOf F) (m : Moves F) (u v : ValueOf F)
+pub one_value : {F : Type 0} (p : ProgramOf F) (w w' w'' : WorldOf F) (m : Moves F)
+    (u v : ValueOf F)
     → Yields p w m u w' → Yields p w m v w'' → (u ≡ v) × (w' ≡ w'')
 one_value {F = F} p w w' w'' moves u v a b =
     let m = yields_found p w w' moves u a in
@@ -62,7 +63,8 @@ same_shown out out' Going end' r h h' a b = absurd (h refl)
 same_shown out out' Done Going r h h' a b = absurd (h' refl)
 same_shown out out' Unaccepted Going r h h' a b = absurd (h' refl)
 
-pub one_output : {F : Type 0} (p : ProgramOf F) (i out out' : List ℕ) (end end' : PrintingEnd) → end ≢ Going
+pub one_output : {F : Type 0} (p : ProgramOf F) (i out out' : List ℕ) (end end' : PrintingEnd)
+    → end ≢ Going
     → end' ≢ Going
     → ProgramPrints p i out end → ProgramPrints p i out' end' → (out ≡ out') × (end ≡ end')
 one_output p i out out' end end' h h' a b =
@@ -86,7 +88,8 @@ met p i out Unaccepted h d =
 met p i out Going h d = absurd (h refl)
 
 -- what has ended could also go on, as far as is said
-list_goes_on : {F : Type 0} (p : ProgramOf F) (w : WorldOf F) (a : ℕ) (out : List ℕ) (end : PrintingEnd)
+list_goes_on : {F : Type 0} (p : ProgramOf F) (w : WorldOf F) (a : ℕ) (out : List ℕ)
+    (end : PrintingEnd)
     → Prints p w a out end → Prints p w a out Going
 list_goes_on p w a out end Behind = Behind
 list_goes_on p w a out end (AtNil f) = Behind
@@ -96,7 +99,8 @@ list_goes_on p w a out end (Puts f g rest) = Puts f g (list_goes_on p _ _ _ end 
 list_goes_on p w a out end (NoByte' f g x) = Behind
 list_goes_on p w a out end (ByteSticks f x) = Behind
 
-pub goes_on : {F : Type 0} (p : ProgramOf F) (i out : List ℕ) (end : PrintingEnd) → ProgramPrints p i out end
+pub goes_on : {F : Type 0} (p : ProgramOf F) (i out : List ℕ) (end : PrintingEnd)
+    → ProgramPrints p i out end
     → ProgramPrints p i out Going
 goes_on p i out end (OfItself e d) = OfItself e (list_goes_on p _ _ out end d)
 goes_on p i out end (OfInput h d) = OfInput h (list_goes_on p _ _ out end d)

@@ -13,7 +13,8 @@ use Rattle.natural_semantics.specs.any.Prints.{ANumber, AFunction as AFunction',
 use Rattle.natural_semantics.proofs.any.Sound.{world, Meets, Derived, Stuck, Cut, forced_within}
 
 -- a run that puts out more than this puts out what is derived
-record Prints' {F : Type 0} (p : ProgramOf F) (w : WorldOf F) (a : ℕ) (out : List ℕ) (r : PrintedRun) : Type 0 where
+record Prints' {F : Type 0} (p : ProgramOf F) (w : WorldOf F) (a : ℕ) (out : List ℕ)
+    (r : PrintedRun) : Type 0 where
   pub more : List ℕ
   pub behind : r.out ≡ out ++ more
   pub derived : Prints p w a more r.end

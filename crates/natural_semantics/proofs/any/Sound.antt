@@ -16,7 +16,8 @@ abbrev pub world : {F : Type 0} → StateOf F → WorldOf F
 world s = record { heap = s.heap; input = s.input }
 
 -- an answer that is a value is derived, and so is one that nothing accepts
-pub data Meets {F : Type 0} (R : ValueOf F → WorldOf F → Type 0) (S : Type 0) : AnswerOf F → Type 0 where
+pub data Meets {F : Type 0} (R : ValueOf F → WorldOf F → Type 0) (S : Type 0) : AnswerOf F
+    → Type 0 where
   Derived : {v : ValueOf F} {s : StateOf F} → R v (world s) → Meets R S (Gives v s)
   Stuck : {s : StateOf F} → S → Meets R S (NoAlternative s)
   Cut : {s : StateOf F} → Meets R S (OutOfBound s)
@@ -29,7 +30,8 @@ then_meets go (Derived {v = v} {s = s} m) g h = g v s m
 then_meets go (Stuck m) g h = Stuck (h m)
 then_meets go Cut g h = Cut
 
-as_meets : {F : Type 0} {R R' : ValueOf F → WorldOf F → Type 0} {S S' : Type 0} {r : AnswerOf F} → Meets R S r
+as_meets : {F : Type 0} {R R' : ValueOf F → WorldOf F → Type 0} {S S' : Type 0} {r : AnswerOf F}
+    → Meets R S r
     → ((v : ValueOf F) (w : WorldOf F) → R v w → R' v w) → (S → S') → Meets R' S' r
 as_meets (Derived {v = v} {s = s} m) g h = Derived (g v (world s) m)
 as_meets (Stuck m) g h = Stuck (h m)
@@ -89,7 +91,8 @@ module _ {F : Type 0} (p : ProgramOf F) where
             as_meets (on (Call f (xs ++ b ∷ [])) d s)
             (λ v w r. Enters (lacks_one _ _ e) r Nothing) (λ x. Entering (lacks_one _ _ e) x)
 
-    given_more : (u : ValueOf F) (b : ℕ) (bs : List ℕ) (d : ℕ) (s : StateOf F) (go : ValueOf F → StateOf F → AnswerOf F)
+    given_more : (u : ValueOf F) (b : ℕ) (bs : List ℕ) (d : ℕ) (s : StateOf F)
+        (go : ValueOf F → StateOf F → AnswerOf F)
         → ((v : ValueOf F) (s : StateOf F) → Took (world s) v bs (go v s))
         → Took (world s) u (b ∷ bs) (and_then (give p onward u b d s) go)
     given_more (Int k) b bs d s go h = Stuck (TakesNone ANumber)
@@ -132,7 +135,8 @@ module _ {F : Type 0} (p : ProgramOf F) where
     computed op a b d s =
         then_meets _ (forced a (suc d) s) first (λ x. AtFirst x)
       where
-        second : (i : ℤ) (w : WorldOf F) → Forces p (world s) a (Int i) w → (v : ValueOf F) (s'' : StateOf F)
+        second : (i : ℤ) (w : WorldOf F) → Forces p (world s) a (Int i) w
+            → (v : ValueOf F) (s'' : StateOf F)
             → Forces p w b v (world s'')
             → Ran (world s) (Prim op a b)
             (with_number v s'' (λ j. Gives (Int (primitive_result op i j)) s''))

@@ -18,7 +18,8 @@ pub record Ends {F : Type 0} (r : AnswerOf F) : Type 0 where
 -- an evaluation ends so in each state of a world that has as many units
 pub record Sticks {F : Type 0} (w : WorldOf F) (c : ℕ → ℕ → StateOf F → AnswerOf F) : Type 0 where
   pub units : ℕ
-  pub sticks : (n d : ℕ) (s : StateOf F) → world s ≡ w → units ≤ s.left → s.left ≤ n → Ends (c n d s)
+  pub sticks : (n d : ℕ) (s : StateOf F) → world s ≡ w → units ≤ s.left → s.left ≤ n
+      → Ends (c n d s)
 
 at_once : {F : Type 0} (s : StateOf F) → Ends (NoAlternative s)
 at_once s = record { state = s; is = refl }
@@ -26,10 +27,12 @@ at_once s = record { state = s; is = refl }
 ends_as : {F : Type 0} (r r' : AnswerOf F) → r' ≡ r → Ends r → Ends r'
 ends_as r r' e f = record { state = f.state; is = e ∙ f.is }
 
-ends_first : {F : Type 0} (r : AnswerOf F) (go : ValueOf F → StateOf F → AnswerOf F) → Ends r → Ends (and_then r go)
+ends_first : {F : Type 0} (r : AnswerOf F) (go : ValueOf F → StateOf F → AnswerOf F) → Ends r
+    → Ends (and_then r go)
 ends_first r go f = record { state = f.state; is = ap (λ y. and_then y go) f.is }
 
-ends_then : {F : Type 0} (s : StateOf F) (n k l : ℕ) (v : ValueOf F) (w : WorldOf F) (r : AnswerOf F)
+ends_then : {F : Type 0} (s : StateOf F) (n k l : ℕ) (v : ValueOf F) (w : WorldOf F)
+    (r : AnswerOf F)
     (go : ValueOf F → StateOf F → AnswerOf F) → Found s k v w r
     → k + l ≤ s.left → s.left ≤ n →
     ((s' : StateOf F) → world s' ≡ w → l ≤ s'.left → s'.left ≤ n → Ends (go v s'))
@@ -38,12 +41,14 @@ ends_then s n k l v w r go f le top g =
     let h = g f.state f.there (omega (arith, f.spent, le)) (omega (arith, f.kept, top)) in
     record { state = h.state; is = ap (λ y. and_then y go) f.is ∙ h.is }
 
-no_number : {F : Type 0} (v : ValueOf F) (s : StateOf F) (go : ℤ → AnswerOf F) → NoNumber v → Ends (with_number v s go)
+no_number : {F : Type 0} (v : ValueOf F) (s : StateOf F) (go : ℤ → AnswerOf F) → NoNumber v
+    → Ends (with_number v s go)
 no_number v s go AConstructor = at_once s
 no_number v s go AFunction = at_once s
 
 module _ {F : Type 0} (p : ProgramOf F) where
-  within_sticks : (w : WorldOf F) (t : DelayedOf F) (m : Sticks w (λ n d s. proceed p (within p n) t d s))
+  within_sticks : (w : WorldOf F) (t : DelayedOf F)
+      (m : Sticks w (λ n d s. proceed p (within p n) t d s))
       → (n d : ℕ) (s : StateOf F)
       → world s ≡ w → suc m.units ≤ s.left → s.left ≤ n → Ends (within p n t d s)
   within_sticks w t m zero d s e le top = absurd (omega (arith, le, top))
@@ -97,7 +102,8 @@ module _ {F : Type 0} (p : ProgramOf F) where
       (λ w s. give_all p (within p n) w (c ∷ cs) d s)) (le-ltb _ _ less))
       (ends_first _ _ (within_sticks w _ m n (suc d) s e le top))
 
-  behind : (w w1 : WorldOf F) (f : F) (b : ℕ) (xs cs : List ℕ) (u : ValueOf F) → p.arity f ≤ suc (length xs)
+  behind : (w w1 : WorldOf F) (f : F) (b : ℕ) (xs cs : List ℕ) (u : ValueOf F)
+      → p.arity f ≤ suc (length xs)
       → (m : Finds w (λ n d s. proceed p (within p n) (Call f (xs ++ b ∷ [])) d s) u w1)
       (m' : Sticks w1 (λ n d s. give_all p (within p n) u cs d s)) (n d : ℕ) (s : StateOf F)
       → world s ≡ w
@@ -138,7 +144,8 @@ module _ {F : Type 0} (p : ProgramOf F) where
       ends_then s n m.units m'.units u w1 _ _ (m.finds n (suc d) s e (omega (arith, le)) top) le top
       (λ s' e' le' top'. m'.sticks n d s' e' le' top')
 
-  at_head : (w : WorldOf F) (a : ℕ) (bs : List ℕ) (m : Sticks w (λ n d s. force p (within p n) a d s))
+  at_head : (w : WorldOf F) (a : ℕ) (bs : List ℕ)
+      (m : Sticks w (λ n d s. force p (within p n) a d s))
       (n d : ℕ) (s : StateOf F)
       → world s ≡ w → m.units ≤ s.left → s.left ≤ n → Ends (apply p (within p n) a bs d s)
   at_head w a [] m n d s e le top = m.sticks n d s e le top
@@ -281,7 +288,8 @@ module _ {F : Type 0} (p : ProgramOf F) where
         record {
           units = m.units;
           sticks = λ n d s e le top.
-              let h : length w.heap ≡ length s.heap = ap (λ (y : WorldOf F). length y.heap) (sym e) in
+              let h : length w.heap ≡ length s.heap = ap (λ (y : WorldOf F). length y.heap) (sym e)
+              in
               subst (λ k. Ends (does p (within p n) (next k) d (append s (more k)))) h
               (m.sticks n d (append s (more (length w.heap)))
               (ap (λ x. extended x (more (length w.heap))) e) le top);
