@@ -1,5 +1,5 @@
--- Evaluation by name as a relation: what is put off is evaluated anew wherever it is needed. There is
--- no heap: a name means an expression, in which each name stands with what it means.
+-- Evaluation by name as a relation: what is put off is evaluated anew wherever it is needed. There
+-- is no heap: a name means an expression, in which each name stands with what it means.
 use Rattle.std.specs.Prelude.{◌≡◌, ◌≢◌, ℕ, zero, suc, ◌<◌, ◌≤◌, ◌==◌, ℤ, pos, Bool, true, false, List, [], ◌∷◌, Some, None, if◌then◌else◌, slice_get}
 use Rattle.arity_check.specs.declared.normal.Bound.{Bound}
 use Rattle.arity_check.specs.declared.normal.Flat.{Flat}

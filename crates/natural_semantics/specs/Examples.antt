@@ -22,7 +22,8 @@ needs_itself = list_program
     ∷ []) 0
 
 -- A name that waits for an operation on itself has no value, whatever the program and its other
--- names are, and nothing is met that nothing accepts. So a program that needs such a name has no end.
+-- names are, and nothing is met that nothing accepts. So a program that needs such a name has no
+-- end.
 pub record SelfDemandHasNoDerivation : Type 0 where
   pub no_value : (p : Program) (w w' : World) (op : PrimOp) (a b : ℕ) (v : Value)
       → slice_get w.heap a ≡ Some (Waiting (Prim op a b)) → Forces p w a v w' → ⊥

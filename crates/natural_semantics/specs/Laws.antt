@@ -58,8 +58,8 @@ pub record RelationIsThatOfItsMoves : Type 0 where
   pub printing : (p : Program) (i out : List ℕ) (end : PrintingEnd)
       → ProgramPrints p i out end ↔ any.ProgramPrints (core_program p) i out end
 
--- Sharing changes nothing: a valid program puts out by need and by name the same, and where its list
--- ends in the one, so it does in the other.
+-- Sharing changes nothing: a valid program puts out by need and by name the same, and where its
+-- list ends in the one, so it does in the other.
 abbrev pub SharingChangesNothing : Type 0
 SharingChangesNothing =
     (p : Program) → IsValid p → (i out : List ℕ) (end : PrintingEnd) → end ≢ Unaccepted

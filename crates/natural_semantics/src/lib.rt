@@ -43,8 +43,9 @@ pub fn goes_on_without_derivation()
     no_lookup_fails();
 }
 
-/// Programs of the language's page by the rules of the relation alone: `take` of an endless list has
-/// its first elements, a sum in two places is done once, and what needs itself has no derivation.
+/// Programs of the language's page by the rules of the relation alone: `take` of an endless list
+/// has its first elements, a sum in two places is done once, and what needs itself has no
+/// derivation.
 pub fn examples_are_derived()
     ensures { ExamplesAreDerived }
 {}

@@ -1,8 +1,8 @@
 -- What evaluation by need derives evaluation by name does.
-use Rattle.std.proofs.Common.{◌≡◌, ◌≢◌, ℕ, zero, suc, ◌+◌, ◌<◌, ◌≤◌, Bool, true, false, List, [], ◌∷◌, ◌++◌, map, length, Option, Some, None, refl, ap, sym, ◌∙◌, subst, arith, eqb-true, inl, inr, slice_get, length-append}
-use Rattle.std.specs.Prelude.{◌⊎◌, ◌==◌, ℤ, pos, slice_set, if◌then◌else◌}
+use Rattle.std.proofs.Common.{◌≡◌, ◌≢◌, ℕ, zero, suc, ◌+◌, ◌<◌, Bool, true, false, List, [], ◌∷◌, ◌++◌, map, length, Some, refl, ap, sym, ◌∙◌, subst, arith, inl, inr, slice_get, length-append}
+use Rattle.std.specs.Prelude.{◌⊎◌, ◌==◌, if◌then◌else◌}
 use Rattle.std.proofs.lemmas.Bool.{eq-eqb}
-use Rattle.std.proofs.lemmas.List.{length-set, length-map}
+use Rattle.std.proofs.lemmas.List.{length-map}
 use Rattle.std.proofs.lemmas.Option.{slice_get_within, same_Some}
 use Rattle.seq.proofs.Lists.{all_get}
 use Rattle.arity_check.specs.declared.normal.Bound.{Bound}
@@ -10,16 +10,13 @@ use Rattle.arity_check.specs.declared.normal.Flat.{Flat}
 use Rattle.arity_check.specs.declared.normal.Flat.TheVariants as flat
 use Rattle.arity_check.specs.declared.normal.Var.{Var}
 use Rattle.arity_check.specs.declared.normal.Var.TheVariants as var
-use Rattle.arity_check.specs.declared.normal.PrimOp.{PrimOp}
-use Rattle.arity_check.specs.Program.{Program, Function, Term, App, Let, Case, Branches, NoMore, OnCon, OnInt, OnAny}
-use Rattle.core_meaning.specs.Heap.{Value, Int, Con, Part, Delayed, Call, Apply, Prim, Global, Input, Binding, Known, Waiting, Heap, Env, with_local, with_locals}
-use Rattle.core_meaning.specs.Numbers.{primitive_result}
-use Rattle.core_meaning.specs.Evaluation.{global, params, params_of, name, names, binding, with_group, parameters, is_con, is_int, fields_of, nil, cons}
-use Rattle.core_meaning.specs.WellFormed.{AllOf, InLocals, InGroup, HasFields, HasParams, VarOk, FormOk, TermOk, BranchesOk, FunOk, WellFormed}
-use Rattle.natural_semantics.specs.World.{World, extended, updated, after_byte}
-use Rattle.natural_semantics.specs.Natural as need
-use Rattle.natural_semantics.specs.ByName.{Meant, Number, Built, Lacks, CallOf, ApplyOf, PrimOf, GlobalOf, Rest, Member, OutOfScope, Meants, Few, And, Sense, count, and_last, nth, with_meant, with_meants, meant, meants, form, with_members, in_group, is_built, parts_of, is_number, Means, Takes, Evaluates, Selects, ANumber, AConstructor, AFunction, OfCall, OfGlobal, OfApply, OfPrim, NoByte, Byte, OfMember, Nothing, Waits, Enters, OfForm, OfLet, OfCase, OfCon, OfInt, OfAny, OfNamed, PastCon, PastInt}
-use Rattle.natural_semantics.proofs.by_name.Related.{Rel, Each, NoneLeft, Both, each_more, each_count, each_last, each_nth, Same, SameNumber, SameCon, SamePart, Delays, DelaysCall, DelaysApply, DelaysPrim, DelaysGlobal, DelaysInput, DelaysMember, same_more, delays_more, value_means, Fits, Grows, grows_not, grows_then, updated_fits}
+use Rattle.arity_check.specs.Program.{Program}
+use Rattle.core_meaning.specs.Heap.{Value, Delayed, Prim, Input, Binding, Known, Waiting, Heap, Env, with_local}
+use Rattle.core_meaning.specs.Evaluation.{global, name, names, binding, with_group}
+use Rattle.core_meaning.specs.WellFormed.{AllOf, InGroup, HasFields, HasParams, VarOk, FormOk}
+use Rattle.natural_semantics.specs.World.{World, extended}
+use Rattle.natural_semantics.specs.ByName.{Meant, Number, Built, Lacks, CallOf, ApplyOf, PrimOf, GlobalOf, Rest, Member, OutOfScope, Sense, with_meant, meant, meants, form, with_members, in_group, Means, ANumber, AConstructor, AFunction, OfMember}
+use Rattle.natural_semantics.proofs.by_name.Related.{Rel, Each, NoneLeft, Both, Same, SameNumber, SameCon, SamePart, Delays, DelaysCall, DelaysApply, DelaysPrim, DelaysGlobal, DelaysInput, DelaysMember, same_more, delays_more, Fits, Grows}
 
 -- ---- lists
 

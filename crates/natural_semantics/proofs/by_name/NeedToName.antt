@@ -1,25 +1,20 @@
 -- What evaluation by need derives evaluation by name does, by induction on the derivation.
-use Rattle.std.proofs.Common.{◌≡◌, ◌≢◌, ℕ, zero, suc, ◌+◌, ◌<◌, ◌≤◌, Bool, true, false, List, [], ◌∷◌, ◌++◌, map, length, Option, Some, None, refl, ap, sym, ◌∙◌, subst, arith, eqb-true, inl, inr, slice_get, length-append}
-use Rattle.std.specs.Prelude.{◌⊎◌, ◌==◌, ℤ, pos, slice_set, if◌then◌else◌}
+use Rattle.std.proofs.Common.{◌≡◌, ◌≢◌, ℕ, suc, ◌<◌, ◌≤◌, Bool, true, false, List, [], ◌∷◌, ◌++◌, map, length, Some, refl, ap, sym, ◌∙◌, subst, arith, inl, inr, slice_get, length-append}
+use Rattle.std.specs.Prelude.{◌⊎◌, ◌==◌, ℤ, if◌then◌else◌}
 use Rattle.std.proofs.lemmas.Bool.{eq-eqb}
-use Rattle.std.proofs.lemmas.List.{length-set, length-map}
+use Rattle.std.proofs.lemmas.List.{length-set}
 use Rattle.std.proofs.lemmas.Option.{slice_get_within, same_Some}
 use Rattle.seq.proofs.Lists.{all_get}
-use Rattle.arity_check.specs.declared.normal.Bound.{Bound}
-use Rattle.arity_check.specs.declared.normal.Flat.{Flat}
-use Rattle.arity_check.specs.declared.normal.Flat.TheVariants as flat
-use Rattle.arity_check.specs.declared.normal.Var.{Var}
-use Rattle.arity_check.specs.declared.normal.Var.TheVariants as var
 use Rattle.arity_check.specs.declared.normal.PrimOp.{PrimOp}
-use Rattle.arity_check.specs.Program.{Program, Function, Term, App, Let, Case, Branches, NoMore, OnCon, OnInt, OnAny}
-use Rattle.core_meaning.specs.Heap.{Value, Int, Con, Part, Delayed, Call, Apply, Prim, Global, Input, Binding, Known, Waiting, Heap, Env, with_local, with_locals}
+use Rattle.arity_check.specs.Program.{Program, Function, Term, Branches}
+use Rattle.core_meaning.specs.Heap.{Value, Int, Con, Part, Delayed, Call, Apply, Prim, Global, Input, Known, Waiting, Env, with_local, with_locals}
 use Rattle.core_meaning.specs.Numbers.{primitive_result}
-use Rattle.core_meaning.specs.Evaluation.{global, params, params_of, name, names, binding, with_group, parameters, is_con, is_int, fields_of, nil, cons}
-use Rattle.core_meaning.specs.WellFormed.{AllOf, InLocals, InGroup, HasFields, HasParams, VarOk, FormOk, TermOk, BranchesOk, FunOk, WellFormed}
+use Rattle.core_meaning.specs.Evaluation.{params, params_of, binding, parameters, fields_of, nil, cons}
+use Rattle.core_meaning.specs.WellFormed.{InLocals, HasParams, TermOk, BranchesOk, FunOk, WellFormed}
 use Rattle.natural_semantics.specs.World.{World, extended, updated, after_byte}
 use Rattle.natural_semantics.specs.Natural as need
-use Rattle.natural_semantics.specs.ByName.{Meant, Number, Built, Lacks, CallOf, ApplyOf, PrimOf, GlobalOf, Rest, Member, OutOfScope, Meants, Few, And, Sense, count, and_last, nth, with_meant, with_meants, meant, meants, form, with_members, in_group, is_built, parts_of, is_number, Means, Takes, Evaluates, Selects, ANumber, AConstructor, AFunction, OfCall, OfGlobal, OfApply, OfPrim, NoByte, Byte, OfMember, Nothing, Waits, Enters, OfForm, OfLet, OfCase, OfCon, OfInt, OfAny, OfNamed, PastCon, PastInt}
-use Rattle.natural_semantics.proofs.by_name.Related.{get_set, get_other, Rel, Each, NoneLeft, Both, each_more, each_count, each_last, each_nth, Same, SameNumber, SameCon, SamePart, Delays, DelaysCall, DelaysApply, DelaysPrim, DelaysGlobal, DelaysInput, DelaysMember, same_more, delays_more, value_means, Fits, Grows, grows_not, grows_then, updated_fits}
+use Rattle.natural_semantics.specs.ByName.{Meant, Number, Built, Lacks, CallOf, ApplyOf, PrimOf, Rest, Meants, Few, Sense, and_last, nth, with_meant, with_meants, form, in_group, parts_of, Means, Takes, Evaluates, Selects, OfCall, OfGlobal, OfApply, OfPrim, NoByte, OfMember, Nothing, Waits, Enters, OfForm, OfLet, OfCase, OfCon, OfInt, OfAny, OfNamed, PastCon, PastInt}
+use Rattle.natural_semantics.proofs.by_name.Related.{Rel, Each, NoneLeft, Both, each_more, each_count, each_last, each_nth, Same, SameNumber, SameCon, SamePart, Delays, DelaysCall, DelaysApply, DelaysPrim, DelaysGlobal, DelaysMember, Fits, Grows, grows_not, grows_then, updated_fits}
 use Rattle.natural_semantics.proofs.by_name.Named.{form_known, form_waits, no_input, input_is, input_rest, Knows, InScope, inner_knows, group_grows, grown}
 use Rattle.natural_semantics.proofs.by_name.Steps.{with_fields, same_con, same_int, fields_known, valued, value_grows, byted, byte_grows, read_gives}
 

@@ -1,20 +1,20 @@
 -- What a program prints by need it prints by name.
 use Rattle.std.proofs.Common.{◌≡◌, ◌≢◌, ℕ, zero, suc, ◌+◌, ◌<◌, ◌≤◌, Bool, true, false, cond, nat_eq, List, [], ◌∷◌, ◌++◌, take, length, Option, Some, None, refl, ap, sym, ◌∙◌, subst, arith, inl, inr, slice_get, length-append}
-use Rattle.std.specs.Prelude.{◌⊎◌, ◌==◌, ℤ}
+use Rattle.std.specs.Prelude.{◌⊎◌}
 use Rattle.std.specs.List.{count_by}
-use Rattle.std.proofs.lemmas.Bool.{eq-eqb, eqb-true}
+use Rattle.std.proofs.lemmas.Bool.{eq-eqb}
 use Rattle.std.proofs.lemmas.Option.{same_Some, none-some, slice_get_within}
 use Rattle.arity_check.specs.Program.{Program, Function}
-use Rattle.core_meaning.specs.Heap.{Value, Int, Con, Call, Delayed, Global, Input, Binding, Known, Waiting, Heap}
+use Rattle.core_meaning.specs.Heap.{Value, Int, Con, Call, Delayed, Global, Input, Binding, Known, Waiting}
 use Rattle.core_meaning.specs.Evaluation.{global, globals, params, params_of, nil, cons}
-use Rattle.core_meaning.specs.Printing.{PrintingEnd, Done, Unaccepted, Going}
+use Rattle.core_meaning.specs.Printing.{PrintingEnd, Unaccepted}
 use Rattle.core_meaning.specs.WellFormed.{HasParams, WellFormed}
 use Rattle.core_meaning.proofs.Shared.{global_below, count_more}
 use Rattle.natural_semantics.specs.World.{World, extended}
 use Rattle.natural_semantics.specs.Natural.{Forces}
 use Rattle.natural_semantics.specs.Prints as need
-use Rattle.natural_semantics.specs.ByName.{Meant, Number, Built, CallOf, GlobalOf, Rest, Meants, Few, And, Means, Prints, Behind, AtNil, Puts, ProgramPrints, OfItself, OfInput}
-use Rattle.natural_semantics.proofs.by_name.Related.{Rel, Each, NoneLeft, Both, Same, SameNumber, SameCon, Delays, DelaysCall, DelaysGlobal, DelaysInput, Fits}
+use Rattle.natural_semantics.specs.ByName.{Meant, Number, Built, CallOf, GlobalOf, Rest, Few, And, Means, Prints, Behind, AtNil, Puts, ProgramPrints, OfItself, OfInput}
+use Rattle.natural_semantics.proofs.by_name.Related.{Rel, NoneLeft, Both, Same, SameCon, Delays, DelaysCall, DelaysGlobal, DelaysInput, Fits}
 use Rattle.natural_semantics.proofs.by_name.Named.{get_append}
 use Rattle.natural_semantics.proofs.by_name.NeedToName.{forced, number_is}
 use Rattle.natural_semantics.proofs.by_name.NameToNeed.{force_to, runs, int_is}

@@ -1,20 +1,17 @@
 -- Names of a heap, and what they mean by name.
-use Rattle.std.proofs.Common.{◌≡◌, ◌≢◌, ℕ, zero, suc, ◌+◌, ◌<◌, ◌≤◌, Bool, true, false, cond, nat_eq, List, [], ◌∷◌, ◌++◌, map, length, Option, Some, None, refl, ap, sym, ◌∙◌, subst, arith, eqb-true, inl, inr, slice_get, length-append}
-use Rattle.std.specs.Prelude.{◌⊎◌, ◌==◌, ℤ, pos, slice_set, slice_index_or, if◌then◌else◌}
-use Rattle.std.proofs.lemmas.Bool.{eq-eqb, ne_eqb}
-use Rattle.std.proofs.lemmas.List.{length-set, length-map}
+use Rattle.std.proofs.Common.{◌≡◌, ◌≢◌, ℕ, zero, suc, ◌<◌, ◌≤◌, Bool, true, false, List, [], ◌∷◌, ◌++◌, length, Option, Some, None, refl, ap, sym, ◌∙◌, subst, arith, eqb-true, slice_get}
+use Rattle.std.specs.Prelude.{◌==◌, ℤ, slice_set}
+use Rattle.std.proofs.lemmas.Bool.{eq-eqb}
+use Rattle.std.proofs.lemmas.List.{length-set}
 use Rattle.arity_check.specs.declared.normal.Bound.{Bound}
 use Rattle.arity_check.specs.declared.normal.Flat.{Flat}
-use Rattle.arity_check.specs.declared.normal.Flat.TheVariants as flat
-use Rattle.arity_check.specs.declared.normal.Var.{Var}
-use Rattle.arity_check.specs.declared.normal.Var.TheVariants as var
 use Rattle.arity_check.specs.declared.normal.PrimOp.{PrimOp}
-use Rattle.arity_check.specs.Program.{Program, Function}
-use Rattle.core_meaning.specs.Heap.{Value, Int, Con, Part, Delayed, Call, Apply, Prim, Global, Input, Binding, Known, Waiting, Heap, Env, with_local, with_locals}
-use Rattle.core_meaning.specs.Evaluation.{global, params, name, names, binding, with_group, parameters, is_con, is_int, fields_of}
-use Rattle.core_meaning.specs.WellFormed.{AllOf, InLocals, InGroup, HasFields, HasParams, VarOk, FormOk}
-use Rattle.natural_semantics.specs.World.{World, extended, updated}
-use Rattle.natural_semantics.specs.ByName.{Meant, Number, Built, Lacks, CallOf, ApplyOf, PrimOf, GlobalOf, Rest, Member, OutOfScope, Meants, Few, And, Sense, count, and_last, nth, with_meant, with_meants, meant, meants, form, with_members, in_group, is_built, parts_of, is_number, Means, ANumber, AConstructor, AFunction, OfMember}
+use Rattle.arity_check.specs.Program.{Program}
+use Rattle.core_meaning.specs.Heap.{Value, Int, Con, Part, Delayed, Call, Apply, Prim, Global, Input, Binding, Known, Waiting}
+use Rattle.core_meaning.specs.Evaluation.{global, parameters}
+use Rattle.core_meaning.specs.WellFormed.{HasFields, HasParams}
+use Rattle.natural_semantics.specs.World.{World, updated}
+use Rattle.natural_semantics.specs.ByName.{Meant, Number, Built, Lacks, CallOf, ApplyOf, PrimOf, GlobalOf, Rest, Member, Meants, Few, And, Sense, count, and_last, nth, form, in_group, Means, ANumber, AConstructor, AFunction}
 
 -- ---- lists
 

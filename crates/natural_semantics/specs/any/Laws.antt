@@ -13,8 +13,9 @@ use Rattle.natural_semantics.specs.any.Prints.{ProgramPrints}
 module _ {F : Type 0} (p : ProgramOf F) where
   -- The relation says of a program what its runs within a number of units do: moves have one value
   -- and one heap at most, and where they have one, nothing is met that nothing accepts; the program
-  -- has one output and one end at most, it has them exactly where some run does, what a run puts out
-  -- is derived and what is derived is put out, and it has no end exactly where every run goes on.
+  -- has one output and one end at most, it has them exactly where some run does, what a run puts
+  -- out is derived and what is derived is put out, and it has no end exactly where every run goes
+  -- on.
   pub record SaysWhatRunsDo (run : List ℕ → ℕ → PrintedRun) : Type 0 where
     pub one_value : (w w' w'' : WorldOf F) (m : Moves F) (u v : ValueOf F)
         → Yields p w m u w' → Yields p w m v w'' → (u ≡ v) × (w' ≡ w'')

@@ -23,7 +23,8 @@ module _ {F : Type 0} (p : ProgramOf F) where
       AtHead : {w : WorldOf F} {a : ℕ} {bs : List ℕ} → ForceSticks w a → RunSticks w (Apply a bs)
       AtArguments : {w w' : WorldOf F} {a : ℕ} {bs : List ℕ} {u : ValueOf F}
           → Forces p w a u w' → TakingSticks w' u bs → RunSticks w (Apply a bs)
-      AtFirst : {w : WorldOf F} {op : PrimOp} {a b : ℕ} → ForceSticks w a → RunSticks w (Prim op a b)
+      AtFirst : {w : WorldOf F} {op : PrimOp} {a b : ℕ} → ForceSticks w a
+          → RunSticks w (Prim op a b)
       FirstIsNone : {w w' : WorldOf F} {op : PrimOp} {a b : ℕ} {u : ValueOf F}
           → Forces p w a u w' → NoNumber u → RunSticks w (Prim op a b)
       AtSecond : {w w' : WorldOf F} {op : PrimOp} {a b : ℕ} {i : ℤ}
@@ -48,7 +49,8 @@ module _ {F : Type 0} (p : ProgramOf F) where
     pub data YieldSticks : WorldOf F → Moves F → Type 0 where
       Refused : {w : WorldOf F} → YieldSticks w Refuses
       NoFunction' : {w : WorldOf F} → p.absent_is_refused ≡ true → YieldSticks w Absent
-      Computing : {w : WorldOf F} {t : DelayedOf F} → RunSticks w t → YieldSticks w (Ends (Waiting t))
+      Computing : {w : WorldOf F} {t : DelayedOf F} → RunSticks w t
+          → YieldSticks w (Ends (Waiting t))
       Binding : {w : WorldOf F} {more : ℕ → HeapOf F} {next : ℕ → Moves F}
           → YieldSticks (extended w (more (length w.heap))) (next (length w.heap))
           → YieldSticks w (Adds more next)
