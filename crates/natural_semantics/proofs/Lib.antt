@@ -1,6 +1,8 @@
-mod Sound
-mod Complete
-mod Sticking
-mod Printed
-mod Enough
-mod OneAnswer
+mod Derived
+pub mod any
+pub mod by_name
+pub mod Performed
+mod SameRelation
+mod SameSticking
+mod SamePrints
+mod CoreSays

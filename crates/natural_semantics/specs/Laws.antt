@@ -2,13 +2,18 @@
 use Rattle.std.specs.Prelude.{◌≡◌, ◌≢◌, ◌↔◌, ℕ, List}
 use Rattle.arity_check.specs.Program.{Program}
 use Rattle.arity_check.specs.Accepted.{IsValid}
-use Rattle.core_meaning.specs.Heap.{Value, Env, Delayed}
-use Rattle.core_meaning.specs.Printing.{PrintingEnd, Going, printed}
+use Rattle.core_meaning.specs.Heap.{Value, Env}
+use Rattle.core_meaning.specs.Printing.{PrintingEnd, Unaccepted, Going, printed}
 use Rattle.headline.specs.Carries.{IsPrefixOf}
 use Rattle.arity_check.specs.Program.{Term}
-use Rattle.natural_semantics.specs.Natural.{World, Forces, Runs, Evaluates}
-use Rattle.natural_semantics.specs.Stuck.{ForceSticks, RunSticks, EvaluationSticks}
-use Rattle.natural_semantics.specs.Prints.{Prints, ProgramPrints}
+use Rattle.natural_semantics.specs.World.{World}
+use Rattle.natural_semantics.specs.Natural.{Evaluates}
+use Rattle.natural_semantics.specs.Stuck.{EvaluationSticks}
+use Rattle.natural_semantics.specs.Prints.{ProgramPrints}
+use Rattle.natural_semantics.specs.any.Natural.{Yields}
+use Rattle.natural_semantics.specs.any.Prints as any
+use Rattle.natural_semantics.specs.ByName as by_name
+use Rattle.natural_semantics.specs.CoreMoves.{moves_of, core_program}
 
 -- one value and one heap at most; and where there is one, nothing is met that nothing accepts
 pub record EvaluationIsFunction : Type 0 where
@@ -45,3 +50,17 @@ GoesOnWithoutDerivation =
     (p : Program) → IsValid p → (i : List ℕ)
     → ((n : ℕ) → (printed p i n).end ≡ Going)
     ↔ ((out : List ℕ) (end : PrintingEnd) → end ≢ Going → ProgramPrints p i out end → ⊥)
+
+-- the relation of Core is that of any language, for the moves of Core's expressions
+pub record RelationIsThatOfItsMoves : Type 0 where
+  pub values : (p : Program) (w w' : World) (env : Env) (e : Term) (v : Value)
+      → Evaluates p w env e v w' ↔ Yields (core_program p) w (moves_of p e env) v w'
+  pub printing : (p : Program) (i out : List ℕ) (end : PrintingEnd)
+      → ProgramPrints p i out end ↔ any.ProgramPrints (core_program p) i out end
+
+-- Sharing changes nothing: a valid program puts out by need and by name the same, and where its
+-- list ends in the one, so it does in the other.
+abbrev pub SharingChangesNothing : Type 0
+SharingChangesNothing =
+    (p : Program) → IsValid p → (i out : List ℕ) (end : PrintingEnd) → end ≢ Unaccepted
+    → ProgramPrints p i out end ↔ by_name.ProgramPrints p i out end

@@ -1,4 +1,9 @@
+pub mod World
 pub mod Natural
 pub mod Stuck
 pub mod Prints
 pub mod Laws
+pub mod Examples
+pub mod any
+pub mod CoreMoves
+pub mod ByName

@@ -3,31 +3,15 @@
 --
 -- A name that waits stays in the heap while it is evaluated, so one that needs itself has no
 -- derivation. Names are places in the heap, and an application takes its arguments one at a time.
-use Rattle.std.specs.Prelude.{◌≡◌, ℕ, suc, ◌<◌, ◌≤◌, ℤ, pos, Bool, true, false, List, [], ◌∷◌, ◌++◌, map, length, Option, Some, None, slice_get, slice_set}
+use Rattle.std.specs.Prelude.{◌≡◌, ℕ, suc, ◌<◌, ◌≤◌, ℤ, true, false, List, [], ◌∷◌, ◌++◌, map, length, Some, None, slice_get}
 use Rattle.arity_check.specs.declared.normal.Bound.{Bound}
 use Rattle.arity_check.specs.declared.normal.Flat.{Flat}
 use Rattle.arity_check.specs.declared.normal.PrimOp.{PrimOp}
 use Rattle.arity_check.specs.Program.{Program, Function, Term, App, Let, Case, Branches, OnCon, OnInt, OnAny}
-use Rattle.core_meaning.specs.Heap.{Value, Int, Con, Part, Delayed, Call, Apply, Prim, Global, Input, Known, Waiting, Heap, Env, with_local, with_locals}
+use Rattle.core_meaning.specs.Heap.{Value, Int, Con, Part, Delayed, Call, Apply, Prim, Global, Input, Known, Waiting, Env, with_local, with_locals}
 use Rattle.core_meaning.specs.Numbers.{primitive_result}
 use Rattle.core_meaning.specs.Evaluation.{nil, cons, params, binding, with_group, parameters, is_con, fields_of, is_int}
-
--- the heap, and the bytes of the input that are left
-pub record World : Type 0 where
-  pub heap : Heap
-  pub input : List ℕ
-
--- with more bindings; with a value for a name
-abbrev pub extended : World → Heap → World
-extended w more = record w { heap = w.heap ++ more }
-
-abbrev pub updated : World → ℕ → Value → World
-updated w a v = record w { heap = slice_set w.heap a (Known v) }
-
--- the first byte that is left as a cell, and the others as one that waits
-abbrev pub after_byte : World → ℕ → List ℕ → World
-after_byte w k rest =
-    record { heap = w.heap ++ Known (Int (pos k)) ∷ Waiting Input ∷ []; input = rest }
+use Rattle.natural_semantics.specs.World.{World, extended, updated, after_byte}
 
 module _ (p : Program) where
   mutual

@@ -1,28 +1,21 @@
 -- Printing as a relation: the elements of a list are put out one by one, each as its low byte.
-use Rattle.std.specs.Prelude.{◌≡◌, ◌≢◌, ℕ, ℤ, suc, List, [], ◌∷◌, ◌++◌, length}
+use Rattle.std.specs.Prelude.{◌≡◌, ◌≢◌, ℕ, ℤ, suc, List, [], ◌∷◌, length}
 use Rattle.arity_check.specs.Program.{Program}
-use Rattle.core_meaning.specs.Heap.{Value, Int, Con, Part, Call, Input, Waiting}
+use Rattle.core_meaning.specs.Heap.{Value, Int, Con, Call, Input, Waiting}
 use Rattle.core_meaning.specs.Evaluation.{nil, cons, global, globals, params}
 use Rattle.core_meaning.specs.Printing.{PrintingEnd, Done, Unaccepted, Going}
 use Rattle.numbers.specs.Numbers.{low_byte}
-use Rattle.natural_semantics.specs.Natural.{World, extended, Forces}
-use Rattle.natural_semantics.specs.Stuck.{ForceSticks, NoNumber}
-
--- a value that is no list: no constructor without fields that is Nil, none with two that is Cons
-pub data NoList (p : Program) : Value → Type 0 where
-  ANumber : {k : ℤ} → NoList p (Int k)
-  AFunction : {f : ℕ} {xs : List ℕ} → NoList p (Part f xs)
-  NotNil : {d : ℕ} → d ≢ nil p → NoList p (Con d [])
-  OneField : {d h : ℕ} → NoList p (Con d (h ∷ []))
-  NotCons : {d h t : ℕ} → d ≢ cons p → NoList p (Con d (h ∷ t ∷ []))
-  ManyFields : {d h t u : ℕ} {xs : List ℕ} → NoList p (Con d (h ∷ t ∷ u ∷ xs))
+use Rattle.natural_semantics.specs.World.{World, extended, NoNumber}
+use Rattle.natural_semantics.specs.Natural.{Forces}
+use Rattle.natural_semantics.specs.Stuck.{ForceSticks}
+use Rattle.natural_semantics.specs.any.Prints.{NoList}
 
 -- The list of this name puts out these bytes, and ends, or meets what nothing accepts. Or printing
 -- goes on behind them: this can be said after each byte, and it says nothing of what comes.
 pub data Prints (p : Program) : World → ℕ → List ℕ → PrintingEnd → Type 0 where
   Behind : {w : World} {a : ℕ} → Prints p w a [] Going
   AtNil : {w w' : World} {a : ℕ} → Forces p w a (Con (nil p) []) w' → Prints p w a [] Done
-  NoList' : {w w' : World} {a : ℕ} {v : Value} → Forces p w a v w' → NoList p v
+  NoList' : {w w' : World} {a : ℕ} {v : Value} → Forces p w a v w' → NoList (nil p) (cons p) v
       → Prints p w a [] Unaccepted
   ListSticks : {w : World} {a : ℕ} → ForceSticks p w a → Prints p w a [] Unaccepted
   Puts : {w w' w'' : World} {a h t : ℕ} {k : ℤ} {out : List ℕ} {end : PrintingEnd}

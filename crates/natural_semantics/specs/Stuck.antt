@@ -1,22 +1,14 @@
 -- Evaluation by need that meets a value which nothing accepts: a case without a branch for it, a
 -- number or a constructor that is given a name, or an operation on something else than a number.
-use Rattle.std.specs.Prelude.{◌≡◌, ℕ, ℤ, suc, ◌<◌, ◌≤◌, true, false, List, [], ◌∷◌, ◌++◌, map, length, Option, Some, None, slice_get}
+use Rattle.std.specs.Prelude.{◌≡◌, ℕ, ℤ, suc, ◌<◌, ◌≤◌, true, false, List, [], ◌∷◌, ◌++◌, map, length, Some, None, slice_get}
 use Rattle.arity_check.specs.declared.normal.Bound.{Bound}
 use Rattle.arity_check.specs.declared.normal.Flat.{Flat}
 use Rattle.arity_check.specs.declared.normal.PrimOp.{PrimOp}
 use Rattle.arity_check.specs.Program.{Program, Function, Term, App, Let, Case, Branches, NoMore, OnCon, OnInt, OnAny}
-use Rattle.core_meaning.specs.Heap.{Value, Int, Con, Part, Delayed, Call, Apply, Prim, Global, Known, Waiting, Env, with_local, with_locals}
+use Rattle.core_meaning.specs.Heap.{Value, Int, Part, Delayed, Call, Apply, Prim, Global, Known, Waiting, Env, with_local, with_locals}
 use Rattle.core_meaning.specs.Evaluation.{params, binding, with_group, parameters, is_con, fields_of, is_int}
-use Rattle.natural_semantics.specs.Natural.{World, extended, Forces, Runs, Takes, Evaluates}
-
--- a value that is no number; one that takes no name
-pub data NoNumber : Value → Type 0 where
-  AConstructor : {c : ℕ} {xs : List ℕ} → NoNumber (Con c xs)
-  AFunction : {f : ℕ} {xs : List ℕ} → NoNumber (Part f xs)
-
-pub data NoFunction : Value → Type 0 where
-  ANumber : {k : ℤ} → NoFunction (Int k)
-  AConstructor' : {c : ℕ} {xs : List ℕ} → NoFunction (Con c xs)
+use Rattle.natural_semantics.specs.World.{World, extended, NoNumber, NoFunction}
+use Rattle.natural_semantics.specs.Natural.{Forces, Runs, Evaluates}
 
 module _ (p : Program) where
   mutual

@@ -5,9 +5,10 @@
 //! of functions without a body.
 #![tactic(auto)]
 
-ghost use Rattle.natural_semantics.specs.Laws.{EvaluationIsFunction, PrintingIsFunction, EndsAreThoseOfTheRelation, OutputIsThatOfTheRelation, GoesOnWithoutDerivation};
+ghost use Rattle.natural_semantics.specs.Laws.{EvaluationIsFunction, PrintingIsFunction, EndsAreThoseOfTheRelation, OutputIsThatOfTheRelation, GoesOnWithoutDerivation, RelationIsThatOfItsMoves, SharingChangesNothing};
+ghost use Rattle.natural_semantics.specs.Examples.{ExamplesAreDerived};
 
-use core_meaning::no_lookup_fails;
+use core_meaning::{no_lookup_fails, valid_programs_are_well_formed};
 
 /// An expression has one value and one heap after it at most, and where it has one, its evaluation
 /// meets nothing that nothing accepts.
@@ -40,4 +41,23 @@ pub fn goes_on_without_derivation()
     ensures { GoesOnWithoutDerivation }
 {
     no_lookup_fails();
+}
+
+/// Programs of the language's page by the rules of the relation alone: `take` of an endless list
+/// has its first elements, a sum in two places is done once, and what needs itself has no
+/// derivation.
+pub fn examples_are_derived()
+    ensures { ExamplesAreDerived }
+{}
+
+/// The relation of Core is an instance of that of any language.
+pub fn relation_is_that_of_its_moves()
+    ensures { RelationIsThatOfItsMoves }
+{}
+
+/// Evaluation by name, where nothing is shared, derives the same.
+pub fn sharing_changes_nothing()
+    ensures { SharingChangesNothing }
+{
+    valid_programs_are_well_formed();
 }

@@ -1,8 +1,4 @@
-use Rattle.std.proofs.Common.{◌≡◌, ℕ, List, sym, ◌∙◌, subst}
-use Rattle.core_meaning.specs.Evaluation.{OutOfBound}
-use Rattle.core_meaning.specs.Printing.{printed}
-use Rattle.natural_semantics.specs.Prints.{ProgramPrints}
-use Rattle.natural_semantics.proofs.OneAnswer.{one_output}
+use Rattle.natural_semantics.proofs.CoreSays.{one_output}
 use Rattle.natural_semantics.proofs.printing_is_function.Goals as goal
 
 pub returns : goal.returns

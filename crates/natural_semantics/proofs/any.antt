@@ -1,0 +1,6 @@
+mod Sound
+mod Complete
+mod Sticking
+mod Printed
+mod Enough
+pub mod OneAnswer

@@ -1,0 +1,165 @@
+-- Evaluation by name as a relation: what is put off is evaluated anew wherever it is needed. There
+-- is no heap: a name means an expression, in which each name stands with what it means.
+use Rattle.std.specs.Prelude.{◌≡◌, ◌≢◌, ℕ, zero, suc, ◌<◌, ◌≤◌, ◌==◌, ℤ, pos, Bool, true, false, List, [], ◌∷◌, Some, None, if◌then◌else◌, slice_get}
+use Rattle.arity_check.specs.declared.normal.Bound.{Bound}
+use Rattle.arity_check.specs.declared.normal.Flat.{Flat}
+use Rattle.arity_check.specs.declared.normal.Flat.TheVariants as flat
+use Rattle.arity_check.specs.declared.normal.Var.{Var}
+use Rattle.arity_check.specs.declared.normal.Var.TheVariants as var
+use Rattle.arity_check.specs.declared.normal.PrimOp.{PrimOp}
+use Rattle.arity_check.specs.Program.{Program, Function, Term, App, Let, Case, Branches, OnCon, OnInt, OnAny}
+use Rattle.core_meaning.specs.Numbers.{primitive_result}
+use Rattle.core_meaning.specs.Evaluation.{nil, cons, params}
+use Rattle.core_meaning.specs.Printing.{PrintingEnd, Done, Going}
+use Rattle.numbers.specs.Numbers.{same_number, low_byte}
+
+mutual
+  -- A number, a constructor and a function that lacks arguments are values. The others are put off:
+  -- calls, applications, operations, functions without parameters, the list of the bytes that are
+  -- left, and the member of a group that stands for this form, with what is meant around the group.
+  pub data Meant : Type 0 where
+    Number : (number : ℤ) → Meant
+    Built : (con : ℕ) (fields : Meants) → Meant
+    Lacks : (fun : ℕ) (given : Meants) → Meant
+    CallOf : (fun : ℕ) (args : Meants) → Meant
+    ApplyOf : (head : Meant) (args : Meants) → Meant
+    PrimOf : (op : PrimOp) (first second : Meant) → Meant
+    GlobalOf : (fun : ℕ) → Meant
+    Rest : (bytes : List ℕ) → Meant
+    Member : (around : ℕ → Meant) (group : List Bound) (form : Flat) → Meant
+    OutOfScope : Meant
+
+  pub data Meants : Type 0 where
+    Few : Meants
+    And : Meant → Meants → Meants
+
+-- what each local means
+abbrev pub Sense : Type 0
+Sense = ℕ → Meant
+
+abbrev pub count : Meants → ℕ
+count Few = 0
+count (And m ms) = suc (count ms)
+
+abbrev pub and_last : Meants → Meant → Meants
+and_last Few n = And n Few
+and_last (And m ms) n = And m (and_last ms n)
+
+-- the locals from 0 on mean these
+abbrev pub nth : Meants → Sense
+nth Few x = OutOfScope
+nth (And m ms) zero = m
+nth (And m ms) (suc x) = nth ms x
+
+abbrev pub with_meant : Sense → ℕ → Meant → Sense
+with_meant s x m y = if y == x then m else s y
+
+abbrev pub with_meants : Sense → List ℕ → Meants → Sense
+with_meants s [] ms = s
+with_meants s (x ∷ xs) Few = s
+with_meants s (x ∷ xs) (And m ms) = with_meants (with_meant s x m) xs ms
+
+abbrev pub meant : Sense → Var → Meant
+meant s (var.Local x) = s x
+meant s (var.Global f) = GlobalOf f
+
+abbrev pub meants : Sense → List Var → Meants
+meants s [] = Few
+meants s (x ∷ xs) = And (meant s x) (meants s xs)
+
+abbrev pub form : Sense → Flat → Meant
+form s (flat.Int k) = Number k
+form s (flat.Con c xs) = Built c (meants s xs)
+form s (flat.Part f xs) = Lacks f (meants s xs)
+form s (flat.Call f xs) = CallOf f (meants s xs)
+form s (flat.Apply x xs) = ApplyOf (meant s x) (meants s xs)
+form s (flat.Prim op x y) = PrimOf op (meant s x) (meant s y)
+
+-- in a group each of its locals is a member of it
+abbrev pub with_members : Sense → List Bound → Sense → List Bound → Sense
+with_members around whole s [] = s
+with_members around whole s (b ∷ group) =
+    with_members around whole (with_meant s b.local (Member around whole b.flat)) group
+
+abbrev pub in_group : Sense → List Bound → Sense
+in_group s group = with_members s group s group
+
+abbrev pub is_built : ℕ → Meant → Bool
+is_built c (Built d ms) = d == c
+is_built c m = false
+
+abbrev pub parts_of : Meant → Meants
+parts_of (Built d ms) = ms
+parts_of m = Few
+
+abbrev pub is_number : ℤ → Meant → Bool
+is_number k (Number j) = same_number k j
+is_number k m = false
+
+module _ (p : Program) where
+  mutual
+    -- what is meant has a value
+    pub data Means : Meant → Meant → Type 0 where
+      ANumber : {k : ℤ} → Means (Number k) (Number k)
+      AConstructor : {c : ℕ} {ms : Meants} → Means (Built c ms) (Built c ms)
+      AFunction : {f : ℕ} {ms : Meants} → Means (Lacks f ms) (Lacks f ms)
+      OfCall : {f : ℕ} {ms : Meants} {v : Meant} (g : Function)
+          → slice_get p.funs f ≡ Some g → Evaluates (nth ms) g.body v → Means (CallOf f ms) v
+      OfGlobal : {f : ℕ} {v : Meant} (g : Function)
+          → slice_get p.funs f ≡ Some g → Evaluates (nth Few) g.body v → Means (GlobalOf f) v
+      OfApply : {m u v : Meant} {ms : Meants} → Means m u → Takes u ms v
+          → Means (ApplyOf m ms) v
+      OfPrim : {op : PrimOp} {m n : Meant} {i j : ℤ} → Means m (Number i) → Means n (Number j)
+          → Means (PrimOf op m n) (Number (primitive_result op i j))
+      NoByte : Means (Rest []) (Built (nil p) Few)
+      Byte : {k : ℕ} {rest : List ℕ}
+          → Means (Rest (k ∷ rest)) (Built (cons p) (And (Number (pos k)) (And (Rest rest) Few)))
+      OfMember : {s : Sense} {group : List Bound} {f : Flat} {v : Meant}
+          → Means (form (in_group s group) f) v → Means (Member s group f) v
+
+    -- a value takes arguments, one at a time
+    pub data Takes : Meant → Meants → Meant → Type 0 where
+      Nothing : {v : Meant} → Takes v Few v
+      Waits : {f : ℕ} {ms ns : Meants} {n v : Meant} → suc (count ms) < params p f
+          → Takes (Lacks f (and_last ms n)) ns v → Takes (Lacks f ms) (And n ns) v
+      Enters : {f : ℕ} {ms ns : Meants} {n u v : Meant} → params p f ≤ suc (count ms)
+          → Means (CallOf f (and_last ms n)) u → Takes u ns v → Takes (Lacks f ms) (And n ns) v
+
+    -- an expression has a value
+    pub data Evaluates : Sense → Term → Meant → Type 0 where
+      OfForm : {s : Sense} {f : Flat} {v : Meant} → Means (form s f) v → Evaluates s (App f) v
+      OfLet : {s : Sense} {group : List Bound} {body : Term} {v : Meant}
+          → Evaluates (in_group s group) body v → Evaluates s (Let group body) v
+      OfCase : {s : Sense} {tested : Term} {branches : Branches} {u v : Meant}
+          → Evaluates s tested u → Selects s branches u v → Evaluates s (Case tested branches) v
+
+    -- the first branch that accepts a value gives one
+    pub data Selects : Sense → Branches → (tested given : Meant) → Type 0 where
+      OfCon : {s : Sense} {c : ℕ} {xs : List ℕ} {body : Term} {rest : Branches} {u v : Meant}
+          → is_built c u ≡ true → Evaluates (with_meants s xs (parts_of u)) body v
+          → Selects s (OnCon c xs body rest) u v
+      OfInt : {s : Sense} {k : ℤ} {body : Term} {rest : Branches} {u v : Meant}
+          → is_number k u ≡ true → Evaluates s body v → Selects s (OnInt k body rest) u v
+      OfAny : {s : Sense} {body : Term} {rest : Branches} {u v : Meant}
+          → Evaluates s body v → Selects s (OnAny None body rest) u v
+      OfNamed : {s : Sense} {x : ℕ} {body : Term} {rest : Branches} {u v : Meant}
+          → Evaluates (with_meant s x u) body v → Selects s (OnAny (Some x) body rest) u v
+      PastCon : {s : Sense} {c : ℕ} {xs : List ℕ} {body : Term} {rest : Branches} {u v : Meant}
+          → is_built c u ≡ false → Selects s rest u v → Selects s (OnCon c xs body rest) u v
+      PastInt : {s : Sense} {k : ℤ} {body : Term} {rest : Branches} {u v : Meant}
+          → is_number k u ≡ false → Selects s rest u v → Selects s (OnInt k body rest) u v
+
+  -- a list puts out these bytes, and ends, or goes on behind them
+  pub data Prints : Meant → List ℕ → PrintingEnd → Type 0 where
+    Behind : {m : Meant} → Prints m [] Going
+    AtNil : {m : Meant} → Means m (Built (nil p) Few) → Prints m [] Done
+    Puts : {m head tail : Meant} {k : ℤ} {out : List ℕ} {end : PrintingEnd}
+        → Means m (Built (cons p) (And head (And tail Few))) → Means head (Number k)
+        → Prints tail out end → Prints m (low_byte k ∷ out) end
+
+  -- so does the program on this input
+  pub data ProgramPrints : (i out : List ℕ) → PrintingEnd → Type 0 where
+    OfItself : {i out : List ℕ} {end : PrintingEnd} → params p p.main ≡ 0
+        → Prints (GlobalOf p.main) out end → ProgramPrints i out end
+    OfInput : {i out : List ℕ} {end : PrintingEnd} → params p p.main ≢ 0
+        → Prints (CallOf p.main (And (Rest i) Few)) out end → ProgramPrints i out end

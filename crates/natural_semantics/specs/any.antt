@@ -1,0 +1,5 @@
+pub mod Moves
+pub mod Natural
+pub mod Stuck
+pub mod Prints
+pub mod Laws

@@ -1,0 +1,2 @@
+mod Lambdas
+mod Equations

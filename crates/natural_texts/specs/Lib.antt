@@ -1,0 +1,3 @@
+pub mod Lambdas
+pub mod Equations
+pub mod Laws
