@@ -1,5 +1,5 @@
 -- What a command line gives where nothing failed, and what it leaves where memory is wanting.
-use Rattle.std.proofs.Common.{◌≡◌, ℕ, List, Option, Some, None, refl}
+use Rattle.std.proofs.Common.{◌≡◌, ℕ, List, Option, Some, None, refl, sym, subst}
 use mathlib.Core.Logic.{◌⊎◌, inl, inr}
 use Rattle.command_line.specs.Commands.{CommandLine, RunFile, CheckFile, ListFile, BuildFile, CostsFile, ExecImage, GenRun, LinkFiles, LiftFile, MatchFile, TypesFile, SidesFile, PointsFile}
 use Rattle.command_line.specs.declared.command.Listing.{Listing}
@@ -24,6 +24,8 @@ use Rattle.grin_driver.specs.Execution.{IsUntouched, Execution}
 use Rattle.grin_driver.specs.Outcome.{Outcome}
 use Rattle.text_commands.specs.Text.{OneAcceptedProgram}
 use Rattle.grin_driver.specs.Completeness.{OutOfMemoryOr, NothingFailed, Gives}
+use Rattle.grin_driver.specs.Costs.{CostOf, AnswersAtCost}
+use Rattle.grin_driver.specs.declared.cost.Cost.{Cost}
 use Rattle.text_commands.proofs.Gives.{check_gives, link_gives, lift_gives, match_gives, types_gives, sides_gives}
 use Rattle.grin_driver.proofs.Complete.{list_gives, points_gives, build_gives, costs_gives, generation_gives, exec_gives, run_gives}
 
@@ -147,3 +149,15 @@ module _ {F I K : Type 0} (f : ShelfChange F) (i : SourceChange I) (o : SinkChan
   memory_untouched (Some (SidesFile file)) (inr h, same) = h.2
   memory_untouched (Some (PointsFile file)) (inl h, same) = h.1
   memory_untouched (Some (PointsFile file)) (inr h, same) = h.2
+
+  -- ---- no cost
+
+  -- what answers a command of which no cost is told
+  pub untold : (command asked : Option CommandLine) (status ended : Status) (cost : Option Cost)
+      → command ≡ asked → ended ≡ status → cost ≡ None
+      → (answer : Answers f i o asked status) → CostOf f i o asked status answer None
+      → AnswersAtCost f i o command ended cost
+  untold command asked status ended cost is same none answer nothing =
+      subst (λ x. AnswersAtCost f i o x ended cost) (sym is)
+      (subst (λ s. AnswersAtCost f i o asked s cost) (sym same)
+      (subst (λ y. AnswersAtCost f i o asked status y) (sym none) (answer, nothing)))
