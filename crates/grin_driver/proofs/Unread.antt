@@ -1,15 +1,14 @@
 -- Evaluation by need of a program whose `main` has no parameter takes no byte of the input: no
 -- binding ever waits for it.
-use Rattle.std.proofs.Common.{◌≡◌, ℕ, zero, suc, max, Bool, true, false, List, [], ◌∷◌, ◌++◌, map, length, Option, Some, None, refl, sym, subst}
+use Rattle.std.proofs.Common.{◌≡◌, ℕ, zero, suc, Bool, true, false, List, [], ◌∷◌, ◌++◌, map, length, Option, Some, None, refl}
 use Rattle.std.specs.Prelude.{ℤ, ◌==◌, nat_lt, slice_get, slice_set, if◌then◌else◌}
 use Rattle.arity_check.specs.declared.normal.Bound.{Bound}
 use Rattle.arity_check.specs.declared.normal.Flat.{Flat}
 use Rattle.arity_check.specs.declared.normal.Flat.TheVariants as flat
 use Rattle.arity_check.specs.Program.{Program, Function, Term, App, Let, Case, Branches, NoMore, OnCon, OnInt, OnAny}
 use Rattle.core_meaning.specs.Heap.{Value, Int, Con, Part, Delayed, Call, Apply, Prim, Global, Input, Binding, Known, Waiting, Heap, Env, with_local, with_locals}
-use Rattle.core_meaning.specs.Numbers.{primitive_result}
-use Rattle.core_meaning.specs.Evaluation.{State, Answer, Gives, NoAlternative, OutOfBound, and_then, with_number, is_con, fields_of, is_int, spend_of, spend, append, update, DelayedEvaluator, force_binding, force, give, give_all, apply, prim, form, eval, select, enter_body, parameters, proceed, within, with_group, binding, params, nil, cons, global, globals, start}
-use Rattle.core_meaning.specs.Printing.{PrintedRun, PrintingEnd, Unaccepted, Going, stops, on_value, on_list, on_byte, print, printed_from_input, printed}
+use Rattle.core_meaning.specs.Evaluation.{State, Answer, Gives, NoAlternative, OutOfBound, and_then, with_number, is_con, fields_of, is_int, spend_of, spend, update, DelayedEvaluator, force_binding, force, give, give_all, apply, prim, form, eval, select, enter_body, parameters, proceed, within, with_group, binding, params, nil, cons, global, globals, start}
+use Rattle.core_meaning.specs.Printing.{PrintedRun, Unaccepted, stops, on_value, on_list, on_byte, print, printed_from_input}
 use Rattle.core_meaning.specs.Told.{core_program_meaning}
 
 -- ---- heaps in which nothing waits for the input
