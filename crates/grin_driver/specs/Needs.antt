@@ -11,11 +11,11 @@ use Rattle.grin_driver.specs.Outcome.{IsRunRefusal, IsImageOf}
 -- ---- the lines
 
 -- a line with one number
-abbrev pub number_line : (name : List ℕ) → (number : ℕ) → List ℕ
+unfoldable pub number_line : (name : List ℕ) → (number : ℕ) → List ℕ
 number_line name number = name ++ (codes " " ++ (decimal number ++ codes "\n"))
 
 -- a line with the bytes of a frame of so many words, and the words of code
-abbrev pub needs_line : (name : List ℕ) → (frame code : ℕ) → List ℕ
+unfoldable pub needs_line : (name : List ℕ) → (frame code : ℕ) → List ℕ
 needs_line name frame code =
     name ++ (codes " frame " ++ (decimal (4 * frame) ++ (codes " code "
     ++ (decimal code ++ codes "\n"))))

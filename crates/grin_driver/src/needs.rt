@@ -18,6 +18,7 @@ use text_commands::pieces::put_pieces;
 use text_commands::status::Status;
 
 /// Puts a line with one number at the end.
+#[tactic(auto, unfolding(crate::specs::Needs::number_line))]
 fn put_number(text: &mut ListingText, name: &str, number: usize) -> Result<(), AllocError>
     ensures { OnOk result (text.new ≡ text.old ++ number_line name.now number) }
 {
@@ -28,6 +29,7 @@ fn put_number(text: &mut ListingText, name: &str, number: usize) -> Result<(), A
 }
 
 /// Puts a line with the bytes of a frame of so many words, and the words of code, at the end.
+#[tactic(auto, unfolding(crate::specs::Needs::needs_line))]
 fn put_needs(text: &mut ListingText, name: &[u8], frame: u32, code: u32) -> Result<(), AllocError>
     ensures { OnOk result (text.new ≡ text.old ++ needs_line name.now frame code) }
 {

@@ -75,8 +75,16 @@ returns-in-Build-clause-answer g c =
 
 pub returns-in-Costs-clause-answer : goal.returns-in-Costs-clause-answer
 returns-in-Costs-clause-answer g c =
-    rw (c.in-Costs.is, c.of-in-Costs.ensures.status, c.of-in-Costs.ensures.cost)
-    ((c.costs_file.ensures.answer, refl), refl)
+    let i = (source_change g.I.Source.read_gives g.I.Source.left g.I.Source.is_over
+    g.I.Source.faults c.args.input.now c.args.input.now) in
+    let o = (sink_change g.K.Sink.put_gives g.K.Sink.taken g.K.Sink.faults c.args.out.now
+    c.costs_file.new.out) in
+    let f = (shelf_change g.F.Shelf.content g.F.Shelf.faults c.args.shelf.now
+    c.costs_file.new.shelf) in
+    untold f i o _ _ _ c.of-in-Costs.result.status c.of-in-Costs.result.cost
+    (ap (λ x. Some (asked_by x)) c.in-Costs.is) c.of-in-Costs.ensures.status
+    c.of-in-Costs.ensures.cost
+    (c.costs_file.ensures.answer, refl) refl
 
 pub returns-in-Gen-clause-answer : goal.returns-in-Gen-clause-answer
 returns-in-Gen-clause-answer g c =
