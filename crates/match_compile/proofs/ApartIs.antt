@@ -1,5 +1,5 @@
 -- Equations and their bodies, one after the other.
-use Rattle.std.proofs.Common.{◌≡◌, ℕ, ◌+◌, List, [], ◌∷◌, ◌++◌, map, length, refl, sym, ap, ◌∙◌, arith, Option, Some, None}
+use Rattle.std.proofs.Common.{◌≡◌, ℕ, zero, suc, ◌+◌, ◌≤◌, List, [], ◌∷◌, ◌++◌, map, length, refl, sym, ap, ◌∙◌, arith, Option, Some, None}
 use Rattle.std.proofs.lemmas.List.{map-append, length-append, length-map}
 use Rattle.core_reader.specs.declared.syntax.Expr as code-expr
 use Rattle.core_reader.specs.Tree.{Expr, expr}
@@ -65,3 +65,9 @@ clause_more hs k b done made made' c is count put before =
     ∙ sym (ap (equations_with_bodies hs) (map-append expr done (b ∷ []))
     ∙ with_next hs (map expr done) (expr b) (clause_of c)
     (is ∙ ap (λ k. equation_at hs k (expr b)) (count ∙ sym (length-map done expr))))
+
+-- where there is no equation of a number, there are no more headings
+pub none_at : (hs : List Heading) (k : ℕ) (b : Expr) → None ≡ equation_at hs k b → length hs ≤ k
+none_at [] k b e = omega arith
+none_at (h ∷ hs) zero b e = absurd cc
+none_at (h ∷ hs) (suc k) b e = let fewer = none_at hs k b e in omega (arith, fewer)

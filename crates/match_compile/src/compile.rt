@@ -1,7 +1,7 @@
 //! The program of Core that equations are.
 #![tactic(auto, using(crate::proofs::Compiled::backward_more))]
 
-ghost use Rattle.std.specs.Prelude.{◌≡◌, ◌++◌, IfOk, IfErr, OnOk, map, reverse};
+ghost use Rattle.std.specs.Prelude.{◌≡◌, ◌++◌, IfOk, IfErr, OnOk, length, map, reverse};
 ghost use Rattle.core_reader.specs.Tree.{expr, function, program};
 ghost use Rattle.core_reader.specs.Readable.{IsReadable};
 ghost use Rattle.match_compile.specs.Source.{Source as ASource};
@@ -142,8 +142,9 @@ fn taken_apart(
     alloc: Global,
     equations: Seq<Equation>,
 ) -> Result<(Seq<Heading>, Seq<Expr>), AllocError>
-    ensures { IfOk result (λ made. equations_with_bodies made.0 (map expr made.1)
+    ensures equations { IfOk result (λ made. equations_with_bodies made.0 (map expr made.1)
         ≡ map equation_of equations) }
+    ensures same { IfOk result (λ made. length made.0 ≡ length made.1) }
 {
     let mut headings = Seq::new(alloc);
     let mut bodies = Seq::new(alloc);
@@ -181,6 +182,7 @@ fn clauses<'a>(
     headings: &'a [Heading],
     bodies: Seq<Expr>,
 ) -> Result<Seq<Clause<'a>>, AllocError>
+    requires { length headings.now ≡ length bodies }
     ensures { IfOk result (λ made. map clause_of made
         ≡ equations_with_bodies headings.now (map expr bodies)) }
 {
@@ -188,7 +190,7 @@ fn clauses<'a>(
     let mut k = 0;
     for body in bodies.into_vec() {
         match clause_at(headings, k, body) {
-            None => return Err(AllocError),
+            None => unreachable!(),
             Some(clause) => made.push(clause)?,
         }
         k += 1;
