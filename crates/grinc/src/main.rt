@@ -1,7 +1,8 @@
 //! The compiler as a program: its words, files and streams, and the status of the process.
 #![tactic(auto)]
 
-use grin_driver::{Line, Status, grinc_main};
+use grin_driver::{Line, Status};
+use promise::run_main;
 use std::env;
 use std::io::ErrorKind;
 use std::process::ExitCode;
@@ -37,7 +38,7 @@ fn main(runtime: HostRuntime) -> ExitCode {
     let status = match words(&runtime) {
         Ok(line) => {
             let mut shelf = FileShelf::new(runtime);
-            grinc_main(alloc, &line, &mut shelf, &mut input, &mut out, &mut err)
+            run_main(alloc, &line, &mut shelf, &mut input, &mut out, &mut err)
         }
         Err(status) => {
             status.tell(&mut err);

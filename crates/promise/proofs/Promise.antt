@@ -1,0 +1,157 @@
+-- What `run FILE` answers is what it promises.
+use Rattle.std.proofs.Common.{◌≡◌, ℕ, List, [], ◌++◌, Bool, Option, Some, None, refl, sym, ap, ◌∙◌, append-nil}
+use mathlib.Core.Logic.{inl, inr}
+use Rattle.headline.specs.Carries.{IsPrefixOf}
+use Rattle.grin_io.specs.Content.{Files}
+use Rattle.grin_io.specs.Changes.{ShelfChange, SourceChange, SinkChange, BeginsWith, ReadExactly}
+use Rattle.command_line.specs.Commands.{CommandLine, RunFile, CheckFile, ListFile, BuildFile, CostsFile, ExecImage, GenRun, LinkFiles, LiftFile, MatchFile, TypesFile, SidesFile, PointsFile}
+use Rattle.text_commands.specs.Operands.{HoldsOfOperandFile, text_read_limit}
+use Rattle.text_commands.specs.declared.status.Status.{Status}
+use Rattle.text_commands.specs.declared.status.Status.TheVariants.{Done, Refused, Usage, NoAlternative, HeapFull, StackFull, StepLimit, Exited, Trapped, OutOfMemory, ReadFault, WriteFault}
+use Rattle.grin_driver.specs.Execution.{IsUntouched}
+use Rattle.grin_driver.specs.Outcome.{Outcome}
+use Rattle.grin_driver.specs.Answer.{Answers}
+use Rattle.promise.specs.Promise.{Tells, IsPromised, RunKeepsPromise, KeepsPromise}
+
+whole : (out all : List ℕ) → out ≡ all → IsPrefixOf out all
+whole out all is = ([], sym is ∙ sym (append-nil out))
+
+module _ {F I K : Type 0} (f : ShelfChange F) (i : SourceChange I) (o : SinkChange K)
+    (files : Files) (input before : List ℕ) (world : Tells f i o files input before) where
+  -- nothing was put out
+  same : IsUntouched i o → o.taken o.new ≡ Some (before ++ [])
+  same untouched =
+      ap o.taken untouched.1 ∙ world.has_output ∙ ap Some (sym (append-nil before))
+
+  module _ (text : List ℕ) (cells stack steps : ℕ) where
+    -- something was put out, of which this holds
+    abbrev Puts : (List ℕ → Type 0) → Type 0
+    Puts Holds = (out : List ℕ) × (o.taken o.new ≡ Some (before ++ out)) × Holds out
+
+    abbrev Gives : Status → Type 0
+    Gives status = Puts (λ out. IsPromised f i o text input cells stack steps out status)
+
+    begins : {given : List ℕ} {ended : Bool} → ReadExactly i given ended
+        → BeginsWith given ended input
+    begins gave = (gave.content input world.has_input).0
+
+    promised : (status : Status) → Outcome i o text cells stack steps status → Gives status
+    promised Done runs =
+        let says = runs.says input (begins runs.ran.gave) world.are_bytes in
+        let took = says.took before world.has_output in (
+          took.0,
+          took.1,
+          record {
+            file = runs.file;
+            from = runs.from;
+            begins = (says.units, whole _ _ took.2);
+            cause = (says.units, says.ended, took.2);
+          },
+        )
+    promised NoAlternative runs =
+        let says = runs.says input (begins runs.ran.gave) world.are_bytes in
+        let took = says.took before world.has_output in (
+          took.0,
+          took.1,
+          record {
+            file = runs.file;
+            from = runs.from;
+            begins = (says.units, whole _ _ took.2);
+            cause = (says.units, says.ended, took.2);
+          },
+        )
+    promised HeapFull runs =
+        let says = runs.says input (begins runs.ran.gave) world.are_bytes in
+        let took = says.took before world.has_output in (
+          took.0,
+          took.1,
+          record {
+            file = runs.file;
+            from = runs.from;
+            begins = (says.units, took.2.1);
+            cause = (says.units, says.needs);
+          },
+        )
+    promised StackFull runs =
+        let says = runs.says input (begins runs.ran.gave) world.are_bytes in
+        let took = says.took before world.has_output in (
+          took.0,
+          took.1,
+          record {
+            file = runs.file;
+            from = runs.from;
+            begins = (says.units, took.2.1);
+            cause = (says.units, says.needs);
+          },
+        )
+    promised StepLimit runs =
+        let says = runs.says input (begins runs.ran.gave) world.are_bytes in
+        let took = says.took before world.has_output in (
+          took.0,
+          took.1,
+          record {
+            file = runs.file;
+            from = runs.from;
+            begins = (says.units, took.2);
+            cause = λ n within. (says.keeps_pace n within).0;
+          },
+        )
+    promised ReadFault runs =
+        let input_is = (runs.ran.gave.gave.content input world.has_input).0 in
+        let says = runs.says input input_is world.are_bytes in
+        let took = says.took before world.has_output in (
+          took.0,
+          took.1,
+          record {
+            file = runs.file;
+            from = runs.from;
+            begins = (says.units, took.2);
+            cause = runs.ran.raised;
+          },
+        )
+    promised WriteFault runs =
+        let says = runs.says input (begins runs.ran.gave) world.are_bytes in
+        let took = says.took before world.has_output in (
+          took.0,
+          took.1,
+          record {
+            file = runs.file;
+            from = runs.from;
+            begins = (says.units, took.2);
+            cause = runs.ran.raised;
+          },
+        )
+    promised (Refused rule number) refused = ([], same refused.1, (refused.0, refl))
+    promised OutOfMemory untouched = ([], same untouched, refl)
+    promised Usage runs = absurd runs.ran
+    promised (Exited code) runs = absurd runs.ran
+    promised (Trapped kind pc) runs = absurd runs.ran
+
+module _ {F I K : Type 0} (f : ShelfChange F) (i : SourceChange I) (o : SinkChange K) where
+  run_keeps : (file : List ℕ) (cells stack steps : ℕ) (status : Status)
+      → HoldsOfOperandFile f text_read_limit (IsUntouched i o) file
+      (λ text status. Outcome i o text cells stack steps status) status
+      → RunKeepsPromise f i o file cells stack steps status
+  run_keeps file cells stack steps status (inl unread) files input before world =
+      ([], same f i o files input before world unread.1, inl (unread.0, refl))
+  run_keeps file cells stack steps status (inr (text, taken, ran)) files input before world =
+      let gives = promised f i o files input before world text cells stack steps status ran in
+      (gives.0, gives.1, inr (text, (taken files world.has_files).0, gives.2))
+
+  pub keeps_promise : (command : Option CommandLine) (status : Status)
+      → Answers f i o command status → KeepsPromise f i o command status
+  keeps_promise None status answer = tt
+  keeps_promise (Some (RunFile file cells stack steps stats)) status answer =
+      run_keeps file cells stack steps status answer
+  keeps_promise (Some (CheckFile file)) status answer = tt
+  keeps_promise (Some (ListFile file after)) status answer = tt
+  keeps_promise (Some (BuildFile file cells stack)) status answer = tt
+  keeps_promise (Some (CostsFile file cells stack)) status answer = tt
+  keeps_promise (Some (ExecImage image steps stats)) status answer = tt
+  keeps_promise (Some (GenRun seed size)) status answer = tt
+  keeps_promise (Some (LinkFiles names)) status answer = tt
+  keeps_promise (Some (LiftFile file)) status answer = tt
+  keeps_promise (Some (MatchFile file)) status answer = tt
+  keeps_promise (Some (TypesFile file)) status answer = tt
+  keeps_promise (Some (SidesFile file)) status answer = tt
+  keeps_promise (Some (PointsFile file)) status answer = tt

@@ -1,0 +1,73 @@
+-- What `run FILE` does in every world that tells its files, its input and its output.
+use Rattle.std.specs.Prelude.{◌≡◌, ◌≤◌, ◌⊎◌, ℕ, ◌+◌, ◌*◌, List, [], ◌++◌, Option, Some}
+use Rattle.core_meaning.specs.Told.{core_program_meaning}
+use Rattle.headline.specs.Carries.{going, done, no_alternative, MeaningResult as Telling, IsBytes, IsPrefixOf}
+use Rattle.grin_io.specs.Causes.{CountGrew}
+use Rattle.grin_io.specs.Content.{Files, file_named}
+use Rattle.grin_io.specs.Changes.{ShelfChange, SourceChange, SinkChange}
+use Rattle.command_line.specs.Commands.{CommandLine, RunFile}
+use Rattle.grin_compile.specs.Limits.{HeapIsExceeded, StackIsExceeded, largest_frame, whole_words}
+use Rattle.grin_compile.specs.Words.{most_steps}
+use Rattle.text_commands.specs.declared.status.Status.{Status}
+use Rattle.text_commands.specs.declared.status.Status.TheVariants.{Done, Refused, NoAlternative, HeapFull, StackFull, StepLimit, OutOfMemory, ReadFault, WriteFault}
+use Rattle.text_commands.specs.Reading.{IsUnread}
+use Rattle.grin_driver.specs.Outcome.{IsRunRefusal, IsImageOf}
+
+module _ {F I K : Type 0} (f : ShelfChange F) (i : SourceChange I) (o : SinkChange K) where
+  -- The cause of each status of a run that puts this out. What evaluation by need tells within so
+  -- many units is `told`.
+  module _ (told : ℕ → Telling) (OutOfHeap OutOfStack : Telling → Type 0) (each steps : ℕ)
+      (out : List ℕ) where
+    abbrev pub HasCause : Status → Type 0
+    HasCause Done = (n : ℕ) × ((told n).end ≡ done) × (out ≡ (told n).out)
+    HasCause NoAlternative = (n : ℕ) × ((told n).end ≡ no_alternative) × (out ≡ (told n).out)
+    HasCause HeapFull = (n : ℕ) × OutOfHeap (told n)
+    HasCause StackFull = (n : ℕ) × OutOfStack (told n)
+    HasCause StepLimit = (n : ℕ) → each * (n + 1) ≤ steps → (told n).end ≡ going
+    HasCause ReadFault = CountGrew (i.faults i.old) (i.faults i.new)
+    HasCause WriteFault = CountGrew (o.faults o.old) (o.faults o.new)
+    HasCause _ = ⊥
+
+  -- An image of the text was run on the input. What it put out begins what evaluation by need puts
+  -- out, and its status has its cause: all is put out where this is Done or NoAlternative.
+  pub record Evaluates (text input : List ℕ) (cells stack steps : ℕ) (out : List ℕ)
+      (status : Status) : Type 0 where
+    pub file : List ℕ
+    pub from : IsImageOf text cells stack file
+    pub begins : (n : ℕ) × IsPrefixOf out (core_program_meaning from.program input n).out
+    pub cause : HasCause (core_program_meaning from.program input) (HeapIsExceeded cells)
+        (StackIsExceeded (largest_frame from.made.frames) (whole_words stack))
+        (most_steps from.made.code from.made.addresses) steps out status
+
+  -- the status of the text; where it is refused, and for want of memory, nothing is put out
+  abbrev pub IsPromised : (text input : List ℕ) → (cells stack steps : ℕ) → (out : List ℕ) → Status
+      → Type 0
+  IsPromised text input cells stack steps out (Refused rule number) =
+      IsRunRefusal text rule number × (out ≡ [])
+  IsPromised text input cells stack steps out OutOfMemory = out ≡ []
+  IsPromised text input cells stack steps out status =
+      Evaluates text input cells stack steps out status
+
+  -- a world that tells what it has: these files, this input, and this on the output
+  pub record Tells (files : Files) (input before : List ℕ) : Type 0 where
+    pub has_files : f.content f.old ≡ Some files
+    pub has_input : i.left i.old ≡ Some input
+    pub are_bytes : IsBytes input
+    pub has_output : o.taken o.old ≡ Some before
+
+  -- In every such world the run put something out behind what stood there, maybe nothing. The file
+  -- was not read, and the status says why, and nothing was put out; or the status is that of its
+  -- text.
+  abbrev pub RunKeepsPromise : (file : List ℕ) → (cells stack steps : ℕ) → Status → Type 0
+  RunKeepsPromise file cells stack steps status =
+      (files : Files) (input before : List ℕ) → Tells files input before
+      → (out : List ℕ) × (o.taken o.new ≡ Some (before ++ out))
+      × ((IsUnread f status × (out ≡ []))
+      ⊎ ((text : List ℕ) × (file_named file files.named ≡ Some text)
+      × IsPromised text input cells stack steps out status))
+
+  -- the same by the words of a command line
+  abbrev pub KeepsPromise : Option CommandLine → Status → Type 0
+  KeepsPromise (Some (RunFile file cells stack steps stats)) status =
+      RunKeepsPromise file cells stack steps status
+  KeepsPromise command status = Unit {0}
