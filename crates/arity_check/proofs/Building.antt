@@ -8,9 +8,9 @@ use Rattle.arity_check.specs.declared.normal.Flat.TheVariants as flat
 use Rattle.arity_check.specs.declared.normal.Bound.{Bound}
 use Rattle.arity_check.specs.declared.flat.Builder.{Builder}
 use Rattle.arity_check.specs.Scope as scope
-use Rattle.arity_check.specs.Scope.{Scope, Meaning, means, con_number}
+use Rattle.arity_check.specs.Scope.{Scope, means, con_number}
 use Rattle.arity_check.specs.Normal as normal
-use Rattle.arity_check.specs.Normal.{bound, itself, append, HasTerm, IsFlat, IsNamed, IsApplied, AreArgs, IsArg, IsGroup}
+use Rattle.arity_check.specs.Normal.{bound, itself, append, HasTerm, IsFlat, IsApplied, AreArgs, IsArg, IsGroup}
 use Rattle.arity_check.specs.Builds.{AddsBindings, AddsFlat, AddsArgs, AddsArg, AddsApplied, AddsNamed, AddsGroup}
 use Rattle.arity_check.proofs.Snoc.{args_snoc}
 

@@ -12,6 +12,7 @@ mod Noted
 mod Apps
 mod Exprs
 mod Patterns
+mod Tests
 mod Soundness
 mod Least
 pub mod Building

@@ -1,6 +1,6 @@
 -- The refusals that the check meets are the rules that a program breaks, each at its place.
-use Rattle.std.proofs.Common.{◌≡◌, ◌≢◌, ℕ, zero, suc, ◌+◌, ◌<◌, Bool, true, false, List, [], ◌∷◌, ◌++◌, length, refl, sym, ap, ◌∙◌, subst, arith, Option, Some, None, inl, inr}
-use Rattle.std.specs.Prelude.{◌==◌, nat_lt, not, ◌&&◌, ◌||◌, slice_get, codes}
+use Rattle.std.proofs.Common.{◌≡◌, ◌≢◌, ℕ, suc, ◌+◌, ◌<◌, Bool, true, false, List, [], ◌∷◌, ◌++◌, length, refl, sym, ap, ◌∙◌, subst, arith, Option, Some, None, inl, inr}
+use Rattle.std.specs.Prelude.{◌==◌, nat_lt, not, ◌&&◌, slice_get, codes}
 use Rattle.std.specs.List.{list_any}
 use Rattle.std.proofs.lemmas.Bool.{eqb-true, eq-eqb, ltb-true, lt-ltb}
 use Rattle.core_reader.specs.declared.syntax.Pattern.{Pattern}
@@ -30,31 +30,7 @@ use Rattle.arity_check.proofs.Names.{nameless_named, main_named, int_named, nil_
 use Rattle.arity_check.proofs.Apps.{atom_faults, app_from, to_app, to_contains}
 use Rattle.arity_check.proofs.Exprs.{piece_faults, bound_faults, expr_from, to_expr, to_bound, bound_from}
 use Rattle.arity_check.proofs.Patterns.{state, last_at, patterns_from, to_patterns, last_from, to_last, con_from, to_con, int_from, to_int, kind_of_pattern, kind_from, to_kind}
-
--- ---- tests
-
-true_not : (b : Bool) → b ≡ false → not b ≡ true
-true_not true e = cc
-true_not false e = refl
-
-differ : (n m : ℕ) → not (n == m) ≡ true → n ≢ m
-differ n m e h = true_not_false (sym (eq-eqb n m h) ∙ not_true (n == m) e)
-
-to_differ : (n m : ℕ) → n ≢ m → not (n == m) ≡ true
-to_differ n m h = elim (two_ways (n == m))
-    [ inl e ↦ absurd (h (eqb-true n m e)) | inr e ↦ true_not (n == m) e ]
-
-differs : (q r : Pattern) (b : Bool) → kind_of_pattern q ≡ Some b → kind_of_pattern r ≡ Some (not b)
-    → KindsDiffer q r
-differs (pattern.Con c xs) (pattern.Int n at) b e f = tt
-differs (pattern.Int n at) (pattern.Con c xs) b e f = tt
-differs (pattern.Con c xs) (pattern.Con d ys) b e f = let s : true ≡ b = cc in let t : true ≡ not b
-    = cc in absurd (true_not_false (t ∙ ap not (sym s)))
-differs (pattern.Int n at) (pattern.Int m at') b e f = let s : false ≡ b = cc in let t
-    : false ≡ not b = cc in absurd (true_not_false (ap not s ∙ sym t))
-differs (pattern.Default x) r b e f = absurd cc
-differs (pattern.Con c xs) (pattern.Default x) b e f = absurd cc
-differs (pattern.Int n at) (pattern.Default x) b e f = absurd cc
+use Rattle.arity_check.proofs.Tests.{true_not, differ, to_differ, differs, any_at, from_any}
 
 module _ (p : Program) where
   abbrev k : Known
@@ -70,7 +46,6 @@ module _ (p : Program) where
   retag q r e b = subst IsBroken e b
 
   -- ---- binders
-
   abbrev binder_step : ℕ → Bool → Binder → List CheckRefusal
   binder_step i b x = binder_faults k (λ y. b) x
 
@@ -141,7 +116,6 @@ module _ (p : Program) where
       (to_noted (is_reserved k x.name.0) (refusal.ReservedName x.at) h)))
 
   -- ---- arities
-
   pub data Arity (c at n : ℕ) (r : CheckRefusal) : Type 0 where
     NoSuch : first_constructor_named c p.constructors ≡ None → refusal.UnknownName at ≡ r
         → Arity c at n r
@@ -173,7 +147,6 @@ module _ (p : Program) where
       (to_noted (not (n == d.fields)) (refusal.ConstructorArity at) (to_differ n d.fields h))
 
   -- ---- heads
-
   name_broken : (t : Scope) (x at n : ℕ) (r : CheckRefusal) → StandsApplied p t (Name x at) n
       → In r (meaning_faults (meaning k t x) at n) → IsBroken r
   name_broken t x at n r u i = go (means p t x) refl
@@ -215,7 +188,6 @@ module _ (p : Program) where
       ]
 
   -- ---- patterns
-
   mixed_kind : (o : Option Bool) (b : Bool) → mixes_kinds o b ≡ true → o ≡ Some (not b)
   mixed_kind None b e = absurd cc
   mixed_kind (Some true) true e = absurd cc
@@ -301,7 +273,6 @@ module _ (p : Program) where
       ]
 
   -- ---- the parts of a program
-
   abbrev con_step : ℕ → Bool → Data → List CheckRefusal
   con_step i b d = con_faults k i (λ x. b) d
 
@@ -415,39 +386,6 @@ module _ (p : Program) where
             ]
       ]
 
-  -- ---- what is declared
-
-  any_at : {T : Type 0} (test : T → Bool) (xs : List T) (i : ℕ) (x : T) → slice_get xs i ≡ Some x
-      → test x ≡ true → list_any test xs ≡ true
-  any_at test [] i x e h = absurd cc
-  any_at test (y ∷ ys) zero x e h = let s : x ≡ y = cc
-      in left_or (test y) (list_any test ys) (ap test (sym s) ∙ h)
-    where
-      left_or : (a b : Bool) → a ≡ true → (a || b) ≡ true
-      left_or true b e = refl
-      left_or false b e = absurd cc
-  any_at test (y ∷ ys) (suc i) x e h = right_or (test y) (list_any test ys) (any_at test ys i x e h)
-    where
-      right_or : (a b : Bool) → b ≡ true → (a || b) ≡ true
-      right_or true b e = refl
-      right_or false b e = e
-
-  pub record AnyAt {T : Type 0} (test : T → Bool) (xs : List T) : Type 0 where
-    pub i : ℕ
-    pub item : T
-    pub is : slice_get xs i ≡ Some item
-    pub passes : test item ≡ true
-
-  from_any : {T : Type 0} (test : T → Bool) (xs : List T) → list_any test xs ≡ true → AnyAt test xs
-  from_any test [] e = absurd cc
-  from_any test (x ∷ xs) e = go (test x) refl e (from_any test xs)
-    where
-      go : (b : Bool) → test x ≡ b → (b || list_any test xs) ≡ true
-          → (list_any test xs ≡ true → AnyAt test xs) → AnyAt test (x ∷ xs)
-      go true h e rest = record { i = zero; item = x; is = refl; passes = h }
-      go false h e rest = let w = rest e in record
-          { i = suc w.i; item = w.item; is = w.is; passes = w.passes }
-
   abbrev main_test : Function → Bool
   main_test f = main_kind (k.kind f.name)
 
@@ -546,7 +484,6 @@ module _ (p : Program) where
       ]
 
   -- ---- and each broken rule is among them
-
   abbrev Met : CheckRefusal → Type 0
   Met r = In r (program_faults p)
 

@@ -8,7 +8,6 @@ use Rattle.core_reader.specs.declared.syntax.Data as code-data
 use Rattle.core_reader.specs.declared.syntax.Function as code-function
 use Rattle.core_reader.specs.Tree.{Data, Function, data_of, function}
 use Rattle.arity_check.specs.declared.order.First.{First}
-use Rattle.arity_check.specs.declared.refusal.CheckRefusal.{CheckRefusal}
 use Rattle.arity_check.specs.Scope.{Scope}
 use Rattle.arity_check.specs.Known.{Known, entered, all_entered}
 use Rattle.arity_check.specs.Tables.{kind_or_plain, or_else, first_of, second_of}

@@ -1,7 +1,7 @@
 -- An expression has one normal form.
 use Rattle.std.proofs.Common.{◌≡◌, ℕ, suc, ◌+◌, List, [], ◌∷◌, ◌++◌, length, map, refl, sym, ap, ◌∙◌, subst, arith, Option, Some, None}
 use Rattle.core_reader.specs.Tree as tree
-use Rattle.core_reader.specs.Tree.{Program, Term, Terms, Expr, Alts, Bind}
+use Rattle.core_reader.specs.Tree.{Program, Term, Expr, Alts, Bind}
 use Rattle.arity_check.specs.declared.normal.Bound.{Bound}
 use Rattle.arity_check.specs.Scope.{Scope, binds_all}
 use Rattle.arity_check.specs.Program as normal

@@ -4,4 +4,5 @@ mod Longer
 mod Steady
 mod Lookups
 pub mod Shared
+pub mod Meanings
 pub mod Valid

@@ -3,7 +3,6 @@
 use Rattle.std.proofs.Common.{◌≡◌, ℕ, zero, suc, ◌+◌, ◌≤◌, ◌<◌, Bool, true, false, cond, not, nat_eq, nat_lt, List, [], ◌∷◌, ◌++◌, map, length, get_or, Option, Some, None, slice_get, codes, refl, sym, ap, ◌∙◌, subst, arith, eqb-true}
 use Rattle.std.specs.List.{range_with_len, position_or_len}
 use Rattle.std.proofs.lemmas.List.FromFn.{length-range_with_len}
-use Rattle.std.proofs.lemmas.Slice.Eq.{bytes_eq-Decides}
 use Rattle.std.proofs.lemmas.Bool.{eq-eqb, ltb-true, ltb-false}
 use Rattle.std.proofs.lemmas.Option.{same_Some, none-some, slice_get_within, slice_get-get_or}
 use Rattle.core_reader.specs.Readable.{AreDistinct}
@@ -17,10 +16,9 @@ use Rattle.arity_check.specs.declared.normal.Var.{Var}
 use Rattle.arity_check.specs.declared.normal.Var.TheVariants as var
 use Rattle.arity_check.specs.declared.normal.Flat.{Flat}
 use Rattle.arity_check.specs.declared.normal.Bound.{Bound}
-use Rattle.arity_check.specs.declared.normal.PrimOp.{PrimOp}
 use Rattle.arity_check.specs.declared.meaning.Meaning.{Meaning}
 use Rattle.arity_check.specs.declared.meaning.Meaning.TheVariants.{Local, Function, Primitive, Unbound}
-use Rattle.arity_check.specs.Scope.{Scope, means, unless_primitive, found_in, function_from, primitive_from, primitives, con_number, is_named, binds, binds_all}
+use Rattle.arity_check.specs.Scope.{Scope, means, con_number, is_named, binds, binds_all}
 use Rattle.arity_check.specs.Broken as broken
 use Rattle.arity_check.specs.Broken.{Broken, ConstructorArity, PatternArity, TooManyArguments, MainHasParameters, NoListConstructors, DuplicateConstructor, InFunction, place, FunctionPart, AnApp, AGroup, SomeAlts, alt_at, count, IsTermAmong, First, Later, HeadIsApplied, AsCon, InHead, InArgument, Contains, Whole, InItsHead, InItsArgs, fields_of, first_constructor_named}
 use Rattle.arity_check.specs.Normal.{append, bound, itself, itself_as, Pairwise, IsFlat, Number, Constructor, Named, NumberApplied, BracketApplied, LoneHead, LoneBracket, IsNamed, OfPrimitive, OfLocal, OfGlobal, Called, Partial, Exceeded, IsApplied, Applied, AreArgs, NoArgs, AndArg, IsArg, Itself, New, IsGroup, NoMembers, AndMember, IsNormal, PlainApp, BoundApp, Group, Choice, AreBranches, NoBranches, ConBranch, IntBranch, NamelessBranch, NamedBranch, IsFunction, IsConstructor, IsNormalForm}
@@ -32,27 +30,7 @@ use Rattle.seq.proofs.Truth.{not_both}
 use Rattle.seq.proofs.Lists.{all_append}
 use Rattle.core_meaning.specs.WellFormed.{WellFormed, FunOk, AllOf, InLocals, InGroup, HasFields, HasParams, VarOk, FormOk, TermOk, BranchesOk}
 use Rattle.arity_check.proofs.Names.{same_bytes}
-
-record PairAt {X Y : Type 0} (R : X → Y → Type 0) (ys : List Y) (i : ℕ) (x : X) : Type 0 where
-  other : Y
-  is : slice_get ys i ≡ Some other
-  related : R x other
-
-pair_at : {X Y : Type 0} (R : X → Y → Type 0) (xs : List X) (ys : List Y) (i : ℕ) (x : X)
-    → Pairwise R xs ys → slice_get xs i ≡ Some x → PairAt R ys i x
-pair_at R [] ys i x w e = absurd (none-some x e)
-pair_at R (z ∷ xs) [] i x w e = absurd w
-pair_at R (z ∷ xs) (y ∷ ys) zero x w e = record
-    { other = y; is = refl; related = subst (λ z. R z y) (same_Some z x e) w.0 }
-pair_at R (z ∷ xs) (y ∷ ys) (suc i) x w e = let r = pair_at R xs ys i x w.1 e
-    in record { other = r.other; is = r.is; related = r.related }
-
-bytes_same : (a b : List ℕ) → a ≡ b → bytes_eq a b ≡ true
-bytes_same a b e = (bytes_eq-Decides a b).1 e
-
-abbrev InScope : Scope → ℕ → Type 0
-InScope [] x = ⊥
-InScope (b ∷ s) x = (x ≡ b.1) ⊎ InScope s x
+use Rattle.core_meaning.proofs.Meanings.{PairAt, pair_at, bytes_same, InScope, MeaningOk, means_ok}
 
 count_append : (as' bs : Terms) → count (append as' bs) ≡ count as' + count bs
 count_append NoTerms bs = omega arith
@@ -69,77 +47,7 @@ among_rest NoTerms m = m
 among_rest (AndTerm b as') m = Later (among_rest as' m)
 
 module _ (p : tree.Program) (q : Program) (nf : IsNormalForm p q) where
-  -- ---- what a name means
-
-  abbrev MeaningOk : Scope → Meaning → Type 0
-  MeaningOk s (Local x) = InScope s x
-  MeaningOk s (Function g k) = HasParams q g (λ n. n ≡ k)
-  MeaningOk s (Primitive op) = Unit {0}
-  MeaningOk s Unbound = Unit {0}
-
-  primitive_ok : (s : Scope) (qs : List (List ℕ × PrimOp)) (x : ℕ)
-      → MeaningOk s (primitive_from p qs x)
-  primitive_ok s [] x = tt
-  primitive_ok s (a ∷ qs) x = by_test (is_named p a.0 x) (primitive_ok s qs x)
-    where
-      by_test : (b : Bool) → MeaningOk s (primitive_from p qs x)
-          → MeaningOk s (cond b (Primitive a.1) (primitive_from p qs x))
-      by_test true h = tt
-      by_test false h = h
-
-  function_ok : (s : Scope) (gs : List tree.Function) (hs : List normal.Function) (f x : ℕ)
-      → Pairwise (IsFunction p) gs hs →
-      ((i : ℕ) (h : normal.Function) → slice_get hs i ≡ Some h → slice_get q.funs (f + i) ≡ Some h)
-      → MeaningOk s (function_from p gs f x)
-  function_ok s [] hs f x w at = tt
-  function_ok s (g ∷ gs) [] f x w at = absurd w
-  function_ok s (g ∷ gs) (h ∷ hs) f x w at =
-      let z : f + 0 ≡ f = omega arith in
-      by_test (nat_eq g.name x)
-      (h, subst (λ k. slice_get q.funs k ≡ Some h) z (at 0 h refl), w.0.params)
-      (function_ok s gs hs (f + 1) x w.1
-      (λ i k e. let z : f + suc i ≡ f + 1 + i = omega arith
-      in subst (λ j. slice_get q.funs j ≡ Some k) z (at (suc i) k e)))
-    where
-      by_test : (b : Bool) → HasParams q f (λ n. n ≡ length g.params)
-          → MeaningOk s (function_from p gs (f + 1) x)
-          → MeaningOk s (cond b (Function f (length g.params)) (function_from p gs (f + 1) x))
-      by_test true i j = i
-      by_test false i j = j
-
-  later_ok : (b : ℕ × ℕ) (s : Scope) (m : Meaning) → MeaningOk s m → MeaningOk (b ∷ s) m
-  later_ok b s (Local x) h = inr h
-  later_ok b s (Function g k) h = h
-  later_ok b s (Primitive op) h = tt
-  later_ok b s Unbound h = tt
-
-  found_ok : (s : Scope) (x : ℕ) → MeaningOk s (found_in p s x)
-  found_ok [] x = function_ok [] p.functions q.funs 0 x nf.funs
-      (λ i h e. let z : 0 + i ≡ i = omega arith in rw z e)
-  found_ok (b ∷ s) x = by_test (nat_eq b.0 x) (later_ok b s (found_in p s x) (found_ok s x))
-    where
-      by_test : (c : Bool) → MeaningOk (b ∷ s) (found_in p s x)
-          → MeaningOk (b ∷ s) (cond c (Local b.1) (found_in p s x))
-      by_test true h = inl refl
-      by_test false h = h
-
-  means_ok : (s : Scope) (x : ℕ) → MeaningOk s (means p s x)
-  means_ok s x = by_test (is_named p (codes "_") x) (primitive_from p primitives x) (found_ok s x)
-    where
-      unless_ok : (m : Meaning) → MeaningOk s (found_in p s x)
-          → MeaningOk s (unless_primitive m (found_in p s x))
-      unless_ok (Primitive op) h = tt
-      unless_ok (Local y) h = h
-      unless_ok (Function f k) h = h
-      unless_ok Unbound h = h
-
-      by_test : (c : Bool) (m : Meaning) → MeaningOk s (found_in p s x)
-          → MeaningOk s (cond c Unbound (unless_primitive m (found_in p s x)))
-      by_test true m h = tt
-      by_test false m h = unless_ok m h
-
   -- ---- constructors
-
   record Numbered (ds : List Data) (c number : ℕ) : Type 0 where
     found : Data
     first : first_constructor_named c ds ≡ Some found
@@ -181,7 +89,6 @@ module _ (p : tree.Program) (q : Program) (nf : IsNormalForm p q) where
       by_test false l i = absurd (none-some number i)
 
   -- ---- what the rules say of an application
-
   abbrev Fine : Term → ℕ → Type 0
   Fine (Con c at) k = (d : Data) → fields_of p c ≡ Some d → k ≡ d.fields
   Fine (Name x at) k = Unit {0}
@@ -280,7 +187,6 @@ module _ (p : tree.Program) (q : Program) (nf : IsNormalForm p q) where
   }
 
   -- ---- forms
-
   module _ (s : Scope) (S : ℕ → Type 0) (sub : (x : ℕ) → InScope s x → S x) where
     abbrev Locals : List Bound → Type 0
     Locals news = AllOf (λ b. S b.local) news
@@ -305,7 +211,7 @@ module _ (p : tree.Program) (q : Program) (nf : IsNormalForm p q) where
       vars : AllOf (VarOk q S) xs
       many : length xs ≡ count args
 
-    itself_meaning : (m : Meaning) (x : Var) → MeaningOk s m → itself_as m ≡ Some x → VarOk q S x
+    itself_meaning : (m : Meaning) (x : Var) → MeaningOk p q nf s m → itself_as m ≡ Some x → VarOk q S x
     itself_meaning (Local y) x h e = subst (VarOk q S) (same_Some (var.Local y) x e) (sub y h)
     itself_meaning (Function g k) x h e = by_test (nat_eq k 0) refl e
       where
@@ -318,7 +224,7 @@ module _ (p : tree.Program) (q : Program) (nf : IsNormalForm p q) where
     itself_meaning Unbound x h e = absurd (none-some x e)
 
     itself_ok : (a : Term) (x : Var) → itself p s a ≡ Some x → VarOk q S x
-    itself_ok (Name f at) x e = itself_meaning (means p s f) x (means_ok s f) e
+    itself_ok (Name f at) x e = itself_meaning (means p s f) x (means_ok p q nf s f) e
     itself_ok (Bracket head NoTerms at) x e = itself_ok head x e
     itself_ok (Bracket head (AndTerm a as') at) x e = absurd (none-some x e)
     itself_ok (Con c at) x e = absurd (none-some x e)
@@ -349,7 +255,7 @@ module _ (p : tree.Program) (q : Program) (nf : IsNormalForm p q) where
                 ((d.other, d.is, d.related.fields ∙ sym uses ∙ sym r.many), r.vars);
           }
       flat_ok {head = head} {args = args} (Named {f = x} a) f l
-          = named_ok a (means_ok s x) (args_fine head args f) l
+          = named_ok a (means_ok p q nf s x) (args_fine head args f) l
       flat_ok {head = head} {args = args} (NumberApplied a) f l
           = applied_ok a (args_fine head args f) tt l
       flat_ok {head = whole} {args = args}
@@ -369,7 +275,7 @@ module _ (p : tree.Program) (q : Program) (nf : IsNormalForm p q) where
           = flat_ok a (lone_bracket_fine head args at f) l
 
       named_ok : {n : ℕ} {m : Meaning} {args : Terms} {news : List Bound} {form : Flat}
-          → IsNamed p s n m args news form → MeaningOk s m → ArgsFine args → Locals news
+          → IsNamed p s n m args news form → MeaningOk p q nf s m → ArgsFine args → Locals news
           → FlatOk news form
       named_ok (OfPrimitive a) m f l = let r = args_ok a f l
           in record { all = r.all; this = (r.vars.0, r.vars.1.0) }
@@ -477,7 +383,6 @@ module _ (p : tree.Program) (q : Program) (nf : IsNormalForm p q) where
       turn (inr i) = inr (inr i)
 
   -- ---- expressions
-
   AltsFine : Alts → Type 0
   AltsFine alts = (i : ℕ) (c : Binder) (fields : List Binder) (d : Data)
       → alt_at alts i ≡ Some (pattern.Con c fields) → fields_of p c.name.0 ≡ Some d
@@ -580,7 +485,6 @@ module _ (p : tree.Program) (q : Program) (nf : IsNormalForm p q) where
     )
 
   -- ---- functions
-
   module _ (ok : (k at : ℕ) → Broken p k at → ⊥) where
     app_fine : (t : Scope) (app : Application) → InFunction p t (AnApp app)
         → AppFine app.head app.args

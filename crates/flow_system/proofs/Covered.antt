@@ -1,5 +1,5 @@
 -- A solution covers each run.
-use Rattle.std.proofs.Common.{◌≡◌, ◌+◌, ℕ, zero, suc, Bool, true, false, cond, not, List, [], ◌∷◌, ◌++◌, map, length, Option, Some, None, slice_get, slice_set, refl, sym, ap, ◌∙◌, subst, arith}
+use Rattle.std.proofs.Common.{◌≡◌, ◌+◌, ℕ, zero, suc, Bool, true, false, cond, not, List, [], ◌∷◌, ◌++◌, length, Option, Some, None, slice_get, slice_set, refl, sym, ap, ◌∙◌, subst, arith}
 use Rattle.std.specs.Prelude.{IfSome, IsTrue, nat_eq}
 use Rattle.numbers.specs.Numbers.{same_number}
 use Rattle.std.proofs.lemmas.Bool.Decides.{nat_tests}
@@ -8,14 +8,12 @@ use Rattle.grin_syntax.specs.declared.program.ProcId.{ProcId}
 use Rattle.grin_syntax.specs.declared.program.PrimOp.{PrimOp}
 use Rattle.grin_syntax.specs.declared.program.Tag.{Tag}
 use Rattle.grin_syntax.specs.declared.program.Cell.{Cell}
-use Rattle.grin_syntax.specs.declared.program.GlobalCell.{GlobalCell}
 use Rattle.grin_syntax.specs.declared.program.Shape.{Shape}
 use Rattle.grin_syntax.specs.declared.program.Shape.TheVariants.{Node as NodeShape, Int, Else}
 use Rattle.grin_syntax.specs.declared.program.VarId.{VarId}
 use Rattle.grin_syntax.specs.declared.program.Word.{Word}
-use Rattle.grin_syntax.specs.declared.program.Word.TheVariants.{Global}
 use Rattle.grin_syntax.specs.declared.program.Val.{Val}
-use Rattle.grin_syntax.specs.declared.program.Val.TheVariants.{Vector as VectorVal, Node as NodeVal}
+use Rattle.grin_syntax.specs.declared.program.Val.TheVariants.{Vector as VectorVal}
 use Rattle.grin_syntax.specs.Tree.{Code, end, store, bind, Act, leaf, unit, fetch, fetch_word, update, eval, apply, call, prim, read, write, case, nested, fail, Arms, no_arm, arm, Procedure, Program}
 use Rattle.grin_meaning.specs.Values.{Datum, number, tag as tag', cell, Node, Value, node, words, Env, HeapCell, World, Answer, gives, stops, then_do, need, and_then, Binding, with_vars, one_each, MatchOutcome, fits, fits_not, unclear, fit_of, fits_if, fields_fit, node_fit, number_fit, int_fit, fields_of, made_node, as_node, word_of, words_of, value_of, node_of, bindings_of}
 use Rattle.grin_meaning.specs.Run.{Calls, act, code, arms, calls, run, choose, spend, spent, with_state_seen, places, cells_of, with_cells, with_node, place_of, number_of, apply_arithmetic, byte_or_end, after_read, node_word, eval_cell, eval_tag, updated, apply_part, is_fun_kind, is_part_kind, is_evaluated, is_some_and, part_from, start_words, start_world, global_cells, nth_or_zero}
@@ -23,12 +21,13 @@ use Rattle.grin_meaning.specs.Keeps.{world_of}
 use Rattle.grin_meaning.specs.Follows.{HoldsInEveryState}
 use Rattle.flow_system.specs.Tables.{tables, params_of}
 use Rattle.flow_system.specs.Inclusions.{cell_of, tag, site, var, result, tags, field, word, value, a_number, held, nodes_at, word_at, evaluated, extended, arguments, FlowSink, to, into_site, into_result, flows, applies}
-use Rattle.flow_system.specs.System.{system, act_evals, code_evals, arms_eval, procs_eval, has_eval, cells_flow, site_flows, shape_flows, act_flows, code_flows, arms_flow, globals_flow, procs_flow, start_flows}
-use Rattle.flow_system.specs.Solution.{Solution, Sets, At, one_word, AsNodes, node_tag, node_field, AsWords, word_word, IsEvaluated, evaluated_tag, evaluated_field, Waits, StandsFor, WordAmong, first, ValueGives, FetchGives, its_tag, extended_tag, extended_field, extended_last, ArgumentsGive, field_argument, word_argument, of_node, of_words, global, width, Gives, FlowsTo, Meets, AllMet, Solves}
+use Rattle.flow_system.specs.System.{system, act_evals, code_evals, arms_eval, procs_eval, has_eval, cells_flow, shape_flows, act_flows, code_flows, arms_flow, globals_flow, procs_flow, start_flows}
+use Rattle.flow_system.specs.Solution.{Solution, Sets, At, one_word, AsNodes, node_tag, node_field, AsWords, word_word, IsEvaluated, evaluated_tag, evaluated_field, Waits, StandsFor, WordAmong, first, ValueGives, FetchGives, its_tag, extended_tag, extended_field, extended_last, ArgumentsGive, field_argument, word_argument, of_words, width, Gives, FlowsTo, Meets, AllMet, Solves}
 use Rattle.flow_system.specs.Covers.{site_at, DatumIn, WordsAreInSets, NodeIn, ValueIn, GlobalCellsComeFirst, StateIsCovered, CanBeStarted, Covers, SolutionsCover}
 use Rattle.flow_system.proofs.Lying.{from_some, if_map, if_is, datum_mono, all_mono, all_snoc, Extends, extends_self, extends_on, node_on, value_on, node_mono, Narrow, value_as_node, made_if, BindingsLie, words_bound, Lands, lands, nothing_lands, ArgumentsLie, parameters_lie, nth_lies, EnvLies, env_with, WordsLie, GivenIn, word_lies, words_lie, value_lies, node_lies, place_lies}
-use Rattle.flow_system.proofs.Heap.{set_extends, set_cells, append_extends, append_cells, EachCell, SitesAre, has_sites, sites_are, CellLies, cell_on, met_front, met_back, places_lie, cells_lie, forced}
+use Rattle.flow_system.proofs.Heap.{set_extends, set_cells, append_extends, append_cells, EachCell, SitesAre, has_sites, sites_are, CellLies, cell_on, met_front, met_back, places_lie, cells_lie}
 use Rattle.grin_meaning.proofs.Fullness.{every_and}
+use Rattle.flow_system.proofs.Started.{global_sites, globals_good, argument_lies, no_arguments}
 
 pub site_is : (h : List HeapCell) (i s : ℕ) (c : HeapCell) → site_at h i ≡ Some s
     → slice_get h i ≡ Some c → s ≡ c.site
@@ -713,61 +712,6 @@ module _ (p : Program) (A : Solution) where
           (from_some (λ q. IsTrue (code_evals q.body) → IsTrue (procs_eval p.procs))
           (slice_get p.procs f) q (body_evals p.procs f) e)
 
-  -- the start
-  global_sites : (cs : List GlobalCell) (i : ℕ) → IfSome (slice_get cs i)
-      (λ c. site_at
-      (map (λ c. record { site = c.site.0; node = record { tag = c.tag.0; fields = [] } }) cs) i ≡
-      Some c.site.0)
-  global_sites [] i = tt
-  global_sites (c ∷ cs) zero = refl
-  global_sites (c ∷ cs) (suc i) = global_sites cs i
-
-  globals_good : (h : List HeapCell) (cs : List GlobalCell)
-      → AllMet (tables p) A (globals_flow p cs) →
-      ((i : ℕ) → IfSome (slice_get cs i) (λ c. fields_of p c.tag.0 ≡ Some 0)) → (a : ℕ)
-      → IfSome (slice_get
-      (map (λ c. record { site = c.site.0; node = record { tag = c.tag.0; fields = [] } }) cs)
-      a) (CellLies p A h)
-  globals_good h [] m z a = tt
-  globals_good h (c ∷ cs) m z zero = (
-    record { full = z zero; tag_in = m.0 tags (tag c.tag.0) (node_tag of_node); fields_in = tt },
-    forced p A c.site.0 (has_eval p)
-        (met_front p A (site_flows p c.site.0 (NodeVal c.tag [])) (globals_flow p cs) m).1,
-  )
-  globals_good h (c ∷ cs) m z (suc a) = globals_good h cs
-      (met_back p A (site_flows p c.site.0 (NodeVal c.tag [])) (globals_flow p cs) m)
-      (λ i. z (suc i)) a
-
-  argument_lies : (h : List HeapCell) → GlobalCellsComeFirst p h → (o : Option ℕ)
-      → AllMet (tables p) A (start_flows p o) → IfSome o
-      (λ i. (c : GlobalCell) × (slice_get p.globals i ≡ Some c)) → (f : ℕ) → f ≡ p.start.0
-      → (o ≡ None → ArgumentsLie p h A f []) → ArgumentsLie p h A f (start_words o)
-  argument_lies h gs None m there f e none = none refl
-  argument_lies h gs (Some i) m there f e none = parameters_lie p h A (Some 1)
-      (ValueGives (tables p) A (VectorVal (Global i ∷ []))) f (cell i ∷ [])
-      (subst (λ f. FlowsTo (tables p) A (value (VectorVal (Global i ∷ [])))
-      (to (params_of (tables p) f))) (sym e) m.0) (
-        (
-          there.0.site.0,
-          from_some (λ c. site_at h i ≡ Some c.site.0) (slice_get p.globals i) there.0
-              (gs i) there.1,
-          of_words (first (global there.1)),
-        ),
-        tt,
-      )
-
-  no_arguments : (h : List HeapCell) (f : ℕ) → ArgumentsLie p h A f []
-  no_arguments h f = go (slice_get p.procs f)
-    where
-      none : (xs : List VarId) → IfSome (one_each xs []) (BindingsLie p h A)
-      none [] = tt
-      none (x ∷ xs) = tt
-
-      go : (o : Option Procedure) → IfSome o
-          (λ q. IfSome (one_each q.params []) (BindingsLie p h A))
-      go None = tt
-      go (Some q) = none q.params
-
   goes_good : (Y : List HeapCell → Value → Type 0) (w : World) (a : Answer) → Goes Y w a
       → Good (world_of a)
   goes_good Y w (gives v w') g = g.1
@@ -780,9 +724,9 @@ module _ (p : Program) (A : Solution) where
       let start = start_flows p p.argument in
       let rest = globals_flow p p.globals ++ procs_flow p 0 p.procs in
       let m1 : AllMet (tables p) A rest = met_back p A start rest m in
-      let gs : GlobalCellsComeFirst p (global_cells p) = global_sites p.globals in
+      let gs : GlobalCellsComeFirst p (global_cells p) = global_sites p A p.globals in
       let g : Good (start_world p i n) = record {
-        cells_good = globals_good (global_cells p) p.globals
+        cells_good = globals_good p A (global_cells p) p.globals
             (met_front p A (globals_flow p p.globals) (procs_flow p 0 p.procs) m1) s.no_fields;
         globals_there = gs;
         seen_good = tt;
@@ -790,8 +734,8 @@ module _ (p : Program) (A : Solution) where
       goes_good (Returns p.start.0) (start_world p i n) _
       ((calls_go (met_back p A (globals_flow p p.globals) (procs_flow p 0 p.procs) m1) n).by
       p.start.0 (start_words p.argument) 0 (start_world p i n) g
-      (argument_lies (global_cells p) gs p.argument (met_front p A start rest m) s.argument_there
-      p.start.0 refl (λ _. no_arguments (global_cells p) p.start.0)))
+      (argument_lies p A (global_cells p) gs p.argument (met_front p A start rest m) s.argument_there
+      p.start.0 refl (λ _. no_arguments p A (global_cells p) p.start.0)))
 
   pub covers : CanBeStarted p → Solves (tables p) (system p) A → Covers p A
   covers s m = record {
