@@ -232,7 +232,8 @@ module _ (p : Program) where
                         (broken.DuplicateCon w.j i f w.before w.is is (sym w.same))
                   ]
               | inr a ↦
-                  let n = from_noted (mixes_kinds s.is_con true) (refusal.MixedAlternatives c.at) r a in
+                  let n = from_noted (mixes_kinds s.is_con true) (refusal.MixedAlternatives c.at) r
+                  a in
                   retag (refusal.MixedAlternatives c.at) r n.is
                   (mixed_broken t alts i (pattern.Con c fields) true f is refl n.holds)
             ]
@@ -364,18 +365,23 @@ module _ (p : Program) where
                       | inl a ↦ let n = from_noted (nat_lt 12 (length f.params))
                           (refusal.TooManyParameters f.at) r a
                           in retag (refusal.TooManyParameters f.at) r n.is
-                          (broken.TooManyParameters w.i w.is (ltb-true 12 (length f.params) n.holds))
+                          (broken.TooManyParameters w.i w.is
+                          (ltb-true 12 (length f.params) n.holds))
                       | inr d ↦ elim
-                          (in_cases r (refusal_if (is_reserved k f.name) (refusal.ReservedName f.at)) _ d) [
+                          (in_cases r
+                          (refusal_if (is_reserved k f.name) (refusal.ReservedName f.at)) _ d) [
                             | inl a ↦
-                                let n = from_noted (is_reserved k f.name) (refusal.ReservedName f.at) r a in
+                                let n = from_noted (is_reserved k f.name)
+                                (refusal.ReservedName f.at) r a in
                                 let v = from_reserved p f.name n.holds in
                                 retag (refusal.ReservedName f.at) r n.is
                                 (broken.ReservedFunction w.i v.0 w.is v.1.1 v.1.2)
                             | inr a ↦
-                                let n = from_noted (main_kind (k.kind f.name) && nat_lt 1 (length f.params))
+                                let n = from_noted
+                                (main_kind (k.kind f.name) && nat_lt 1 (length f.params))
                                 (refusal.MainHasParameters f.at) r a in
-                                let h = and_parts (main_kind (k.kind f.name)) (nat_lt 1 (length f.params))
+                                let h = and_parts (main_kind (k.kind f.name))
+                                (nat_lt 1 (length f.params))
                                 n.holds in
                                 retag (refusal.MainHasParameters f.at) r n.is
                                 (broken.MainHasParameters w.i w.is (sym (main_named p f.name) ∙ h.0)

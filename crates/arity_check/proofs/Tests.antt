@@ -25,7 +25,8 @@ pub to_differ : (n m : ℕ) → n ≢ m → not (n == m) ≡ true
 to_differ n m h = elim (two_ways (n == m))
     [ inl e ↦ absurd (h (eqb-true n m e)) | inr e ↦ true_not (n == m) e ]
 
-pub differs : (q r : Pattern) (b : Bool) → kind_of_pattern q ≡ Some b → kind_of_pattern r ≡ Some (not b)
+pub differs : (q r : Pattern) (b : Bool) → kind_of_pattern q ≡ Some b
+    → kind_of_pattern r ≡ Some (not b)
     → KindsDiffer q r
 differs (pattern.Con c xs) (pattern.Int n at) b e f = tt
 differs (pattern.Int n at) (pattern.Con c xs) b e f = tt
@@ -59,7 +60,8 @@ pub record AnyAt {T : Type 0} (test : T → Bool) (xs : List T) : Type 0 where
   pub is : slice_get xs i ≡ Some item
   pub passes : test item ≡ true
 
-pub from_any : {T : Type 0} (test : T → Bool) (xs : List T) → list_any test xs ≡ true → AnyAt test xs
+pub from_any : {T : Type 0} (test : T → Bool) (xs : List T) → list_any test xs ≡ true
+    → AnyAt test xs
 from_any test [] e = absurd cc
 from_any test (x ∷ xs) e = go (test x) refl e (from_any test xs)
   where

@@ -211,7 +211,8 @@ module _ (p : tree.Program) (q : Program) (nf : IsNormalForm p q) where
       vars : AllOf (VarOk q S) xs
       many : length xs ≡ count args
 
-    itself_meaning : (m : Meaning) (x : Var) → MeaningOk p q nf s m → itself_as m ≡ Some x → VarOk q S x
+    itself_meaning : (m : Meaning) (x : Var) → MeaningOk p q nf s m → itself_as m ≡ Some x
+        → VarOk q S x
     itself_meaning (Local y) x h e = subst (VarOk q S) (same_Some (var.Local y) x e) (sub y h)
     itself_meaning (Function g k) x h e = by_test (nat_eq k 0) refl e
       where

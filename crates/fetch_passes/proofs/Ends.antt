@@ -42,7 +42,8 @@ words_next a xs i d old made made' lt f s = subst (λ l. AllWords a l old made')
     (record {
       by = λ c. s c ∙ f.by _ ∙ ap
           (λ k. all_before (map before_of old)
-          (fetch_all_words a 0 (take i xs) (bind (to.One (get_or xs i d)) (leaf (fetch_word a k)) c)))
+          (fetch_all_words a 0 (take i xs)
+          (bind (to.One (get_or xs i d)) (leaf (fetch_word a k)) c)))
           at ∙ ap (all_before (map before_of old))
           (sym (words_push a 0 (take i xs) (get_or xs i d) c));
     })

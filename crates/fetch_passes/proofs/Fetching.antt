@@ -155,7 +155,8 @@ module _ (g : Program) (procs : List Procedure) (c c' : Calls) (cb : CallsBack (
             (record { var = x; place = k }) b b' h (λ cells env env' r. (
               r.1.0,
               (
-                near_kept g base n zs ks sound low x k lacks a2 a ps cells env env' r.1.0 lt own f2 r.0,
+                near_kept g base n zs ks sound low x k lacks a2 a ps cells env env' r.1.0 lt own f2
+                    r.0,
                 waits_on x (node_word r.1.0.y.node k) a cells env env' f ws r.1.1,
               ),
             ))
@@ -195,7 +196,8 @@ module _ (g : Program) (procs : List Procedure) (c c' : Calls) (cb : CallsBack (
                 in absurd (omega (arith, e, first))
 
             go : (o : Bool) → outside t x.0 bt ≡ o → CodeFollows it
-                (Mid (numbers_of xs) (numbered (suc i) xs)) Same b (word_fetches t bt a (suc i) xs b')
+                (Mid (numbers_of xs) (numbered (suc i) xs)) Same b
+                (word_fetches t bt a (suc i) xs b')
                 → CodeFollows it (Mid (numbers_of (x ∷ xs)) (numbered i (x ∷ xs))) Same b
                 (fetched_if o x a i (word_fetches t bt a (suc i) xs b'))
             go true q r = kept_follows x i (numbers_of xs) (numbered (suc i) xs) b

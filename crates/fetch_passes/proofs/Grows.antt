@@ -63,7 +63,8 @@ front_next a n m m' ps i d b ks js js' made made' lt f s k e
           : length (take i ps ++ get_or ps i d ∷ []) ≡ suc (length (take i ps))
           = many (take i ps) (get_or ps i d) in omega (arith, h, l, e));
       names = k ∙
-          (λ j. named_if (code_uses (get_or ps i d).var.0 b) (get_or ps i d).var (f.next j) (f.names j))
+          (λ j. named_if (code_uses (get_or ps i d).var.0 b) (get_or ps i d).var (f.next j)
+          (f.names j))
           ∙ sym (names_push n (take i ps) (get_or ps i d) b ks);
       stmts = λ c. s c ∙ f.stmts _ ∙ ap
           (λ z. front a n (take i ps) b
@@ -135,7 +136,8 @@ pub words_next : (t : ℕ) (b : Code) (a : W.Word) (xs : List VarId) (i : ℕ) (
 words_next t b a xs i d kept old made made' waits waits' lt f k s w
     = subst (λ l. WordsSoFar t b a l old made' waits') (sym (take_more xs i d lt)) (record {
       waiting = w ∙
-          (λ j. f.waiting j ++ cond (k j) [] (record { var = get_or xs i d; place = at j } ∷ [])) ∙ sym
+          (λ j. f.waiting j ++ cond (k j) [] (record { var = get_or xs i d; place = at j } ∷ [])) ∙
+          sym
           (waits_push t b 1 (take i xs) (get_or xs i d));
       stmts = λ c. s c ∙ f.stmts _ ∙
           (λ j. all_before (map before_of old)

@@ -6,6 +6,8 @@ pub mod Words
 pub mod Waiting
 pub mod Fetching
 pub mod LastFetch
+pub mod Pieces
+pub mod NodeFetched
 pub mod Simulated
 pub mod Kept
 pub mod Loops
@@ -19,6 +21,7 @@ pub mod Counts
 pub mod Scoped
 pub mod Contract
 pub mod Used
+pub mod Offsets
 pub mod Placing
 pub mod Fronting
 pub mod Scanned

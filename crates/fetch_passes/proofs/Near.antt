@@ -125,7 +125,8 @@ module _ (g : Program) where
         = record {
           named = λ z d i l v w. go z d i v w (times z.0 ys) refl;
           waits
-              = waits_more a c env env' (with_vars bs env) (with_vars bs env') apart ps (old ps wait)
+              = waits_more a c env env' (with_vars bs env) (with_vars bs env') apart ps
+              (old ps wait)
               r.waits;
         }
       where

@@ -34,9 +34,9 @@ use Rattle.seq.specs.Lists.{times}
 use Rattle.seq.proofs.Counted.{counts, times_append, one_at}
 use Rattle.grin_meaning.proofs.Scopes.{scope_left, scope_right, scope_below}
 use Rattle.grin_syntax.proofs.Placed.{same_var}
+use Rattle.fetch_passes.proofs.Offsets.{Rising, waits_rise, Apart, other_place, apart_more, kept, waits_apart}
 
 -- ---- the tag's variable stands for itself, and nothing else for it
-
 record Alone (ks : Names) (t : VarId) : Type 0 where
   own : as_word ks (Var t) ≡ Var t
   other : (z : VarId) → as_word ks (Var z) ≡ Var t → z.0 ≡ t.0
@@ -113,7 +113,6 @@ module _ (ks : Names) (z y : VarId) (is : as_word ks (Var z) ≡ Var y) where
       go false e = cc
 
 -- ---- fetches are passed
-
 owns_fetch : (t : ℕ) (o : Bool) (x : VarId) (a : W.Word) (i : ℕ) (c : Code)
     → owns t (fetched_if o x a i c) ≡ owns t c
 unfolding owns
@@ -146,7 +145,6 @@ outside_words t y u b a i (x ∷ xs) c h = outside_fetch t y (outside u x.0 b) x
 
 module _ (ts : List Tag) where
   -- ---- the case that comes next, and what is used outside its alternatives, stay
-
   owned_stays : (o : Act) (ks : Names) (a : W.Word) (ps : List DeferredField) (n : ℕ) (t : VarId)
       → Alone ks t → is_case_on_tag t.0 (split_act ts ks a ps n o) ≡ is_case_on_tag t.0 o
   unfolding split_act
@@ -269,83 +267,7 @@ module _ (ts : List Tag) where
       (not_here z.0 (act_vars o) (code_vars b)
       (not_here z.0 (target_vars v) (act_vars o ++ code_vars b) v0).1).1 e.2) u
 
--- ---- places
-
--- the places of these words are i or more, each larger than the one before
-abbrev pub Rising : ℕ → List DeferredField → Type 0
-Rising i [] = Unit {0}
-Rising i (p ∷ ps) = (i ≤ p.place) × Rising (suc p.place) ps
-
-rising_from : (i j : ℕ) (ps : List DeferredField) → i ≤ j → Rising j ps → Rising i ps
-rising_from i j [] le h = tt
-rising_from i j (p ∷ ps) le h = (omega (arith, le, h.0), h.1)
-
-waits_rise : (t : ℕ) (b : Code) (i : ℕ) (xs : List VarId) → Rising i (deferred_fields_of t b i xs)
-waits_rise t b i [] = tt
-waits_rise t b i (x ∷ xs) = go (outside t x.0 b) (waits_rise t b (suc i) xs)
-  where
-    go : (o : Bool) → Rising (suc i) (deferred_fields_of t b (suc i) xs)
-        → Rising i
-        (cond o (deferred_fields_of t b (suc i) xs)
-        (record { var = x; place = i } ∷ deferred_fields_of t b (suc i) xs))
-    go true h = rising_from i (suc i) (deferred_fields_of t b (suc i) xs) (omega arith) h
-    go false h = (omega arith, h)
-
--- none of these words is one of those
-abbrev pub Apart : List ℕ → List DeferredField → Type 0
-Apart is = AllOf (λ p. times p.place is ≡ 0)
-
-other_place : (i j : ℕ) → i < j → counts (nat_eq j i) ≡ 0
-other_place i j lt = ap counts (eq_false j i (λ q. omega (arith, q, lt)))
-
-apart_more : (i : ℕ) (is : List ℕ) (ps : List DeferredField) → Rising (suc i) ps → Apart is ps
-    → Apart (i ∷ is) ps
-apart_more i is [] r h = tt
-apart_more i is (p ∷ ps) r h = (
-  let c : counts (nat_eq p.place i) ≡ 0 = other_place i p.place (omega (arith, r.0)) in let k
-      : times p.place is ≡ 0 = h.0 in omega (arith, c, k),
-  apart_more i is ps (rising_from (suc i) (suc p.place) ps (omega (arith, r.0)) r.1) h.1,
-)
-
--- the words of a node that are fetched directly after its tag, beside these
-abbrev pub kept : (t : ℕ) → Code → ℕ → List VarId → List ℕ → List ℕ
-kept t b i [] is = is
-kept t b i (x ∷ xs) is = kept t b (suc i) xs (cond (outside t x.0 b) (i ∷ is) is)
-
-kept_before : (t : ℕ) (b : Code) (i : ℕ) (xs : List VarId) (is : List ℕ) (j : ℕ) → j < i
-    → times j (kept t b i xs is) ≡ times j is
-kept_before t b i [] is j lt = refl
-kept_before t b i (x ∷ xs) is j lt = kept_before t b (suc i) xs (cond (outside t x.0 b) (i ∷ is) is)
-    j (omega (arith, lt)) ∙ go (outside t x.0 b)
-  where
-    go : (o : Bool) → times j (cond o (i ∷ is) is) ≡ times j is
-    go true = let c : counts (nat_eq j i) ≡ 0 = ap counts (eq_false j i (λ q. omega (arith, q, lt)))
-        in omega (arith, c)
-    go false = refl
-
-waits_apart : (t : ℕ) (b : Code) (i : ℕ) (xs : List VarId) (is : List ℕ)
-    → ((j : ℕ) → i ≤ j → times j is ≡ 0) → Apart (kept t b i xs is) (deferred_fields_of t b i xs)
-waits_apart t b i [] is f = tt
-waits_apart t b i (x ∷ xs) is f = go (outside t x.0 b) (λ js h. waits_apart t b (suc i) xs js h)
-  where
-    more : (j : ℕ) → suc i ≤ j → times j (i ∷ is) ≡ 0
-    more j le = let c : counts (nat_eq j i) ≡ 0 = other_place i j (omega (arith, le)) in let k
-        : times j is ≡ 0 = f j (omega (arith, le)) in omega (arith, c, k)
-
-    go : (o : Bool) →
-        ((js : List ℕ) → ((j : ℕ) → suc i ≤ j → times j js ≡ 0)
-        → Apart (kept t b (suc i) xs js) (deferred_fields_of t b (suc i) xs))
-        → Apart (kept t b (suc i) xs (cond o (i ∷ is) is))
-        (cond o (deferred_fields_of t b (suc i) xs)
-        (record { var = x; place = i } ∷ deferred_fields_of t b (suc i) xs))
-    go true k = k (i ∷ is) more
-    go false k = (
-      kept_before t b (suc i) xs is i (omega arith) ∙ f i (omega arith),
-      k is (λ j le. f j (omega (arith, le))),
-    )
-
 -- ---- fetches of words, each where it should be
-
 abbrev pub tagged : W.Word → ℕ → List ℕ → FetchedCell
 tagged a t is = record { cell = a; tag = t; fetched = is }
 
@@ -489,7 +411,6 @@ module _ (first : ℕ) where
   )
 
 -- ---- what is known where a piece stands
-
 -- the words that wait are those of the cell a, in this order, and not fetched before
 record Ready (next : Position) (a : W.Word) (ps : List DeferredField) : Type 0 where
   tag : ℕ
@@ -572,10 +493,10 @@ module _ (base : ℕ) (zs : List ℕ) (ks : Names) where
   arms_front ps n a next b c (inr r) f = subst (λ p. CodePlaced base p elsewhere (front a n ps b c))
       (sym r.at) (front_placed base a n 1 ps b c r.tag r.fetched (omega arith) r.rising r.apart f)
 
--- after a fetch of a node
 module _ (base : ℕ) (v : VarId) (vs : List VarId) (b : Code) (zs : List ℕ) (ks : Names)
     (ps : List DeferredField) (n : ℕ)
     (x : Walk base zs ks ps n (numbers_of (v ∷ vs) ++ code_vars b)) where
+  -- after a fetch of a node
   abbrev ws : List DeferredField
   ws = deferred_fields_of v.0 b 1 vs
 
@@ -692,9 +613,8 @@ one_waits u zs ps a b p next true e h (inr r) w =
     : times r.0 zs ≡ 0 = ap (λ m. times m zs) q ∙ h in absurd (omega (arith, i, k)))
 one_waits u zs ps a b p next false e h (inr r) w = w
 
--- ---- pieces
-
 module _ (ts : List Tag) (base : ℕ) where
+  -- ---- pieces
   mutual
     unfolding split_act CodePlaced act_vars EachAct made_act owns
 

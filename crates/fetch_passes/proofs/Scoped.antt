@@ -353,7 +353,8 @@ module _ (g : Program) (procs : List Procedure) (same_count : length procs ≡ l
   whole_formed n a ws h = all_formed a 0 (variables n (suc (most_fields g.tags))) ws _ h
       (λ vs f e. (
         vars_formed (variables n (suc (most_fields g.tags))) vs e,
-        nodes_formed (variables (suc n) (most_fields g.tags)) vs (λ y j. e y (omega (arith, j))) g.tags
+        nodes_formed (variables (suc n) (most_fields g.tags)) vs (λ y j. e y (omega (arith, j)))
+            g.tags
             0 (omega arith),
       ))
 

@@ -308,9 +308,11 @@ module _ (ts : List Tag) where
       = subst (λ l. ProcsSoFar n m' l made') (sym (take_next ps i p lt e)) (record {
         by = ap (map procedure_of) w ∙ map_push procedure_of made q ∙
             (λ j. f.by j ++ record { name = x j; params = y j; body = z j } ∷ []) ∙ ap
-            (λ k. split_procs ts n (map procedure_of (take i ps)) ++ one_split k (procedure_of p) ∷ [])
+            (λ k. split_procs ts n (map procedure_of (take i ps))
+            ++ one_split k (procedure_of p) ∷ [])
             f.room
-            ∙ sym (procs_push n (map procedure_of (take i ps)) (procedure_of p)) ∙ ap (split_procs ts n)
+            ∙ sym (procs_push n (map procedure_of (take i ps)) (procedure_of p)) ∙ ap
+            (split_procs ts n)
             (sym (map_push procedure_of (take i ps) p));
         room = r ∙ ap (λ k. k + made_code ts [] (code_of p.body)) f.room ∙ sym
             (after_push n (map procedure_of (take i ps)) (procedure_of p)) ∙ ap (after n)

@@ -89,7 +89,8 @@ module _ (p : Program) (A : Solution) where
         (record {
           variables = el;
           cells = λ a. if_map (CellLies p A w.cells)
-              (λ c. NodeIn p w.cells (At A (site c.site)) c.node) (slice_get w.cells a) (g.cells_good a)
+              (λ c. NodeIn p w.cells (At A (site c.site)) c.node) (slice_get w.cells a)
+              (g.cells_good a)
               (λ c l. l.0);
           globals = g.globals_there;
         });
@@ -533,8 +534,10 @@ module _ (p : Program) (A : Solution) where
             extends_self w.cells,
             g,
             lands p w.cells A (Some 1)
-                (Gives (tables p) A (word_at a j)) k (words (node_word x.node j ∷ [])) m.0
-                (fetched a j w.cells x.site x.node (at_cell a env w i x pl q) (here w i x g q).0, tt)
+                (Gives (tables p) A (word_at a j)) k (words (node_word x.node j ∷ [])) m.0 (
+                  fetched a j w.cells x.site x.node (at_cell a env w i x pl q) (here w i x g q).0,
+                  tt,
+                )
                 (omega arith),
           )))
       act_goes k (leaf (update a v)) env d w g el m ev
@@ -592,8 +595,12 @@ module _ (p : Program) (A : Solution) where
           = need_is (At_sink k) w (and_then (word_of p env a) number_of) _ g
           (λ i _. (
             extends_self w.cells,
-            record
-                { cells_good = g.cells_good; globals_there = g.globals_there; seen_good = g.seen_good },
+            record {
+              cells_good = g.cells_good;
+              globals_there = g.globals_there;
+              seen_good
+                  = g.seen_good;
+            },
             nothing_lands p _ A k,
           ))
       act_goes k (case v as') env d w g el m ev = need_goes
@@ -734,7 +741,8 @@ module _ (p : Program) (A : Solution) where
       goes_good (Returns p.start.0) (start_world p i n) _
       ((calls_go (met_back p A (globals_flow p p.globals) (procs_flow p 0 p.procs) m1) n).by
       p.start.0 (start_words p.argument) 0 (start_world p i n) g
-      (argument_lies p A (global_cells p) gs p.argument (met_front p A start rest m) s.argument_there
+      (argument_lies p A (global_cells p) gs p.argument (met_front p A start rest m)
+      s.argument_there
       p.start.0 refl (λ _. no_arguments p A (global_cells p) p.start.0)))
 
   pub covers : CanBeStarted p → Solves (tables p) (system p) A → Covers p A

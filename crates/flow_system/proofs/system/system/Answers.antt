@@ -20,6 +20,7 @@ invariant_of-result c = record {
       in subst (λ ts. NoPartTagBeforeStart ts c.in_ok-partial_tag_starts.field-0.items 0) e
       c.in_ok-partial_tag_starts.ensures);
   indexed = indexed _ (shown c.as_slice-listed.result.now)
-      c.in_ok-places.places _ _ _ _ c.in_ok-rows.ensures (search rules) (search rules) (search rules)
+      c.in_ok-places.places _ _ _ _ c.in_ok-rows.ensures (search rules) (search rules)
+      (search rules)
       (search rules) (search rules);
 }

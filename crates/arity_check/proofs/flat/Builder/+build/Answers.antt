@@ -199,7 +199,8 @@ function-applied-requires t c =
     = rw back b in (
       omega (arith, w),
       ap (λ xs. args_faults (known c.args.globals.now) c.args.scope.now (terms xs))
-          back ∙ back_sound (known c.args.globals.now) c.args.scope.now c.args.args.now c.args.params
+          back ∙ back_sound (known c.args.globals.now) c.args.scope.now c.args.args.now
+          c.args.params
           c.requires,
     )
 

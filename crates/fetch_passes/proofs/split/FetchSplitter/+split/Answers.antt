@@ -109,7 +109,8 @@ op-alt-requires t c =
     let m = c.loop-alt.invariant.later in (
       omega (arith, w, m),
       arm_here c.args.self.now.notes.now c.loop-alt.place
-          c.as_slice-alt-items.result.now c.loop-alt.alt-index c.alt-item.result c.loop-alt-test.true
+          c.as_slice-alt-items.result.now c.loop-alt.alt-index c.alt-item.result
+          c.loop-alt-test.true
           c.alt-item.is c.loop-alt.invariant.places,
     )
 
