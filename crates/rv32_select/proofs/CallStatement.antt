@@ -22,7 +22,7 @@ use Rattle.rv32_items.specs.Course.{Layout, Point, label_from, address_from}
 use Rattle.rv32_items.specs.Placed.{is_instruction}
 use Rattle.rv32_select.specs.declared.source.Continuation.{Continuation}
 use Rattle.rv32_select.specs.Emit.{plain, moves_code, spot_moves, number_moves, argument_spots, result_spots, save_moves, restore_moves}
-use Rattle.rv32_select.specs.IsSelected.{sources, params_of, argument_spots_of, results_of, result_spots_of, IsOrder, moves_between, call_items, Then, is_lasting}
+use Rattle.rv32_select.specs.IsSelected.{sources, params_of, argument_spots_of, results_of, result_spots_of, IsOrder, moves_between, call_items, Then}
 use Rattle.limits.specs.Limits.{stack_end}
 use Rattle.rv32_select.proofs.Courses.{Stands, front, back}
 use Rattle.rv32_select.proofs.Straight.{Data, does_on, at}
@@ -119,7 +119,8 @@ module _ (l : Program) (a : Assignment) (cells stack : ℕ) (lay : Layout) (f j 
               = R.keeps.words in let n1 = world.stack_words in let n2 = st.world.stack_words
               in omega arith;
         };
-        home = R.keeps.outside j (inl (omega arith)) ∙ x.outside j (inl (omega arith)) (omega arith) ∙
+        home = R.keeps.outside j (inl (omega arith)) ∙ x.outside j (inl (omega arith)) (omega arith)
+            ∙
             st.home;
         vars = vars;
         untouched = record {

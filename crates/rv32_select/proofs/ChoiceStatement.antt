@@ -21,7 +21,6 @@ use Rattle.rv32_items.specs.declared.Item.{Item}
 use Rattle.rv32_items.specs.declared.Item.TheVariants.{Label, Branch}
 use Rattle.rv32_items.specs.Course.{Layout, Point, label_from, kind_of}
 use Rattle.rv32_select.specs.declared.source.Continuation.{Continuation}
-use Rattle.rv32_select.specs.declared.source.Continuation.TheVariants.{Returns, Follows, Jumps}
 use Rattle.rv32_select.specs.Emit.{plain, held as held_in, hold, branch_items, test_items, compare_items, match_items}
 use Rattle.rv32_select.specs.IsSelected.{source, tests_items, continued_by_jump, Then, Emits, EmitsArms}
 use Rattle.low_code.specs.Literals.{IsSmall, TestsSmall}
@@ -33,7 +32,7 @@ use Rattle.rv32_select.proofs.OperandsRead.{IsPlace, holds as held_by, held_stay
 use Rattle.rv32_select.proofs.Computed.{hold_kept, hold_seen}
 use Rattle.rv32_select.proofs.Relation.{bases, home_kept, Stood, Ran, ran_on, quiet, Does', does_after, does_map, Given, Needed}
 use Rattle.rv32_select.proofs.PlaceFacts.{IsOwn, ArmsFine, ProcedureFine, Setting}
-use Rattle.rv32_select.proofs.BlockFacts.{room, Entry, Block, Simulates, InRegisters, Ready, world_kept}
+use Rattle.rv32_select.proofs.BlockFacts.{room, Entry, Block, Simulates, world_kept}
 use Rattle.rv32_select.proofs.OneBound.{Cut, cut, ready_at, plain_ran, operand_read}
 use Rattle.rv32_select.proofs.WordStatements.{stood_same, number_there}
 use Rattle.rv32_select.proofs.Stops.{good_far, passes_label}
@@ -42,6 +41,7 @@ use Rattle.rv32_select.proofs.EmittedLabels.{emits_up, arms_up}
 use Rattle.rv32_select.proofs.JoinStatement.{stood_weaken}
 use Rattle.seq.specs.Lists.{is_among}
 use Rattle.seq.proofs.Counted.{among_left, among_right}
+use Rattle.rv32_select.proofs.FurtherArms.{held_or_not, further_given, further_ready, further_registers}
 
 module _ (l : Program) (a : Assignment) (cells stack : ℕ) (lay : Layout) (items : List Item)
     (begins : List ℕ) (s : Setting l a cells stack lay items begins) (calls_n : Calls) (n : ℕ)
@@ -98,7 +98,6 @@ module _ (l : Program) (a : Assignment) (cells stack : ℕ) (lay : Layout) (item
       seen Scratch o = absurd (o.1 refl)
 
   -- ---- tests
-
   -- where tests hold the machine is behind them, and else at the label
   TestsDone : (c0 : Code) (env : Env) (Must : ℕ → Word → Type 0) (next p t : ℕ) (ts : List LowTest)
       (d : Data) (w : World) → Bool → Type 0
@@ -345,31 +344,6 @@ module _ (l : Program) (a : Assignment) (cells stack : ℕ) (lay : Layout) (item
           in
           by_same more k T (nat_eq k x.right) refl e2
 
-  -- ---- arms
-
-  pub further_given : (to : List Spot) (way : Continuation) (Must : ℕ → Word → Type 0)
-      (vs : List Word) (v : World) (p : Point) (c : List ℕ)
-      → Given l a cells stack lay items framed f j pf.slots d0 m outer to (continued_by_jump way)
-      Must vs v p c → Given l a cells stack lay items framed f j pf.slots d0 m outer to way Must vs
-      v p c
-  further_given to Returns Must vs v p c h = h
-  further_given to (Follows k) Must vs v p c h = h
-  further_given to (Jumps k) Must vs v p c h = h
-
-  pub further_ready : (way : Continuation) (e e' : ℕ) → Ready l a cells stack lay items begins way e
-      → Ready l a cells stack lay items begins (continued_by_jump way) e'
-  further_ready Returns e e' h = tt
-  further_ready (Follows k) e e' h = (e, h)
-  further_ready (Jumps k) e e' h = h
-
-  pub further_registers : (way : Continuation) (to : List Spot)
-      → InRegisters l a cells stack lay items begins f q framed pf.slots j m outer d0 u n way to
-      → InRegisters l a cells stack lay items begins f q framed pf.slots j m outer d0 u n
-      (continued_by_jump way) to
-  further_registers Returns to h = h
-  further_registers (Follows k) to h = tt
-  further_registers (Jumps k) to h = tt
-
   -- the items of an arm and the arms behind it, and those of arms and the first behind them
   abbrev pub InOrder : (ts : List LowTest) (c : Code) (as' : Arms) (to : List Spot)
       (way : Continuation) (k k' : ℕ) (block : List Item) → Type 0
@@ -445,7 +419,8 @@ module _ (l : Program) (a : Assignment) (cells stack : ℕ) (lay : Layout) (item
               emits = h.2;
               stands = front items (p + length (tests_items l a k ts)) h.1 (Label k ∷ [])
                   behind_tests;
-              ready = further_ready way (p + length block)
+              ready = further_ready l a cells stack lay items begins s calls_n n f q pf framed j m
+                  outer d0 u way (p + length block)
                   (p + length (tests_items l a k ts) + length h.1) b.ready;
               above = let le = b.above in omega arith;
               fine = b.fine.1.0;
@@ -455,7 +430,8 @@ module _ (l : Program) (a : Assignment) (cells stack : ℕ) (lay : Layout) (item
               clear = b.clear;
               to_own = b.to_own;
               to_differ = b.to_differ;
-              in_registers = further_registers way to b.in_registers;
+              in_registers = further_registers l a cells stack lay items begins s calls_n n f q pf
+                  framed j m outer d0 u way to b.in_registers;
               stood = stood_weaken l a cells stack lay framed f j pf.slots d0 (lay.address m)
                   (Needed (choose (arm ts c as')) env Must) (Needed c env Must) T.0 w weaken_code
                   T.1.1;
@@ -474,7 +450,8 @@ module _ (l : Program) (a : Assignment) (cells stack : ℕ) (lay : Layout) (item
             (Given l a cells stack lay items framed f j pf.slots d0 m outer to way Must)
             (at (bases stack) lay items (p + length (tests_items l a k ts)) T.0) (m ∷ outer) w
             (code l (words_at a) (room l a cells stack lay items begins) calls_n env top under c w)
-            (further_given to way Must) done)
+            (further_given l a cells stack lay items begins s calls_n n f q pf framed j m outer d0 u
+            to way Must) done)
           where
             weaken_code : (y : ℕ) (v : Word) → Needed c env Must y v
                 → Needed (choose (arm ts c as')) env Must y v
@@ -562,16 +539,6 @@ module _ (l : Program) (a : Assignment) (cells stack : ℕ) (lay : Layout) (item
         by_holds (Some false) e = passed e
 
   -- one test that holds or not
-  held_or_not : (r : Option ℕ) (right : ℕ) (b : Bool)
-      → and_then r (λ k. elim (nat_eq k right) [ true ↦ Some true | false ↦ Some false ]) ≡ Some b
-      → (k : ℕ) × ((r ≡ Some k) × (nat_eq k right ≡ b))
-  held_or_not None right b e = absurd (cc)
-  held_or_not (Some k) right b e = (k, (refl, by_same (nat_eq k right) e))
-    where
-      by_same : (z : Bool) → elim z [ true ↦ Some true | false ↦ Some false ] ≡ Some b → z ≡ b
-      by_same true e = cc
-      by_same false e = cc
-
   module _ (t : LowTest) (c : Code) (as' : Arms) (to : List Spot) (way : Continuation)
       (Must : ℕ → Word → Type 0) (k k' : ℕ) (block : List Item) (p : ℕ) (scope later : List ℕ)
       (env : Env) (top : ℕ) (under : Option ℕ) (d : Data) (w : World)
@@ -694,7 +661,8 @@ module _ (l : Program) (a : Assignment) (cells stack : ℕ) (lay : Layout) (item
               emits = h.2;
               stands = front items (p + length (match_items k (source l a t.left) t.right)) h.1
                   (Label k ∷ []) behind_match;
-              ready = further_ready way (p + length block)
+              ready = further_ready l a cells stack lay items begins s calls_n n f q pf framed j m
+                  outer d0 u way (p + length block)
                   (p + length (match_items k (source l a t.left) t.right) + length h.1) b.ready;
               above = let le = b.above in omega arith;
               fine = b.fine.1.1;
@@ -704,7 +672,8 @@ module _ (l : Program) (a : Assignment) (cells stack : ℕ) (lay : Layout) (item
               clear = b.clear;
               to_own = b.to_own;
               to_differ = b.to_differ;
-              in_registers = further_registers way to b.in_registers;
+              in_registers = further_registers l a cells stack lay items begins s calls_n n f q pf
+                  framed j m outer d0 u way to b.in_registers;
               stood = stood_weaken l a cells stack lay framed f j pf.slots d0 (lay.address m)
                   (Needed (choose (arm (t ∷ []) c as')) env Must) (ArmsNeed as' env Must) T.to' w
                   weaken_arms T.stood;
@@ -724,7 +693,8 @@ module _ (l : Program) (a : Assignment) (cells stack : ℕ) (lay : Layout) (item
             (at (bases stack) lay items (p + length (match_items k (source l a t.left) t.right))
             T.to') (m ∷ outer) w
             (arms l (words_at a) (room l a cells stack lay items begins) calls_n env top under as'
-            w) (further_given to way Must) done)
+            w) (further_given l a cells stack lay items begins s calls_n n f q pf framed j m outer
+            d0 u to way Must) done)
           where
             weaken_arms : (y : ℕ) (v : Word) → ArmsNeed as' env Must y v
                 → Needed (choose (arm (t ∷ []) c as')) env Must y v

@@ -1,6 +1,6 @@
 -- Choices that a comparison decides: one branch on its two words, while a run computes its result
 -- and tests it.
-use Rattle.std.proofs.Common.{◌≡◌, ◌≢◌, ℕ, zero, suc, ◌+◌, ◌^◌, ◌<◌, ◌≤◌, List, [], ◌∷◌, ◌++◌, length, cond, Bool, true, false, not, Some, None, ◌⊎◌, inl, inr, refl, sym, ap, ◌∙◌, subst, arith, length-append}
+use Rattle.std.proofs.Common.{◌≡◌, ℕ, suc, ◌+◌, ◌<◌, ◌≤◌, List, [], ◌∷◌, ◌++◌, length, cond, Bool, true, false, not, Some, None, inl, inr, refl, sym, ap, ◌∙◌, subst, arith, length-append}
 use Rattle.std.specs.Prelude.{Option, nat_eq, nat_lt, ◌||◌, if◌then◌else◌, slice_get}
 use Rattle.std.proofs.lemmas.Bool.Decides.{nat_tests}
 use Rattle.seq.proofs.Truth.{two_ways}
@@ -11,7 +11,7 @@ use Rattle.low_code.specs.declared.program.Operand.{Operand}
 use Rattle.low_code.specs.declared.program.Operand.TheVariants.{Var, Num, Cell}
 use Rattle.low_code.specs.declared.program.PrimOp.{PrimOp}
 use Rattle.low_code.specs.declared.program.LowTest.{LowTest}
-use Rattle.low_code.specs.Tree.{Code, prim, choose, Arms, otherwise, arm, Procedure, Program}
+use Rattle.low_code.specs.Tree.{Code, prim, choose, Arms, arm, Procedure, Program}
 use Rattle.low_code.specs.Formed.{uses, arms_uses, used_by, used_by_tests, variables}
 use Rattle.low_code.specs.Arithmetic.{arithmetic}
 use Rattle.low_code.specs.Values.{Word, number, Env, World, Answer, with_var, need, and_then, number_of}
@@ -32,13 +32,14 @@ use Rattle.rv32_select.proofs.Arithmetic.{condition_tells, other_tells}
 use Rattle.rv32_select.proofs.Courses.{Stands, front, back}
 use Rattle.rv32_select.proofs.Straight.{Data, at}
 use Rattle.rv32_select.proofs.Relation.{bases, Stood, Ran, ran_on, Does', does_after, does_map, Given, Needed}
-use Rattle.rv32_select.proofs.PlaceFacts.{IsOwn, Fine, ArmsFine, ProcedureFine, Setting}
+use Rattle.rv32_select.proofs.PlaceFacts.{IsOwn, ProcedureFine, Setting}
 use Rattle.rv32_select.proofs.BlockFacts.{room, Ready, InRegisters, Entry, Block, Simulates, still_scoped}
 use Rattle.rv32_select.proofs.OneBound.{Cut, cut, ready_at}
 use Rattle.rv32_select.proofs.Stops.{passes_label}
 use Rattle.rv32_select.proofs.EmittedLabels.{emits_up, arms_up}
 use Rattle.rv32_select.proofs.JoinStatement.{stood_weaken}
-use Rattle.rv32_select.proofs.ChoiceStatement.{ArmsNeed, ArmsBlock, ArmsSimulates, OneBranch, one_branch, further_given, further_ready, further_registers}
+use Rattle.rv32_select.proofs.ChoiceStatement.{ArmsNeed, ArmsBlock, ArmsSimulates, OneBranch, one_branch}
+use Rattle.rv32_select.proofs.FurtherArms.{further_given, further_ready, further_registers}
 
 -- ---- what it is that a comparison decides a choice
 

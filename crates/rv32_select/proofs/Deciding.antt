@@ -14,7 +14,7 @@ use Rattle.low_code.specs.declared.program.LowEnd.{LowEnd}
 use Rattle.low_code.specs.declared.program.LowEnd.TheVariants.{Choose}
 use Rattle.low_code.specs.declared.program.LowArm.{LowArm}
 use Rattle.low_code.specs.declared.program.LowBlock.{LowBlock}
-use Rattle.low_code.specs.Tree.{Code, prim, arms_before, before_of, end_of, code_of, arm_of}
+use Rattle.low_code.specs.Tree.{Code, arms_before, before_of, end_of, code_of, arm_of}
 use Rattle.low_code.specs.Formed.{uses, arms_uses}
 use Rattle.low_code.proofs.TreeOf.{before_of-Set, before_of-Prim, before_of-Load, before_of-Save, before_of-Take, before_of-Put, before_of-Get, before_of-Call, before_of-Join, end_of-Choose, arm_of-parts}
 use Rattle.rv32_select.specs.declared.decides.Comparison.{Comparison}

@@ -1,437 +1,42 @@
 -- Items of statements, ends and arms that were put behind others.
-use Rattle.std.proofs.Common.{◌≡◌, ◌≢◌, ℕ, suc, ◌+◌, ◌*◌, ◌<◌, ◌≤◌, List, [], ◌∷◌, ◌++◌, map, length, refl, sym, ap, ◌∙◌, append_assoc, append-nil, arith, zero, drop, drop-cons, get_or, subst, Some, inr}
-use Rattle.std.specs.Prelude.{slice_get, nat_eq, ◌||◌, Bool, true, false, if◌then◌else◌}
+use Rattle.std.proofs.Common.{◌≡◌, ℕ, suc, ◌+◌, ◌<◌, ◌≤◌, List, [], ◌∷◌, ◌++◌, map, length, refl, sym, ap, ◌∙◌, append_assoc, append-nil, arith, drop, drop-cons, get_or, subst, inr}
+use Rattle.std.specs.Prelude.{nat_eq, Bool, true, false, if◌then◌else◌}
 use Rattle.std.proofs.lemmas.List.{length-map}
 use Rattle.std.proofs.lemmas.Bool.Decides.{nat_tests}
 use Rattle.std.proofs.lemmas.Grind.{common_steps}
 use Rattle.std.specs.declared.boxed.Box.{Box}
-use Rattle.std.specs.declared.alloc.AllocError.{AllocError}
-use Rattle.std.proofs.Common.{Result, Ok, Err, OnOk}
 use Rattle.std.specs.declared.alloc.Global.{Global}
 use Rattle.seq.proofs.Lists.{drop_past}
 use Rattle.parallel_move.specs.declared.Spot.{Spot}
-use Rattle.parallel_move.specs.declared.Spot.TheVariants.{Reg}
 use Rattle.low_code.specs.declared.program.PrimOp.{PrimOp}
 use Rattle.low_code.specs.declared.program.Operand.{Operand}
 use Rattle.low_code.specs.declared.program.LowStmt.{LowStmt}
-use Rattle.low_code.specs.declared.program.LowStmt.TheVariants.{Set, Prim, Load, Save, Take, Put, Get, Call, Join}
 use Rattle.low_code.specs.declared.program.LowEnd.{LowEnd}
 use Rattle.low_code.specs.declared.program.LowEnd.TheVariants.{Give, Tail, Choose, Fail}
 use Rattle.low_code.specs.declared.program.LowArm.{LowArm}
 use Rattle.low_code.specs.declared.program.LowTest.{LowTest}
 use Rattle.low_code.specs.declared.program.LowBlock.{LowBlock}
-use Rattle.low_code.specs.declared.program.LowProc.{LowProc}
 use Rattle.low_code.specs.declared.program.Low.{Low}
-use Rattle.low_code.specs.Tree.{Code, set, prim, load, save, take, put, get, call, join, choose, Arms, Program, procedure_of, program_of, before_of, end_of, code_of, arm_of, all_before, arms_before}
-use Rattle.low_code.proofs.TreeOf.{before_of-Set, before_of-Prim, before_of-Load, before_of-Save, before_of-Take, before_of-Put, before_of-Get, before_of-Call, before_of-Join, end_of-Give, end_of-Tail, end_of-Choose, end_of-Fail, arm_of-parts, code_of-parts}
-use Rattle.register_alloc.specs.Assignment.{Assignment, place_of, saves_at}
+use Rattle.low_code.specs.Tree.{Code, prim, choose, Arms, Program, procedure_of, program_of, before_of, end_of, code_of, arm_of, all_before, arms_before}
+use Rattle.low_code.proofs.TreeOf.{end_of-Give, end_of-Tail, end_of-Choose, end_of-Fail, arm_of-parts, code_of-parts}
+use Rattle.register_alloc.specs.Assignment.{Assignment, place_of}
 use Rattle.rv32_items.specs.declared.Item.{Item}
 use Rattle.rv32_items.specs.declared.Item.TheVariants.{Label, Jump}
 use Rattle.rv32_select.specs.declared.source.Source.{Source}
 use Rattle.rv32_select.specs.declared.decides.Comparison.{Comparison}
 use Rattle.rv32_select.specs.declared.source.Continuation.{Continuation}
-use Rattle.rv32_select.specs.declared.source.Continuation.TheVariants.{Follows}
-use Rattle.rv32_select.specs.Emit.{plain, moves_code, number_moves, save_moves, restore_moves, result_spots, set_code, prim_code, load_code, save_code, take_items, put_code, get_code, branch_items, match_items}
-use Rattle.rv32_select.specs.IsSelected.{call_items, source, sources, heap_end, heap_full, places, continued_by_jump, way_out, tests_items, no_alternative, argument_spots_of, result_spots_of, results_of, moves_between, is_rare, waits, has_one, last_of, first_arm_goes_last, Then, Emits, EmitsArms, EmitsLast, EmitsDecided, EmitsDecidedFirst, EmitsDecidedLast}
-use Rattle.rv32_select.specs.Decides.{compares, decides_arms, decides_code, decides, decided, tested, condition, other_condition}
-use Rattle.rv32_select.specs.Ranges.{IsSource, AreSpots, AllInRange, is_spot_in, AllSpotsDiffer, AreTargets}
-use Rattle.rv32_select.specs.Writable.{Writable, HasPlace, HavePlaces, OperandPlaced, OperandsPlaced, TargetsPlaced, TestsPlaced, CallPlaced, Placed, ArmsPlaced, ArmPlaced, ProcedurePlaced}
-use Rattle.rv32_select.specs.Emitting.{link_aside, link_back, EmitsMoves, EmitsParallelMoves, Called, TailCalled, Emitted, EmittedArms, EmittedLast, EmittedDecidedFirst, EmittedDecidedLast, Before, ArmsBefore, one_arm}
-use Rattle.rv32_select.proofs.Plain.{plain_append}
-use Rattle.rv32_select.proofs.Rounded.{rounded}
-use Rattle.rv32_select.proofs.Sending.{spots_in_range, procedure_at}
-
--- what is placed in a statement
-module _ (l : Program) (a : Assignment) (stmt : LowStmt) where
-  abbrev Somewhere : Type 0
-  Somewhere = (c : Code) × Placed l a (before_of stmt c)
-
-  here : (f : Code → Code) → before_of stmt ≡ f → Somewhere → (c : Code) × Placed l a (f c)
-  here f e h = (h.0, rw (sym e) h.1)
-
-  pub set_placed : (x : ℕ) (b : Operand) → stmt ≡ Set x b → Somewhere → HasPlace l a x
-      × OperandPlaced l a b
-  set_placed x b e h = let p = here (set x b) (ap before_of e ∙ before_of-Set x b) h
-      in (p.1.0, p.1.1)
-
-  pub prim_placed : (f : PrimOp) (x : ℕ) (b d : Operand) → stmt ≡ Prim f x b d → Somewhere
-      → HasPlace l a x × (OperandPlaced l a b × OperandPlaced l a d)
-  prim_placed f x b d e h = let p = here (prim f x b d) (ap before_of e ∙ before_of-Prim f x b d) h
-      in (p.1.0, (p.1.1, p.1.2))
-
-  pub load_placed : (x : ℕ) (b : Operand) (k : ℕ) → stmt ≡ Load x b k → Somewhere → HasPlace l a x
-      × OperandPlaced l a b
-  load_placed x b k e h = let p = here (load x b k) (ap before_of e ∙ before_of-Load x b k) h
-      in (p.1.0, p.1.1)
-
-  pub save_placed : (b : Operand) (k : ℕ) (d : Operand) → stmt ≡ Save b k d → Somewhere
-      → OperandPlaced l a b × OperandPlaced l a d
-  save_placed b k d e h = let p = here (save b k d) (ap before_of e ∙ before_of-Save b k d) h
-      in (p.1.0, p.1.1)
-
-  pub take_placed : (xs : List ℕ) → stmt ≡ Take xs → Somewhere → HavePlaces l a xs
-      × (4 * l.width * length xs < 4294967296)
-  take_placed xs e h = let p = here (take xs) (ap before_of e ∙ before_of-Take xs) h
-      in (p.1.0, p.1.1)
-
-  pub put_placed : (b : Operand) → stmt ≡ Put b → Somewhere → OperandPlaced l a b
-  put_placed b e h = let p = here (put b) (ap before_of e ∙ before_of-Put b) h in p.1.0
-
-  pub get_placed : (x : ℕ) → stmt ≡ Get x → Somewhere → HasPlace l a x
-  get_placed x e h = let p = here (get x) (ap before_of e ∙ before_of-Get x) h in p.1.0
-
-  pub call_placed : (f site : ℕ) (as' : List Operand) (xs : List ℕ) → stmt ≡ Call f site as' xs
-      → Somewhere → CallPlaced l a f site as' xs
-  call_placed f site as' xs e h = let p = here (call f site as' xs)
-      (ap before_of e ∙ before_of-Call f site as' xs) h in p.1.0
-
-  pub join_placed : (xs : List ℕ) (b : Box LowBlock Global) → stmt ≡ Join xs b → Somewhere
-      → TargetsPlaced l a xs × Placed l a (code_of b.value)
-  join_placed xs b e h = let p = here (join xs (code_of b.value))
-      (ap before_of e ∙ before_of-Join xs b) h in (p.1.0, p.1.1)
-
--- what is placed in a block that was taken out of a statement or an end
-pub joined_placed : (l : Program) (a : Assignment) (s : LowStmt) (xs items : List ℕ)
-    (b : Box LowBlock Global) (block : LowBlock) → s ≡ Join xs b → items ≡ xs → block ≡ b.value
-    → ((c : Code) × Placed l a (before_of s c)) → TargetsPlaced l a items
-    × Placed l a (code_of block)
-joined_placed l a s xs items b block is same e h =
-    let p = join_placed l a s xs b is h in
-    (subst (TargetsPlaced l a) (sym same) p.0, subst (λ c. Placed l a (code_of c)) (sym e) p.1)
-
-pub undecided : (f : PrimOp) (x : ℕ) (c : Code) → decides_code x c ≡ false → decides f x c ≡ false
-undecided f x c h = by_test (compares f)
-  where
-    by_test : (t : Bool) → (if t then decides_code x c else false) ≡ false
-    by_test true = h
-    by_test false = refl
-
--- a statement's items
-module _ (l : Program) (a : Assignment) (cells stack words saved : ℕ) (framed : Bool)
-    (stmt : LowStmt) (old new : List Item) (n : ℕ) where
-  abbrev Done : Type 0
-  Done = Before l a cells stack words saved framed (before_of stmt) old n new n
-
-  done : (f : Code → Code) → before_of stmt ≡ f → Before l a cells stack words saved framed f old n
-      new n → Done
-  done f e h = rw e h
-
-  pub set_done : (x : ℕ) (b : Operand) (p : Spot) (s : Source) → stmt ≡ Set x b → p ≡ place_of a x
-      → (s ≡ source l a b) × IsSource s → new ≡ old ++ plain (set_code p s) → Done
-  set_done x b p s e at from is = done (set x b) (ap before_of e ∙ before_of-Set x b) (record {
-    items = plain (set_code (place_of a x) (source l a b));
-    is = is ∙ (λ i. old ++ plain (set_code (at i) (from.0 i)));
-    placed = λ c h. h.2;
-    no_choice = λ y c. refl;
-    before_choice = λ c h. refl;
-    emits = λ to way c k rest free h. (rest, refl, h);
-  })
-
-  pub prim_done : (f : PrimOp) (x : ℕ) (b d : Operand) (p : Spot) (s t : Source)
-      → stmt ≡ Prim f x b d → p ≡ place_of a x → (s ≡ source l a b) × IsSource s
-      → (t ≡ source l a d) × IsSource t → new ≡ old ++ plain (prim_code f p s t) → Done
-  prim_done f x b d p s t e at from and is = done (prim f x b d)
-      (ap before_of e ∙ before_of-Prim f x b d) (record {
-        items = plain (prim_code f (place_of a x) (source l a b) (source l a d));
-        is = is ∙ (λ i. old ++ plain (prim_code f (at i) (from.0 i) (and.0 i)));
-        placed = λ c h. h.3;
-        no_choice = λ y c. refl;
-        before_choice = λ c h. undecided f x c (h x);
-        emits = λ to way c k rest free h.
-            let code = plain (prim_code f (place_of a x) (source l a b) (source l a d)) in
-            subst (λ r. elim r as (λ y. Type 0) [
-              | true ↦ EmitsDecided l a cells stack words saved framed f (source l a b) (source l a d)
-                  to way c n k (code ++ rest)
-              | false ↦ Then code
-                  (Emits l a cells stack words saved framed to way c n k) (code ++ rest)
-            ]) (sym free)
-            (rest, refl, h);
-      })
-
-  pub load_done : (x : ℕ) (b : Operand) (k : ℕ) (p : Spot) (s : Source) → stmt ≡ Load x b k
-      → p ≡ place_of a x → (s ≡ source l a b) × IsSource s → new ≡ old ++ plain (load_code p s k)
-      → Done
-  load_done x b k p s e at from is = done (load x b k) (ap before_of e ∙ before_of-Load x b k)
-      (record {
-        items = plain (load_code (place_of a x) (source l a b) k);
-        is = is ∙ (λ i. old ++ plain (load_code (at i) (from.0 i) k));
-        placed = λ c h. h.2;
-        no_choice = λ y c. refl;
-        before_choice = λ c h. refl;
-        emits = λ to way c k rest free h. (rest, refl, h);
-      })
-
-  pub save_done : (b : Operand) (k : ℕ) (d : Operand) (s t : Source) → stmt ≡ Save b k d
-      → (s ≡ source l a b) × IsSource s → (t ≡ source l a d) × IsSource t → new ≡ old
-      ++ plain (save_code s k t) → Done
-  save_done b k d s t e from and is = done (save b k d) (ap before_of e ∙ before_of-Save b k d)
-      (record {
-        items = plain (save_code (source l a b) k (source l a d));
-        is = is ∙ (λ i. old ++ plain (save_code (from.0 i) k (and.0 i)));
-        placed = λ c h. h.2;
-        no_choice = λ y c. refl;
-        before_choice = λ c h. refl;
-        emits = λ to way c k rest free h. (rest, refl, h);
-      })
-
-  pub take_done : (xs : List ℕ) → stmt ≡ Take xs → new ≡ old
-      ++ take_items (4 * l.width) (heap_full l) (map (place_of a) xs) → Done
-  take_done xs e is = done (take xs) (ap before_of e ∙ before_of-Take xs) (record {
-    items = take_items (4 * l.width) (heap_full l) (places a xs);
-    is = is;
-    placed = λ c h. h.2;
-    no_choice = λ y c. refl;
-    before_choice = λ c h. refl;
-    emits = λ to way c k rest free h. (rest, refl, h);
-  })
-
-  pub put_done : (b : Operand) (s : Source) (end : ℕ) (c1 c2 : List Item) → stmt ≡ Put b
-      → (s ≡ source l a b) × IsSource s → end ≡ heap_end l cells → c1 ≡ old ++ link_aside framed
-      → c2 ≡ c1 ++ plain (put_code end s) → new ≡ c2 ++ link_back framed → Done
-  put_done b s end c1 c2 e from at one two three =
-      let r = rounded framed (plain (put_code (heap_end l cells) (source l a b))) old c1 c2 new one
-      (two ∙ (λ i. c1 ++ plain (put_code (at i) (from.0 i)))) three in
-      done (put b) (ap before_of e ∙ before_of-Put b)
-      (record {
-        items = r.items;
-        is = r.is;
-        placed = λ c h. h.1;
-        no_choice
-            = λ y c. refl;
-        before_choice = λ c h. refl;
-        emits
-            = λ to way c k rest free h. r.round
-            (Emits l a cells stack words saved framed to way c n k) rest h;
-      })
-
-  pub get_done : (x : ℕ) (p : Spot) (end : ℕ) (c1 c2 : List Item) → stmt ≡ Get x → p ≡ place_of a x
-      → end ≡ heap_end l cells → c1 ≡ old ++ link_aside framed → c2 ≡ c1 ++ plain (get_code end p)
-      → new ≡ c2 ++ link_back framed → Done
-  get_done x p end c1 c2 e at ends one two three =
-      let r = rounded framed (plain (get_code (heap_end l cells) (place_of a x))) old c1 c2 new one
-      (two ∙ (λ i. c1 ++ plain (get_code (ends i) (at i)))) three in
-      done (get x) (ap before_of e ∙ before_of-Get x)
-      (record {
-        items = r.items;
-        is = r.is;
-        placed = λ c h. h.1;
-        no_choice
-            = λ y c. refl;
-        before_choice = λ c h. refl;
-        emits
-            = λ to way c k rest free h. r.round
-            (Emits l a cells stack words saved framed to way c n k) rest h;
-      })
-
-  pub call_done : (f site : ℕ) (as' : List Operand) (xs : List ℕ) (c1 c2 : List Item)
-      → stmt ≡ Call f site as' xs → c1 ≡ old ++ link_aside framed
-      → Called l a saved f site as' xs c1 c2 → new ≡ c2 ++ link_back framed → Done
-  call_done f site as' xs c1 c2 e one c three =
-      let r = rounded framed (call_items l a saved f as' (saves_at a site) c.arguments c.results)
-      old c1 c2 new one c.is three in
-      done (call f site as' xs) (ap before_of e ∙ before_of-Call f site as' xs) (record {
-        items = r.items;
-        is = r.is;
-        placed = λ c h. h.1;
-        no_choice = λ y c. refl;
-        before_choice = λ c h. refl;
-        emits = λ to way b k rest free h. (
-          c.arguments,
-          c.results,
-          c.order,
-          c.results_order,
-          r.round (Emits l a cells stack words saved framed to way b n k) rest h,
-        );
-      })
-
-pub on_ok : (r : Result (Unit {0}) AllocError) (P Q : Type 0) → (P → Q) → OnOk r P → OnOk r Q
-on_ok (Ok t) P Q f h = f h
-on_ok (Err t) P Q f h = tt
-
-pub join_done : (l : Program) (a : Assignment) (cells stack words saved : ℕ) (framed : Bool)
-    (stmt : LowStmt) (old new : List Item) (n m : ℕ) (xs items : List ℕ) (b : Box LowBlock Global)
-    (block : LowBlock) (r : Result (Unit {0}) AllocError) → stmt ≡ Join xs b → items ≡ xs
-    → block ≡ b.value
-    → OnOk r (Before l a cells stack words saved framed (join items (code_of block)) old n new m)
-    → OnOk r (Before l a cells stack words saved framed (before_of stmt) old n new m)
-join_done l a cells stack words saved framed stmt old new n m xs items b block (Ok t) e is same h =
-    let there : before_of stmt ≡ join items (code_of block)
-    = ap before_of e ∙ before_of-Join xs b ∙ (λ i. join (sym is i) (code_of (sym same i))) in
-    rw there h
-join_done l a cells stack words saved framed stmt old new n m xs items b block (Err t) e is same h
-    = tt
-
-pub join_made : (l : Program) (a : Assignment) (cells stack words saved : ℕ) (framed : Bool)
-    (c : Code) (xs : List ℕ) (old mid new : List Item) (n label k m : ℕ) (to : List Spot)
-    → to ≡ map (place_of a) xs → label ≡ n → k ≡ suc n
-    → Emitted l a cells stack words saved framed to (Follows label) c old k mid m → new ≡ mid
-    ++ Label label ∷ [] → Before l a cells stack words saved framed (join xs c) old n new m
-join_made l a cells stack words saved framed c xs old mid new n label k m to at is next e then' =
-    let block : Emits l a cells stack words saved framed (places a xs) (Follows n) c (suc n) m
-    e.items = rw (sym next, sym is, sym at) e.emits in
-    record {
-      items = e.items ++ Label n ∷ [];
-      is = then' ∙ ap (λ x. mid ++ Label x ∷ []) is ∙ ap (λ x. x ++ Label n ∷ []) e.is ∙
-          append_assoc old e.items (Label n ∷ []);
-      placed = λ c h. h.2;
-      no_choice = λ y c. refl;
-      before_choice = λ c h. refl;
-      emits = λ to way b j rest free h. (m, e.items, block, (rest, refl, h));
-    }
-
--- what the pieces of a call ask, and what they are together
-pub take_asks : (l : Program) (a : Assignment) (xs : List ℕ) (made spots : List Spot) → Writable l a
-    → spots ≡ made → (made ≡ map (place_of a) xs) × AreSpots made
-    → 4 * l.width * length xs < 4294967296 → (4 * l.width < 2048)
-    × (4 * l.width * length spots < 4294967296) × AllInRange spots
-take_asks l a xs made spots w e s lt =
-    let size : length spots ≡ length xs = ap length (e ∙ s.0) ∙ length-map xs (place_of a) in (
-      omega (arith, w.width.1),
-      subst (λ n. 4 * l.width * n < 4294967296) (sym size) lt,
-      subst AllInRange (sym e) (spots_in_range made s.1),
-    )
-
-pub result_at : (low : Low) (procs : List LowProc) (f : ℕ) (q : LowProc) → f < length low.procs
-    → procs ≡ low.procs → q ≡ get_or procs f q → slice_get (program_of low).procs f ≡ Some
-    (procedure_of q)
-result_at low procs f q lt e is = procedure_at low.procs f q lt ∙ ap
-    (λ ps. Some (procedure_of (get_or ps f q))) (sym e) ∙ ap (λ p. Some (procedure_of p)) (sym is)
-
--- a procedure whose items can be written, by its number
-pub placed_at : (low : Low) (a : Assignment) (procs : List LowProc) (f : ℕ) (q : LowProc)
-    → Writable (program_of low) a → f < length low.procs → procs ≡ low.procs → q ≡ get_or procs f q
-    → ProcedurePlaced (program_of low) a (procedure_of q)
-placed_at low a procs f q w lt e is = w.procedures f (procedure_of q)
-    (result_at low procs f q lt e is)
-
-pub few_results : (low : Low) (a : Assignment) (procs : List LowProc) (f : ℕ) (q : LowProc)
-    → Writable (program_of low) a → f < length low.procs → procs ≡ low.procs → q ≡ get_or procs f q
-    → q.results ≤ 13
-few_results low a procs f q w lt e is = (placed_at low a procs f q w lt e is).few_results
-
-results_are : (r n : ℕ) → r + n ≤ 32 → AreSpots (result_spots r n)
-results_are r zero h = tt
-results_are r (suc n) h = (
-  (let lt : r < 32 = omega arith in grind (arith, nat_tests), λ e. cc),
-  results_are (suc r) n (omega arith),
-)
-
-before_results : (k r n : ℕ) → k < r → is_spot_in (Reg k) (result_spots r n) ≡ false
-before_results k r zero lt = refl
-before_results k r (suc n) lt =
-    let no : nat_eq k r ≡ false = grind (arith, nat_tests) in
-    ap (λ b. b || is_spot_in (Reg k) (result_spots (suc r) n)) no ∙ before_results k (suc r) n
-    (omega arith)
-
-results_differ : (r n : ℕ) → AllSpotsDiffer (result_spots r n)
-results_differ r zero = tt
-results_differ r (suc n) = (before_results r (suc r) n (omega arith), results_differ (suc r) n)
-
-pub result_targets : (n : ℕ) (made spots : List Spot) → n ≤ 13 → spots ≡ made
-    → made ≡ result_spots 10 n → AreTargets spots
-result_targets n made spots few e is = subst AreTargets (sym (e ∙ is))
-    (record { spots = results_are 10 n (omega (arith, few)); different = results_differ 10 n })
-
-pub result_spots_are : (low : Low) (a : Assignment) (procs : List LowProc) (f : ℕ) (q : LowProc)
-    (spots : List Spot) → Writable (program_of low) a → f < length low.procs → procs ≡ low.procs
-    → q ≡ get_or procs f q → spots ≡ result_spots 10 q.results → AreSpots spots
-result_spots_are low a procs f q spots w lt e is s = rw s
-    (results_are 10 q.results
-    (let few = few_results low a procs f q w lt e is in omega (arith, few)))
-
-pub results_taken : (low : Low) (a : Assignment) (procs : List LowProc) (f : ℕ) (q : LowProc)
-    (xs : List ℕ) (to from : List Spot) (old new : List Item) → f < length low.procs
-    → procs ≡ low.procs → q ≡ get_or procs f q
-    → (to ≡ map (place_of a) xs) × AreSpots to → from ≡ result_spots 10 q.results
-    → EmitsMoves (moves_between to from) old new
-    → EmitsMoves (moves_between (map (place_of a) xs) (result_spots_of (program_of low) f)) old new
-results_taken low a procs f q xs to from old new lt e is t r m =
-    let all : from ≡ result_spots_of (program_of low) f
-    = r ∙ ap (λ p. result_spots 10 (results_of p)) (sym (result_at low procs f q lt e is)) in
-    rw (sym t.0, sym all) m
-
-pub called_by : (l : Program) (a : Assignment) (saved f site : ℕ) (as' : List Operand) (xs : List ℕ)
-    (registers : List ℕ) (old c1 c2 c3 c4 new : List Item) → registers ≡ saves_at a site → c1 ≡ old
-    ++ plain (moves_code (save_moves saved registers))
-    → EmitsParallelMoves (argument_spots_of l a f) (sources l a as') c1 c2 → c3 ≡ c2
-    ++ Jump 1 f ∷ [] → EmitsMoves (moves_between (map (place_of a) xs) (result_spots_of l f)) c3
-    c4 → new ≡ c4 ++ plain (moves_code (restore_moves saved registers))
-    → Called l a saved f site as' xs old new
-called_by l a saved f site as' xs registers old c1 c2 c3 c4 new e one sent jump moved two =
-    let saves = plain (moves_code (save_moves saved (saves_at a site))) in
-    let words = plain
-    (moves_code sent.steps ++ number_moves (argument_spots_of l a f) (sources l a as')) in
-    let results = plain (moves_code moved.steps) in
-    let restores = plain (moves_code (restore_moves saved (saves_at a site))) in
-    let first : c3 ≡ ((old ++ saves) ++ words) ++ Jump 1 f ∷ []
-    = jump ∙ ap (λ x. x ++ Jump 1 f ∷ [])
-    (sent.is ∙ ap (λ x. x ++ words)
-    (one ∙ ap (λ rs. old ++ plain (moves_code (save_moves saved rs))) e)) in
-    let whole : new ≡ ((((old ++ saves) ++ words) ++ Jump 1 f ∷ []) ++ results) ++ restores
-    = two ∙ ap (λ rs. c4 ++ plain (moves_code (restore_moves saved rs))) e ∙ ap
-    (λ x. x ++ restores) (moved.is ∙ ap (λ x. x ++ results) first) in
-    let left : plain
-    (moves_code (save_moves saved (saves_at a site))
-    ++ (moves_code sent.steps ++ number_moves (argument_spots_of l a f) (sources l a as'))) ≡
-    saves ++ words = plain_append _ _ in
-    let right : plain (moves_code moved.steps ++ moves_code (restore_moves saved (saves_at a site)))
-    ≡ results ++ restores = plain_append _ _ in
-    let shape : ((((old ++ saves) ++ words) ++ Jump 1 f ∷ []) ++ results) ++ restores ≡ old
-    ++ ((saves ++ words) ++ Jump 1 f ∷ (results ++ restores)) = grind (arith, common_steps) in
-    record {
-      arguments = sent.steps;
-      results = moved.steps;
-      order = sent.order;
-      results_order = moved.order;
-      is = whole ∙ shape ∙ (λ i. old ++ (sym left i ++ Jump 1 f ∷ sym right i));
-    }
+use Rattle.rv32_select.specs.Emit.{plain, moves_code, number_moves, prim_code, branch_items, match_items}
+use Rattle.rv32_select.specs.IsSelected.{source, sources, continued_by_jump, way_out, tests_items, no_alternative, waits, has_one, last_of, first_arm_goes_last, Then, Emits, EmitsArms, EmitsLast, EmitsDecided, EmitsDecidedFirst, EmitsDecidedLast}
+use Rattle.rv32_select.specs.Decides.{decides_code, decides, decided, tested, condition, other_condition}
+use Rattle.rv32_select.specs.Writable.{OperandPlaced, OperandsPlaced, TestsPlaced, Placed, ArmsPlaced, ArmPlaced}
+use Rattle.rv32_select.specs.Emitting.{EmitsParallelMoves, TailCalled, Emitted, EmittedArms, EmittedLast, EmittedDecidedFirst, EmittedDecidedLast, Before, ArmsBefore, one_arm}
+use Rattle.rv32_select.proofs.EmittedStatements.{set_placed, prim_placed, load_placed, save_placed, take_placed, put_placed, get_placed, call_placed, join_placed, undecided, set_done, prim_done, load_done, save_done, take_done, put_done, get_done, call_done, join_made}
+use Rattle.rv32_select.proofs.ResultSpots.{take_asks, few_results, result_spots_are, results_taken, called_by}
 
 -- ---- arms
-
 pub arm_placed : (l : Program) (a : Assignment) (t : LowArm) → ArmPlaced l a (arm_of t)
     → TestsPlaced l a t.tests × Placed l a (code_of t.block)
 arm_placed l a t h = subst (ArmPlaced l a) (arm_of-parts t) h
-
--- a block's rarity, statement by statement
-pub rare_block : (b : LowBlock) (items : List LowStmt) → items ≡ b.stmts
-    → is_rare (code_of b) ≡ is_rare (all_before (map before_of items) (end_of b.last))
-rare_block b items e = ap is_rare (code_of-parts b) ∙ ap
-    (λ ss. is_rare (all_before (map before_of ss) (end_of b.last))) (sym e)
-
-pub rare_here : (items : List LowStmt) (i : ℕ) (s : LowStmt) (e : Code) (r : Bool)
-    → i < length items → s ≡ get_or items i s →
-    ((c : Code) → is_rare (before_of s c) ≡ (if r then true else is_rare c))
-    → is_rare (all_before (map before_of (drop i items)) e) ≡
-    (if r then true else is_rare (all_before (map before_of (drop (suc i) items)) e))
-rare_here items i s e r lt is h =
-    let front : drop i items ≡ s ∷ drop (suc i) items
-    = drop-cons items i s lt ∙ ap (λ x. x ∷ drop (suc i) items) (sym is) in
-    ap (λ ss. is_rare (all_before (map before_of ss) e)) front ∙ h
-    (all_before (map before_of (drop (suc i) items)) e)
-
-pub rare_call : (items : List LowStmt) (i : ℕ) (s : LowStmt) (e : Code) (r : Bool)
-    → i < length items → s ≡ get_or items i s →
-    ((c : Code) → is_rare (before_of s c) ≡ (if r then true else is_rare c)) → r ≡ true
-    → is_rare (all_before (map before_of (drop i items)) e) ≡ true
-rare_call items i s e r lt is h t =
-    rare_here items i s e r lt is h ∙ ap
-    (λ x. if x then true else is_rare (all_before (map before_of (drop (suc i) items)) e)) t
-
-pub rare_on : (items : List LowStmt) (i : ℕ) (s : LowStmt) (e : Code) (r : Bool) → i < length items
-    → s ≡ get_or items i s →
-    ((c : Code) → is_rare (before_of s c) ≡ (if r then true else is_rare c)) → r ≡ false
-    → is_rare (all_before (map before_of (drop i items)) e) ≡ is_rare
-    (all_before (map before_of (drop (i + 1) items)) e)
-rare_on items i s e r lt is h t =
-    let next : suc i ≡ i + 1 = omega arith in
-    rare_here items i s e r lt is h ∙ ap
-    (λ x. if x then true else is_rare (all_before (map before_of (drop (suc i) items)) e)) t
-    ∙ ap (λ x. is_rare (all_before (map before_of (drop x items)) e)) next
-
-pub rare_end : (items : List LowStmt) (i : ℕ) (e : Code) → length items ≤ i
-    → is_rare (all_before (map before_of (drop i items)) e) ≡ is_rare e
-rare_end items i e over = ap (λ ss. is_rare (all_before (map before_of ss) e))
-    (drop_past items i over)
 
 pub both_true : (p q : Bool) → (if p then q else false) ≡ true → p ≡ true
 both_true true q h = refl
@@ -443,18 +48,6 @@ pub single : (tests xs : List LowTest) (d : LowTest) → xs ≡ tests → has_on
 single [] xs d e h = absurd (cc)
 single (x ∷ []) xs d e h = ap (λ ys. get_or ys 0 d ∷ []) (sym e)
 single (x ∷ (y ∷ ys)) xs d e h = absurd (cc)
-
-pub one_is : (tests : List LowTest) (n : ℕ) (w : Bool) → n ≡ length tests → n ≡ 1
-    → w ≡ (if has_one tests then w else false)
-one_is [] n w e h = absurd (omega (arith, e, h))
-one_is (x ∷ []) n w e h = refl
-one_is (x ∷ (y ∷ ys)) n w e h = absurd (omega (arith, e, h))
-
-pub one_not : (tests : List LowTest) (n : ℕ) (w : Bool) → n ≡ length tests → n ≢ 1
-    → false ≡ (if has_one tests then w else false)
-one_not [] n w e h = refl
-one_not (x ∷ []) n w e h = absurd (h e)
-one_not (x ∷ (y ∷ ys)) n w e h = refl
 
 -- the rule for arms, of the first of which has_one and waits are known
 last_is : (ts : List (List LowTest × Code)) (c : Code) → last_of (arms_before ts c) ≡ c
@@ -533,7 +126,6 @@ arm_made l a cells stack words saved framed to way way' t old c1 mid new n label
     })
 
 -- ---- lists of statements and of arms
-
 module _ (l : Program) (a : Assignment) (cells stack words saved : ℕ) (framed : Bool) where
   -- items that, before those of the rest, are those of the whole
   pub record Towards (whole rest : Code → Code) (old : List Item) (n : ℕ) (new : List Item) (m : ℕ)
@@ -1028,7 +620,6 @@ module _ (l : Program) (a : Assignment) (cells stack words saved : ℕ) (framed 
       in absurd (cc)
 
   -- ---- ends
-
   pub give_made : (e : LowEnd) (as' : List Operand) (to : List Spot) (way : Continuation)
       (old mid new : List Item) (n : ℕ) → e ≡ Give as'
       → EmitsParallelMoves to (sources l a as') old mid → new ≡ mid ++ way_out framed words way

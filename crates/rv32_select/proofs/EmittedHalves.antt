@@ -1,12 +1,12 @@
 -- Items of arms that are looked for by halves, which were put behind others.
-use Rattle.std.proofs.Common.{◌≡◌, ℕ, zero, suc, ◌+◌, ◌<◌, ◌≤◌, Bool, List, [], ◌∷◌, ◌++◌, map, length, take, drop, drop-cons, get_or, None, Some, inl, refl, sym, ap, ◌∙◌, subst, arith, append_assoc, length-append, take-append-drop}
+use Rattle.std.proofs.Common.{◌≡◌, ℕ, zero, suc, ◌+◌, ◌<◌, ◌≤◌, Bool, List, [], ◌∷◌, ◌++◌, map, length, take, drop, drop-cons, get_or, None, Some, inl, refl, sym, ap, ◌∙◌, subst, arith, append_assoc, take-append-drop}
 use Rattle.std.specs.Prelude.{Option}
 use Rattle.std.proofs.lemmas.Grind.{common_steps}
 use Rattle.parallel_move.specs.declared.Spot.{Spot}
 use Rattle.low_code.specs.declared.program.Operand.{Operand}
 use Rattle.low_code.specs.declared.program.LowArm.{LowArm}
 use Rattle.low_code.specs.declared.program.LowTest.{LowTest}
-use Rattle.low_code.specs.Tree.{Code, choose, Arms, Program, code_of, arm_of, arms_before}
+use Rattle.low_code.specs.Tree.{Code, choose, Program, code_of, arm_of, arms_before}
 use Rattle.low_code.proofs.TreeOf.{arm_of-parts}
 use Rattle.register_alloc.specs.Assignment.{Assignment}
 use Rattle.rv32_items.specs.declared.Cond.TheVariants.{Geu}

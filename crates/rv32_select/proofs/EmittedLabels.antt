@@ -1,5 +1,5 @@
 -- The labels of a block's own rise.
-use Rattle.std.proofs.Common.{ℕ, suc, ◌≤◌, List, Bool, true, false, None, ◌⊎◌, inl, inr, sym, subst, arith}
+use Rattle.std.proofs.Common.{ℕ, suc, ◌≤◌, List, Bool, true, false, None, inl, inr, sym, subst, arith}
 use Rattle.low_code.specs.declared.program.Operand.{Operand}
 use Rattle.parallel_move.specs.declared.Spot.{Spot}
 use Rattle.low_code.specs.declared.program.PrimOp.{PrimOp}

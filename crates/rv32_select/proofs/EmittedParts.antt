@@ -16,13 +16,12 @@ use Rattle.register_alloc.specs.Assignment.{Assignment, place_of, saves_at}
 use Rattle.rv32_items.specs.declared.Cond.TheVariants.{Eq, Ne}
 use Rattle.rv32_items.specs.declared.Item.{Item}
 use Rattle.rv32_items.specs.declared.Item.TheVariants.{Label, Plain, Jump}
-use Rattle.rv32_items.specs.declared.Cond.{Cond}
 use Rattle.rv32_select.specs.declared.source.Source.{Source}
 use Rattle.rv32_select.specs.declared.source.Continuation.{Continuation}
 use Rattle.rv32_select.specs.declared.source.Continuation.TheVariants.{Returns, Follows, Jumps}
 use Rattle.rv32_select.specs.Emit.{put_link, take_link, plain, moves_code, spot_moves, number_moves, take_items, leave_code, save_moves, restore_moves, prim_code, branch_items, test_items, match_items}
 use Rattle.rv32_select.specs.Decides.{decides, tested, condition, other_condition}
-use Rattle.rv32_select.specs.IsSelected.{Round, IsOrder, moves_between, heap_end, heap_full, step, no_alternative, source, sources, places, argument_spots_of, result_spots_of, continued_by_jump, way_out, tests_items, call_items, first_arm_goes_last, Then, Emits, EmitsArms, EmitsLast, EmitsDecided, EmitsDecidedFirst, EmitsDecidedLast, ByHalves, EmitsEach}
+use Rattle.rv32_select.specs.IsSelected.{Round, IsOrder, moves_between, heap_end, heap_full, step, no_alternative, source, sources, places, argument_spots_of, result_spots_of, continued_by_jump, way_out, tests_items, call_items, first_arm_goes_last, Then, Emits, EmitsArms, EmitsLast, EmitsDecided, EmitsDecidedFirst, EmitsDecidedLast, EmitsEach}
 use Rattle.rv32_select.specs.Writable.{Placed, ArmsPlaced}
 use Rattle.rv32_select.proofs.StaticPieces.{Piece, piece_append, piece_more, set_piece, prim_piece, load_word_piece, save_word_piece, put_piece, get_piece, piece_one, leave_piece, save_piece, restore_piece}
 use Rattle.rv32_select.proofs.EmittedLabels.{whichever, emits_up, arms_up, each_up}

@@ -19,7 +19,7 @@ use Rattle.limits.specs.Limits.{stack_end, heap_start}
 use Rattle.rv32_select.specs.Ranges.{AreSpots}
 use Rattle.rv32_select.specs.Writable.{Writable, Placed, ProcedurePlaced}
 use Rattle.rv32_select.specs.Emitting.{Emitted, EmittedProcedure}
-use Rattle.rv32_select.proofs.Emitted.{result_at}
+use Rattle.rv32_select.proofs.ResultSpots.{result_at}
 
 pub body_placed : (low : Low) (a : Assignment) (procs : List LowProc) (f : ℕ) (q : LowProc)
     → Writable (program_of low) a → f < length low.procs → procs ≡ low.procs → q ≡ get_or procs f q

@@ -1,6 +1,6 @@
 -- What is known of numbers that are looked for by halves: their labels rise, and they lie between
 -- the bounds.
-use Rattle.std.proofs.Common.{◌≡◌, ℕ, suc, ◌^◌, ◌<◌, ◌≤◌, List, [], ◌∷◌, ◌++◌, Some, None, refl, sym, ap, ◌∙◌, subst, arith}
+use Rattle.std.proofs.Common.{◌≡◌, ℕ, suc, ◌^◌, ◌<◌, ◌≤◌, List, [], ◌∷◌, ◌++◌, Some, None, refl, sym, ◌∙◌, subst, arith}
 use Rattle.std.specs.Prelude.{Option}
 use Rattle.rv32_items.specs.declared.Item.{Item}
 use Rattle.rv32_select.specs.declared.source.Source.{Source}

@@ -1,5 +1,5 @@
 -- The items of a search by halves: their labels, where they go, and how many words they take.
-use Rattle.std.proofs.Common.{◌≡◌, ℕ, suc, ◌+◌, ◌*◌, ◌<◌, ◌≤◌, Bool, true, false, List, [], ◌∷◌, ◌++◌, length, Some, None, ◌⊎◌, inl, inr, refl, sym, ap, subst, arith, length-append}
+use Rattle.std.proofs.Common.{◌≡◌, ℕ, suc, ◌+◌, ◌*◌, ◌≤◌, Bool, true, false, List, [], ◌∷◌, ◌++◌, length, Some, inl, inr, refl, sym, ap, subst, arith, length-append}
 use Rattle.std.specs.Prelude.{Option, if◌then◌else◌}
 use Rattle.rv32_items.specs.declared.Cond.TheVariants.{Ne, Geu}
 use Rattle.rv32_items.specs.declared.Item.{Item}
@@ -7,9 +7,9 @@ use Rattle.rv32_items.specs.declared.Item.TheVariants.{Label, Plain, Branch, Jum
 use Rattle.rv32_items.specs.Placed.{size_of}
 use Rattle.rv32_select.specs.declared.source.Source.{Source}
 use Rattle.rv32_select.specs.Emit.{compare_items, test_items}
-use Rattle.rv32_select.specs.Halves.{SearchedArm, IsBelowBound, is_alone, last_test, Halves, one, two}
+use Rattle.rv32_select.specs.Halves.{SearchedArm, is_alone, last_test, Halves, one, two}
 use Rattle.rv32_select.proofs.Flowing.{Goes, Counts}
-use Rattle.rv32_select.proofs.Parts.{Part, inside_part, part_append, part_then, compare_part, closed_part, tested_part}
+use Rattle.rv32_select.proofs.Parts.{Part, inside_part, part_then, compare_part, closed_part, tested_part}
 use Rattle.rv32_select.proofs.HalvesFacts.{AllOf, all_front, all_back, IsUp, halves_up}
 
 -- the words of the blocks

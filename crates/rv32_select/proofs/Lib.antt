@@ -34,6 +34,7 @@ pub mod CallStatement
 pub mod HalvesFacts
 pub mod EmittedLabels
 pub mod JoinStatement
+pub mod FurtherArms
 pub mod ChoiceStatement
 pub mod DecidedStatement
 pub mod SearchStatement
@@ -47,6 +48,9 @@ pub mod Dynamics
 pub mod FittingPlaces
 pub mod Sending
 pub mod Weight
+pub mod EmittedStatements
+pub mod ResultSpots
+pub mod RarelyRun
 pub mod Emitted
 pub mod VariableUsed
 pub mod Deciding

@@ -1,5 +1,5 @@
 -- The return address goes to the frame's first word, and comes back from there.
-use Rattle.std.proofs.Common.{◌≡◌, ◌≢◌, ℕ, ◌+◌, ◌*◌, ◌<◌, List, length, get_or, set, Bool, true, false, inl, inr, refl, sym, ap, ◌∙◌, arith, get_or-set_same, get_or-set_other, ◌∷◌}
+use Rattle.std.proofs.Common.{◌≡◌, ◌≢◌, ℕ, ◌+◌, ◌*◌, ◌<◌, List, length, get_or, set, Bool, true, false, inl, inr, refl, ◌∙◌, arith, get_or-set_same, get_or-set_other, ◌∷◌}
 use Rattle.std.specs.Prelude.{pos, Option}
 use Rattle.std.proofs.Math.ListN.{length-set}
 use Rattle.rv32_machine.specs.Arithmetic.{plus}
@@ -17,9 +17,9 @@ use Rattle.rv32_items.specs.Course.{Layout}
 use Rattle.rv32_select.specs.declared.source.Continuation.{Continuation}
 use Rattle.rv32_select.specs.Emit.{plain, put_link, take_link, link_put}
 use Rattle.rv32_select.specs.IsSelected.{Then}
-use Rattle.rv32_select.proofs.Straight.{Data, with_reg, with_stack, Good, Does, does_nothing, does_store_stack, does_load_stack, at}
+use Rattle.rv32_select.proofs.Straight.{Data, with_reg, with_stack, Good, Does, does_nothing, does_store_stack, does_load_stack}
 use Rattle.rv32_select.proofs.FrameViews.{spots}
-use Rattle.rv32_select.proofs.Relation.{bases, word_of, Home, Stood, does_after, Given, Needed}
+use Rattle.rv32_select.proofs.Relation.{bases, Home, does_after, Given, Needed}
 use Rattle.rv32_select.proofs.PlaceFacts.{IsOwn, ProcedureFine, Setting}
 use Rattle.rv32_select.proofs.BlockFacts.{room, Opened, Simulates}
 use Rattle.rv32_select.proofs.OneBound.{cut, ready_at, plain_ran}

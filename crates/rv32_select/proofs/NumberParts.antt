@@ -140,7 +140,8 @@ module _ (c : Stretch) (b : Bases) where
           scratch = d.regs 5;
           does = subst
               (λ t. Does c b
-              (if t then OpImm Addi r q (lower n) ∷ [] else load_constant 5 n ++ Op op.Add r q 5 ∷ [])
+              (if t then OpImm Addi r q (lower n) ∷ [] else load_constant 5 n
+              ++ Op op.Add r q 5 ∷ [])
               d (with_reg (with_reg d 5 (d.regs 5)) r (plus (d.regs q) n))) (sym e) short;
         }
     | inr e ↦
@@ -154,7 +155,8 @@ module _ (c : Stretch) (b : Bases) where
           scratch = n;
           does = subst
               (λ t. Does c b
-              (if t then OpImm Addi r q (lower n) ∷ [] else load_constant 5 n ++ Op op.Add r q 5 ∷ [])
+              (if t then OpImm Addi r q (lower n) ∷ [] else load_constant 5 n
+              ++ Op op.Add r q 5 ∷ [])
               d (with_reg d1 r (plus (d.regs q) n))) (sym e) (does_on c b first second);
         }
   ]

@@ -154,7 +154,8 @@ module _ (lay : Layout) (items : List Item) (begins input : List ℕ) (p : Point
               let split : procedures_at begins labels ≡ procedures_at begins c.passed
               ++ procedures_at begins f.labels = ap (procedures_at begins)
               (sym whole_passed ∙ f.passed) ∙ procedures_split begins c.passed f.labels in
-              let count = ap length (entered ∙ split) ∙ length-append (procedures_at begins c.passed)
+              let count = ap length (entered ∙ split) ∙ length-append
+              (procedures_at begins c.passed)
               (procedures_at begins f.labels) in
               let none : procedures_at begins f.labels ≡ []
               = is_empty (procedures_at begins f.labels) (omega arith) in

@@ -114,7 +114,8 @@ module _ (l : Program) (a : Assignment) (cells stack : ℕ) (lay : Layout) (item
           outer,
           (
             quiet lay items begins w' w'
-                (stays lay items w'.input (at (bases stack) lay items m d') outer) refl refl refl refl
+                (stays lay items w'.input (at (bases stack) lay items m d') outer) refl refl refl
+                refl
                 refl,
             (d', (refl, (refl, (back, grind (arith, nat_tests))))),
           ),

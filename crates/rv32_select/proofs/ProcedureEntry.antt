@@ -1,11 +1,8 @@
 -- The entry of a procedure: its label, the test of the stack, its frame and its parameters.
-use Rattle.std.proofs.Common.{◌≡◌, ◌≢◌, ℕ, suc, ◌+◌, ◌-◌, ◌*◌, ◌<◌, ◌≤◌, List, [], ◌∷◌, ◌++◌, map, length, get_or, set, true, false, Some, inl, inr, refl, sym, ap, ◌∙◌, subst, arith, length-append, get_or-set_same, get_or-set_other, Bool}
-use Rattle.std.specs.Prelude.{pos, nat_lt, slice_get}
+use Rattle.std.proofs.Common.{◌≡◌, ◌≢◌, ℕ, suc, ◌+◌, ◌-◌, ◌*◌, ◌<◌, ◌≤◌, List, [], ◌∷◌, ◌++◌, map, length, get_or, true, false, Some, inl, inr, refl, sym, ap, ◌∙◌, subst, arith, length-append, Bool}
+use Rattle.std.specs.Prelude.{nat_lt, slice_get}
 use Rattle.std.proofs.lemmas.Bool.Decides.{nat_tests}
 use Rattle.std.proofs.lemmas.Option.{slice_get_within}
-use Rattle.std.proofs.Math.ListN.{length-set}
-use Rattle.rv32_isa.specs.declared.instr.Instr.TheVariants.{Store}
-use Rattle.rv32_isa.specs.declared.instr.StoreKind.TheVariants.{Sw}
 use Rattle.rv32_machine.specs.Arithmetic.{plus, negated}
 use Rattle.rv32_machine.specs.Steps.{set_reg}
 use Rattle.rv32_steps.specs.Straight.{register_value}
@@ -21,11 +18,11 @@ use Rattle.rv32_items.specs.declared.Cond.TheVariants.{Ltu}
 use Rattle.rv32_items.specs.declared.Item.{Item}
 use Rattle.rv32_items.specs.declared.Item.TheVariants.{Branch}
 use Rattle.rv32_items.specs.Course.{Layout, label_from}
-use Rattle.rv32_select.specs.Emit.{plain, link_put, add_to, load_constant, argument_spots, parameters_code, entry_items, base_register, base_at_entry}
+use Rattle.rv32_select.specs.Emit.{plain, link_put, add_to, argument_spots, parameters_code, entry_items, base_register, base_at_entry}
 use Rattle.rv32_select.specs.IsSelected.{is_lasting}
 use Rattle.limits.specs.Limits.{stack_end}
 use Rattle.rv32_select.proofs.Courses.{Stands, front, back}
-use Rattle.rv32_select.proofs.Straight.{Data, with_reg, with_stack, Good, Does, does_nothing, does_on, does_store_stack, at}
+use Rattle.rv32_select.proofs.Straight.{Data, with_reg, Good, Does, does_nothing, does_on, at}
 use Rattle.rv32_select.proofs.NumberParts.{value_is, does_add, does_number}
 use Rattle.rv32_select.proofs.JumpStretches.{with_regs, passes, branches, goes_on}
 use Rattle.rv32_select.proofs.FrameViews.{spots, InFrame, Kept, kept, kept_on, in_frame, stores}
@@ -119,7 +116,8 @@ module _ (l : Program) (a : Assignment) (lay : Layout) (stack f j slots saved : 
         does = does_on lay.code (bases stack) z.does more.does;
         hold = (
           more.others (Slot k) slot_ok df.0 ∙ z.spots_are (Slot k) slot_ok.0 ∙ put_here
-              (Slot k) (register_value d.regs (8 + i)) (spots lay.code (bases stack) j slots d) ∙ is ∙
+              (Slot k) (register_value d.regs (8 + i)) (spots lay.code (bases stack) j slots d) ∙ is
+              ∙
               h.0,
           more.hold,
         );

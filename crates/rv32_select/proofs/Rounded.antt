@@ -1,5 +1,5 @@
 -- A piece that needs x1, where the return address is in the frame or goes there meanwhile.
-use Rattle.std.proofs.Common.{◌≡◌, ℕ, List, [], ◌++◌, Bool, true, false, refl, sym, ap, ◌∙◌, append_assoc, append-nil}
+use Rattle.std.proofs.Common.{◌≡◌, List, ◌++◌, Bool, true, false, refl, ap, ◌∙◌, append_assoc, append-nil}
 use Rattle.rv32_items.specs.declared.Item.{Item}
 use Rattle.rv32_select.specs.Emit.{plain, put_link, take_link}
 use Rattle.rv32_select.specs.IsSelected.{Round}

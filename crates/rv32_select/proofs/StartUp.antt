@@ -121,7 +121,8 @@ module _ (l : Program) (lay : Layout) (cells stack : ℕ) (wide : 1 ≤ l.width)
         let S = does_store_heap lay.code (bases stack) (held 6 (Number t)) 3 (pos 0)
         (l.width * length cs + 0) t e1 H.does.good H.not_seven place inside H.value_of in
         let e2 = with_heap e1 (set d.heap (l.width * length cs + 0) t) in
-        let step : 4 * l.width * suc (length cs) ≡ 4 * l.width * length cs + 4 * l.width = omega arith
+        let step : 4 * l.width * suc (length cs) ≡ 4 * l.width * length cs + 4 * l.width
+        = omega arith
         in
         let sum : plus (d.regs 3) (4 * l.width) ≡ heap_start + 4 * l.width * suc (length cs)
         = end_small d g words next i_lt in

@@ -14,7 +14,7 @@ use Rattle.rv32_items.specs.Course.{Layout, Point, address_from}
 use Rattle.rv32_select.specs.declared.source.Continuation.{Continuation}
 use Rattle.rv32_select.specs.declared.source.Continuation.TheVariants.{Returns}
 use Rattle.rv32_select.specs.Emit.{plain, moves_code, spot_moves, number_moves, leave_code, argument_spots, result_spots}
-use Rattle.rv32_select.specs.IsSelected.{sources, params_of, argument_spots_of, IsOrder, is_lasting}
+use Rattle.rv32_select.specs.IsSelected.{sources, params_of, argument_spots_of, IsOrder}
 use Rattle.limits.specs.Limits.{stack_end}
 use Rattle.rv32_select.proofs.Courses.{Stands}
 use Rattle.rv32_select.proofs.Straight.{Data, Does, does_on, at}

@@ -1,12 +1,10 @@
 -- The items of procedures and of a whole program: the labels that stand there, where the items go,
 -- and how many words they take.
 use Rattle.std.proofs.Common.{◌≡◌, ℕ, suc, ◌+◌, ◌-◌, ◌*◌, ◌<◌, ◌≤◌, Bool, true, false, List, [], ◌∷◌, ◌++◌, length, Some, None, Option, inl, refl, sym, ap, ◌∙◌, subst, arith, append_assoc}
-use Rattle.std.specs.Prelude.{pos, slice_get, nat_eq, if◌then◌else◌}
+use Rattle.std.specs.Prelude.{slice_get, nat_eq, if◌then◌else◌}
 use Rattle.std.proofs.lemmas.List.{length-map}
 use Rattle.std.proofs.lemmas.Bool.Decides.{nat_tests}
 use Rattle.rv32_isa.specs.declared.instr.Instr.{Instr}
-use Rattle.rv32_isa.specs.declared.instr.Instr.TheVariants.{Store}
-use Rattle.rv32_isa.specs.declared.instr.StoreKind.TheVariants.{Sw}
 use Rattle.parallel_move.specs.declared.Spot.{Spot}
 use Rattle.low_code.specs.Tree.{Procedure, Program}
 use Rattle.low_code.specs.Formed.{calls_in, variables}

@@ -1,7 +1,7 @@
 use Rattle.std.proofs.Common.{◌∙◌}
 use Rattle.low_code.specs.Tree.{code_of}
 use Rattle.rv32_select.specs.IsSelected.{waits}
-use Rattle.rv32_select.proofs.Emitted.{one_is, one_not}
+use Rattle.rv32_select.proofs.RarelyRun.{one_is, one_not}
 use Rattle.rv32_select.proofs.rare.first_arm_goes_last.Goals as goal
 
 pub returns-then-len-eq1 : goal.returns-then-len-eq1

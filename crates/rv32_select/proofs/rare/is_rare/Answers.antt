@@ -1,6 +1,6 @@
 use Rattle.std.proofs.Common.{◌∙◌, sym}
 use Rattle.low_code.specs.Tree.{end_of}
-use Rattle.rv32_select.proofs.Emitted.{rare_block, rare_call, rare_on, rare_end}
+use Rattle.rv32_select.proofs.RarelyRun.{rare_block, rare_call, rare_on, rare_end}
 use Rattle.rv32_select.proofs.rare.is_rare.Goals as goal
 
 pub loop-stmt-init : goal.loop-stmt-init

@@ -1,4 +1,4 @@
-use Rattle.std.proofs.Common.{◌+◌, drop, None}
+use Rattle.std.proofs.Common.{drop, None}
 use Rattle.rv32_select.specs.Emitting.{TestsAscend}
 use Rattle.rv32_select.proofs.search.rises.Given as goal
 

@@ -1,4 +1,4 @@
-use Rattle.std.proofs.Common.{◌≡◌, ◌∷◌, ◌++◌, ◌∙◌, map, length, refl, true, sym, ap, subst, arith, ℕ, ◌/◌, ◌<◌, ◌≤◌, None, drop, take-append-drop}
+use Rattle.std.proofs.Common.{◌≡◌, ◌∷◌, ◌++◌, ◌∙◌, map, length, refl, true, sym, ap, subst, arith, ◌/◌, ◌<◌, ◌≤◌, None, drop, take-append-drop}
 use Rattle.std.specs.Prelude.{◌-◌}
 use Rattle.std.proofs.lemmas.Bool.Decides.{nat_tests}
 use Rattle.low_code.specs.Tree.{choose, prim, program_of, code_of, end_of, arm_of, arms_before}
@@ -10,9 +10,10 @@ use Rattle.rv32_select.specs.Decides.{decides, tested}
 use Rattle.rv32_select.specs.Writable.{ArmsPlaced, BlocksPlaced}
 use Rattle.seq.specs.Lists.{sum_of}
 use Rattle.rv32_select.proofs.Sending.{targets_of}
-use Rattle.rv32_select.proofs.Emitted.{arm_placed, arm_at_placed, first_last_placed, first_last_made, arm_added, single, both_true, last_chosen, order_chosen, stmt_placed, last_placed, otherwise_placed, called_there, chosen_placed, joined_placed, on_ok, arms_made, put_done, first_placed, choice_is, within_none, within_more, decided_placed, decided_made, decided_first_made, decided_last_made, decided_first_chosen, decided_last_chosen, not_decided, choice_none, block_made, join_done, get_done}
+use Rattle.rv32_select.proofs.Emitted.{arm_placed, arm_at_placed, first_last_placed, first_last_made, arm_added, single, both_true, last_chosen, order_chosen, stmt_placed, last_placed, otherwise_placed, called_there, chosen_placed, arms_made, first_placed, choice_is, within_none, within_more, decided_placed, decided_made, decided_first_made, decided_last_made, decided_first_chosen, decided_last_chosen, not_decided, choice_none, block_made}
+use Rattle.rv32_select.proofs.EmittedStatements.{joined_placed, on_ok, put_done, join_done, get_done}
 use Rattle.rv32_items.specs.declared.Cond.TheVariants.{Geu}
-use Rattle.rv32_select.proofs.EmittedHalves.{first_test, first_counts, first_light, first_sought, back_counts, only_arm, InTwo, in_two, all_placed, word_placed, blocks_apart, searched_one, searched_two, choice_made}
+use Rattle.rv32_select.proofs.EmittedHalves.{first_test, first_counts, first_light, first_sought, back_counts, only_arm, in_two, all_placed, word_placed, blocks_apart, searched_one, searched_two, choice_made}
 use Rattle.rv32_select.proofs.Weight.{stmt_lighter, last_lighter, join_lighter, choice_lighter, arm_lighter, arm_block_lighter, first_lighter, arm_weight, block_weight}
 use Rattle.rv32_select.proofs.context.Context.+blocks.Goals as goal
 
@@ -120,7 +121,8 @@ first_last-arms-requires t c =
           (
             c.requires.targets,
             (first_last_placed (program_of c.args.self.now.low.now) c.args.self.now.places.now
-                c.args.first.now c.args.test c.args.arms.now (code_of c.args.otherwise.now) c.requires.test
+                c.args.first.now c.args.test c.args.arms.now (code_of c.args.otherwise.now)
+                c.requires.test
                 c.requires.placed).1.0,
           ),
         ),
@@ -138,7 +140,8 @@ first_last-block-requires t c =
           (
             c.requires.targets,
             (first_last_placed (program_of c.args.self.now.low.now) c.args.self.now.places.now
-                c.args.first.now c.args.test c.args.arms.now (code_of c.args.otherwise.now) c.requires.test
+                c.args.first.now c.args.test c.args.arms.now (code_of c.args.otherwise.now)
+                c.requires.test
                 c.requires.placed).1.1,
           ),
         ),
@@ -193,7 +196,8 @@ stmt-join-requires t c =
         (
           c.requires.frame,
           joined_placed (program_of c.args.self.now.low.now)
-              c.args.self.now.places.now c.args.stmt.now _ _ _ _ c.in-Join.is c.as_slice-in-Join.ensures
+              c.args.self.now.places.now c.args.stmt.now _ _ _ _ c.in-Join.is
+              c.as_slice-in-Join.ensures
               c.deref.ensures c.requires.placed,
         ),
       ),
@@ -244,7 +248,8 @@ choose-first_last-requires t c =
               one,
               subst
                   (λ ts. ArmsPlaced (program_of c.args.self.now.low.now) c.args.self.now.places.now
-                  (arms_before (map arm_of ts) (code_of c.args.otherwise.now))) all c.requires.placed,
+                  (arms_before (map arm_of ts) (code_of c.args.otherwise.now))) all
+                  c.requires.placed,
             ),
           ),
         ),
@@ -329,10 +334,12 @@ decided-decided_arms-requires t c =
             (
               c.requires.operands,
               (
-                subst (λ ts. ArmsPlaced (program_of c.args.self.now.low.now) c.args.self.now.places.now
+                subst (λ ts. ArmsPlaced (program_of c.args.self.now.low.now)
+                    c.args.self.now.places.now
                     (arms_before (map arm_of ts) (code_of c.deref.result.now))) all arms,
                 subst (λ e. decides c.args.comparison.operation c.args.comparison.variable e ≡ true)
-                    (choice_is c.args.end.now _ _ _ _ _ _ c.in-Choose.is c.as_slice.ensures c.deref.ensures all)
+                    (choice_is c.args.end.now _ _ _ _ _ _ c.in-Choose.is c.as_slice.ensures
+                    c.deref.ensures all)
                     c.requires.decides,
               ),
             ),
@@ -343,7 +350,8 @@ decided-decided_arms-requires t c =
 
 pub decided_first-block-requires : goal.decided_first-block-requires
 decided_first-block-requires t c =
-    let w = first_lighter c.args.first.now c.args.others.now (block_weight c.args.otherwise.now) in (
+    let w = first_lighter c.args.first.now c.args.others.now (block_weight c.args.otherwise.now)
+    in (
       omega (arith, w.1),
       (
         c.requires.writable,
@@ -352,7 +360,8 @@ decided_first-block-requires t c =
           (
             c.requires.targets,
             (first_placed (program_of c.args.self.now.low.now) c.args.self.now.places.now
-                c.args.first.now c.args.others.now (code_of c.args.otherwise.now) c.requires.placed).1,
+                c.args.first.now c.args.others.now (code_of c.args.otherwise.now)
+                c.requires.placed).1,
           ),
         ),
       ),
@@ -360,7 +369,8 @@ decided_first-block-requires t c =
 
 pub decided_first-arms-requires : goal.decided_first-arms-requires
 decided_first-arms-requires t c =
-    let w = first_lighter c.args.first.now c.args.others.now (block_weight c.args.otherwise.now) in (
+    let w = first_lighter c.args.first.now c.args.others.now (block_weight c.args.otherwise.now)
+    in (
       omega (arith, w.0),
       (
         c.requires.writable,
@@ -369,7 +379,8 @@ decided_first-arms-requires t c =
           (
             c.requires.targets,
             (first_placed (program_of c.args.self.now.low.now) c.args.self.now.places.now
-                c.args.first.now c.args.others.now (code_of c.args.otherwise.now) c.requires.placed).0,
+                c.args.first.now c.args.others.now (code_of c.args.otherwise.now)
+                c.requires.placed).0,
           ),
         ),
       ),
@@ -377,7 +388,8 @@ decided_first-arms-requires t c =
 
 pub decided_last-block-requires : goal.decided_last-block-requires
 decided_last-block-requires t c =
-    let w = first_lighter c.args.first.now c.args.others.now (block_weight c.args.otherwise.now) in (
+    let w = first_lighter c.args.first.now c.args.others.now (block_weight c.args.otherwise.now)
+    in (
       omega (arith, w.1),
       (
         c.requires.writable,
@@ -386,7 +398,8 @@ decided_last-block-requires t c =
           (
             c.requires.targets,
             (first_placed (program_of c.args.self.now.low.now) c.args.self.now.places.now
-                c.args.first.now c.args.others.now (code_of c.args.otherwise.now) c.requires.placed).1,
+                c.args.first.now c.args.others.now (code_of c.args.otherwise.now)
+                c.requires.placed).1,
           ),
         ),
       ),
@@ -394,7 +407,8 @@ decided_last-block-requires t c =
 
 pub decided_last-arms-requires : goal.decided_last-arms-requires
 decided_last-arms-requires t c =
-    let w = first_lighter c.args.first.now c.args.others.now (block_weight c.args.otherwise.now) in (
+    let w = first_lighter c.args.first.now c.args.others.now (block_weight c.args.otherwise.now)
+    in (
       omega (arith, w.0),
       (
         c.requires.writable,
@@ -403,7 +417,8 @@ decided_last-arms-requires t c =
           (
             c.requires.targets,
             (first_placed (program_of c.args.self.now.low.now) c.args.self.now.places.now
-                c.args.first.now c.args.others.now (code_of c.args.otherwise.now) c.requires.placed).0,
+                c.args.first.now c.args.others.now (code_of c.args.otherwise.now)
+                c.requires.placed).0,
           ),
         ),
       ),
@@ -638,8 +653,10 @@ choice-halves-requires t c =
             (
               found.0,
               (
-                word_placed (program_of c.args.self.now.low.now) c.args.self.now.places.now c.in-Some.word
-                    0 None c.args.arms.now (code_of c.args.otherwise.now) found.0 found.1 c.requires.placed,
+                word_placed (program_of c.args.self.now.low.now) c.args.self.now.places.now
+                    c.in-Some.word
+                    0 None c.args.arms.now (code_of c.args.otherwise.now) found.0 found.1
+                    c.requires.placed,
                 (found.1, p.0),
               ),
             ),

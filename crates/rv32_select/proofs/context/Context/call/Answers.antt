@@ -1,5 +1,5 @@
 use Rattle.low_code.specs.Tree.{program_of}
-use Rattle.rv32_select.proofs.Emitted.{called_by}
+use Rattle.rv32_select.proofs.ResultSpots.{called_by}
 use Rattle.rv32_select.proofs.context.Context.call.Goals as goal
 
 pub returns : goal.returns

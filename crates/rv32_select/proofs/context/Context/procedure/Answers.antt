@@ -1,5 +1,5 @@
 use Rattle.std.proofs.Common.{arith, rules, refl}
-use Rattle.rv32_select.proofs.Emitted.{placed_at, result_targets}
+use Rattle.rv32_select.proofs.ResultSpots.{placed_at, result_targets}
 use Rattle.rv32_select.proofs.Entered.{params_are, few_spots, procedure_made, full_label}
 use Rattle.rv32_select.proofs.context.Context.procedure.Goals as goal
 

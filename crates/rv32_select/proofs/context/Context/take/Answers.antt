@@ -1,5 +1,5 @@
 use Rattle.low_code.specs.Tree.{program_of}
-use Rattle.rv32_select.proofs.Emitted.{take_asks}
+use Rattle.rv32_select.proofs.ResultSpots.{take_asks}
 use Rattle.rv32_select.proofs.context.Context.take.Goals as goal
 
 pub take-requires : goal.take-requires
