@@ -1,4 +1,9 @@
 -- The refusals that the check meets are the rules that a program breaks, each at its place.
+--
+-- The check walks the program once and keeps the earliest refusal. A first proof shows that the
+-- refusals that such a walk meets are the broken rules, each at its place. A second one, by
+-- induction on the parts of a program, builds the normal form where no rule is broken. A third one
+-- shows, by two derivations side by side, that there is no other normal form.
 use Rattle.std.proofs.Common.{◌≡◌, ◌≢◌, ℕ, suc, ◌+◌, ◌<◌, Bool, true, false, List, [], ◌∷◌, ◌++◌, length, refl, sym, ap, ◌∙◌, subst, arith, Option, Some, None, inl, inr}
 use Rattle.std.specs.Prelude.{◌==◌, nat_lt, not, ◌&&◌, slice_get, codes}
 use Rattle.std.specs.List.{list_any}

@@ -1,4 +1,9 @@
--- In a well-formed program no lookup fails: whatever a failed one gave, the evaluation is the same.
+-- In a well-formed program no lookup fails: whatever a failed one gave, the evaluation is the
+-- same.
+--
+-- The evaluator has a parameter: the answer of a lookup that fails. The proof runs it with two
+-- answers side by side, and shows that in a well-formed program both runs are equal. If a lookup
+-- failed, they could differ.
 use Rattle.std.proofs.Common.{◌≡◌, ◌≢◌, ℕ, zero, suc, ◌+◌, ◌≤◌, ◌<◌, Bool, true, false, cond, nat_eq, nat_lt, List, [], ◌∷◌, ◌++◌, map, length, get_or, Some, None, slice_get, refl, sym, ap, ◌∙◌, subst, arith, eqb-true, length-append, inl, inr}
 use Rattle.std.specs.Prelude.{◌⊎◌, ◌==◌, ℤ, pos, slice_set, if◌then◌else◌}
 use Rattle.std.proofs.lemmas.Bool.{eq-eqb, ltb-true, ltb-false}

@@ -1,4 +1,9 @@
 -- A program with its fetches split does what the program does, with no deeper nesting.
+--
+-- Between the fetch of a tag and the fetches in the alternatives, words of a node *wait*: the old
+-- program has them in variables, the new one still has to fetch them. Nothing may wait across an
+-- operation that could change the heap. The relation of variables has two parts, those that are
+-- the same and those that wait.
 use Rattle.std.proofs.Common.{◌≡◌, ◌≢◌, ℕ, suc, ◌+◌, ◌<◌, ◌≤◌, Bool, true, false, cond, ◌||◌, List, [], ◌∷◌, ◌++◌, length, Some, slice_get, slice_set, refl, sym, ap, ◌∙◌, subst, inl, inr, ◌⊎◌, arith}
 use Rattle.seq.proofs.Truth.{neither_left, neither_right}
 use Rattle.seq.proofs.Order.{eq_from}

@@ -1,4 +1,7 @@
 -- A solution covers each run.
+--
+-- The invariant of a run: each variable, cell and result lies in its set of the solution. Each
+-- step of a run keeps it, since an inclusion of the system speaks of just that statement.
 use Rattle.std.proofs.Common.{◌≡◌, ◌+◌, ℕ, zero, suc, Bool, true, false, cond, not, List, [], ◌∷◌, ◌++◌, length, Option, Some, None, slice_get, slice_set, refl, sym, ap, ◌∙◌, subst, arith}
 use Rattle.std.specs.Prelude.{IfSome, IsTrue, nat_eq}
 use Rattle.numbers.specs.Numbers.{same_number}

@@ -1,4 +1,7 @@
 -- Placed items that were selected for low code are code for what the low code tells.
+--
+-- Each layer tells or shows what the one above does, so the theorems are composed without looking
+-- into any layer: evaluation by need, GRIN and its stages, low code, items, words.
 use Rattle.std.proofs.Common.{◌≡◌, ℕ, ◌+◌, ◌*◌, ◌≤◌, None, List, [], ◌∷◌, ◌++◌, length, refl, sym, ap, ◌∙◌, subst, arith}
 use Rattle.std.proofs.lemmas.Grind.{common_steps}
 use Rattle.seq.proofs.Lists.{length_map}

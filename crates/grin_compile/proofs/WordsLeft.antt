@@ -1,13 +1,11 @@
 -- How soon the machine has done so many items, to the word.
 --
--- What is left to do at a point has a bound in bytes of code that falls by four with each step:
--- what stands from the point on to
--- the end of its procedure, for each open call what stands from its return on to the end of its
--- own, and what stands behind the
--- procedures. An item goes on in its procedure, to where a procedure begins, or to the stops. A
--- call leaves what is behind it to
--- its return. A return goes to what its call left. Only where a procedure begins is there more to
--- do again, and that is its code.
+-- The words of an item do what the item does, be it a short branch, a branch over a jump, or AUIPC
+-- and JALR. Where items go forward, a count of the code that is left falls with each step: the
+-- code from the point to the end of its procedure, for each open call the code behind it, and what
+-- stands behind the procedures. A call sets aside what is left after it, and its return gives that
+-- back; only the entry of a procedure adds its code again. So steps are bounded by the words of
+-- the procedures that were entered.
 use Rattle.std.proofs.Common.{◌≡◌, ℕ, zero, suc, ◌+◌, ◌-◌, ◌*◌, ◌%◌, ◌<◌, ◌≤◌, ◌⊎◌, min, Bool, true, false, nat_eq, nat_lt, List, [], ◌∷◌, ◌++◌, map, length, drop, Option, Some, None, slice_get, inl, inr, refl, sym, ap, ◌∙◌, subst, append_assoc, arith}
 use Rattle.std.specs.Prelude.{if◌then◌else◌}
 use Rattle.std.proofs.lemmas.Bool.{true≢false, cases_lt, eqb-true}

@@ -1,5 +1,9 @@
 -- A heap of bindings and a heap of cells that are alike: a name is a place, and a binding has its
 -- node.
+--
+-- The heap of bindings and the heap of cells are alike: a name is a place, and the node there is
+-- that of its binding. By induction on an expression its block does what the evaluator does, in
+-- the same units. The procedures of thunks and the printing loop do what the evaluator does there.
 use Rattle.std.proofs.Common.{◌≡◌, ℕ, zero, suc, ◌+◌, ◌-◌, ◌≤◌, ◌<◌, List, [], ◌∷◌, ◌++◌, map, length, Some, slice_get, slice_set, refl, ap, arith, length-append}
 use Rattle.std.proofs.lemmas.List.{length-set}
 use Rattle.arity_check.specs.Program.{Program}

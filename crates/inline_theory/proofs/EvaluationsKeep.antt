@@ -1,4 +1,7 @@
 -- Inlined evaluations do what the evaluations do.
+--
+-- The solution covers the run, so the tag of the cell is one of those in the case. The alternative
+-- of that tag does what `eval` or `apply` would have done.
 use Rattle.std.proofs.Common.{◌≡◌, ℕ, suc, ◌<◌, ◌≤◌, ◌+◌, Bool, true, false, cond, List, [], ◌∷◌, map, Option, Some, None, slice_get, refl, sym, ap, ◌∙◌, subst, arith}
 use Rattle.seq.proofs.Order.{eq_self}
 use Rattle.grin_syntax.specs.declared.program.ProcId.{ProcId}

@@ -1,4 +1,10 @@
 -- Programs whose results are evaluated nodes, by what the text tells of each variable.
+--
+-- Passes rely on facts about runs. One is that a node variable holds no thunk unless a fetch
+-- filled it. A *looking run* tests each of these facts, and is stuck where one fails. So the facts
+-- hold where no looking run is stuck. For translated programs that comes from sorts: the text
+-- tells of each variable whether it holds a number, a node or an evaluated node, and inlining
+-- keeps these sorts.
 use Rattle.std.specs.Prelude.{ℕ, zero, suc, Bool, false, cond, nat_eq, ◌≡◌, List, [], ◌∷◌, slice_get}
 use Rattle.grin_syntax.specs.declared.program.Tag.{Tag}
 use Rattle.grin_syntax.specs.declared.program.VarId.{VarId}

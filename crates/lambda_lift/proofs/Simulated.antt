@@ -1,6 +1,10 @@
 -- Two languages whose functions correspond put out the same: each function of one stands for a
--- function
--- of the other that was given some names first.
+-- function of the other that was given some names first.
+--
+-- A closure in the text corresponds to a partial application in the lifted program: its
+-- environment is the first arguments. Two heaps correspond name by name. A general lemma says of
+-- any two languages whose functions correspond so that they put out the same; a second proof shows
+-- that a text and its lifted program are such a pair.
 use Rattle.std.proofs.Common.{◌≡◌, ℕ, zero, suc, ◌+◌, ◌≤◌, ◌<◌, Bool, true, false, max, List, [], ◌∷◌, ◌++◌, length, Option, Some, None, refl, sym, ap, ◌∙◌, subst, arith, append_assoc, length-append}
 use Rattle.std.specs.Prelude.{ℤ, pos, nat_lt, ◌==◌, if◌then◌else◌, slice_get, slice_set}
 use Rattle.std.proofs.lemmas.Bool.{ltb-true, ltb-false, lt-ltb, le-ltb, eq-eqb}

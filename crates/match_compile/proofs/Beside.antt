@@ -1,6 +1,10 @@
 -- Two languages with the same functions, heaps and values, of which one may spend more units than
--- the
--- other: what each form of evaluation does in both.
+-- the other: what each form of evaluation does in both.
+--
+-- The equations of a function may become several functions, one after the other, so the program
+-- may spend more units than the equations. `Beside` compares two such languages with a number of
+-- units to spare. `Served` shows that the functions that serve an equation do what trying the
+-- equations from the top does, and `Meant` that the program's functions serve the equations.
 use Rattle.std.proofs.Common.{◌≡◌, ℕ, zero, suc, ◌+◌, ◌*◌, ◌≤◌, ◌<◌, Bool, true, false, max, List, [], ◌∷◌, ◌++◌, length, Option, Some, None, refl, sym, subst, arith, length-append}
 use Rattle.std.specs.Prelude.{ℤ, pos, nat_lt, if◌then◌else◌, slice_get}
 use Rattle.seq.specs.Lists.{AllOf}

@@ -1,4 +1,8 @@
 -- A program without words that nobody reads does what the program does.
+--
+-- Words that nobody reads are left out of the relation. For cells the new heap is the old one
+-- without some, and a cell is renamed to its number among those that stay. Which number that is
+-- depends on the heap at the end of the run; the heap of each earlier moment is a beginning of it.
 use Rattle.std.proofs.Common.{◌≡◌, ℕ, suc, Bool, true, false, cond, ◌&&◌, List, [], ◌∷◌, map, length, Option, Some, None, refl, sym, ap, ◌∙◌, subst, slice_get}
 use Rattle.seq.proofs.Lists.{none_is_some, some_is}
 use Rattle.seq.proofs.Truth.{and_left, and_right, true_not_false}

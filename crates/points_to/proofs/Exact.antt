@@ -1,4 +1,8 @@
 -- What an inclusion asks for, as a list, is what it demands.
+--
+-- What is known grows only by what an inclusion asks for. So it is contained in every solution.
+-- When no inclusion asks for more, it is a solution. The order in which inclusions are looked at
+-- is a hint; rounds over all of them at the end find what a wrong hint has missed.
 use Rattle.std.proofs.Common.{◌≡◌, ◌+◌, ℕ, zero, suc, List, [], ◌∷◌, Option, Some, None, slice_get, refl, sym, ap, ◌∙◌, subst, ⊎_elim, arith}
 use Rattle.grin_syntax.specs.declared.program.VarId.{VarId}
 use Rattle.grin_syntax.specs.declared.program.Target.{Target}

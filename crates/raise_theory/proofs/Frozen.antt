@@ -1,4 +1,8 @@
 -- Cells that no update reaches keep their nodes from each state of a run to its end.
+--
+-- A cell that no update reaches has the same node from each moment of the run to its end. So the
+-- fields that the caller fetches before the call are those that the procedure would have fetched
+-- later. A parameter is related to these fields by the heap at the end of the run.
 use Rattle.std.proofs.Common.{◌≡◌, ℕ, zero, suc, Bool, true, false, cond, nat_eq, List, [], ◌∷◌, ◌++◌, length, Option, Some, None, slice_get, slice_set, refl, sym, ap, ◌∙◌, subst}
 use Rattle.seq.proofs.Order.{eq_from, differs_from}
 use Rattle.seq.proofs.Lists.{all_get}

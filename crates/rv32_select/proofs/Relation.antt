@@ -1,5 +1,9 @@
 -- How the machine's data stand for the state of a run of low code, and what it is that the machine
 -- does what a run does.
+--
+-- `Relation` says how registers, heap and stack stand for the state of low code within a
+-- procedure, and after its return. `Simulation` goes through low code block by block, and through
+-- calls by the units that are left. All this holds of items on every layout.
 use Rattle.std.proofs.Common.{◌≡◌, ℕ, suc, ◌+◌, ◌-◌, ◌*◌, ◌%◌, ◌<◌, ◌≤◌, List, [], ◌∷◌, ◌++◌, length, get_or, true, false, Some, ◌⊎◌, refl, sym, ap, ◌∙◌, subst, arith, append_assoc, Bool, inr, ◌/◌, ◌^◌, zero}
 use Rattle.std.specs.Prelude.{drop, slice_get, nat_eq, if◌then◌else◌, slice_index_or}
 use Rattle.std.proofs.lemmas.Grind.{common_steps}

@@ -1,5 +1,9 @@
 -- Evaluation keeps types: what a well typed program does with whatever has a type never ends for
 -- want of an alternative, and a value that it gives has that type.
+--
+-- Each name of a heap has a type, and heaps only gain names. Evaluation keeps that, and a value
+-- has the type of its expression. A case takes every value of its type, so no value is without an
+-- alternative. `Whole` gives the types from a solution of the constraints.
 use Rattle.std.proofs.Common.{◌≡◌, ℕ, zero, suc, ◌+◌, Bool, true, false, nat_lt, List, [], ◌∷◌, ◌++◌, map, length, Some, None, slice_get, refl, sym, ap, ◌∙◌, subst, arith, eqb-true, length-append, inl, inr}
 use Rattle.std.specs.Prelude.{◌⊎◌, ℤ, pos, if◌then◌else◌}
 use Rattle.std.proofs.lemmas.Bool.{eq-eqb, ltb-true, ltb-false}

@@ -1,4 +1,8 @@
 -- The two programs run side by side.
+--
+-- The procedures that may give a bare number are a set that is closed under the calls at their
+-- ends. A call of a member gives the number alone, and its tag is put back where the old program
+-- would have had it.
 use Rattle.std.proofs.Common.{◌≡◌, ◌≢◌, ℕ, suc, ◌+◌, ◌≤◌, Bool, true, false, cond, ◌&&◌, List, [], ◌∷◌, ◌++◌, length, Some, refl, sym, ap, ◌∙◌, subst, arith}
 use Rattle.std.specs.Prelude.{ℤ}
 use Rattle.seq.proofs.Truth.{neither_left, neither_right, and_left}

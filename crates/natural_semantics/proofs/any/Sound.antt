@@ -1,4 +1,8 @@
 -- What the evaluator answers is derived.
+--
+-- In one direction the relation is derived by induction on the evaluator's recursion. In the
+-- other, by induction on the derivation, there is a number of units with which the evaluator gives
+-- that answer. It needs that more units change no answer.
 use Rattle.std.proofs.Common.{◌≡◌, ℕ, zero, suc, ◌<◌, ◌≤◌, max, Bool, true, false, List, [], ◌∷◌, ◌++◌, length, Option, Some, None, refl}
 use Rattle.std.specs.Prelude.{ℤ, nat_lt, slice_get, if◌then◌else◌}
 use Rattle.std.proofs.lemmas.Bool.{ltb-true, ltb-false}
