@@ -1,4 +1,7 @@
 -- A run with more units, or without limits, gives the same answer, or goes on from where it stood.
+--
+-- One proof compares two runs of which the second has more units or no limits. Either both answer
+-- alike, or the first stopped, out of units or full, and the second goes on from that point.
 use Rattle.std.proofs.Common.{◌≡◌, ◌⊎◌, inl, inr, ℕ, zero, suc, ◌+◌, ◌*◌, ◌%◌, ◌≤◌, Bool, true, false, cond, List, [], ◌∷◌, ◌++◌, length, replicate, Option, Some, None, refl, sym, ap, ◌∙◌, subst, arith, length-append, append-nil, append_assoc}
 use Rattle.std.specs.Prelude.{nat_eq, slice_get, slice_set}
 use Rattle.std.proofs.Math.Nat.{le-max_left, le-max_right}

@@ -1,4 +1,8 @@
 -- A run of low code does what a looking run of GRIN does: answers, and operations without blocks.
+--
+-- A tag is its number, a number its bit pattern, a cell its place with one word for the tag and
+-- one for each field. A block of low code gives the words of what the block of GRIN gives. Depth
+-- is counted in levels there and in words here, so it is compared by the largest frame.
 use Rattle.std.proofs.Common.{◌≡◌, inl, inr, ◌≤◌, ◌<◌, ℕ, ℤ, zero, suc, ◌+◌, ◌*◌, Bool, true, false, cond, List, [], ◌∷◌, ◌++◌, length, Option, Some, None, slice_get, refl, sym, ap, ◌∙◌, subst, arith, lit<}
 use Rattle.seq.proofs.Lists.{all_get, all_set, map_get}
 use Rattle.seq.proofs.Order.{le_or_lt}

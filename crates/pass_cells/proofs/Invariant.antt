@@ -1,4 +1,8 @@
 -- A property of heaps that stays through runs, where the words that are taken have another.
+--
+-- A cell whose variable is used for fetches and updates alone is mentioned by no other cell and no
+-- other variable. A general lemma carries a property of heaps through all runs; here the property
+-- is that the remembered words stand in the cell.
 use Rattle.std.proofs.Common.{◌≡◌, ℕ, zero, suc, ◌≤◌, ◌<◌, ◌+◌, Bool, true, false, cond, ◌||◌, nat_eq, nat_le, List, [], ◌∷◌, ◌++◌, length, take, Option, Some, None, slice_get, slice_set, ◌⊎◌, inl, inr, refl, sym, ap, ◌∙◌, subst, arith}
 use Rattle.std.specs.Prelude.{ℤ, pos}
 use Rattle.seq.proofs.Order.{eq_self}

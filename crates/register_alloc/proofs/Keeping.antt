@@ -1,4 +1,8 @@
 -- Who holds the registers, from one point to the next.
+--
+-- A walk over a procedure keeps who holds which register. A register is free again once no later
+-- use of its variable remains. Two variables that are live together were never free for each
+-- other, so their places differ.
 use Rattle.std.proofs.Common.{◌≡◌, ◌≢◌, ◌⊎◌, ◌↔◌, ℕ, suc, ◌+◌, ◌-◌, ◌<◌, ◌≤◌, true, false, List, [], ◌∷◌, ◌++◌, length, Option, Some, None, slice_get, inl, inr, refl, sym, ap, ◌∙◌, subst, arith}
 use Rattle.std.specs.Prelude.{slice_set}
 use Rattle.std.proofs.lemmas.Option.{slice_get_within}

@@ -1,4 +1,9 @@
 -- Two classes become one, with the arguments of their kept terms in pairs: the same trees fit.
+--
+-- Terms are in classes, and pairs of terms wait to be made equal. Joining two classes puts the
+-- arguments of their terms on the list of pairs; the trees that solve the whole stay the same.
+-- Once no pair waits, a walk looks for a class that contains itself. Without one each class stands
+-- for a tree, and these trees are a solution of which all others are instances.
 use Rattle.std.proofs.Common.{◌≡◌, ◌<◌, ◌≤◌, ◌+◌, ℕ, suc, List, [], ◌∷◌, ◌++◌, length, get_or, take, min, Option, Some, None, slice_get, refl, sym, ap, ◌∙◌, subst, ⊎_elim, arith, length-append, length-take}
 use Rattle.std.proofs.lemmas.List.{take_more}
 use Rattle.std.specs.Prelude.{if◌then◌else◌, ◌==◌, ◌⊎◌}

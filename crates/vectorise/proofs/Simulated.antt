@@ -1,4 +1,8 @@
 -- A vectorised program does what the program does, with no deeper nesting.
+--
+-- A node is related to a vector of its tag, its fields and zeros. A scope in the new program has a
+-- run of variables for each node variable of the old one, and the words of a pattern are words of
+-- the vector that was looked at.
 use Rattle.std.proofs.Common.{◌≡◌, ℕ, zero, suc, ◌+◌, ◌<◌, ◌≤◌, Bool, true, false, cond, not, ◌&&◌, List, [], ◌∷◌, ◌++◌, map, length, Option, Some, None, slice_get, slice_set, refl, sym, ap, ◌∙◌, subst, arith}
 use Rattle.std.proofs.lemmas.List.{length-map}
 use Rattle.seq.proofs.Lists.{all_get}
