@@ -534,7 +534,8 @@ module _ (items : List Item) (words : List ℕ) (placed : Placed items words) wh
           → Passes before.left x.point ⊎ Ends before.left x.point → s.regs register ≡ value
       by_item before there (inl y) =
           let count : x.taken + 1 ≡ suc x.taken = omega arith in
-          let going = sym (ap (λ c. c.end) (course_none lay items y.left y.next)) ∙ sym (y.goes_on 0)
+          let going = sym (ap (λ c. c.end) (course_none lay items y.left y.next)) ∙ sym
+          (y.goes_on 0)
           ∙ sym (before.goes_on 1) ∙ ap (λ n. (course lay items n input p).end) count ∙ x.exits in
           cc
       by_item before there (inr y) =

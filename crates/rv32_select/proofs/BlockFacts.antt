@@ -241,7 +241,8 @@ module _ (l : Program) (a : Assignment) (cells stack : ℕ) (lay : Layout) where
               | inl k ↦ k
               | inr k ↦
                   let in_scope = scoped y v k in
-                  kept y v in_scope (in_scope, among_left y (uses c) later h.0) (inl (incl y h.0, k))
+                  kept y v in_scope (in_scope, among_left y (uses c) later h.0)
+                  (inl (incl y h.0, k))
             ]
         vars y v (inr h) = let m = must y v h in kept y v m.0
             (m.0, among_right y (uses c) later m.1) (inr h)

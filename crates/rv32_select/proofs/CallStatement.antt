@@ -119,7 +119,8 @@ module _ (l : Program) (a : Assignment) (cells stack : ℕ) (lay : Layout) (f j 
               = R.keeps.words in let n1 = world.stack_words in let n2 = st.world.stack_words
               in omega arith;
         };
-        home = R.keeps.outside j (inl (omega arith)) ∙ x.outside j (inl (omega arith)) (omega arith) ∙
+        home = R.keeps.outside j (inl (omega arith)) ∙ x.outside j (inl (omega arith)) (omega arith)
+            ∙
             st.home;
         vars = vars;
         untouched = record {
@@ -489,12 +490,14 @@ module _ (l : Program) (a : Assignment) (cells stack : ℕ) (lay : Layout) (item
             (λ env'. code l (words_at a) (room l a cells stack lay items begins) calls_n env'
             top under c w') in
             does_after lay items begins l.width cells G (then_do (calls_n g vs top w) onward) z.ran
-            (does_then lay items begins l.width cells G1 G (at (bases stack) lay items z.place z.to')
+            (does_then lay items begins l.width cells G1 G
+            (at (bases stack) lay items z.place z.to')
             (suc pj ∷ m ∷ outer) w (calls_n g vs top w) onward callee
             (λ rs v p' c' le given.
             let back_to = given.1.1.1.0 in
             subst (λ x. Does' lay items begins l.width cells G x c' v (onward rs v)) (sym given.1.0)
-            (subst (λ x. Does' lay items begins l.width cells G (at (bases stack) lay items (suc pj) given.0) x v
+            (subst (λ x. Does' lay items begins l.width cells G
+            (at (bases stack) lay items (suc pj) given.0) x v
             (onward rs v)) (sym given.1.1.0)
             (by_vars (with_vars xs rs env) rs refl given.0 v
             (crossed_back l a cells stack lay j pf.slots (slots_of (place_of a) (variables q)) g

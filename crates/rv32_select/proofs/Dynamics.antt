@@ -48,7 +48,8 @@ module _ (l : Program) (a : Assignment) (cells stack : ℕ) (lay : Layout) (item
       cells stack lay
   from_is = starts_at l.width cells stack lay items s.stack_four
 
-  starting : (i : List ℕ) (n : ℕ) → IsStart lay items begins l.width cells i from (start_world l (words_at a) i n)
+  starting : (i : List ℕ) (n : ℕ) → IsStart lay items begins l.width cells i from
+      (start_world l (words_at a) i n)
   starting i n = record { input_is = refl; used_is = refl; out_is = refl; entered_is = refl }
 
   counted : (i : List ℕ) (n : ℕ) → length
@@ -67,7 +68,8 @@ module _ (l : Program) (a : Assignment) (cells stack : ℕ) (lay : Layout) (item
       (limited l (words_at a) cells stack i
       (length (procedures_at begins (course lay items k i p).passed))) (course lay items k i p))
       from_is
-      (follows lay items begins l.width cells i from (start_world l (words_at a) i n) (starting i n) k
+      (follows lay items begins l.width cells i from (start_world l (words_at a) i n) (starting i n)
+      k
       (limited l (words_at a) cells stack i n)
       (whole_run l a cells stack lay items begins s z i n bytes (never i n bytes))
       (counted i n))
@@ -102,7 +104,8 @@ module _ (l : Program) (a : Assignment) (cells stack : ℕ) (lay : Layout) (item
       let f = selected_follows i bytes k in
       let exit = (subst (λ e. EndsLikeRun i x (course lay items k i begin) e) exited f.finish).0 in
       subst (λ p. Leaves lay items i p) from_is
-      (leaves lay items begins l.width cells i from (start_world l (words_at a) i n) (starting i n) x
+      (leaves lay items begins l.width cells i from (start_world l (words_at a) i n) (starting i n)
+      x
       (whole_run l a cells stack lay items begins s z i n bytes (never i n bytes)) exit)
 
   pub selected_next_cell : (i : List ℕ) → IsBytes i → (n : ℕ)
@@ -111,6 +114,7 @@ module _ (l : Program) (a : Assignment) (cells stack : ℕ) (lay : Layout) (item
   selected_next_cell i bytes n =
       subst (λ p. HasNextCell lay items l.width cells i p (limited l (words_at a) cells stack i n))
       from_is
-      (next_cell lay items begins l.width cells i from (start_world l (words_at a) i n) (starting i n)
+      (next_cell lay items begins l.width cells i from (start_world l (words_at a) i n)
+      (starting i n)
       (limited l (words_at a) cells stack i n)
       (whole_run l a cells stack lay items begins s z i n bytes (never i n bytes)))

@@ -65,7 +65,8 @@ module _ (lay : Layout) (items : List Item) (begins : List ℕ) (width cells : �
 
   module _ (w0 : World) (start : IsStart w0) where
     -- a course that has come to an exit
-    exit_course : (w : World) (code : ℕ) (e : Ends lay items begins width cells p [] w0 w code) (k : ℕ)
+    exit_course : (w : World) (code : ℕ) (e : Ends lay items begins width cells p [] w0 w code)
+        (k : ℕ)
         → course lay items (e.count + k) input p ≡ after e.bytes e.labels
         (stands w.input (Exited code))
     exit_course w code e k = subst
@@ -86,7 +87,8 @@ module _ (lay : Layout) (items : List Item) (begins : List ℕ) (width cells : �
         let z = start.used_is in
         omega arith
 
-    same_end : (w : World) (code : ℕ) (e : Ends lay items begins width cells p [] w0 w code) (x : Answer)
+    same_end : (w : World) (code : ℕ) (e : Ends lay items begins width cells p [] w0 w code)
+        (x : Answer)
         → world_of x ≡ w → SameOutputAndInput input x
         (after e.bytes e.labels (stands w.input (Exited code)))
     same_end w code e x is = (
@@ -96,7 +98,8 @@ module _ (lay : Layout) (items : List Item) (begins : List ℕ) (width cells : �
 
     -- ---- arriving
 
-    arrives_exit : (w : World) (code : ℕ) (e : Ends lay items begins width cells p [] w0 w code) (x : Answer)
+    arrives_exit : (w : World) (code : ℕ) (e : Ends lay items begins width cells p [] w0 w code)
+        (x : Answer)
         → world_of x ≡ w → exit_of (end_of x) ≡ Some code
         → ReachesAnswer begins input x (course lay items (e.count + 0) input p)
     arrives_exit w code e x is exit =
@@ -155,7 +158,8 @@ module _ (lay : Layout) (items : List Item) (begins : List ℕ) (width cells : �
               let split : procedures_at begins labels ≡ procedures_at begins c.passed
               ++ procedures_at begins f.labels = ap (procedures_at begins)
               (sym whole_passed ∙ f.passed) ∙ procedures_split begins c.passed f.labels in
-              let count = ap length (entered ∙ split) ∙ length-append (procedures_at begins c.passed)
+              let count = ap length (entered ∙ split) ∙ length-append
+              (procedures_at begins c.passed)
               (procedures_at begins f.labels) in
               let none : procedures_at begins f.labels ≡ []
               = is_empty (procedures_at begins f.labels) (omega arith) in
@@ -191,7 +195,8 @@ module _ (lay : Layout) (items : List Item) (begins : List ℕ) (width cells : �
         subst (λ n. IsFront (course lay items k input p) (course lay items n input p)) e
         (course_front lay items k (count - k) input p)
 
-    follows_exit : (w : World) (code k : ℕ) (e : Ends lay items begins width cells p [] w0 w code) (x : Answer)
+    follows_exit : (w : World) (code k : ℕ) (e : Ends lay items begins width cells p [] w0 w code)
+        (x : Answer)
         → world_of x ≡ w → exit_of (end_of x) ≡ Some code
         → length w.entered ≤ length (procedures_at begins (course lay items k input p).passed)
         → Follows begins input x (course lay items k input p)

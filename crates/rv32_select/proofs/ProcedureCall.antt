@@ -114,7 +114,8 @@ module _ (l : Program) (a : Assignment) (cells stack : ℕ) (lay : Layout) (item
           outer,
           (
             quiet lay items begins w' w'
-                (stays lay items w'.input (at (bases stack) lay items m d') outer) refl refl refl refl
+                (stays lay items w'.input (at (bases stack) lay items m d') outer) refl refl refl
+                refl
                 refl,
             (d', (refl, (refl, (back, grind (arith, nat_tests))))),
           ),
@@ -190,7 +191,8 @@ module _ (l : Program) (a : Assignment) (cells stack : ℕ) (lay : Layout) (item
           (Back l a cells stack lay f bound d (result_spots 10 q.results) rs d' w'
           × (length rs ≡ q.results)))) in
           does_after lay items begins l.width cells G' (with_result_count q.results answer) z.ran
-          (does_then lay items begins l.width cells GB G' (at (bases stack) lay items z.start z.to) (m ∷ outer) w'
+          (does_then lay items begins l.width cells GB G' (at (bases stack) lay items z.start z.to)
+          (m ∷ outer) w'
           answer (λ rs w'. cond (nat_eq (length rs) q.results) (gives rs w') (stops missing w'))
           done
           (λ rs v p' c' le given.
@@ -199,7 +201,8 @@ module _ (l : Program) (a : Assignment) (cells stack : ℕ) (lay : Layout) (item
           given.1.1.1 in
           subst (λ x. Does' lay items begins l.width cells G' x c' v
           (cond (nat_eq (length rs) q.results) (gives rs v) (stops missing v))) (sym given.1.0)
-          (subst (λ x. Does' lay items begins l.width cells G' (at (bases stack) lay items m given.0) x v
+          (subst (λ x. Does' lay items begins l.width cells G'
+          (at (bases stack) lay items m given.0) x v
           (cond (nat_eq (length rs) q.results) (gives rs v) (stops missing v)))
           (sym given.1.1.0)
           (by_length rs v given.0 back (nat_eq (length rs) q.results) refl))))

@@ -119,7 +119,8 @@ module _ (l : Program) (a : Assignment) (lay : Layout) (stack f j slots saved : 
         does = does_on lay.code (bases stack) z.does more.does;
         hold = (
           more.others (Slot k) slot_ok df.0 ∙ z.spots_are (Slot k) slot_ok.0 ∙ put_here
-              (Slot k) (register_value d.regs (8 + i)) (spots lay.code (bases stack) j slots d) ∙ is ∙
+              (Slot k) (register_value d.regs (8 + i)) (spots lay.code (bases stack) j slots d) ∙ is
+              ∙
               h.0,
           more.hold,
         );

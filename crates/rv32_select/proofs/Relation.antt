@@ -40,12 +40,12 @@ regs_of d Scratch = 0
 -- ---- words and cells
 
 -- a number stands for itself, a cell for its address
-abbrev pub word_of : (width cells : ℕ) → Word → ℕ
+abbrev pub word_of : (width : ℕ) → Word → ℕ
 word_of width (number k) = k
 word_of width (cell i) = heap_start + 4 * width * i
 
 -- spots hold words, one each
-abbrev pub AllHold : (width cells : ℕ) → List Spot → List Word → Values → Type 0
+abbrev pub AllHold : (width : ℕ) → List Spot → List Word → Values → Type 0
 AllHold width [] vs u = Unit {0}
 AllHold width (s ∷ ss) [] u = Unit {0}
 AllHold width (s ∷ ss) (v ∷ vs) u = (u s ≡ word_of width v) × AllHold width ss vs u
@@ -175,7 +175,8 @@ module _ (lay : Layout) (items : List Item) (begins : List ℕ) where
     pub left : w'.left ≤ w.left
 
   -- and from p to an exit
-  pub record Ends (width cells : ℕ) (p : Point) (calls : List ℕ) (w w' : World) (code : ℕ) : Type 0 where
+  pub record Ends (width cells : ℕ) (p : Point) (calls : List ℕ) (w w' : World) (code : ℕ)
+      : Type 0 where
     pub count : ℕ
     pub bytes : List ℕ
     pub labels : List ℕ
@@ -195,11 +196,13 @@ module _ (lay : Layout) (items : List Item) (begins : List ℕ) where
 
   -- what the machine does from p for a run from w that ends so; where the run gives words, this is
   -- to hold
-  abbrev pub Does' : (width cells : ℕ) → (Given : List Word → World → Point → List ℕ → Type 0) → Point
+  abbrev pub Does' : (width cells : ℕ) → (Given : List Word → World → Point → List ℕ → Type 0)
+      → Point
       → List ℕ → World → Answer → Type 0
   Does' width cells Given p calls w (gives vs w') = (q : Point)
       × ((calls' : List ℕ) × (Ran p calls w q calls' w' × Given vs w' q calls'))
-  Does' width cells Given p calls w (stops no_alternative w') = Ends width cells p calls w w' 3 × Leaves lay items w.input p
+  Does' width cells Given p calls w (stops no_alternative w') = Ends width cells p calls w w' 3
+      × Leaves lay items w.input p
   Does' width cells Given p calls w (stops heap_full w') = Ends width cells p calls w w' 4
   Does' width cells Given p calls w (stops stack_full w') = Ends width cells p calls w w' 5
   Does' width cells Given p calls w (stops out_of_units w') = (q : Point)
@@ -228,7 +231,8 @@ module _ (lay : Layout) (items : List Item) (begins : List ℕ) where
     left = let x = h.left in let y = k.left in omega arith;
   }
 
-  pub ends_on : (width cells : ℕ) → {p q : Point} {c d : List ℕ} {w v u : World} {code : ℕ} → Ran p c w q d v
+  pub ends_on : (width cells : ℕ) → {p q : Point} {c d : List ℕ} {w v u : World} {code : ℕ}
+      → Ran p c w q d v
       → Ends width cells q d v u code → Ends width cells p c w u code
   ends_on width cells {p} {q} {c} {d} {w} {v} {u} {code} h k = record {
     count = h.count + k.count;
@@ -244,22 +248,27 @@ module _ (lay : Layout) (items : List Item) (begins : List ℕ) where
   }
 
   -- a stretch first
-  pub does_after : (width cells : ℕ) (Given : List Word → World → Point → List ℕ → Type 0) {p q : Point}
+  pub does_after : (width cells : ℕ) (Given : List Word → World → Point → List ℕ → Type 0)
+      {p q : Point}
       {c d : List ℕ} {w v : World} (x : Answer) → Ran p c w q d v → Does' width cells Given q d v x
       → Does' width cells Given p c w x
   does_after width cells Given (gives vs w') h k = (k.0, (k.1.0, (ran_on h k.1.1.0, k.1.1.1)))
-  does_after width cells Given (stops no_alternative w') h k = (ends_on width cells h k.0, leaves_on lay items h.way k.1)
+  does_after width cells Given (stops no_alternative w') h k
+      = (ends_on width cells h k.0, leaves_on lay items h.way k.1)
   does_after width cells Given (stops heap_full w') h k = ends_on width cells h k
   does_after width cells Given (stops stack_full w') h k = ends_on width cells h k
-  does_after width cells Given (stops out_of_units w') h k = (k.0, (k.1.0, (ran_on h k.1.1.0, k.1.1.1)))
+  does_after width cells Given (stops out_of_units w') h k
+      = (k.0, (k.1.0, (ran_on h k.1.1.0, k.1.1.1)))
   does_after width cells Given (stops missing w') h k = tt
 
   -- what holds where the run gives words may be said otherwise
-  pub does_map : (width cells : ℕ) (Given Given' : List Word → World → Point → List ℕ → Type 0) (p : Point)
+  pub does_map : (width cells : ℕ) (Given Given' : List Word → World → Point → List ℕ → Type 0)
+      (p : Point)
       (c : List ℕ) (w : World) (x : Answer) →
       ((vs : List Word) (v : World) (q : Point) (d : List ℕ) → Given vs v q d → Given' vs v q d)
       → Does' width cells Given p c w x → Does' width cells Given' p c w x
-  does_map width cells Given Given' p c w (gives vs v) h k = (k.0, (k.1.0, (k.1.1.0, h vs v k.0 k.1.0 k.1.1.1)))
+  does_map width cells Given Given' p c w (gives vs v) h k
+      = (k.0, (k.1.0, (k.1.1.0, h vs v k.0 k.1.0 k.1.1.1)))
   does_map width cells Given Given' p c w (stops no_alternative v) h k = k
   does_map width cells Given Given' p c w (stops heap_full v) h k = k
   does_map width cells Given Given' p c w (stops stack_full v) h k = k
@@ -267,8 +276,10 @@ module _ (lay : Layout) (items : List Item) (begins : List ℕ) where
   does_map width cells Given Given' p c w (stops missing v) h k = tt
 
   -- and then what follows the words
-  pub does_then : (width cells : ℕ) (Given Given' : List Word → World → Point → List ℕ → Type 0) (p : Point)
-      (c : List ℕ) (w : World) (x : Answer) (k : List Word → World → Answer) → Does' width cells Given p c w x
+  pub does_then : (width cells : ℕ) (Given Given' : List Word → World → Point → List ℕ → Type 0)
+      (p : Point)
+      (c : List ℕ) (w : World) (x : Answer) (k : List Word → World → Answer)
+      → Does' width cells Given p c w x
       → ((vs : List Word) (v : World) (q : Point) (d : List ℕ) → v.left ≤ w.left → Given vs v q d
       → Does' width cells Given' q d v (k vs v)) → Does' width cells Given' p c w (then_do x k)
   does_then width cells Given Given' p c w (gives vs v) k h more

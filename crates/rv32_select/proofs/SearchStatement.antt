@@ -135,7 +135,8 @@ module _ (l : Program) (a : Assignment) (cells stack : ℕ) (lay : Layout) (item
                   d,
                   (
                     quiet lay items begins w w
-                        (stays lay items w.input (at (bases stack) lay items p d) (m ∷ outer)) refl refl refl
+                        (stays lay items w.input (at (bases stack) lay items p d) (m ∷ outer)) refl
+                        refl refl
                         refl refl,
                     st,
                   ),
@@ -342,13 +343,15 @@ module _ (l : Program) (a : Assignment) (cells stack : ℕ) (lay : Layout) (item
                   (continued_by_jump way) Must)
                   (Given l a cells stack lay items framed f j pf.slots d0 m outer to way Must)
                   (at (bases stack) lay items here.1.0 come.0) (m ∷ outer) w
-                  (code l (words_at a) (room l a cells stack lay items begins) calls_n env top under c
+                  (code l (words_at a) (room l a cells stack lay items begins) calls_n env top under
+                  c
                   w) (further_given l a cells stack lay items begins s calls_n n f q pf framed j m
                   outer d0 u to way Must)
                   (done.0 h.0.first h.0.next h.0.block here.1.0 come.0 (record {
                     emits = h.4;
                     stands = here.1.1.0;
-                    ready = further_ready l a cells stack lay items begins s calls_n n f q pf framed j
+                    ready = further_ready l a cells stack lay items begins s calls_n n f q pf framed
+                        j
                         m outer d0 u way (p + length block) (here.1.0 + length h.0.block) b.ready;
                     above = (subst (AllOf (StartsFrom (first_label l))) h.2 from).0;
                     fine = fine.1.0;
@@ -358,7 +361,8 @@ module _ (l : Program) (a : Assignment) (cells stack : ℕ) (lay : Layout) (item
                     clear = b.clear;
                     to_own = b.to_own;
                     to_differ = b.to_differ;
-                    in_registers = further_registers l a cells stack lay items begins s calls_n n f q
+                    in_registers = further_registers l a cells stack lay items begins s calls_n n f
+                        q
                         pf framed j m outer d0 u way to b.in_registers;
                     stood = stood_weaken l a cells stack lay framed f j pf.slots d0 (lay.address m)
                         (Needed (choose as0) env Must) (Needed c env Must) come.0 w weaken_code
@@ -385,7 +389,8 @@ module _ (l : Program) (a : Assignment) (cells stack : ℕ) (lay : Layout) (item
                 ))
             weaken_code y z (inr x) = narrow y z (inr x)
 
-            weaken_arms : (y : ℕ) (z : Word) → ArmsNeed l a cells stack lay items begins s calls_n n f
+            weaken_arms : (y : ℕ) (z : Word) → ArmsNeed l a cells stack lay items begins s calls_n n
+                f
                 q pf framed j m outer d0 u as' env Must y z → Needed (choose as0) env Must y z
             weaken_arms y z (inl x) = narrow y z
                 (inl (

@@ -128,7 +128,8 @@ module _ (l : Program) (a : Assignment) (cells stack : ℕ) (lay : Layout) (item
     pub place : ℕ
     pub found : label_from 0 items n ≡ Some place
     pub ends : (d : Data) (calls : List ℕ) (w : World) → Good lay.code (bases stack) d
-        → IsBehind code d w → Ends lay items begins l.width cells (at (bases stack) lay items place d) calls w w code
+        → IsBehind code d w → Ends lay items begins l.width cells
+        (at (bases stack) lay items place d) calls w w code
 
   pub no_alternative_stop : StopAt (length l.procs) 3
   no_alternative_stop = record {
@@ -172,7 +173,8 @@ module _ (l : Program) (a : Assignment) (cells stack : ℕ) (lay : Layout) (item
   heap_full_stop = record {
     place = suc (suc (suc (suc s.stops_at)));
     found = s.once (suc (suc (suc (suc s.stops_at)))) (1 + length l.procs) second_stop.0;
-    ends = λ d calls w g next. stop_exits 4 (1 + length l.procs) (suc (suc (suc (suc s.stops_at)))) d
+    ends = λ d calls w g next. stop_exits 4 (1 + length l.procs) (suc (suc (suc (suc s.stops_at))))
+        d
         calls w (omega arith) (omega arith) second_stop g next;
   }
 

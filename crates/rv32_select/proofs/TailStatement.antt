@@ -149,7 +149,8 @@ module _ (l : Program) (a : Assignment) (cells stack : ℕ) (lay : Layout) (item
           let to_is = subst
           (λ x. InRegisters l a cells stack lay items begins f q framed pf.slots j m outer d0 u
           n x to) returning b.in_registers in
-          let mapped = does_map lay items begins l.width cells G1 G2 (at (bases stack) lay items there.place d2)
+          let mapped = does_map lay items begins l.width cells G1 G2
+          (at (bases stack) lay items there.place d2)
           (m ∷ outer) w (calls_n g vs u w) (λ rs v p' c' h. (
             h.0,
             (

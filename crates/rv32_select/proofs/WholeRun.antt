@@ -232,13 +232,17 @@ module _ (l : Program) (a : Assignment) (cells stack : ℕ) (lay : Layout) (item
       let ends = exits_here l a cells stack lay items begins s 0 (suc pj) given.0 [] w (omega arith)
       exit back.world.good (λ ne. (back.world.room, back.world.next)) in
       let here = subst (λ p. Ends lay items begins l.width cells p h.1.0 w w 0) (sym given.1.0)
-      (subst (λ c. Ends lay items begins l.width cells (at (bases stack) lay items (suc pj) given.0) c w w 0)
+      (subst (λ c. Ends lay items begins l.width cells (at (bases stack) lay items (suc pj) given.0)
+      c w w 0)
       (sym given.1.1.0) ends) in
-      ends_on lay items begins l.width cells ran (ends_on lay items begins l.width cells h.1.1.0 here)
+      ends_on lay items begins l.width cells ran
+      (ends_on lay items begins l.width cells h.1.1.0 here)
   outcome_of t pj d d1 w0 (stops no_alternative w) exit there ran h
       = (ends_on lay items begins l.width cells ran h.0, leaves_on lay items ran.way h.1)
-  outcome_of t pj d d1 w0 (stops heap_full' w) exit there ran h = ends_on lay items begins l.width cells ran h
-  outcome_of t pj d d1 w0 (stops stack_full' w) exit there ran h = ends_on lay items begins l.width cells ran h
+  outcome_of t pj d d1 w0 (stops heap_full' w) exit there ran h
+      = ends_on lay items begins l.width cells ran h
+  outcome_of t pj d d1 w0 (stops stack_full' w) exit there ran h
+      = ends_on lay items begins l.width cells ran h
   outcome_of t pj d d1 w0 (stops out_of_units w) exit there ran h
       = (h.0, (h.1.0, (ran_on lay items begins ran h.1.1.0, h.1.1.1)))
   outcome_of t pj d d1 w0 (stops missing w) exit there ran h = absurd (there refl)
@@ -324,7 +328,8 @@ module _ (l : Program) (a : Assignment) (cells stack : ℕ) (lay : Layout) (item
 
   -- no room for the globals
   no_room : (w0 : World) → cells < length l.globals
-      → Ends lay items begins l.width cells (at (bases stack) lay items 0 (start_data l.width cells stack)) [] w0
+      → Ends lay items begins l.width cells
+      (at (bases stack) lay items 0 (start_data l.width cells stack)) [] w0
       w0 4
   no_room w0 over =
       let wide = s.width_some in

@@ -63,7 +63,8 @@ module _ (l : Program) (a : Assignment) (cells stack : ℕ) (lay : Layout) where
             (own_place l a lay stack f j slots saved (place_of a y) le k.1) ∙ st.vars y v k.0;
         untouched = record {
           above = λ t h. words t ∙ st.untouched.above t h;
-          others = λ r k. same (Reg r) ((k.low, k.high), λ e. absurd (cc)) ∙ st.untouched.others r k;
+          others = λ r k. same (Reg r) ((k.low, k.high), λ e. absurd (cc)) ∙ st.untouched.others r
+              k;
         };
       }
 
