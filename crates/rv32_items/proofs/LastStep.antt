@@ -24,8 +24,8 @@ use Rattle.rv32_items.specs.Placed.{is_instruction, is_jump, size_of, StepsAtRis
 use Rattle.rv32_items.specs.Told.{finish_of}
 use Rattle.rv32_items.specs.Flows.{begins_procedure, IsStopItem, HasStructuredFlow}
 use Rattle.rv32_items.specs.Laws.{HasCode}
-use Rattle.rv32_items.specs.Leaving.{LeavesByLinkJump}
-use Rattle.rv32_items.specs.LastStep.{LastStepIsAtLinkJump, ProceduresPrecedeStops, StopsAreLast}
+use Rattle.rv32_items.specs.Leaving.{LeavesByLinkJump, ExitsWithRegister}
+use Rattle.rv32_items.specs.LastStep.{LastStepIsAtLinkJump, ProceduresPrecedeStops, StopsAreLast, ExitKeepsRegisters}
 use Rattle.rv32_items.proofs.Addresses.{addresses_rise, begin_at}
 use Rattle.rv32_items.proofs.CodeAfterTurn.{turn_is, Good, GoodTurn}
 use Rattle.rv32_items.proofs.Moments.{course_none, trace_more, climbs_run}
@@ -520,7 +520,34 @@ module _ (items : List Item) (words : List ℕ) (placed : Placed items words) wh
         by_item n l before (inl x) = from_jump n.0 n.1 l before x
         by_item n l before (inr x) = absurd (x.no_jump link l.target l.jumps)
 
+  -- where the course exits, the machine stands with the same registers
+  register_kept : (exit register value : ℕ) (m : ℕ) (code : ℕ) (s : State) (input : List ℕ)
+      (p : Point) → (run m input (state_at lay items p)).end ≡ Exited' code s → HasCode lay p
+      → Never input p → ExitsWithRegister lay items input p exit register value
+      → s.regs register ≡ value
+  register_kept exit register value m code s input p exited has never x =
+      let before = led x.taken input p has never x.point x.stood in
+      let there = exits_on m code s input p exited before.steps before.left x.point before.ran in
+      by_item before there (one_item before.left x.point before.code before.never)
+    where
+      by_item : (before : Led x.taken input p x.point) → Exits m code s before.left x.point
+          → Passes before.left x.point ⊎ Ends before.left x.point → s.regs register ≡ value
+      by_item before there (inl y) =
+          let count : x.taken + 1 ≡ suc x.taken = omega arith in
+          let going = sym (ap (λ c. c.end) (course_none lay items y.left y.next)) ∙ sym
+          (y.goes_on 0)
+          ∙ sym (before.goes_on 1) ∙ ap (λ n. (course lay items n input p).end) count ∙ x.exits in
+          cc
+      by_item before there (inr y) =
+          let last = exit_step m before.left (state_at lay items x.point) y.code y.ends code s there
+          in
+          ap (λ v. v.regs register) last.0 ∙ x.has
+
 -- ---- the laws
+
+pub exit_keeps : ExitKeepsRegisters
+exit_keeps items words placed p i exit register value code has never x m s exited =
+    register_kept items words placed exit register value m code s i p exited has never x
 
 pub items_leave : LastStepIsAtLinkJump
 items_leave items words placed p i stops link code has never leaves m s exited =

@@ -1,4 +1,4 @@
--- The last step of a run in the procedures.
+-- The last step of a run in the procedures, and its end.
 use Rattle.std.specs.Prelude.{◌≡◌, ℕ, ◌+◌, ◌-◌, ◌*◌, ◌<◌, true, List, drop}
 use Rattle.rv32_machine.specs.Memory.{end_of}
 use Rattle.rv32_machine.specs.Steps.{State}
@@ -9,7 +9,7 @@ use Rattle.rv32_items.specs.Course.{Point, Exited, state_at, course, NeverTrapsO
 use Rattle.rv32_items.specs.Placed.{size_of, Placed}
 use Rattle.rv32_items.specs.Flows.{HasStructuredFlow}
 use Rattle.rv32_items.specs.Laws.{HasCode, addresses_of, LabelsOccurOnce}
-use Rattle.rv32_items.specs.Leaving.{LeavesByLinkJump}
+use Rattle.rv32_items.specs.Leaving.{LeavesByLinkJump, ExitsWithRegister}
 
 -- where each course that exits with a code has left by a jump that links a register, a run of the
 -- machine that has exited so did its last step before the stops at that jump, 4 before what the
@@ -39,3 +39,13 @@ StopsAreLast =
     (items : List Item) (words : List ℕ) (placed : Placed items words) (begins : List ℕ)
     → (flows : HasStructuredFlow begins items)
     → placed.lay.address flows.stops + 4 * size_of (drop flows.stops items) ≡ end_of placed.lay.code
+
+-- where a course exits with a value in a register, so does the machine
+abbrev pub ExitKeepsRegisters : Type 0
+ExitKeepsRegisters =
+    (items : List Item) (words : List ℕ) (placed : Placed items words)
+    (p : Point) (i : List ℕ) (exit register value code : ℕ)
+    → HasCode placed.lay p → NeverTrapsOn placed.lay items i p
+    → ExitsWithRegister placed.lay items i p exit register value
+    → (m : ℕ) (s : State) → (run m i (state_at placed.lay items p)).end ≡ Exited' code s
+    → s.regs register ≡ value

@@ -2,7 +2,7 @@
 
 ghost use Rattle.rv32_items.specs.Laws.{MachineMatchesItems, ItemsAreReached, MachineEntersLabels, MachineGoesForward};
 ghost use Rattle.rv32_items.specs.Pace.{ItemsBoundSteps};
-ghost use Rattle.rv32_items.specs.LastStep.{LastStepIsAtLinkJump, ProceduresPrecedeStops, StopsAreLast};
+ghost use Rattle.rv32_items.specs.LastStep.{LastStepIsAtLinkJump, ProceduresPrecedeStops, StopsAreLast, ExitKeepsRegisters};
 
 /// Where the items never trap, the machine shows what they show, and in at most three steps an
 /// item.
@@ -34,4 +34,9 @@ pub fn last_step_is_at_link_jump()
     ensures left { LastStepIsAtLinkJump }
     ensures behind { ProceduresPrecedeStops }
     ensures last { StopsAreLast }
+{}
+
+/// Where a course exits, the machine exits with the same registers.
+pub fn exit_keeps_registers()
+    ensures { ExitKeepsRegisters }
 {}

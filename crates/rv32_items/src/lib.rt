@@ -4,8 +4,8 @@
 mod laws;
 
 pub use laws::{
-    items_bound_steps, last_step_is_at_link_jump, machine_enters_labels, machine_goes_forward,
-    machine_matches_items,
+    exit_keeps_registers, items_bound_steps, last_step_is_at_link_jump, machine_enters_labels,
+    machine_goes_forward, machine_matches_items,
 };
 use rv32_isa::{Instr, Reg};
 use seq::Seq;

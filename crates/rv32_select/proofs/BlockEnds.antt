@@ -222,7 +222,13 @@ module _ (l : Program) (a : Assignment) (cells stack : ℕ) (lay : Layout) (item
       let remains = subst
       (λ x. Remains lay items s.stops_at x w.input (at (bases stack) lay items stop.place to))
       five (no_alternative_remains l a cells stack lay items begins s to w.input good) in (
-        ends_on lay items begins ran (stop.ends to (m ∷ outer) w good),
+        ends_on lay items begins l.width cells ran
+            (stop.ends to (m ∷ outer) w good
+            (λ ne. (
+              b.stood.world.room,
+              jumped_reg l a cells stack lay items begins s p 5 3 d (omega arith) (omega arith)
+                  (omega arith) ∙ b.stood.world.next,
+            ))),
         leaves_now lay items s.stops_at (length l.procs) here s.last step remains,
       )
 

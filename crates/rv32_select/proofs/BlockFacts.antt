@@ -270,7 +270,7 @@ module _ (l : Program) (a : Assignment) (cells stack : ℕ) (lay : Layout) (item
       → d.regs 2 ≡ (bases stack).stack + 4 * bound → 4 * (bound + under) ≡ stack
       → d.regs 1 ≡ lay.address m → address_from 0 items lay (lay.address m) ≡ Some m
       → AllHold l.width (argument_spots 0 (map (place_of a) q.params)) vs (regs_of d) → w.left ≤ n
-      → Does' lay items begins
+      → Does' lay items begins l.width cells
       (λ rs w' p calls'. (d' : Data) ×
       ((p ≡ at (bases stack) lay items m d') ×
       ((calls' ≡ outer) ×
@@ -336,7 +336,7 @@ module _ (l : Program) (a : Assignment) (cells stack : ℕ) (lay : Layout) (item
         (Must : ℕ → Word → Type 0) (pos : ℕ) (env : Env) (top : ℕ) (under : Option ℕ) (d : Data)
         (w : World) → Type 0
     Simulates calls c to way Must pos env top under d w =
-        Does' lay items begins
+        Does' lay items begins l.width cells
         (Given l a cells stack lay items framed f j slots d0 m outer to way Must)
         (at (bases stack) lay items pos d) (m ∷ outer) w
         (code l (words_at a) room calls env top under c w)

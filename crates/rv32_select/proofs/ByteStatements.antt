@@ -94,7 +94,7 @@ module _ (l : Program) (a : Assignment) (cells stack : ℕ) (lay : Layout) (item
       = go (number_in l (words_at a) env o) refl
     where
       go : (r : Option ℕ) → number_in l (words_at a) env o ≡ r
-          → Does' lay items begins
+          → Does' lay items begins l.width cells
           (Given l a cells stack lay items framed f j pf.slots d0 m outer to way Must)
           (at (bases stack) lay items p d) (m ∷ outer) w
           (need r w
@@ -198,7 +198,7 @@ module _ (l : Program) (a : Assignment) (cells stack : ℕ) (lay : Layout) (item
           (ran_on lay items begins ran2
           (subst (λ y. Ran lay items begins (at (bases stack) lay items (suc pe) e4) (m ∷ outer)
           w' (at (bases stack) lay items y e6) (m ∷ outer) w') plain_pos ran3)) in
-          does_after lay items begins
+          does_after lay items begins l.width cells
           (Given l a cells stack lay items framed f j pf.slots d0 m outer to way Must)
           (code l (words_at a) (room l a cells stack lay items begins) calls_n env top under c
           w') ran
@@ -494,7 +494,7 @@ module _ (l : Program) (a : Assignment) (cells stack : ℕ) (lay : Layout) (item
           1 10 17 ∷ (back (heap_end l cells) ++ move_to (place_of a x) (Reg 1)))
           → Good lay.code (bases stack) e
           → (byte_taken i w).cells ≡ w.cells → (byte_taken i w).left ≡ w.left
-          → Does' lay items begins
+          → Does' lay items begins l.width cells
           (Given l a cells stack lay items framed f j pf.slots d0 m outer to way Must)
           (at (bases stack) lay items p d) (m ∷ outer) w
           (code l (words_at a) (room l a cells stack lay items begins) calls_n
@@ -545,7 +545,7 @@ module _ (l : Program) (a : Assignment) (cells stack : ℕ) (lay : Layout) (item
           Must d z.to' w w' pf.enough b.stood world ch
           (z.outside j (inl (omega arith)) ∙ b.stood.home) refl b.fine.0 (λ y z. z) b.scoped
           b.must b.owned in
-          does_after lay items begins
+          does_after lay items begins l.width cells
           (Given l a cells stack lay items framed f j pf.slots d0 m outer to way Must)
           (code l (words_at a) (room l a cells stack lay items begins) calls_n
           (with_var x (number (next_byte i)) env) top under c w') ran
@@ -575,7 +575,7 @@ module _ (l : Program) (a : Assignment) (cells stack : ℕ) (lay : Layout) (item
             under_is = b.under_is;
           }))
 
-      by_input : (i : List ℕ) → w.input ≡ i → Does' lay items begins
+      by_input : (i : List ℕ) → w.input ≡ i → Does' lay items begins l.width cells
           (Given l a cells stack lay items framed f j pf.slots d0 m outer to way Must)
           (at (bases stack) lay items p d) (m ∷ outer) w
           (code l (words_at a) (room l a cells stack lay items begins) calls_n

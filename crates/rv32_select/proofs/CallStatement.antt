@@ -366,7 +366,7 @@ module _ (l : Program) (a : Assignment) (cells stack : ℕ) (lay : Layout) (item
         → Simulates l a cells stack lay items begins f q framed pf.slots j m outer d0 u n calls_n c
         to way Must (p + length (plain first_code ++ Jump 1 g ∷ plain second_code)) env' top
         under d' v)
-        → Does' lay items begins
+        → Does' lay items begins l.width cells
         (Given l a cells stack lay items framed f j pf.slots d0 m outer to way Must)
         (at (bases stack) lay items (suc (p + length (plain first_code))) e) (m ∷ outer) v
         (code l (words_at a) (room l a cells stack lay items begins) calls_n env' top under c v)
@@ -398,7 +398,7 @@ module _ (l : Program) (a : Assignment) (cells stack : ℕ) (lay : Layout) (item
         let behind : suc pj + length (plain second_code) ≡ p + length
         (plain first_code ++ Jump 1 g ∷ plain second_code) = let y
         = length-append (plain first_code) (Jump 1 g ∷ plain second_code) in omega arith in
-        does_after lay items begins
+        does_after lay items begins l.width cells
         (Given l a cells stack lay items framed f j pf.slots d0 m outer to way Must)
         (code l (words_at a) (room l a cells stack lay items begins) calls_n env' top under c v)
         (subst (λ y. Ran lay items begins (at (bases stack) lay items (suc pj) e) (m ∷ outer) v
@@ -450,7 +450,7 @@ module _ (l : Program) (a : Assignment) (cells stack : ℕ) (lay : Layout) (item
             → HoldsWorld l a cells stack lay e v → e.regs 2 ≡ d.regs 2 → v.left ≤ w.left
             → AllHold l.width (result_spots 10 fit.called.results) rs (regs_of e)
             → length rs ≡ fit.called.results
-            → Does' lay items begins
+            → Does' lay items begins l.width cells
             (Given l a cells stack lay items framed f j pf.slots d0 m outer to way Must)
             (at (bases stack) lay items (suc (p + length (plain first_code))) e) (m ∷ outer) v
             (need r v
@@ -461,7 +461,7 @@ module _ (l : Program) (a : Assignment) (cells stack : ℕ) (lay : Layout) (item
             = ended rs env' e v x world sp left hold many bind (λ d' b'. more rs env' d' v b')
 
         by_words : (vs : List Word) → operands l (words_at a) env os ≡ Some vs
-            → Does' lay items begins
+            → Does' lay items begins l.width cells
             (Given l a cells stack lay items framed f j pf.slots d0 m outer to way Must)
             (at (bases stack) lay items p d) (m ∷ outer) w
             (then_do (calls_n g vs top w)
@@ -489,13 +489,15 @@ module _ (l : Program) (a : Assignment) (cells stack : ℕ) (lay : Layout) (item
             let onward = λ (rs : List Word) (w' : World). need (with_vars xs rs env) w'
             (λ env'. code l (words_at a) (room l a cells stack lay items begins) calls_n env'
             top under c w') in
-            does_after lay items begins G (then_do (calls_n g vs top w) onward) z.ran
-            (does_then lay items begins G1 G (at (bases stack) lay items z.place z.to')
+            does_after lay items begins l.width cells G (then_do (calls_n g vs top w) onward) z.ran
+            (does_then lay items begins l.width cells G1 G
+            (at (bases stack) lay items z.place z.to')
             (suc pj ∷ m ∷ outer) w (calls_n g vs top w) onward callee
             (λ rs v p' c' le given.
             let back_to = given.1.1.1.0 in
-            subst (λ x. Does' lay items begins G x c' v (onward rs v)) (sym given.1.0)
-            (subst (λ x. Does' lay items begins G (at (bases stack) lay items (suc pj) given.0) x v
+            subst (λ x. Does' lay items begins l.width cells G x c' v (onward rs v)) (sym given.1.0)
+            (subst (λ x. Does' lay items begins l.width cells G
+            (at (bases stack) lay items (suc pj) given.0) x v
             (onward rs v)) (sym given.1.1.0)
             (by_vars (with_vars xs rs env) rs refl given.0 v
             (crossed_back l a cells stack lay j pf.slots (slots_of (place_of a) (variables q)) g
@@ -504,7 +506,7 @@ module _ (l : Program) (a : Assignment) (cells stack : ℕ) (lay : Layout) (item
             back_to.world (back_to.sp ∙ sym b.stood.frame.sp) le back_to.results given.1.1.1.1))))
 
         by_operands : (r : Option (List Word)) → operands l (words_at a) env os ≡ r
-            → Does' lay items begins
+            → Does' lay items begins l.width cells
             (Given l a cells stack lay items framed f j pf.slots d0 m outer to way Must)
             (at (bases stack) lay items p d) (m ∷ outer) w
             (need r w

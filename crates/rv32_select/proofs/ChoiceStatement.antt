@@ -66,7 +66,7 @@ module _ (l : Program) (a : Assignment) (cells stack : ℕ) (lay : Layout) (item
       (Must : ℕ → Word → Type 0) (pos : ℕ) (env : Env) (top : ℕ) (under : Option ℕ) (d : Data)
       (w : World) → Type 0
   ArmsSimulates as' to way Must pos env top under d w =
-      Does' lay items begins
+      Does' lay items begins l.width cells
       (Given l a cells stack lay items framed f j pf.slots d0 m outer to way Must)
       (at (bases stack) lay items pos d) (m ∷ outer) w
       (arms l (words_at a) (room l a cells stack lay items begins) calls_n env top under as' w)
@@ -403,7 +403,7 @@ module _ (l : Program) (a : Assignment) (cells stack : ℕ) (lay : Layout) (item
         G = Given l a cells stack lay items framed f j pf.slots d0 m outer to way Must
 
         taken : holds l (words_at a) env ts ≡ Some true
-            → Does' lay items begins
+            → Does' lay items begins l.width cells
             (Given l a cells stack lay items framed f j pf.slots d0 m outer to way Must)
             (at (bases stack) lay items p d) (m ∷ outer) w
             (code l (words_at a) (room l a cells stack lay items begins) calls_n env top under c w)
@@ -440,11 +440,11 @@ module _ (l : Program) (a : Assignment) (cells stack : ℕ) (lay : Layout) (item
               top_is = b.top_is;
               under_is = λ v z. let is = b.under_is v z in (is.0, ap continued_by_jump is.1);
             }) in
-            does_after lay items begins
+            does_after lay items begins l.width cells
             (Given l a cells stack lay items framed f j pf.slots d0 m outer to way Must)
             (code l (words_at a) (room l a cells stack lay items begins) calls_n env top under c
             w) T.1.0
-            (does_map lay items begins
+            (does_map lay items begins l.width cells
             (Given l a cells stack lay items framed f j pf.slots d0 m outer to
             (continued_by_jump way) Must)
             (Given l a cells stack lay items framed f j pf.slots d0 m outer to way Must)
@@ -463,7 +463,7 @@ module _ (l : Program) (a : Assignment) (cells stack : ℕ) (lay : Layout) (item
             weaken_code y v (inr h) = inr h
 
         passed : holds l (words_at a) env ts ≡ Some false
-            → Does' lay items begins
+            → Does' lay items begins l.width cells
             (Given l a cells stack lay items framed f j pf.slots d0 m outer to way Must)
             (at (bases stack) lay items p d) (m ∷ outer) w
             (arms l (words_at a) (room l a cells stack lay items begins) calls_n env top under as'
@@ -484,7 +484,7 @@ module _ (l : Program) (a : Assignment) (cells stack : ℕ) (lay : Layout) (item
             let ran = ran_on lay items begins T.1.0
             (subst (λ y. Ran lay items begins (at (bases stack) lay items place T.0) (m ∷ outer)
             w (at (bases stack) lay items y T.0) (m ∷ outer) w) behind pass) in
-            does_after lay items begins
+            does_after lay items begins l.width cells
             (Given l a cells stack lay items framed f j pf.slots d0 m outer to way Must)
             (arms l (words_at a) (room l a cells stack lay items begins) calls_n env top under
             as' w) ran
@@ -524,7 +524,7 @@ module _ (l : Program) (a : Assignment) (cells stack : ℕ) (lay : Layout) (item
             weaken_arms y v (inr h) = inr h
 
         by_holds : (r : Option Bool) → holds l (words_at a) env ts ≡ r
-            → Does' lay items begins
+            → Does' lay items begins l.width cells
             (Given l a cells stack lay items framed f j pf.slots d0 m outer to way Must)
             (at (bases stack) lay items p d) (m ∷ outer) w
             (need r w
@@ -592,7 +592,7 @@ module _ (l : Program) (a : Assignment) (cells stack : ℕ) (lay : Layout) (item
             (among_left y (used_by t.left) [] z)) b.fine.0 e
 
         held : holds l (words_at a) env (t ∷ []) ≡ Some true
-            → Does' lay items begins
+            → Does' lay items begins l.width cells
             (Given l a cells stack lay items framed f j pf.slots d0 m outer to way Must)
             (at (bases stack) lay items p d) (m ∷ outer) w
             (code l (words_at a) (room l a cells stack lay items begins) calls_n env top under c w)
@@ -609,7 +609,7 @@ module _ (l : Program) (a : Assignment) (cells stack : ℕ) (lay : Layout) (item
             let ran = ran_on lay items begins (T.other is.1.1)
             (subst (λ y. Ran lay items begins (at (bases stack) lay items place T.far)
             (m ∷ outer) w (at (bases stack) lay items y T.far) (m ∷ outer) w) behind pass) in
-            does_after lay items begins
+            does_after lay items begins l.width cells
             (Given l a cells stack lay items framed f j pf.slots d0 m outer to way Must)
             (code l (words_at a) (room l a cells stack lay items begins) calls_n env top under c
             w) ran
@@ -649,7 +649,7 @@ module _ (l : Program) (a : Assignment) (cells stack : ℕ) (lay : Layout) (item
             weaken_code y v (inr z) = inr z
 
         not_held : holds l (words_at a) env (t ∷ []) ≡ Some false
-            → Does' lay items begins
+            → Does' lay items begins l.width cells
             (Given l a cells stack lay items framed f j pf.slots d0 m outer to way Must)
             (at (bases stack) lay items p d) (m ∷ outer) w
             (arms l (words_at a) (room l a cells stack lay items begins) calls_n env top under as'
@@ -682,11 +682,11 @@ module _ (l : Program) (a : Assignment) (cells stack : ℕ) (lay : Layout) (item
               top_is = b.top_is;
               under_is = λ v z. let is = b.under_is v z in (is.0, ap continued_by_jump is.1);
             }) in
-            does_after lay items begins
+            does_after lay items begins l.width cells
             (Given l a cells stack lay items framed f j pf.slots d0 m outer to way Must)
             (arms l (words_at a) (room l a cells stack lay items begins) calls_n env top under
             as' w) (T.same is.1.1)
-            (does_map lay items begins
+            (does_map lay items begins l.width cells
             (Given l a cells stack lay items framed f j pf.slots d0 m outer to
             (continued_by_jump way) Must)
             (Given l a cells stack lay items framed f j pf.slots d0 m outer to way Must)
@@ -706,7 +706,7 @@ module _ (l : Program) (a : Assignment) (cells stack : ℕ) (lay : Layout) (item
             weaken_arms y v (inr z) = inr z
 
         by_holds : (r : Option Bool) → holds l (words_at a) env (t ∷ []) ≡ r
-            → Does' lay items begins
+            → Does' lay items begins l.width cells
             (Given l a cells stack lay items framed f j pf.slots d0 m outer to way Must)
             (at (bases stack) lay items p d) (m ∷ outer) w
             (need r w

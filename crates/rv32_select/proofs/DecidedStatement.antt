@@ -268,18 +268,18 @@ module _ (l : Program) (a : Assignment) (cells stack : ℕ) (lay : Layout) (item
           (m ∷ outer) w
           (at (bases stack) lay items
           (p + length (branch_items cond k (source l a o) (source l a o'))) d') (m ∷ outer) w
-          → Does' lay items begins
+          → Does' lay items begins l.width cells
           (Given l a cells stack lay items framed f j pf.slots d0 m outer to
           (continued_by_jump way) Must)
           (at (bases stack) lay items
           (p + length (branch_items cond k (source l a o) (source l a o'))) d') (m ∷ outer) w r
-          → Does' lay items begins
+          → Does' lay items begins l.width cells
           (Given l a cells stack lay items framed f j pf.slots d0 m outer to way Must)
           (at (bases stack) lay items p d) (m ∷ outer) w r
       goes_in d' r ran done =
-          does_after lay items begins
+          does_after lay items begins l.width cells
           (Given l a cells stack lay items framed f j pf.slots d0 m outer to way Must) r ran
-          (does_map lay items begins
+          (does_map lay items begins l.width cells
           (Given l a cells stack lay items framed f j pf.slots d0 m outer to
           (continued_by_jump way) Must)
           (Given l a cells stack lay items framed f j pf.slots d0 m outer to way Must)
@@ -293,13 +293,13 @@ module _ (l : Program) (a : Assignment) (cells stack : ℕ) (lay : Layout) (item
           (at (bases stack) lay items
           (p + length (branch_items cond k (source l a o) (source l a o')) + length inner) d')
           (m ∷ outer) w
-          → Does' lay items begins
+          → Does' lay items begins l.width cells
           (Given l a cells stack lay items framed f j pf.slots d0 m outer to way Must)
           (at (bases stack) lay items
           (p + length
           (branch_items cond k (source l a o) (source l a o') ++ (inner ++ Label k ∷ []))) d')
           (m ∷ outer) w r
-          → Does' lay items begins
+          → Does' lay items begins l.width cells
           (Given l a cells stack lay items framed f j pf.slots d0 m outer to way Must)
           (at (bases stack) lay items p d) (m ∷ outer) w r
       goes_past d' r ran done =
@@ -311,7 +311,7 @@ module _ (l : Program) (a : Assignment) (cells stack : ℕ) (lay : Layout) (item
           (branch_items cond k (source l a o) (source l a o') ++ (inner ++ Label k ∷ []))
           = let y = length-append test (inner ++ Label k ∷ []) in let z
           = length-append inner (Label k ∷ []) in omega arith in
-          does_after lay items begins
+          does_after lay items begins l.width cells
           (Given l a cells stack lay items framed f j pf.slots d0 m outer to way Must) r
           (ran_on lay items begins ran
           (subst (λ y. Ran lay items begins (at (bases stack) lay items place d') (m ∷ outer) w
@@ -322,7 +322,7 @@ module _ (l : Program) (a : Assignment) (cells stack : ℕ) (lay : Layout) (item
         ((v v' : ℕ) → number_in l (words_at a) env o ≡ Some v
         → number_in l (words_at a) env o' ≡ Some v' → (t : Bool)
         → nat_eq (arithmetic g v v') (tested ts) ≡ t
-        → Does' lay items begins
+        → Does' lay items begins l.width cells
         (Given l a cells stack lay items framed f j pf.slots d0 m outer to way Must)
         (at (bases stack) lay items p d) (m ∷ outer) w
         (elim t [
@@ -339,7 +339,7 @@ module _ (l : Program) (a : Assignment) (cells stack : ℕ) (lay : Layout) (item
       where
         go : (r : Option ℕ) → number_in l (words_at a) env o ≡ r → (r' : Option ℕ)
             → number_in l (words_at a) env o' ≡ r'
-            → Does' lay items begins
+            → Does' lay items begins l.width cells
             (Given l a cells stack lay items framed f j pf.slots d0 m outer to way Must)
             (at (bases stack) lay items p d) (m ∷ outer) w
             (need r w
@@ -359,7 +359,7 @@ module _ (l : Program) (a : Assignment) (cells stack : ℕ) (lay : Layout) (item
                   (words_at a) (room l a cells stack lay items begins) calls_n
                   (with_var x (number (arithmetic g v v')) env) top under as' w
             ])) (result_is r) in
-            subst (λ y. Does' lay items begins
+            subst (λ y. Does' lay items begins l.width cells
             (Given l a cells stack lay items framed f j pf.slots d0 m outer to way Must)
             (at (bases stack) lay items p d) (m ∷ outer) w y) (sym runs)
             (each v v' i i' (nat_eq (arithmetic g v v') (tested ts)) refl)
@@ -422,7 +422,7 @@ module _ (l : Program) (a : Assignment) (cells stack : ℕ) (lay : Layout) (item
         each : (v v' : ℕ) → number_in l (words_at a) env o ≡ Some v
             → number_in l (words_at a) env o' ≡ Some v' → (t : Bool)
             → nat_eq (arithmetic g v v') (tested ts) ≡ t
-            → Does' lay items begins
+            → Does' lay items begins l.width cells
             (Given l a cells stack lay items framed f j pf.slots d0 m outer to way Must)
             (at (bases stack) lay items p d) (m ∷ outer) w
             (elim t [
@@ -532,7 +532,7 @@ module _ (l : Program) (a : Assignment) (cells stack : ℕ) (lay : Layout) (item
         each : (v v' : ℕ) → number_in l (words_at a) env o ≡ Some v
             → number_in l (words_at a) env o' ≡ Some v' → (t : Bool)
             → nat_eq (arithmetic g v v') (tested ts) ≡ t
-            → Does' lay items begins
+            → Does' lay items begins l.width cells
             (Given l a cells stack lay items framed f j pf.slots d0 m outer to way Must)
             (at (bases stack) lay items p d) (m ∷ outer) w
             (elim t [

@@ -1,6 +1,7 @@
 -- What the courses of selected items are, where none of the program's runs is missing: they follow
 -- its runs, arrive where those do,
--- each return goes home, and where no alternative was found they leave by the jump there.
+-- each return goes home, where no alternative was found they leave by the jump there, and they exit
+-- with the address of the next cell in x3.
 use Rattle.std.proofs.Common.{◌≡◌, ◌≢◌, ℕ, ◌+◌, List, [], length, Some, sym, ap, ◌∙◌, subst, refl}
 use Rattle.headline.specs.Carries.{IsBytes}
 use Rattle.low_code.specs.Tree.{Program}
@@ -13,14 +14,14 @@ use Rattle.rv32_steps.specs.Trace.{procedures_at}
 use Rattle.rv32_items.specs.declared.Item.{Item}
 use Rattle.rv32_items.specs.Course.{Layout, Point, Exited, course}
 use Rattle.rv32_items.specs.Told.{ReturnsHome}
-use Rattle.rv32_select.specs.Selects.{start_point, EndsLikeRun, Follows, ReachesAnswer}
+use Rattle.rv32_select.specs.Selects.{start_point, EndsLikeRun, Follows, ReachesAnswer, HasNextCell}
 use Rattle.rv32_select.proofs.Straight.{at}
 use Rattle.rv32_select.proofs.Leaves.{Leaves}
 use Rattle.rv32_select.proofs.Relation.{bases}
 use Rattle.rv32_select.proofs.PlaceFacts.{Setting}
 use Rattle.rv32_select.proofs.StartUp.{start_data, starts_at}
 use Rattle.rv32_select.proofs.WholeRun.{Started, whole_run}
-use Rattle.rv32_select.proofs.Outcomes.{IsStart, follows, arrives, home, leaves}
+use Rattle.rv32_select.proofs.Outcomes.{IsStart, follows, arrives, home, leaves, next_cell}
 
 module _ (l : Program) (a : Assignment) (cells stack : ℕ) (lay : Layout) (items : List Item)
     (begins : List ℕ) (s : Setting l a cells stack lay items begins)
@@ -47,7 +48,8 @@ module _ (l : Program) (a : Assignment) (cells stack : ℕ) (lay : Layout) (item
       cells stack lay
   from_is = starts_at l.width cells stack lay items s.stack_four
 
-  starting : (i : List ℕ) (n : ℕ) → IsStart lay items begins i from (start_world l (words_at a) i n)
+  starting : (i : List ℕ) (n : ℕ) → IsStart lay items begins l.width cells i from
+      (start_world l (words_at a) i n)
   starting i n = record { input_is = refl; used_is = refl; out_is = refl; entered_is = refl }
 
   counted : (i : List ℕ) (n : ℕ) → length
@@ -66,7 +68,8 @@ module _ (l : Program) (a : Assignment) (cells stack : ℕ) (lay : Layout) (item
       (limited l (words_at a) cells stack i
       (length (procedures_at begins (course lay items k i p).passed))) (course lay items k i p))
       from_is
-      (follows lay items begins i from (start_world l (words_at a) i n) (starting i n) k
+      (follows lay items begins l.width cells i from (start_world l (words_at a) i n) (starting i n)
+      k
       (limited l (words_at a) cells stack i n)
       (whole_run l a cells stack lay items begins s z i n bytes (never i n bytes))
       (counted i n))
@@ -77,7 +80,7 @@ module _ (l : Program) (a : Assignment) (cells stack : ℕ) (lay : Layout) (item
   selected_arrives i bytes n =
       subst (λ p. (k : ℕ) × ReachesAnswer begins i (limited l (words_at a) cells stack i n)
       (course lay items k i p)) from_is
-      (arrives lay items begins i from (start_world l (words_at a) i n) (starting i n)
+      (arrives lay items begins l.width cells i from (start_world l (words_at a) i n) (starting i n)
       (limited l (words_at a) cells stack i n)
       (whole_run l a cells stack lay items begins s z i n bytes (never i n bytes)))
 
@@ -85,7 +88,7 @@ module _ (l : Program) (a : Assignment) (cells stack : ℕ) (lay : Layout) (item
       → ReturnsHome lay items k i (start_point l.width cells stack lay) []
   selected_home i bytes k =
       subst (λ p. ReturnsHome lay items k i p []) from_is
-      (home lay items begins i from (start_world l (words_at a) i k) (starting i k) k
+      (home lay items begins l.width cells i from (start_world l (words_at a) i k) (starting i k) k
       (limited l (words_at a) cells stack i k)
       (whole_run l a cells stack lay items begins s z i k bytes (never i k bytes))
       (counted i k))
@@ -101,5 +104,17 @@ module _ (l : Program) (a : Assignment) (cells stack : ℕ) (lay : Layout) (item
       let f = selected_follows i bytes k in
       let exit = (subst (λ e. EndsLikeRun i x (course lay items k i begin) e) exited f.finish).0 in
       subst (λ p. Leaves lay items i p) from_is
-      (leaves lay items begins i from (start_world l (words_at a) i n) (starting i n) x
+      (leaves lay items begins l.width cells i from (start_world l (words_at a) i n) (starting i n)
+      x
       (whole_run l a cells stack lay items begins s z i n bytes (never i n bytes)) exit)
+
+  pub selected_next_cell : (i : List ℕ) → IsBytes i → (n : ℕ)
+      → HasNextCell lay items l.width cells i (start_point l.width cells stack lay)
+      (limited l (words_at a) cells stack i n)
+  selected_next_cell i bytes n =
+      subst (λ p. HasNextCell lay items l.width cells i p (limited l (words_at a) cells stack i n))
+      from_is
+      (next_cell lay items begins l.width cells i from (start_world l (words_at a) i n)
+      (starting i n)
+      (limited l (words_at a) cells stack i n)
+      (whole_run l a cells stack lay items begins s z i n bytes (never i n bytes)))

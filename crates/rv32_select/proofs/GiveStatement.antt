@@ -130,7 +130,7 @@ module _ (l : Program) (a : Assignment) (cells stack : ℕ) (lay : Layout) (item
       (place_of a y))
       → Stood l a cells stack lay framed f j pf.slots d0 (lay.address m) Must d w
       → AllHold l.width to vs (spots lay.code (bases stack) j pf.slots d)
-      → Does' lay items begins
+      → Does' lay items begins l.width cells
       (Given l a cells stack lay items framed f j pf.slots d0 m outer to way Must)
       (at (bases stack) lay items p d) (m ∷ outer) w (gives vs w)
   way_goes Returns to Must p vs d w stands ready in_registers to_own owned st hold =
@@ -208,7 +208,7 @@ module _ (l : Program) (a : Assignment) (cells stack : ℕ) (lay : Layout) (item
       = go (operands l (words_at a) env os) refl
     where
       go : (r : Option (List Word)) → operands l (words_at a) env os ≡ r
-          → Does' lay items begins
+          → Does' lay items begins l.width cells
           (Given l a cells stack lay items framed f j pf.slots d0 m outer to way Must)
           (at (bases stack) lay items p d) (m ∷ outer) w (need r w (λ vs. gives vs w))
       go None e = tt
@@ -250,7 +250,7 @@ module _ (l : Program) (a : Assignment) (cells stack : ℕ) (lay : Layout) (item
           (λ y v h. z.others (place_of a y)
           (own_place l a lay stack f j pf.slots (slots_of (place_of a) (variables q))
           (place_of a y) pf.enough (owned y v h)) (b.clear y v h) ∙ b.stood.vars y v (inr h)) in
-          does_after lay items begins
+          does_after lay items begins l.width cells
           (Given l a cells stack lay items framed f j pf.slots d0 m outer to way Must)
           (gives vs w) ran
           (way_goes way to Must (p + length (plain is)) vs z.data' w parts.more

@@ -106,7 +106,7 @@ module _ (l : Program) (a : Assignment) (cells stack : ℕ) (lay : Layout) (item
         (join xs bb c) to way Must p env top under d w
     unfolding code
     join_simulated block_done more =
-        does_then lay items begins
+        does_then lay items begins l.width cells
         (Given l a cells stack lay items framed f j pf.slots d0 m outer (map (place_of a) xs)
         (Follows k) (Needed c env Must))
         (Given l a cells stack lay items framed f j pf.slots d0 m outer to way Must)
@@ -122,11 +122,11 @@ module _ (l : Program) (a : Assignment) (cells stack : ℕ) (lay : Layout) (item
         let two : Some given.0 ≡ Some (p + length b.emits.1)
         = sym given.1.1.0 ∙ s.once (p + length b.emits.1) k label_here in
         let place : given.0 ≡ p + length b.emits.1 = cc in
-        subst (λ x. Does' lay items begins
+        subst (λ x. Does' lay items begins l.width cells
         (Given l a cells stack lay items framed f j pf.slots d0 m outer to way Must) x c' v
         (onward rs v))
         (sym (given.1.1.1.0 ∙ ap (λ y. at (bases stack) lay items y given.1.0) place))
-        (subst (λ x. Does' lay items begins
+        (subst (λ x. Does' lay items begins l.width cells
         (Given l a cells stack lay items framed f j pf.slots d0 m outer to way Must)
         (at (bases stack) lay items (p + length b.emits.1) given.1.0) x v (onward rs v))
         (sym given.1.1.1.1.0)
@@ -136,7 +136,7 @@ module _ (l : Program) (a : Assignment) (cells stack : ℕ) (lay : Layout) (item
             → (e : Data) (v : World) → v.left ≤ w.left
             → Stood l a cells stack lay framed f j pf.slots d0 (lay.address m) (Needed c env Must) e
             v → AllHold l.width (map (place_of a) xs) rs (spots lay.code (bases stack) j pf.slots e)
-            → Does' lay items begins
+            → Does' lay items begins l.width cells
             (Given l a cells stack lay items framed f j pf.slots d0 m outer to way Must)
             (at (bases stack) lay items (p + length b.emits.1) e) (m ∷ outer) v
             (need r v
@@ -148,7 +148,7 @@ module _ (l : Program) (a : Assignment) (cells stack : ℕ) (lay : Layout) (item
             (m ∷ outer) v (let le = b.above in omega arith) label_here in
             let behind : suc (p + length b.emits.1) ≡ p + length (b.emits.1 ++ Label k ∷ []) = let y
             = length-append b.emits.1 (Label k ∷ []) in omega arith in
-            does_after lay items begins
+            does_after lay items begins l.width cells
             (Given l a cells stack lay items framed f j pf.slots d0 m outer to way Must)
             (code l (words_at a) (room l a cells stack lay items begins) calls_n env' top under
             c v)

@@ -8,7 +8,7 @@ use Rattle.rv32_items.specs.declared.Item.{Item}
 use Rattle.rv32_items.specs.declared.Item.TheVariants.{Jump}
 use Rattle.rv32_items.specs.Course.{Layout, Point, Going, Exited, course}
 use Rattle.rv32_items.specs.Flows.{IsStopItem}
-use Rattle.rv32_items.specs.Leaving.{LeavesByLinkJump}
+use Rattle.rv32_items.specs.Leaving.{LeavesByLinkJump, ExitsWithRegister}
 use Rattle.rv32_select.proofs.Courses.{course_none, Goes, Exits}
 use Rattle.rv32_select.proofs.Fronts.{course_front}
 
@@ -117,6 +117,37 @@ module _ (lay : Layout) (items : List Item) where
         more.stays (m - k) r (omega (arith, lt))
         (sym (ap (λ n. (course lay items n input p).end) count ∙ ap (λ x. x.end) (g.by (m - k)))
         ∙ e);
+  }
+
+  -- it exits with a value in a register, also behind a stretch
+  pub exits_on : {k code register value : ℕ} {input left bytes labels c d : List ℕ} {p q : Point}
+      → Goes lay items k input p c bytes labels left q d
+      → ExitsWithRegister lay items left q code register value
+      → ExitsWithRegister lay items input p code register value
+  exits_on {k} {code} {register} {value} {input} {left} {bytes} {labels} {c} {d} {p} {q} g x
+      = record {
+        taken = k + x.taken;
+        point = x.point;
+        stood = ap (λ y. y.end) (g.by x.taken) ∙ x.stood;
+        exits =
+            let count : suc (k + x.taken) ≡ k + suc x.taken = omega arith in
+            ap (λ n. (course lay items n input p).end) count
+            ∙ ap (λ y. y.end) (g.by (suc x.taken)) ∙ x.exits;
+        has = x.has;
+      }
+
+  -- and where the exit is the next item
+  pub exits_here_with : {code : ℕ} {input left bytes labels c : List ℕ} {p : Point}
+      (register value : ℕ) → Exits lay items 1 input p c bytes labels left code
+      → p.regs register ≡ value → ExitsWithRegister lay items input p code register value
+  exits_here_with {code} {input} {left} {bytes} {labels} {c} {p} register value g has = record {
+    taken = 0;
+    point = p;
+    stood = ap (λ x. x.end) (course_none lay items input p);
+    exits =
+        let count : 1 ≡ 1 + 0 = omega arith in
+        ap (λ n. (course lay items n input p).end) count ∙ ap (λ x. x.end) (g.by 0);
+    has = has;
   }
 
   -- an item that is a jump is none of the stops

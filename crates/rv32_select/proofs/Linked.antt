@@ -87,7 +87,7 @@ module _ (l : Program) (a : Assignment) (cells stack : ℕ) (lay : Layout) (item
       let parts = cut items p (plain put_link) b.emits.0 block b.emits.1 b.stands in
       let ran = plain_ran l a cells stack lay items begins put_link p d P.to (m ∷ outer) w
       b.stood.world.good P.does parts.first in
-      does_after lay items begins
+      does_after lay items begins l.width cells
       (Given l a cells stack lay items framed f j pf.slots d0 m outer to way Must)
       (code l (words_at a) (room l a cells stack lay items begins) calls_n env top under c w)
       ran
@@ -156,7 +156,7 @@ module _ (l : Program) (a : Assignment) (cells stack : ℕ) (lay : Layout) (item
       let parts = cut items p (plain take_link) b.emits.0 block b.emits.1 b.stands in
       let ran = plain_ran l a cells stack lay items begins take_link p d d' (m ∷ outer) w g L
       parts.first in
-      does_after lay items begins
+      does_after lay items begins l.width cells
       (Given l a cells stack lay items framed f j pf.slots d0 m outer to way Must)
       (code l (words_at a) (room l a cells stack lay items begins) calls_n env top under c w)
       ran

@@ -153,7 +153,7 @@ module _ (l : Program) (a : Assignment) (cells stack : ℕ) (lay : Layout) (item
       under d' w
       → Simulates l a cells stack lay items begins f q framed pf.slots j m outer d0 u n calls_n c to
       way Must (pos + length (plain is)) (with_var x v env) top under d' w)
-      → Does' lay items begins
+      → Does' lay items begins l.width cells
       (Given l a cells stack lay items framed f j pf.slots d0 m outer to way Must)
       (at (bases stack) lay items pos d) (m ∷ outer) w
       (code l (words_at a) (room l a cells stack lay items begins) calls_n (with_var x v env)
@@ -172,7 +172,7 @@ module _ (l : Program) (a : Assignment) (cells stack : ℕ) (lay : Layout) (item
       b.owned in
       let ran = plain_ran l a cells stack lay items begins is pos d sets.to (m ∷ outer) w
       b.stood.world.good sets.does parts.first in
-      does_after lay items begins
+      does_after lay items begins l.width cells
       (Given l a cells stack lay items framed f j pf.slots d0 m outer to way Must)
       (code l (words_at a) (room l a cells stack lay items begins) calls_n (with_var x v env)
       top under c w) ran
@@ -231,7 +231,7 @@ module _ (l : Program) (a : Assignment) (cells stack : ℕ) (lay : Layout) (item
       G = Given l a cells stack lay items framed f j pf.slots d0 m outer to way Must
 
       go : (r : Option Word) → operand l (words_at a) env o ≡ r
-          → Does' lay items begins
+          → Does' lay items begins l.width cells
           (Given l a cells stack lay items framed f j pf.slots d0 m outer to way Must)
           (at (bases stack) lay items pos d) (m ∷ outer) w
           (need r w

@@ -11,7 +11,7 @@ use Rattle.rv32_items.specs.declared.Item.{Item}
 use Rattle.rv32_items.specs.declared.Item.TheVariants.{Label}
 use Rattle.rv32_items.specs.Course.{Layout, Point, turn, onward, label_of, Going, Exited, Course, stands, after, course}
 use Rattle.rv32_items.specs.Told.{ReturnsHome}
-use Rattle.rv32_select.specs.Selects.{exit_of, SameOutputAndInput, EndsLikeRun, Follows, Matches, ReachesAnswer}
+use Rattle.rv32_select.specs.Selects.{exit_of, SameOutputAndInput, EndsLikeRun, Follows, Matches, ReachesAnswer, ExitsBehindCells, HasNextCell}
 use Rattle.rv32_select.proofs.Courses.{course_more, course_none}
 use Rattle.rv32_select.proofs.Fronts.{IsFront, front_itself, passed_few, course_front, home_front}
 use Rattle.rv32_select.proofs.Leaves.{Leaves}
@@ -43,14 +43,15 @@ procedures_split begins (x ∷ xs) ys = ap (λ l. procedure_from 0 begins x ++ l
     (procedures_split begins xs ys) ∙ sym
     (append_assoc (procedure_from 0 begins x) (procedures_at begins xs) (procedures_at begins ys))
 
-module _ (lay : Layout) (items : List Item) (begins input : List ℕ) (p : Point) where
+module _ (lay : Layout) (items : List Item) (begins : List ℕ) (width cells : ℕ) (input : List ℕ)
+    (p : Point) where
   -- the machine does from p what a run does that ends so
   abbrev pub Outcome : World → Answer → Type 0
-  Outcome w0 (gives vs w) = Ends lay items begins p [] w0 w 0
-  Outcome w0 (stops no_alternative w) = Ends lay items begins p [] w0 w 3
+  Outcome w0 (gives vs w) = Ends lay items begins width cells p [] w0 w 0
+  Outcome w0 (stops no_alternative w) = Ends lay items begins width cells p [] w0 w 3
       × Leaves lay items w0.input p
-  Outcome w0 (stops heap_full w) = Ends lay items begins p [] w0 w 4
-  Outcome w0 (stops stack_full w) = Ends lay items begins p [] w0 w 5
+  Outcome w0 (stops heap_full w) = Ends lay items begins width cells p [] w0 w 4
+  Outcome w0 (stops stack_full w) = Ends lay items begins width cells p [] w0 w 5
   Outcome w0 (stops out_of_units w) = (q : Point) ×
       ((calls : List ℕ) × (Ran lay items begins p [] w0 q calls w × Waits lay items begins q w))
   Outcome w0 (stops missing w) = ⊥
@@ -64,7 +65,8 @@ module _ (lay : Layout) (items : List Item) (begins input : List ℕ) (p : Point
 
   module _ (w0 : World) (start : IsStart w0) where
     -- a course that has come to an exit
-    exit_course : (w : World) (code : ℕ) (e : Ends lay items begins p [] w0 w code) (k : ℕ)
+    exit_course : (w : World) (code : ℕ) (e : Ends lay items begins width cells p [] w0 w code)
+        (k : ℕ)
         → course lay items (e.count + k) input p ≡ after e.bytes e.labels
         (stands w.input (Exited code))
     exit_course w code e k = subst
@@ -85,7 +87,8 @@ module _ (lay : Layout) (items : List Item) (begins input : List ℕ) (p : Point
         let z = start.used_is in
         omega arith
 
-    same_end : (w : World) (code : ℕ) (e : Ends lay items begins p [] w0 w code) (x : Answer)
+    same_end : (w : World) (code : ℕ) (e : Ends lay items begins width cells p [] w0 w code)
+        (x : Answer)
         → world_of x ≡ w → SameOutputAndInput input x
         (after e.bytes e.labels (stands w.input (Exited code)))
     same_end w code e x is = (
@@ -95,7 +98,8 @@ module _ (lay : Layout) (items : List Item) (begins input : List ℕ) (p : Point
 
     -- ---- arriving
 
-    arrives_exit : (w : World) (code : ℕ) (e : Ends lay items begins p [] w0 w code) (x : Answer)
+    arrives_exit : (w : World) (code : ℕ) (e : Ends lay items begins width cells p [] w0 w code)
+        (x : Answer)
         → world_of x ≡ w → exit_of (end_of x) ≡ Some code
         → ReachesAnswer begins input x (course lay items (e.count + 0) input p)
     arrives_exit w code e x is exit =
@@ -191,7 +195,8 @@ module _ (lay : Layout) (items : List Item) (begins input : List ℕ) (p : Point
         subst (λ n. IsFront (course lay items k input p) (course lay items n input p)) e
         (course_front lay items k (count - k) input p)
 
-    follows_exit : (w : World) (code k : ℕ) (e : Ends lay items begins p [] w0 w code) (x : Answer)
+    follows_exit : (w : World) (code k : ℕ) (e : Ends lay items begins width cells p [] w0 w code)
+        (x : Answer)
         → world_of x ≡ w → exit_of (end_of x) ≡ Some code
         → length w.entered ≤ length (procedures_at begins (course lay items k input p).passed)
         → Follows begins input x (course lay items k input p)
@@ -290,7 +295,7 @@ module _ (lay : Layout) (items : List Item) (begins input : List ℕ) (p : Point
 
     -- ---- going home
 
-    home_exit : (w : World) (code k : ℕ) (e : Ends lay items begins p [] w0 w code)
+    home_exit : (w : World) (code k : ℕ) (e : Ends lay items begins width cells p [] w0 w code)
         → ReturnsHome lay items k input p []
     home_exit w code k e =
         let both : e.count + k ≡ k + e.count = omega arith in
@@ -342,3 +347,20 @@ module _ (lay : Layout) (items : List Item) (begins input : List ℕ) (p : Point
     leaves (stops stack_full w) e exit = absurd (cc)
     leaves (stops out_of_units w) e exit = absurd (cc)
     leaves (stops missing w) e exit = absurd e
+
+    -- ---- the next cell
+
+    -- where a run ends with a code, x3 has the address behind its cells
+    pub next_cell : (x : Answer) → Outcome w0 x → HasNextCell lay items width cells input p x
+    next_cell (gives vs w) e =
+        subst (λ i. ExitsBehindCells lay items width cells i p 0 w) start.input_is
+        (e.exit (omega arith))
+    next_cell (stops no_alternative w) e =
+        subst (λ i. ExitsBehindCells lay items width cells i p 3 w) start.input_is
+        (e.0.exit (omega arith))
+    next_cell (stops heap_full w) e = tt
+    next_cell (stops stack_full w) e =
+        subst (λ i. ExitsBehindCells lay items width cells i p 5 w) start.input_is
+        (e.exit (omega arith))
+    next_cell (stops out_of_units w) e = tt
+    next_cell (stops missing w) e = tt

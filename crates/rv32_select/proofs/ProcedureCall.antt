@@ -29,7 +29,7 @@ pub waits_here : (l : Program) (a : Assignment) (cells stack : ℕ) (lay : Layou
     (begins : List ℕ) (s : Setting l a cells stack lay items begins) (f : ℕ) (q : Procedure) (t : ℕ)
     (open_calls : List ℕ) (d : Data) (w : World) (G : List Word → World → Point → List ℕ → Type 0)
     → slice_get l.procs f ≡ Some q → label_from 0 items f ≡ Some t → w.left ≡ 0
-    → Does' lay items begins G (at (bases stack) lay items t d) open_calls w
+    → Does' lay items begins l.width cells G (at (bases stack) lay items t d) open_calls w
     (stops out_of_units w)
 waits_here l a cells stack lay items begins s f q t open_calls d w G is_q found e =
     let here = s.procedures f q is_q in
@@ -78,7 +78,7 @@ module _ (l : Program) (a : Assignment) (cells stack : ℕ) (lay : Layout) (item
       → d.regs 1 ≡ lay.address m → address_from 0 items lay (lay.address m) ≡ Some m
       → AllHold l.width (argument_spots 0 (map (place_of a) q.params)) vs (regs_of d)
       → w.left ≤ suc n
-      → Does' lay items begins
+      → Does' lay items begins l.width cells
       (λ rs w' p calls'. (d' : Data) ×
       ((p ≡ at (bases stack) lay items m d') ×
       ((calls' ≡ outer) ×
@@ -100,7 +100,7 @@ module _ (l : Program) (a : Assignment) (cells stack : ℕ) (lay : Layout) (item
       by_length : (vs' : List Word) (w' : World) (d' : Data)
           → Back l a cells stack lay f bound d (result_spots 10 q.results) vs' d' w' → (b : Bool)
           → nat_eq (length vs') q.results ≡ b
-          → Does' lay items begins
+          → Does' lay items begins l.width cells
           (λ rs w' p calls'. (d' : Data) ×
           ((p ≡ at (bases stack) lay items m d')
           × ((calls' ≡ outer) ×
@@ -125,7 +125,7 @@ module _ (l : Program) (a : Assignment) (cells stack : ℕ) (lay : Layout) (item
       by_limit : (left : ℕ) → w.left ≡ suc left → (env : Env)
           → with_vars q.params vs no_vars ≡ Some env → (b : Bool)
           → nat_lt stack (4 * (under + words_at a f)) ≡ b
-          → Does' lay items begins
+          → Does' lay items begins l.width cells
           (λ rs w' p calls'. (d' : Data) ×
           ((p ≡ at (bases stack) lay items m d')
           × ((calls' ≡ outer) ×
@@ -190,24 +190,26 @@ module _ (l : Program) (a : Assignment) (cells stack : ℕ) (lay : Layout) (item
           × ((calls' ≡ outer) ×
           (Back l a cells stack lay f bound d (result_spots 10 q.results) rs d' w'
           × (length rs ≡ q.results)))) in
-          does_after lay items begins G' (with_result_count q.results answer) z.ran
-          (does_then lay items begins GB G' (at (bases stack) lay items z.start z.to) (m ∷ outer) w'
+          does_after lay items begins l.width cells G' (with_result_count q.results answer) z.ran
+          (does_then lay items begins l.width cells GB G' (at (bases stack) lay items z.start z.to)
+          (m ∷ outer) w'
           answer (λ rs w'. cond (nat_eq (length rs) q.results) (gives rs w') (stops missing w'))
           done
           (λ rs v p' c' le given.
           let back = subst
           (λ x. Back l a cells stack lay f x d (result_spots 10 q.results) rs given.0 v) whole
           given.1.1.1 in
-          subst (λ x. Does' lay items begins G' x c' v
+          subst (λ x. Does' lay items begins l.width cells G' x c' v
           (cond (nat_eq (length rs) q.results) (gives rs v) (stops missing v))) (sym given.1.0)
-          (subst (λ x. Does' lay items begins G' (at (bases stack) lay items m given.0) x v
+          (subst (λ x. Does' lay items begins l.width cells G'
+          (at (bases stack) lay items m given.0) x v
           (cond (nat_eq (length rs) q.results) (gives rs v) (stops missing v)))
           (sym given.1.1.0)
           (by_length rs v given.0 back (nat_eq (length rs) q.results) refl))))
 
       by_vars : (left : ℕ) → w.left ≡ suc left → (r : Option Env)
           → with_vars q.params vs no_vars ≡ r
-          → Does' lay items begins
+          → Does' lay items begins l.width cells
           (λ rs w' p calls'. (d' : Data) ×
           ((p ≡ at (bases stack) lay items m d')
           × ((calls' ≡ outer) ×
@@ -223,7 +225,7 @@ module _ (l : Program) (a : Assignment) (cells stack : ℕ) (lay : Layout) (item
           (nat_lt stack (4 * (under + words_at a f))) refl
 
       by_units : (r : ℕ) → w.left ≡ r
-          → Does' lay items begins
+          → Does' lay items begins l.width cells
           (λ rs w' p calls'. (d' : Data) ×
           ((p ≡ at (bases stack) lay items m d')
           × ((calls' ≡ outer) ×
@@ -243,7 +245,7 @@ module _ (l : Program) (a : Assignment) (cells stack : ℕ) (lay : Layout) (item
           (Back l a cells stack lay f bound d (result_spots 10 q.results) rs d' w'
           × (length rs ≡ q.results))))) is_q found e
       by_units (suc left) e =
-          subst (λ o. Does' lay items begins
+          subst (λ o. Does' lay items begins l.width cells
           (λ rs w' p calls'. (d' : Data) ×
           ((p ≡ at (bases stack) lay items m d')
           × ((calls' ≡ outer) ×

@@ -304,7 +304,7 @@ module _ (l : Program) (a : Assignment) (cells stack : ℕ) (lay : Layout) (item
 
     -- no room for the frame
     pub stack_is_full : stack < 4 * (under + words_at a f)
-        → Ends lay items begins (at (bases stack) lay items t d) (m ∷ outer) w
+        → Ends lay items begins l.width cells (at (bases stack) lay items t d) (m ∷ outer) w
         (spent f (under + words_at a f) left w) 5
     stack_is_full over =
         let z = tested in
@@ -325,9 +325,14 @@ module _ (l : Program) (a : Assignment) (cells stack : ℕ) (lay : Layout) (item
         let ran = ran_on lay items begins labelled
         (ran_on lay items begins z.ran
         (quiet lay items begins w' w' step refl refl refl refl refl)) in
-        ends_on lay items begins ran
+        ends_on lay items begins l.width cells ran
         (stop.ends (with_regs z.to (lay.far n z.to.regs)) (m ∷ outer) w'
-        (good_far items lay (bases stack) s.rises n z.to z.good))
+        (good_far items lay (bases stack) s.rises n z.to z.good)
+        (λ ne. (
+          h.room,
+          s.rises.far_keeps n 3 z.to.regs (omega arith) (omega arith)
+              ∙ z.same 3 (omega arith) (omega arith) ∙ h.next,
+        )))
 
     -- the frame is made
     pub entered : (env : Env) → 4 * (under + words_at a f) ≤ stack

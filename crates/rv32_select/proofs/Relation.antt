@@ -4,7 +4,7 @@
 -- `Relation` says how registers, heap and stack stand for the state of low code within a
 -- procedure, and after its return. `Simulation` goes through low code block by block, and through
 -- calls by the units that are left. All this holds of items on every layout.
-use Rattle.std.proofs.Common.{◌≡◌, ℕ, suc, ◌+◌, ◌-◌, ◌*◌, ◌%◌, ◌<◌, ◌≤◌, List, [], ◌∷◌, ◌++◌, length, get_or, true, false, Some, ◌⊎◌, refl, sym, ap, ◌∙◌, subst, arith, append_assoc, Bool, inr, ◌/◌, ◌^◌, zero}
+use Rattle.std.proofs.Common.{◌≡◌, ◌≢◌, ℕ, suc, ◌+◌, ◌-◌, ◌*◌, ◌%◌, ◌<◌, ◌≤◌, List, [], ◌∷◌, ◌++◌, length, get_or, true, false, Some, ◌⊎◌, refl, sym, ap, ◌∙◌, subst, arith, append_assoc, Bool, inr, ◌/◌, ◌^◌, zero}
 use Rattle.std.specs.Prelude.{drop, slice_get, nat_eq, if◌then◌else◌, slice_index_or}
 use Rattle.std.proofs.lemmas.Grind.{common_steps}
 use Rattle.headline.specs.Carries.{IsBytes}
@@ -24,9 +24,10 @@ use Rattle.rv32_items.specs.Course.{Layout, Point, label_from}
 use Rattle.rv32_select.specs.declared.source.Continuation.{Continuation}
 use Rattle.rv32_select.specs.declared.source.Continuation.TheVariants.{Returns, Follows, Jumps}
 use Rattle.rv32_select.specs.IsSelected.{no_mask_has_x27, is_lasting}
+use Rattle.rv32_select.specs.Selects.{ExitsBehindCells}
 use Rattle.limits.specs.Limits.{heap_start, stack_end}
 use Rattle.rv32_select.proofs.Courses.{Goes, Exits, goes, exits}
-use Rattle.rv32_select.proofs.Leaves.{Leaves, leaves_on}
+use Rattle.rv32_select.proofs.Leaves.{Leaves, leaves_on, exits_on}
 use Rattle.rv32_select.proofs.Straight.{Data, Good, at}
 use Rattle.rv32_select.proofs.FrameViews.{spots, InFrame}
 use Rattle.seq.specs.Lists.{is_among}
@@ -178,7 +179,8 @@ module _ (lay : Layout) (items : List Item) (begins : List ℕ) where
     pub left : w'.left ≤ w.left
 
   -- and from p to an exit
-  pub record Ends (p : Point) (calls : List ℕ) (w w' : World) (code : ℕ) : Type 0 where
+  pub record Ends (width cells : ℕ) (p : Point) (calls : List ℕ) (w w' : World) (code : ℕ)
+      : Type 0 where
     pub count : ℕ
     pub bytes : List ℕ
     pub labels : List ℕ
@@ -186,6 +188,8 @@ module _ (lay : Layout) (items : List Item) (begins : List ℕ) where
     pub out : w'.out ≡ w.out ++ bytes
     pub entered : w'.entered ≡ w.entered ++ procedures_at begins labels
     pub used : w'.used + length w'.input ≡ w.used + length w.input
+    -- where the heap isn't full, the next cell is right behind all others
+    pub exit : code ≢ 4 → ExitsBehindCells lay items width cells w.input p code w'
 
   -- the machine stands at the label of a procedure, and no unit is left
   pub record Waits (q : Point) (w : World) : Type 0 where
@@ -196,16 +200,18 @@ module _ (lay : Layout) (items : List Item) (begins : List ℕ) where
 
   -- what the machine does from p for a run from w that ends so; where the run gives words, this is
   -- to hold
-  abbrev pub Does' : (Given : List Word → World → Point → List ℕ → Type 0) → Point → List ℕ → World
-      → Answer → Type 0
-  Does' Given p calls w (gives vs w') = (q : Point)
+  abbrev pub Does' : (width cells : ℕ) → (Given : List Word → World → Point → List ℕ → Type 0)
+      → Point
+      → List ℕ → World → Answer → Type 0
+  Does' width cells Given p calls w (gives vs w') = (q : Point)
       × ((calls' : List ℕ) × (Ran p calls w q calls' w' × Given vs w' q calls'))
-  Does' Given p calls w (stops no_alternative w') = Ends p calls w w' 3 × Leaves lay items w.input p
-  Does' Given p calls w (stops heap_full w') = Ends p calls w w' 4
-  Does' Given p calls w (stops stack_full w') = Ends p calls w w' 5
-  Does' Given p calls w (stops out_of_units w') = (q : Point)
+  Does' width cells Given p calls w (stops no_alternative w') = Ends width cells p calls w w' 3
+      × Leaves lay items w.input p
+  Does' width cells Given p calls w (stops heap_full w') = Ends width cells p calls w w' 4
+  Does' width cells Given p calls w (stops stack_full w') = Ends width cells p calls w w' 5
+  Does' width cells Given p calls w (stops out_of_units w') = (q : Point)
       × ((calls' : List ℕ) × (Ran p calls w q calls' w' × Waits q w'))
-  Does' Given p calls w (stops missing w') = Unit {0}
+  Does' width cells Given p calls w (stops missing w') = Unit {0}
 
   procedures_append : (xs ys : List ℕ) → procedures_at begins (xs ++ ys) ≡ procedures_at begins xs
       ++ procedures_at begins ys
@@ -229,9 +235,10 @@ module _ (lay : Layout) (items : List Item) (begins : List ℕ) where
     left = let x = h.left in let y = k.left in omega arith;
   }
 
-  pub ends_on : {p q : Point} {c d : List ℕ} {w v u : World} {code : ℕ} → Ran p c w q d v
-      → Ends q d v u code → Ends p c w u code
-  ends_on {p} {q} {c} {d} {w} {v} {u} {code} h k = record {
+  pub ends_on : (width cells : ℕ) → {p q : Point} {c d : List ℕ} {w v u : World} {code : ℕ}
+      → Ran p c w q d v
+      → Ends width cells q d v u code → Ends width cells p c w u code
+  ends_on width cells {p} {q} {c} {d} {w} {v} {u} {code} h k = record {
     count = h.count + k.count;
     bytes = h.bytes ++ k.bytes;
     labels = h.labels ++ k.labels;
@@ -241,43 +248,51 @@ module _ (lay : Layout) (items : List Item) (begins : List ℕ) where
         ∙ append_assoc w.entered (procedures_at begins h.labels) (procedures_at begins k.labels)
         ∙ ap (λ l. w.entered ++ l) (sym (procedures_append h.labels k.labels));
     used = k.used ∙ h.used;
+    exit = λ ne. let x = k.exit ne in (x.0, exits_on lay items h.way x.1);
   }
 
   -- a stretch first
-  pub does_after : (Given : List Word → World → Point → List ℕ → Type 0) {p q : Point}
-      {c d : List ℕ} {w v : World} (x : Answer) → Ran p c w q d v → Does' Given q d v x
-      → Does' Given p c w x
-  does_after Given (gives vs w') h k = (k.0, (k.1.0, (ran_on h k.1.1.0, k.1.1.1)))
-  does_after Given (stops no_alternative w') h k = (ends_on h k.0, leaves_on lay items h.way k.1)
-  does_after Given (stops heap_full w') h k = ends_on h k
-  does_after Given (stops stack_full w') h k = ends_on h k
-  does_after Given (stops out_of_units w') h k = (k.0, (k.1.0, (ran_on h k.1.1.0, k.1.1.1)))
-  does_after Given (stops missing w') h k = tt
+  pub does_after : (width cells : ℕ) (Given : List Word → World → Point → List ℕ → Type 0)
+      {p q : Point}
+      {c d : List ℕ} {w v : World} (x : Answer) → Ran p c w q d v → Does' width cells Given q d v x
+      → Does' width cells Given p c w x
+  does_after width cells Given (gives vs w') h k = (k.0, (k.1.0, (ran_on h k.1.1.0, k.1.1.1)))
+  does_after width cells Given (stops no_alternative w') h k
+      = (ends_on width cells h k.0, leaves_on lay items h.way k.1)
+  does_after width cells Given (stops heap_full w') h k = ends_on width cells h k
+  does_after width cells Given (stops stack_full w') h k = ends_on width cells h k
+  does_after width cells Given (stops out_of_units w') h k
+      = (k.0, (k.1.0, (ran_on h k.1.1.0, k.1.1.1)))
+  does_after width cells Given (stops missing w') h k = tt
 
   -- what holds where the run gives words may be said otherwise
-  pub does_map : (Given Given' : List Word → World → Point → List ℕ → Type 0) (p : Point)
+  pub does_map : (width cells : ℕ) (Given Given' : List Word → World → Point → List ℕ → Type 0)
+      (p : Point)
       (c : List ℕ) (w : World) (x : Answer) →
       ((vs : List Word) (v : World) (q : Point) (d : List ℕ) → Given vs v q d → Given' vs v q d)
-      → Does' Given p c w x → Does' Given' p c w x
-  does_map Given Given' p c w (gives vs v) h k = (k.0, (k.1.0, (k.1.1.0, h vs v k.0 k.1.0 k.1.1.1)))
-  does_map Given Given' p c w (stops no_alternative v) h k = k
-  does_map Given Given' p c w (stops heap_full v) h k = k
-  does_map Given Given' p c w (stops stack_full v) h k = k
-  does_map Given Given' p c w (stops out_of_units v) h k = k
-  does_map Given Given' p c w (stops missing v) h k = tt
+      → Does' width cells Given p c w x → Does' width cells Given' p c w x
+  does_map width cells Given Given' p c w (gives vs v) h k
+      = (k.0, (k.1.0, (k.1.1.0, h vs v k.0 k.1.0 k.1.1.1)))
+  does_map width cells Given Given' p c w (stops no_alternative v) h k = k
+  does_map width cells Given Given' p c w (stops heap_full v) h k = k
+  does_map width cells Given Given' p c w (stops stack_full v) h k = k
+  does_map width cells Given Given' p c w (stops out_of_units v) h k = k
+  does_map width cells Given Given' p c w (stops missing v) h k = tt
 
   -- and then what follows the words
-  pub does_then : (Given Given' : List Word → World → Point → List ℕ → Type 0) (p : Point)
-      (c : List ℕ) (w : World) (x : Answer) (k : List Word → World → Answer) → Does' Given p c w x
+  pub does_then : (width cells : ℕ) (Given Given' : List Word → World → Point → List ℕ → Type 0)
+      (p : Point)
+      (c : List ℕ) (w : World) (x : Answer) (k : List Word → World → Answer)
+      → Does' width cells Given p c w x
       → ((vs : List Word) (v : World) (q : Point) (d : List ℕ) → v.left ≤ w.left → Given vs v q d
-      → Does' Given' q d v (k vs v)) → Does' Given' p c w (then_do x k)
-  does_then Given Given' p c w (gives vs v) k h more
-      = does_after Given' (k vs v) h.1.1.0 (more vs v h.0 h.1.0 h.1.1.0.left h.1.1.1)
-  does_then Given Given' p c w (stops no_alternative v) k h more = h
-  does_then Given Given' p c w (stops heap_full v) k h more = h
-  does_then Given Given' p c w (stops stack_full v) k h more = h
-  does_then Given Given' p c w (stops out_of_units v) k h more = h
-  does_then Given Given' p c w (stops missing v) k h more = tt
+      → Does' width cells Given' q d v (k vs v)) → Does' width cells Given' p c w (then_do x k)
+  does_then width cells Given Given' p c w (gives vs v) k h more
+      = does_after width cells Given' (k vs v) h.1.1.0 (more vs v h.0 h.1.0 h.1.1.0.left h.1.1.1)
+  does_then width cells Given Given' p c w (stops no_alternative v) k h more = h
+  does_then width cells Given Given' p c w (stops heap_full v) k h more = h
+  does_then width cells Given Given' p c w (stops stack_full v) k h more = h
+  does_then width cells Given Given' p c w (stops out_of_units v) k h more = h
+  does_then width cells Given Given' p c w (stops missing v) k h more = tt
 
   nothing_more : (xs : List ℕ) → xs ≡ xs ++ []
   nothing_more xs = grind (arith, common_steps)
@@ -351,9 +366,11 @@ module _ (lay : Layout) (items : List Item) (begins : List ℕ) where
   }
 
   -- an exit at once
-  pub ends_now : {count : ℕ} {p : Point} {c : List ℕ} (w : World) (code : ℕ)
-      → Exits lay items count w.input p c [] [] w.input code → Ends p c w w code
-  ends_now {count} w code g = record {
+  pub ends_now : (width cells : ℕ) {count : ℕ} {p : Point} {c : List ℕ} (w : World) (code : ℕ)
+      → Exits lay items count w.input p c [] [] w.input code →
+      (code ≢ 4 → ExitsBehindCells lay items width cells w.input p code w)
+      → Ends width cells p c w w code
+  ends_now width cells {count} w code g exit = record {
     count = count;
     bytes = [];
     labels = [];
@@ -361,6 +378,7 @@ module _ (lay : Layout) (items : List Item) (begins : List ℕ) where
     out = nothing_more w.out;
     entered = nothing_more w.entered;
     used = refl;
+    exit = exit;
   }
 
   -- and with labels that are no procedure's

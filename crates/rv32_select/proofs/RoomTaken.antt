@@ -65,7 +65,7 @@ module _ (l : Program) (a : Assignment) (cells stack : ℕ) (lay : Layout) (item
   pub record Takes (step : ℕ) (ss : List Spot) (piece : List Item) (p : ℕ) (d : Data) : Type 0 where
     pub enough : d.regs 3 + step * length ss ≤ d.regs 4 → Taken step ss piece p d
     pub full : d.regs 4 < d.regs 3 + step * length ss
-        → Ends lay items begins (at (bases stack) lay items p d) calls w w 4
+        → Ends lay items begins l.width cells (at (bases stack) lay items p d) calls w w 4
 
   takes_near : (step : ℕ) (ss : List Spot) (p : ℕ) (d : Data) → 1 ≤ step → step * length ss < 2048
       → Stands items p (near_cells step (1 + length l.procs) ss) → Good lay.code (bases stack) d

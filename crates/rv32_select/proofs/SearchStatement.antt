@@ -295,7 +295,7 @@ module _ (l : Program) (a : Assignment) (cells stack : ℕ) (lay : Layout) (item
             → Narrows
             (ArmsNeed l a cells stack lay items begins s calls_n n f q pf framed j m outer d0 u
             as' env Must)
-            → Does' lay items begins
+            → Does' lay items begins l.width cells
             (Given l a cells stack lay items framed f j pf.slots d0 m outer to way Must)
             (at (bases stack) lay items p d) (m ∷ outer) w
             (arms l (words_at a) (room l a cells stack lay items begins) calls_n env top under as'
@@ -306,7 +306,7 @@ module _ (l : Program) (a : Assignment) (cells stack : ℕ) (lay : Layout) (item
             = subst (λ ss. Lands (choose as0) env Must w v ss t p d) h.0 lands in
             let pass = passes_label l a cells stack lay items begins s miss t come.0 (m ∷ outer) w
             (let le' = above in omega (arith, le')) label_here in
-            does_after lay items begins
+            does_after lay items begins l.width cells
             (Given l a cells stack lay items framed f j pf.slots d0 m outer to way Must)
             (code l (words_at a) (room l a cells stack lay items begins) calls_n env top under c
             w) (ran_on lay items begins come.1.0 pass)
@@ -335,11 +335,11 @@ module _ (l : Program) (a : Assignment) (cells stack : ℕ) (lay : Layout) (item
               | inl here ↦
                   let come = here.1.1.1 in
                   by_holds (holds l (words_at a) env ts) true (tested ts h.0.number true h.3 here.0)
-                  (does_after lay items begins
+                  (does_after lay items begins l.width cells
                   (Given l a cells stack lay items framed f j pf.slots d0 m outer to way Must)
                   (code l (words_at a) (room l a cells stack lay items begins) calls_n env top
                   under c w) come.1.0
-                  (does_map lay items begins
+                  (does_map lay items begins l.width cells
                   (Given l a cells stack lay items framed f j pf.slots d0 m outer to
                   (continued_by_jump way) Must)
                   (Given l a cells stack lay items framed f j pf.slots d0 m outer to way Must)
@@ -402,7 +402,7 @@ module _ (l : Program) (a : Assignment) (cells stack : ℕ) (lay : Layout) (item
             weaken_arms y z (inr x) = narrow y z (inr x)
 
             by_holds : (r : Option Bool) (holds' : Bool) → r ≡ Some holds'
-                → Does' lay items begins
+                → Does' lay items begins l.width cells
                 (Given l a cells stack lay items framed f j pf.slots d0 m outer to way Must)
                 (at (bases stack) lay items p d) (m ∷ outer) w
                 (elim holds' [
@@ -411,7 +411,7 @@ module _ (l : Program) (a : Assignment) (cells stack : ℕ) (lay : Layout) (item
                   | false ↦ arms l (words_at a)
                       (room l a cells stack lay items begins) calls_n env top under as' w
                 ])
-                → Does' lay items begins
+                → Does' lay items begins l.width cells
                 (Given l a cells stack lay items framed f j pf.slots d0 m outer to way Must)
                 (at (bases stack) lay items p d) (m ∷ outer) w
                 (need r w
@@ -422,7 +422,7 @@ module _ (l : Program) (a : Assignment) (cells stack : ℕ) (lay : Layout) (item
                       (room l a cells stack lay items begins) calls_n env top under as' w
                 ]))
             by_holds r holds' e x =
-                subst (λ z. Does' lay items begins
+                subst (λ z. Does' lay items begins l.width cells
                 (Given l a cells stack lay items framed f j pf.slots d0 m outer to way Must)
                 (at (bases stack) lay items p d) (m ∷ outer) w
                 (need z w
@@ -457,7 +457,7 @@ module _ (l : Program) (a : Assignment) (cells stack : ℕ) (lay : Layout) (item
             = ap (λ x. holds l (words_at a) env x) h.6.3 ∙ ap
             (λ r. and_then r
             (λ z. elim (nat_eq z h.6.0.number) [ true ↦ Some true | false ↦ Some false ])) e in
-            subst (λ z. Does' lay items begins
+            subst (λ z. Does' lay items begins l.width cells
             (Given l a cells stack lay items framed f j pf.slots d0 m outer to way Must)
             (at (bases stack) lay items p d) (m ∷ outer) w
             (need z w

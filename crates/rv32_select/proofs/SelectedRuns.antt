@@ -14,11 +14,11 @@ use Rattle.rv32_items.specs.Told.{ReturnsHome}
 use Rattle.rv32_select.specs.IsSelected.{IsSelected}
 use Rattle.rv32_select.specs.Laws.{SelectionRefines}
 use Rattle.rv32_select.specs.Selectable.{Selectable}
-use Rattle.rv32_select.specs.Selects.{BelowHeap, start_point, Follows, ReachesAnswer}
+use Rattle.rv32_select.specs.Selects.{BelowHeap, start_point, Follows, ReachesAnswer, HasNextCell}
 use Rattle.rv32_select.proofs.Leaves.{Leaves, leaves_by}
 use Rattle.rv32_select.proofs.PlaceFacts.{Setting}
 use Rattle.rv32_select.proofs.WholeRun.{Started}
-use Rattle.rv32_select.proofs.Dynamics.{selected_follows, selected_arrives, selected_home, selected_leaves}
+use Rattle.rv32_select.proofs.Dynamics.{selected_follows, selected_arrives, selected_home, selected_leaves, selected_next_cell}
 use Rattle.rv32_select.proofs.SelectedSetting.{selected_setting, selected_start}
 use Rattle.rv32_select.proofs.Statics.{begins, selected_statics}
 
@@ -42,6 +42,10 @@ pub record SelectedRuns (l : Program) (a : Assignment) (cells stack : ℕ) (item
       → (k : ℕ)
       → (course lay items k i (start_point l.width cells stack lay)).end ≡ Exited 3
       → Leaves lay items i (start_point l.width cells stack lay)
+  pub next_cell : (lay : Layout) → AddressesRise items lay → BelowHeap lay → (i : List ℕ)
+      → IsBytes i → (n : ℕ)
+      → HasNextCell lay items l.width cells i (start_point l.width cells stack lay)
+      (limited l (words_at a) cells stack i n)
 
 module _ (l : Program) (a : Assignment) (cells stack : ℕ) (items : List Item)
     (fine : Selectable l a cells stack) (s : IsSelected l a cells stack items) where
@@ -62,6 +66,8 @@ module _ (l : Program) (a : Assignment) (cells stack : ℕ) (items : List Item)
         (begins (length l.procs)) (setting lay rises below) started there i bytes k;
     leaves = λ lay rises below i bytes k exited. selected_leaves l a cells stack lay items
         (begins (length l.procs)) (setting lay rises below) started there i bytes k exited;
+    next_cell = λ lay rises below i bytes n. selected_next_cell l a cells stack lay items
+        (begins (length l.procs)) (setting lay rises below) started there i bytes n;
   }
 
 pub selected_items_do : SelectionRefines
@@ -86,4 +92,5 @@ selected_items_do l a cells stack items fine there s =
       leaves = λ lay rises below i bytes k exited. leaves_by lay items still.flows.stops 3 k i
           (start_point l.width cells stack lay) still.last still.flows.all_stop exited
           (runs.leaves lay rises below i bytes k exited);
+      next_cell = runs.next_cell;
     }

@@ -1,5 +1,5 @@
 -- The stops: exits at a label; and the test for room.
-use Rattle.std.proofs.Common.{◌≡◌, ◌≢◌, ℕ, suc, ◌+◌, ◌^◌, ◌<◌, ◌≤◌, List, [], ◌∷◌, ◌++◌, length, Bool, true, false, Some, refl, sym, ap, ◌∙◌, subst, arith, length-append}
+use Rattle.std.proofs.Common.{◌≡◌, ◌≢◌, ℕ, suc, ◌+◌, ◌*◌, ◌^◌, ◌<◌, ◌≤◌, List, [], ◌∷◌, ◌++◌, length, Bool, true, false, Some, refl, sym, ap, ◌∙◌, subst, arith, length-append}
 use Rattle.std.specs.Prelude.{pos, nat_eq, nat_lt, if◌then◌else◌, slice_get}
 use Rattle.std.proofs.lemmas.Bool.Decides.{nat_tests}
 use Rattle.rv32_isa.specs.declared.instr.Instr.TheVariants.{OpImm, Ecall}
@@ -20,7 +20,7 @@ use Rattle.register_alloc.specs.Assignment.{Assignment}
 use Rattle.rv32_items.specs.Placed.{AddressesRise}
 use Rattle.rv32_select.specs.Emit.{plain, add_to, room_items, raise_items, exit_with}
 use Rattle.rv32_select.proofs.Courses.{Stands, front, back, Goes, Exits, one_ended}
-use Rattle.rv32_select.proofs.Leaves.{Remains, remains_on, remains_exit}
+use Rattle.rv32_select.proofs.Leaves.{Remains, remains_on, remains_exit, exits_here_with}
 use Rattle.rv32_select.proofs.Straight.{Data, with_reg, Good, does_on, does_imm, at, block}
 use Rattle.rv32_select.proofs.JumpStretches.{with_regs, passes, branches, goes_on}
 use Rattle.rv32_select.proofs.NumberParts.{does_add}
@@ -29,6 +29,7 @@ use Rattle.rv32_select.proofs.Relation.{bases, Ran, Ends, ran_on, ends_on, quiet
 use Rattle.rv32_select.proofs.PlaceFacts.{Setting}
 use Rattle.rv32_select.proofs.OneBound.{plain_ran}
 use Rattle.rv32_machine.proofs.Registers.{set_there}
+use Rattle.limits.specs.Limits.{heap_start}
 
 -- what a taken branch or jump leaves of good data
 pub good_far : (items : List Item) (lay : Layout) (b : Bases) → AddressesRise items lay
@@ -64,11 +65,16 @@ module _ (b : Bases) (lay : Layout) (items : List Item) where
 
 module _ (l : Program) (a : Assignment) (cells stack : ℕ) (lay : Layout) (items : List Item)
     (begins : List ℕ) (s : Setting l a cells stack lay items begins) where
+  -- where the heap isn't full, x3 has the address behind all cells
+  abbrev pub IsBehind : (code : ℕ) → Data → World → Type 0
+  IsBehind code d w = code ≢ 4 → (length w.cells ≤ cells)
+      × (d.regs 3 ≡ heap_start + 4 * l.width * length w.cells)
+
   -- plain instructions, and an exit call
   pub exits_here : (code t : ℕ) (d : Data) (calls : List ℕ) (w : World) → code < 2048
-      → Stands items t (exit_with code) → Good lay.code (bases stack) d
-      → Ends lay items begins (at (bases stack) lay items t d) calls w w code
-  exits_here code t d calls w small stands g =
+      → Stands items t (exit_with code) → Good lay.code (bases stack) d → IsBehind code d w
+      → Ends lay items begins l.width cells (at (bases stack) lay items t d) calls w w code
+  exits_here code t d calls w small stands g next =
       let first = does_imm lay.code (bases stack) Addi 10 0 (pos code) code d g
       (let e : plus 0 code ≡ code = omega arith in e) (omega arith) in
       let second = does_imm lay.code (bases stack) Addi 17 0 (pos 93) 93 (with_reg d 10 code)
@@ -81,7 +87,12 @@ module _ (l : Program) (a : Assignment) (cells stack : ℕ) (lay : Layout) (item
       let exit = exit_call (bases stack) lay items (t + 2) code
       (with_reg (with_reg d 10 code) 17 93) w.input calls
       (subst (λ x. slice_get items x ≡ Some (Plain Ecall)) two stands.1.1.0) refl refl in
-      ends_on lay items begins ran (ends_now lay items begins w code exit)
+      ends_on lay items begins l.width cells ran
+      (ends_now lay items begins l.width cells w code exit
+      (λ ne. let n = next ne in (
+        n.0,
+        exits_here_with lay items 3 (heap_start + 4 * l.width * length w.cells) exit n.1,
+      )))
 
   -- a label that is no procedure's
   pub passes_label : (n t : ℕ) (d : Data) (calls : List ℕ) (w : World) → length l.procs ≤ n
@@ -94,11 +105,11 @@ module _ (l : Program) (a : Assignment) (cells stack : ℕ) (lay : Layout) (item
 
   pub stop_exits : (code n t : ℕ) (d : Data) (calls : List ℕ) (w : World) → code < 2048
       → length l.procs ≤ n → Stands items t (Label n ∷ exit_with code)
-      → Good lay.code (bases stack) d → Ends lay items begins (at (bases stack) lay items t d) calls
-      w w code
-  stop_exits code n t d calls w small le stands g =
-      ends_on lay items begins (passes_label n t d calls w le stands.0)
-      (exits_here code (suc t) d calls w small stands.1 g)
+      → Good lay.code (bases stack) d → IsBehind code d w
+      → Ends lay items begins l.width cells (at (bases stack) lay items t d) calls w w code
+  stop_exits code n t d calls w small le stands g next =
+      ends_on lay items begins l.width cells (passes_label n t d calls w le stands.0)
+      (exits_here code (suc t) d calls w small stands.1 g next)
 
   -- where the stops stand
   first_stop : Stands items s.stops_at (Label (length l.procs) ∷ exit_with 3)
@@ -117,14 +128,15 @@ module _ (l : Program) (a : Assignment) (cells stack : ℕ) (lay : Layout) (item
     pub place : ℕ
     pub found : label_from 0 items n ≡ Some place
     pub ends : (d : Data) (calls : List ℕ) (w : World) → Good lay.code (bases stack) d
-        → Ends lay items begins (at (bases stack) lay items place d) calls w w code
+        → IsBehind code d w → Ends lay items begins l.width cells
+        (at (bases stack) lay items place d) calls w w code
 
   pub no_alternative_stop : StopAt (length l.procs) 3
   no_alternative_stop = record {
     place = s.stops_at;
     found = s.once s.stops_at (length l.procs) first_stop.0;
-    ends = λ d calls w g. stop_exits 3 (length l.procs) s.stops_at d calls w (omega arith)
-        (omega arith) first_stop g;
+    ends = λ d calls w g next. stop_exits 3 (length l.procs) s.stops_at d calls w (omega arith)
+        (omega arith) first_stop g next;
   }
 
   -- until the exit without an alternative x5 stays as it is
@@ -161,8 +173,9 @@ module _ (l : Program) (a : Assignment) (cells stack : ℕ) (lay : Layout) (item
   heap_full_stop = record {
     place = suc (suc (suc (suc s.stops_at)));
     found = s.once (suc (suc (suc (suc s.stops_at)))) (1 + length l.procs) second_stop.0;
-    ends = λ d calls w g. stop_exits 4 (1 + length l.procs) (suc (suc (suc (suc s.stops_at)))) d
-        calls w (omega arith) (omega arith) second_stop g;
+    ends = λ d calls w g next. stop_exits 4 (1 + length l.procs) (suc (suc (suc (suc s.stops_at))))
+        d
+        calls w (omega arith) (omega arith) second_stop g next;
   }
 
   pub stack_full_stop : StopAt (2 + length l.procs) 5
@@ -170,9 +183,9 @@ module _ (l : Program) (a : Assignment) (cells stack : ℕ) (lay : Layout) (item
     place = suc (suc (suc (suc (suc (suc (suc (suc s.stops_at)))))));
     found = s.once (suc (suc (suc (suc (suc (suc (suc (suc s.stops_at)))))))) (2 + length l.procs)
         third_stop.0;
-    ends = λ d calls w g. stop_exits 5 (2 + length l.procs)
+    ends = λ d calls w g next. stop_exits 5 (2 + length l.procs)
         (suc (suc (suc (suc (suc (suc (suc (suc s.stops_at)))))))) d calls w (omega arith)
-        (omega arith) third_stop g;
+        (omega arith) third_stop g next;
   }
 
   -- ---- the test for room
@@ -191,7 +204,7 @@ module _ (l : Program) (a : Assignment) (cells stack : ℕ) (lay : Layout) (item
         (at (bases stack) lay items (start + length (room_items bytes (1 + length l.procs))) to)
         calls w
     -- there is none
-    pub full : d.regs 4 < d.regs 3 + bytes → Ends lay items begins
+    pub full : d.regs 4 < d.regs 3 + bytes → Ends lay items begins l.width cells
         (at (bases stack) lay items start d) calls w w 4
 
   pub tested : (bytes start : ℕ) (d : Data) (calls : List ℕ) (w : World)
@@ -240,9 +253,9 @@ module _ (l : Program) (a : Assignment) (cells stack : ℕ) (lay : Layout) (item
             w.input calls s2.0 stop.found off in
             let ran' = ran_on lay items begins ran
             (quiet lay items begins w w step refl refl refl refl refl) in
-            ends_on lay items begins ran'
+            ends_on lay items begins l.width cells ran'
             (stop.ends (with_regs to (lay.far n to.regs)) calls w
-            (good_far items lay (bases stack) s.rises n to add.does.good));
+            (good_far items lay (bases stack) s.rises n to add.does.good) (λ ne. absurd (ne refl)));
       }
 
   -- x3 goes on by so many bytes
@@ -251,7 +264,7 @@ module _ (l : Program) (a : Assignment) (cells stack : ℕ) (lay : Layout) (item
     pub enough : d.regs 3 + bytes ≤ d.regs 4 → Ran lay items begins
         (at (bases stack) lay items start d) calls w
         (at (bases stack) lay items (suc (suc start)) (with_reg d 3 (d.regs 3 + bytes))) calls w
-    pub full : d.regs 4 < d.regs 3 + bytes → Ends lay items begins
+    pub full : d.regs 4 < d.regs 3 + bytes → Ends lay items begins l.width cells
         (at (bases stack) lay items start d) calls w w 4
 
   pub raised : (bytes start : ℕ) (d : Data) (calls : List ℕ) (w : World)
@@ -282,7 +295,8 @@ module _ (l : Program) (a : Assignment) (cells stack : ℕ) (lay : Layout) (item
             4 3 Ltu to w.input calls stands.1.0 stop.found off in
             let ran' = ran_on lay items begins ran
             (quiet lay items begins w w step refl refl refl refl refl) in
-            ends_on lay items begins ran'
+            ends_on lay items begins l.width cells ran'
             (stop.ends (with_regs to (lay.far (suc start) to.regs)) calls w
-            (good_far items lay (bases stack) s.rises (suc start) to does.good));
+            (good_far items lay (bases stack) s.rises (suc start) to does.good)
+            (λ ne. absurd (ne refl)));
       }

@@ -67,7 +67,7 @@ module _ (l : Program) (a : Assignment) (cells stack : ℕ) (lay : Layout) (item
       args = argument_spots 0 (map (place_of a) fits.called.params)
 
       by_words : way ≡ Returns → (vs : List Word) → operands l (words_at a) env os ≡ Some vs
-          → Does' lay items begins
+          → Does' lay items begins l.width cells
           (Given l a cells stack lay items framed f j pf.slots d0 m outer to way Must)
           (at (bases stack) lay items p d) (m ∷ outer) w (calls_n g vs u w)
       by_words returning vs e =
@@ -149,7 +149,8 @@ module _ (l : Program) (a : Assignment) (cells stack : ℕ) (lay : Layout) (item
           let to_is = subst
           (λ x. InRegisters l a cells stack lay items begins f q framed pf.slots j m outer d0 u
           n x to) returning b.in_registers in
-          let mapped = does_map lay items begins G1 G2 (at (bases stack) lay items there.place d2)
+          let mapped = does_map lay items begins l.width cells G1 G2
+          (at (bases stack) lay items there.place d2)
           (m ∷ outer) w (calls_n g vs u w) (λ rs v p' c' h. (
             h.0,
             (
@@ -175,28 +176,28 @@ module _ (l : Program) (a : Assignment) (cells stack : ℕ) (lay : Layout) (item
               ),
             ),
           )) callee in
-          does_after lay items begins
+          does_after lay items begins l.width cells
           (Given l a cells stack lay items framed f j pf.slots d0 m outer to way Must)
           (calls_n g vs u w) ran
-          (subst (λ x. Does' lay items begins
+          (subst (λ x. Does' lay items begins l.width cells
           (Given l a cells stack lay items framed f j pf.slots d0 m outer to x Must)
           (at (bases stack) lay items there.place d2) (m ∷ outer) w (calls_n g vs u w))
           (sym returning) mapped)
 
       by_operands : (v : ℕ) → v ≡ u → way ≡ Returns → (r : Option (List Word))
           → operands l (words_at a) env os ≡ r
-          → Does' lay items begins
+          → Does' lay items begins l.width cells
           (Given l a cells stack lay items framed f j pf.slots d0 m outer to way Must)
           (at (bases stack) lay items p d) (m ∷ outer) w (need r w (λ vs. calls_n g vs v w))
       by_operands v same returning None e = tt
       by_operands v same returning (Some vs) e = subst
-          (λ x. Does' lay items begins
+          (λ x. Does' lay items begins l.width cells
           (Given l a cells stack lay items framed f j pf.slots d0 m outer to way Must)
           (at (bases stack) lay items p d) (m ∷ outer) w (calls_n g vs x w)) (sym same)
           (by_words returning vs e)
 
       by_under : (r : Option ℕ) → under ≡ r
-          → Does' lay items begins
+          → Does' lay items begins l.width cells
           (Given l a cells stack lay items framed f j pf.slots d0 m outer to way Must)
           (at (bases stack) lay items p d) (m ∷ outer) w
           (need r w (λ v. need (operands l (words_at a) env os) w (λ vs. calls_n g vs v w)))

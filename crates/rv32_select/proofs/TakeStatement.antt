@@ -120,7 +120,7 @@ module _ (l : Program) (a : Assignment) (cells stack : ℕ) (lay : Layout) (item
 
       with_room : length w.cells + length xs ≤ cells → (env' : Env)
           → with_vars xs (cell_places (length w.cells) xs) env ≡ Some env' →
-          Does' lay items begins
+          Does' lay items begins l.width cells
           (Given l a cells stack lay items framed f j pf.slots d0 m outer to way Must)
           (at (bases stack) lay items p d) (m ∷ outer) w
           (code l (words_at a) (room l a cells stack lay items begins) calls_n env' top under c
@@ -176,7 +176,7 @@ module _ (l : Program) (a : Assignment) (cells stack : ℕ) (lay : Layout) (item
           let taken = quiet lay items begins w w'
           (stays lay items w.input (at (bases stack) lay items p' made.to) (m ∷ outer)) refl
           refl refl refl refl in
-          does_after lay items begins
+          does_after lay items begins l.width cells
           (Given l a cells stack lay items framed f j pf.slots d0 m outer to way Must)
           (code l (words_at a) (room l a cells stack lay items begins) calls_n env' top under c
           w') (ran_on lay items begins made.ran taken)
@@ -203,7 +203,7 @@ module _ (l : Program) (a : Assignment) (cells stack : ℕ) (lay : Layout) (item
 
       by_vars : length w.cells + length xs ≤ cells → (r : Option Env)
           → with_vars xs (cell_places (length w.cells) xs) env ≡ r →
-          Does' lay items begins
+          Does' lay items begins l.width cells
           (Given l a cells stack lay items framed f j pf.slots d0 m outer to way Must)
           (at (bases stack) lay items p d) (m ∷ outer) w
           (need r w
@@ -213,7 +213,7 @@ module _ (l : Program) (a : Assignment) (cells stack : ℕ) (lay : Layout) (item
       by_vars fits (Some env') e = with_room fits env' e
 
       by_room : (t : Bool) → nat_lt cells (length w.cells + length xs) ≡ t →
-          Does' lay items begins
+          Does' lay items begins l.width cells
           (Given l a cells stack lay items framed f j pf.slots d0 m outer to way Must)
           (at (bases stack) lay items p d) (m ∷ outer) w (elim t [
             | true ↦ stops heap_full' w

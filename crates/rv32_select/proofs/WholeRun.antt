@@ -217,28 +217,32 @@ module _ (l : Program) (a : Assignment) (cells stack : ℕ) (lay : Layout) (item
       → Stands items (suc pj) (exit_with 0) → end_of x ≢ ended missing
       → Ran lay items begins (at (bases stack) lay items 0 (start_data l.width cells stack)) [] w0
       (at (bases stack) lay items t d) (suc pj ∷ []) w0
-      → Does' lay items begins
+      → Does' lay items begins l.width cells
       (λ rs w' p calls'. (d' : Data) ×
       ((p ≡ at (bases stack) lay items (suc pj) d')
       × ((calls' ≡ []) ×
       (Back l a cells stack lay l.start (stack / 4) d1 (result_spots 10 z.start.results) rs d'
       w' × (length rs ≡ z.start.results)))))
       (at (bases stack) lay items t d) (suc pj ∷ []) w0 x
-      → Outcome lay items begins w0.input
+      → Outcome lay items begins l.width cells w0.input
       (at (bases stack) lay items 0 (start_data l.width cells stack)) w0 x
   outcome_of t pj d d1 w0 (gives rs w) exit there ran h =
       let given = h.1.1.1 in
       let back = given.1.1.1.0 in
       let ends = exits_here l a cells stack lay items begins s 0 (suc pj) given.0 [] w (omega arith)
-      exit back.world.good in
-      let here = subst (λ p. Ends lay items begins p h.1.0 w w 0) (sym given.1.0)
-      (subst (λ c. Ends lay items begins (at (bases stack) lay items (suc pj) given.0) c w w 0)
+      exit back.world.good (λ ne. (back.world.room, back.world.next)) in
+      let here = subst (λ p. Ends lay items begins l.width cells p h.1.0 w w 0) (sym given.1.0)
+      (subst (λ c. Ends lay items begins l.width cells (at (bases stack) lay items (suc pj) given.0)
+      c w w 0)
       (sym given.1.1.0) ends) in
-      ends_on lay items begins ran (ends_on lay items begins h.1.1.0 here)
+      ends_on lay items begins l.width cells ran
+      (ends_on lay items begins l.width cells h.1.1.0 here)
   outcome_of t pj d d1 w0 (stops no_alternative w) exit there ran h
-      = (ends_on lay items begins ran h.0, leaves_on lay items ran.way h.1)
-  outcome_of t pj d d1 w0 (stops heap_full' w) exit there ran h = ends_on lay items begins ran h
-  outcome_of t pj d d1 w0 (stops stack_full' w) exit there ran h = ends_on lay items begins ran h
+      = (ends_on lay items begins l.width cells ran h.0, leaves_on lay items ran.way h.1)
+  outcome_of t pj d d1 w0 (stops heap_full' w) exit there ran h
+      = ends_on lay items begins l.width cells ran h
+  outcome_of t pj d d1 w0 (stops stack_full' w) exit there ran h
+      = ends_on lay items begins l.width cells ran h
   outcome_of t pj d d1 w0 (stops out_of_units w) exit there ran h
       = (h.0, (h.1.0, (ran_on lay items begins ran h.1.1.0, h.1.1.1)))
   outcome_of t pj d d1 w0 (stops missing w) exit there ran h = absurd (there refl)
@@ -324,7 +328,8 @@ module _ (l : Program) (a : Assignment) (cells stack : ℕ) (lay : Layout) (item
 
   -- no room for the globals
   no_room : (w0 : World) → cells < length l.globals
-      → Ends lay items begins (at (bases stack) lay items 0 (start_data l.width cells stack)) [] w0
+      → Ends lay items begins l.width cells
+      (at (bases stack) lay items 0 (start_data l.width cells stack)) [] w0
       w0 4
   no_room w0 over =
       let wide = s.width_some in
@@ -332,7 +337,7 @@ module _ (l : Program) (a : Assignment) (cells stack : ℕ) (lay : Layout) (item
       = mul-le-mul_left (4 * l.width) (let x : suc cells ≤ length l.globals = omega arith in x)
       in
       let one_more : 4 * l.width * suc cells ≡ 4 * l.width * cells + 4 * l.width = omega arith in
-      ends_on lay items begins (numbers_ran w0) ((room_test w0).full (omega arith))
+      ends_on lay items begins l.width cells (numbers_ran w0) ((room_test w0).full (omega arith))
 
   -- the stack's base goes to x27, if it lasts there
   record BaseSet (t : Bool) (d : Data) : Type 0 where
@@ -492,7 +497,7 @@ module _ (l : Program) (a : Assignment) (cells stack : ℕ) (lay : Layout) (item
 
   pub whole_run : (input : List ℕ) (n : ℕ) → IsBytes input
       → end_of (limited l (words_at a) cells stack input n) ≢ ended missing
-      → Outcome lay items begins input
+      → Outcome lay items begins l.width cells input
       (at (bases stack) lay items 0 (start_data l.width cells stack))
       (start_world l (words_at a) input n) (limited l (words_at a) cells stack input n)
   unfolding run_in
@@ -505,7 +510,7 @@ module _ (l : Program) (a : Assignment) (cells stack : ℕ) (lay : Layout) (item
                 (words_at a) (room l a cells stack lay items begins) n l.start
                 (start_words l.argument) 0 (start_world l (words_at a) input n)
           ]) ≢ ended missing
-          → Outcome lay items begins input
+          → Outcome lay items begins l.width cells input
           (at (bases stack) lay items 0 (start_data l.width cells stack))
           (start_world l (words_at a) input n)
           (elim b [

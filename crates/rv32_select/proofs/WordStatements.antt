@@ -94,7 +94,7 @@ module _ (l : Program) (a : Assignment) (cells stack : ℕ) (lay : Layout) (item
     where
       go : (r : Option ℕ) → number_in l (words_at a) env o ≡ r → (r' : Option ℕ)
           → number_in l (words_at a) env o' ≡ r'
-          → Does' lay items begins
+          → Does' lay items begins l.width cells
           (Given l a cells stack lay items framed f j pf.slots d0 m outer to way Must)
           (at (bases stack) lay items pos d) (m ∷ outer) w
           (need r w
@@ -170,7 +170,7 @@ module _ (l : Program) (a : Assignment) (cells stack : ℕ) (lay : Layout) (item
     where
       by_word : (i : ℕ) → cell_in l (words_at a) env o ≡ Some i → (ws : List Word)
           → slice_get w.cells i ≡ Some ws → (r : Option Word) → slice_get ws index ≡ r
-          → Does' lay items begins
+          → Does' lay items begins l.width cells
           (Given l a cells stack lay items framed f j pf.slots d0 m outer to way Must)
           (at (bases stack) lay items pos d) (m ∷ outer) w
           (need r w
@@ -201,7 +201,7 @@ module _ (l : Program) (a : Assignment) (cells stack : ℕ) (lay : Layout) (item
 
       by_words : (i : ℕ) → cell_in l (words_at a) env o ≡ Some i → (r : Option (List Word))
           → slice_get w.cells i ≡ r
-          → Does' lay items begins
+          → Does' lay items begins l.width cells
           (Given l a cells stack lay items framed f j pf.slots d0 m outer to way Must)
           (at (bases stack) lay items pos d) (m ∷ outer) w
           (need r w
@@ -212,7 +212,7 @@ module _ (l : Program) (a : Assignment) (cells stack : ℕ) (lay : Layout) (item
       by_words i e (Some ws) e' = by_word i e ws e' (slice_get ws index) refl
 
       by_cell : (r : Option ℕ) → cell_in l (words_at a) env o ≡ r
-          → Does' lay items begins
+          → Does' lay items begins l.width cells
           (Given l a cells stack lay items framed f j pf.slots d0 m outer to way Must)
           (at (bases stack) lay items pos d) (m ∷ outer) w
           (need r w
@@ -243,7 +243,7 @@ module _ (l : Program) (a : Assignment) (cells stack : ℕ) (lay : Layout) (item
       stored : (i : ℕ) → cell_in l (words_at a) env o ≡ Some i → (ws : List Word)
           → slice_get w.cells i ≡ Some ws → (old : Word) → slice_get ws index ≡ Some old
           → (r : Option Word) → operand l (words_at a) env o' ≡ r
-          → Does' lay items begins
+          → Does' lay items begins l.width cells
           (Given l a cells stack lay items framed f j pf.slots d0 m outer to way Must)
           (at (bases stack) lay items pos d) (m ∷ outer) w
           (need r w
@@ -295,7 +295,7 @@ module _ (l : Program) (a : Assignment) (cells stack : ℕ) (lay : Layout) (item
           (subst (λ x. Goes lay items (length is) w.input (at (bases stack) lay items pos d)
           (m ∷ outer) [] [] w.input (at (bases stack) lay items x z.to) (m ∷ outer)) count goes)
           refl refl refl refl refl in
-          does_after lay items begins
+          does_after lay items begins l.width cells
           (Given l a cells stack lay items framed f j pf.slots d0 m outer to way Must)
           (code l (words_at a) (room l a cells stack lay items begins) calls_n env top under c
           w') ran
@@ -341,7 +341,7 @@ module _ (l : Program) (a : Assignment) (cells stack : ℕ) (lay : Layout) (item
 
       by_word : (i : ℕ) → cell_in l (words_at a) env o ≡ Some i → (ws : List Word)
           → slice_get w.cells i ≡ Some ws → (r : Option Word) → slice_get ws index ≡ r
-          → Does' lay items begins
+          → Does' lay items begins l.width cells
           (Given l a cells stack lay items framed f j pf.slots d0 m outer to way Must)
           (at (bases stack) lay items pos d) (m ∷ outer) w
           (need r w
@@ -354,7 +354,7 @@ module _ (l : Program) (a : Assignment) (cells stack : ℕ) (lay : Layout) (item
 
       by_words : (i : ℕ) → cell_in l (words_at a) env o ≡ Some i → (r : Option (List Word))
           → slice_get w.cells i ≡ r
-          → Does' lay items begins
+          → Does' lay items begins l.width cells
           (Given l a cells stack lay items framed f j pf.slots d0 m outer to way Must)
           (at (bases stack) lay items pos d) (m ∷ outer) w
           (need r w
@@ -366,7 +366,7 @@ module _ (l : Program) (a : Assignment) (cells stack : ℕ) (lay : Layout) (item
       by_words i e (Some ws) e' = by_word i e ws e' (slice_get ws index) refl
 
       by_cell : (r : Option ℕ) → cell_in l (words_at a) env o ≡ r
-          → Does' lay items begins
+          → Does' lay items begins l.width cells
           (Given l a cells stack lay items framed f j pf.slots d0 m outer to way Must)
           (at (bases stack) lay items pos d) (m ∷ outer) w
           (need r w

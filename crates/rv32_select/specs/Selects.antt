@@ -3,7 +3,7 @@ use Rattle.std.specs.Prelude.{◌≡◌, ℕ, ◌+◌, ◌-◌, ◌*◌, ◌≤�
 use Rattle.std.specs.List.{range_with_len}
 use Rattle.headline.specs.Carries.{IsBytes, IsPrefixOf}
 use Rattle.low_code.specs.Tree.{Program}
-use Rattle.low_code.specs.Values.{Answer, no_alternative, out_of_units, missing, heap_full, stack_full}
+use Rattle.low_code.specs.Values.{World, Answer, gives, stops, no_alternative, out_of_units, missing, heap_full, stack_full}
 use Rattle.low_code.specs.Run.{RunEnd, done, ended, end_of, world_of, limited}
 use Rattle.low_code.specs.Size.{program_size, calls_of, AtMostTwoTests}
 use Rattle.register_alloc.specs.Assignment.{Assignment, words_at}
@@ -13,7 +13,7 @@ use Rattle.rv32_items.specs.declared.Item.{Item}
 use Rattle.rv32_items.specs.Course.{Layout, Point, CourseEnd as CourseEnd, Going, Exited, Stopped, Course, course}
 use Rattle.rv32_items.specs.Placed.{is_instruction, size_of, AllPlain, LabelsStand, times, AddressesRise}
 use Rattle.rv32_items.specs.Told.{ReturnsHome}
-use Rattle.rv32_items.specs.Leaving.{LeavesByLinkJump}
+use Rattle.rv32_items.specs.Leaving.{LeavesByLinkJump, ExitsWithRegister}
 use Rattle.limits.specs.Limits.{heap_start, stack_end}
 pub use Rattle.rv32_items.specs.Flows.{begins_procedure, NoProcedureBegins, IsForwardTransfer, IsStopItem, HasStructuredFlow}
 
@@ -75,6 +75,26 @@ pub record ReachesAnswer (begins input : List ℕ) (a : Answer) (c : Course) : T
   pub output : IsPrefixOf (world_of a).out c.out
   pub ended : Matches input a c (exit_of (end_of a))
 
+-- a course exits with this code while x3 has the address of the next cell, right behind all cells
+-- that a run bound, which are no more than it was given
+abbrev pub ExitsBehindCells : (lay : Layout) → (items : List Item) → (width cells : ℕ)
+    → (input : List ℕ) → (start : Point) → (code : ℕ) → World → Type 0
+ExitsBehindCells lay items width cells input p code w =
+    (length w.cells ≤ cells)
+    × ExitsWithRegister lay items input p code 3 (heap_start + 4 * width * length w.cells)
+
+-- so it is wherever a run ends with a code, but where the heap is full x3 may be past its end
+abbrev pub HasNextCell : (lay : Layout) → (items : List Item) → (width cells : ℕ)
+    → (input : List ℕ) → (start : Point) → Answer → Type 0
+HasNextCell lay items width cells i p (gives vs w) = ExitsBehindCells lay items width cells i p 0 w
+HasNextCell lay items width cells i p (stops no_alternative w) =
+    ExitsBehindCells lay items width cells i p 3 w
+HasNextCell lay items width cells i p (stops stack_full w) =
+    ExitsBehindCells lay items width cells i p 5 w
+HasNextCell lay items width cells i p (stops heap_full w) = Unit {0}
+HasNextCell lay items width cells i p (stops out_of_units w) = Unit {0}
+HasNextCell lay items width cells i p (stops missing w) = Unit {0}
+
 -- ---- selection
 
 pub record Selects (l : Program) (a : Assignment) (cells stack : ℕ) (items : List Item)
@@ -118,3 +138,9 @@ pub record Selects (l : Program) (a : Assignment) (cells stack : ℕ) (items : L
       → (i : List ℕ) → IsBytes i → (k : ℕ)
       → (course lay items k i (start_point l.width cells stack lay)).end ≡ Exited 3
       → LeavesByLinkJump lay items flows.stops 5 i (start_point l.width cells stack lay) k
+  -- for any number of units, where the run ends with a code, the course exits with the address
+  -- behind the run's cells in x3
+  pub next_cell : (lay : Layout) → AddressesRise items lay → BelowHeap lay
+      → (i : List ℕ) → IsBytes i → (n : ℕ)
+      → HasNextCell lay items l.width cells i (start_point l.width cells stack lay)
+      (limited l (words_at a) cells stack i n)
