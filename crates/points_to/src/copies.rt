@@ -19,7 +19,7 @@ ghost use Rattle.points_to.specs.Known.{held, GrowsByFacts};
 ghost use Rattle.points_to.specs.ValueWords.{elements_of};
 ghost use Rattle.seq.specs.Lists.{or_empty};
 
-use crate::bits::{Bits, bits_there, number_of, place_from};
+use crate::bits::{Bits, are_within, bits_there, number_of, place_from};
 use crate::facts::Facts;
 use crate::kept::Kept;
 use crate::origin::value_in;
@@ -314,8 +314,19 @@ fn put_words(
         → AreFetched p cs fetched.old.fetch (flat_map block_words blocks.now)
         → IsFetched p cs fetched.old → IsFetched p cs fetched.new) }
 {
+    if are_there(blocks, fetched.words.blocks.as_slice()) {
+        return Ok(());
+    }
     note_changed(fetched.words.gain_all(blocks)?, g, changed)?;
     Ok(())
+}
+
+// Whether many blocks are all among others, which is often so. Of a few it says no.
+fn are_there(blocks: &[(u32, u64)], others: &[(u32, u64)]) -> bool {
+    if blocks.len() < others.len() / 8 {
+        return false;
+    }
+    are_within(blocks, others)
 }
 
 // Makes empty rows up to the one with this number.
