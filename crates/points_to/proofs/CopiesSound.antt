@@ -151,24 +151,7 @@ within_next old bs i b now new lt before more u h =
     (more u h)
 
 -- words that are put at variables
-in_part_append : (part : Part) (us vs : List AbstractWord) (q : Place)
-    → facts_at q (in_part part (us ++ vs)) ≡ facts_at q (in_part part us)
-    ++ facts_at q (in_part part vs)
-in_part_append part us vs q = ap (facts_at q) (map_append (item part) us vs) ∙ map_append (fact q)
-    (in_part part us) (in_part part vs)
-
 module _ (H H' H'' : Place → List Item) where
-  pub words_next : (q : Place) (part : Part) (bs : List (ℕ × ℕ)) (i : ℕ) (b : ℕ × ℕ) → i < length bs
-      → GrowsByFacts H H' (facts_at q (in_part part (flat_map block_words (take i bs))))
-      → GrowsByFacts H' H'' (facts_at q (in_part part (block_words (get_or bs i b))))
-      → GrowsByFacts H H'' (facts_at q (in_part part (flat_map block_words (take (i + 1) bs))))
-  words_next q part bs i b lt g k =
-      subst (GrowsByFacts H H'')
-      (sym (in_part_append part (flat_map block_words (take i bs)) (block_words (get_or bs i b))
-      q) ∙ ap (λ us. facts_at q (in_part part us)) (flat_taken block_words bs i b lt))
-      (grows_more H H' H'' (facts_at q (in_part part (flat_map block_words (take i bs))))
-      (facts_at q (in_part part (block_words (get_or bs i b)))) g k)
-
   pub targets_next : (us : List AbstractWord) (xs : List ℕ) (i x : ℕ) → i < length xs
       → GrowsByFacts H H' (facts_to (take i xs) us)
       → GrowsByFacts H' H'' (facts_at (var (get_or xs i x)) (in_part (word 0) us))

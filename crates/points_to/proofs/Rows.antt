@@ -141,6 +141,16 @@ row_gets r r' run e e' g =
     (map_gets (item r.part) (row_words r) (row_words r') (block_words run.block)
     (gets_words r.words.blocks.items r'.words.blocks.items (block_numbers run.block) g)))
 
+pub row_gains : (r r' : Row) (bs : List (ℕ × ℕ)) → r'.part ≡ r.part
+    → GainsMembers (numbers_in r.words) (numbers_in r'.words) (flat_map block_numbers bs)
+    → GainsMembers (row_items r) (row_items r') (in_part r.part (flat_map block_words bs))
+row_gains r r' bs e g =
+    subst (λ q. GainsMembers (row_items r) (in_part q (row_words r'))
+    (in_part r.part (flat_map block_words bs))) (sym e)
+    (map_gets (item r.part) (row_words r) (row_words r') (flat_map block_words bs)
+    (subst (GainsMembers (row_words r) (row_words r')) (sym (words_are bs))
+    (gets_words r.words.blocks.items r'.words.blocks.items (flat_map block_numbers bs) g)))
+
 -- a new row
 pub row_none : (r : Row) → numbers_in r.words ≡ [] → row_items r ≡ []
 row_none r e = ap (in_part r.part) (words_are r.words.blocks.items ∙ ap (map word_of) e)

@@ -10,24 +10,22 @@ ghost use Rattle.flow_system.specs.Inclusions.{Inclusion as Inclusion', flows, t
 ghost use Rattle.flow_system.specs.Shown.{tables_of, inclusions_of, inclusion_of};
 ghost use Rattle.flow_system.specs.Tables.{Tables};
 ghost use Rattle.points_to.specs.declared.copies.Fetch.{Fetch as Fetch'};
-ghost use Rattle.points_to.specs.Asked.{facts_at};
 ghost use Rattle.points_to.specs.Bits.{block_words};
 ghost use Rattle.points_to.specs.Copies.{fetch_at, words_at, targets_at, links_at, facts_to, AreFetched, HoldsFetched, GoesTo, AreAt, IsField, IsFetched, IsCopied};
-ghost use Rattle.points_to.specs.Held.{In, in_part};
+ghost use Rattle.points_to.specs.Held.{In};
 ghost use Rattle.points_to.specs.Kept.{IsSound};
 ghost use Rattle.points_to.specs.Known.{held, GrowsByFacts};
 ghost use Rattle.points_to.specs.ValueWords.{elements_of};
 ghost use Rattle.seq.specs.Lists.{or_empty};
 
-use crate::bits::{Bits, bits_there, number_of, place_from};
+use crate::bits::{Bits, are_within, bits_there, number_of, place_from};
 use crate::facts::Facts;
 use crate::kept::Kept;
 use crate::origin::value_in;
-use crate::runs::{FactRun, ItemRun, WordRuns};
+use crate::runs::WordRuns;
 use crate::stored_tags::stored_word;
 use crate::tags::fields_of;
-use crate::truth::either;
-use flow_system::fact::{Element, Part, Place};
+use flow_system::fact::Element;
 use flow_system::inclusion::{FlowSink, FlowSystem, Inclusion, Source};
 use grin_syntax::program::{TagId, Target, Val, VarId, Word};
 use seq::Seq;
@@ -314,8 +312,19 @@ fn put_words(
         → AreFetched p cs fetched.old.fetch (flat_map block_words blocks.now)
         → IsFetched p cs fetched.old → IsFetched p cs fetched.new) }
 {
+    if are_there(blocks, fetched.words.blocks.as_slice()) {
+        return Ok(());
+    }
     note_changed(fetched.words.gain_all(blocks)?, g, changed)?;
     Ok(())
+}
+
+// Whether many blocks are all among others, which is often so. Of a few it says no.
+fn are_there(blocks: &[(u32, u64)], others: &[(u32, u64)]) -> bool {
+    if blocks.len() < others.len() / 8 {
+        return false;
+    }
+    are_within(blocks, others)
 }
 
 // Makes empty rows up to the one with this number.
@@ -361,43 +370,9 @@ fn add_to_all(
         (facts_to targets.now (flat_map block_words words.now))) }
 {
     for x in targets {
-        note_changed(add_words(alloc, facts, *x, words)?, *x, changed)?;
+        note_changed(facts.add_words(alloc, *x, words)?, *x, changed)?;
     }
     Ok(())
-}
-
-// Puts words at a variable, and says whether some of them may be new.
-fn add_words(
-    alloc: Global,
-    facts: &mut Facts,
-    x: u32,
-    words: &[(u32, u64)],
-) -> Result<bool, AllocError>
-    ensures { OnOk result (GrowsByFacts (held facts.old) (held facts.new) (facts_at (Place.Var x)
-        (in_part (Part.Word 0) (flat_map block_words words.now)))) }
-{
-    let mut added = false;
-    for block in words {
-        added = either(added, add_block(alloc, facts, x, *block)?);
-    }
-    Ok(added)
-}
-
-fn add_block(
-    alloc: Global,
-    facts: &mut Facts,
-    x: u32,
-    block: (u32, u64),
-) -> Result<bool, AllocError>
-    ensures { OnOk result (GrowsByFacts (held facts.old) (held facts.new) (facts_at (Place.Var x)
-        (in_part (Part.Word 0) (block_words block)))) }
-{
-    let items = ItemRun {
-        part: Part::Word(0),
-        block,
-    };
-    let place = Place::Var(x);
-    facts.add(alloc, FactRun { place, items })
 }
 
 // The variable whose words are all fetched, by a value at a site with a tag among its own.

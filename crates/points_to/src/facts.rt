@@ -5,7 +5,8 @@ ghost use Rattle.std.specs.List.{flat_map};
 ghost use Rattle.flow_system.specs.declared.fact.Place.{Place as Place'};
 ghost use Rattle.flow_system.specs.Shown.{tables_of};
 ghost use Rattle.points_to.specs.Bits.{block_words};
-ghost use Rattle.points_to.specs.Held.{In, words_in_part, done_items};
+ghost use Rattle.points_to.specs.Asked.{facts_at};
+ghost use Rattle.points_to.specs.Held.{In, in_part, words_in_part, done_items};
 ghost use Rattle.points_to.specs.Known.{items_at, held, PutsItems, GrowsByFacts};
 ghost use Rattle.points_to.specs.Runs.{items_of_item_run, facts_of_run};
 ghost use Rattle.points_to.specs.Wanted.{place_of};
@@ -176,6 +177,19 @@ impl Facts {
         Ok(false)
     }
 
+    /// Adds words at a variable, and says whether some of them may be new.
+    pub fn add_words(
+        &mut self,
+        alloc: Global,
+        var: u32,
+        blocks: &[(u32, u64)],
+    ) -> Result<bool, AllocError>
+        ensures { OnOk result (GrowsByFacts (held self.old) (held self.new)
+            (facts_at (Place.Var var) (in_part (Part.Word 0) (flat_map block_words blocks.now)))) }
+    {
+        gain(alloc, &mut self.vars, var, blocks)
+    }
+
     fn add_new(&mut self, alloc: Global, run: FactRun) -> Result<bool, AllocError>
         ensures grown { OnOk result (GrowsByFacts (held self.old) (held self.new) (facts_of_run run)) }
         ensures still { IfOk result (λ added. added ≡ false → self.new ≡ self.old) }
@@ -292,6 +306,33 @@ fn add_there(alloc: Global, sets: &mut Vec<Items>, n: u32, run: ItemRun) -> Resu
         ⊎ (items_at sets.new.items m ≡ items_at sets.old.items m)) }
 {
     sets[n as usize].add_new(alloc, run)
+}
+
+// Adds words to the set with a number, which is there.
+fn gain_there(
+    alloc: Global,
+    sets: &mut Vec<Items>,
+    n: u32,
+    blocks: &[(u32, u64)],
+) -> Result<bool, AllocError>
+    requires { n < length sets.old.items }
+    ensures { OnOk result (PutsItems (items_at sets.old.items) (items_at sets.new.items) n
+        (in_part (Part.Word 0) (flat_map block_words blocks.now))) }
+{
+    sets[n as usize].gain(alloc, Part::Word(0), blocks)
+}
+
+fn gain(
+    alloc: Global,
+    sets: &mut Vec<Items>,
+    n: u32,
+    blocks: &[(u32, u64)],
+) -> Result<bool, AllocError>
+    ensures { OnOk result (PutsItems (items_at sets.old.items) (items_at sets.new.items) n
+        (in_part (Part.Word 0) (flat_map block_words blocks.now))) }
+{
+    grow(alloc, sets, n)?;
+    gain_there(alloc, sets, n, blocks)
 }
 
 fn add_new(alloc: Global, sets: &mut Vec<Items>, n: u32, run: ItemRun) -> Result<bool, AllocError>

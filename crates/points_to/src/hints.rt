@@ -9,7 +9,7 @@ use crate::queue::Queue;
 use crate::reads::reads;
 use crate::row_table::{SetTable, Table};
 use crate::sources::Sources;
-use crate::span::{Spans, literal_tag};
+use crate::span::{Spans, literal_tag, variable_at};
 use crate::state::{State, Step, touches_no_cell};
 use crate::stored::number_block;
 use crate::writers::Writers;
@@ -39,11 +39,12 @@ pub struct Hints {
     // By site the variables that are fetched from there.
     watchers: Table<u32>,
     spans: Spans,
-    // By variable the writers that it met; by fetch the values that it is linked to; by site the
-    // writers that the variables which are fetched from there are still to meet, and those that they
-    // met.
+    // By variable the writers that it met; by fetch the variables that are linked to it, and the
+    // values that were given to it; by site the writers that the variables which are fetched from
+    // there are still to meet, and those that they met.
     met: SetTable,
     linked: SetTable,
+    given: SetTable,
     unmet: SetTable,
     spread: SetTable,
     // What an inclusion reads that is noted: one list for all of them.
@@ -72,6 +73,7 @@ impl Hints {
             spans: Spans::new(alloc, count as u32)?,
             met: SetTable::new(alloc),
             linked: SetTable::new(alloc),
+            given: SetTable::new(alloc),
             unmet: SetTable::new(alloc),
             spread: SetTable::new(alloc),
             places: Seq::new(alloc),
@@ -178,11 +180,27 @@ impl Hints {
             self.steps.push(Step::Give(g, site, n))?;
         }
         if let Some(t) = tag {
-            if self.linked.put(alloc, g, n)? {
+            if self.is_unlinked(alloc, system, g, n, i)? {
                 self.steps.push(Step::Link(g, site, n, t))?;
             }
         }
         Ok(())
+    }
+
+    // Notes that a fetch gets word i of a value, and says whether it didn't yet: many values have
+    // the same variable there.
+    fn is_unlinked(
+        &mut self,
+        alloc: Global,
+        system: &FlowSystem,
+        g: u32,
+        n: u32,
+        i: u32,
+    ) -> Result<bool, AllocError> {
+        match variable_at(system, n, i) {
+            Some(x) => self.linked.put(alloc, g, x),
+            None => self.given.put(alloc, g, n),
+        }
     }
 
     // The same for a fetch of tags. A tag that it has already isn't given again.
@@ -200,7 +218,7 @@ impl Hints {
                 return Ok(());
             }
         }
-        if self.linked.put(alloc, g, n)? {
+        if self.given.put(alloc, g, n)? {
             self.steps.push(Step::Give(g, site, n))?;
         }
         Ok(())

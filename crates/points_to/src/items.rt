@@ -5,7 +5,7 @@ ghost use Rattle.std.specs.List.{flat_map};
 ghost use Rattle.std.proofs.Props.{props};
 ghost use Rattle.flow_system.specs.Shown.{tables_of};
 ghost use Rattle.points_to.specs.Bits.{block_words};
-ghost use Rattle.points_to.specs.Held.{In, words_in_part, done_items};
+ghost use Rattle.points_to.specs.Held.{In, in_part, words_in_part, done_items};
 ghost use Rattle.points_to.specs.PartOrder.{before, Ascending, Finds, IsPlace};
 ghost use Rattle.points_to.specs.Rows.{row_items, GainsMembers};
 ghost use Rattle.points_to.specs.Runs.{items_of_item_run};
@@ -73,6 +73,19 @@ impl Items {
         ensures still { IfOk result (λ added. added ≡ false → self.new ≡ self.old) }
     {
         add_new_in(alloc, &mut self.rows, run)
+    }
+
+    /// Puts words into one part, and says whether some of them may be new.
+    pub fn gain(
+        &mut self,
+        alloc: Global,
+        part: Part,
+        blocks: &[(u32, u64)],
+    ) -> Result<bool, AllocError>
+        ensures { OnOk result (GainsMembers self.old self.new
+            (in_part part (flat_map block_words blocks.now))) }
+    {
+        gain_in(alloc, &mut self.rows, part, blocks)
     }
 
     /// Puts the items at the end of a list.
@@ -199,6 +212,39 @@ fn add_new_in(alloc: Global, rows: &mut Vec<Row>, run: ItemRun) -> Result<bool, 
                 words: Bits::new(alloc),
             };
             add_block(&mut row, run)?;
+            rows.insert(place, row)?;
+            Ok(true)
+        }
+    }
+}
+
+fn gain_row(row: &mut Row, blocks: &[(u32, u64)]) -> Result<bool, AllocError>
+    ensures gets { OnOk result (GainsMembers (row_items row.old) (row_items row.new)
+        (in_part row.old.part (flat_map block_words blocks.now))) }
+    ensures same_part { row.new.part ≡ row.old.part }
+{
+    row.words.gain_all(blocks)
+}
+
+fn gain_in(
+    alloc: Global,
+    rows: &mut Vec<Row>,
+    part: Part,
+    blocks: &[(u32, u64)],
+) -> Result<bool, AllocError>
+    requires { Ascending rows.old.items }
+    ensures ascending { Ascending rows.new.items }
+    ensures gets { OnOk result (GainsMembers (flat_map row_items rows.old.items)
+        (flat_map row_items rows.new.items) (in_part part (flat_map block_words blocks.now))) }
+{
+    match find(rows.as_slice(), part) {
+        Ok(place) => gain_row(&mut rows[place], blocks),
+        Err(place) => {
+            let mut row = Row {
+                part,
+                words: Bits::new(alloc),
+            };
+            gain_row(&mut row, blocks)?;
             rows.insert(place, row)?;
             Ok(true)
         }

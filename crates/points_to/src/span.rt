@@ -132,3 +132,23 @@ pub fn literal_tag(system: &FlowSystem, n: u32) -> Option<TagId> {
         _ => None,
     }
 }
+
+/// The variable that is word i of the value with a number, counted from 1.
+pub fn variable_at(system: &FlowSystem, n: u32, i: u32) -> Option<u32> {
+    let word = match value_in(system.inclusions.get(n as usize)?) {
+        Some(Val::Node(_, words)) => {
+            if i == 0 {
+                return None;
+            }
+            words.get(i as usize - 1)?
+        }
+        Some(Val::Vector(words)) => words.get(i as usize)?,
+        _ => {
+            return None;
+        }
+    };
+    match word {
+        Word::Var(x) => Some(x.0),
+        _ => None,
+    }
+}
