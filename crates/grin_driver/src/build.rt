@@ -1,7 +1,7 @@
 //! The image of a text, put out.
 
 ghost use Rattle.std.specs.Prelude.{◌≤◌};
-ghost use Rattle.grin_io.specs.Changes.{sink_change};
+ghost use Rattle.text_commands.specs.Over.{sink_over};
 ghost use Rattle.grin_compile.specs.Limits.{SizesAreInRange};
 ghost use Rattle.grin_driver.specs.Building.{IsBuildOutcome};
 
@@ -22,7 +22,7 @@ pub(crate) fn build_text<K: Sink>(
     out: &mut K,
 ) -> Status
     requires { SizesAreInRange options.cells options.stack }
-    ensures builds { IsBuildOutcome (sink_change K.put_gives K.taken K.faults out.old out.new) text.now
+    ensures builds { IsBuildOutcome (sink_over K.Sink out.old out.new) text.now
         options.cells options.stack result }
     ensures later { K.faults out.old ≤ K.faults out.new }
 {

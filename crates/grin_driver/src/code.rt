@@ -1,7 +1,7 @@
 //! The listing of a text's code.
 
 ghost use Rattle.std.specs.Prelude.{◌≡◌, ◌<◌, ◌≤◌, ◌+◌, ◌*◌, ◌++◌, length, IfOk, IfErr, OnOk};
-ghost use Rattle.grin_io.specs.Changes.{sink_change};
+ghost use Rattle.text_commands.specs.Over.{sink_over};
 ghost use Rattle.grin_compile.specs.Limits.{SizesAreInRange};
 ghost use Rattle.rv32_isa.specs.Table.{instr_of};
 ghost use Rattle.grin_driver.specs.Outcome.{IsBuildFailure};
@@ -101,7 +101,7 @@ fn listed_code(alloc: Global, text: &[u8], options: Options) -> Result<Vec<u8>, 
 /// Lists the code of a text's image with the heap and the stack that it has by default, in pieces
 /// of 4,096 bytes.
 pub(crate) fn list_code<K: Sink>(alloc: Global, text: &[u8], out: &mut K) -> Status
-    ensures lists { IsCodeListOutcome (sink_change K.put_gives K.taken K.faults out.old out.new) text.now
+    ensures lists { IsCodeListOutcome (sink_over K.Sink out.old out.new) text.now
         default_cells default_stack result }
     ensures later { K.faults out.old ≤ K.faults out.new }
 {

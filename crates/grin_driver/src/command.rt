@@ -1,7 +1,7 @@
 //! The command line as a whole.
 
 ghost use Rattle.std.specs.Prelude.{◌≡◌, ◌≤◌, true, Some, IfSome};
-ghost use Rattle.grin_io.specs.Changes.{shelf_change, source_change, sink_change};
+ghost use Rattle.text_commands.specs.Over.{shelf_over, source_over, sink_over};
 ghost use Rattle.command_line.specs.Commands.{command_of, asked_by, RunFile, ExecImage};
 ghost use Rattle.core_link.specs.Laws.{TextOrderIsIrrelevant, LinkingKeepsNameRules, SingleModuleKeepsMeaning};
 ghost use Rattle.lambda_lift.specs.Laws.{LiftingPreservesMeaning};
@@ -67,9 +67,8 @@ fn run_file<F: Shelf, I: Source, K: Sink>(
 ) -> EndedWithCost
     requires permitted { F.permitted file.now }
     requires within { SizesAreInRange options.cells options.stack }
-    ensures answer { AnswersAtCost (shelf_change F.content F.faults shelf.old shelf.new)
-        (source_change I.read_gives I.left I.is_over I.faults input.old input.new)
-        (sink_change K.put_gives K.taken K.faults out.old out.new)
+    ensures answer { AnswersAtCost (shelf_over F.Shelf shelf.old shelf.new)
+        (source_over I.Source input.old input.new) (sink_over K.Sink out.old out.new)
         (Some (RunFile file.now options.cells options.stack steps true)) result.status result.cost }
     ensures later { (F.faults shelf.old ≤ F.faults shelf.new)
         × ((I.faults input.old ≤ I.faults input.new) × (K.faults out.old ≤ K.faults out.new)) }
@@ -89,10 +88,9 @@ fn list_file<F: Shelf, K: Sink>(
     out: &mut K,
 ) -> Status
     requires { F.permitted file.now }
-    ensures answer { HoldsOfOperandFile (shelf_change F.content F.faults shelf.old shelf.new) text_read_limit
+    ensures answer { HoldsOfOperandFile (shelf_over F.Shelf shelf.old shelf.new) text_read_limit
         (out.new ≡ out.old) file.now (λ text status.
-        IsListAfterOutcome (sink_change K.put_gives K.taken K.faults out.old out.new) text after status)
-        result }
+        IsListAfterOutcome (sink_over K.Sink out.old out.new) text after status) result }
     ensures later { (F.faults shelf.old ≤ F.faults shelf.new)
         × (K.faults out.old ≤ K.faults out.new) }
 {
@@ -112,9 +110,9 @@ fn build_file<F: Shelf, K: Sink>(
 ) -> Status
     requires permitted { F.permitted file.now }
     requires within { SizesAreInRange options.cells options.stack }
-    ensures answer { HoldsOfOperandFile (shelf_change F.content F.faults shelf.old shelf.new) text_read_limit
+    ensures answer { HoldsOfOperandFile (shelf_over F.Shelf shelf.old shelf.new) text_read_limit
         (out.new ≡ out.old) file.now (λ text status.
-        IsBuildOutcome (sink_change K.put_gives K.taken K.faults out.old out.new) text options.cells
+        IsBuildOutcome (sink_over K.Sink out.old out.new) text options.cells
         options.stack status) result }
     ensures later { (F.faults shelf.old ≤ F.faults shelf.new)
         × (K.faults out.old ≤ K.faults out.new) }
@@ -135,9 +133,9 @@ fn costs_file<F: Shelf, K: Sink>(
 ) -> Status
     requires permitted { F.permitted file.now }
     requires within { SizesAreInRange options.cells options.stack }
-    ensures answer { HoldsOfOperandFile (shelf_change F.content F.faults shelf.old shelf.new) text_read_limit
+    ensures answer { HoldsOfOperandFile (shelf_over F.Shelf shelf.old shelf.new) text_read_limit
         (out.new ≡ out.old) file.now (λ text status.
-        IsNeedsOutcome (sink_change K.put_gives K.taken K.faults out.old out.new) text options.cells
+        IsNeedsOutcome (sink_over K.Sink out.old out.new) text options.cells
         options.stack status) result }
     ensures later { (F.faults shelf.old ≤ F.faults shelf.new)
         × (K.faults out.old ≤ K.faults out.new) }
@@ -158,9 +156,8 @@ fn exec_file<F: Shelf, I: Source, K: Sink>(
     out: &mut K,
 ) -> EndedWithCost
     requires { F.permitted file.now }
-    ensures answer { AnswersAtCost (shelf_change F.content F.faults shelf.old shelf.new)
-        (source_change I.read_gives I.left I.is_over I.faults input.old input.new)
-        (sink_change K.put_gives K.taken K.faults out.old out.new)
+    ensures answer { AnswersAtCost (shelf_over F.Shelf shelf.old shelf.new)
+        (source_over I.Source input.old input.new) (sink_over K.Sink out.old out.new)
         (Some (ExecImage file.now steps true)) result.status result.cost }
     ensures later { (F.faults shelf.old ≤ F.faults shelf.new)
         × ((I.faults input.old ≤ I.faults input.new) × (K.faults out.old ≤ K.faults out.new)) }
@@ -187,10 +184,9 @@ fn run_command<F: Shelf, I: Source, K: Sink>(
 ) -> EndedWithCost
     requires permitted { HoldsOfNamedFiles F.permitted (asked_by command.now) }
     requires within { SizesAreWithinLimits (asked_by command.now) }
-    ensures answer { AnswersAtCost (shelf_change F.content F.faults shelf.old shelf.new)
-        (source_change I.read_gives I.left I.is_over I.faults input.old input.new)
-        (sink_change K.put_gives K.taken K.faults out.old out.new) (Some (asked_by command.now))
-        result.status result.cost }
+    ensures answer { AnswersAtCost (shelf_over F.Shelf shelf.old shelf.new)
+        (source_over I.Source input.old input.new)
+        (sink_over K.Sink out.old out.new) (Some (asked_by command.now)) result.status result.cost }
     ensures later { (F.faults shelf.old ≤ F.faults shelf.new)
         × ((I.faults input.old ≤ I.faults input.new) × (K.faults out.old ≤ K.faults out.new)) }
 {
@@ -252,10 +248,9 @@ fn run_line<F: Shelf, I: Source, K: Sink>(
     out: &mut K,
 ) -> EndedWithCost
     requires { IfSome (command_of line.now) (HoldsOfNamedFiles F.permitted) }
-    ensures answer { AnswersAtCost (shelf_change F.content F.faults shelf.old shelf.new)
-        (source_change I.read_gives I.left I.is_over I.faults input.old input.new)
-        (sink_change K.put_gives K.taken K.faults out.old out.new) (command_of line.now) result.status
-        result.cost }
+    ensures answer { AnswersAtCost (shelf_over F.Shelf shelf.old shelf.new)
+        (source_over I.Source input.old input.new)
+        (sink_over K.Sink out.old out.new) (command_of line.now) result.status result.cost }
     ensures later { (F.faults shelf.old ≤ F.faults shelf.new)
         × ((I.faults input.old ≤ I.faults input.new) × (K.faults out.old ≤ K.faults out.new)) }
 {
@@ -285,14 +280,12 @@ pub fn grinc_main<F: Shelf, I: Source, K: Sink, E: Sink>(
     err: &mut E,
 ) -> Status
     requires permitted { IfSome (command_of line.now) (HoldsOfNamedFiles F.permitted) }
-    ensures answer { AnswersAndTells (shelf_change F.content F.faults shelf.old shelf.new)
-        (source_change I.read_gives I.left I.is_over I.faults input.old input.new)
-        (sink_change K.put_gives K.taken K.faults out.old out.new)
-        (sink_change E.put_gives E.taken E.faults err.old err.new) (command_of line.now) result }
-    ensures complete { NothingFailed (shelf_change F.content F.faults shelf.old shelf.new)
-        (source_change I.read_gives I.left I.is_over I.faults input.old input.new)
-        (sink_change K.put_gives K.taken K.faults out.old out.new)
-        → Gives (shelf_change F.content F.faults shelf.old shelf.new) (command_of line.now) result }
+    ensures answer { AnswersAndTells (shelf_over F.Shelf shelf.old shelf.new)
+        (source_over I.Source input.old input.new) (sink_over K.Sink out.old out.new)
+        (sink_over E.Sink err.old err.new) (command_of line.now) result }
+    ensures complete { NothingFailed (shelf_over F.Shelf shelf.old shelf.new)
+        (source_over I.Source input.old input.new) (sink_over K.Sink out.old out.new)
+        → Gives (shelf_over F.Shelf shelf.old shelf.new) (command_of line.now) result }
     ensures memory { result ≡ OutOfMemory → out.new ≡ out.old }
     ensures linking { TextOrderIsIrrelevant × (LinkingKeepsNameRules × SingleModuleKeepsMeaning) }
     ensures lifting { LiftingPreservesMeaning }

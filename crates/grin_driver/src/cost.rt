@@ -2,7 +2,7 @@
 
 ghost use Rattle.std.specs.Prelude.{◌≡◌, ◌*◌, ◌≤◌, Some, None, length, if◌then◌else◌};
 ghost use Rattle.std.specs.Option.{option_map};
-ghost use Rattle.grin_io.specs.Changes.{sink_change};
+ghost use Rattle.text_commands.specs.Over.{sink_over};
 ghost use Rattle.grin_driver.specs.Costs.{IsCostOf, exec_cost, cost_line, cells_before, LineIsPrinted, LinesArePrinted, StatusAndCostArePrinted};
 
 use crate::standing::no_alternative_line;
@@ -64,7 +64,7 @@ fn cells_before(next_cell: u32, width: u32, cells: u32) -> u64
 
 /// Puts a line on the error output, as one put. A fault changes nothing else.
 fn put_line<E: Sink>(err: &mut E, line: &[u8])
-    ensures { LineIsPrinted (sink_change E.put_gives E.taken E.faults err.old err.new) line.now }
+    ensures { LineIsPrinted (sink_over E.Sink err.old err.new) line.now }
 {
     let _told = err.put(line);
 }
@@ -125,7 +125,7 @@ impl Cost {
 
     /// Puts the line on the error output, and behind it that of the place, if there is one.
     fn tell<E: Sink>(&self, err: &mut E)
-        ensures { LinesArePrinted (sink_change E.put_gives E.taken E.faults err.old err.new)
+        ensures { LinesArePrinted (sink_over E.Sink err.old err.new)
             (cost_line self.now) self.now.place }
     {
         match &self.place {
@@ -162,7 +162,7 @@ impl EndedWithCost {
     /// Puts the line of the status on the error output, and behind it that of the cost, where there
     /// is one.
     pub(crate) fn tell<E: Sink>(&self, err: &mut E)
-        ensures { StatusAndCostArePrinted (sink_change E.put_gives E.taken E.faults err.old err.new) self.now.status
+        ensures { StatusAndCostArePrinted (sink_over E.Sink err.old err.new) self.now.status
             self.now.cost }
     {
         match &self.cost {

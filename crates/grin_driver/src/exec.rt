@@ -2,7 +2,7 @@
 
 ghost use Rattle.std.specs.Prelude.{◌≡◌, ℕ, ◌≤◌, List};
 ghost use Rattle.elf32.specs.Rules.{NamesLeastBrokenRule};
-ghost use Rattle.grin_io.specs.Changes.{source_change, sink_change};
+ghost use Rattle.text_commands.specs.Over.{source_over, sink_over};
 ghost use Rattle.grin_driver.specs.Costs.{RunsWithCounts, ExecutesWithCounts};
 ghost use Rattle.grin_driver.specs.Execution.{Execution, IsExecLoadFailure, status_of};
 
@@ -52,9 +52,8 @@ fn execute<I: Source, K: Sink>(
     input: &mut I,
     out: &mut K,
 ) -> Counted
-    ensures ran { RunsWithCounts (source_change I.read_gives I.left I.is_over I.faults input.old input.new)
-        (sink_change K.put_gives K.taken K.faults out.old out.new) program.now steps result.status
-        result.counts }
+    ensures ran { RunsWithCounts (source_over I.Source input.old input.new)
+        (sink_over K.Sink out.old out.new) program.now steps result.status result.counts }
     ensures input_later { I.faults input.old ≤ I.faults input.new }
     ensures out_later { K.faults out.old ≤ K.faults out.new }
 {
@@ -92,10 +91,8 @@ pub(crate) fn exec_counted<I: Source, K: Sink>(
     input: &mut I,
     out: &mut K,
 ) -> Counted
-    ensures ran { ExecutesWithCounts
-        (source_change I.read_gives I.left I.is_over I.faults input.old input.new)
-        (sink_change K.put_gives K.taken K.faults out.old out.new) bytes.now steps result.status
-        result.counts }
+    ensures ran { ExecutesWithCounts (source_over I.Source input.old input.new)
+        (sink_over K.Sink out.old out.new) bytes.now steps result.status result.counts }
     ensures input_later { I.faults input.old ≤ I.faults input.new }
     ensures out_later { K.faults out.old ≤ K.faults out.new }
 {
@@ -116,8 +113,8 @@ pub(crate) fn exec_image<I: Source, K: Sink>(
     input: &mut I,
     out: &mut K,
 ) -> Status
-    ensures executes { Execution (source_change I.read_gives I.left I.is_over I.faults input.old input.new)
-        (sink_change K.put_gives K.taken K.faults out.old out.new) bytes.now steps result }
+    ensures executes { Execution (source_over I.Source input.old input.new)
+        (sink_over K.Sink out.old out.new) bytes.now steps result }
     ensures input_later { I.faults input.old ≤ I.faults input.new }
     ensures out_later { K.faults out.old ≤ K.faults out.new }
 {

@@ -1,7 +1,7 @@
 //! A generated text: compiled and run, and its summary put.
 
 ghost use Rattle.std.specs.Prelude.{◌≡◌, ◌≤◌, ℕ, List, length, IfOk, IfErr};
-ghost use Rattle.grin_io.specs.Changes.{sink_change};
+ghost use Rattle.text_commands.specs.Over.{sink_over};
 ghost use Rattle.generator.specs.Generated.{generated};
 ghost use Rattle.grin_driver.specs.Generating.{summary, Generates, IsDefaultImageOf, IsOutput, IsUndone, IsSummary, IsGenerateFailure};
 ghost use Rattle.seq.specs.Lists.{sum_of};
@@ -92,8 +92,7 @@ fn summed(alloc: Global, text: &[u8]) -> Result<Note, Status>
 /// Compiles and runs the text that is generated from a seed in so many rounds, and puts its summary
 /// in one put where its program is done. All else is had before that put.
 pub(crate) fn generate<K: Sink>(alloc: Global, seed: u32, size: u32, out: &mut K) -> Status
-    ensures generates { Generates (sink_change K.put_gives K.taken K.faults out.old out.new)
-        (generated seed size) result }
+    ensures generates { Generates (sink_over K.Sink out.old out.new) (generated seed size) result }
     ensures later { K.faults out.old ≤ K.faults out.new }
 {
     let Ok(text) = generated(alloc, seed, size) else {

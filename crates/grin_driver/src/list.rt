@@ -3,7 +3,7 @@
 ghost use Rattle.std.specs.Prelude.{◌≤◌, ℕ, List, IfOk, IfErr};
 ghost use Rattle.core_reader.specs.Tree as tree;
 ghost use Rattle.arity_check.specs.Program.{Program};
-ghost use Rattle.grin_io.specs.Changes.{sink_change};
+ghost use Rattle.text_commands.specs.Over.{sink_over};
 ghost use Rattle.stage_names.specs.declared.PassName.{PassName as PassName'};
 ghost use Rattle.grin_stages.specs.Stage.{StageExceedsLimit};
 ghost use Rattle.grin_driver.specs.Listing.{IsListing, IsListFailure, IsListOutcome};
@@ -56,8 +56,7 @@ pub(crate) fn no_stages_status(refusal: &CompileRefusal) -> Status
 /// Lists a text's program after a pass, in pieces of 4,096 bytes. All memory is had before the
 /// first put.
 pub fn list_text<K: Sink>(alloc: Global, text: &[u8], after: PassName, out: &mut K) -> Status
-    ensures lists { IsListOutcome (sink_change K.put_gives K.taken K.faults out.old out.new) text.now after
-        result }
+    ensures lists { IsListOutcome (sink_over K.Sink out.old out.new) text.now after result }
     ensures later { K.faults out.old ≤ K.faults out.new }
 {
     match listed(alloc, text, after) {
@@ -71,8 +70,7 @@ pub fn list_text<K: Sink>(alloc: Global, text: &[u8], after: PassName, out: &mut
 
 /// Lists a text's program after what the command line says.
 pub(crate) fn list_after<K: Sink>(alloc: Global, text: &[u8], after: Listing, out: &mut K) -> Status
-    ensures lists { IsListAfterOutcome (sink_change K.put_gives K.taken K.faults out.old out.new) text.now after
-        result }
+    ensures lists { IsListAfterOutcome (sink_over K.Sink out.old out.new) text.now after result }
     ensures later { K.faults out.old ≤ K.faults out.new }
 {
     match after {

@@ -1,7 +1,7 @@
 //! What the image of a text needs: the frames of its procedures, and the words of their code.
 
 ghost use Rattle.std.specs.Prelude.{◌≡◌, ◌≤◌, ◌*◌, ◌++◌, length, IfOk, IfErr, OnOk};
-ghost use Rattle.grin_io.specs.Changes.{sink_change};
+ghost use Rattle.text_commands.specs.Over.{sink_over};
 ghost use Rattle.grin_compile.specs.Limits.{SizesAreInRange};
 ghost use Rattle.grin_driver.specs.Outcome.{IsBuildFailure};
 ghost use Rattle.grin_driver.specs.Needs.{number_line, needs_line, procedure_lines, needs_text, IsNeedsText, IsNeedsOutcome};
@@ -105,7 +105,7 @@ pub(crate) fn tell_needs<K: Sink>(
     out: &mut K,
 ) -> Status
     requires { SizesAreInRange options.cells options.stack }
-    ensures tells { IsNeedsOutcome (sink_change K.put_gives K.taken K.faults out.old out.new) text.now
+    ensures tells { IsNeedsOutcome (sink_over K.Sink out.old out.new) text.now
         options.cells options.stack result }
     ensures later { K.faults out.old ≤ K.faults out.new }
 {

@@ -1,7 +1,7 @@
 //! The run of a text: accepted, compiled to an image, and run.
 
 ghost use Rattle.std.specs.Prelude.{◌≡◌, ◌≤◌};
-ghost use Rattle.grin_io.specs.Changes.{source_change, sink_change};
+ghost use Rattle.text_commands.specs.Over.{source_over, sink_over};
 ghost use Rattle.grin_compile.specs.Limits.{SizesAreInRange};
 ghost use Rattle.grin_driver.specs.Costs.{RunsAtCost};
 ghost use Rattle.grin_driver.specs.Outcome.{status_of_exit};
@@ -39,8 +39,8 @@ pub fn run_text<I: Source, K: Sink>(
     out: &mut K,
 ) -> EndedWithCost
     requires { SizesAreInRange options.cells options.stack }
-    ensures outcome { RunsAtCost (source_change I.read_gives I.left I.is_over I.faults input.old input.new)
-        (sink_change K.put_gives K.taken K.faults out.old out.new) text.now options.cells options.stack
+    ensures outcome { RunsAtCost (source_over I.Source input.old input.new)
+        (sink_over K.Sink out.old out.new) text.now options.cells options.stack
         steps result.status result.cost }
     ensures input_later { I.faults input.old ≤ I.faults input.new }
     ensures out_later { K.faults out.old ≤ K.faults out.new }

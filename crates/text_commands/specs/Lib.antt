@@ -1,4 +1,5 @@
 -- how a command ends
+pub mod Over
 pub mod Statuses
 pub mod Telling
 -- files, and outputs in pieces

@@ -1,7 +1,7 @@
 //! The check of a text, and the line of its program.
 
 ghost use Rattle.std.specs.Prelude.{◌≡◌, ◌≤◌, length};
-ghost use Rattle.grin_io.specs.Changes.{sink_change};
+ghost use Rattle.text_commands.specs.Over.{sink_over};
 ghost use Rattle.text_commands.specs.Checking.{IsCheckOutcome, summary};
 
 use crate::accept::{Accepted, accept};
@@ -26,7 +26,7 @@ fn summary(accepted: &Accepted) -> Note
 
 /// Checks a text, and puts the line of its program in one put.
 pub fn check_text<K: Sink>(alloc: Global, text: &[u8], out: &mut K) -> Status
-    ensures checks { IsCheckOutcome (sink_change K.put_gives K.taken K.faults out.old out.new) text.now result }
+    ensures checks { IsCheckOutcome (sink_over K.Sink out.old out.new) text.now result }
     ensures later { K.faults out.old ≤ K.faults out.new }
 {
     match accept(alloc, text) {

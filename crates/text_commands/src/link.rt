@@ -1,7 +1,7 @@
 //! Texts of modules, linked to one text.
 
 ghost use Rattle.std.specs.Prelude.{◌≡◌, ℕ, ◌≤◌, List, IfOk, IfErr};
-ghost use Rattle.grin_io.specs.Changes.{sink_change};
+ghost use Rattle.text_commands.specs.Over.{sink_over};
 ghost use Rattle.core_link.specs.Rules.{IsCause};
 ghost use Rattle.text_commands.specs.Linking.{IsLinkedText, IsLinkRefusal, IsLinkOutcome};
 ghost use Rattle.text_commands.specs.Writing.{IsTransformFailure};
@@ -47,7 +47,7 @@ fn linked(alloc: Global, texts: &Texts) -> Result<Vec<u8>, Status>
 /// Puts the canonical text of the program that texts are together, in pieces of 4,096 bytes. All
 /// memory is had before the first put.
 pub fn link_texts<K: Sink>(alloc: Global, texts: &Texts, out: &mut K) -> Status
-    ensures links { IsLinkOutcome (sink_change K.put_gives K.taken K.faults out.old out.new) texts.now result }
+    ensures links { IsLinkOutcome (sink_over K.Sink out.old out.new) texts.now result }
     ensures later { K.faults out.old ≤ K.faults out.new }
 {
     match linked(alloc, texts) {

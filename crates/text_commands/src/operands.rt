@@ -2,7 +2,7 @@
 
 ghost use Rattle.std.specs.Prelude.{◌≡◌, ◌≤◌};
 ghost use Rattle.command_line.specs.Commands.{names_of};
-ghost use Rattle.grin_io.specs.Changes.{shelf_change, sink_change};
+ghost use Rattle.text_commands.specs.Over.{shelf_over, sink_over};
 ghost use Rattle.text_commands.specs.Checking.{IsCheckOutcome};
 ghost use Rattle.text_commands.specs.Linking.{IsLinkOutcome};
 ghost use Rattle.text_commands.specs.Operands.{HoldsOfOperandFile, HoldsOfOperandFiles, text_read_limit};
@@ -24,9 +24,9 @@ pub fn check_file<F: Shelf, K: Sink>(
     out: &mut K,
 ) -> Status
     requires { F.permitted file.now }
-    ensures answer { HoldsOfOperandFile (shelf_change F.content F.faults shelf.old shelf.new) text_read_limit
+    ensures answer { HoldsOfOperandFile (shelf_over F.Shelf shelf.old shelf.new) text_read_limit
         (out.new ≡ out.old) file.now (λ text status.
-        IsCheckOutcome (sink_change K.put_gives K.taken K.faults out.old out.new) text status) result }
+        IsCheckOutcome (sink_over K.Sink out.old out.new) text status) result }
     ensures later { (F.faults shelf.old ≤ F.faults shelf.new)
         × (K.faults out.old ≤ K.faults out.new) }
 {
@@ -44,9 +44,9 @@ pub fn link_files<F: Shelf, K: Sink>(
     out: &mut K,
 ) -> Status
     requires { HoldsOfEachFile F.permitted (names_of files.now) }
-    ensures answer { HoldsOfOperandFiles (shelf_change F.content F.faults shelf.old shelf.new) text_read_limit
+    ensures answer { HoldsOfOperandFiles (shelf_over F.Shelf shelf.old shelf.new) text_read_limit
         (out.new ≡ out.old) (names_of files.now) (λ texts status.
-        IsLinkOutcome (sink_change K.put_gives K.taken K.faults out.old out.new) texts status) result }
+        IsLinkOutcome (sink_over K.Sink out.old out.new) texts status) result }
     ensures later { (F.faults shelf.old ≤ F.faults shelf.new)
         × (K.faults out.old ≤ K.faults out.new) }
 {

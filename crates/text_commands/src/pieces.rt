@@ -1,7 +1,8 @@
 //! Long outputs, put in pieces.
 
 ghost use Rattle.std.specs.Prelude.{◌≤◌, OnOk, OnErr};
-ghost use Rattle.grin_io.specs.Changes.{sink_change, TookExactly, PutFailed};
+ghost use Rattle.grin_io.specs.Changes.{TookExactly, PutFailed};
+ghost use Rattle.text_commands.specs.Over.{sink_over};
 ghost use Rattle.text_commands.specs.Putting.{HoldsOfPieces};
 
 use grin_io::{Failed, Sink};
@@ -13,9 +14,9 @@ const PIECE: usize = 4096;
 /// fails.
 pub fn put_pieces<K: Sink>(bytes: &[u8], out: &mut K) -> Result<(), Failed>
     ensures took { OnOk result
-        (HoldsOfPieces bytes.now (TookExactly (sink_change K.put_gives K.taken K.faults out.old out.new))) }
+        (HoldsOfPieces bytes.now (TookExactly (sink_over K.Sink out.old out.new))) }
     ensures broke { OnErr result
-        (HoldsOfPieces bytes.now (PutFailed (sink_change K.put_gives K.taken K.faults out.old out.new))) }
+        (HoldsOfPieces bytes.now (PutFailed (sink_over K.Sink out.old out.new))) }
     ensures later { K.faults out.old ≤ K.faults out.new }
 {
     'pieces: for piece in bytes.chunks(PIECE) {

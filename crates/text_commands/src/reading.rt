@@ -2,7 +2,7 @@
 
 ghost use Rattle.std.specs.Prelude.{◌≡◌, ◌<◌, ◌≤◌, true, IfOk, IfErr, OnOk, length, map, string_bytes};
 ghost use Rattle.command_line.specs.Commands.{names_of};
-ghost use Rattle.grin_io.specs.Changes.{shelf_change};
+ghost use Rattle.text_commands.specs.Over.{shelf_over};
 ghost use Rattle.text_commands.specs.Reading.{Reading, ReadsOn, IsRead, IsUnread, HoldsOfEachFile, AreRead, AddsFronts};
 
 use crate::status::Status;
@@ -33,7 +33,7 @@ fn read_piece<F: Shelf>(
     ensures grew { IfOk result (λ more. more ≡ true → length bytes.old.items
         < length bytes.new.items) }
     ensures room { length bytes.new.items ≤ most }
-    ensures unread { IfErr result (IsUnread (shelf_change F.content F.faults shelf.old shelf.new)) }
+    ensures unread { IfErr result (IsUnread (shelf_over F.Shelf shelf.old shelf.new)) }
     ensures later { F.faults shelf.old ≤ F.faults shelf.new }
 {
     let room = (most - bytes.len()).min(PIECE);
@@ -58,8 +58,8 @@ pub fn read_file<F: Shelf>(
 ) -> Result<Vec<u8>, Status>
     requires { F.permitted name.now }
     ensures read { IfOk result (λ bytes.
-        IsRead (shelf_change F.content F.faults shelf.old shelf.new) most name.now bytes.items) }
-    ensures unread { IfErr result (IsUnread (shelf_change F.content F.faults shelf.old shelf.new)) }
+        IsRead (shelf_over F.Shelf shelf.old shelf.new) most name.now bytes.items) }
+    ensures unread { IfErr result (IsUnread (shelf_over F.Shelf shelf.old shelf.new)) }
     ensures later { F.faults shelf.old ≤ F.faults shelf.new }
 {
     let Ok(()) = shelf.open(name) else {
@@ -91,7 +91,7 @@ fn add_texts<F: Shelf>(
     requires { HoldsOfEachFile F.permitted (map string_bytes names.now) }
     ensures read { OnOk result (AddsFronts (F.content shelf.old) (F.content shelf.new) most
         (map string_bytes names.now) texts.old texts.new) }
-    ensures unread { IfErr result (IsUnread (shelf_change F.content F.faults shelf.old shelf.new)) }
+    ensures unread { IfErr result (IsUnread (shelf_over F.Shelf shelf.old shelf.new)) }
     ensures later { F.faults shelf.old ≤ F.faults shelf.new }
 {
     for name in names {
@@ -113,7 +113,7 @@ pub fn read_files<F: Shelf>(
     requires { HoldsOfEachFile F.permitted (names_of files.now) }
     ensures read { IfOk result (AreRead (F.content shelf.old) (F.content shelf.new) most
         (names_of files.now)) }
-    ensures unread { IfErr result (IsUnread (shelf_change F.content F.faults shelf.old shelf.new)) }
+    ensures unread { IfErr result (IsUnread (shelf_over F.Shelf shelf.old shelf.new)) }
     ensures later { F.faults shelf.old ≤ F.faults shelf.new }
 {
     let mut texts = Texts::new(alloc);

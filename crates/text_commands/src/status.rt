@@ -1,7 +1,7 @@
 //! How a command ends, and what is told of it.
 
 ghost use Rattle.std.specs.Prelude.{◌≡◌, ◌+◌, ◌≤◌, ◌++◌, length};
-ghost use Rattle.grin_io.specs.Changes.{sink_change};
+ghost use Rattle.text_commands.specs.Over.{sink_over};
 ghost use Rattle.text_commands.specs.Statuses.{exit_code_of, error_line_of, trap_kind_text};
 ghost use Rattle.text_commands.specs.declared.status.Status.TheVariants.{Refused, Exited, Trapped};
 ghost use Rattle.text_commands.specs.Telling.{StatusIsPrinted};
@@ -66,7 +66,7 @@ impl Status {
     /// Puts the line of the status on the error output, as one put; nothing at `Done`. A fault
     /// changes nothing else.
     pub fn tell<E: Sink>(&self, err: &mut E)
-        ensures { StatusIsPrinted (sink_change E.put_gives E.taken E.faults err.old err.new) self.now }
+        ensures { StatusIsPrinted (sink_over E.Sink err.old err.new) self.now }
     {
         match self {
             Status::Done => {}

@@ -1,7 +1,7 @@
 //! Commands that make a text of the text of a file, and put it.
 
 ghost use Rattle.std.specs.Prelude.{◌≡◌, ◌≤◌, ℕ, List, IfOk, IfErr};
-ghost use Rattle.grin_io.specs.Changes.{shelf_change, sink_change};
+ghost use Rattle.text_commands.specs.Over.{shelf_over, sink_over};
 ghost use Rattle.text_commands.specs.Operands.{HoldsOfOperandFile, text_read_limit};
 ghost use Rattle.text_commands.specs.Writing.{IsTransformFailure, RefusesLongTexts, Writes};
 
@@ -32,7 +32,7 @@ pub trait Maker {
 /// Puts what is made of a text, in pieces of 4,096 bytes. All memory is had before the first put.
 pub fn write_text<M: Maker, K: Sink>(alloc: Global, maker: &M, text: &[u8], out: &mut K) -> Status
     ensures writes { Writes (M.made maker.now) (M.refused maker.now)
-        (sink_change K.put_gives K.taken K.faults out.old out.new) text.now result }
+        (sink_over K.Sink out.old out.new) text.now result }
     ensures later { K.faults out.old ≤ K.faults out.new }
 {
     match maker.make(alloc, text) {
@@ -53,10 +53,10 @@ pub fn write_file<M: Maker, F: Shelf, K: Sink>(
     out: &mut K,
 ) -> Status
     requires { F.permitted file.now }
-    ensures answer { HoldsOfOperandFile (shelf_change F.content F.faults shelf.old shelf.new) text_read_limit
+    ensures answer { HoldsOfOperandFile (shelf_over F.Shelf shelf.old shelf.new) text_read_limit
         (out.new ≡ out.old) file.now (λ text status.
         Writes (M.made maker.now) (M.refused maker.now)
-        (sink_change K.put_gives K.taken K.faults out.old out.new) text status) result }
+        (sink_over K.Sink out.old out.new) text status) result }
     ensures later { (F.faults shelf.old ≤ F.faults shelf.new)
         × (K.faults out.old ≤ K.faults out.new) }
 {

@@ -1,6 +1,6 @@
 use Rattle.std.proofs.Common.{ℕ, List, Option, arith, refl}
 use mathlib.Core.Logic.{inl}
-use Rattle.grin_io.specs.Changes.{shelf_change, source_change, sink_change}
+use Rattle.text_commands.specs.Over.{shelf_over, source_over, sink_over}
 use Rattle.text_commands.specs.declared.status.Status.{Status}
 use Rattle.grin_driver.specs.Costs.{CostsExecution}
 use Rattle.grin_driver.specs.Execution.{IsUntouched, Execution}
@@ -11,13 +11,12 @@ use Rattle.grin_driver.proofs.command.exec_file.Goals as goal
 
 pub returns-in-Ok-clause-answer : goal.returns-in-Ok-clause-answer
 returns-in-Ok-clause-answer g c =
-    let i = (source_change g.I.Source.read_gives g.I.Source.left g.I.Source.is_over
-    g.I.Source.faults c.args.input.now c.exec_counted-ran.new.input) in
-    let o = (sink_change g.K.Sink.put_gives g.K.Sink.taken g.K.Sink.faults c.args.out.now
+    let i = (source_over g.I.Source c.args.input.now c.exec_counted-ran.new.input) in
+    let o = (sink_over g.K.Sink c.args.out.now
     c.exec_counted-ran.new.out) in
     let ran = c.exec_counted-ran in
     rw c.of_exec.ensures
-    (of_file_at_cost i o (shelf_change g.F.Shelf.content g.F.Shelf.faults c.args.shelf.now
+    (of_file_at_cost i o (shelf_over g.F.Shelf c.args.shelf.now
     c.read_file.new.shelf) 1342177281 (IsUntouched i o) c.args.file.now c.in-Ok.bytes.items
     (λ (bytes : List ℕ) (s : Status). Execution i o bytes c.args.steps s)
     (λ (bytes : List ℕ) (s : Status) (h : Execution i o bytes c.args.steps s) (cost : Option Cost).

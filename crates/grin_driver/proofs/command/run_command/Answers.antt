@@ -1,5 +1,5 @@
 use Rattle.std.proofs.Common.{Some, refl, sym, ap, subst}
-use Rattle.grin_io.specs.Changes.{shelf_change, source_change, sink_change}
+use Rattle.text_commands.specs.Over.{shelf_over, source_over, sink_over}
 use Rattle.command_line.specs.Commands.{asked_by}
 use Rattle.grin_driver.specs.Costs.{AnswersAtCost}
 use Rattle.grin_driver.proofs.Commands.{untold}
@@ -8,12 +8,11 @@ use Rattle.grin_driver.proofs.command.run_command.Goals as goal
 
 pub returns-in-Run-clause-answer : goal.returns-in-Run-clause-answer
 returns-in-Run-clause-answer g c =
-    let i = (source_change g.I.Source.read_gives g.I.Source.left g.I.Source.is_over
-    g.I.Source.faults c.args.input.now
+    let i = (source_over g.I.Source c.args.input.now
     c.run_file.new.input) in
-    let o = (sink_change g.K.Sink.put_gives g.K.Sink.taken g.K.Sink.faults c.args.out.now
+    let o = (sink_over g.K.Sink c.args.out.now
     c.run_file.new.out) in
-    let f = (shelf_change g.F.Shelf.content g.F.Shelf.faults c.args.shelf.now c.run_file.new.shelf)
+    let f = (shelf_over g.F.Shelf c.args.shelf.now c.run_file.new.shelf)
     in
     let ended = c.asked.result in
     subst (λ x. AnswersAtCost f i o (Some (asked_by x)) ended.status ended.cost) (sym c.in-Run.is)
@@ -23,12 +22,11 @@ returns-in-Run-clause-answer g c =
 
 pub returns-in-Exec-clause-answer : goal.returns-in-Exec-clause-answer
 returns-in-Exec-clause-answer g c =
-    let i = (source_change g.I.Source.read_gives g.I.Source.left g.I.Source.is_over
-    g.I.Source.faults c.args.input.now
+    let i = (source_over g.I.Source c.args.input.now
     c.exec_file.new.input) in
-    let o = (sink_change g.K.Sink.put_gives g.K.Sink.taken g.K.Sink.faults c.args.out.now
+    let o = (sink_over g.K.Sink c.args.out.now
     c.exec_file.new.out) in
-    let f = (shelf_change g.F.Shelf.content g.F.Shelf.faults c.args.shelf.now c.exec_file.new.shelf)
+    let f = (shelf_over g.F.Shelf c.args.shelf.now c.exec_file.new.shelf)
     in
     let ended = c.asked-in-Exec.result in
     subst (λ x. AnswersAtCost f i o (Some (asked_by x)) ended.status ended.cost) (sym c.in-Exec.is)
@@ -38,11 +36,10 @@ returns-in-Exec-clause-answer g c =
 
 pub returns-in-Check-clause-answer : goal.returns-in-Check-clause-answer
 returns-in-Check-clause-answer g c =
-    let i = (source_change g.I.Source.read_gives g.I.Source.left g.I.Source.is_over
-    g.I.Source.faults c.args.input.now c.args.input.now) in
-    let o = (sink_change g.K.Sink.put_gives g.K.Sink.taken g.K.Sink.faults c.args.out.now
+    let i = (source_over g.I.Source c.args.input.now c.args.input.now) in
+    let o = (sink_over g.K.Sink c.args.out.now
     c.check_file.new.out) in
-    let f = (shelf_change g.F.Shelf.content g.F.Shelf.faults c.args.shelf.now
+    let f = (shelf_over g.F.Shelf c.args.shelf.now
     c.check_file.new.shelf) in
     untold f i o _ _ _ c.of.result.status c.of.result.cost
     (ap (λ x. Some (asked_by x)) c.in-Check.is) c.of.ensures.status c.of.ensures.cost
@@ -50,11 +47,10 @@ returns-in-Check-clause-answer g c =
 
 pub returns-in-List-clause-answer : goal.returns-in-List-clause-answer
 returns-in-List-clause-answer g c =
-    let i = (source_change g.I.Source.read_gives g.I.Source.left g.I.Source.is_over
-    g.I.Source.faults c.args.input.now c.args.input.now) in
-    let o = (sink_change g.K.Sink.put_gives g.K.Sink.taken g.K.Sink.faults c.args.out.now
+    let i = (source_over g.I.Source c.args.input.now c.args.input.now) in
+    let o = (sink_over g.K.Sink c.args.out.now
     c.list_file.new.out) in
-    let f = (shelf_change g.F.Shelf.content g.F.Shelf.faults c.args.shelf.now c.list_file.new.shelf)
+    let f = (shelf_over g.F.Shelf c.args.shelf.now c.list_file.new.shelf)
     in
     untold f i o _ _ _ c.of-in-List.result.status c.of-in-List.result.cost
     (ap (λ x. Some (asked_by x)) c.in-List.is) c.of-in-List.ensures.status c.of-in-List.ensures.cost
@@ -62,11 +58,10 @@ returns-in-List-clause-answer g c =
 
 pub returns-in-Build-clause-answer : goal.returns-in-Build-clause-answer
 returns-in-Build-clause-answer g c =
-    let i = (source_change g.I.Source.read_gives g.I.Source.left g.I.Source.is_over
-    g.I.Source.faults c.args.input.now c.args.input.now) in
-    let o = (sink_change g.K.Sink.put_gives g.K.Sink.taken g.K.Sink.faults c.args.out.now
+    let i = (source_over g.I.Source c.args.input.now c.args.input.now) in
+    let o = (sink_over g.K.Sink c.args.out.now
     c.build_file.new.out) in
-    let f = (shelf_change g.F.Shelf.content g.F.Shelf.faults c.args.shelf.now
+    let f = (shelf_over g.F.Shelf c.args.shelf.now
     c.build_file.new.shelf) in
     untold f i o _ _ _ c.of-in-Build.result.status c.of-in-Build.result.cost
     (ap (λ x. Some (asked_by x)) c.in-Build.is) c.of-in-Build.ensures.status
@@ -75,11 +70,10 @@ returns-in-Build-clause-answer g c =
 
 pub returns-in-Costs-clause-answer : goal.returns-in-Costs-clause-answer
 returns-in-Costs-clause-answer g c =
-    let i = (source_change g.I.Source.read_gives g.I.Source.left g.I.Source.is_over
-    g.I.Source.faults c.args.input.now c.args.input.now) in
-    let o = (sink_change g.K.Sink.put_gives g.K.Sink.taken g.K.Sink.faults c.args.out.now
+    let i = (source_over g.I.Source c.args.input.now c.args.input.now) in
+    let o = (sink_over g.K.Sink c.args.out.now
     c.costs_file.new.out) in
-    let f = (shelf_change g.F.Shelf.content g.F.Shelf.faults c.args.shelf.now
+    let f = (shelf_over g.F.Shelf c.args.shelf.now
     c.costs_file.new.shelf) in
     untold f i o _ _ _ c.of-in-Costs.result.status c.of-in-Costs.result.cost
     (ap (λ x. Some (asked_by x)) c.in-Costs.is) c.of-in-Costs.ensures.status
@@ -88,22 +82,20 @@ returns-in-Costs-clause-answer g c =
 
 pub returns-in-Gen-clause-answer : goal.returns-in-Gen-clause-answer
 returns-in-Gen-clause-answer g c =
-    let i = (source_change g.I.Source.read_gives g.I.Source.left g.I.Source.is_over
-    g.I.Source.faults c.args.input.now c.args.input.now) in
-    let o = (sink_change g.K.Sink.put_gives g.K.Sink.taken g.K.Sink.faults c.args.out.now
+    let i = (source_over g.I.Source c.args.input.now c.args.input.now) in
+    let o = (sink_over g.K.Sink c.args.out.now
     c.generate.new.out) in
-    let f = (shelf_change g.F.Shelf.content g.F.Shelf.faults c.args.shelf.now c.args.shelf.now) in
+    let f = (shelf_over g.F.Shelf c.args.shelf.now c.args.shelf.now) in
     untold f i o _ _ _ c.of-in-Gen.result.status c.of-in-Gen.result.cost
     (ap (λ x. Some (asked_by x)) c.in-Gen.is) c.of-in-Gen.ensures.status c.of-in-Gen.ensures.cost
     (c.generate.ensures.generates, refl, refl) refl
 
 pub returns-in-Link-clause-answer : goal.returns-in-Link-clause-answer
 returns-in-Link-clause-answer g c =
-    let i = (source_change g.I.Source.read_gives g.I.Source.left g.I.Source.is_over
-    g.I.Source.faults c.args.input.now c.args.input.now) in
-    let o = (sink_change g.K.Sink.put_gives g.K.Sink.taken g.K.Sink.faults c.args.out.now
+    let i = (source_over g.I.Source c.args.input.now c.args.input.now) in
+    let o = (sink_over g.K.Sink c.args.out.now
     c.link_files.new.out) in
-    let f = (shelf_change g.F.Shelf.content g.F.Shelf.faults c.args.shelf.now
+    let f = (shelf_over g.F.Shelf c.args.shelf.now
     c.link_files.new.shelf) in
     untold f i o _ _ _ c.of-in-Link.result.status c.of-in-Link.result.cost
     (ap (λ x. Some (asked_by x)) c.in-Link.is) c.of-in-Link.ensures.status c.of-in-Link.ensures.cost
@@ -111,11 +103,10 @@ returns-in-Link-clause-answer g c =
 
 pub returns-in-Lift-clause-answer : goal.returns-in-Lift-clause-answer
 returns-in-Lift-clause-answer g c =
-    let i = (source_change g.I.Source.read_gives g.I.Source.left g.I.Source.is_over
-    g.I.Source.faults c.args.input.now c.args.input.now) in
-    let o = (sink_change g.K.Sink.put_gives g.K.Sink.taken g.K.Sink.faults c.args.out.now
+    let i = (source_over g.I.Source c.args.input.now c.args.input.now) in
+    let o = (sink_over g.K.Sink c.args.out.now
     c.write_file.new.out) in
-    let f = (shelf_change g.F.Shelf.content g.F.Shelf.faults c.args.shelf.now
+    let f = (shelf_over g.F.Shelf c.args.shelf.now
     c.write_file.new.shelf) in
     untold f i o _ _ _ c.of-in-Lift.result.status c.of-in-Lift.result.cost
     (ap (λ x. Some (asked_by x)) c.in-Lift.is) c.of-in-Lift.ensures.status c.of-in-Lift.ensures.cost
@@ -123,11 +114,10 @@ returns-in-Lift-clause-answer g c =
 
 pub returns-in-Match-clause-answer : goal.returns-in-Match-clause-answer
 returns-in-Match-clause-answer g c =
-    let i = (source_change g.I.Source.read_gives g.I.Source.left g.I.Source.is_over
-    g.I.Source.faults c.args.input.now c.args.input.now) in
-    let o = (sink_change g.K.Sink.put_gives g.K.Sink.taken g.K.Sink.faults c.args.out.now
+    let i = (source_over g.I.Source c.args.input.now c.args.input.now) in
+    let o = (sink_over g.K.Sink c.args.out.now
     c.write_file-in-Match.new.out) in
-    let f = (shelf_change g.F.Shelf.content g.F.Shelf.faults c.args.shelf.now
+    let f = (shelf_over g.F.Shelf c.args.shelf.now
     c.write_file-in-Match.new.shelf) in
     untold f i o _ _ _ c.of-in-Match.result.status c.of-in-Match.result.cost
     (ap (λ x. Some (asked_by x)) c.in-Match.is) c.of-in-Match.ensures.status
@@ -136,11 +126,10 @@ returns-in-Match-clause-answer g c =
 
 pub returns-in-Types-clause-answer : goal.returns-in-Types-clause-answer
 returns-in-Types-clause-answer g c =
-    let i = (source_change g.I.Source.read_gives g.I.Source.left g.I.Source.is_over
-    g.I.Source.faults c.args.input.now c.args.input.now) in
-    let o = (sink_change g.K.Sink.put_gives g.K.Sink.taken g.K.Sink.faults c.args.out.now
+    let i = (source_over g.I.Source c.args.input.now c.args.input.now) in
+    let o = (sink_over g.K.Sink c.args.out.now
     c.write_file-in-Types.new.out) in
-    let f = (shelf_change g.F.Shelf.content g.F.Shelf.faults c.args.shelf.now
+    let f = (shelf_over g.F.Shelf c.args.shelf.now
     c.write_file-in-Types.new.shelf) in
     untold f i o _ _ _ c.of-in-Types.result.status c.of-in-Types.result.cost
     (ap (λ x. Some (asked_by x)) c.in-Types.is) c.of-in-Types.ensures.status
@@ -149,11 +138,10 @@ returns-in-Types-clause-answer g c =
 
 pub returns-in-Sides-clause-answer : goal.returns-in-Sides-clause-answer
 returns-in-Sides-clause-answer g c =
-    let i = (source_change g.I.Source.read_gives g.I.Source.left g.I.Source.is_over
-    g.I.Source.faults c.args.input.now c.args.input.now) in
-    let o = (sink_change g.K.Sink.put_gives g.K.Sink.taken g.K.Sink.faults c.args.out.now
+    let i = (source_over g.I.Source c.args.input.now c.args.input.now) in
+    let o = (sink_over g.K.Sink c.args.out.now
     c.write_file-in-Sides.new.out) in
-    let f = (shelf_change g.F.Shelf.content g.F.Shelf.faults c.args.shelf.now
+    let f = (shelf_over g.F.Shelf c.args.shelf.now
     c.write_file-in-Sides.new.shelf) in
     untold f i o _ _ _ c.of-in-Sides.result.status c.of-in-Sides.result.cost
     (ap (λ x. Some (asked_by x)) c.in-Sides.is) c.of-in-Sides.ensures.status
@@ -162,11 +150,10 @@ returns-in-Sides-clause-answer g c =
 
 pub returns-in-Points-clause-answer : goal.returns-in-Points-clause-answer
 returns-in-Points-clause-answer g c =
-    let i = (source_change g.I.Source.read_gives g.I.Source.left g.I.Source.is_over
-    g.I.Source.faults c.args.input.now c.args.input.now) in
-    let o = (sink_change g.K.Sink.put_gives g.K.Sink.taken g.K.Sink.faults c.args.out.now
+    let i = (source_over g.I.Source c.args.input.now c.args.input.now) in
+    let o = (sink_over g.K.Sink c.args.out.now
     c.write_file-in-Points.new.out) in
-    let f = (shelf_change g.F.Shelf.content g.F.Shelf.faults c.args.shelf.now
+    let f = (shelf_over g.F.Shelf c.args.shelf.now
     c.write_file-in-Points.new.shelf) in
     untold f i o _ _ _ c.of-in-Points.result.status c.of-in-Points.result.cost
     (ap (λ x. Some (asked_by x)) c.in-Points.is) c.of-in-Points.ensures.status

@@ -1,6 +1,6 @@
 use Rattle.std.proofs.Common.{ℕ, List, Option, arith, refl}
 use mathlib.Core.Logic.{inl}
-use Rattle.grin_io.specs.Changes.{shelf_change, source_change, sink_change}
+use Rattle.text_commands.specs.Over.{shelf_over, source_over, sink_over}
 use Rattle.text_commands.specs.declared.status.Status.{Status}
 use Rattle.grin_driver.specs.Costs.{CostsText}
 use Rattle.grin_driver.specs.Execution.{IsUntouched}
@@ -12,16 +12,15 @@ use Rattle.grin_driver.proofs.command.run_file.Goals as goal
 
 pub returns-in-Ok-clause-answer : goal.returns-in-Ok-clause-answer
 returns-in-Ok-clause-answer g c =
-    let i = (source_change g.I.Source.read_gives g.I.Source.left g.I.Source.is_over
-    g.I.Source.faults c.args.input.now
+    let i = (source_over g.I.Source c.args.input.now
     c.run_text.new.input) in
-    let o = (sink_change g.K.Sink.put_gives g.K.Sink.taken g.K.Sink.faults c.args.out.now
+    let o = (sink_over g.K.Sink c.args.out.now
     c.run_text.new.out) in
     let ran = c.run_text in
     let cells = c.args.options.cells in
     let stack = c.args.options.stack in
     of_file_at_cost i o
-    (shelf_change g.F.Shelf.content g.F.Shelf.faults c.args.shelf.now c.read_file.new.shelf)
+    (shelf_over g.F.Shelf c.args.shelf.now c.read_file.new.shelf)
     1048577
     (IsUntouched i o) c.args.file.now c.in-Ok.text.items
     (λ (text : List ℕ) (s : Status). Outcome i o text cells stack c.args.steps s)

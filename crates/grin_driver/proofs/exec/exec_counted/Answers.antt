@@ -1,14 +1,14 @@
 use Rattle.std.proofs.Common.{refl}
-use Rattle.grin_io.specs.Changes.{source_change, sink_change}
+use Rattle.text_commands.specs.Over.{source_over, sink_over}
 use Rattle.grin_driver.proofs.Costs.{execution, unloaded}
 use Rattle.grin_driver.proofs.exec.exec_counted.Goals as goal
 
 pub returns-in-Ok-clause-ran : goal.returns-in-Ok-clause-ran
 returns-in-Ok-clause-ran g c =
     execution
-    (source_change g.I.Source.read_gives g.I.Source.left g.I.Source.is_over g.I.Source.faults
+    (source_over g.I.Source
     c.args.input.now c.execute.new.input)
-    (sink_change g.K.Sink.put_gives g.K.Sink.taken g.K.Sink.faults c.args.out.now c.execute.new.out)
+    (sink_over g.K.Sink c.args.out.now c.execute.new.out)
     c.args.bytes.now _ c.args.steps c.in-Ok.ensures.ok c.execute.result.status
     c.execute.result.counts
     c.execute.ensures.ran

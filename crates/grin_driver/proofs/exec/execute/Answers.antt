@@ -1,5 +1,5 @@
 use Rattle.std.proofs.Common.{refl}
-use Rattle.grin_io.specs.Changes.{source_change, sink_change}
+use Rattle.text_commands.specs.Over.{source_over, sink_over}
 use Rattle.grin_io.specs.declared.outside.Fault.TheVariants.{Read, Write}
 use Rattle.grin_driver.specs.declared.cost.RunCounts.{RunCounts}
 use Rattle.grin_driver.proofs.Execution.{failed}
@@ -8,10 +8,10 @@ use Rattle.grin_driver.proofs.exec.execute.Goals as goal
 
 pub returns-in-Err-Read-clause-ran : goal.returns-in-Err-Read-clause-ran
 returns-in-Err-Read-clause-ran g c = (
-  failed (source_change g.I.Source.read_gives g.I.Source.left g.I.Source.is_over g.I.Source.faults
+  failed (source_over g.I.Source
       c.args.input.now
       c.run_counted.new.input)
-      (sink_change g.K.Sink.put_gives g.K.Sink.taken g.K.Sink.faults c.args.out.now
+      (sink_over g.K.Sink c.args.out.now
       c.run_counted.new.out)
       c.args.program.now c.in-Ok.machine c.args.steps Read
       c.in-Ok.ensures (rw c.in-Err-Read.field-0-is at c.in-Err-Read.ensures.cause.raised)
@@ -21,10 +21,10 @@ returns-in-Err-Read-clause-ran g c = (
 
 pub returns-clause-ran : goal.returns-clause-ran
 returns-clause-ran g c = (
-  failed (source_change g.I.Source.read_gives g.I.Source.left g.I.Source.is_over g.I.Source.faults
+  failed (source_over g.I.Source
       c.args.input.now
       c.run_counted.new.input)
-      (sink_change g.K.Sink.put_gives g.K.Sink.taken g.K.Sink.faults c.args.out.now
+      (sink_over g.K.Sink c.args.out.now
       c.run_counted.new.out)
       c.args.program.now c.in-Ok.machine c.args.steps Write
       c.in-Ok.ensures (rw c.in-Err-Write.field-0-is at c.in-Err-Write.ensures.cause.raised)
@@ -35,10 +35,9 @@ returns-clause-ran g c = (
 pub returns-in-Ok-run_counted-clause-ran : goal.returns-in-Ok-run_counted-clause-ran
 returns-in-Ok-run_counted-clause-ran g c =
     let ran = c.in-Ok-run_counted.ran in
-    let i = (source_change g.I.Source.read_gives g.I.Source.left g.I.Source.is_over
-    g.I.Source.faults c.args.input.now
+    let i = (source_over g.I.Source c.args.input.now
     c.run_counted.new.input) in
-    let o = (sink_change g.K.Sink.put_gives g.K.Sink.taken g.K.Sink.faults c.args.out.now
+    let o = (sink_over g.K.Sink c.args.out.now
     c.run_counted.new.out) in
     let counts : RunCounts = record {
       instructions = ran.done;

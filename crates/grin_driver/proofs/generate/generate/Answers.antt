@@ -1,5 +1,5 @@
 use Rattle.std.proofs.Common.{ℕ, List, [], ◌∷◌, refl, sym, ap, ◌∙◌, subst}
-use Rattle.grin_io.specs.Changes.{sink_change}
+use Rattle.text_commands.specs.Over.{sink_over}
 use Rattle.grin_io.proofs.Changes.{told, broke_off_one}
 use Rattle.grin_driver.specs.Generating.{IsSummary, Generates}
 use Rattle.grin_driver.proofs.Summaries.{unsummed_is_generated}
@@ -20,7 +20,7 @@ returns-in-Ok-summed-clause-generates g c =
 
 pub returns-clause-generates : goal.returns-clause-generates
 returns-clause-generates g c =
-    let o = sink_change g.K.Sink.put_gives g.K.Sink.taken g.K.Sink.faults c.args.out.now
+    let o = sink_over g.K.Sink c.args.out.now
     c.args.out.now in
     subst (λ (t : List ℕ). Generates o t c.in-Err.status)
     (c.as_slice.ensures.value ∙ c.in-Ok.ensures)

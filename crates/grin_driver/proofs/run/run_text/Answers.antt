@@ -1,5 +1,5 @@
 use Rattle.std.proofs.Common.{◌*◌, refl}
-use Rattle.grin_io.specs.Changes.{source_change, sink_change}
+use Rattle.text_commands.specs.Over.{source_over, sink_over}
 use Rattle.grin_driver.proofs.Costs.{unmade}
 use Rattle.grin_driver.proofs.Codes.{one_each}
 use Rattle.grin_driver.proofs.Outcomes.{outcome_at_cost}
@@ -17,10 +17,10 @@ returns-in-Ok-clause-outcome g c =
     let ran = c.exec_counted-ran in
     let is = rw c.status_of_exit-status.ensures at c.of_run.ensures in
     rw c.status_of_exit-status.ensures (outcome_at_cost
-    (source_change g.I.Source.read_gives g.I.Source.left g.I.Source.is_over g.I.Source.faults
+    (source_over g.I.Source
     c.args.input.now
     c.exec_counted-ran.new.input)
-    (sink_change g.K.Sink.put_gives g.K.Sink.taken g.K.Sink.faults c.args.out.now
+    (sink_over g.K.Sink c.args.out.now
     c.exec_counted-ran.new.out)
     c.args.text.now c.args.options.cells c.args.options.stack c.args.steps c.in-Ok.built.image.items
     kept.from

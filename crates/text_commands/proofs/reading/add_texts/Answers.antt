@@ -1,6 +1,6 @@
 use Rattle.std.proofs.Common.{◌∷◌, [], ◌++◌, List, ℕ, map, string_bytes, take, rules, arith, subst}
 use Rattle.std.proofs.lemmas.Grind.{common_steps}
-use Rattle.grin_io.specs.Changes.{shelf_change}
+use Rattle.text_commands.specs.Over.{shelf_over}
 use Rattle.text_commands.specs.Reading.{IsUnread, AddsFronts}
 use Rattle.text_commands.proofs.InTurn.{adds_one, unread_later, stay_later, names_more, of_name}
 use Rattle.text_commands.proofs.reading.add_texts.Goals as goal
@@ -14,7 +14,7 @@ read_file-requires g c =
 pub returns-in_err-text-clause-unread : goal.returns-in_err-text-clause-unread
 returns-in_err-text-clause-unread g c =
     let unread : IsUnread
-    (shelf_change g.F.Shelf.content g.F.Shelf.faults c.args.shelf.now c.read_file.new.shelf)
+    (shelf_over g.F.Shelf c.args.shelf.now c.read_file.new.shelf)
     c.in_err-text.field-0.0 =
     unread_later g.F.Shelf.content g.F.Shelf.faults c.args.shelf.now c.loop-name.shelf
     c.read_file.new.shelf c.args.most

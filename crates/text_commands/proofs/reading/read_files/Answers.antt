@@ -1,5 +1,5 @@
 use Rattle.std.proofs.Common.{map, string_bytes, rules}
-use Rattle.grin_io.specs.Changes.{shelf_change}
+use Rattle.text_commands.specs.Over.{shelf_over}
 use Rattle.text_commands.specs.Reading.{IsUnread}
 use Rattle.text_commands.proofs.InTurn.{of_front, of_others, unread_later, both_read}
 use Rattle.text_commands.proofs.reading.read_files.Goals as goal
@@ -16,7 +16,7 @@ add_texts-requires-2 g c = of_others g.F.Shelf.permitted
 pub returns-in_err-add_texts-2-clause-unread : goal.returns-in_err-add_texts-2-clause-unread
 returns-in_err-add_texts-2-clause-unread g c =
     let unread : IsUnread
-    (shelf_change g.F.Shelf.content g.F.Shelf.faults c.args.shelf.now c.add_texts-2.new.shelf)
+    (shelf_over g.F.Shelf c.args.shelf.now c.add_texts-2.new.shelf)
     c.in_err-add_texts-2.field-0.0 =
     unread_later g.F.Shelf.content g.F.Shelf.faults c.args.shelf.now c.add_texts.new.shelf
     c.add_texts-2.new.shelf c.args.most
