@@ -12,6 +12,7 @@ use Rattle.natural_semantics.specs.Stuck.{EvaluationSticks}
 use Rattle.natural_semantics.specs.Prints.{ProgramPrints}
 use Rattle.natural_semantics.specs.any.Natural.{Yields}
 use Rattle.natural_semantics.specs.any.Prints as any
+use Rattle.natural_semantics.specs.any.Laws.{PartsAgree}
 use Rattle.natural_semantics.specs.ByName as by_name
 use Rattle.natural_semantics.specs.CoreMoves.{moves_of, core_program}
 
@@ -27,6 +28,10 @@ abbrev pub PrintingIsFunction : Type 0
 PrintingIsFunction =
     (p : Program) (i out out' : List ℕ) (end end' : PrintingEnd) → end ≢ Going → end' ≢ Going
     → ProgramPrints p i out end → ProgramPrints p i out' end' → (out ≡ out') × (end ≡ end')
+
+-- all parts of what a program prints agree
+abbrev pub PartsOfPrintingAgree : Type 0
+PartsOfPrintingAgree = (p : Program) (i : List ℕ) → PartsAgree (ProgramPrints p i)
 
 -- Within some number of units a valid program has this output and this end exactly where the
 -- relation says so.

@@ -5,7 +5,7 @@
 //! of functions without a body.
 #![tactic(auto)]
 
-ghost use Rattle.natural_semantics.specs.Laws.{EvaluationIsFunction, PrintingIsFunction, EndsAreThoseOfTheRelation, OutputIsThatOfTheRelation, GoesOnWithoutDerivation, RelationIsThatOfItsMoves, SharingChangesNothing};
+ghost use Rattle.natural_semantics.specs.Laws.{EvaluationIsFunction, PrintingIsFunction, PartsOfPrintingAgree, EndsAreThoseOfTheRelation, OutputIsThatOfTheRelation, GoesOnWithoutDerivation, RelationIsThatOfItsMoves, SharingChangesNothing};
 ghost use Rattle.natural_semantics.specs.Examples.{ExamplesAreDerived};
 
 use core_meaning::{no_lookup_fails, valid_programs_are_well_formed};
@@ -19,6 +19,12 @@ pub fn evaluation_is_function()
 /// A program has one output and one end at most.
 pub fn printing_is_function()
     ensures { PrintingIsFunction }
+{}
+
+/// All that is derived to be printed begins one list, and is a beginning of what is printed with an
+/// end.
+pub fn parts_of_printing_agree()
+    ensures { PartsOfPrintingAgree }
 {}
 
 /// A program ends within some number of units exactly where the relation derives this output and

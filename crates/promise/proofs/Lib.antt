@@ -1,1 +1,2 @@
+mod Derived
 pub mod Promise

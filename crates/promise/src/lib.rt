@@ -12,6 +12,10 @@ ghost use Rattle.promise.specs.Promise.{KeepsPromise};
 use command_line::Line;
 use grin_driver::grinc_main;
 use grin_io::{Shelf, Sink, Source};
+use natural_semantics::{
+    ends_are_those_of_the_relation, output_is_that_of_the_relation, parts_of_printing_agree,
+    printing_is_function,
+};
 use std::alloc::Global;
 use std::io::{Read, Write};
 use system_io::{ReaderSource, WriterSink};
@@ -43,5 +47,9 @@ pub fn run_main<F: Shelf, R: Read, W: Write, V: Write>(
         (sink_change ⟦<WriterSink<V> as Sink>⟧.put_gives ⟦<WriterSink<V> as Sink>⟧.taken
         ⟦<WriterSink<V> as Sink>⟧.faults err.old err.new) (command_of line.now) result }
 {
+    printing_is_function();
+    parts_of_printing_agree();
+    ends_are_those_of_the_relation();
+    output_is_that_of_the_relation();
     grinc_main(alloc, line, shelf, input, out, err)
 }
