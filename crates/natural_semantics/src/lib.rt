@@ -5,7 +5,7 @@
 //! of functions without a body.
 #![tactic(auto)]
 
-ghost use Rattle.natural_semantics.specs.Laws.{EvaluationIsFunction, PrintingIsFunction, PartsOfPrintingAgree, EndsAreThoseOfTheRelation, OutputIsThatOfTheRelation, GoesOnWithoutDerivation, RelationIsThatOfItsMoves, SharingChangesNothing};
+ghost use Rattle.natural_semantics.specs.Laws.{EvaluationIsFunction, PrintingIsFunction, PartsOfPrintingAgree, EndsAreThoseOfTheRelation, OutputIsThatOfTheRelation, GoesOnWithoutDerivation, RelationIsThatOfItsMoves, SharingChangesNothing, WhatIsToldIsDerived};
 ghost use Rattle.natural_semantics.specs.Examples.{ExamplesAreDerived};
 
 use core_meaning::{no_lookup_fails, valid_programs_are_well_formed};
@@ -49,6 +49,13 @@ pub fn goes_on_without_derivation()
     no_lookup_fails();
 }
 
+/// What the evaluator tells of a program is derived, and no other end is.
+pub fn what_is_told_is_derived()
+    ensures { WhatIsToldIsDerived }
+{
+    no_lookup_fails();
+}
+
 /// Programs of the language's page by the rules of the relation alone: `take` of an endless list
 /// has its first elements, a sum in two places is done once, and what needs itself has no
 /// derivation.
@@ -61,7 +68,7 @@ pub fn relation_is_that_of_its_moves()
     ensures { RelationIsThatOfItsMoves }
 {}
 
-/// Evaluation by name, where nothing is shared, derives the same.
+/// Evaluation by name, where nothing is shared, derives the same output and the same end.
 pub fn sharing_changes_nothing()
     ensures { SharingChangesNothing }
 {

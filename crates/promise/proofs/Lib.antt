@@ -1,2 +1,1 @@
-mod Derived
 pub mod Promise

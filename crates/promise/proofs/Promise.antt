@@ -1,8 +1,9 @@
 -- What `run FILE` answers is what it promises.
-use Rattle.std.proofs.Common.{◌≡◌, ℕ, List, [], ◌++◌, Bool, Option, Some, None, refl, sym, ap, ◌∙◌, append-nil}
+use Rattle.std.proofs.Common.{◌≡◌, ℕ, List, [], ◌++◌, Bool, Option, Some, None, refl, sym, ap, ◌∙◌, subst, append-nil}
 use mathlib.Core.Logic.{inl, inr}
-use Rattle.arity_check.specs.Accepted.{IsValid}
 use Rattle.core_meaning.specs.Told.{core_program_meaning}
+use Rattle.core_meaning.specs.Printing as printing
+use Rattle.natural_semantics.specs.Laws.{ToldIsDerived, WhatIsToldIsDerived}
 use Rattle.natural_semantics.specs.Prints.{ProgramPrints}
 use Rattle.grin_io.specs.Content.{Files}
 use Rattle.grin_io.specs.Changes.{ShelfChange, SourceChange, SinkChange, BeginsWith, ReadExactly}
@@ -17,9 +18,8 @@ use Rattle.grin_driver.specs.Execution.{IsUntouched}
 use Rattle.grin_driver.specs.Outcome.{IsImageOf, Outcome}
 use Rattle.grin_driver.specs.Answer.{Answers}
 use Rattle.promise.specs.Promise.{printing_end, HasCause, ShowsPrinting, Tells, IsPromised, RunKeepsPromise, KeepsPromise}
-use Rattle.promise.proofs.Derived.{RelationLaws, begun, is_done, is_unaccepted, no_other_end}
 
-module _ {F I K : Type 0} (laws : RelationLaws) (f : ShelfChange F) (i : SourceChange I)
+module _ {F I K : Type 0} (law : WhatIsToldIsDerived) (f : ShelfChange F) (i : SourceChange I)
     (o : SinkChange K) (files : Files) (input before : List ℕ)
     (world : Tells f i o files input before) where
   -- nothing was put out
@@ -41,8 +41,9 @@ module _ {F I K : Type 0} (laws : RelationLaws) (f : ShelfChange F) (i : SourceC
 
     -- an image of the text is that of a valid program
     module _ (file : List ℕ) (from : IsImageOf text cells stack file) where
-      valid : IsValid from.program
-      valid = accepted_is_valid text from.source from.program from.accepted
+      derived : ToldIsDerived from.program input
+      derived =
+          law from.program (accepted_is_valid text from.source from.program from.accepted) input
 
       shown : (out : List ℕ) (status : Status)
           → ProgramPrints from.program input out (printing_end status)
@@ -50,41 +51,52 @@ module _ {F I K : Type 0} (laws : RelationLaws) (f : ShelfChange F) (i : SourceC
           (StackIsExceeded (largest_frame from.made.frames) (whole_words stack))
           (most_steps from.made.code from.made.addresses) steps status
           → ShowsPrinting f i o text input cells stack steps out status
-      shown out status derived cause = record {
+      shown out status d cause = record {
         file = file;
         from = from;
-        printed = derived;
-        no_other_end
-            = no_other_end laws from.program valid input out (printing_end status) derived;
+        printed = d;
+        no_other_end = λ all end. derived.no_other_end out all (printing_end status) end d;
         cause = cause;
       }
+
+      -- it has this end, with all of the output that is told within so many units
+      all_is_derived : (out told : List ℕ) (end : printing.PrintingEnd) → out ≡ told
+          → ProgramPrints from.program input told end → ProgramPrints from.program input out end
+      all_is_derived out told end is d =
+          subst (λ bytes. ProgramPrints from.program input bytes end) (sym is) d
 
     promised : (status : Status) → Outcome i o text cells stack steps status → Gives status
     promised Done runs =
         let says = runs.says input (begins runs.ran.gave) world.are_bytes in
         let took = says.took before world.has_output in
-        let all = is_done laws _ (valid _ runs.from) input took.0 says.units says.ended took.2 in
-        (took.0, took.1, shown _ runs.from took.0 Done all tt)
+        let all = (derived _ runs.from).ended says.units says.ended in (
+          took.0,
+          took.1,
+          shown _ runs.from took.0 Done (all_is_derived _ runs.from took.0 _ _ took.2 all) tt,
+        )
     promised NoAlternative runs =
         let says = runs.says input (begins runs.ran.gave) world.are_bytes in
         let took = says.took before world.has_output in
-        let all =
-        is_unaccepted laws _ (valid _ runs.from) input took.0 says.units says.ended took.2 in
-        (took.0, took.1, shown _ runs.from took.0 NoAlternative all tt)
+        let all = (derived _ runs.from).unaccepted says.units says.ended in (
+          took.0,
+          took.1,
+          shown _ runs.from took.0 NoAlternative
+              (all_is_derived _ runs.from took.0 _ _ took.2 all) tt,
+        )
     promised HeapFull runs =
         let says = runs.says input (begins runs.ran.gave) world.are_bytes in
         let took = says.took before world.has_output in
-        let part = begun laws _ (valid _ runs.from) input took.0 says.units took.2.1 in
+        let part = (derived _ runs.from).begun took.0 says.units took.2.1 in
         (took.0, took.1, shown _ runs.from took.0 HeapFull part (says.units, says.needs))
     promised StackFull runs =
         let says = runs.says input (begins runs.ran.gave) world.are_bytes in
         let took = says.took before world.has_output in
-        let part = begun laws _ (valid _ runs.from) input took.0 says.units took.2.1 in
+        let part = (derived _ runs.from).begun took.0 says.units took.2.1 in
         (took.0, took.1, shown _ runs.from took.0 StackFull part (says.units, says.needs))
     promised StepLimit runs =
         let says = runs.says input (begins runs.ran.gave) world.are_bytes in
         let took = says.took before world.has_output in
-        let part = begun laws _ (valid _ runs.from) input took.0 says.units took.2 in (
+        let part = (derived _ runs.from).begun took.0 says.units took.2 in (
           took.0,
           took.1,
           shown _ runs.from took.0 StepLimit part (λ n within. (says.keeps_pace n within).0),
@@ -93,12 +105,12 @@ module _ {F I K : Type 0} (laws : RelationLaws) (f : ShelfChange F) (i : SourceC
         let input_is = (runs.ran.gave.gave.content input world.has_input).0 in
         let says = runs.says input input_is world.are_bytes in
         let took = says.took before world.has_output in
-        let part = begun laws _ (valid _ runs.from) input took.0 says.units took.2 in
+        let part = (derived _ runs.from).begun took.0 says.units took.2 in
         (took.0, took.1, shown _ runs.from took.0 ReadFault part runs.ran.raised)
     promised WriteFault runs =
         let says = runs.says input (begins runs.ran.gave) world.are_bytes in
         let took = says.took before world.has_output in
-        let part = begun laws _ (valid _ runs.from) input took.0 says.units took.2 in
+        let part = (derived _ runs.from).begun took.0 says.units took.2 in
         (took.0, took.1, shown _ runs.from took.0 WriteFault part runs.ran.raised)
     promised (Refused rule number) refused = ([], same refused.1, (refused.0, refl))
     promised OutOfMemory untouched = ([], same untouched, refl)
@@ -106,16 +118,16 @@ module _ {F I K : Type 0} (laws : RelationLaws) (f : ShelfChange F) (i : SourceC
     promised (Exited code) runs = absurd runs.ran
     promised (Trapped kind pc) runs = absurd runs.ran
 
-module _ {F I K : Type 0} (laws : RelationLaws) (f : ShelfChange F) (i : SourceChange I)
+module _ {F I K : Type 0} (law : WhatIsToldIsDerived) (f : ShelfChange F) (i : SourceChange I)
     (o : SinkChange K) where
   run_keeps : (file : List ℕ) (cells stack steps : ℕ) (status : Status)
       → HoldsOfOperandFile f text_read_limit (IsUntouched i o) file
       (λ text status. Outcome i o text cells stack steps status) status
       → RunKeepsPromise f i o file cells stack steps status
   run_keeps file cells stack steps status (inl unread) files input before world =
-      ([], same laws f i o files input before world unread.1, inl (unread.0, refl))
+      ([], same law f i o files input before world unread.1, inl (unread.0, refl))
   run_keeps file cells stack steps status (inr (text, taken, ran)) files input before world =
-      let gives = promised laws f i o files input before world text cells stack steps status ran in
+      let gives = promised law f i o files input before world text cells stack steps status ran in
       (gives.0, gives.1, inr (text, (taken files world.has_files).0, gives.2))
 
   pub keeps_promise : (command : Option CommandLine) (status : Status)

@@ -12,10 +12,7 @@ ghost use Rattle.promise.specs.Promise.{KeepsPromise};
 use command_line::Line;
 use grin_driver::grinc_main;
 use grin_io::{Shelf, Sink, Source};
-use natural_semantics::{
-    ends_are_those_of_the_relation, output_is_that_of_the_relation, parts_of_printing_agree,
-    printing_is_function,
-};
+use natural_semantics::what_is_told_is_derived;
 use std::alloc::Global;
 use std::io::{Read, Write};
 use system_io::{ReaderSource, WriterSink};
@@ -47,9 +44,7 @@ pub fn run_main<F: Shelf, R: Read, W: Write, V: Write>(
         (sink_change ⟦<WriterSink<V> as Sink>⟧.put_gives ⟦<WriterSink<V> as Sink>⟧.taken
         ⟦<WriterSink<V> as Sink>⟧.faults err.old err.new) (command_of line.now) result }
 {
-    printing_is_function();
-    parts_of_printing_agree();
-    ends_are_those_of_the_relation();
-    output_is_that_of_the_relation();
+    // A law: what the evaluator tells is derived by the relation.
+    what_is_told_is_derived();
     grinc_main(alloc, line, shelf, input, out, err)
 }
