@@ -12,8 +12,9 @@ use Rattle.natural_semantics.specs.Stuck.{EvaluationSticks}
 use Rattle.natural_semantics.specs.Prints.{ProgramPrints}
 use Rattle.natural_semantics.specs.Laws.{RelationIsThatOfItsMoves}
 use Rattle.natural_semantics.specs.CoreMoves.{moves_of, core_program}
-use Rattle.natural_semantics.specs.any.Laws.{SaysWhatRunsDo}
+use Rattle.natural_semantics.specs.any.Laws.{SaysWhatRunsDo, PartsAgree}
 use Rattle.natural_semantics.proofs.any.OneAnswer as any-laws
+use Rattle.natural_semantics.proofs.any.Parts as parts
 use Rattle.natural_semantics.proofs.Performed.{runs_performed}
 use Rattle.natural_semantics.proofs.SameRelation.{evaluates_to, evaluates_from}
 use Rattle.natural_semantics.proofs.SameSticking.{evaluation_sticks_to}
@@ -37,6 +38,21 @@ pub one_output : (p : Program) (i out out' : List ℕ) (end end' : PrintingEnd) 
 one_output p i out out' end end' h h' a b =
     any-laws.one_output (core_program p) i out out' end end' h h'
     (program_to p i out end a) (program_to p i out' end' b)
+
+pub parts_agree : (p : Program) (i : List ℕ) → PartsAgree (ProgramPrints p i)
+parts_agree p i =
+    let of_moves = parts.parts_agree (core_program p) i in
+    record {
+      shorter = λ part all end h d.
+          program_from p i part Going
+          (of_moves.shorter part all end h (program_to p i all end d));
+      ended = λ part all end h a b.
+          of_moves.ended part all end h (program_to p i part Going a)
+          (program_to p i all end b);
+      ordered = λ part part' a b.
+          of_moves.ordered part part' (program_to p i part Going a)
+          (program_to p i part' Going b);
+    }
 
 -- a program's runs are those of its moves, where its lookups find what they look for
 module _ (p : Program)

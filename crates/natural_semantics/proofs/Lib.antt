@@ -6,3 +6,4 @@ mod SameRelation
 mod SameSticking
 mod SamePrints
 mod CoreSays
+mod Told

@@ -3,4 +3,5 @@ mod Complete
 mod Sticking
 mod Printed
 mod Enough
+pub mod Parts
 pub mod OneAnswer

@@ -3,4 +3,7 @@ mod Named
 mod Steps
 mod NeedToName
 mod NameToNeed
+mod NeverBoth
+mod NamedSticking
+mod NeededSticking
 pub mod Printed

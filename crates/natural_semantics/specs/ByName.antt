@@ -7,10 +7,10 @@ use Rattle.arity_check.specs.declared.normal.Flat.TheVariants as flat
 use Rattle.arity_check.specs.declared.normal.Var.{Var}
 use Rattle.arity_check.specs.declared.normal.Var.TheVariants as var
 use Rattle.arity_check.specs.declared.normal.PrimOp.{PrimOp}
-use Rattle.arity_check.specs.Program.{Program, Function, Term, App, Let, Case, Branches, OnCon, OnInt, OnAny}
+use Rattle.arity_check.specs.Program.{Program, Function, Term, App, Let, Case, Branches, NoMore, OnCon, OnInt, OnAny}
 use Rattle.core_meaning.specs.Numbers.{primitive_result}
 use Rattle.core_meaning.specs.Evaluation.{nil, cons, params}
-use Rattle.core_meaning.specs.Printing.{PrintingEnd, Done, Going}
+use Rattle.core_meaning.specs.Printing.{PrintingEnd, Done, Unaccepted, Going}
 use Rattle.numbers.specs.Numbers.{same_number, low_byte}
 
 mutual
@@ -96,6 +96,20 @@ abbrev pub is_number : ℤ → Meant → Bool
 is_number k (Number j) = same_number k j
 is_number k m = false
 
+-- of a value: it is no number, it takes no argument, it is no list
+abbrev pub NoNumber : Meant → Type 0
+NoNumber (Number k) = ⊥
+NoNumber m = Unit {0}
+
+abbrev pub NoFunction : Meant → Type 0
+NoFunction (Lacks f ms) = ⊥
+NoFunction m = Unit {0}
+
+abbrev pub NoList : (nil cons : ℕ) → Meant → Type 0
+NoList n c (Built d Few) = d ≢ n
+NoList n c (Built d (And head (And tail Few))) = d ≢ c
+NoList n c m = Unit {0}
+
 module _ (p : Program) where
   mutual
     -- what is meant has a value
@@ -149,13 +163,80 @@ module _ (p : Program) where
       PastInt : {s : Sense} {k : ℤ} {body : Term} {rest : Branches} {u v : Meant}
           → is_number k u ≡ false → Selects s rest u v → Selects s (OnInt k body rest) u v
 
-  -- a list puts out these bytes, and ends, or goes on behind them
+  -- ---- a value is met that nothing accepts
+
+  mutual
+    pub data MeantSticks : Meant → Type 0 where
+      InCall : {f : ℕ} {ms : Meants} (g : Function) → slice_get p.funs f ≡ Some g
+          → EvaluationSticks (nth ms) g.body → MeantSticks (CallOf f ms)
+      InGlobal : {f : ℕ} (g : Function) → slice_get p.funs f ≡ Some g
+          → EvaluationSticks (nth Few) g.body → MeantSticks (GlobalOf f)
+      AtHead : {m : Meant} {ms : Meants} → MeantSticks m → MeantSticks (ApplyOf m ms)
+      AtArguments : {m u : Meant} {ms : Meants} → Means m u → TakingSticks u ms
+          → MeantSticks (ApplyOf m ms)
+      AtFirst : {op : PrimOp} {m n : Meant} → MeantSticks m → MeantSticks (PrimOf op m n)
+      FirstIsNone : {op : PrimOp} {m n u : Meant} → Means m u → NoNumber u
+          → MeantSticks (PrimOf op m n)
+      AtSecond : {op : PrimOp} {m n : Meant} {i : ℤ} → Means m (Number i) → MeantSticks n
+          → MeantSticks (PrimOf op m n)
+      SecondIsNone : {op : PrimOp} {m n v : Meant} {i : ℤ} → Means m (Number i) → Means n v
+          → NoNumber v → MeantSticks (PrimOf op m n)
+      InMember : {s : Sense} {group : List Bound} {f : Flat}
+          → MeantSticks (form (in_group s group) f) → MeantSticks (Member s group f)
+
+    pub data TakingSticks : Meant → Meants → Type 0 where
+      TakesNone : {u n : Meant} {ns : Meants} → NoFunction u → TakingSticks u (And n ns)
+      Waiting : {f : ℕ} {ms ns : Meants} {n : Meant} → suc (count ms) < params p f
+          → TakingSticks (Lacks f (and_last ms n)) ns → TakingSticks (Lacks f ms) (And n ns)
+      Entering : {f : ℕ} {ms ns : Meants} {n : Meant} → params p f ≤ suc (count ms)
+          → MeantSticks (CallOf f (and_last ms n)) → TakingSticks (Lacks f ms) (And n ns)
+      Later : {f : ℕ} {ms ns : Meants} {n u : Meant} → params p f ≤ suc (count ms)
+          → Means (CallOf f (and_last ms n)) u → TakingSticks u ns
+          → TakingSticks (Lacks f ms) (And n ns)
+
+    pub data EvaluationSticks : Sense → Term → Type 0 where
+      InForm : {s : Sense} {f : Flat} → MeantSticks (form s f) → EvaluationSticks s (App f)
+      InLet : {s : Sense} {group : List Bound} {body : Term}
+          → EvaluationSticks (in_group s group) body → EvaluationSticks s (Let group body)
+      AtTested : {s : Sense} {tested : Term} {branches : Branches}
+          → EvaluationSticks s tested → EvaluationSticks s (Case tested branches)
+      AtBranches : {s : Sense} {tested : Term} {branches : Branches} {u : Meant}
+          → Evaluates s tested u → SelectionSticks s branches u
+          → EvaluationSticks s (Case tested branches)
+
+    pub data SelectionSticks : Sense → Branches → Meant → Type 0 where
+      NoneLeft : {s : Sense} {u : Meant} → SelectionSticks s NoMore u
+      InCon : {s : Sense} {c : ℕ} {xs : List ℕ} {body : Term} {rest : Branches} {u : Meant}
+          → is_built c u ≡ true → EvaluationSticks (with_meants s xs (parts_of u)) body
+          → SelectionSticks s (OnCon c xs body rest) u
+      InInt : {s : Sense} {k : ℤ} {body : Term} {rest : Branches} {u : Meant}
+          → is_number k u ≡ true → EvaluationSticks s body
+          → SelectionSticks s (OnInt k body rest) u
+      InAny : {s : Sense} {body : Term} {rest : Branches} {u : Meant}
+          → EvaluationSticks s body → SelectionSticks s (OnAny None body rest) u
+      InNamed : {s : Sense} {x : ℕ} {body : Term} {rest : Branches} {u : Meant}
+          → EvaluationSticks (with_meant s x u) body
+          → SelectionSticks s (OnAny (Some x) body rest) u
+      AfterCon : {s : Sense} {c : ℕ} {xs : List ℕ} {body : Term} {rest : Branches} {u : Meant}
+          → is_built c u ≡ false → SelectionSticks s rest u
+          → SelectionSticks s (OnCon c xs body rest) u
+      AfterInt : {s : Sense} {k : ℤ} {body : Term} {rest : Branches} {u : Meant}
+          → is_number k u ≡ false → SelectionSticks s rest u
+          → SelectionSticks s (OnInt k body rest) u
+
+  -- a list puts out these bytes, and ends, meets what nothing accepts, or goes on behind them
   pub data Prints : Meant → List ℕ → PrintingEnd → Type 0 where
     Behind : {m : Meant} → Prints m [] Going
     AtNil : {m : Meant} → Means m (Built (nil p) Few) → Prints m [] Done
+    NotAList : {m u : Meant} → Means m u → NoList (nil p) (cons p) u → Prints m [] Unaccepted
+    ListSticks : {m : Meant} → MeantSticks m → Prints m [] Unaccepted
     Puts : {m head tail : Meant} {k : ℤ} {out : List ℕ} {end : PrintingEnd}
         → Means m (Built (cons p) (And head (And tail Few))) → Means head (Number k)
         → Prints tail out end → Prints m (low_byte k ∷ out) end
+    NotAByte : {m head tail u : Meant} → Means m (Built (cons p) (And head (And tail Few)))
+        → Means head u → NoNumber u → Prints m [] Unaccepted
+    ByteSticks : {m head tail : Meant} → Means m (Built (cons p) (And head (And tail Few)))
+        → MeantSticks head → Prints m [] Unaccepted
 
   -- so does the program on this input
   pub data ProgramPrints : (i out : List ℕ) → PrintingEnd → Type 0 where

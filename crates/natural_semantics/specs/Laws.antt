@@ -1,10 +1,11 @@
 -- What the relation says, and that the evaluator with a bound on its units says the same.
-use Rattle.std.specs.Prelude.{◌≡◌, ◌≢◌, ◌↔◌, ℕ, List}
+use Rattle.std.specs.Prelude.{◌≡◌, ◌≢◌, ◌↔◌, ◌⊎◌, ℕ, List}
 use Rattle.arity_check.specs.Program.{Program}
 use Rattle.arity_check.specs.Accepted.{IsValid}
 use Rattle.core_meaning.specs.Heap.{Value, Env}
-use Rattle.core_meaning.specs.Printing.{PrintingEnd, Unaccepted, Going, printed}
-use Rattle.headline.specs.Carries.{IsPrefixOf}
+use Rattle.core_meaning.specs.Printing.{PrintingEnd, Done, Unaccepted, Going, printed}
+use Rattle.core_meaning.specs.Told.{core_program_meaning}
+use Rattle.headline.specs.Carries.{done, no_alternative, IsPrefixOf}
 use Rattle.arity_check.specs.Program.{Term}
 use Rattle.natural_semantics.specs.World.{World}
 use Rattle.natural_semantics.specs.Natural.{Evaluates}
@@ -12,6 +13,7 @@ use Rattle.natural_semantics.specs.Stuck.{EvaluationSticks}
 use Rattle.natural_semantics.specs.Prints.{ProgramPrints}
 use Rattle.natural_semantics.specs.any.Natural.{Yields}
 use Rattle.natural_semantics.specs.any.Prints as any
+use Rattle.natural_semantics.specs.any.Laws.{PartsAgree}
 use Rattle.natural_semantics.specs.ByName as by_name
 use Rattle.natural_semantics.specs.CoreMoves.{moves_of, core_program}
 
@@ -27,6 +29,10 @@ abbrev pub PrintingIsFunction : Type 0
 PrintingIsFunction =
     (p : Program) (i out out' : List ℕ) (end end' : PrintingEnd) → end ≢ Going → end' ≢ Going
     → ProgramPrints p i out end → ProgramPrints p i out' end' → (out ≡ out') × (end ≡ end')
+
+-- all parts of what a program prints agree
+abbrev pub PartsOfPrintingAgree : Type 0
+PartsOfPrintingAgree = (p : Program) (i : List ℕ) → PartsAgree (ProgramPrints p i)
 
 -- Within some number of units a valid program has this output and this end exactly where the
 -- relation says so.
@@ -51,6 +57,24 @@ GoesOnWithoutDerivation =
     → ((n : ℕ) → (printed p i n).end ≡ Going)
     ↔ ((out : List ℕ) (end : PrintingEnd) → end ≢ Going → ProgramPrints p i out end → ⊥)
 
+-- What the evaluator tells of a valid program within some number of units is derived: all of its
+-- output, where the list has ended or nothing accepts a value, and each beginning of it so far. And
+-- whatever else is derived to have an end, what is derived begins it, and is the same where it has
+-- an end.
+pub record ToldIsDerived (p : Program) (i : List ℕ) : Type 0 where
+  pub ended : (n : ℕ) → (core_program_meaning p i n).end ≡ done
+      → ProgramPrints p i (core_program_meaning p i n).out Done
+  pub unaccepted : (n : ℕ) → (core_program_meaning p i n).end ≡ no_alternative
+      → ProgramPrints p i (core_program_meaning p i n).out Unaccepted
+  pub begun : (out : List ℕ) (n : ℕ) → IsPrefixOf out (core_program_meaning p i n).out
+      → ProgramPrints p i out Going
+  pub no_other_end : (out all : List ℕ) (end end' : PrintingEnd) → ProgramPrints p i out end
+      → end' ≢ Going → ProgramPrints p i all end'
+      → IsPrefixOf out all × ((end ≡ Going) ⊎ ((out ≡ all) × (end ≡ end')))
+
+abbrev pub WhatIsToldIsDerived : Type 0
+WhatIsToldIsDerived = (p : Program) → IsValid p → (i : List ℕ) → ToldIsDerived p i
+
 -- the relation of Core is that of any language, for the moves of Core's expressions
 pub record RelationIsThatOfItsMoves : Type 0 where
   pub values : (p : Program) (w w' : World) (env : Env) (e : Term) (v : Value)
@@ -58,9 +82,8 @@ pub record RelationIsThatOfItsMoves : Type 0 where
   pub printing : (p : Program) (i out : List ℕ) (end : PrintingEnd)
       → ProgramPrints p i out end ↔ any.ProgramPrints (core_program p) i out end
 
--- Sharing changes nothing: a valid program puts out by need and by name the same, and where its
--- list ends in the one, so it does in the other.
+-- Sharing changes nothing: a valid program puts out by need and by name the same, and ends the same.
 abbrev pub SharingChangesNothing : Type 0
 SharingChangesNothing =
-    (p : Program) → IsValid p → (i out : List ℕ) (end : PrintingEnd) → end ≢ Unaccepted
+    (p : Program) → IsValid p → (i out : List ℕ) (end : PrintingEnd)
     → ProgramPrints p i out end ↔ by_name.ProgramPrints p i out end

@@ -10,8 +10,8 @@ use Rattle.arity_check.specs.declared.normal.PrimOp.{PrimOp}
 use Rattle.arity_check.specs.Program.{Program, Function, Term, App, Let, Case, Branches, OnCon, OnInt, OnAny}
 use Rattle.core_meaning.specs.Heap.{Value, Int, Con, Part, Delayed, Call, Apply, Prim, Global, Input, Known, Waiting, Env, with_local, with_locals}
 use Rattle.core_meaning.specs.Numbers.{primitive_result}
-use Rattle.core_meaning.specs.Evaluation.{nil, cons, params, binding, with_group, parameters, is_con, fields_of, is_int}
-use Rattle.natural_semantics.specs.World.{World, extended, updated, after_byte}
+use Rattle.core_meaning.specs.Evaluation.{nil, cons, params, binding, with_group, is_con, fields_of, is_int}
+use Rattle.natural_semantics.specs.World.{World, extended, updated, after_byte, parameters}
 
 module _ (p : Program) where
   mutual

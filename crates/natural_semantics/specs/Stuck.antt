@@ -6,8 +6,8 @@ use Rattle.arity_check.specs.declared.normal.Flat.{Flat}
 use Rattle.arity_check.specs.declared.normal.PrimOp.{PrimOp}
 use Rattle.arity_check.specs.Program.{Program, Function, Term, App, Let, Case, Branches, NoMore, OnCon, OnInt, OnAny}
 use Rattle.core_meaning.specs.Heap.{Value, Int, Part, Delayed, Call, Apply, Prim, Global, Known, Waiting, Env, with_local, with_locals}
-use Rattle.core_meaning.specs.Evaluation.{params, binding, with_group, parameters, is_con, fields_of, is_int}
-use Rattle.natural_semantics.specs.World.{World, extended, NoNumber, NoFunction}
+use Rattle.core_meaning.specs.Evaluation.{params, binding, with_group, is_con, fields_of, is_int}
+use Rattle.natural_semantics.specs.World.{World, extended, parameters, NoNumber, NoFunction}
 use Rattle.natural_semantics.specs.Natural.{Forces, Runs, Evaluates}
 
 module _ (p : Program) where

@@ -1,6 +1,6 @@
 -- What an evaluation by need begins and ends in, whatever the functions of the language are.
-use Rattle.std.specs.Prelude.{ℕ, ℤ, pos, List, [], ◌∷◌, ◌++◌, slice_set}
-use Rattle.core_meaning.specs.Heap.{ValueOf, Int, Con, Part, Input, Known, Waiting, HeapOf}
+use Rattle.std.specs.Prelude.{ℕ, ℤ, pos, List, [], ◌∷◌, ◌++◌, slice_set, slice_index_or}
+use Rattle.core_meaning.specs.Heap.{ValueOf, Int, Con, Part, Input, Known, Waiting, HeapOf, Env}
 
 -- the heap, and the bytes of the input that are left
 pub record WorldOf (F : Type 0) : Type 0 where
@@ -23,6 +23,11 @@ module _ {F : Type 0} where
   abbrev pub after_byte : WorldOf F → ℕ → List ℕ → WorldOf F
   after_byte w k rest =
       record { heap = w.heap ++ Known (Int (pos k)) ∷ Waiting Input ∷ []; input = rest }
+
+-- Where a function is entered, its parameters have these names. In a valid program no other local is
+-- asked for (`no_lookup_fails`).
+abbrev pub parameters : List ℕ → Env
+parameters names x = slice_index_or names x 0
 
 -- a value that is no number; one that takes no name
 pub data NoNumber {F : Type 0} : ValueOf F → Type 0 where

@@ -5,7 +5,7 @@
 //! of functions without a body.
 #![tactic(auto)]
 
-ghost use Rattle.natural_semantics.specs.Laws.{EvaluationIsFunction, PrintingIsFunction, EndsAreThoseOfTheRelation, OutputIsThatOfTheRelation, GoesOnWithoutDerivation, RelationIsThatOfItsMoves, SharingChangesNothing};
+ghost use Rattle.natural_semantics.specs.Laws.{EvaluationIsFunction, PrintingIsFunction, PartsOfPrintingAgree, EndsAreThoseOfTheRelation, OutputIsThatOfTheRelation, GoesOnWithoutDerivation, RelationIsThatOfItsMoves, SharingChangesNothing, WhatIsToldIsDerived};
 ghost use Rattle.natural_semantics.specs.Examples.{ExamplesAreDerived};
 
 use core_meaning::{no_lookup_fails, valid_programs_are_well_formed};
@@ -19,6 +19,12 @@ pub fn evaluation_is_function()
 /// A program has one output and one end at most.
 pub fn printing_is_function()
     ensures { PrintingIsFunction }
+{}
+
+/// All that is derived to be printed begins one list, and is a beginning of what is printed with an
+/// end.
+pub fn parts_of_printing_agree()
+    ensures { PartsOfPrintingAgree }
 {}
 
 /// A program ends within some number of units exactly where the relation derives this output and
@@ -43,6 +49,13 @@ pub fn goes_on_without_derivation()
     no_lookup_fails();
 }
 
+/// What the evaluator tells of a program is derived, and no other end is.
+pub fn what_is_told_is_derived()
+    ensures { WhatIsToldIsDerived }
+{
+    no_lookup_fails();
+}
+
 /// Programs of the language's page by the rules of the relation alone: `take` of an endless list
 /// has its first elements, a sum in two places is done once, and what needs itself has no
 /// derivation.
@@ -55,7 +68,7 @@ pub fn relation_is_that_of_its_moves()
     ensures { RelationIsThatOfItsMoves }
 {}
 
-/// Evaluation by name, where nothing is shared, derives the same.
+/// Evaluation by name, where nothing is shared, derives the same output and the same end.
 pub fn sharing_changes_nothing()
     ensures { SharingChangesNothing }
 {

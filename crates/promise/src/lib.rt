@@ -12,6 +12,7 @@ ghost use Rattle.promise.specs.Promise.{KeepsPromise};
 use command_line::Line;
 use grin_driver::grinc_main;
 use grin_io::{Shelf, Sink, Source};
+use natural_semantics::what_is_told_is_derived;
 use std::alloc::Global;
 use std::io::{Read, Write};
 use system_io::{ReaderSource, WriterSink};
@@ -43,5 +44,7 @@ pub fn run_main<F: Shelf, R: Read, W: Write, V: Write>(
         (sink_change ⟦<WriterSink<V> as Sink>⟧.put_gives ⟦<WriterSink<V> as Sink>⟧.taken
         ⟦<WriterSink<V> as Sink>⟧.faults err.old err.new) (command_of line.now) result }
 {
+    // A law: what the evaluator tells is derived by the relation.
+    what_is_told_is_derived();
     grinc_main(alloc, line, shelf, input, out, err)
 }

@@ -14,6 +14,7 @@ use Rattle.natural_semantics.proofs.any.Complete.{yields_found}
 use Rattle.natural_semantics.proofs.any.Sticking.{yield_sticks}
 use Rattle.natural_semantics.proofs.any.Printed.{run_is_derived}
 use Rattle.natural_semantics.proofs.any.Enough.{Shows, program_shown}
+use Rattle.natural_semantics.proofs.any.Parts.{parts_agree}
 
 abbrev value_or : {F : Type 0} → ValueOf F → AnswerOf F → ValueOf F
 value_or u (Gives v s) = v
@@ -129,6 +130,7 @@ says_what_runs_do p = record {
   one_value = one_value p;
   never_both = never_both p;
   one_output = one_output p;
+  parts = parts_agree p;
   ends = λ i out end h. (
     λ t. subst (λ o. ProgramPrints p i o end) t.1
         (subst (λ e. ProgramPrints p i (printed p i t.0).out e) t.2 (run_is_derived p i t.0)),

@@ -26,12 +26,12 @@ module _ (p : Program) where
   number_in k (Number j) = j
   number_in k m = k
 
-  same_function : (f : ℕ) (g h : Function) → slice_get p.funs f ≡ Some g
+  pub same_function : (f : ℕ) (g h : Function) → slice_get p.funs f ≡ Some g
       → slice_get p.funs f ≡ Some h → h ≡ g
   same_function f g h e e' = same_Some h g (sym e' ∙ e)
 
   mutual
-    means_one : (m u v : Meant) → Means p m u → Means p m v → u ≡ v
+    pub means_one : (m u v : Meant) → Means p m u → Means p m v → u ≡ v
     means_one m u v ANumber ANumber = refl
     means_one m u v AConstructor AConstructor = refl
     means_one m u v AFunction AFunction = refl
@@ -65,7 +65,7 @@ module _ (p : Program) where
         takes_one a ks u v t
         (subst (λ z. Takes p z ks v) (sym (means_one (CallOf f (and_last ms n)) a b r r')) t')
 
-    evaluates_one : (s : Sense) (e : Term) (u v : Meant) → Evaluates p s e u → Evaluates p s e v
+    pub evaluates_one : (s : Sense) (e : Term) (u v : Meant) → Evaluates p s e u → Evaluates p s e v
         → u ≡ v
     evaluates_one s e u v (OfForm {f = f} r) (OfForm r') = means_one (form s f) u v r r'
     evaluates_one s e u v (OfLet {group = group} {body = body} r) (OfLet r') =
@@ -187,14 +187,14 @@ module _ (p : Program) where
         by_binding (Waiting t) e =
             let x = go t e in (x.0, (x.1.0, need.Computed e x.1.1))
 
-    one_more : (f b : ℕ) (xs : List ℕ) → HasParams p f (λ n. length xs < n)
+    pub one_more : (f b : ℕ) (xs : List ℕ) → HasParams p f (λ n. length xs < n)
         → suc (length xs) < params p f → HasParams p f (λ n. length (xs ++ b ∷ []) < n)
     one_more f b xs h lt =
         let l = length-append xs (b ∷ []) in
         let same : params p f ≡ h.0.params = ap (params_of p) h.1 in
         (h.0, h.1, omega (arith, lt, l, same))
 
-    all_given : (f b : ℕ) (xs : List ℕ) → HasParams p f (λ n. length xs < n)
+    pub all_given : (f b : ℕ) (xs : List ℕ) → HasParams p f (λ n. length xs < n)
         → params p f ≤ suc (length xs) → HasParams p f (λ n. n ≡ length (xs ++ b ∷ []))
     all_given f b xs h le =
         let l = length-append xs (b ∷ []) in
@@ -239,8 +239,10 @@ module _ (p : Program) where
             (
               f'.world,
               need.Computes
-                  (subst (λ v. need.Forces p w a v f.world) (int_is f.rel f.value i f.same) f.derived)
-                  (subst (λ v. need.Forces p f.world b v f'.world) (int_is f'.rel f'.value j f'.same)
+                  (subst (λ v. need.Forces p w a v f.world) (int_is f.rel f.value i f.same)
+                  f.derived)
+                  (subst (λ v. need.Forces p f.world b v f'.world)
+                  (int_is f'.rel f'.value j f'.same)
                   f'.derived),
             ),
           )
@@ -283,7 +285,7 @@ module _ (p : Program) where
           (each_more R g.rel g.grows.more cs ks e') in
           (l.0, (l.1.0, need.Enters le' k.1.1 l.1.1))
 
-      evaluates : (s : Sense) (e : Term) (u : Meant) → Evaluates p s e u → (R : Rel) (w : World)
+      pub evaluates : (s : Sense) (e : Term) (u : Meant) → Evaluates p s e u → (R : Rel) (w : World)
           (env : Env) (S : ℕ → Type 0) → TermOk p S e → Fits p R w → Knows p R S env s
           → Evaluating w env e
       evaluates s e u (OfForm {f = f} r) R w env S c fits k =

@@ -7,17 +7,20 @@ use Rattle.std.proofs.lemmas.Option.{same_Some, none-some, slice_get_within}
 use Rattle.arity_check.specs.Program.{Program, Function}
 use Rattle.core_meaning.specs.Heap.{Value, Int, Con, Call, Delayed, Global, Input, Binding, Known, Waiting}
 use Rattle.core_meaning.specs.Evaluation.{global, globals, params, params_of, nil, cons}
-use Rattle.core_meaning.specs.Printing.{PrintingEnd, Unaccepted}
+use Rattle.core_meaning.specs.Printing.{PrintingEnd}
 use Rattle.core_meaning.specs.WellFormed.{HasParams, WellFormed}
 use Rattle.core_meaning.proofs.Shared.{global_below, count_more}
 use Rattle.natural_semantics.specs.World.{World, extended}
 use Rattle.natural_semantics.specs.Natural.{Forces}
 use Rattle.natural_semantics.specs.Prints as need
-use Rattle.natural_semantics.specs.ByName.{Meant, Number, Built, CallOf, GlobalOf, Rest, Few, And, Means, Prints, Behind, AtNil, Puts, ProgramPrints, OfItself, OfInput}
-use Rattle.natural_semantics.proofs.by_name.Related.{Rel, NoneLeft, Both, Same, SameCon, Delays, DelaysCall, DelaysGlobal, DelaysInput, Fits}
+use Rattle.natural_semantics.specs.any.Prints as list
+use Rattle.natural_semantics.specs.ByName.{Meant, Number, Built, CallOf, GlobalOf, Rest, Few, And, NoList, Means, Prints, Behind, AtNil, NotAList, ListSticks, Puts, NotAByte, ByteSticks, ProgramPrints, OfItself, OfInput}
+use Rattle.natural_semantics.proofs.by_name.Related.{Rel, NoneLeft, Both, Same, SameNumber, SameCon, SamePart, Delays, DelaysCall, DelaysGlobal, DelaysInput, Fits}
 use Rattle.natural_semantics.proofs.by_name.Named.{get_append}
 use Rattle.natural_semantics.proofs.by_name.NeedToName.{forced, number_is}
 use Rattle.natural_semantics.proofs.by_name.NameToNeed.{force_to, runs, int_is}
+use Rattle.natural_semantics.proofs.by_name.NamedSticking.{no_number, force_named}
+use Rattle.natural_semantics.proofs.by_name.NeededSticking.{no_number_back, force_sticks, run_needed}
 
 module _ (p : Program) (ok : WellFormed p) where
   nil_is : (R : Rel) (u : Meant) → Same p R (Con (nil p) []) u → u ≡ Built (nil p) Few
@@ -36,17 +39,30 @@ module _ (p : Program) (ok : WellFormed p) where
   cell_is R h t u (SameCon f (Both {m = m} r (Both {m = n} r' NoneLeft))) =
       record { head = m; tail = n; is = refl; has_head = r; has_tail = r' }
 
+  no_list : (R : Rel) (v : Value) (u : Meant) → Same p R v u → list.NoList (nil p) (cons p) v
+      → NoList (nil p) (cons p) u
+  no_list R v u SameNumber list.ANumber = tt
+  no_list R v u (SamePart f e) list.AFunction = tt
+  no_list R v u (SameCon f NoneLeft) (list.NotNil n) = n
+  no_list R v u (SameCon f (Both r NoneLeft)) list.OneField = tt
+  no_list R v u (SameCon f (Both r (Both r' NoneLeft))) (list.NotCons n) = n
+  no_list R v u (SameCon f (Both r (Both r' (Both r'' e)))) list.ManyFields = tt
+
   prints_named : (w : World) (a : ℕ) (out : List ℕ) (end : PrintingEnd) → need.Prints p w a out end
-      → end ≢ Unaccepted → (R : Rel) → Fits p R w → (m : Meant) → R a m → Prints p m out end
-  prints_named w a out end need.Behind n R fits m r = Behind
-  prints_named w a out end (need.AtNil {w' = w1} f) n R fits m r =
+      → (R : Rel) → Fits p R w → (m : Meant) → R a m → Prints p m out end
+  prints_named w a out end need.Behind R fits m r = Behind
+  prints_named w a out end (need.AtNil {w' = w1} f) R fits m r =
       let h = forced p ok w w1 a (Con (nil p) []) f R fits in
       let k = h.gives (m, r) in
       AtNil (subst (λ u. Means p m u) (nil_is h.rel k.0 k.1.1) k.1.0)
-  prints_named w a out end (need.NoList' f x) n R fits m r = absurd (n refl)
-  prints_named w a out end (need.ListSticks x) n R fits m r = absurd (n refl)
+  prints_named w a out end (need.NoList' {w' = w1} {v = v} f none) R fits m r =
+      let h = forced p ok w w1 a v f R fits in
+      let k = h.gives (m, r) in
+      NotAList k.1.0 (no_list h.rel v k.0 k.1.1 none)
+  prints_named w a out end (need.ListSticks x) R fits m r =
+      ListSticks (force_named p ok w a x R fits m r)
   prints_named w a out end
-      (need.Puts {w' = w1} {w'' = w2} {h = h} {t = t} {k = i} {out = more} f g rest) n R fits m r =
+      (need.Puts {w' = w1} {w'' = w2} {h = h} {t = t} {k = i} {out = more} f g rest) R fits m r =
       let x = forced p ok w w1 a (Con (cons p) (h ∷ (t ∷ []))) f R fits in
       let k = x.gives (m, r) in
       let c = cell_is x.rel h t k.0 k.1.1 in
@@ -54,10 +70,22 @@ module _ (p : Program) (ok : WellFormed p) where
       let k' = y.gives (c.head, c.has_head) in
       Puts (subst (λ u. Means p m u) c.is k.1.0)
       (subst (λ u. Means p c.head u) (number_is p ok y.rel i k'.0 k'.1.1) k'.1.0)
-      (prints_named w2 t more end rest n y.rel y.grows.fits c.tail
+      (prints_named w2 t more end rest y.rel y.grows.fits c.tail
       (y.grows.more t c.tail c.has_tail))
-  prints_named w a out end (need.NoByte' f g x) n R fits m r = absurd (n refl)
-  prints_named w a out end (need.ByteSticks f x) n R fits m r = absurd (n refl)
+  prints_named w a out end
+      (need.NoByte' {w' = w1} {w'' = w2} {h = h} {t = t} {v = v} f g none) R fits m r =
+      let x = forced p ok w w1 a (Con (cons p) (h ∷ (t ∷ []))) f R fits in
+      let k = x.gives (m, r) in
+      let c = cell_is x.rel h t k.0 k.1.1 in
+      let y = forced p ok w1 w2 h v g x.rel x.grows.fits in
+      let k' = y.gives (c.head, c.has_head) in
+      NotAByte (subst (λ u. Means p m u) c.is k.1.0) k'.1.0 (no_number p y.rel v k'.0 k'.1.1 none)
+  prints_named w a out end (need.ByteSticks {w' = w1} {h = h} {t = t} f s) R fits m r =
+      let x = forced p ok w w1 a (Con (cons p) (h ∷ (t ∷ []))) f R fits in
+      let k = x.gives (m, r) in
+      let c = cell_is x.rel h t k.0 k.1.1 in
+      ByteSticks (subst (λ u. Means p m u) c.is k.1.0)
+      (force_named p ok w1 h s x.rel x.grows.fits c.head c.has_head)
 
   -- ---- the start
 
@@ -267,15 +295,15 @@ module _ (p : Program) (ok : WellFormed p) where
     }
 
   pub program_named : (i out : List ℕ) (end : PrintingEnd) → need.ProgramPrints p i out end
-      → end ≢ Unaccepted → ProgramPrints p i out end
-  program_named i out end (need.OfItself e d) n =
+      → ProgramPrints p i out end
+  program_named i out end (need.OfItself e d) =
       let h = ok.main in
       let same : params p p.main ≡ h.0.params = ap (params_of p) h.1 in
-      OfItself e (prints_named (need.first_world p i) (global p p.main) out end d n at_start
+      OfItself e (prints_named (need.first_world p i) (global p p.main) out end d at_start
       (start_fits i) (GlobalOf p.main)
       (p.main, ((h.0, h.1, sym same ∙ e), (refl, refl))))
-  program_named i out end (need.OfInput at m e d) n =
-      OfInput m (prints_named (begin i at e m) (suc at) out end d n (with_input i at e m)
+  program_named i out end (need.OfInput at m e d) =
+      OfInput m (prints_named (begin i at e m) (suc at) out end d (with_input i at e m)
       (input_fits i at e m) (CallOf p.main (And (Rest i) Few)) (inr (inr (refl, refl))))
 
   -- ---- from by name to by need
@@ -295,6 +323,15 @@ module _ (p : Program) (ok : WellFormed p) where
   cell_back R v head tail (SameCon f (Both {a = a} r (Both {a = b} r' NoneLeft))) =
       record { first = a; rest = b; is = refl; has_head = r; has_tail = r' }
 
+  no_list_back : (R : Rel) (v : Value) (u : Meant) → Same p R v u → NoList (nil p) (cons p) u
+      → list.NoList (nil p) (cons p) v
+  no_list_back R v u SameNumber none = list.ANumber
+  no_list_back R v u (SamePart f e) none = list.AFunction
+  no_list_back R v u (SameCon f NoneLeft) none = list.NotNil none
+  no_list_back R v u (SameCon f (Both r NoneLeft)) none = list.OneField
+  no_list_back R v u (SameCon f (Both r (Both r' NoneLeft))) none = list.NotCons none
+  no_list_back R v u (SameCon f (Both r (Both r' (Both r'' e)))) none = list.ManyFields
+
   prints_needed : (m : Meant) (out : List ℕ) (end : PrintingEnd) → Prints p m out end → (R : Rel)
       (w : World) (a : ℕ) → Fits p R w → R a m → need.Prints p w a out end
   prints_needed m out end Behind R w a fits r = need.Behind
@@ -302,6 +339,11 @@ module _ (p : Program) (ok : WellFormed p) where
       let f = force_to p ok R w a m (Built (nil p) Few) fits r d
       (λ t e. runs p ok m (Built (nil p) Few) d R w t fits e) in
       need.AtNil (subst (λ v. Forces p w a v f.world) (nil_back f.rel f.value f.same) f.derived)
+  prints_needed m out end (NotAList {u = u} d none) R w a fits r =
+      let f = force_to p ok R w a m u fits r d (λ t e. runs p ok m u d R w t fits e) in
+      need.NoList' f.derived (no_list_back f.rel f.value u f.same none)
+  prints_needed m out end (ListSticks x) R w a fits r =
+      need.ListSticks (force_sticks p R w a m fits r x (λ t d. run_needed p ok m x R w t fits d))
   prints_needed m out end
       (Puts {head = head} {tail = tail} {k = k} {out = more} d d' rest) R w a fits r =
       let u : Meant = Built (cons p) (And head (And tail Few)) in
@@ -313,6 +355,21 @@ module _ (p : Program) (ok : WellFormed p) where
       (subst (λ v. Forces p f.world c.first v g.world) (int_is p g.rel g.value k g.same) g.derived)
       (prints_needed tail more end rest g.rel g.world c.rest g.grows.fits
       (g.grows.more c.rest tail c.has_tail))
+  prints_needed m out end (NotAByte {head = head} {tail = tail} {u = v} d d' none) R w a fits r =
+      let u : Meant = Built (cons p) (And head (And tail Few)) in
+      let f = force_to p ok R w a m u fits r d (λ t e. runs p ok m u d R w t fits e) in
+      let c = cell_back f.rel f.value head tail f.same in
+      let g = force_to p ok f.rel f.world c.first head v f.grows.fits c.has_head d'
+      (λ t e. runs p ok head v d' f.rel f.world t f.grows.fits e) in
+      need.NoByte' (subst (λ v. Forces p w a v f.world) c.is f.derived) g.derived
+      (no_number_back p g.rel g.value v g.same none)
+  prints_needed m out end (ByteSticks {head = head} {tail = tail} d x) R w a fits r =
+      let u : Meant = Built (cons p) (And head (And tail Few)) in
+      let f = force_to p ok R w a m u fits r d (λ t e. runs p ok m u d R w t fits e) in
+      let c = cell_back f.rel f.value head tail f.same in
+      need.ByteSticks (subst (λ v. Forces p w a v f.world) c.is f.derived)
+      (force_sticks p f.rel f.world c.first head f.grows.fits c.has_head x
+      (λ t e. run_needed p ok head x f.rel f.world t f.grows.fits e))
 
   pub program_needed : (i out : List ℕ) (end : PrintingEnd) → ProgramPrints p i out end
       → need.ProgramPrints p i out end
