@@ -1,4 +1,5 @@
 pub mod TreeOf
+pub mod SourceMoves
 pub mod SourceReading
 pub mod Taking
 pub mod Parts

@@ -259,7 +259,8 @@ module _ (known : ℕ → Option ℕ) where
     signature = g;
     is = refl;
     unknown
-        = lifted (Has g.result) (InSignature g) any at (λ u q. inr q) (to_unknown any g.result at h);
+        = lifted (Has g.result) (InSignature g) any at (λ u q. inr q)
+        (to_unknown any g.result at h);
   }
   to_signatures (g ∷ gs) at (inr h) = let w = to_signatures gs at h
       in record { i = suc w.i; signature = w.signature; is = w.is; unknown = w.unknown }

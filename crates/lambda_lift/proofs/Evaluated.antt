@@ -39,7 +39,8 @@ use Rattle.lambda_lift.proofs.Matching.{HasTop, AgreeBelow, Sees, sees_more, see
 use Rattle.lambda_lift.proofs.Scopes.{Alike, binds_all_alike}
 use Rattle.lambda_lift.proofs.Standing.{Located, located_left, located_right, Stands}
 use Rattle.lambda_lift.proofs.Environments.{At, local_here, local_other, group_before, group_at, locals_before, locals_at}
-use Rattle.lambda_lift.proofs.Flats.{NameLike, LocalLike, GlobalLike, NamesLike, FormLike, IntLike, ConLike, PartLike, CallLike, ApplyLike, PrimLike, NewsLike, Placed, flat_like, args_like}
+use Rattle.lambda_lift.proofs.AppliedForms.{NameLike, LocalLike, GlobalLike, NamesLike, FormLike, IntLike, ConLike, PartLike, CallLike, ApplyLike, PrimLike, NewsLike, Placed}
+use Rattle.lambda_lift.proofs.Flats.{flat_like, args_like}
 use Rattle.lambda_lift.proofs.Groups.{Moved, group_like, group_long, group_numbered, names_lifted}
 use Rattle.lambda_lift.proofs.Simulated as both
 

@@ -167,7 +167,8 @@ module _ (N : ℕ) where
           f.0,
           f.1,
           more (Used us (names ++ inside)) (And (Used us inside) names)
-              (used_within names us inside) body (used_expr (And V names) (names ++ inside) body f.2),
+              (used_within names us inside) body
+              (used_expr (And V names) (names ++ inside) body f.2),
         )
 
     used_terms : (V : ℕ → Type 0) (inside : List ℕ) (xs : Terms) → FitsTerms V xs

@@ -1,12 +1,12 @@
 -- The normal form of an application of the lifted program has the same new bindings, and then the
--- same form, as the
--- text's own meaning makes.
-use Rattle.std.proofs.Common.{◌≡◌, ℕ, zero, suc, ◌+◌, ◌≤◌, ◌<◌, Bool, true, false, nat_eq, nat_lt, List, [], ◌∷◌, ◌++◌, length, inl, inr, Option, Some, None, slice_get, refl, sym, ap, ◌∙◌, subst, arith, length-append}
-use Rattle.std.specs.Prelude.{◌==◌, if◌then◌else◌, ℤ}
+-- same
+-- form, as the text's own meaning makes.
+use Rattle.std.proofs.Common.{◌≡◌, ℕ, zero, suc, ◌+◌, ◌≤◌, ◌<◌, true, false, List, ◌∷◌, ◌++◌, length, inl, inr, Option, Some, None, slice_get, refl, sym, ap, ◌∙◌, subst, arith, length-append}
+use Rattle.std.specs.Prelude.{ℤ}
 use Rattle.seq.proofs.Lists.{some_is, none_is_some, append_nil, is_empty}
 use Rattle.seq.specs.Lists.{is_among}
 use Rattle.seq.proofs.Counted.{among_first, among_later}
-use Rattle.seq.proofs.Order.{lt_from, le_from, eq_from, differs_from, no_zero}
+use Rattle.seq.proofs.Order.{no_zero}
 use Rattle.seq.proofs.Truth.{not_both}
 use Rattle.core_reader.specs.declared.syntax.Binder.{Binder}
 use Rattle.core_reader.specs.Tree as core
@@ -18,454 +18,30 @@ use Rattle.arity_check.specs.declared.normal.Var.TheVariants as var
 use Rattle.arity_check.specs.declared.normal.Bound.{Bound}
 use Rattle.arity_check.specs.declared.normal.Flat.TheVariants as flat
 use Rattle.arity_check.specs.declared.normal.Flat as normal
-use Rattle.arity_check.specs.declared.normal.PrimOp.{PrimOp}
 use Rattle.arity_check.specs.declared.meaning.Meaning.{Meaning}
-use Rattle.arity_check.specs.declared.meaning.Meaning.TheVariants.{Local, Primitive, Unbound}
+use Rattle.arity_check.specs.declared.meaning.Meaning.TheVariants.{Local}
 use Rattle.arity_check.specs.declared.meaning.Meaning.TheVariants as stands
 use Rattle.arity_check.specs.Standing.{count}
 use Rattle.arity_check.specs.Scope as scope
-use Rattle.arity_check.specs.Scope.{Scope, con_number}
+use Rattle.arity_check.specs.Scope.{Scope}
 use Rattle.arity_check.specs.Normal as form
-use Rattle.arity_check.specs.Normal.{append, bound, HasTerm, Pairwise, IsFlat, Number, Constructor, Named, NumberApplied, BracketApplied, LoneHead, LoneBracket, IsNamed, OfPrimitive, OfLocal, OfGlobal, Called, Partial, Exceeded, IsApplied, Applied, AreArgs, NoArgs, AndArg, IsArg, Itself, New}
-use Rattle.core_meaning.specs.Heap.{Int, Con, Part, Call, Apply, Prim, Known, Waiting}
+use Rattle.arity_check.specs.Normal.{append, bound, HasTerm, IsFlat, Number, Constructor, Named, NumberApplied, BracketApplied, LoneHead, LoneBracket, IsNamed, OfPrimitive, OfLocal, OfGlobal, Called, Partial, Exceeded, AreArgs, NoArgs, AndArg, IsArg, Itself, New}
+use Rattle.core_meaning.specs.Heap.{Int, Con, Part, Known}
 use Rattle.lambda_lift.specs.Headers.{names_of, means, within, is_local, stands_for_local}
 use Rattle.lambda_lift.specs.Free.{uses, free}
 use Rattle.lambda_lift.specs.Abstractions.{Abstraction, in_term, in_terms, in_expr, abstractions, count_term}
 use Rattle.lambda_lift.specs.Lifted as lifted
 use Rattle.lambda_lift.specs.Lifted.{lifted_name, lift_term, lift_terms}
-use Rattle.lambda_lift.specs.Meaning.{Fun, Top, Closure, Binding, Heap, Flat, SplitArguments, Arguments, nothing, argument_count, split_arguments, Named as ANamed, named, next, applied, apply_bracket, apply_to_names, apply_function, operation, global, itself_as, itself, number_of, name_with, lambda_with, arguments, arity}
+use Rattle.lambda_lift.specs.Meaning.{Fun, Closure, Flat, Arguments, nothing, argument_count, split_arguments, Named as ANamed, named, next, applied, apply_bracket, apply_function, itself_as, itself, number_of, lambda_with, arguments, arity}
 use Rattle.lambda_lift.specs.Meaning as meaning
 use Rattle.lambda_lift.proofs.Fits.{Among, And, Below, Fits, FitsTerm, FitsTerms, more, from_expr, filter_among, first_times_among}
-use Rattle.lambda_lift.proofs.Matching.{HasTop, Same, SameLocal, SameFunction, SamePrimitive, SameNothing}
+use Rattle.lambda_lift.proofs.Matching.{Same, SameLocal, SameFunction, SamePrimitive, SameNothing}
 use Rattle.lambda_lift.proofs.Scopes.{Alike, free_alike}
-use Rattle.lambda_lift.proofs.Standing.{abstraction, number_in, Located, located_left, located_right, located_first, local_name, fronts, Stands, AsTop, AsClosure}
-
--- ---- arguments
-
-pub count_append : (xs ys : core.Terms) → count (append xs ys) ≡ count xs + count ys
-count_append core.NoTerms ys = omega arith
-count_append (core.AndTerm a xs) ys = omega (arith, count_append xs ys)
-
-append_none : (xs : core.Terms) → append xs core.NoTerms ≡ xs
-append_none core.NoTerms = refl
-append_none (core.AndTerm a xs) = ap (core.AndTerm a) (append_none xs)
-
-has_some : (xs : core.Terms) → HasTerm xs → 0 < count xs
-has_some core.NoTerms h = absurd h
-has_some (core.AndTerm a xs) h = omega arith
-
-abbrev head_of : core.Term → core.Terms → core.Term
-head_of d core.NoTerms = d
-head_of d (core.AndTerm a xs) = a
-
-abbrev rest_of : core.Terms → core.Terms
-rest_of core.NoTerms = core.NoTerms
-rest_of (core.AndTerm a xs) = xs
-
-abbrev is_some : core.Terms → Bool
-is_some core.NoTerms = false
-is_some (core.AndTerm a xs) = true
-
-count_arguments : (at : ℕ) (xs : List ℕ) → count (lifted.arguments at xs) ≡ length xs
-count_arguments at [] = refl
-count_arguments at (x ∷ xs) = omega (arith, count_arguments at xs)
-
-pub some_length : (params : List Binder) → HasParameter params → 0 < length params
-some_length [] h = absurd h
-some_length (b ∷ bs) h = omega arith
-
-abbrev is_function : Meaning → Bool
-is_function (stands.Function f k) = true
-is_function (Local y) = false
-is_function (Primitive op) = false
-is_function Unbound = false
-
-abbrev function_in : Meaning → ℕ
-function_in (stands.Function f k) = f
-function_in (Local y) = 0
-function_in (Primitive op) = 0
-function_in Unbound = 0
-
-abbrev params_in : Meaning → ℕ
-params_in (stands.Function f k) = k
-params_in (Local y) = 0
-params_in (Primitive op) = 0
-params_in Unbound = 0
-
--- ---- what corresponds, where the number of a local and its name are in this relation
+use Rattle.lambda_lift.proofs.Standing.{abstraction, number_in, Located, located_left, located_right, located_first, local_name, fronts, Stands, AsClosure}
+use Rattle.lambda_lift.proofs.AppliedForms.{count_append, head_of, rest_of, is_some, count_arguments, some_length, is_function, function_in, params_in, NameLike, LocalLike, GlobalLike, NamesLike, FormLike, IntLike, ConLike, PartLike, NewsLike, FlatLike, Placed, as_many_news, news_append, placed_left, placed_right, ArrangedLike, ArgsLike, as_many_args, all_args, no_args, with_names_like, applied_like, function_like, named_like}
 
 module _ (c : Program) (Good : ℕ → ℕ → Type 0) where
-  pub data NameLike : Var → ℕ → Type 0 where
-    LocalLike : {y a : ℕ} → Good y a → NameLike (var.Local y) a
-    GlobalLike : {f a : ℕ} → HasTop c f 0 → a ≡ global c f → NameLike (var.Global f) a
-
-  abbrev pub NamesLike : List Var → List ℕ → Type 0
-  NamesLike xs as' = Pairwise NameLike xs as'
-
-  pub data FormLike : Binding → normal.Flat → Type 0 where
-    IntLike : {k : ℤ} → FormLike (Known (Int k)) (flat.Int k)
-    ConLike : {d : ℕ} {as' : List ℕ} {xs : List Var} → NamesLike xs as'
-        → FormLike (Known (Con d as')) (flat.Con d xs)
-    PartLike : {f : Fun} {g : ℕ} {as' : List ℕ} {xs : List Var} (front bs : List ℕ)
-        → Stands c f front g → length as' < arity c f → NamesLike xs bs → bs ≡ front ++ as'
-        → FormLike (Known (Part f as')) (flat.Part g xs)
-    CallLike : {f : Fun} {g : ℕ} {as' : List ℕ} {xs : List Var} (front bs : List ℕ)
-        → Stands c f front g → length as' ≡ arity c f → NamesLike xs bs → bs ≡ front ++ as'
-        → FormLike (Waiting (Call f as')) (flat.Call g xs)
-    ApplyLike : {a : ℕ} {x : Var} {as' : List ℕ} {xs : List Var} → NameLike x a → NamesLike xs as'
-        → FormLike (Waiting (Apply a as')) (flat.Apply x xs)
-    PrimLike : {op : PrimOp} {a b : ℕ} {x y : Var} → NameLike x a → NameLike y b
-        → FormLike (Waiting (Prim op a b)) (flat.Prim op x y)
-
-  abbrev pub NewsLike : Heap → List Bound → Type 0
-  NewsLike [] [] = Unit {0}
-  NewsLike [] (b ∷ bs) = ⊥
-  NewsLike (f ∷ fs) [] = ⊥
-  NewsLike (f ∷ fs) (b ∷ bs) = FormLike f b.flat × NewsLike fs bs
-
-  pub record FlatLike (f : Flat) (bs : List Bound) (made : normal.Flat) : Type 0 where
-    pub news : NewsLike f.news bs
-    pub form : FormLike f.form made
-
-  -- new locals have new names
-  pub record Placed (m n len : ℕ) : Type 0 where
-    pub at : (i y a : ℕ) → i < len → y ≡ m + i → a ≡ n + i → Good y a
-
-  pub as_many_news : (fs : Heap) (bs : List Bound) → NewsLike fs bs → length fs ≡ length bs
-  as_many_news [] [] h = refl
-  as_many_news [] (b ∷ bs) h = absurd h
-  as_many_news (f ∷ fs) [] h = absurd h
-  as_many_news (f ∷ fs) (b ∷ bs) h = ap suc (as_many_news fs bs h.1)
-
-  pub news_append : (fs fs' : Heap) (bs bs' : List Bound) → NewsLike fs bs → NewsLike fs' bs'
-      → NewsLike (fs ++ fs') (bs ++ bs')
-  news_append [] fs' [] bs' h k = k
-  news_append [] fs' (b ∷ bs) bs' h k = absurd h
-  news_append (f ∷ fs) fs' [] bs' h k = absurd h
-  news_append (f ∷ fs) fs' (b ∷ bs) bs' h k = (h.0, news_append fs fs' bs bs' h.1 k)
-
-  names_long : (xs : List Var) (as' : List ℕ) → NamesLike xs as' → length as' ≡ length xs
-  names_long [] [] h = refl
-  names_long [] (a ∷ as') h = absurd h
-  names_long (x ∷ xs) [] h = absurd h
-  names_long (x ∷ xs) (a ∷ as') h = ap suc (names_long xs as' h.1)
-
-  pub placed_left : (m n : ℕ) (us vs ws : List Bound) → ws ≡ us ++ vs → Placed m n (length ws)
-      → Placed m n (length us)
-  placed_left m n us vs ws e p = let l : length ws ≡ length us + length vs
-      = ap length e ∙ length-append us vs in record
-      { at = λ i y a lt f g. p.at i y a (omega (arith, lt, l)) f g }
-
-  pub placed_right : (m n m' n' : ℕ) (us vs ws : List Bound) → ws ≡ us ++ vs → m' ≡ m + length us
-      → n' ≡ n + length us → Placed m n (length ws) → Placed m' n' (length vs)
-  placed_right m n m' n' us vs ws e em en p =
-      let l : length ws ≡ length us + length vs = ap length e ∙ length-append us vs in
-      record {
-        at = λ i y a lt f g. p.at (length us + i) y a (omega (arith, lt, l))
-            (omega (arith, f, em)) (omega (arith, g, en));
-      }
-
-  pub placed_rest : (m n len : ℕ) → Placed m n (suc len) → Placed (m + 1) (suc n) len
-  placed_rest m n len p = record {
-    at = λ i y a lt f g. p.at (suc i) y a (omega (arith, lt)) (omega (arith, f))
-        (omega (arith, g));
-  }
-
-  placed_none : (m n : ℕ) → Placed m n 0
-  placed_none m n = record { at = λ i y a lt f g. absurd (omega (arith, lt)) }
-
-  pub record ArrangedLike (r : SplitArguments) (news1 : List Bound) (xs1 : List Var)
-      (news2 : List Bound) (xs2 : List Var) : Type 0 where
-    pub first : NewsLike r.first news1
-    pub names : NamesLike xs1 r.names
-    pub second : NewsLike r.second news2
-    pub others : NamesLike xs2 r.others
-
-  abbrev SameShape : core.Terms → Option Arguments → Type 0
-  SameShape core.NoTerms None = Unit {0}
-  SameShape core.NoTerms (Some xs) = ⊥
-  SameShape (core.AndTerm a as') None = ⊥
-  SameShape (core.AndTerm a as') (Some xs) = Unit {0}
-
-  arity_top : (f k : ℕ) → HasTop c f k → arity c (Top f) ≡ k
-  arity_top f k top = ap (λ o. elim o [ Some g ↦ length g.params | None ↦ 0 ]) top.is ∙ top.params
-
   module _ (t : Scope) where
-    -- the arguments of an application, and how they are arranged: so many of them first, and the
-    -- others
-    pub record ArgsLike (args : core.Terms) (xs : Option Arguments) : Type 0 where
-      pub shape : SameShape args xs
-      pub many : argument_count xs ≡ count args
-      pub arranged : (first rest : core.Terms) (k m m' n : ℕ) (news1 news2 : List Bound)
-          (xs1 xs2 : List Var) → args ≡ append first rest → count first ≤ k
-          → (HasTerm rest → k ≡ count first)
-          → AreArgs (lifted.lifted c) t m first news1 xs1
-          → AreArgs (lifted.lifted c) t m' rest news2 xs2 → Placed m n (length news1)
-          → Placed m' (suc n + length news1) (length news2)
-          → ArrangedLike (split_arguments xs n k) news1 xs1 news2 xs2
-
-    pub as_many_args : {m : ℕ} {args : core.Terms} {news : List Bound} {xs : List Var}
-        → AreArgs (lifted.lifted c) t m args news xs → length xs ≡ count args
-    as_many_args NoArgs = refl
-    as_many_args (AndArg news1 news2 a b e) = let i = as_many_args b in omega (arith, i)
-
-    -- all of them
-    pub record AllLike (r : SplitArguments) (bs : List Bound) (xs : List Var) : Type 0 where
-      pub news : NewsLike r.first bs
-      pub names : NamesLike xs r.names
-
-    pub all_args : (args : core.Terms) (xs : Option Arguments) (m n k : ℕ) (news : List Bound)
-        (ys : List Var) → ArgsLike args xs → count args ≤ k
-        → AreArgs (lifted.lifted c) t m args news ys → Placed m n (length news)
-        → AllLike (split_arguments xs n k) news ys
-    all_args args xs m n k news ys h le a p =
-        let r = h.arranged args core.NoTerms k m m n news [] ys [] (sym (append_none args)) le
-        (λ z. absurd z) a NoArgs p (placed_none m (suc n + length news)) in
-        record { news = r.first; names = r.names }
-
-    -- ---- a form behind arguments
-
-    no_args : {m : ℕ} {news : List Bound} {ys : List Var} (P : List Bound → List Var → Type 0)
-        → AreArgs (lifted.lifted c) t m core.NoTerms news ys → P [] [] → P news ys
-    no_args P NoArgs h = h
-
-    with_names_like : (args : core.Terms) (xs : Option Arguments) (m n : ℕ) (news : List Bound)
-        (ys : List Var) (made : List ℕ → Binding) (form' : List Var → normal.Flat)
-        → ArgsLike args xs → AreArgs (lifted.lifted c) t m args news ys → Placed m n (length news)
-        → ((as' : List ℕ) → NamesLike ys as' → FormLike (made as') (form' ys))
-        → FlatLike (apply_to_names n xs made) news (form' ys)
-    with_names_like core.NoTerms None m n news ys made form' h a p =
-        no_args (λ news ys. ((as' : List ℕ) → NamesLike ys as' → FormLike (made as') (form' ys))
-        → FlatLike (apply_to_names n None made) news (form' ys)) a
-        (λ go. record { news = tt; form = go [] tt })
-    with_names_like core.NoTerms (Some xs) m n news ys made form' h a p = λ go. absurd h.shape
-    with_names_like (core.AndTerm b bs) None m n news ys made form' h a p = λ go. absurd h.shape
-    with_names_like (core.AndTerm b bs) (Some xs) m n news ys made form' h a p = λ go.
-        let e : xs.many ≡ count (core.AndTerm b bs) = h.many in
-        let le : count (core.AndTerm b bs) ≤ xs.many = omega (arith, e) in
-        let r = all_args (core.AndTerm b bs) (Some xs) m n xs.many news ys h le a p in
-        record { news = r.news; form = go (xs.arranged n xs.many).names r.names }
-
-    -- a new binding of a form, and then its application
-    applied_like : {m n : ℕ} {inner : normal.Flat} {args : core.Terms} {news : List Bound}
-        {form' : normal.Flat} (made : Binding) (xs : Arguments) → ArgsLike args (Some xs)
-        → FormLike made inner → IsApplied (lifted.lifted c) t m inner args news form'
-        → Placed m n (length news) → FlatLike (applied n made xs) news form'
-    applied_like {m = m} {n = n} made xs h f (Applied {args = args} {news = news} {xs = ys} a) p =
-        let e : xs.many ≡ count args = h.many in
-        let le : count args ≤ xs.many = omega (arith, e) in
-        let r = all_args args (Some xs) (m + 1) (suc n) xs.many news ys h le a
-        (placed_rest m n (length news) p) in
-        record {
-          news = (f, r.news);
-          form = ApplyLike
-              (LocalLike (p.at 0 m n (omega arith) (omega arith) (omega arith))) r.names;
-        }
-
-    -- ---- a function with parameters
-
-    by_count : (xs : Arguments) (k : ℕ) (a b d : Flat) (P : Flat → Type 0) → (xs.many < k → P a)
-        → (xs.many ≡ k → P b) → (k < xs.many → P d)
-        → P (if nat_lt xs.many k then a else (if xs.many == k then b else d))
-    by_count xs k a b d P less same more = first (nat_lt xs.many k) refl
-      where
-        second : k ≤ xs.many → (t : Bool) → nat_eq xs.many k ≡ t → P (if t then b else d)
-        second le true e = same (eq_from xs.many k e)
-        second le false e = more (let ne = differs_from xs.many k e in omega (arith, le, ne))
-
-        first : (t : Bool) → nat_lt xs.many k ≡ t → P
-            (if t then a else (if xs.many == k then b else d))
-        first true e = less (lt_from xs.many k e)
-        first false e = second (le_from xs.many k e) (nat_eq xs.many k) refl
-
-    exceeded_like : (f : Fun) (g k m n : ℕ) (args first rest : core.Terms) (xs : Arguments)
-        (news1 news2 news : List Bound) (ys : List Var) (form' : normal.Flat) → Stands c f [] g
-        → arity c f ≡ suc k → ArgsLike args (Some xs) → args ≡ append first rest → HasTerm rest
-        → length ys ≡ suc k
-        → AreArgs (lifted.lifted c) t m first news1 ys
-        → IsApplied (lifted.lifted c) t (m + length news1) (flat.Call g ys) rest news2 form'
-        → news ≡ news1 ++ news2 → Placed m n (length news)
-        → FlatLike
-        (record {
-          news = (xs.arranged n (suc k)).first
-              ++ Waiting (Call f (xs.arranged n (suc k)).names) ∷ (xs.arranged n (suc k)).second;
-          form
-              = Waiting
-              (Apply (n + length (xs.arranged n (suc k)).first) (xs.arranged n (suc k)).others);
-        })
-        news form'
-    exceeded_like f g k m n args first rest xs news1 news2 news ys form' st ar h split some long a b
-        e p = by b refl refl e
-      where
-        by : {mid : ℕ} {inner : normal.Flat} {news2 : List Bound} {form' : normal.Flat}
-            → IsApplied (lifted.lifted c) t mid inner rest news2 form' → mid ≡ m + length news1
-            → inner ≡ flat.Call g ys → news ≡ news1 ++ news2
-            → FlatLike
-            (record {
-              news = (xs.arranged n (suc k)).first
-                  ++ Waiting (Call f (xs.arranged n (suc k)).names) ∷ (xs.arranged n (suc k)).second;
-              form = Waiting
-                  (Apply (n + length (xs.arranged n (suc k)).first) (xs.arranged n (suc k)).others);
-            })
-            news form'
-        by {mid = mid} {inner = inner} (Applied {news = news3} {xs = zs} w) em ei e =
-            let many = as_many_args a in
-            let p2 : Placed mid (n + length news1) (length (bound mid inner ∷ news3))
-            = placed_right m n mid (n + length news1) news1 (bound mid inner ∷ news3) news e em
-            refl p in
-            let p3 : Placed (mid + 1) (suc n + length news1) (length news3) = let z
-            : suc (n + length news1) ≡ suc n + length news1 = omega arith
-            in subst (λ j. Placed (mid + 1) j (length news3)) z
-            (placed_rest mid (n + length news1) (length news3) p2) in
-            let r = h.arranged first rest (suc k) m (mid + 1) n news1 news3 ys zs split
-            (omega (arith, many, long)) (λ z. omega (arith, many, long)) a w
-            (placed_left m n news1 (bound mid inner ∷ news3) news e p) p3 in
-            let l1 = as_many_news (xs.arranged n (suc k)).first news1 r.first in
-            let l2 = names_long ys (xs.arranged n (suc k)).names r.names in
-            let call : FormLike (Waiting (Call f (xs.arranged n (suc k)).names)) inner
-            = subst (λ z. FormLike (Waiting (Call f (xs.arranged n (suc k)).names)) z) (sym ei)
-            (CallLike [] (xs.arranged n (suc k)).names st (omega (arith, l2, long, ar)) r.names
-            refl) in
-            record {
-              news = subst
-                  (λ z. NewsLike
-                  ((xs.arranged n (suc k)).first ++ Waiting (Call f (xs.arranged n (suc k)).names) ∷
-                  (xs.arranged n (suc k)).second) z) (sym e)
-                  (news_append (xs.arranged n (suc k)).first
-                  (Waiting (Call f (xs.arranged n (suc k)).names) ∷ (xs.arranged n (suc k)).second)
-                  news1 (bound mid inner ∷ news3) r.first (call, r.second));
-              form = ApplyLike
-                  (LocalLike
-                  (p2.at 0 mid (n + length (xs.arranged n (suc k)).first) (omega arith)
-                  (omega arith) (omega (arith, l1)))) r.others;
-            }
-
-    function_like : (f : Fun) (g k m n : ℕ) (args : core.Terms) (xs : Option Arguments)
-        (news : List Bound) (form' : normal.Flat) → Stands c f [] g → arity c f ≡ suc k
-        → ArgsLike args xs → IsNamed (lifted.lifted c) t m (stands.Function g (suc k)) args news
-        form' → Placed m n (length news)
-        → FlatLike (apply_function f (suc k) n xs) news form'
-    function_like f g k m n core.NoTerms (Some xs) news form' st ar h d p = absurd h.shape
-    function_like f g k m n (core.AndTerm b bs) None news form' st ar h d p = absurd h.shape
-    function_like f g k m n core.NoTerms None news form' st ar h d p = by refl d
-      where
-        by : {args : core.Terms} {news : List Bound} {form' : normal.Flat} → args ≡ core.NoTerms
-            → IsNamed (lifted.lifted c) t m (stands.Function g (suc k)) args news form'
-            → FlatLike (apply_function f (suc k) n None) news form'
-        by e (Called {xs = ys} long a) = let many = as_many_args a in let z : count _ ≡ 0
-            = ap count e in absurd (omega (arith, many, long, z))
-        by e (Partial {news = news} {xs = ys} less a) =
-            no_args (λ news ys. FlatLike (apply_function f (suc k) n None) news (flat.Part g ys))
-            (subst (λ args. AreArgs (lifted.lifted c) t m args news ys) e a)
-            (record { news = tt; form = PartLike [] [] st (omega (arith, ar)) tt refl })
-        by e (Exceeded first rest news1 news2 ys split some long a b is) =
-            let many = as_many_args a in
-            let z : 0 ≡ count first + count rest = sym (ap count e) ∙ ap count split ∙ count_append
-            first rest in
-            absurd (omega (arith, many, long, z))
-    function_like f g k m n (core.AndTerm b bs) (Some xs) news form' st ar h d p =
-        by d refl p
-      where
-        by : {args : core.Terms} {news : List Bound} {form' : normal.Flat}
-            → IsNamed (lifted.lifted c) t m (stands.Function g (suc k)) args news form'
-            → args ≡ core.AndTerm b bs → Placed m n (length news)
-            → FlatLike (apply_function f (suc k) n (Some xs)) news form'
-        by (Called {args = args} {news = news} {xs = ys} long a) e p =
-            let h' : ArgsLike args (Some xs) = subst (λ args. ArgsLike args (Some xs)) (sym e) h in
-            let e' : xs.many ≡ count args = h'.many in
-            let many = as_many_args a in
-            let r = all_args args (Some xs) m n (suc k) news ys h' (omega (arith, many, long)) a p
-            in
-            let l2 = names_long ys (xs.arranged n (suc k)).names r.names in
-            by_count xs (suc k) _ _ _ (λ r. FlatLike r news (flat.Call g ys))
-            (λ lt. absurd (omega (arith, lt, e', many, long)))
-            (λ s. record {
-              news = r.news;
-              form = CallLike [] _ st (omega (arith, l2, long, ar)) r.names
-                  refl;
-            })
-            (λ gt. absurd (omega (arith, gt, e', many, long)))
-        by (Partial {args = args} {news = news} {xs = ys} less a) e p =
-            let h' : ArgsLike args (Some xs) = subst (λ args. ArgsLike args (Some xs)) (sym e) h in
-            let e' : xs.many ≡ count args = h'.many in
-            let many = as_many_args a in
-            let r = all_args args (Some xs) m n (suc k) news ys h' (omega (arith, many, less)) a p
-            in
-            let l2 = names_long ys (xs.arranged n (suc k)).names r.names in
-            by_count xs (suc k) _ _ _ (λ r. FlatLike r news (flat.Part g ys))
-            (λ lt. record {
-              news = r.news;
-              form = PartLike [] _ st (omega (arith, l2, less, ar)) r.names
-                  refl;
-            })
-            (λ s. absurd (omega (arith, s, e', many, less)))
-            (λ gt. absurd (omega (arith, gt, e', many, less)))
-        by (Exceeded {args = args} {news = news} {form = form'} first rest news1 news2 ys split some
-            long a b is) e p =
-            let h' : ArgsLike args (Some xs) = subst (λ args. ArgsLike args (Some xs)) (sym e) h in
-            let e' : xs.many ≡ count args = h'.many in
-            let many = as_many_args a in
-            let all : count args ≡ count first + count rest
-            = ap count split ∙ count_append first rest in
-            let one = has_some rest some in
-            by_count xs (suc k) _ _ _ (λ r. FlatLike r news form')
-            (λ lt. absurd (omega (arith, lt, e', many, long, all, one)))
-            (λ s. absurd (omega (arith, s, e', many, long, all, one)))
-            (λ gt. exceeded_like f g k m n args first rest xs news1 news2 news ys form' st ar h'
-            split some long a b is p)
-
-    -- ---- a name
-
-    named_like : {M M' : Meaning} (m n : ℕ) (args : core.Terms) (xs : Option Arguments)
-        (news : List Bound) (form' : normal.Flat) → Same c Good M M' → ArgsLike args xs
-        → IsNamed (lifted.lifted c) t m M args news form' → Placed m n (length news)
-        → FlatLike (name_with c n M' xs) news form'
-    named_like m n args xs news form' (SameLocal {y = y} {a = a} g) h d p = by d p h
-      where
-        by : {args : core.Terms} {news : List Bound} {form' : normal.Flat}
-            → IsNamed (lifted.lifted c) t m (Local y) args news form' → Placed m n (length news)
-            → ArgsLike args xs → FlatLike (name_with c n (Local a) xs) news form'
-        by (OfLocal {args = args} {news = news} {xs = ys} w) p h
-            = with_names_like args xs m n news ys _ (flat.Apply (var.Local y)) h w p
-            (λ as' l. ApplyLike (LocalLike g) l)
-    named_like m n args xs news form' (SameFunction {f = f} {k = zero} top) h d p = by d p h
-      where
-        by : {args : core.Terms} {news : List Bound} {form' : normal.Flat}
-            → IsNamed (lifted.lifted c) t m (stands.Function f zero) args news form'
-            → Placed m n (length news) → ArgsLike args xs
-            → FlatLike (name_with c n (stands.Function f zero) xs) news form'
-        by (OfGlobal {args = args} {news = news} {xs = ys} w) p h
-            = with_names_like args xs m n news ys _ (flat.Apply (var.Global f)) h w p
-            (λ as' l. ApplyLike (GlobalLike top refl) l)
-    named_like m n args xs news form' (SameFunction {f = f} {k = suc k} top) h d p =
-        function_like (Top f) f k m n args xs news form' (AsTop top) (arity_top f (suc k) top) h d p
-    named_like m n args xs news form' (SamePrimitive {op = op}) h d p = by d p h
-      where
-        pair : (ys : List Var) (x y : Var) (as' : List ℕ) → ys ≡ x ∷ y ∷ [] → NamesLike ys as'
-            → FormLike (operation op as') (flat.Prim op x y)
-        pair ys x y as' e l = two as' (subst (λ ys. NamesLike ys as') e l)
-          where
-            two : (as' : List ℕ) → NamesLike (x ∷ y ∷ []) as'
-                → FormLike (operation op as') (flat.Prim op x y)
-            two [] l = absurd l
-            two (a ∷ []) l = absurd l.1
-            two (a ∷ b ∷ []) l = PrimLike l.0 l.1.0
-            two (a ∷ b ∷ c' ∷ as') l = absurd l.1.1
-
-        by : {args : core.Terms} {news : List Bound} {form' : normal.Flat}
-            → IsNamed (lifted.lifted c) t m (Primitive op) args news form'
-            → Placed m n (length news) → ArgsLike args xs
-            → FlatLike (name_with c n (Primitive op) xs) news form'
-        by (OfPrimitive {args = args} {news = news} {x = x} {y = y} w) p h
-            = with_names_like args xs m n news (x ∷ y ∷ []) (operation op) (λ ys. flat.Prim op x y)
-            h w p (λ as' l. pair (x ∷ y ∷ []) x y as' refl l)
-    named_like m n args xs news form' SameNothing h d p = by d
-      where
-        by : {args : core.Terms} {news : List Bound} {form' : normal.Flat}
-            → IsNamed (lifted.lifted c) t m Unbound args news form'
-            → FlatLike (name_with c n Unbound xs) news form'
-        by d = elim d [ ]
-
     module _ (s env : Scope) (V : ℕ → Type 0)
         (sees : (x : ℕ) → V x → x < length c.names → Same c Good (scope.means (lifted.lifted c) t x)
         (means c env x)) (alike : Alike s env)
@@ -477,7 +53,7 @@ module _ (c : Program) (Good : ℕ → ℕ → Type 0) where
         ItselfLike None None = Unit {0}
         ItselfLike None (Some a) = ⊥
         ItselfLike (Some x) None = ⊥
-        ItselfLike (Some x) (Some a) = NameLike x a
+        ItselfLike (Some x) (Some a) = NameLike c Good x a
 
         itself_meaning : {M M' : Meaning} → Same c Good M M'
             → ItselfLike (form.itself_as M) (itself_as c M')
@@ -497,13 +73,14 @@ module _ (c : Program) (Good : ℕ → ℕ → Type 0) where
         local_names : {m : ℕ} {args : core.Terms} {news : List Bound} {ys : List Var} (at : ℕ)
             (xs : List ℕ) → ((x : ℕ) → Among xs x → IsLocal x) → args ≡ lifted.arguments at xs
             → AreArgs (lifted.lifted c) t m args news ys → (news ≡ [])
-            × NamesLike ys (fronts c env xs)
+            × NamesLike c Good ys (fronts c env xs)
         local_names at [] h e NoArgs = (refl, tt)
-        local_names at [] h e (AndArg news1 news2 a b is) = absurd (not_both true refl (ap is_some e))
+        local_names at [] h e (AndArg news1 news2 a b is)
+            = absurd (not_both true refl (ap is_some e))
         local_names at (x ∷ xs) h e NoArgs = absurd (not_both true refl (sym (ap is_some e)))
         local_names {m = m} at (x ∷ xs) h e (AndArg {a = a} {as' = as'} news1 news2 d b is) =
             let l = h x (among_first x xs) in
-            let one : (news1 ≡ []) × NameLike _ (local_name c env x)
+            let one : (news1 ≡ []) × NameLike c Good _ (local_name c env x)
             = arg d (ap (head_of a) e) (ap (form.itself_as) l.1) l.2 in
             let more = local_names {m = m + length news1} at xs (λ z i. h z (among_later z x xs i))
             (ap rest_of e) b in
@@ -512,10 +89,10 @@ module _ (c : Program) (Good : ℕ → ℕ → Type 0) where
             arg : {m : ℕ} {a : core.Term} {news : List Bound} {v : Var} {y : ℕ}
                 → IsArg (lifted.lifted c) t m a news v → a ≡ core.Name x at
                 → form.itself_as (scope.means (lifted.lifted c) t x) ≡ Some (var.Local y)
-                → Good y (local_name c env x) → (news ≡ []) × NameLike v (local_name c env x)
+                → Good y (local_name c env x) → (news ≡ []) × NameLike c Good v (local_name c env x)
             arg {v = v} {y = y} (Itself i) e m g = let same : var.Local y ≡ v
                 = some_is (sym m ∙ ap (form.itself (lifted.lifted c) t) (sym e) ∙ i)
-                in (refl, subst (λ v. NameLike v (local_name c env x)) same (LocalLike g))
+                in (refl, subst (λ v. NameLike c Good v (local_name c env x)) same (LocalLike g))
             arg (New t' i w u v) e m g = none_is_some
                 (sym i ∙ ap (form.itself (lifted.lifted c) t) e ∙ m)
 
@@ -548,7 +125,8 @@ module _ (c : Program) (Good : ℕ → ℕ → Type 0) where
         -- ---- a lambda
 
         lone : {h : core.Term} {m at : ℕ} {args : core.Terms} {news : List Bound}
-            {form' : normal.Flat} → IsFlat (lifted.lifted c) t m (core.Bracket h core.NoTerms at) args
+            {form' : normal.Flat} → IsFlat (lifted.lifted c) t m (core.Bracket h core.NoTerms at)
+            args
             news form' → IsFlat (lifted.lifted c) t m h args news form'
         lone (LoneHead d) = d
         lone (LoneBracket d) = d
@@ -570,7 +148,7 @@ module _ (c : Program) (Good : ℕ → ℕ → Type 0) where
             → ((x : ℕ) → Among fs x → IsLocal x) → Stands c f (fronts c env fs) g → 0 < arity c f
             → args ≡ lifted.arguments at fs → length fs < K
             → IsNamed (lifted.lifted c) t m M args news form' → M ≡ stands.Function g K
-            → FlatLike (record { news = []; form = Known (Part f []) }) news form'
+            → FlatLike c Good (record { news = []; form = Known (Part f []) }) news form'
         partial_of at f fs l st pos ea less (OfPrimitive a) e
             = absurd (not_both true refl (sym (ap is_function e)))
         partial_of at f fs l st pos ea less (OfLocal a) e
@@ -579,13 +157,13 @@ module _ (c : Program) (Good : ℕ → ℕ → Type 0) where
             in absurd (omega (arith, z, less))
         partial_of at f fs l st pos ea less (Called long a) e =
             let z = ap params_in e in
-            let many = as_many_args a in
+            let many = as_many_args c Good t a in
             let n : count _ ≡ length fs = ap count ea ∙ count_arguments at fs in
             absurd (omega (arith, z, less, long, many, n))
         partial_of at f fs l st pos ea less (Partial {g = g'} {xs = xs} few a) e =
             let r = local_names at fs l ea a in
             record {
-              news = subst (λ w. NewsLike [] w) (sym r.0) tt;
+              news = subst (λ w. NewsLike c Good [] w) (sym r.0) tt;
               form = PartLike (fronts c env fs) (fronts c env fs)
                   (subst (Stands c f (fronts c env fs)) (sym (ap function_in e)) st) pos r.1
                   (sym (append_nil (fronts c env fs)));
@@ -593,7 +171,7 @@ module _ (c : Program) (Good : ℕ → ℕ → Type 0) where
         partial_of at f fs l st pos ea less
             (Exceeded first rest news1 news2 xs split some long a b is) e =
             let z = ap params_in e in
-            let many = as_many_args a in
+            let many = as_many_args c Good t a in
             let n : count first + count rest ≡ length fs
             = sym (count_append first rest) ∙ ap count (sym split ∙ ea) ∙ count_arguments at fs in
             absurd (omega (arith, z, less, long, many, n))
@@ -606,7 +184,8 @@ module _ (c : Program) (Good : ℕ → ℕ → Type 0) where
             (abstraction s params body at ∷ in_expr c (within c params s) body) k
             → IsFlat (lifted.lifted c) t m (core.Name (lifted_name c k) at')
             (lifted.arguments at' (free c s params body)) news form'
-            → FlatLike (record { news = []; form = Known (Part (Closure params body env) []) })
+            → FlatLike c Good
+            (record { news = []; form = Known (Part (Closure params body env) []) })
             news form'
         closure_like params body at at' k m news form' some below fits l d =
             let same : free c env params body ≡ free c s params body
@@ -638,7 +217,8 @@ module _ (c : Program) (Good : ℕ → ℕ → Type 0) where
             (Known (Part (Closure params body env) [])) xs
 
         lambda_is : (n : ℕ) (params : List Binder) (body : Expr) (xs : Option Arguments)
-            → lambda_at n params body (free c env params body) xs ≡ lambda_with c env n params body xs
+            → lambda_at n params body (free c env params body) xs ≡ lambda_with c env n params body
+            xs
         unfolding lambda_at
         lambda_is n params body None = refl
         lambda_is n params body (Some xs) = by (free c env params body)
@@ -656,10 +236,11 @@ module _ (c : Program) (Good : ℕ → ℕ → Type 0) where
             → ((x : ℕ) → Among fs x → IsLocal x) → Stands c (Closure params body env)
             (fronts c env fs) (length c.functions + k) → HasParameter params
             → scope.means (lifted.lifted c) t (lifted_name c k) ≡ stands.Function
-            (length c.functions + k) (length fs + length params) → ArgsLike args xs
+            (length c.functions + k) (length fs + length params) → ArgsLike c Good t args xs
             → IsFlat (lifted.lifted c) t m
             (core.Bracket (core.Name (lifted_name c k) at) (lifted.arguments at fs) at) args news
-            form' → Placed m n (length news) → FlatLike (lambda_at n params body fs xs) news form'
+            form' → Placed c Good m n (length news)
+            → FlatLike c Good (lambda_at n params body fs xs) news form'
         unfolding lambda_at
         lambda_like params body at k m n fs core.NoTerms (Some xs) news form' l st some is h d p
             = absurd h.shape
@@ -669,19 +250,21 @@ module _ (c : Program) (Good : ℕ → ℕ → Type 0) where
             let pos = some_length params some in
             partial_of at (Closure params body env) fs l st pos refl (omega (arith, pos))
             (named_of (lone_bracket d)) is
-        lambda_like params body at k m n [] (core.AndTerm a as') (Some xs) news form' l st some is h d
+        lambda_like params body at k m n [] (core.AndTerm a as') (Some xs) news form' l st some is h
+            d
             p = by (length params) refl
           where
-            by : (j : ℕ) → length params ≡ j → FlatLike
+            by : (j : ℕ) → length params ≡ j → FlatLike c Good
                 (apply_function (Closure params body env) (length params) n (Some xs)) news form'
             by zero e = let pos = some_length params some in absurd (omega (arith, pos, e))
             by (suc j) e =
                 let is' : scope.means (lifted.lifted c) t (lifted_name c k) ≡ stands.Function
                 (length c.functions + k) (suc j) = is ∙ ap
                 (stands.Function (length c.functions + k)) (omega (arith, e)) in
-                subst (λ j. FlatLike (apply_function (Closure params body env) j n (Some xs)) news
+                subst (λ j. FlatLike c Good (apply_function (Closure params body env) j n (Some xs))
+                news
                 form') (sym e)
-                (function_like (Closure params body env) (length c.functions + k) j m n
+                (function_like c Good t (Closure params body env) (length c.functions + k) j m n
                 (core.AndTerm a as') (Some xs) news form' st e h
                 (subst (λ M. IsNamed (lifted.lifted c) t m M (core.AndTerm a as') news form') is'
                 (named_of (lone d))) p)
@@ -690,14 +273,17 @@ module _ (c : Program) (Good : ℕ → ℕ → Type 0) where
             let pos = some_length params some in
             let f = partial_of at (Closure params body env) (x ∷ more) l st pos refl
             (omega (arith, pos)) (named_of d) is in
-            let none : length news1 ≡ 0 = sym (as_many_news [] news1 f.news) in
-            let g = applied_like {n = n} (Known (Part (Closure params body env) [])) xs h f.form b
-            (placed_right m n (m + length news1) n news1 news2 news e refl (omega (arith, none))
+            let none : length news1 ≡ 0 = sym (as_many_news c Good [] news1 f.news) in
+            let g = applied_like c Good t {n = n} (Known (Part (Closure params body env) [])) xs h
+            f.form b
+            (placed_right c Good m n (m + length news1) n news1 news2 news e refl
+            (omega (arith, none))
             p) in
             let same : news ≡ news2 = e ∙ ap (λ w. w ++ news2) (is_empty news1 none) in
             record {
               news = subst
-                  (λ w. NewsLike (applied n (Known (Part (Closure params body env) [])) xs).news w)
+                  (λ w. NewsLike c Good
+                  (applied n (Known (Part (Closure params body env) [])) xs).news w)
                   (sym same) g.news;
               form = g.form;
             }
@@ -707,21 +293,22 @@ module _ (c : Program) (Good : ℕ → ℕ → Type 0) where
         bracket_like : (head : core.Term) (inner : core.Terms) (at : ℕ)
             (go : ℕ → Option Arguments → Flat)
             → ((args : core.Terms) (xs : Option Arguments) (m n : ℕ) (news : List Bound)
-            (form' : normal.Flat) → ArgsLike args xs
-            → IsFlat (lifted.lifted c) t m head args news form' → Placed m n (length news)
-            → FlatLike (go n xs) news form')
+            (form' : normal.Flat) → ArgsLike c Good t args xs
+            → IsFlat (lifted.lifted c) t m head args news form' → Placed c Good m n (length news)
+            → FlatLike c Good (go n xs) news form')
             → (args : core.Terms) (ins xs : Option Arguments) (m n : ℕ) (news : List Bound)
-            (form' : normal.Flat) → ArgsLike inner ins → ArgsLike args xs
+            (form' : normal.Flat) → ArgsLike c Good t inner ins → ArgsLike c Good t args xs
             → IsFlat (lifted.lifted c) t m (core.Bracket head inner at) args news form'
-            → Placed m n (length news)
-            → FlatLike (apply_bracket n ins xs (go n)) news form'
+            → Placed c Good m n (length news)
+            → FlatLike c Good (apply_bracket n ins xs (go n)) news form'
         bracket_like head core.NoTerms at go ih args None xs m n news form' i h d p
             = ih args xs m n news form' h (lone d) p
         bracket_like head core.NoTerms at go ih args (Some ins) xs m n news form' i h d p
             = absurd i.shape
         bracket_like head (core.AndTerm a as') at go ih args None xs m n news form' i h d p
             = absurd i.shape
-        bracket_like head (core.AndTerm a as') at go ih core.NoTerms (Some ins) None m n news form' i
+        bracket_like head (core.AndTerm a as') at go ih core.NoTerms (Some ins) None m n news form'
+            i
             h d p = ih (core.AndTerm a as') (Some ins) m n news form' i (lone_bracket d) p
         bracket_like head (core.AndTerm a as') at go ih core.NoTerms (Some ins) (Some xs) m n news
             form' i h d p = absurd h.shape
@@ -730,54 +317,59 @@ module _ (c : Program) (Good : ℕ → ℕ → Type 0) where
         bracket_like head (core.AndTerm a as') at go ih (core.AndTerm b bs) (Some ins) (Some xs) m n
             news form' i h (BracketApplied inner news1 news2 d w e) p =
             let f = ih (core.AndTerm a as') (Some ins) m n news1 inner i d
-            (placed_left m n news1 news2 news e p) in
-            let l = as_many_news (go n (Some ins)).news news1 f.news in
-            let g = applied_like {n = n + length (go n (Some ins)).news} (go n (Some ins)).form xs h
-            f.form w (placed_right m n (m + length news1) (n + length (go n (Some ins)).news)
+            (placed_left c Good m n news1 news2 news e p) in
+            let l = as_many_news c Good (go n (Some ins)).news news1 f.news in
+            let g = applied_like c Good t {n = n + length (go n (Some ins)).news}
+            (go n (Some ins)).form xs h
+            f.form w (placed_right c Good m n (m + length news1) (n + length (go n (Some ins)).news)
             news1 news2 news e refl (omega (arith, l)) p) in
             let fs = (go n (Some ins)).news in
             let gs = (applied (n + length (go n (Some ins)).news) (go n (Some ins)).form xs).news in
             record {
-              news = subst (λ w. NewsLike (fs ++ gs) w) (sym e)
-                  (news_append fs gs news1 news2 f.news g.news);
+              news = subst (λ w. NewsLike c Good (fs ++ gs) w) (sym e)
+                  (news_append c Good fs gs news1 news2 f.news g.news);
               form = g.form;
             }
 
         number_like : (j : ℤ) (at : ℕ) (args : core.Terms) (xs : Option Arguments) (m n : ℕ)
-            (news : List Bound) (form' : normal.Flat) → ArgsLike args xs
-            → IsFlat (lifted.lifted c) t m (core.Int j at) args news form' → Placed m n (length news)
-            → FlatLike (meaning.flat c env n (tree.Int j at) xs) news form'
+            (news : List Bound) (form' : normal.Flat) → ArgsLike c Good t args xs
+            → IsFlat (lifted.lifted c) t m (core.Int j at) args news form'
+            → Placed c Good m n (length news)
+            → FlatLike c Good (meaning.flat c env n (tree.Int j at) xs) news form'
         number_like j at core.NoTerms None m n news form' h Number p
             = record { news = tt; form = IntLike }
         number_like j at core.NoTerms (Some xs) m n news form' h d p = absurd h.shape
         number_like j at (core.AndTerm a as') None m n news form' h d p = absurd h.shape
         number_like j at (core.AndTerm a as') (Some xs) m n news form' h (NumberApplied d) p
-            = applied_like (Known (Int j)) xs h IntLike d p
+            = applied_like c Good t (Known (Int j)) xs h IntLike d p
 
         con_like : (d at : ℕ) (args : core.Terms) (xs : Option Arguments) (m n : ℕ)
-            (news : List Bound) (form' : normal.Flat) → ArgsLike args xs
-            → IsFlat (lifted.lifted c) t m (core.Con d at) args news form' → Placed m n (length news)
-            → FlatLike (meaning.flat c env n (tree.Con d at) xs) news form'
+            (news : List Bound) (form' : normal.Flat) → ArgsLike c Good t args xs
+            → IsFlat (lifted.lifted c) t m (core.Con d at) args news form'
+            → Placed c Good m n (length news)
+            → FlatLike c Good (meaning.flat c env n (tree.Con d at) xs) news form'
         con_like d at args xs m n news form' h (Constructor {number = number} {xs = ys} e a) p =
             let same : number_of c d ≡ number = ap
             (λ (o : Option ℕ). elim o [ Some k ↦ k | None ↦ 0 ]) e in
-            with_names_like args xs m n news ys (λ as'. Known (Con (number_of c d) as'))
+            with_names_like c Good t args xs m n news ys (λ as'. Known (Con (number_of c d) as'))
             (flat.Con number) h a p
-            (λ as' l. subst (λ k. FormLike (Known (Con k as')) (flat.Con number ys)) (sym same)
+            (λ as' l. subst (λ k. FormLike c Good (Known (Con k as')) (flat.Con number ys))
+            (sym same)
             (ConLike l))
 
         -- ---- arguments
 
         pub record NamedLike (a : ANamed) (bs : List Bound) (x : Var) : Type 0 where
-          pub news : NewsLike a.news bs
-          pub name : NameLike x a.name
+          pub news : NewsLike c Good a.news bs
+          pub name : NameLike c Good x a.name
 
         arg_like : (a : core.Term) (o : Option ℕ) (f : Flat) (m n : ℕ) (news : List Bound) (x : Var)
             → ItselfLike (form.itself (lifted.lifted c) t a) o
             → ((news : List Bound) (form' : normal.Flat)
-            → IsFlat (lifted.lifted c) t m a core.NoTerms news form' → Placed m n (length news)
-            → FlatLike f news form')
-            → IsArg (lifted.lifted c) t m a news x → Placed m n (length news)
+            → IsFlat (lifted.lifted c) t m a core.NoTerms news form'
+            → Placed c Good m n (length news)
+            → FlatLike c Good f news form')
+            → IsArg (lifted.lifted c) t m a news x → Placed c Good m n (length news)
             → NamedLike (named n o f) news x
         arg_like a None f m n news x i ih (Itself e) p = absurd (subst (λ o. ItselfLike o None) e i)
         arg_like a (Some b) f m n news x i ih (Itself e) p
@@ -785,13 +377,15 @@ module _ (c : Program) (Good : ℕ → ℕ → Type 0) where
         arg_like a (Some b) f m n news x i ih (New t' e d is is') p
             = absurd (subst (λ o. ItselfLike o (Some b)) e i)
         arg_like a None f m n news x i ih (New {news = inner} {form = form'} t' e d is is') p =
-            let r = ih inner form' d (placed_left m n inner (bound t' form' ∷ []) news is' p) in
-            let l = as_many_news f.news inner r.news in
+            let r = ih inner form' d (placed_left c Good m n inner (bound t' form' ∷ []) news is' p)
+            in
+            let l = as_many_news c Good f.news inner r.news in
             let long : length news ≡ length inner + 1
             = ap length is' ∙ length-append inner (bound t' form' ∷ []) in
             record {
-              news = subst (λ w. NewsLike (f.news ++ f.form ∷ []) w) (sym is')
-                  (news_append f.news (f.form ∷ []) inner (bound t' form' ∷ []) r.news (r.form, tt));
+              news = subst (λ w. NewsLike c Good (f.news ++ f.form ∷ []) w) (sym is')
+                  (news_append c Good f.news (f.form ∷ []) inner (bound t' form' ∷ []) r.news
+                  (r.form, tt));
               name = LocalLike
                   (p.at (length inner) t' (n + length f.news) (omega (arith, long)) is
                   (omega (arith, l)));
@@ -800,10 +394,11 @@ module _ (c : Program) (Good : ℕ → ℕ → Type 0) where
         nothing_like : (first rest : core.Terms) (k m m' n : ℕ) (news1 news2 : List Bound)
             (xs1 xs2 : List Var) → core.NoTerms ≡ append first rest
             → AreArgs (lifted.lifted c) t m first news1 xs1
-            → AreArgs (lifted.lifted c) t m' rest news2 xs2 → ArrangedLike nothing news1 xs1 news2 xs2
+            → AreArgs (lifted.lifted c) t m' rest news2 xs2
+            → ArrangedLike c Good nothing news1 xs1 news2 xs2
         nothing_like core.NoTerms core.NoTerms k m m' n news1 news2 xs1 xs2 e a b =
-            no_args (λ news1 xs1. ArrangedLike nothing news1 xs1 news2 xs2) a
-            (no_args (λ news2 xs2. ArrangedLike nothing [] [] news2 xs2) b
+            no_args c Good t (λ news1 xs1. ArrangedLike c Good nothing news1 xs1 news2 xs2) a
+            (no_args c Good t (λ news2 xs2. ArrangedLike c Good nothing [] [] news2 xs2) b
             (record { first = tt; names = tt; second = tt; others = tt }))
         nothing_like core.NoTerms (core.AndTerm x xs) k m m' n news1 news2 xs1 xs2 e a b
             = absurd (not_both true refl (sym (ap is_some e)))
@@ -813,36 +408,39 @@ module _ (c : Program) (Good : ℕ → ℕ → Type 0) where
         module _ (a : core.Term) (as' : core.Terms) (argument : ℕ → ANamed)
             (others : Option Arguments)
             (one : (m n : ℕ) (news : List Bound) (x : Var) → IsArg (lifted.lifted c) t m a news x
-            → Placed m n (length news) → NamedLike (argument n) news x) (more : ArgsLike as' others)
+            → Placed c Good m n (length news) → NamedLike (argument n) news x)
+            (more : ArgsLike c Good t as' others)
           where
             next_first : (b : core.Term) (bs rest : core.Terms) (k m m' n : ℕ)
                 (news1 news2 : List Bound) (xs1 xs2 : List Var)
                 → core.AndTerm a as' ≡ core.AndTerm b (append bs rest) → count bs ≤ k
                 → (HasTerm rest → k ≡ count bs)
                 → AreArgs (lifted.lifted c) t m (core.AndTerm b bs) news1 xs1
-                → AreArgs (lifted.lifted c) t m' rest news2 xs2 → Placed m n (length news1)
-                → Placed m' (suc n + length news1) (length news2)
-                → ArrangedLike (next argument others n (suc k)) news1 xs1 news2 xs2
+                → AreArgs (lifted.lifted c) t m' rest news2 xs2 → Placed c Good m n (length news1)
+                → Placed c Good m' (suc n + length news1) (length news2)
+                → ArrangedLike c Good (next argument others n (suc k)) news1 xs1 news2 xs2
             next_first b bs rest k m m' n news1 news2 xs1 xs2 e le exact
                 (AndArg {x = x} {xs = ys} news11 news12 d w is) v p p' =
                 let r = one m n news11 x
                 (subst (λ z. IsArg (lifted.lifted c) t m z news11 x) (sym (ap (head_of a) e)) d)
-                (placed_left m n news11 news12 news1 is p) in
-                let l = as_many_news (argument n).news news11 r.news in
+                (placed_left c Good m n news11 news12 news1 is p) in
+                let l = as_many_news c Good (argument n).news news11 r.news in
                 let long : length news1 ≡ length news11 + length news12
                 = ap length is ∙ length-append news11 news12 in
                 let same : suc n + length news1 ≡ suc (n + length (argument n).news) + length news12
                 = omega (arith, long, l) in
-                let q = more.arranged bs rest k (m + length news11) m' (n + length (argument n).news)
+                let q = more.arranged bs rest k (m + length news11) m'
+                (n + length (argument n).news)
                 news12 news2 ys xs2 (ap rest_of e) le exact w v
-                (placed_right m n (m + length news11) (n + length (argument n).news) news11 news12
+                (placed_right c Good m n (m + length news11) (n + length (argument n).news) news11
+                news12
                 news1 is refl (omega (arith, l)) p)
-                (subst (λ j. Placed m' j (length news2)) same p') in
+                (subst (λ j. Placed c Good m' j (length news2)) same p') in
                 let fs = (argument n).news in
                 let gs = (split_arguments others (n + length (argument n).news) k).first in
                 record {
-                  first = subst (λ z. NewsLike (fs ++ gs) z) (sym is)
-                      (news_append fs gs news11 news12 r.news q.first);
+                  first = subst (λ z. NewsLike c Good (fs ++ gs) z) (sym is)
+                      (news_append c Good fs gs news11 news12 r.news q.first);
                   names = (r.name, q.names);
                   second
                       = q.second;
@@ -852,22 +450,24 @@ module _ (c : Program) (Good : ℕ → ℕ → Type 0) where
             next_second : (b : core.Term) (bs : core.Terms) (m' n : ℕ) (news2 : List Bound)
                 (xs2 : List Var) → core.AndTerm a as' ≡ core.AndTerm b bs
                 → AreArgs (lifted.lifted c) t m' (core.AndTerm b bs) news2 xs2
-                → Placed m' (suc n + 0) (length news2)
-                → ArrangedLike (next argument others n zero) [] [] news2 xs2
+                → Placed c Good m' (suc n + 0) (length news2)
+                → ArrangedLike c Good (next argument others n zero) [] [] news2 xs2
             next_second b bs m' n news2 xs2 e (AndArg {x = x} {xs = ys} news21 news22 d w is) p0 =
                 let z : suc n + 0 ≡ suc n = omega arith in
-                let p : Placed m' (suc n) (length news2) = subst (λ j. Placed m' j (length news2)) z p0
+                let p : Placed c Good m' (suc n) (length news2)
+                = subst (λ j. Placed c Good m' j (length news2)) z p0
                 in
                 let r = one m' (suc n) news21 x
                 (subst (λ z. IsArg (lifted.lifted c) t m' z news21 x) (sym (ap (head_of a) e)) d)
-                (placed_left m' (suc n) news21 news22 news2 is p) in
-                let l = as_many_news (argument (suc n)).news news21 r.news in
-                let le : count as' ≤ argument_count others = let i = more.many in omega (arith, i) in
-                let q = all_args as' others (m' + length news21)
+                (placed_left c Good m' (suc n) news21 news22 news2 is p) in
+                let l = as_many_news c Good (argument (suc n)).news news21 r.news in
+                let le : count as' ≤ argument_count others = let i = more.many in omega (arith, i)
+                in
+                let q = all_args c Good t as' others (m' + length news21)
                 (suc n + length (argument (suc n)).news) (argument_count others) news22 ys more le
                 (subst (λ z. AreArgs (lifted.lifted c) t (m' + length news21) z news22 ys)
                 (sym (ap rest_of e)) w)
-                (placed_right m' (suc n) (m' + length news21)
+                (placed_right c Good m' (suc n) (m' + length news21)
                 (suc n + length (argument (suc n)).news) news21 news22 news2 is refl
                 (omega (arith, l)) p) in
                 let fs = (argument (suc n)).news in
@@ -877,8 +477,8 @@ module _ (c : Program) (Good : ℕ → ℕ → Type 0) where
                   first = tt;
                   names = tt;
                   second
-                      = subst (λ z. NewsLike (fs ++ gs) z) (sym is)
-                      (news_append fs gs news21 news22 r.news q.news);
+                      = subst (λ z. NewsLike c Good (fs ++ gs) z) (sym is)
+                      (news_append c Good fs gs news21 news22 r.news q.news);
                   others = (r.name, q.names);
                 }
 
@@ -886,21 +486,25 @@ module _ (c : Program) (Good : ℕ → ℕ → Type 0) where
                 (xs1 xs2 : List Var) → core.AndTerm a as' ≡ append first rest → count first ≤ k
                 → (HasTerm rest → k ≡ count first)
                 → AreArgs (lifted.lifted c) t m first news1 xs1
-                → AreArgs (lifted.lifted c) t m' rest news2 xs2 → Placed m n (length news1)
-                → Placed m' (suc n + length news1) (length news2)
-                → ArrangedLike (next argument others n k) news1 xs1 news2 xs2
+                → AreArgs (lifted.lifted c) t m' rest news2 xs2 → Placed c Good m n (length news1)
+                → Placed c Good m' (suc n + length news1) (length news2)
+                → ArrangedLike c Good (next argument others n k) news1 xs1 news2 xs2
             next_like core.NoTerms core.NoTerms k m m' n news1 news2 xs1 xs2 e le exact v w p p'
                 = absurd (not_both true refl (ap is_some e))
-            next_like core.NoTerms (core.AndTerm b bs) zero m m' n news1 news2 xs1 xs2 e le exact v w p
+            next_like core.NoTerms (core.AndTerm b bs) zero m m' n news1 news2 xs1 xs2 e le exact v
+                w p
                 p' =
-                no_args (λ news1 xs1. Placed m' (suc n + length news1) (length news2)
-                → ArrangedLike (next argument others n zero) news1 xs1 news2 xs2) v
+                no_args c Good t
+                (λ news1 xs1. Placed c Good m' (suc n + length news1) (length news2)
+                → ArrangedLike c Good (next argument others n zero) news1 xs1 news2 xs2) v
                 (λ p'. next_second b bs m' n news2 xs2 e w p') p'
-            next_like core.NoTerms (core.AndTerm b bs) (suc k) m m' n news1 news2 xs1 xs2 e le exact v w
+            next_like core.NoTerms (core.AndTerm b bs) (suc k) m m' n news1 news2 xs1 xs2 e le exact
+                v w
                 p p' = let z = exact tt in absurd (omega (arith, z))
             next_like (core.AndTerm b bs) rest zero m m' n news1 news2 xs1 xs2 e le exact v w p p'
                 = absurd (omega (arith, le))
-            next_like (core.AndTerm b bs) rest (suc k) m m' n news1 news2 xs1 xs2 e le exact v w p p'
+            next_like (core.AndTerm b bs) rest (suc k) m m' n news1 news2 xs1 xs2 e le exact v w p
+                p'
                 = next_first b bs rest k m m' n news1 news2 xs1 xs2 e (omega (arith, le))
                 (λ h. let z = exact h in omega (arith, z)) v w p p'
 
@@ -936,18 +540,19 @@ module _ (c : Program) (Good : ℕ → ℕ → Type 0) where
         mutual
           pub flat_like : (a : Term) (k : ℕ) (args : core.Terms) (xs : Option Arguments) (m n : ℕ)
               (news : List Bound) (form' : normal.Flat) → FitsTerm (length c.names) V a
-              → Located (abstractions c) (in_term c s a) k → ArgsLike args xs
+              → Located (abstractions c) (in_term c s a) k → ArgsLike c Good t args xs
               → IsFlat (lifted.lifted c) t m (lift_term c s k a) args news form'
-              → Placed m n (length news)
-              → FlatLike (meaning.flat c env n a xs) news form'
+              → Placed c Good m n (length news)
+              → FlatLike c Good (meaning.flat c env n a xs) news form'
           flat_like (tree.Name x at) k args xs m n news form' f l h d p
-              = named_like m n args xs news form' (sees x f.0 f.1) h (named_of d) p
+              = named_like c Good t m n args xs news form' (sees x f.0 f.1) h (named_of d) p
           flat_like (tree.Con d at) k args xs m n news form' f l h w p
               = con_like d at args xs m n news form' h w p
           flat_like (tree.Int j at) k args xs m n news form' f l h d p
               = number_like j at args xs m n news form' h d p
           flat_like (tree.Bracket head inner at) k args xs m n news form' f l h d p =
-              bracket_like (lift_term c s k head) (lift_terms c s (k + count_term c s head) inner) at
+              bracket_like (lift_term c s k head) (lift_terms c s (k + count_term c s head) inner)
+              at
               (λ n xs. meaning.flat c env n head xs)
               (λ args xs m n news form' h d p. flat_like head k args xs m n news form' f.0
               (located_left _ (in_term c s head) (in_terms c s inner) k l) h d p)
@@ -975,13 +580,13 @@ module _ (c : Program) (Good : ℕ → ℕ → Type 0) where
               let e' = calls k _ (located_first _ _ _ k l) ∙ ap
               (λ fs. stands.Function (length c.functions + k) (length fs + length params))
               (sym same) in
-              subst (λ r. FlatLike r news form') (lambda_is n params body xs)
+              subst (λ r. FlatLike c Good r news form') (lambda_is n params body xs)
               (lambda_like params body at k m n (free c env params body) args xs news form'
               (free_locals params body f.2) st f.0 e' h d' p)
 
           pub args_like : (xs : Terms) (k : ℕ) → FitsTerms (length c.names) V xs
               → Located (abstractions c) (in_terms c s xs) k
-              → ArgsLike (lift_terms c s k xs) (arguments c env xs)
+              → ArgsLike c Good t (lift_terms c s k xs) (arguments c env xs)
           args_like NoTerms k f l = record {
             shape = tt;
             many = refl;
@@ -996,7 +601,8 @@ module _ (c : Program) (Good : ℕ → ℕ → Type 0) where
                 shape = tt;
                 many = let i = ih.many in omega (arith, i);
                 arranged = next_like (lift_term c s k a) (lift_terms c s (k + count_term c s a) xs)
-                    (λ n. named n (itself c env a) (meaning.flat c env n a None)) (arguments c env xs)
+                    (λ n. named n (itself c env a) (meaning.flat c env n a None))
+                    (arguments c env xs)
                     (λ m n news x d p. arg_like (lift_term c s k a) (itself c env a)
                     (meaning.flat c env n a None) m n news x (lift_itself a k f.0 la)
                     (λ news form' d p. flat_like a k core.NoTerms None m n news form' f.0 la
@@ -1004,7 +610,8 @@ module _ (c : Program) (Good : ℕ → ℕ → Type 0) where
                       shape = tt;
                       many = refl;
                       arranged
-                          = λ first rest j m m' n news1 news2 xs1 xs2 e le exact a b p p'. nothing_like
+                          = λ first rest j m m' n news1 news2 xs1 xs2 e le exact a b p p'.
+                          nothing_like
                           first rest j m m' n news1 news2 xs1 xs2 e a b;
                     }) d p) d p) ih;
               }

@@ -23,7 +23,8 @@ use Rattle.lambda_lift.proofs.Fits.{FitsGroup}
 use Rattle.lambda_lift.proofs.Matching.{Same}
 use Rattle.lambda_lift.proofs.Scopes.{Alike}
 use Rattle.lambda_lift.proofs.Standing.{Located, located_left, located_right, located_rest}
-use Rattle.lambda_lift.proofs.Flats.{FlatLike, NewsLike, Placed, placed_left, placed_right, news_append, as_many_news, flat_like, args_like, closure_like}
+use Rattle.lambda_lift.proofs.AppliedForms.{FlatLike, NewsLike, Placed, placed_left, placed_right, news_append, as_many_news}
+use Rattle.lambda_lift.proofs.Flats.{flat_like, args_like, closure_like}
 
 -- local m + j and name n + j
 pub record Moved (m n len x a : ℕ) : Type 0 where
@@ -141,7 +142,8 @@ module _ (c : Program) where
         group_like NoBinds k m n bounds xs f l g p = nobody_like m n bounds xs g
         group_like (AndValue b head args rest) k m n bounds xs f l g p =
             let here = in_term c s head in
-            let l1 = located_right _ here (in_terms c s args ++ abstractions.in_group c s rest) k l in
+            let l1 = located_right _ here (in_terms c s args ++ abstractions.in_group c s rest) k l
+            in
             let l2 = located_right _ (in_terms c s args) (abstractions.in_group c s rest)
             (k + count_term c s head) l1 in
             let same : k + count_term c s head + count_terms c s args ≡ k +
@@ -170,7 +172,8 @@ module _ (c : Program) where
             subst (λ j. MembersLike (made ∷ members c env j rest) m n bounds xs) z
             (member_like made (members c env (n + 0 + 1) rest) m n _
             (lift_group c s (k + suc (count c (within c params s) body)) rest) bounds xs
-            (λ news form' d p. closure_like c Good t s env V sees alike calls params body b.at b.at k
+            (λ news form' d p. closure_like c Good t s env V sees alike calls params body b.at b.at
+            k
             m news form' f.0 f.1 f.2
             (located_left _ (_ ∷ inner) (abstractions.in_group c s rest) k l) d)
             (λ m bounds xs g p. group_like rest (k + suc (count c (within c params s) body)) m

@@ -7,6 +7,7 @@ pub mod Scopes
 pub mod Matching
 pub mod Standing
 -- forms, groups, evaluation
+pub mod AppliedForms
 pub mod Flats
 pub mod Groups
 pub mod Environments

@@ -205,7 +205,8 @@ module _ {F G : Type 0} (R : F → List ℕ → G → Type 0) (arity : F → ℕ
             by false h = let le = ltb-false (suc (length xs)) (arity f) h
                 in le-ltb (suc (length ys)) (arity' g) (omega (arith, le, long, counts f front g r))
 
-        given_like : (f : F) (g : G) (xs ys front : List ℕ) (b d : ℕ) (s : StateOf F) (t : StateOf G)
+        given_like : (f : F) (g : G) (xs ys front : List ℕ) (b d : ℕ) (s : StateOf F)
+            (t : StateOf G)
             → R f front g → length xs < arity f → ys ≡ front ++ xs → StateLike s t
             → (few : Bool) → nat_lt (suc (length xs)) (arity f) ≡ few
             → AnswerLike
@@ -243,7 +244,8 @@ module _ {F G : Type 0} (R : F → List ℕ → G → Type 0) (arity : F → ℕ
             (λ w t. give_all arity' onward' w (c ∷ bs) d t) (give_like b (suc d) s t g k)
             (λ v w s t g k. give_all_like (c ∷ bs) v w d s t g k)
 
-        pub apply_like : (a : ℕ) (bs : List ℕ) (d : ℕ) (s : StateOf F) (t : StateOf G) → StateLike s t
+        pub apply_like : (a : ℕ) (bs : List ℕ) (d : ℕ) (s : StateOf F) (t : StateOf G)
+            → StateLike s t
             → AnswerLike (apply arity lost onward a bs d s) (apply arity' lost' onward' a bs d t)
         apply_like a [] d s t k = force_like a d s t k
         apply_like a (b ∷ bs) d s t k =
@@ -290,7 +292,8 @@ module _ {F G : Type 0} (R : F → List ℕ → G → Type 0) (arity : F → ℕ
         proceed_like : (onward : DelayedEvaluatorOf F) (onward' : DelayedEvaluatorOf G)
             → SameOnward onward onward' → SameOnward (proceed arity lost nil cons enter onward)
             (proceed arity' lost' nil cons enter' onward')
-        proceed_like onward onward' on t u (LikeCall {f = f} {g = g} {xs = xs} front r n e) d s s' k =
+        proceed_like onward onward' on t u (LikeCall {f = f} {g = g} {xs = xs} front r n e) d s s' k
+            =
             subst (λ ys. AnswerLike (enter onward f xs d s) (enter' onward' g ys d s')) (sym e)
             (entered onward onward' on f front g r xs n d s s' k)
         proceed_like onward onward' on t u (LikeApply {a = a} {xs = xs}) d s s' k
@@ -321,7 +324,8 @@ module _ {F G : Type 0} (R : F → List ℕ → G → Type 0) (arity : F → ℕ
 
         -- ---- printing
 
-        stops_like : (out : List ℕ) (e : PrintingEnd) (s : StateOf F) (t : StateOf G) → StateLike s t
+        stops_like : (out : List ℕ) (e : PrintingEnd) (s : StateOf F) (t : StateOf G)
+            → StateLike s t
             → stops out e t ≡ stops out e s
         stops_like out e s t k = λ i. record {
           out = out;
@@ -367,7 +371,8 @@ module _ {F G : Type 0} (R : F → List ℕ → G → Type 0) (arity : F → ℕ
             → ((h tl : ℕ) → go' h tl ≡ go h tl)
             → on_list nil cons w out t go' ≡ on_list nil cons v out s go
         list_like out s t go go' LikeInt k e = stops_like out Unaccepted s t k
-        list_like out s t go go' (LikeCon {c = c} {xs = xs} f) k e = con_like c xs out s t go go' k e
+        list_like out s t go go' (LikeCon {c = c} {xs = xs} f) k e
+            = con_like c xs out s t go go' k e
         list_like out s t go go' (LikePart front r lt f) k e = stops_like out Unaccepted s t k
 
         byte_put : {v : ValueOf F} {w : ValueOf G} (out : List ℕ) (s : StateOf F) (t : StateOf G)
@@ -378,7 +383,8 @@ module _ {F G : Type 0} (R : F → List ℕ → G → Type 0) (arity : F → ℕ
         byte_put out s t go go' (LikePart front r lt f) k e = stops_like out Unaccepted s t k
 
         pub print_like : (n a : ℕ) (out : List ℕ) (s : StateOf F) (t : StateOf G) → StateLike s t
-            → print arity' lost' nil cons enter' n a out t ≡ print arity lost nil cons enter n a out s
+            → print arity' lost' nil cons enter' n a out t ≡ print arity lost nil cons enter n a out
+            s
         print_like zero a out s t k = stops_like out Going s t k
         print_like (suc n) a out s t k =
             let on = within arity lost nil cons enter n in

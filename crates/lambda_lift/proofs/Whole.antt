@@ -32,7 +32,7 @@ use Rattle.lambda_lift.specs.Meaning.{Fun, Top, Closure, arity}
 use Rattle.lambda_lift.proofs.Matching.{HasTop}
 use Rattle.lambda_lift.proofs.Scopes.{free_alike}
 use Rattle.lambda_lift.proofs.Standing.{located_first, Stands, AsTop, AsClosure}
-use Rattle.lambda_lift.proofs.Flats.{some_length}
+use Rattle.lambda_lift.proofs.AppliedForms.{some_length}
 use Rattle.lambda_lift.proofs.Evaluated.{Ground, fields, fields_in}
 use Rattle.lambda_lift.proofs.Entered.{Code, TopAt, Bodies, entered}
 use Rattle.lambda_lift.proofs.Texts.{FunctionFits, ProgramFits}
@@ -168,15 +168,18 @@ module _ (c : Program) (p : normal.Program) (fits : ProgramFits c)
         top.function nf.funs top.is
 
     ground : Ground c p
-    ground = record { agree = agree c fits; calls = calls c fits; counts = counts; globals = globals }
+    ground = record
+        { agree = agree c fits; calls = calls c fits; counts = counts; globals = globals }
 
     -- ---- the heaps at the start
 
     abbrev HeapLike : HeapOf Fun → HeapOf ℕ → Type 0
-    HeapLike = both.HeapLike (Stands c) (arity c) (by_need.params p) ground.counts (fields c p ground)
+    HeapLike = both.HeapLike (Stands c) (arity c) (by_need.params p) ground.counts
+        (fields c p ground)
 
     none_waits : (fs : List core.Function) (gs : List normal.Function) (f : ℕ)
-        → Pairwise (IsFunction (lifted c)) fs gs → AllOf (λ (g : core.Function). 0 < length g.params)
+        → Pairwise (IsFunction (lifted c)) fs gs → AllOf
+        (λ (g : core.Function). 0 < length g.params)
         fs → by_need.globals p gs f ≡ []
     none_waits [] [] f w h = refl
     none_waits [] (g ∷ gs) f w h = absurd w
@@ -188,11 +191,14 @@ module _ (c : Program) (p : normal.Program) (fits : ProgramFits c)
         fs gs (suc f) w.1 l.1
 
     heaps_like : (fs : List Function) (gs : List normal.Function) (k f : ℕ)
-        (more : List core.Function) → Pairwise (IsFunction (lifted c)) (lifted_bodies c k fs ++ more)
+        (more : List core.Function) → Pairwise (IsFunction (lifted c))
+        (lifted_bodies c k fs ++ more)
         gs → AllOf (λ (g : core.Function). 0 < length g.params) more
-        → ((i : ℕ) (g : Function) → slice_get fs i ≡ Some g → slice_get c.functions (f + i) ≡ Some g)
+        → ((i : ℕ) (g : Function) → slice_get fs i ≡ Some g
+        → slice_get c.functions (f + i) ≡ Some g)
         → HeapLike (meaning.globals c fs f) (by_need.globals p gs f)
-    heaps_like [] gs k f more w l at = subst (λ h. HeapLike [] h) (sym (none_waits more gs f w l)) tt
+    heaps_like [] gs k f more w l at = subst (λ h. HeapLike [] h) (sym (none_waits more gs f w l))
+        tt
     heaps_like (g ∷ fs) [] k f more w l at = absurd w
     heaps_like (g ∷ fs) (h ∷ gs) k f more w l at =
         let z : f + 0 ≡ f = omega arith in
@@ -247,7 +253,8 @@ module _ (c : Program) (p : normal.Program) (fits : ProgramFits c)
     none_first : (fs : List core.Function) → AllOf (λ (f : core.Function). is_main f ≡ false) fs
         → position_or_len is_main fs ≡ length fs
     none_first [] h = refl
-    none_first (f ∷ fs) h = let z : 1 + position_or_len is_main fs ≡ suc (position_or_len is_main fs)
+    none_first (f ∷ fs) h = let z : 1 + position_or_len is_main fs ≡ suc
+        (position_or_len is_main fs)
         = omega arith in ap (λ b. cond (not b) (1 + position_or_len is_main fs) 0) h.0 ∙ z ∙ ap suc
         (none_first fs h.1)
 
@@ -257,7 +264,8 @@ module _ (c : Program) (p : normal.Program) (fits : ProgramFits c)
       within : n' < len'
 
     main_is : (fs : List Function) (k : ℕ) (more : List core.Function)
-        → AllOf (FunctionFits (length c.names)) fs → AllOf (λ (f : core.Function). is_main f ≡ false)
+        → AllOf (FunctionFits (length c.names)) fs → AllOf
+        (λ (f : core.Function). is_main f ≡ false)
         more → position_or_len is_main (lifted_bodies c k fs ++ more) < length
         (lifted_bodies c k fs ++ more)
         → SamePlace (position_or_len is_main (lifted_bodies c k fs ++ more))
@@ -279,11 +287,13 @@ module _ (c : Program) (p : normal.Program) (fits : ProgramFits c)
             (cond (not b) (1 + m') 0) (suc (length fs))
         by true m len m' lt later = record { same = refl; within = omega arith }
         by false m len m' lt later = let r = later (omega (arith, lt))
-            in record { same = ap (λ j. 1 + j) r.same; within = let w = r.within in omega (arith, w) }
+            in record
+            { same = ap (λ j. 1 + j) r.same; within = let w = r.within in omega (arith, w) }
 
     main_at : (position_or_len is_main (lifted c).functions ≡ p.main)
         × (position_or_len is_main (lifted c).functions < length (lifted c).functions)
-    main_at = by (nat_lt (position_or_len is_main (lifted c).functions) (length (lifted c).functions))
+    main_at = by
+        (nat_lt (position_or_len is_main (lifted c).functions) (length (lifted c).functions))
         refl nf.main
       where
         by : (b : Bool) → nat_lt (position_or_len is_main (lifted c).functions)
@@ -312,14 +322,16 @@ module _ (c : Program) (p : normal.Program) (fits : ProgramFits c)
     few : arity c (Top (meaning.main c)) ≤ 1
     few =
         let n = counts (Top (meaning.main c)) [] p.main mains in
-        let m : by_need.params p p.main ≡ well.main.0.params = ap (by_need.params_of p) well.main.1 in
+        let m : by_need.params p p.main ≡ well.main.0.params = ap (by_need.params_of p) well.main.1
+        in
         let l = well.main.2 in
         omega (arith, n, m, l)
 
     -- ---- the list's constructors
 
     cons_is : (name : List ℕ) (ds : List Data) (cs : List constructors.Con)
-        → Pairwise (IsConstructor (lifted c)) ds cs → AllOf (λ (d : Data). d.name < length c.names) ds
+        → Pairwise (IsConstructor (lifted c)) ds cs
+        → AllOf (λ (d : Data). d.name < length c.names) ds
         → by_need.con_named name cs ≡ position_or_len
         (λ (d : Data). is_named (program_headers c) name d.name) ds
     cons_is name [] [] w h = refl

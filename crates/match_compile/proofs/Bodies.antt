@@ -664,7 +664,8 @@ module _ (c : Source) where
         (
           q.1,
           ap
-              (λ t. if t then stands.Primitive q.1 else primitive_from (equations_as_functions c) qs x)
+              (λ t. if t then stands.Primitive q.1 else primitive_from (equations_as_functions c) qs
+              x)
               h,
         ),
       )

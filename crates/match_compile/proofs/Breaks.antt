@@ -465,7 +465,8 @@ module _ (c : Source) (unbroken : (k at : ℕ) → rules.Broken c k at → ⊥) 
         before = a;
         there = in_spread e i w.scope (SomeAlts a)
             (subst (Has (equations_as_functions c)
-            (within (equations_as_functions c) (parts.names_of e.pats) []) e.body w.scope) is w.has);
+            (within (equations_as_functions c) (parts.names_of e.pats) []) e.body w.scope) is
+            w.has);
         same = r;
       }
 
@@ -637,8 +638,10 @@ module _ (c : Source) (unbroken : (k at : ℕ) → rules.Broken c k at → ⊥) 
       = used_con t d at n u in absurd (sound.unbroken 14 w.1 refl (UnknownConstructor w.2 m))
   breaks_only_size k at (UnknownPattern {t = t} {alts = alts} {c = d} {fields = fields} i f a m)
       = elim (alts_either t alts (from t (SomeAlts alts) f)) [
-        | inl s ↦ absurd (sound.unbroken 14 d.at refl (UnknownPattern i s.there (sym (s.same i) ∙ a) m))
-        | inr g ↦ let w = fields_first c.constructors d.name.0 (length fields) (g.fields i d fields a)
+        | inl s ↦ absurd
+            (sound.unbroken 14 d.at refl (UnknownPattern i s.there (sym (s.same i) ∙ a) m))
+        | inr g ↦ let w = fields_first c.constructors d.name.0 (length fields)
+            (g.fields i d fields a)
             in absurd (none_some (sym m ∙ w.1))
       ]
     where
@@ -649,8 +652,10 @@ module _ (c : Source) (unbroken : (k at : ℕ) → rules.Broken c k at → ⊥) 
   breaks_only_size k at
       (PatternArity {t = t} {alts = alts} {c = d} {fields = fields} {d = declared} i f a m e)
       = elim (alts_either t alts (from t (SomeAlts alts) f)) [
-        | inl s ↦ absurd (sound.unbroken 15 d.at refl (PatternArity i s.there (sym (s.same i) ∙ a) m e))
-        | inr g ↦ let w = fields_first c.constructors d.name.0 (length fields) (g.fields i d fields a)
+        | inl s ↦ absurd
+            (sound.unbroken 15 d.at refl (PatternArity i s.there (sym (s.same i) ∙ a) m e))
+        | inr g ↦ let w = fields_first c.constructors d.name.0 (length fields)
+            (g.fields i d fields a)
             in absurd (e (sym w.2 ∙ ap (λ (x : Data). x.fields) (some_is (sym w.1 ∙ m))))
       ]
   breaks_only_size k at (DefaultNotLast {t = t} {alts = alts} {x = x} {next = next} i f a b)

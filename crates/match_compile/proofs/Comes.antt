@@ -331,7 +331,8 @@ module _ (body : Expr) (bound : List (Binder × ℕ)) (js : List PendingPattern)
         ∙ ap (λ r. (
           (
             joined (branches_of bs)
-                (AndBranch t.head (numbers_from n t.fields) (alone_from (n + t.fields) r).0 NoBranch),
+                (AndBranch t.head (numbers_from n t.fields) (alone_from (n + t.fields) r).0
+                NoBranch),
             (alone_from (n + t.fields) r).1,
           ),
           None,

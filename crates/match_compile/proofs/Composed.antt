@@ -30,7 +30,8 @@ use Rattle.match_compile.specs.Translated.{name_supply_of, is_nameless, all_bind
 use Rattle.match_compile.proofs.NamedAs.{named_by, new_named, new_primitive, translated_text, in_at}
 use Rattle.match_compile.proofs.Grouped.{Differ, all_are, all_of, function_names, names_append}
 use Rattle.match_compile.proofs.Bodies.{local_within, bound_within, found_local, found_global, functions_in, name_other, name_here, Fair, found_fair}
-use Rattle.match_compile.proofs.Sown.{NotIn, numbers_differ, Stood, decisions_stood}
+use Rattle.match_compile.proofs.RowPlaces.{NotIn, numbers_differ}
+use Rattle.match_compile.proofs.Sown.{Stood, decisions_stood}
 use Rattle.match_compile.proofs.Placed.{WasRead, IsPlace, IsGood, good_binders, good_nameless, Known, placed_bound, place_new, bound_name, most_is, stays_all}
 use Rattle.match_compile.proofs.Walked.{IsLast, GoodApp, Origin, OfApp, Widens, tree_from}
 

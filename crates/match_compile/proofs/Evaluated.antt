@@ -152,17 +152,20 @@ module _ (p p' : Program) where
             subst (λ w. Answers spare (Gives (Con c (names p env xs)) s)
             (Gives (Con c w) (units s u e))) (sym (names_same env env' ps a xs ys h))
             (both.BothGive (both.OkCon (names_long env xs ∙ l)) k)
-        form_beside env env' ps a f g (AlikePart {f = i} {xs = xs} {ys = ys} is lt h) spare d s u e k
+        form_beside env env' ps a f g (AlikePart {f = i} {xs = xs} {ys = ys} is lt h) spare d s u e
+            k
             =
             let l = names_long env xs in
             subst (λ w. Answers spare (Gives (Part i (names p env xs)) s)
             (Gives (Part i w) (units s u e))) (sym (names_same env env' ps a xs ys h))
             (both.BothGive (both.OkPart is (omega (arith, l, lt))) k)
-        form_beside env env' ps a f g (AlikeCall {f = i} {xs = xs} {ys = ys} is l h) spare d s u e k =
+        form_beside env env' ps a f g (AlikeCall {f = i} {xs = xs} {ys = ys} is l h) spare d s u e k
+            =
             subst (λ w. Answers spare (onward (Call i (names p env xs)) d s)
             (onward' (Call i w) d (units s u e))) (sym (names_same env env' ps a xs ys h))
             (on (Call i (names p env xs)) (both.OkCall is (names_long env xs ∙ l)) spare d s u e k)
-        form_beside env env' ps a f g (AlikeApply {x = x} {y = y} {xs = xs} {ys = ys} v h) spare d s u
+        form_beside env env' ps a f g (AlikeApply {x = x} {y = y} {xs = xs} {ys = ys} v h) spare d s
+            u
             e k =
             subst (λ (w : ℕ × List ℕ). Answers spare
             (apply p onward (name p env x) (names p env xs) d s)
@@ -197,7 +200,8 @@ module _ (p p' : Program) where
               → Answers spare (eval p onward t env d s) (eval p' onward' t' env' d (units s u e))
           eval_beside env env' ps t t' (AlikeApp {f = f} {g = g} h) a spare d s u e k
               = form_beside env env' ps a f g h spare d s u e k
-          eval_beside env env' ps t t' (AlikeLet {bs = bs} {cs = cs} {e = x} {e' = x'} h b) a spare d
+          eval_beside env env' ps t t' (AlikeLet {bs = bs} {cs = cs} {e = x} {e' = x'} h b) a spare
+              d
               s u e k =
               let ps' : LocalPairs = linked_group bs cs ps in
               let inner : Env = with_group p env bs (length s.heap) in
@@ -211,7 +215,8 @@ module _ (p p' : Program) where
               (eval_beside inner inner' ps' x x' b a' spare d (append s (made p inner bs)) u e
               (both.appended (params p) (params p') many IsFun counts pace n m spare s u
               (made p inner bs) k (group_ok inner ps' bs cs h)))
-          eval_beside env env' ps t t' (AlikeCase {e = x} {e' = x'} {bs = bs} {cs = cs} h b) a spare d
+          eval_beside env env' ps t t' (AlikeCase {e = x} {e' = x'} {bs = bs} {cs = cs} h b) a spare
+              d
               s u e k =
               both.then_beside (params p) (params p') many IsFun counts pace n m spare
               (λ v s. select p onward bs v env d s) (λ v s. select p' onward' cs v env' d s)
@@ -225,7 +230,8 @@ module _ (p p' : Program) where
               (select p' onward' cs v env' d (units s u e))
           select_beside env env' ps bs cs AlikeNoMore a v g spare d s u e k = both.NeitherAccepts
           select_beside env env' ps bs cs
-              (AlikeOnCon {c = c} {xs = xs} {ys = ys} {e = x} {e' = x'} l l' h b) a v g spare d s u e
+              (AlikeOnCon {c = c} {xs = xs} {ys = ys} {e = x} {e' = x'} l l' h b) a v g spare d s u
+              e
               k =
               cases_beside spare (is_con c v) _ _ _ _
               (λ i. let f = has_fields c v g i in
@@ -234,7 +240,8 @@ module _ (p p' : Program) where
               (agree_all xs ys (fields_of v) env env' ps (l ∙ sym f) (l' ∙ sym f) a) spare d s u e
               k)
               (select_beside env env' ps _ _ b a v g spare d s u e k)
-          select_beside env env' ps bs cs (AlikeOnInt {k = i} {e = x} {e' = x'} h b) a v g spare d s u
+          select_beside env env' ps bs cs (AlikeOnInt {k = i} {e = x} {e' = x'} h b) a v g spare d s
+              u
               e k =
               cases_beside spare (is_int i v) _ _ _ _
               (λ i. eval_beside env env' ps x x' h a spare d s u e k)

@@ -24,7 +24,8 @@ use Rattle.match_compile.specs.Form.{Row, Rows, heads, program_of_heads, IsRow, 
 use Rattle.match_compile.specs.Jobs as tries
 use Rattle.match_compile.specs.Decides as decides
 use Rattle.match_compile.proofs.Grouped.{all_are, all_in, all_of, rows_all, functions_all, OneName, functions_one}
-use Rattle.match_compile.proofs.Sown.{Leaf, leaves, HasLeaf, Takes, takes_all, rows_leaves, declared, decisions_stood}
+use Rattle.match_compile.proofs.RowPlaces.{Leaf, leaves}
+use Rattle.match_compile.proofs.Sown.{HasLeaf, Takes, takes_all, rows_leaves, declared, decisions_stood}
 use Rattle.match_compile.proofs.Placed.{WasRead}
 use Rattle.match_compile.proofs.Breaks.{functions_total}
 use Rattle.match_compile.proofs.Single.{HasFirst, functions_first}

@@ -40,7 +40,8 @@ module _ (n : ℕ) (body : Expr) (w v : Pending) (t : Test) (places : List ℕ) 
         ∙ sym (test_alone body w.bound n (pending w.jobs) t (tested (pending w.jobs) t e))
 
     pub new_put : (bs more : List Branch) (b : Branch) → more ≡ bs ++ b ∷ [] → b.head ≡ t.head
-        → b.places ≡ places → b.tree.value ≡ made.0 → ((branches_of more, made.1), None) ≡ with_new t
+        → b.places ≡ places → b.tree.value ≡ made.0
+        → ((branches_of more, made.1), None) ≡ with_new t
         (branches_of bs) n (rows_of w body)
     new_put bs more b put hd ps tr =
         ap (λ bs. ((branches_of bs, made.1), None)) put

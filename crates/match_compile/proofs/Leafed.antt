@@ -29,7 +29,8 @@ use Rattle.match_compile.specs.Alike.{LocalPairs, LocalsCorrespond, TermAlike}
 use Rattle.match_compile.specs.Jobs.{MatchAttempt}
 use Rattle.match_compile.proofs.NamedAs.{named_by, new_named, new_primitive, nameless_length, in_at, is_in}
 use Rattle.match_compile.proofs.Grouped.{Differ}
-use Rattle.match_compile.proofs.Sown.{job_names, bound_names, bound_places, job_places, Comes}
+use Rattle.match_compile.proofs.RowPlaces.{job_names, bound_names, bound_places, job_places}
+use Rattle.match_compile.proofs.Sown.{Comes}
 use Rattle.match_compile.proofs.Placed.{WasRead, IsPlace, Twice, twice_in, twice_later, never_twice, bound_in, at_bound, is_name_some, place_new, taken_kept, taken_name}
 use Rattle.match_compile.proofs.AlikeFlats.{SameMeaning, SameLocal, SameFunction, SamePrimitive, SameNothing, Sees}
 use Rattle.match_compile.proofs.AlikeScopes.{Below}
@@ -62,7 +63,8 @@ get_linked (z ∷ ys) i (suc k) y d e =
       (
         all_get (λ w. w ≡ z → ⊥) ys k y d.0 e,
         subst
-            (λ w. LocalsCorrespond (numbered (suc i) ys) w y) next (get_linked ys (suc i) k y d.1 e),
+            (λ w. LocalsCorrespond (numbered (suc i) ys) w y) next
+            (get_linked ys (suc i) k y d.1 e),
       ),
     )
 

@@ -18,6 +18,7 @@ pub mod Small
 pub mod Special
 pub mod NamedAs
 pub mod Grouped
+pub mod RowPlaces
 pub mod Sown
 pub mod Bodies
 pub mod Placed
@@ -51,6 +52,7 @@ pub mod Tabled
 pub mod Linked
 pub mod Formed
 pub mod Meant
+pub mod OneForm
 pub mod Rows
 pub mod TreesOf
 pub mod Comes

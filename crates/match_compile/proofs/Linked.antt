@@ -29,7 +29,8 @@ use Rattle.match_compile.specs.Decides as decides
 use Rattle.match_compile.proofs.NamedAs.{in_at}
 use Rattle.match_compile.proofs.Grouped.{all_are, Climbs, numbers_of, decisions_climb, rows_fewer, total, differ_names, OneName}
 use Rattle.match_compile.proofs.Decided.{by_insert}
-use Rattle.match_compile.proofs.Sown.{Stood, Leaf, leaves, Takes, takes_all}
+use Rattle.match_compile.proofs.RowPlaces.{Leaf, leaves}
+use Rattle.match_compile.proofs.Sown.{Stood, Takes, takes_all}
 use Rattle.match_compile.proofs.Placed.{WasRead}
 use Rattle.match_compile.proofs.Composed.{params_length, no_primitive}
 use Rattle.match_compile.proofs.Single.{HasFirst, all_under}

@@ -37,7 +37,8 @@ use Rattle.match_compile.specs.Laws.{SourceKeepsMeaning}
 use Rattle.match_compile.proofs.NamedAs.{main_apart, new_apart}
 use Rattle.match_compile.proofs.Grouped.{all_are, all_in, all_of, rows_all, functions_all, OneName, functions_one}
 use Rattle.match_compile.proofs.Decided.{trees_stand}
-use Rattle.match_compile.proofs.Sown.{names_at, numbers_differ, Takes, takes_all}
+use Rattle.match_compile.proofs.RowPlaces.{names_at, numbers_differ}
+use Rattle.match_compile.proofs.Sown.{Takes, takes_all}
 use Rattle.match_compile.proofs.Placed.{WasRead}
 use Rattle.match_compile.proofs.Single.{HasFirst, functions_first, whole}
 use Rattle.match_compile.proofs.Whole.{served_within, served_in_step}
@@ -320,7 +321,8 @@ module _ (c : Source) (unbroken : (k at : ℕ) → Broken c k at → ⊥) (read 
         is.after,
         subst
             (λ l. IsNormal (program_of_heads c)
-            (binds_all (program_of_heads c) names (range_with_len 0 l) []) (length (names_of e.pats))
+            (binds_all (program_of_heads c) names (range_with_len 0 l) [])
+            (length (names_of e.pats))
             e.body g.body is.after) (sym (length_map (λ (b : Binder). b.name.0) (names_of e.pats)))
             is.body,
       ) in

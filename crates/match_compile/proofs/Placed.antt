@@ -29,7 +29,8 @@ use Rattle.match_compile.specs.Translated.{name_supply_of, bound_at, first_bound
 use Rattle.match_compile.proofs.NamedAs.{named_by, old_named, new_named, new_apart, nameless_apart, same_named, primitive_apart, translated_text, nameless_length, is_in, in_at}
 use Rattle.match_compile.proofs.Grouped.{Differ, all_of, split_at, differ_at}
 use Rattle.match_compile.proofs.Bodies.{name_here, name_at, name_other, is_local, local_within, bound_within, within_either, IsPlain, Becomes, Fits}
-use Rattle.match_compile.proofs.Sown.{NotIn, job_names, job_places, bound_names, bound_places, Comes, Fine}
+use Rattle.match_compile.proofs.RowPlaces.{NotIn, job_names, job_places, bound_names, bound_places}
+use Rattle.match_compile.proofs.Sown.{Comes, Fine}
 
 -- ---- what a row has bound
 

@@ -314,7 +314,8 @@ module _ (arity arity' many : ℕ → ℕ) (IsFun : ℕ → Type 0)
               (elim b as (λ _. PrintedRun) [
                 | true ↦ print' m name' [] (forcing.start heap i m)
                 | false ↦
-                    forcing.printed_from_input arity' NoAlternative nil' cons' enter' heap main name'
+                    forcing.printed_from_input arity' NoAlternative nil' cons' enter' heap main
+                    name'
                     i m
               ])
           by true e = subst

@@ -18,7 +18,7 @@ use Rattle.match_compile.specs.Decisions.{Decision, row_of, begun, grown, decide
 use Rattle.match_compile.proofs.Inserted.{at_head, at_pat, at_test, branch_by, by_test}
 use Rattle.match_compile.proofs.Decided.{by_insert}
 use Rattle.match_compile.proofs.Grouped.{rows_all}
-use Rattle.match_compile.proofs.Sown.{test_is}
+use Rattle.match_compile.proofs.RowPlaces.{test_is}
 
 module _ (names : List (List ℕ)) where
   abbrev ReadableJobs : List PendingPattern → Type 0

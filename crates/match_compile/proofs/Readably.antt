@@ -44,7 +44,8 @@ use Rattle.match_compile.proofs.NewNames.{new_different}
 use Rattle.match_compile.proofs.NamedAs.{translated_text, nameless_text}
 use Rattle.match_compile.proofs.Grouped.{all_are, all_in, all_of, front_all, back_all, functions_all, total, other_numbers, numbers_of, others_climb, all_below}
 use Rattle.match_compile.proofs.Bodies.{name_here, name_other}
-use Rattle.match_compile.proofs.Sown.{numbers_below, bound_places, job_places, Fine, FineBranches, FineDefault, Stood, decisions_stood}
+use Rattle.match_compile.proofs.RowPlaces.{numbers_below, bound_places, job_places}
+use Rattle.match_compile.proofs.Sown.{Fine, FineBranches, FineDefault, Stood, decisions_stood}
 use Rattle.match_compile.proofs.Placed.{most_is}
 use Rattle.match_compile.proofs.Breaks.{functions_total}
 use Rattle.match_compile.proofs.Small.{is_small}

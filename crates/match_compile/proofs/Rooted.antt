@@ -31,7 +31,8 @@ use Rattle.match_compile.specs.Translated.{name_supply_of, all_bind, most_params
 use Rattle.match_compile.specs.Form.{program_of_heads}
 use Rattle.match_compile.proofs.NamedAs.{new_named, new_primitive, nameless_named, nameless_length}
 use Rattle.match_compile.proofs.Grouped.{all_of}
-use Rattle.match_compile.proofs.Sown.{numbers_differ, Fine, Stood}
+use Rattle.match_compile.proofs.RowPlaces.{numbers_differ}
+use Rattle.match_compile.proofs.Sown.{Fine, Stood}
 use Rattle.match_compile.proofs.Placed.{WasRead, binders_in}
 use Rattle.match_compile.proofs.Composed.{params_most, scope_of, params_of, column}
 use Rattle.match_compile.proofs.AlikeTerms.{TermFits}

@@ -25,7 +25,7 @@ use Rattle.match_compile.specs.Jobs as tries
 use Rattle.match_compile.specs.Jobs.{MatchTask, MatchAttempt, attempt, tasks_of, kept_by, decided_by, known_first, attempts_with_value}
 use Rattle.match_compile.specs.Decides as decides
 use Rattle.match_compile.specs.Decides.{with_names_bound, settled}
-use Rattle.match_compile.proofs.Sown.{job_names, bound_names, names_append, names_at, bound_names_last}
+use Rattle.match_compile.proofs.RowPlaces.{job_names, bound_names, names_append, names_at, bound_names_last}
 
 pub pairs_both : {X Y : Type 0} (R : X → Y → Type 0) (xs xs' : List X) (ys ys' : List Y)
     → Pairwise R xs ys → Pairwise R xs' ys' → Pairwise R (xs ++ xs') (ys ++ ys')

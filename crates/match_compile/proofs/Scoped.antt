@@ -19,7 +19,8 @@ use Rattle.match_compile.specs.Trees.{Tree}
 use Rattle.match_compile.specs.Renamed.{renamed_name}
 use Rattle.match_compile.specs.Translated.{name_supply_of, all_bind, most_params, place_name, binders, translated}
 use Rattle.match_compile.proofs.Grouped.{Differ, all_of}
-use Rattle.match_compile.proofs.Sown.{NotIn, Fine}
+use Rattle.match_compile.proofs.RowPlaces.{NotIn}
+use Rattle.match_compile.proofs.Sown.{Fine}
 use Rattle.match_compile.proofs.Placed.{WasRead, IsPlace, place_once, bound_name}
 use Rattle.match_compile.proofs.Coded.{Places, local_of, InScope, Fresh}
 

@@ -217,7 +217,8 @@ module _ (text : List ℕ) (lexemes : List Lexeme) (names : Texts)
       subst (λ (r : MatchRefusal). (rule r ≡ 74) × IsReserved text (place r)) (sym is) (
         refl,
         at_lexeme x
-            (in_split (map (said Core names) l.pieces) (l.last ∷ []) (subst (In x) l.lexed w.1)) n.0,
+            (in_split (map (said Core names) l.pieces) (l.last ∷ []) (subst (In x) l.lexed w.1))
+            n.0,
       )
     where
       at_lexeme : (x : Lexeme) → In x (map (said Core names) l.pieces) ⊎ In x (l.last ∷ [])

@@ -72,7 +72,8 @@ module _ (q : Equations) (onward : DelayedEvaluator) (goes : (t : _) (d : ℕ) �
       matches_agree : (fs : Forms) (as' bound : List ℕ) (d : ℕ) (s : State)
           (go go' : List ℕ → State → Answer) (fails fails' : State → Answer)
           → ((xs : List ℕ) → Agree s (go xs) (go' xs)) → Agree s fails fails'
-          → matches q onward fs as' bound d s go fails ≡ matches q onward fs as' bound d s go' fails'
+          → matches q onward fs as' bound d s go fails ≡ matches q onward fs as' bound d s go'
+          fails'
       matches_agree NoForms as' bound d s go go' fails fails' g f = g bound s (same s)
       matches_agree (AndForm p ps) [] bound d s go go' fails fails' g f = f s (same s)
       matches_agree (AndForm p ps) (a ∷ as') bound d s go go' fails fails' g f =
@@ -93,7 +94,8 @@ module _ (q : Equations) (onward : DelayedEvaluator) (goes : (t : _) (d : ℕ) �
     -- forms for fields are tasks before the others
     pub fields_first : (fs : Forms) (as' : List ℕ) (js : List MatchTask) (bound : List ℕ) (d : ℕ)
         (s : State) (go : List ℕ → State → Answer) (fails : State → Answer) → length as' ≡ count fs
-        → matches q onward fs as' bound d s (λ xs t. meets q onward js xs d t go fails) fails ≡ meets
+        → matches q onward fs as' bound d s (λ xs t. meets q onward js xs d t go fails) fails ≡
+        meets
         q onward (tasks_of as' fs ++ js) bound d s go fails
     fields_first NoForms as' js bound d s go fails e = refl
     fields_first (AndForm f fs) [] js bound d s go fails e = absurd (omega (arith, e))
@@ -107,9 +109,11 @@ module _ (q : Equations) (onward : DelayedEvaluator) (goes : (t : _) (d : ℕ) �
     body_of r d xs s = eval (without_bodies q) onward r.body (parameters xs) d s
 
     pub known_value : (a d : ℕ) (v : Value) (s : State) (go : Value → State → Answer)
-        → slice_get s.heap a ≡ Some (Known v) → and_then (force (without_bodies q) onward a d s) go ≡
+        → slice_get s.heap a ≡ Some (Known v) → and_then (force (without_bodies q) onward a d s) go
+        ≡
         go v s
-    known_value a d v s go e = ap (λ b. and_then (force_binding (without_bodies q) onward b a d s) go)
+    known_value a d v s go e = ap
+        (λ b. and_then (force_binding (without_bodies q) onward b a d s) go)
         e
 
     kept_on : (b : Bool) (r : MatchAttempt) (rest : List MatchAttempt) (d : ℕ) (s : State)
@@ -119,7 +123,8 @@ module _ (q : Equations) (onward : DelayedEvaluator) (goes : (t : _) (d : ℕ) �
     kept_on true r rest d s = refl
     kept_on false r rest d s = refl
 
-    fitting : (b : Bool) (r : MatchAttempt) (fs : Forms) (as' : List ℕ) (js : List MatchTask) (d : ℕ)
+    fitting : (b : Bool) (r : MatchAttempt) (fs : Forms) (as' : List ℕ) (js : List MatchTask)
+        (d : ℕ)
         (s : State) (fails : State → Answer) → (b ≡ true → length as' ≡ count fs)
         → choose b
         (matches q onward fs as' r.bound d s
@@ -136,7 +141,8 @@ module _ (q : Equations) (onward : DelayedEvaluator) (goes : (t : _) (d : ℕ) �
         → meets q onward ((a, f) ∷ js) r.bound d s (body_of r d) (λ s. attempts q onward rest d s) ≡
         attempts q onward (decided_by v r f js ++ rest) d s
     one_decided a v r Any js rest d s is fit e = ap
-        (λ ts. meets q onward ts r.bound d s (body_of r d) (λ s. attempts q onward rest d s)) (sym is)
+        (λ ts. meets q onward ts r.bound d s (body_of r d) (λ s. attempts q onward rest d s))
+        (sym is)
     one_decided a v r (Is k) js rest d s is fit e =
         known_value a (suc d) v s
         (λ v s. elim (is_int k v) [

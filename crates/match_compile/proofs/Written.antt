@@ -28,7 +28,8 @@ use Rattle.match_compile.specs.Translated.{name_supply_of, all_bind, branches_bi
 use Rattle.match_compile.specs.Form.{program_of_heads}
 use Rattle.match_compile.proofs.NamedAs.{new_named, new_primitive, nameless_named}
 use Rattle.match_compile.proofs.Grouped.{all_of}
-use Rattle.match_compile.proofs.Sown.{NotIn, Leaf, leaves, leaves_in, leaves_else, Fine, FineBranches, FineDefault}
+use Rattle.match_compile.proofs.RowPlaces.{NotIn, Leaf, leaves, leaves_in, leaves_else}
+use Rattle.match_compile.proofs.Sown.{Fine, FineBranches, FineDefault}
 use Rattle.match_compile.proofs.Placed.{WasRead, IsPlace, place_new, fields_old, field_place}
 use Rattle.match_compile.proofs.AlikeTerms.{TermFits, BranchesFit, FitsExpr, normal_grows}
 use Rattle.match_compile.proofs.InTable.{EquationFits}

@@ -96,6 +96,10 @@ abbrev pub SimpleStaysOneFunction : Type 0
 SimpleStaysOneFunction =
     (text : List ℕ) (c : Source) → IsSourceText text c → IsUnbroken text → KeepsSimpleWhole c
 
+-- Equations have one normal form at most.
+abbrev pub FormIsUnique : Type 0
+FormIsUnique = (c : Source) (q r : Equations) → IsFormOf c q → IsFormOf c r → q ≡ r
+
 -- A program whose functions serve equations puts out what they do, and needs no more units for one
 -- of theirs than the functions that serve one function at most.
 abbrev pub ServedWithin : Type 0

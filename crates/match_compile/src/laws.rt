@@ -1,6 +1,6 @@
 //! What the definitions of equations, their rules and their trees say by themselves.
 
-ghost use Rattle.match_compile.specs.Laws.{SourceIsUnique, FirstFaultIsUnique, ReadIsReadable, UnbrokenIsCompilable, InsertionKeepsTree, SingleRowIsTree, TreesCoverEquations, SizeIsBounded, SourceBreaksOnlySize, BreaksOnlySize, SourceKeepsSimpleWhole, SimpleStaysOneFunction, ServedWithin, ServedInStep, SourceKeepsMeaning, TranslationKeepsMeaning};
+ghost use Rattle.match_compile.specs.Laws.{SourceIsUnique, FirstFaultIsUnique, ReadIsReadable, UnbrokenIsCompilable, InsertionKeepsTree, SingleRowIsTree, TreesCoverEquations, SizeIsBounded, SourceBreaksOnlySize, BreaksOnlySize, SourceKeepsSimpleWhole, SimpleStaysOneFunction, FormIsUnique, ServedWithin, ServedInStep, SourceKeepsMeaning, TranslationKeepsMeaning};
 ghost use Rattle.match_compile.specs.Stays.{EvaluationKeepsValues};
 ghost use Rattle.match_compile.specs.Jobs.{KnownValueSpecialises};
 ghost use Rattle.match_compile.specs.Examples.{Examples};
@@ -74,6 +74,11 @@ pub fn simple_stays_one_function()
 /// A value that is known decides the tests of its name that come first, whatever was tried before.
 pub fn known_value_specialises()
     ensures { KnownValueSpecialises }
+{}
+
+/// Equations have one normal form at most.
+pub fn form_is_unique()
+    ensures { FormIsUnique }
 {}
 
 /// A program whose functions serve equations puts out what they do, and needs no more units for one

@@ -59,7 +59,8 @@ pub returns-in-Some : goal.returns-in-Some
 returns-in-Some c =
     let s : Source = source_of c.args.source.now in (
       core_first s c.in-Some.refusal
-          (refused s (program c.args.source.now.core) c.in_ok-refusal.refusal (Some c.in-Some.refusal)
+          (refused s (program c.args.source.now.core) c.in_ok-refusal.refusal
+          (Some c.in-Some.refusal)
           c.requires.erased c.in-Some.is c.in_ok-refusal.ensures),
       refl,
     )

@@ -25,7 +25,8 @@ with_new-requires c =
     ∙ ap (λ hs. equations_with_bodies hs (map expr c.in_ok-headings.bodies)) c.as_slice-2.ensures
     ∙ c.in_ok-headings.ensures.equations)) in
     with_counts s _ _ _ _ names (count ∙ sym (length-map c.args.source.equations equation_of))
-    (columns ∙ c.most_params.ensures ∙ ap (λ es. most_params (map equation_of es)) c.as_slice.ensures)
+    (columns ∙ c.most_params.ensures ∙ ap (λ es. most_params (map equation_of es))
+    c.as_slice.ensures)
     fields c.requires
 
 pub clauses-requires : goal.clauses-requires

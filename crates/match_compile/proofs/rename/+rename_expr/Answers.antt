@@ -38,18 +38,21 @@ renamed-returns-in-Let-clause-renamed t c =
     (sym (expr_of-Let c.in-Let.group c.in-Let.body) ∙ ap expr (sym c.in-Let.is)))
     c.renamed_let.ensures.renamed
 
-pub renamed-returns-in_ok-alts-in-Case-clause-renamed : goal.renamed-returns-in_ok-alts-in-Case-clause-renamed
+pub renamed-returns-in_ok-alts-in-Case-clause-renamed
+    : goal.renamed-returns-in_ok-alts-in-Case-clause-renamed
 renamed-returns-in_ok-alts-in-Case-clause-renamed t c =
     let s : Scope = c.args.scope.now in
     let alts : alts_of (map alternative c.in_ok-alts-in-Case.alts) ≡ renamed_alts s
     (alts_of (map alternative c.in-Case.alts))
     = c.in_ok-alts-in-Case.ensures.renamed
-    ∙ ap (λ u. renamed_alts u (alts_of (map alternative c.in-Case.alts))) c.in_ok-tested-in-Case.ensures.scope in
+    ∙ ap (λ u. renamed_alts u (alts_of (map alternative c.in-Case.alts)))
+    c.in_ok-tested-in-Case.ensures.scope in
     expr_of-Case c.in_ok-tested-in-Case.tested c.in_ok-alts-in-Case.alts
     ∙ case_renamed s (expr c.in-Case.tested.value) (expr c.in_ok-tested-in-Case.tested.value)
     (alts_of (map alternative c.in-Case.alts)) (alts_of (map alternative c.in_ok-alts-in-Case.alts))
     c.in_ok-tested-in-Case.ensures.renamed alts
-    ∙ ap (renamed_expr s) (sym (expr_of-Case c.in-Case.tested c.in-Case.alts) ∙ ap expr (sym c.in-Case.is))
+    ∙ ap (renamed_expr s)
+    (sym (expr_of-Case c.in-Case.tested c.in-Case.alts) ∙ ap expr (sym c.in-Case.is))
 
 pub renamed_box-returns-clause-renamed : goal.renamed_box-returns-clause-renamed
 renamed_box-returns-clause-renamed t c =

@@ -63,7 +63,8 @@ expr-returns-in-Tests-clause-made t c =
     (ap tree_of c.in-Tests.is ∙ tree_of-Tests c.in-Tests.place c.in-Tests.branches)))
     c.tests.ensures.made
 
-pub expr-returns-in_ok-other-in-Otherwise-clause-made : goal.expr-returns-in_ok-other-in-Otherwise-clause-made
+pub expr-returns-in_ok-other-in-Otherwise-clause-made
+    : goal.expr-returns-in_ok-other-in-Otherwise-clause-made
 expr-returns-in_ok-other-in-Otherwise-clause-made t c =
     let w : Words = c.args.self.now.words.now in
     let at : ℕ = c.args.self.now.at in
@@ -72,15 +73,19 @@ expr-returns-in_ok-other-in-Otherwise-clause-made t c =
     let u : Tree = tree_of c.in-Otherwise.other.value in
     let same : c.boxed.new.places ≡ c.args.places.now = c.in_ok-other-in-Otherwise.ensures.places in
     ok_follows _ _ c.otherwise_tests.result (λ made e.
-    e u (c.in_ok-other-in-Otherwise.ensures.made ∙ ap (λ s. expr_of w at params rest s u) (sym same))
-    ∙ ap (λ s. expr_of w at params rest s (Case c.in-Otherwise.place (branches_of c.in-Otherwise.branches) (ATree u))) same
+    e u (c.in_ok-other-in-Otherwise.ensures.made ∙ ap (λ s. expr_of w at params rest s u)
+    (sym same))
+    ∙ ap (λ s. expr_of w at params rest s
+    (Case c.in-Otherwise.place (branches_of c.in-Otherwise.branches) (ATree u))) same
     ∙ sym (ap (expr_of w at params rest c.args.places.now) (ap tree_of c.in-Otherwise.is
     ∙ tree_of-Otherwise c.in-Otherwise.place c.in-Otherwise.branches c.in-Otherwise.other)))
     c.otherwise_tests.ensures.made
 
-pub expr-returns-in_ok-other-in-Otherwise-clause-places : goal.expr-returns-in_ok-other-in-Otherwise-clause-places
+pub expr-returns-in_ok-other-in-Otherwise-clause-places
+    : goal.expr-returns-in_ok-other-in-Otherwise-clause-places
 expr-returns-in_ok-other-in-Otherwise-clause-places t c =
-    ok_follows _ _ c.otherwise_tests.result (λ made e. e ∙ c.in_ok-other-in-Otherwise.ensures.places)
+    ok_follows _ _ c.otherwise_tests.result
+    (λ made e. e ∙ c.in_ok-other-in-Otherwise.ensures.places)
     c.otherwise_tests.ensures.places
 
 pub boxed-returns-clause-made : goal.boxed-returns-clause-made
@@ -116,7 +121,8 @@ otherwise_tests-returns-clause-made t c =
     let s : Scope = c.args.places.now in
     λ u e.
     expr_of-Case c.in_ok-new.field-0 c.push.new.self
-    ∙ case_is _ _ _ _ (ap expr c.in_ok-new.ensures.ok ∙ c.alone-tested.ensures ∙ ap (λ x. alone x.0 at)
+    ∙ case_is _ _ _ _
+    (ap expr c.in_ok-new.ensures.ok ∙ c.alone-tested.ensures ∙ ap (λ x. alone x.0 at)
     c.renamed_name.ensures)
     (then_others w at params rest s c.args.branches c.in_ok-alts.alts (c.otherwise.result ∷ [])
     c.push.new.self (otherwise w at params (expr_of w at params rest s u)) c.in_ok-alts.ensures.made
