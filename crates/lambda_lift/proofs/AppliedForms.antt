@@ -1,6 +1,6 @@
 -- What forms, names and new bindings of the lifted program correspond to those of the text's own
 -- meaning, and that a number, a constructor, a function or a name that is applied corresponds.
-use Rattle.std.proofs.Common.{◌≡◌, ℕ, zero, suc, ◌+◌, ◌≤◌, ◌<◌, Bool, true, false, nat_eq, nat_lt, List, ◌∷◌, ◌++◌, length, Option, Some, None, refl, sym, ap, ◌∙◌, subst, arith, length-append}
+use Rattle.std.proofs.Common.{◌≡◌, ℕ, zero, suc, ◌+◌, ◌≤◌, ◌<◌, Bool, true, false, nat_eq, nat_lt, List, [], ◌∷◌, ◌++◌, length, Option, Some, None, refl, sym, ap, ◌∙◌, subst, arith, length-append}
 use Rattle.std.specs.Prelude.{◌==◌, if◌then◌else◌, ℤ}
 use Rattle.seq.proofs.Order.{lt_from, le_from, eq_from, differs_from}
 use Rattle.core_reader.specs.declared.syntax.Binder.{Binder}

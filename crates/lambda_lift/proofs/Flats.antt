@@ -1,7 +1,7 @@
 -- The normal form of an application of the lifted program has the same new bindings, and then the
 -- same
 -- form, as the text's own meaning makes.
-use Rattle.std.proofs.Common.{◌≡◌, ℕ, zero, suc, ◌+◌, ◌≤◌, ◌<◌, true, false, List, ◌∷◌, ◌++◌, length, inl, inr, Option, Some, None, slice_get, refl, sym, ap, ◌∙◌, subst, arith, length-append}
+use Rattle.std.proofs.Common.{◌≡◌, ℕ, zero, suc, ◌+◌, ◌≤◌, ◌<◌, true, false, List, [], ◌∷◌, ◌++◌, length, inl, inr, Option, Some, None, slice_get, refl, sym, ap, ◌∙◌, subst, arith, length-append}
 use Rattle.std.specs.Prelude.{ℤ}
 use Rattle.seq.proofs.Lists.{some_is, none_is_some, append_nil, is_empty}
 use Rattle.seq.specs.Lists.{is_among}

@@ -1,12 +1,12 @@
 -- Equations have one normal form at most.
-use Rattle.std.proofs.Common.{◌≡◌, ℕ, List, [], ◌∷◌, refl, sym, ◌∙◌, Some}
+use Rattle.std.proofs.Common.{◌≡◌, List, [], ◌∷◌, refl, sym, ◌∙◌}
 use Rattle.core_reader.specs.Tree.{Data, Program}
 use Rattle.arity_check.specs.declared.normal.Con as constructors
 use Rattle.arity_check.specs.Normal.{Pairwise, IsConstructor}
 use Rattle.arity_check.proofs.Unique.{normal_one}
 use Rattle.match_compile.specs.Source.{Pat, Pats, Equation, Source}
 use Rattle.match_compile.specs.Sizes.{functions, rows}
-use Rattle.match_compile.specs.Form.{Form, Any, Is, Has, Forms, NoForms, AndForm, Row, Rows, program_of_heads, IsForm, OfName, OfInt, OfCon, AreForms, NoneOf, OneOf, IsRow, HasHead, AreRows, IsFormOf}
+use Rattle.match_compile.specs.Form.{Form, Has, Forms, AndForm, Row, Rows, program_of_heads, IsForm, OfName, OfInt, OfCon, AreForms, NoneOf, OneOf, IsRow, HasHead, AreRows}
 use Rattle.match_compile.specs.Laws.{FormIsUnique}
 use Rattle.match_compile.proofs.Inserted.{some_is}
 
