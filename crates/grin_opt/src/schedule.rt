@@ -7,7 +7,8 @@ ghost use Rattle.grin_meaning.specs.Ready.{IsFetchedByWords};
 ghost use Rattle.pass_ground.specs.Vectors.{IsVectorForm};
 ghost use Rattle.case_simplify.specs.Simplified.{Simplified};
 ghost use Rattle.copy_prop.specs.Copied.{Copied};
-ghost use Rattle.grin_opt.specs.Several.{MadeByPasses, Tidied, LiteralsThenTidied, KnownWordsThenTidied, AfterKnownWords, AfterOwnCells, AfterDeadStores};
+ghost use Rattle.stage_names.specs.declared.PassName.TheVariants as pass;
+ghost use Rattle.grin_opt.specs.Several.{Composed, MadeByPasses, Tidied, LiteralsThenTidied, KnownWordsThenTidied, AfterKnownWords, AfterOwnCells, AfterDeadStores};
 ghost use Rattle.grin_opt.specs.Schedule.{IsAfterInlining, IsFirstPassInput, IsOfStage, IsPassInput, before, IsPassResult, IsOptimised};
 
 use arity_raise::Raise;
@@ -24,9 +25,22 @@ use pass_known::{KnownWords, ToldWords};
 use pass_narrow::without_unread_words;
 use stage_names::PassName;
 use std::alloc::{AllocError, Global};
-use unbox::Unbox;
-use update_special::Updates;
+use unbox::{Unbox, with_unboxed_numbers_by};
+use update_special::{Updates, with_literal_tags_by};
 use vectorise::Vectorise;
+
+// The passes `Updates` and `Unbox`, one after the other. Both ask one solution: the least one is
+// that of the program with its updates as cases too.
+fn updated_and_unboxed(alloc: Global, g: Grin) -> Result<Grin, AllocError>
+    requires { IsVectorForm (program_of g) × IsFetchedByWords (program_of g) }
+    ensures { IfOk result (λ h. Composed (IsPassResult pass.Update) (IsPassResult pass.Unbox)
+        (program_of g) (program_of h)) }
+{
+    let flow = least(alloc, &g)?;
+    let updated = with_literal_tags_by(alloc, g, &flow)?;
+    let unboxed = with_unboxed_numbers_by(alloc, updated, &flow)?;
+    Ok(unboxed)
+}
 
 // The pass `Simplify`, by which no update loses its literal tag.
 fn simplified(alloc: Global, g: Grin) -> Result<Grin, AllocError>
@@ -172,6 +186,11 @@ pub fn optimise(alloc: Global, g: Grin, upto: PassName) -> Result<Grin, AllocErr
 {
     if upto == PassName::Apply {
         return Ok(g);
+    }
+    if upto == PassName::Unbox {
+        let copied = optimise(alloc, g, PassName::Copy)?;
+        let unboxed = updated_and_unboxed(alloc, copied)?;
+        return Ok(unboxed);
     }
     let given = optimise(alloc, g, stage_before(upto))?;
     let made = after_pass(alloc, upto, given)?;

@@ -7,4 +7,4 @@ mod members;
 mod pass;
 mod ties;
 
-pub use pass::{Unbox, with_unboxed_numbers};
+pub use pass::{Unbox, with_unboxed_numbers, with_unboxed_numbers_by};

@@ -3,7 +3,11 @@
 
 ghost use Rattle.std.specs.Prelude.{◌≡◌, IfOk};
 ghost use Rattle.grin_syntax.specs.Tree.{program_of};
+ghost use Rattle.grin_meaning.specs.Keeps.{Keeps};
 ghost use Rattle.grin_meaning.specs.Ready.{IsFetchedByWords};
+ghost use Rattle.flow_system.specs.Tables.{tables};
+ghost use Rattle.flow_system.specs.System.{system};
+ghost use Rattle.flow_system.specs.Solution.{IsLeast};
 ghost use Rattle.points_to.specs.Found.{found};
 ghost use Rattle.pass_ground.specs.Vectors.{IsVectorForm};
 ghost use Rattle.unbox_theory.specs.Ends.{is_member};
@@ -43,6 +47,18 @@ pub fn with_unboxed_numbers(alloc: Global, g: Grin) -> Result<Grin, AllocError>
 {
     let flow = least(alloc, &g)?;
     let members = found_members(alloc, &flow, &g)?;
+    let h = with_members(alloc, g, &members)?;
+    Ok(h)
+}
+
+/// The same by the least solution of the program's flow system, where it is at hand.
+pub fn with_unboxed_numbers_by(alloc: Global, g: Grin, flow: &Flow) -> Result<Grin, AllocError>
+    requires of_vectors { IsVectorForm (program_of g) }
+    requires least { IsLeast (tables (program_of g)) (system (program_of g)) (found flow.now) }
+    ensures shape { IfOk result (λ h. Unboxed (program_of g) (program_of h)) }
+    ensures meaning { IfOk result (λ h. Keeps (program_of g) (program_of h)) }
+{
+    let members = found_members(alloc, flow, &g)?;
     let h = with_members(alloc, g, &members)?;
     Ok(h)
 }

@@ -1,4 +1,5 @@
 pub mod Listed
 pub mod Loops
 pub mod Special
+pub mod SameLeast
 pub mod Contract

@@ -6,4 +6,4 @@ mod blocks;
 mod pass;
 
 pub use blocks::{Tags, tag_variable};
-pub use pass::{Updates, with_literal_tags};
+pub use pass::{Updates, with_literal_tags, with_literal_tags_by};

@@ -3,6 +3,10 @@
 
 ghost use Rattle.std.specs.Prelude.{◌≡◌, IfOk};
 ghost use Rattle.grin_syntax.specs.Tree.{program_of};
+ghost use Rattle.grin_meaning.specs.Keeps.{Keeps};
+ghost use Rattle.flow_system.specs.Tables.{tables};
+ghost use Rattle.flow_system.specs.System.{system};
+ghost use Rattle.flow_system.specs.Solution.{IsLeast};
 ghost use Rattle.points_to.specs.Found.{found};
 ghost use Rattle.pass_ground.specs.Vectors.{IsVectorForm};
 ghost use Rattle.update_special.specs.Updates.{updated};
@@ -39,6 +43,20 @@ pub fn with_literal_tags(alloc: Global, g: Grin) -> Result<Grin, AllocError>
 {
     let flow = least(alloc, &g)?;
     let h = with_cases(alloc, g, &flow)?;
+    Ok(h)
+}
+
+/// The same by the least solution of the program's flow system, where it is at hand. It is the least
+/// one of what is made too: an update puts into its cells what its alternatives put there together.
+pub fn with_literal_tags_by(alloc: Global, g: Grin, flow: &Flow) -> Result<Grin, AllocError>
+    requires of_vectors { IsVectorForm (program_of g) }
+    requires least { IsLeast (tables (program_of g)) (system (program_of g)) (found flow.now) }
+    ensures shape { IfOk result (λ h. Updated (program_of g) (program_of h)) }
+    ensures still_least { IfOk result (λ h.
+        IsLeast (tables (program_of h)) (system (program_of h)) (found flow.now)) }
+    ensures meaning { IfOk result (λ h. Keeps (program_of g) (program_of h)) }
+{
+    let h = with_cases(alloc, g, flow)?;
     Ok(h)
 }
 

@@ -1,6 +1,6 @@
 use Rattle.std.proofs.Common.{◌≡◌, rules, sym, subst}
 use Rattle.grin_syntax.specs.Tree.{program_of}
-use Rattle.stage_names.specs.declared.PassName.TheVariants.{Apply}
+use Rattle.stage_names.specs.declared.PassName.TheVariants.{Apply, Copy, Update, Unbox}
 use Rattle.grin_opt.specs.Schedule.{IsOfStage, IsOptimised, itself}
 use Rattle.grin_opt.proofs.Steps.{stage_of, further}
 use Rattle.grin_opt.proofs.schedule.+optimise.Goals as goal
@@ -9,6 +9,16 @@ pub returns-then-eq : goal.returns-then-eq
 returns-then-eq t c =
     let e : c.args.upto ≡ Apply = search rules in
     subst (λ k. IsOptimised (program_of c.args.g) k (program_of c.args.g)) (sym e) itself
+
+pub updated_and_unboxed-requires : goal.updated_and_unboxed-requires
+updated_and_unboxed-requires t c = stage_of _ _ Copy c.requires.taken c.in_ok-copied.ensures
+
+pub returns-then-eq-2 : goal.returns-then-eq-2
+returns-then-eq-2 t c =
+    let e : c.args.upto ≡ Unbox = search rules in
+    let updated = further _ _ _ Update c.in_ok-copied.ensures c.in_ok-unboxed.ensures.first in
+    subst (λ k. IsOptimised (program_of c.args.g) k (program_of c.in_ok-unboxed.unboxed)) (sym e)
+    (further _ _ _ Unbox updated c.in_ok-unboxed.ensures.second)
 
 pub after_pass-requires : goal.after_pass-requires
 after_pass-requires t c = (
