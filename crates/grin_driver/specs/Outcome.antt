@@ -30,7 +30,8 @@ IsRunRefusal text rule number =
     IsRefusedBy text rule number ⊎ ((rule ≡ 36) × IsLargeText text number)
 
 -- The text breaks no rule, and this is the file of an image that is made of its program, with so
--- many cells and so many bytes of stack, of which whole words are used. Its code ends with the stops.
+-- many cells and so many bytes of stack, of which whole words are used. Its code ends with the
+-- stops.
 pub record IsImageOf (text : List ℕ) (cells stack : ℕ) (file : List ℕ) : Type 0 where
   pub source : tree.Program
   pub program : Program
