@@ -4,7 +4,7 @@ use mathlib.Core.Logic.{inl, inr}
 use Rattle.headline.specs.Carries.{IsPrefixOf}
 use Rattle.grin_io.specs.Content.{Files}
 use Rattle.grin_io.specs.Changes.{ShelfChange, SourceChange, SinkChange, BeginsWith, ReadExactly}
-use Rattle.command_line.specs.Commands.{CommandLine, RunFile, CheckFile, ListFile, BuildFile, CostsFile, ExecImage, GenRun, LinkFiles, LiftFile, MatchFile, TypesFile, SidesFile, PointsFile}
+use Rattle.command_line.specs.Commands.{CommandLine, RunFile, CheckFile, ListFile, BuildFile, CostsFile, TraceFile, ExecImage, GenRun, LinkFiles, LiftFile, MatchFile, TypesFile, SidesFile, PointsFile}
 use Rattle.text_commands.specs.Operands.{HoldsOfOperandFile, text_read_limit}
 use Rattle.text_commands.specs.declared.status.Status.{Status}
 use Rattle.text_commands.specs.declared.status.Status.TheVariants.{Done, Refused, Usage, NoAlternative, HeapFull, StackFull, StepLimit, Exited, Trapped, OutOfMemory, ReadFault, WriteFault}
@@ -147,6 +147,7 @@ module _ {F I K : Type 0} (f : ShelfChange F) (i : SourceChange I) (o : SinkChan
   keeps_promise (Some (ListFile file after)) status answer = tt
   keeps_promise (Some (BuildFile file cells stack)) status answer = tt
   keeps_promise (Some (CostsFile file cells stack)) status answer = tt
+  keeps_promise (Some (TraceFile file units)) status answer = tt
   keeps_promise (Some (ExecImage image steps stats)) status answer = tt
   keeps_promise (Some (GenRun seed size)) status answer = tt
   keeps_promise (Some (LinkFiles names)) status answer = tt
