@@ -20,7 +20,7 @@ END {
     print "    fi"
     print "    case $before in"
     print "        --after) mapfile -t COMPREPLY < <(compgen -W '" substr(passes, 2) "' -- \"$word\"); return ;;"
-    print "        --heap | --stack | --steps | --seed | --size | --explain) return ;;"
+    print "        --heap | --stack | --steps | --units | --seed | --size | --explain) return ;;"
     print "        help) mapfile -t COMPREPLY < <(compgen -W '" substr(words, 2) "' -- \"$word\"); return ;;"
     print "    esac"
     print "    case ${COMP_WORDS[at]} in"

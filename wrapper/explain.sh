@@ -454,7 +454,7 @@ option() {
 tell_end() {
     case $status in
         2) say_usage "$@" ;;
-        3) [ -z "$where" ] || say_where ;;
+        3) [ -z "$where" ] || say_where "$@" ;;
         4) note grinc '' '' "it has bound all its $(grouped "$(option --heap 1000000 "$@")") cells; \`--heap CELLS\` gives more, up to 8,000,000" ;;
         5) note grinc '' '' "its stack has $(grouped "$(option --stack 1048576 "$@")") bytes; \`--stack BYTES\` gives more, up to 67,108,864" ;;
         6) note grinc '' '' "it did $(grouped "$(option --steps 1000000000 "$@")") instructions; \`--steps M\` lets it go on, up to 1,000,000,000,000" ;;
@@ -470,7 +470,7 @@ say_where() {
         @*) text="an operand isn't a number, in an operation that was put off (\`$where\`)" ;;
         *) text="the value was met in \`$where\`" ;;
     esac
-    note grinc '' '' "$text$(makers)"
+    note grinc '' '' "$text$(makers)$(entered "$@")"
 }
 
 # The procedures of the text that put off what one of the compiler's procedures does, where these are three at most.
@@ -480,6 +480,19 @@ makers() {
     "$kept" list --after translate -- "$file" 2>/dev/null | awk -v RS= -v tag="(F$where" '
         $1 !~ /^(@|global)/ && (index($0, tag " ") || index($0, tag ")")) { names = names (count++ ? ", " : "") "`" $1 "`" }
         END { if (count && count < 4) print ", by " (count > 1 ? "one of " : "") names }' | shown_line
+}
+
+# Where a procedure of the compiler stopped: the last one of the text that was entered, if `trace` goes so far, which reads nothing
+# and has the heap and the stack of a run without options.
+entered() {
+    case $where in [!@]*) return ;; esac
+    [ -f "$file" ] || return
+    [ "$(option --heap 1 "$@")" -le 1000000 ] && [ "$(option --stack 1024 "$@")" -le 1048576 ] || return
+    "$kept" list --after read -- "$file" 2>/dev/null | grep -q '^main =' || return
+    "$kept" trace --units 1000000 -- "$file" 2>/dev/null | awk '
+        { sub(/^ */, "") }
+        !/^@/ { last = $0 }
+        END { if (last != "" && NR < 1000000) print "; the last procedure of the text that was entered is `" last "`" }' | shown_line
 }
 
 # A line as a terminal may be given it.

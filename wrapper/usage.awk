@@ -5,18 +5,20 @@ function said(text) { printf "%s", text; exit }
 
 # The operands, the options with their ranges, and those that have to stand, of each command.
 function commands() {
-    many = "run check list build costs exec gen link lift match types sides points"
-    operand["run"] = operand["check"] = operand["list"] = operand["build"] = operand["costs"] = operand["lift"] = "FILE"
+    many = "run check list build costs trace exec gen link lift match types sides points"
+    operand["run"] = operand["check"] = operand["list"] = operand["build"] = operand["costs"] = operand["trace"] = operand["lift"] = "FILE"
     operand["match"] = operand["types"] = operand["sides"] = operand["points"] = operand["link"] = "FILE"
     operand["exec"] = "IMAGE"
     options["run"] = "--heap --stack --steps --stats"
     options["build"] = options["costs"] = "--heap --stack"
     options["list"] = needed["list"] = "--after"
+    options["trace"] = "--units"
     options["exec"] = "--steps --stats"
     options["gen"] = needed["gen"] = "--seed --size"
     range["--heap"] = "1 8000000"
     range["--stack"] = "1024 67108864"
     range["--steps"] = "1 1000000000000"
+    range["--units"] = "1 1000000"
     range["--seed"] = "0 2147483647"
     range["--size"] = "1 200"
     passes = "read translate eval apply vectorise simplify fetch copy update unbox raise flat known cells dead code"

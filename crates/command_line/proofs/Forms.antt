@@ -4,7 +4,7 @@ use Rattle.std.specs.List.{list_any}
 use Rattle.std.specs.Option.{option_map, option_and_then}
 use Rattle.std.specs.Str.{bytes_eq}
 use Rattle.std.proofs.lemmas.Slice.Eq.{bytes_eq-Decides}
-use Rattle.command_line.specs.Commands.{CommandLine, RunFile, ExecImage, GenRun, Given, Form, only, option_number, option_stands, cells_of, stack_of, steps_of, stats_of, run_form, list_form, sized_form, exec_form, gen_form, file_form, of_operand, without_operand, seed_of, size_of}
+use Rattle.command_line.specs.Commands.{CommandLine, RunFile, TraceFile, ExecImage, GenRun, Given, Form, only, option_number, option_stands, cells_of, stack_of, steps_of, stats_of, units_of, run_form, list_form, sized_form, trace_form, exec_form, gen_form, file_form, of_operand, without_operand, seed_of, size_of}
 use Rattle.command_line.specs.Walk.{option_names}
 
 -- A form has no option but those that there are, and asks for nothing where there are two operands
@@ -140,6 +140,15 @@ sized_once ask given name operands is two = of_none _ operands
       ]
     ])
 
+trace_once : (given : Given) (name : List ℕ) (operands : List (List ℕ))
+    → list_any (bytes_eq name) trace_form.options ≡ true → 2 ≤ length (given name)
+    → trace_form.asks given operands ≡ None
+trace_once given name operands is two = of_none _ operands
+    (λ file. elim (first_or_other name (codes "units") [] is) [
+      | inl units ↦ rw (number_two 1000 1 1000000 (given (codes "units")) (rw units at two)) refl
+      | inr none ↦ absurd (cc none)
+    ])
+
 -- what is said to `exec` where the second is none
 executed_none : (image : List ℕ) (steps : Option ℕ) (stats : Option Bool) → stats ≡ None
     → option_and_then (λ n. option_map (ExecImage image n) stats) steps ≡ None
@@ -242,6 +251,14 @@ pub sized_strict : (ask : List ℕ → (cells stack : ℕ) → CommandLine) → 
 sized_strict ask = record {
   known = known_among (codes "heap" ∷ codes "stack" ∷ []) option_names refl;
   once = sized_once ask;
+  alone
+      = λ given operands two. of_two _ operands two;
+}
+
+pub trace_strict : Strict trace_form
+trace_strict = record {
+  known = known_among trace_form.options option_names refl;
+  once = trace_once;
   alone
       = λ given operands two. of_two _ operands two;
 }

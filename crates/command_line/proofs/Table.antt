@@ -7,11 +7,11 @@ use Rattle.std.specs.Str.{bytes_eq}
 use Rattle.std.proofs.lemmas.Slice.Eq.{bytes_eq-Decides}
 use Rattle.std.proofs.lemmas.Bool.Decides.{nat_tests}
 use Rattle.command_line.specs.Parts.{OptionOrOperand, Setting, Operand}
-use Rattle.command_line.specs.Commands.{CommandLine, BuildFile, CheckFile, CostsFile, LiftFile, MatchFile, TypesFile, SidesFile, PointsFile, Form, operands, values, takes_only, run_form, check_form, list_form, build_form, costs_form, exec_form, gen_form, lift_form, match_form, types_form, sides_form, points_form, by_name, asked}
+use Rattle.command_line.specs.Commands.{CommandLine, BuildFile, CheckFile, CostsFile, LiftFile, MatchFile, TypesFile, SidesFile, PointsFile, Form, operands, values, takes_only, run_form, check_form, list_form, build_form, costs_form, trace_form, exec_form, gen_form, lift_form, match_form, types_form, sides_form, points_form, by_name, asked}
 use Rattle.command_line.specs.Walk.{Said, no_options, option_names, value_of, sets_only, gathered, asked_said, chosen}
 use Rattle.command_line.proofs.Entries.{unset_value, unset_sets}
 use Rattle.command_line.proofs.Gathering.{Grown, Refused, TwoOperands, TwoValues, OneUnknown, gathers, and_false}
-use Rattle.command_line.proofs.Forms.{Strict, run_strict, list_strict, sized_strict, exec_strict, gen_strict, file_strict}
+use Rattle.command_line.proofs.Forms.{Strict, run_strict, list_strict, sized_strict, trace_strict, exec_strict, gen_strict, file_strict}
 
 and_true : (a : Bool) → a && true ≡ a
 and_true a = grind (arith, nat_tests)
@@ -106,6 +106,7 @@ chosen_from name parts = by_result (gathered no_options parts) (gathers parts no
         ← refused_asks list_form list_strict parts refused,
         ← refused_asks build_form (sized_strict BuildFile) parts refused,
         ← refused_asks costs_form (sized_strict CostsFile) parts refused,
+        ← refused_asks trace_form trace_strict parts refused,
         ← refused_asks exec_form exec_strict parts refused,
         ← refused_asks gen_form gen_strict parts refused,
         ← refused_asks lift_form (file_strict LiftFile) parts refused,
@@ -121,6 +122,7 @@ chosen_from name parts = by_result (gathered no_options parts) (gathers parts no
         grown_asks list_form parts s has,
         grown_asks build_form parts s has,
         grown_asks costs_form parts s has,
+        grown_asks trace_form parts s has,
         grown_asks exec_form parts s has,
         grown_asks gen_form parts s has,
         grown_asks lift_form parts s has,

@@ -33,7 +33,8 @@ walk_after : (s : Said) (part : OptionOrOperand) (next : Next) (words : List (Li
     option_and_then (gathered s) (parts.with_part part rest)
 walk_after s part next words rest later = by_part (with_part s part) ∙ sym
     (gathered_after s part rest) where
-      by_part : (o : Option Said) → option_and_then (λ q. finished q words) (option_map (before next) o)
+      by_part : (o : Option Said) → option_and_then (λ q. finished q words)
+          (option_map (before next) o)
           ≡ option_and_then (λ t. option_and_then (gathered t) rest) o
       by_part (Some t) = later t
       by_part None = refl

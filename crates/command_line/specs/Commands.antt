@@ -10,7 +10,7 @@ use Rattle.command_line.specs.declared.command.Listing.{Listing}
 use Rattle.command_line.specs.declared.command.Listing.TheVariants.{Read, Stage, Code}
 use Rattle.command_line.specs.declared.files.FileOperands.{FileOperands}
 use Rattle.command_line.specs.declared.command.Command.{Command}
-use Rattle.command_line.specs.declared.command.Command.TheVariants.{Run, Check, List as Listed, Build, Costs, Exec, Gen, Link, Lift, Match, Types, Sides, Points}
+use Rattle.command_line.specs.declared.command.Command.TheVariants.{Run, Check, List as Listed, Build, Costs, Trace, Exec, Gen, Link, Lift, Match, Types, Sides, Points}
 use Rattle.limits.specs.Limits.{default_cells, most_cells, default_stack, least_stack, most_stack, default_steps, most_steps}
 
 -- what a command line asks for
@@ -20,6 +20,7 @@ pub data CommandLine : Type 0 where
   ListFile : (file : List ℕ) → (after : Listing) → CommandLine
   BuildFile : (file : List ℕ) → (cells stack : ℕ) → CommandLine
   CostsFile : (file : List ℕ) → (cells stack : ℕ) → CommandLine
+  TraceFile : (file : List ℕ) → (units : ℕ) → CommandLine
   ExecImage : (image : List ℕ) → (steps : ℕ) → (stats : Bool) → CommandLine
   GenRun : (seed size : ℕ) → CommandLine
   LinkFiles : (files : List (List ℕ)) → CommandLine
@@ -40,6 +41,7 @@ asked_by (Check file) = CheckFile file.now
 asked_by (Listed file after) = ListFile file.now after
 asked_by (Build file cells stack) = BuildFile file.now cells stack
 asked_by (Costs file cells stack) = CostsFile file.now cells stack
+asked_by (Trace file units) = TraceFile file.now units
 asked_by (Exec image steps stats) = ExecImage image.now steps stats
 asked_by (Gen seed size) = GenRun seed size
 asked_by (Link files) = LinkFiles (names_of files)
@@ -113,6 +115,10 @@ stack_of given = option_number default_stack least_stack most_stack (given (code
 abbrev pub steps_of : Given → Option ℕ
 steps_of given = option_number default_steps 1 most_steps (given (codes "steps"))
 
+-- the number of entries of a trace, by `--units`
+abbrev pub units_of : Given → Option ℕ
+units_of given = option_number 1000 1 1000000 (given (codes "units"))
+
 -- whether the cost is asked for, by `--stats`
 abbrev pub stats_of : Given → Option Bool
 stats_of given = option_stands (given (codes "stats"))
@@ -183,6 +189,13 @@ build_form = sized_form BuildFile
 abbrev pub costs_form : Form
 costs_form = sized_form CostsFile
 
+-- `trace FILE`, with or without `--units N`
+abbrev pub trace_form : Form
+trace_form = record {
+  options = codes "units" ∷ [];
+  asks = λ given. of_operand (λ file. option_map (TraceFile file) (units_of given));
+}
+
 -- `exec IMAGE`, with or without `--steps N` and `--stats`
 abbrev pub exec_form : Form
 exec_form = record {
@@ -238,6 +251,7 @@ by_name ask name =
     else (if bytes_eq name (codes "list") then ask list_form
     else (if bytes_eq name (codes "build") then ask build_form
     else (if bytes_eq name (codes "costs") then ask costs_form
+    else (if bytes_eq name (codes "trace") then ask trace_form
     else (if bytes_eq name (codes "exec") then ask exec_form
     else (if bytes_eq name (codes "gen") then ask gen_form
     else (if bytes_eq name (codes "lift") then ask lift_form
@@ -245,7 +259,7 @@ by_name ask name =
     else (if bytes_eq name (codes "types") then ask types_form
     else (if bytes_eq name (codes "sides") then ask sides_form
     else (if bytes_eq name (codes "points") then ask points_form
-    else None)))))))))))
+    else None))))))))))))
 
 -- what parts with options of the form alone ask for
 abbrev pub asked : List OptionOrOperand → Form → Option CommandLine

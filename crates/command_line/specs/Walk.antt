@@ -39,8 +39,8 @@ unset name = record { name = name; value = None }
 -- the options of all commands
 abbrev pub option_names : List (List ℕ)
 option_names =
-    codes "after" ∷ codes "heap" ∷ codes "stack" ∷ codes "steps" ∷ codes "seed" ∷ codes "size"
-    ∷ codes "stats" ∷ []
+    codes "after" ∷ codes "heap" ∷ codes "stack" ∷ codes "steps" ∷ codes "units" ∷ codes "seed"
+    ∷ codes "size" ∷ codes "stats" ∷ []
 
 abbrev pub no_options : Said
 no_options = record { operand = None; entries = map unset option_names }
@@ -52,6 +52,7 @@ said a = record {
       ∷ record { name = codes "heap"; value = option_copied a.heap }
       ∷ record { name = codes "stack"; value = option_copied a.stack }
       ∷ record { name = codes "steps"; value = option_copied a.steps }
+      ∷ record { name = codes "units"; value = option_copied a.units }
       ∷ record { name = codes "seed"; value = option_copied a.seed }
       ∷ record { name = codes "size"; value = option_copied a.size }
       ∷ record { name = codes "stats"; value = option_copied a.stats }

@@ -19,6 +19,8 @@ pub(crate) struct Arguments<'a> {
     pub(crate) stack: Option<&'a str>,
     /// The value of `--steps`.
     pub(crate) steps: Option<&'a str>,
+    /// The value of `--units`.
+    pub(crate) units: Option<&'a str>,
     /// The value of `--seed`.
     pub(crate) seed: Option<&'a str>,
     /// The value of `--size`.
@@ -41,6 +43,7 @@ impl<'a> Arguments<'a> {
                 heap: None,
                 stack: None,
                 steps: None,
+                units: None,
                 seed: None,
                 size: None,
                 stats: None,
@@ -88,6 +91,10 @@ impl<'a> Arguments<'a> {
             }),
             "steps" if self.steps.is_none() => Some(Arguments {
                 steps: Some(value),
+                ..self
+            }),
+            "units" if self.units.is_none() => Some(Arguments {
+                units: Some(value),
                 ..self
             }),
             "seed" if self.seed.is_none() => Some(Arguments {

@@ -2,13 +2,13 @@
 
 ghost use Rattle.std.specs.Prelude.{◌≡◌, ℕ, List, map, string_bytes};
 ghost use Rattle.std.specs.Option.{option_map, option_and_then};
-ghost use Rattle.command_line.specs.Commands.{asked_by, asked, command_from, listing_of, run_form, check_form, list_form, build_form, costs_form, sized_form, exec_form, gen_form, file_form, lift_form, match_form, types_form, sides_form, points_form, link_form, CommandLine};
+ghost use Rattle.command_line.specs.Commands.{asked_by, asked, command_from, listing_of, run_form, check_form, list_form, build_form, costs_form, sized_form, trace_form, exec_form, gen_form, file_form, lift_form, match_form, types_form, sides_form, points_form, link_form, CommandLine};
 ghost use Rattle.command_line.specs.Parts.{parts_of};
 ghost use Rattle.command_line.specs.Walk.{said, asked_said, chosen};
 
 use crate::arguments::Arguments;
 use crate::files::FileOperands;
-use crate::number::{CELLS, STACK, STEPS, seed_within, size_within};
+use crate::number::{CELLS, STACK, STEPS, UNITS, seed_within, size_within};
 use stage_names::PassName;
 
 /// What a program is listed as.
@@ -57,6 +57,12 @@ pub enum Command<'a> {
         file: &'a str,
         cells: u32,
         stack: u32,
+    },
+    /// `trace FILE --units N`: write the procedures that the image of the file enters on no input,
+    /// the first ones, so many.
+    Trace {
+        file: &'a str,
+        units: u32,
     },
     /// `exec IMAGE --steps N --stats`: run an executable for at most so many instructions, and say
     /// what it cost.
@@ -136,6 +142,7 @@ impl<'a> Command<'a> {
             "list" => Command::list(arguments),
             "build" => Command::build(arguments),
             "costs" => Command::costs(arguments),
+            "trace" => Command::trace(arguments),
             "exec" => Command::exec(arguments),
             "gen" => Command::generate(arguments),
             "lift" => Command::lift(arguments),
@@ -157,6 +164,7 @@ impl<'a> Command<'a> {
             heap,
             stack,
             steps,
+            units: None,
             seed: None,
             size: None,
             stats,
@@ -184,6 +192,7 @@ impl<'a> Command<'a> {
             heap: None,
             stack: None,
             steps: None,
+            units: None,
             seed: None,
             size: None,
             stats: None,
@@ -252,6 +261,7 @@ impl<'a> Command<'a> {
             heap: None,
             stack: None,
             steps: None,
+            units: None,
             seed: None,
             size: None,
             stats: None,
@@ -277,6 +287,7 @@ impl<'a> Command<'a> {
             heap,
             stack,
             steps: None,
+            units: None,
             seed: None,
             size: None,
             stats: None,
@@ -305,6 +316,30 @@ impl<'a> Command<'a> {
         Some(Command::Costs { file, cells, stack })
     }
 
+    /// `trace` with its arguments.
+    fn trace(arguments: Arguments<'a>) -> Option<Command<'a>>
+        ensures { option_map asked_by result ≡ asked_said (said arguments.entry) trace_form }
+    {
+        let Arguments {
+            operand: Some(file),
+            after: None,
+            heap: None,
+            stack: None,
+            steps: None,
+            units,
+            seed: None,
+            size: None,
+            stats: None,
+        } = arguments
+        else {
+            return None;
+        };
+        Some(Command::Trace {
+            file,
+            units: UNITS.read_u32(units)?,
+        })
+    }
+
     /// `exec` with its arguments.
     fn exec(arguments: Arguments<'a>) -> Option<Command<'a>>
         ensures { option_map asked_by result ≡ asked_said (said arguments.entry) exec_form }
@@ -315,6 +350,7 @@ impl<'a> Command<'a> {
             heap: None,
             stack: None,
             steps,
+            units: None,
             seed: None,
             size: None,
             stats,
@@ -339,6 +375,7 @@ impl<'a> Command<'a> {
             heap: None,
             stack: None,
             steps: None,
+            units: None,
             seed: Some(seed),
             size: Some(size),
             stats: None,

@@ -30,6 +30,13 @@ pub(crate) const STEPS: Numbers = Numbers {
     most: MOST_STEPS,
 };
 
+/// The number of entries of a trace, by `--units`.
+pub(crate) const UNITS: Numbers = Numbers {
+    default: 1_000,
+    least: 1,
+    most: 1_000_000,
+};
+
 /// The numbers that an option can be given.
 #[derive(Clone, Copy, Debug)]
 pub(crate) struct Numbers {

@@ -25,6 +25,7 @@ use Rattle.grin_driver.specs.After.{IsListAfterOutcome}
 use Rattle.grin_driver.specs.Pointing.{IsPointsText, Points}
 use Rattle.grin_driver.specs.Building.{IsBuildOutcome}
 use Rattle.grin_driver.specs.Needs.{IsNeedsText, IsNeedsOutcome}
+use Rattle.grin_driver.specs.Tracing.{IsTraceText, IsTraceOutcome}
 use Rattle.grin_driver.specs.Execution.{status_of, Execution}
 use Rattle.grin_driver.specs.Outcome.{IsImageOf, IsRunRefusal, Outcome}
 use Rattle.grin_driver.specs.Generating.{Generates}
@@ -88,6 +89,11 @@ module _ {K : Type 0} (o : SinkChange K) (well : CountGrew (o.faults o.old) (o.f
     pub costs_gives : (cells stack : ℕ) (status : Status) → IsNeedsOutcome o text cells stack status
         → (status ≡ OutOfMemory) ⊎ (IsCompilable text → status ≡ Done)
     costs_gives cells stack status h = writes_gives (λ text. IsNeedsText text cells stack)
+        IsRunRefusal o well text (λ k at a. runnable one text a k at) status h
+
+    pub trace_gives : (units : ℕ) (status : Status) → IsTraceOutcome o text units status
+        → (status ≡ OutOfMemory) ⊎ (IsCompilable text → status ≡ Done)
+    trace_gives units status h = writes_gives (λ text. IsTraceText text units)
         IsRunRefusal o well text (λ k at a. runnable one text a k at) status h
 
     pub list_gives : (after : Listing) (status : Status) → IsListAfterOutcome o text after status

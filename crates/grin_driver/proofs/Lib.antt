@@ -11,5 +11,6 @@ pub mod Summaries
 pub mod Complete
 pub mod Commands
 pub mod Codes
+pub mod Tracing
 pub mod Listings
 pub mod Ranges

@@ -7,7 +7,7 @@ use Rattle.std.specs.Str.Parse.{digits_value}
 use Rattle.std.proofs.lemmas.Bool.Decides.{nat_tests}
 use Rattle.command_line.specs.Numbers.{is_number}
 use Rattle.command_line.specs.Parts.{OptionOrOperand, parts_of}
-use Rattle.command_line.specs.Commands.{CommandLine, RunFile, CheckFile, ListFile, BuildFile, CostsFile, ExecImage, GenRun, LinkFiles, LiftFile, MatchFile, TypesFile, SidesFile, PointsFile, Form, Given, option_number, cells_of, stack_of, steps_of, stats_of, run_form, file_form, check_form, list_form, sized_form, build_form, costs_form, exec_form, gen_form, lift_form, match_form, types_form, sides_form, points_form, link_form, of_operand, without_operand, asked, command_from, command_of, operands, values, takes_only, only, is_empty, seed_of, size_of}
+use Rattle.command_line.specs.Commands.{CommandLine, RunFile, CheckFile, ListFile, BuildFile, CostsFile, TraceFile, ExecImage, GenRun, LinkFiles, LiftFile, MatchFile, TypesFile, SidesFile, PointsFile, Form, Given, option_number, cells_of, stack_of, steps_of, stats_of, units_of, run_form, file_form, check_form, list_form, sized_form, build_form, costs_form, trace_form, exec_form, gen_form, lift_form, match_form, types_form, sides_form, points_form, link_form, of_operand, without_operand, asked, command_from, command_of, operands, values, takes_only, only, is_empty, seed_of, size_of}
 use Rattle.grin_compile.specs.Limits.{SizesAreInRange}
 use Rattle.grin_driver.specs.Answer.{SizesAreWithinLimits}
 
@@ -104,6 +104,12 @@ sized_within ask within given operands = of_any _ operands (λ file.
     (λ stack s. within file cells stack
     (record { some_cells = c.0; few_cells = c.1; some_stack = s.0; small_stack = s.1 }))))
 
+traces_within : (given : Given) (operands : List (List ℕ))
+    → IfSome (trace_form.asks given operands) SizesAreWithinLimits
+traces_within given operands = of_any _ operands (λ file.
+    some_map (TraceFile file) (λ units. Unit {0}) SizesAreWithinLimits (units_of given)
+    (some_any (units_of given)) (λ units n. tt))
+
 execs_within : (given : Given) (operands : List (List ℕ))
     → IfSome (exec_form.asks given operands) SizesAreWithinLimits
 execs_within given operands = of_any _ operands (λ image.
@@ -156,6 +162,8 @@ from_within name parts =
     (asked_within parts build_form (sized_within BuildFile (λ file cells stack r. r)))
     (some_either SizesAreWithinLimits (bytes_eq name (codes "costs")) _ _
     (asked_within parts costs_form (sized_within CostsFile (λ file cells stack r. r)))
+    (some_either SizesAreWithinLimits (bytes_eq name (codes "trace")) _ _
+    (asked_within parts trace_form traces_within)
     (some_either SizesAreWithinLimits (bytes_eq name (codes "exec")) _ _
     (asked_within parts exec_form execs_within)
     (some_either SizesAreWithinLimits (bytes_eq name (codes "gen")) _ _
@@ -169,7 +177,7 @@ from_within name parts =
     (some_either SizesAreWithinLimits (bytes_eq name (codes "sides")) _ _
     (asked_within parts sides_form (files_within SidesFile (λ file. tt)))
     (some_either SizesAreWithinLimits (bytes_eq name (codes "points")) _ None
-    (asked_within parts points_form (files_within PointsFile (λ file. tt))) tt))))))))))))
+    (asked_within parts points_form (files_within PointsFile (λ file. tt))) tt)))))))))))))
 
 commands_within : (words : List (List ℕ)) → IfSome (command_of words) SizesAreWithinLimits
 commands_within [] = tt

@@ -12,5 +12,6 @@ pub mod Answer
 pub mod Standing
 pub mod Kept
 pub mod Needs
+pub mod Tracing
 pub mod Costs
 pub mod Completeness

@@ -17,6 +17,7 @@ ghost use Rattle.text_commands.specs.Operands.{HoldsOfOperandFile, text_read_lim
 ghost use Rattle.grin_driver.specs.Answer.{SizesAreWithinLimits, HoldsOfNamedFiles};
 ghost use Rattle.grin_driver.specs.Completeness.{NothingFailed, Gives};
 ghost use Rattle.text_commands.specs.declared.status.Status.TheVariants.{OutOfMemory};
+ghost use Rattle.grin_driver.specs.Tracing.{IsTraceOutcome};
 
 use crate::build::build_text;
 use crate::cost::{Cost, EndedWithCost};
@@ -30,6 +31,7 @@ use crate::list::list_after;
 use crate::needs::tell_needs;
 use crate::points::Points;
 use crate::run::run_text;
+use crate::trace::put_trace;
 use command_line::{Command, Line, Listing};
 use core_link::laws::{
     linking_keeps_name_rules, single_module_keeps_meaning, text_order_is_irrelevant,
@@ -146,6 +148,28 @@ fn costs_file<F: Shelf, K: Sink>(
     }
 }
 
+/// Puts the first procedures, at most so many, that the image of the text of a file enters.
+fn trace_file<F: Shelf, K: Sink>(
+    alloc: Global,
+    file: &str,
+    units: u32,
+    shelf: &mut F,
+    out: &mut K,
+) -> Status
+    requires { F.permitted file.now }
+    ensures answer { HoldsOfOperandFile (shelf_change F.content F.faults shelf.old shelf.new) text_read_limit
+        (out.new ≡ out.old) file.now (λ text status.
+        IsTraceOutcome (sink_change K.put_gives K.taken K.faults out.old out.new) text units status)
+        result }
+    ensures later { (F.faults shelf.old ≤ F.faults shelf.new)
+        × (K.faults out.old ≤ K.faults out.new) }
+{
+    match read_file(alloc, shelf, file, MOST_OF_TEXT) {
+        Ok(text) => put_trace(alloc, text.as_slice(), units, out),
+        Err(status) => status,
+    }
+}
+
 /// Runs the executable of a file on the input for at most so many instructions.
 fn exec_file<F: Shelf, I: Source, K: Sink>(
     alloc: Global,
@@ -227,6 +251,9 @@ fn run_command<F: Shelf, I: Source, K: Sink>(
             };
             EndedWithCost::of(costs_file(alloc, file, options, shelf, out))
         }
+        Command::Trace { file, units } => EndedWithCost::of(trace_file(
+            alloc, file, *units, shelf, out,
+        )),
         Command::Gen { seed, size } => EndedWithCost::of(generate(alloc, *seed, *size, out)),
         Command::Link { files } => EndedWithCost::of(link_files(alloc, files, shelf, out)),
         Command::Lift { file } => EndedWithCost::of(write_file(alloc, &Lift, file, shelf, out)),
@@ -263,9 +290,10 @@ fn run_line<F: Shelf, I: Source, K: Sink>(
 /// Runs the command that the words of a line stand for, and puts the line of its status on `err`.
 ///
 /// `run FILE` compiles a text and runs it on the input, `check FILE` puts the line of its program,
-/// `list FILE` lists it, `build FILE` puts its image, `costs FILE` what that image needs, and
-/// `exec IMAGE` runs an executable on the input; `gen` runs a generated text and puts its summary, `link FILE..` puts the text that
-/// modules are together, `lift FILE` the text of Core that a text with lambdas and local functions
+/// `list FILE` lists it, `build FILE` puts its image, `costs FILE` what that image needs, `trace
+/// FILE` the procedures that it enters on no input, and `exec IMAGE` runs an executable on the
+/// input; `gen` runs a generated text and puts its summary, `link FILE..` puts the text that modules
+/// are together, `lift FILE` the text of Core that a text with lambdas and local functions
 /// stands for, `match FILE` that of a text of equations, `types FILE` that of a text with types,
 /// which fit, and `sides FILE` the two sides where they do not; `points FILE` puts what the
 /// analysis finds. With `--stats` the cost of the run of `run` or `exec` is put behind that line,

@@ -14,6 +14,7 @@ mod needs;
 mod points;
 mod run;
 mod standing;
+mod trace;
 
 pub use command::grinc_main;
 pub use command_line::Line;

@@ -129,6 +129,13 @@ impl Machine {
         self.memory.slice(addr, len)
     }
 
+    /// The address of the next instruction.
+    pub fn pc(&self) -> u32
+        ensures { result ≡ self.now.pc }
+    {
+        self.pc
+    }
+
     /// The value of a register.
     pub fn register(&self, number: Reg) -> u32
         ensures { result ≡ reg (state_of self.now) number }

@@ -38,4 +38,6 @@ mod quiet_rows;
 #[cfg(test)]
 mod run_rows;
 #[cfg(test)]
+mod trace_rows;
+#[cfg(test)]
 mod types_rows;

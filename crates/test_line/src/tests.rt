@@ -262,6 +262,40 @@ fn lines_of_costs(rt: HostRuntime) -> Result<(), Fail> {
     Ok(())
 }
 
+/// `trace a` with a number of entries.
+const fn trace_a(units: u32) -> Option<Command<'static>> {
+    Some(Command::Trace { file: "a", units })
+}
+
+#[test]
+fn lines_of_trace(rt: HostRuntime) -> Result<(), Fail> {
+    let rows = [
+        ("grinc trace a", trace_a(1_000)),
+        ("grinc trace --units=1 -- a", trace_a(1)),
+        ("grinc trace a --units 1000000", trace_a(1_000_000)),
+        ("grinc trace --units 007 a", trace_a(7)),
+        ("grinc trace --units 0 a", None),
+        ("grinc trace --units 1000001 a", None),
+        ("grinc trace --units 1 --units 1 a", None),
+        ("grinc trace", None),
+        ("grinc trace a b", None),
+        ("grinc trace a --units", None),
+        ("grinc trace a --steps 1", None),
+        ("grinc trace a --stats", None),
+        ("grinc run a --units 1", None),
+        ("grinc costs a --units 1", None),
+        ("grinc exec a --units 1", None),
+        ("grinc gen --seed 1 --size 1 --units 1", None),
+        ("grinc check a --units 1", None),
+        ("grinc list a --after read --units 1", None),
+    ];
+    for (words, want) in rows {
+        let line = line_of(rt.alloc(), words)?;
+        assert_eq!(rt; line.command(), want, "{words}");
+    }
+    Ok(())
+}
+
 /// `gen` with a seed and a size.
 const fn gen_of(seed: u32, size: u32) -> Option<Command<'static>> {
     Some(Command::Gen { seed, size })

@@ -1,0 +1,7 @@
+use Rattle.grin_driver.proofs.Tracing.{trace_of_text}
+use Rattle.grin_driver.proofs.trace.told_trace.Goals as goal
+
+pub returns-in-Ok-clause-told : goal.returns-in-Ok-clause-told
+returns-in-Ok-clause-told c = trace_of_text _ _ c.in_ok-built.built c.in_ok-program.program _
+    c.in_ok-built.ensures.kept (rw c.as_slice.ensures.value at c.in_ok-program.ensures.loads)
+    c.in-Ok.ensures
