@@ -26,7 +26,7 @@ use Rattle.rv32_items.specs.Placed.{size_of}
 use Rattle.rv32_items.specs.Laws.{addresses_of}
 use Rattle.rv32_steps.specs.Seen.{observed_machine}
 use Rattle.grin_compile.specs.Limits.{HeapIsExceeded, FramesAreExceeded, StackIsExceeded, greatest, largest_frame, frame_bound, heap_bytes, steps_per_unit}
-use Rattle.grin_compile.specs.Code.{image_start_state, IsCodeFor, HasStops}
+use Rattle.grin_compile.specs.Code.{image_start_state, IsCodeFor, HasStops, TellsCellsBound}
 use Rattle.grin_compile.specs.Words.{start_words, code_words, StepsAreWithinWords, KeepsPaceByWords}
 use Rattle.grin_compile.specs.Stages.{passes, AreStages, IsLastSlim}
 use Rattle.grin_compile.specs.Made.{IsCodeOfStage, IsImageOf}
@@ -35,7 +35,7 @@ use Rattle.grin_compile.proofs.Tells.{tells_both, stages_keep, stage_tells, stag
 use Rattle.grin_compile.proofs.Frames.{over, few_frame_words, at_most_greatest, greatest_within}
 use Rattle.grin_compile.proofs.Sizes.{stages_outside, FewParts, few_parts, functions_inlined, few_words, few_steps}
 use Rattle.translated_form.proofs.Limits.{valid_is_limited}
-use Rattle.grin_compile.proofs.Layered.{code_for, low_code_is_carried, code_has_stops}
+use Rattle.grin_compile.proofs.Layered.{code_for, low_code_is_carried, code_has_stops, code_tells_cells_bound}
 use Rattle.grin_compile.proofs.Paced.{keeps_pace, few_code_steps, steps_within, layers_keep_pace}
 
 module _ (does : ValidTranslationPreservesRuns) (p : core.Program) (A : Solution)
@@ -180,6 +180,9 @@ module _ (does : ValidTranslationPreservesRuns) (p : core.Program) (A : Solution
         (entered_by_low l (words_at a))
         (low_code_is_carried l a cells stack items words never_missing made.selects made.placed
         few);
+    tells_cells_bound = subst
+        (λ s. TellsCellsBound l (words_at a) cells stack addresses s) begun
+        (code_tells_cells_bound l a cells stack items words made.selects made.placed few);
     steps_within = subst (λ s. StepsAreWithinWords words addresses s) begun
         (steps_within l a cells stack items words made.selects made.placed few);
     few_steps = omega (

@@ -2,37 +2,46 @@
 --
 -- Each layer tells or shows what the one above does, so the theorems are composed without looking
 -- into any layer: evaluation by need, GRIN and its stages, low code, items, words.
-use Rattle.std.proofs.Common.{◌≡◌, ℕ, ◌+◌, ◌*◌, ◌≤◌, None, List, [], ◌∷◌, ◌++◌, length, refl, sym, ap, ◌∙◌, subst, arith}
+use Rattle.std.proofs.Common.{◌≡◌, ◌≢◌, ℕ, ◌+◌, ◌*◌, ◌≤◌, Some, None, List, [], ◌∷◌, ◌++◌, length, refl, sym, ap, ◌∙◌, subst, arith}
 use Rattle.std.proofs.lemmas.Grind.{common_steps}
 use Rattle.seq.proofs.Lists.{length_map}
-use Rattle.headline.specs.Carries.{IsBytes, IsPrefixOf, MeaningResult, Meaning, ReachesResult, Comes, Carries, MeaningRefines}
+use Rattle.headline.specs.Carries.{IsBytes, IsPrefixOf, exits, MeaningResult, Meaning, ReachesResult, Comes, Carries, MeaningRefines}
 use Rattle.elf32.specs.File.{program}
 use Rattle.low_code.specs.Tree.{Program}
-use Rattle.low_code.specs.Run.{run, limited, world_of, NeverMissing}
+use Rattle.low_code.specs.Values.{Answer, gives, stops, no_alternative, out_of_units, missing, heap_full, stack_full}
+use Rattle.low_code.specs.Run.{ended, run, limited, end_of, world_of, NeverMissing}
 use Rattle.low_code.specs.Told.{meaning_of_low, entered_by_low}
 use Rattle.low_code.proofs.Limits.{limits_only_stop}
 use Rattle.low_code.proofs.MoreUnits.{one_entry_a_unit}
 use Rattle.register_alloc.specs.Assignment.{Assignment, words_at}
 use Rattle.rv32_machine.specs.Steps.{State, start_of}
-use Rattle.rv32_steps.specs.Seen.{observed_machine}
+use Rattle.rv32_machine.specs.Runs.{Exited as Exited', run as run'}
+use Rattle.rv32_steps.specs.Seen.{finish_of as finish_of', observed_machine}
 use Rattle.rv32_steps.specs.Trace.{trace, procedures_at}
 use Rattle.rv32_items.specs.declared.Item.{Item}
-use Rattle.rv32_items.specs.Course.{Layout, Point, state_at, course, NeverTrapsOn}
+use Rattle.rv32_items.specs.Course.{Layout, Point, CourseEnd, Going, Exited, Stopped, state_at, course, NeverTrapsOn}
 use Rattle.rv32_items.specs.Placed.{Placed}
-use Rattle.rv32_items.specs.Told.{observed_items}
+use Rattle.rv32_items.specs.Told.{finish_of, observed_items}
 use Rattle.rv32_items.specs.Laws.{addresses_of, MachineMeetsItems}
 use Rattle.rv32_items.proofs.Enters.{items_enter}
 use Rattle.rv32_items.proofs.Reached.{items_are_reached}
 use Rattle.rv32_items.proofs.Forward.{items_go_forward}
-use Rattle.rv32_items.proofs.LastStep.{items_leave, stops_are_behind, stops_are_last}
+use Rattle.rv32_items.proofs.LastStep.{items_leave, exit_keeps, stops_are_behind, stops_are_last}
 use Rattle.rv32_select.specs.Selects as select
-use Rattle.rv32_select.specs.Selects.{Selects, BelowHeap, start_point}
+use Rattle.rv32_select.specs.Selects.{Selects, BelowHeap, start_point, exit_of, HasNextCell}
 use Rattle.grin_compile.specs.Limits.{HeapIsExceeded, FramesAreExceeded, StackIsExceeded}
-use Rattle.grin_compile.specs.Code.{TellsLastStep, HasStops, Runs, IsCodeFor}
-use Rattle.grin_compile.specs.Layers.{LowCodeIsCarried, LayersCompose, CodeHasStops}
+use Rattle.grin_compile.specs.Code.{TellsLastStep, HasStops, Runs, IsCodeFor, IsBehindCells, TellsCellsBound}
+use Rattle.grin_compile.specs.Layers.{LowCodeIsCarried, LayersCompose, CodeHasStops, CodeTellsCellsBound}
+use Rattle.limits.specs.Limits.{heap_start}
 use Rattle.grin_compile.proofs.Composed.{reaches_kept, comes_kept}
 use Rattle.grin_compile.proofs.Selected.{comes, reaches}
 use Rattle.grin_compile.proofs.Images.{starts, code_ends, below_heap, different, in_code}
+
+-- a course that shows an exit has come to it
+exit_is : (e : CourseEnd) (code : ℕ) → exits code ≡ finish_of e → e ≡ Exited code
+exit_is (Going q) code h = cc
+exit_is (Exited c) code h = cc
+exit_is (Stopped kind) code h = cc
 
 -- a front that is as long as the whole
 whole : (xs ys : List ℕ) → IsPrefixOf xs ys → length ys ≤ length xs → ys ≡ xs
@@ -86,6 +95,73 @@ module _ (l : Program) (a : Assignment) (cells stack : ℕ) (items : List Item) 
         (items_leave items words placed start i s.flows.stops 5 3 (_, refl) (never_traps i bytes)
         (s.leaves lay placed.rises below i bytes) m);
   }
+
+  -- where the machine has exited, so has the course; and there x3 is behind the cells of the run
+  module _ (i : List ℕ) (bytes : IsBytes i) (m code : ℕ) (s' : State) (other : code ≢ 4)
+      (exited : (run' m i (state_at lay items start)).end ≡ Exited' code s') where
+    -- what an answer of the run says of the state
+    record Behind (x : Answer) : Type 0 where
+      pub fits : length (world_of x).cells ≤ cells
+      pub next : s'.regs 3 ≡ heap_start + 4 * l.width * length (world_of x).cells
+      pub not_full : code ≢ 5
+          → (end_of x ≢ ended heap_full) × (end_of x ≢ ended stack_full)
+
+    -- a run ends with this code
+    behind : (x : Answer) → exit_of (end_of x) ≡ Some code
+        → HasNextCell lay items l.width cells i start x → Behind x
+    behind (gives vs w) e h = record {
+      fits = h.0;
+      next = exit_keeps items words placed start i 0 3
+          (heap_start + 4 * l.width * length w.cells) code (_, refl) (never_traps i bytes) h.1 m
+          s' exited;
+      not_full = λ ne. ((λ f. cc), (λ f. cc));
+    }
+    behind (stops no_alternative w) e h = record {
+      fits = h.0;
+      next = exit_keeps items words placed start i 3 3
+          (heap_start + 4 * l.width * length w.cells) code (_, refl) (never_traps i bytes) h.1 m
+          s' exited;
+      not_full = λ ne. ((λ f. cc), (λ f. cc));
+    }
+    behind (stops stack_full w) e h = record {
+      fits = h.0;
+      next = exit_keeps items words placed start i 5 3
+          (heap_start + 4 * l.width * length w.cells) code (_, refl) (never_traps i bytes) h.1 m
+          s' exited;
+      not_full = λ ne. let same : code ≡ 5 = cc in absurd (ne same);
+    }
+    behind (stops heap_full w) e h = let same : code ≡ 4 = cc in absurd (other same)
+    behind (stops out_of_units w) e h = absurd (cc)
+    behind (stops missing w) e h = absurd (cc)
+
+    behind_cells : IsBehindCells l (words_at a) cells stack addresses (state_at lay items start) i m
+        code s'
+    behind_cells =
+        let k = items_enter items words placed start i s.begins (_, refl) (never_traps i bytes) refl
+        s.stand s.flows.instruction_behind m in
+        let c = course lay items k.0 i start in
+        let n = length (procedures_at s.begins c.passed) in
+        let f = s.follows lay placed.rises below i bytes k.0 in
+        let here = exit_is c.end code (sym (ap finish_of' exited) ∙ ap (λ o. o.finish) k.1.seen) in
+        let x = limited l (words_at a) cells stack i n in
+        let exit = (subst (λ e. select.EndsLikeRun i x c e) here f.finish).0 in
+        let count : n ≡ length (procedures_at addresses (trace m i (state_at lay items start)))
+        = ap length (sym k.1.entered) in
+        let b = behind x exit (s.next_cell lay placed.rises below i bytes n) in
+        let within = (limits_only_stop l (words_at a) cells stack i n).0 in
+        record {
+          fits = subst (λ units. length
+              (world_of (limited l (words_at a) cells stack i units)).cells ≤ cells) count b.fits;
+          next = subst (λ units. s'.regs 3 ≡ heap_start + 4 * l.width * length
+              (world_of (limited l (words_at a) cells stack i units)).cells) count b.next;
+          whole = λ ne. subst (λ units. limited l (words_at a) cells stack i units
+              ≡ run l (words_at a) i units) count
+              (let f = b.not_full ne in within.not_full f.0 f.1);
+        }
+
+  pub tells_cells_bound : TellsCellsBound l (words_at a) cells stack addresses image
+  tells_cells_bound = subst (λ t. TellsCellsBound l (words_at a) cells stack addresses t) begun
+      (λ i bytes m code s' other exited. behind_cells i bytes m code s' other exited)
 
   module _ (told : Meaning) (entered : List ℕ → ℕ → List ℕ) (StackFull : MeaningResult → Type 0)
       (tells : (i : List ℕ) → IsBytes i → (n : ℕ) → MeaningRefines (told i n)
@@ -206,6 +282,10 @@ low_code_is_carried l a cells stack items words never s placed few =
 pub code_has_stops : CodeHasStops
 code_has_stops l a cells stack items words s placed few
     = has_stops l a cells stack items words s placed few
+
+pub code_tells_cells_bound : CodeTellsCellsBound
+code_tells_cells_bound l a cells stack items words s placed few
+    = tells_cells_bound l a cells stack items words s placed few
 
 pub layers_compose : LayersCompose
 layers_compose told entered l a frame cells stack items words tells enters frames never s placed few

@@ -1,12 +1,14 @@
 -- Words that are the code for a meaning.
-use Rattle.std.specs.Prelude.{◌≡◌, ℕ, ◌+◌, ◌-◌, ◌*◌, ◌≤◌, ◌<◌, true, List, [], length}
+use Rattle.std.specs.Prelude.{◌≡◌, ◌≢◌, ℕ, ◌+◌, ◌-◌, ◌*◌, ◌≤◌, ◌<◌, true, List, [], length}
 use Rattle.headline.specs.Carries.{IsBytes, MeaningResult, Meaning, Comes, Carries}
 use Rattle.elf32.specs.File.{program}
 use Rattle.rv32_machine.specs.Steps.{State, start_of}
 use Rattle.rv32_machine.specs.Runs.{Exited, run}
 use Rattle.rv32_steps.specs.Seen.{observed_machine}
 use Rattle.rv32_steps.specs.Trace.{trace, is_one_of, AllDifferent, procedures_at, IsLastBefore, Forward}
-use Rattle.limits.specs.Limits.{code_start}
+use Rattle.low_code.specs.Tree as low
+use Rattle.low_code.specs.Run.{limited, world_of, run as low_run}
+use Rattle.limits.specs.Limits.{code_start, heap_start}
 
 -- where the image of these words starts, with a heap and a stack of so many bytes
 abbrev pub image_start_state : (code : List ℕ) (heap_bytes stack : ℕ) → State
@@ -54,3 +56,32 @@ pub record HasStops (code : List ℕ) (start : State) (addresses : List ℕ) : T
   pub nine_stop : stops + 4 * 9 ≡ code_start + 4 * length code
   pub before_stops : (b : ℕ) → is_one_of addresses b ≡ true → b < stops
   pub tells_last : (i : List ℕ) → IsBytes i → (m : ℕ) → TellsLastStep stops start i m
+
+-- ---- the cells of an image that has exited
+
+-- low code, over frames of so many words, in the room of an image with procedures at these addresses
+module _ (l : low.Program) (frame_words : ℕ → ℕ) (cells stack : ℕ) (addresses : List ℕ)
+    (start : State) where
+  -- a unit for each procedure that m steps enter
+  abbrev pub units_entered : (i : List ℕ) → (m : ℕ) → ℕ
+  units_entered i m = length (procedures_at addresses (trace m i start))
+
+  -- the cells that it has bound with these units
+  abbrev pub cells_bound : (i : List ℕ) → (m : ℕ) → ℕ
+  cells_bound i m =
+      length (world_of (limited l frame_words cells stack i (units_entered i m))).cells
+
+  -- In a state after m steps x3 is the address of the next cell, right behind all that are bound,
+  -- which are no more than were given; and but for a full stack nothing was short of room.
+  pub record IsBehindCells (i : List ℕ) (m code : ℕ) (s : State) : Type 0 where
+    pub fits : cells_bound i m ≤ cells
+    pub next : s.regs 3 ≡ heap_start + 4 * l.width * cells_bound i m
+    pub whole : code ≢ 5
+        → limited l frame_words cells stack i (units_entered i m)
+        ≡ low_run l frame_words i (units_entered i m)
+
+  -- so it is wherever the image has exited, but not with its heap full
+  abbrev pub TellsCellsBound : Type 0
+  TellsCellsBound =
+      (i : List ℕ) → IsBytes i → (m code : ℕ) (s : State) → code ≢ 4
+      → (run m i start).end ≡ Exited code s → IsBehindCells i m code s

@@ -25,7 +25,7 @@ use Rattle.rv32_steps.specs.Seen.{observed_machine}
 use Rattle.rv32_steps.specs.Trace.{procedures_at}
 use Rattle.rv32_select.specs.Selects.{Selects, BelowHeap, start_point}
 use Rattle.grin_compile.specs.Limits.{HeapIsExceeded, FramesAreExceeded, StackIsExceeded, heap_bytes}
-use Rattle.grin_compile.specs.Code.{image_start_state, IsCodeFor, HasStops}
+use Rattle.grin_compile.specs.Code.{image_start_state, IsCodeFor, HasStops, TellsCellsBound}
 use Rattle.grin_compile.specs.Words.{start_words, code_words, StepsAreWithinWords, KeepsPaceByWords}
 use Rattle.grin_compile.specs.Stages.{passes, AreStages, IsLastSlim}
 use Rattle.grin_compile.specs.Made.{IsImageOf}
@@ -66,6 +66,15 @@ CodeHasStops =
     → length words ≤ most_code
     → HasStops words (image_start_state words (4 * l.width * cells) stack)
     (addresses_of placed.lay items s.begins)
+
+-- and where they exit, but not with the heap full, x3 tells the cells of the low code,
+abbrev pub CodeTellsCellsBound : Type 0
+CodeTellsCellsBound =
+    (l : Program) (a : Assignment) (cells stack : ℕ) (items : List Item) (words : List ℕ)
+    → (s : Selects l a cells stack items) → (placed : Placed items words)
+    → length words ≤ most_code
+    → TellsCellsBound l (words_at a) cells stack (addresses_of placed.lay items s.begins)
+    (image_start_state words (4 * l.width * cells) stack)
 
 -- and for what tells the same and enters the same, where the frames are within a bound for each
 -- level of nesting

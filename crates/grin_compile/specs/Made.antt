@@ -17,7 +17,7 @@ use Rattle.low_code.specs.Told.{meaning_of_low, entered_by_low}
 use Rattle.low_translate.specs.Lowers.{Lowers}
 use Rattle.rv32_steps.specs.Seen.{observed_machine}
 use Rattle.grin_compile.specs.Limits.{HeapIsExceeded, FramesAreExceeded, StackIsExceeded, frame_words, largest_frame, frame_bound, heap_bytes, steps_per_unit}
-use Rattle.grin_compile.specs.Code.{image_start_state, IsCodeFor, HasStops}
+use Rattle.grin_compile.specs.Code.{image_start_state, IsCodeFor, HasStops, TellsCellsBound}
 use Rattle.grin_compile.specs.Words.{start_words, code_words, StepsAreWithinWords, KeepsPaceByWords, most_steps}
 use Rattle.grin_compile.specs.Stages.{passes, AreStages, IsLastSlim}
 use Rattle.limits.specs.Limits.{most_code}
@@ -54,6 +54,10 @@ pub record IsImageOf (p : core.Program) (A : Solution) (g : Program) (l : low.Pr
   pub within_frames :
       IsCodeOfStage g cells stack code addresses (FramesAreExceeded stack)
       (meaning_of_low l (frame_words frames)) (entered_by_low l (frame_words frames))
+  -- where it exits otherwise, x3 is behind the cells that the low code bound
+  pub tells_cells_bound :
+      TellsCellsBound l (frame_words frames) cells stack addresses
+      (image_start_state code (heap_bytes g cells) stack)
   -- after any number of steps no more are done than there are words at the start, in each procedure
   -- that was entered, each time, and nine behind;
   pub steps_within :

@@ -1,7 +1,8 @@
 // Laws on the layers, about definitions alone: functions without a body.
 
 ghost use Rattle.grin_compile.specs.Bounds.{ImageIsWithinBounds};
-ghost use Rattle.grin_compile.specs.Layers.{LayersCompose, LayersBoundSteps, LayersKeepPace, LowCodeIsCarried, MadeFromLayers, SelectionCarriesLowCode, CodeHasStops};
+ghost use Rattle.grin_compile.specs.Room.{MoreRoomRunsSame};
+ghost use Rattle.grin_compile.specs.Layers.{LayersCompose, LayersBoundSteps, LayersKeepPace, LowCodeIsCarried, MadeFromLayers, SelectionCarriesLowCode, CodeHasStops, CodeTellsCellsBound};
 ghost use Rattle.grin_translate.specs.Same.{ValidTranslationPreservesRuns};
 
 use grin_translate::translation_refines;
@@ -20,6 +21,11 @@ pub fn low_code_is_carried()
 /// They end with the stops, which tell the last step before them where no alternative was found.
 pub fn code_has_stops()
     ensures { CodeHasStops }
+{}
+
+/// Where they exit, but not with the heap full, x3 is the address behind all cells of the low code.
+pub fn code_tells_cells_bound()
+    ensures { CodeTellsCellsBound }
 {}
 
 /// Such words are code for each meaning that the low code tells, where its frames are within a bound.
@@ -48,4 +54,9 @@ pub fn made_from_layers()
 /// What an image needs is within the bounds that are known of its program alone.
 pub fn image_is_within_bounds()
     ensures { ImageIsWithinBounds }
+{}
+
+/// Where an image wasn't full, one of the same low code with more room runs the same.
+pub fn more_room_runs_same()
+    ensures { MoreRoomRunsSame }
 {}

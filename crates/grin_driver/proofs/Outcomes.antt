@@ -1,6 +1,8 @@
 -- What the end of a run says of the program.
-use Rattle.std.proofs.Common.{◌≡◌, ℕ, zero, suc, ◌+◌, ◌-◌, ◌*◌, ◌<◌, ◌≤◌, Bool, true, false, List, [], ◌∷◌, ◌++◌, length, Option, Some, None, refl, sym, ap, ◌∙◌, subst, arith, length-append}
+use Rattle.std.proofs.Common.{◌≡◌, ◌≢◌, ℕ, zero, suc, ◌+◌, ◌-◌, ◌*◌, ◌/◌, ◌<◌, ◌≤◌, Bool, true, false, List, [], ◌∷◌, ◌++◌, length, Option, Some, None, refl, sym, ap, ◌∙◌, subst, arith, length-append}
 use mathlib.Core.Logic.{inl, inr}
+use Rattle.std.specs.Prelude.{min}
+use Rattle.std.proofs.Math.Nat.{mul-div_cancel_left}
 use Rattle.arity_check.specs.Program.{Program}
 use Rattle.core_meaning.specs.Evaluation.{params}
 use Rattle.core_meaning.specs.Told.{core_program_meaning}
@@ -24,8 +26,8 @@ use Rattle.rv32_machine.specs.declared.machine.Stop.{Stop}
 use Rattle.rv32_machine.specs.declared.machine.Stop.TheVariants.{Steps, Exit, Trap}
 use Rattle.rv32_steps.specs.Seen.{observed_image, finish_of}
 use Rattle.rv32_steps.specs.Trace.{trace, IsLastBefore}
-use Rattle.grin_compile.specs.Code.{TellsLastStep}
-use Rattle.grin_compile.specs.Limits.{heap_bytes, HeapIsExceeded, StackIsExceeded, largest_frame, whole_words}
+use Rattle.grin_compile.specs.Code.{TellsLastStep, cells_bound, TellsCellsBound}
+use Rattle.grin_compile.specs.Limits.{heap_bytes, HeapIsExceeded, StackIsExceeded, largest_frame, frame_words, whole_words}
 use Rattle.grin_compile.specs.Words.{most_steps}
 use Rattle.text_commands.specs.declared.status.Status.{Status}
 use Rattle.text_commands.specs.declared.status.Status.TheVariants.{Refused, NoAlternative, Exited, OutOfMemory, ReadFault, WriteFault}
@@ -35,9 +37,10 @@ use Rattle.grin_driver.specs.Execution.{OfGiven, Stops, Fails, Execution, IsUnlo
 use Rattle.grin_driver.specs.Outcome.{IsRunRefusal, IsImageOf, IsBuildFailure, status_of_exit, RunsTo, Breaks, Says, Runs, Outcome}
 use Rattle.grin_syntax.specs.SameOutside.{names_of}
 use Rattle.grin_driver.specs.declared.cost.Cost.{Cost}
-use Rattle.grin_driver.specs.Costs.{has_stopped, state_at, AreCounts, IsRunCost, IsCostOf, ExecutesWithCounts, CountsOfExecution, CostsText, RunsAtCost}
+use Rattle.grin_driver.specs.Costs.{has_stopped, exits_within_heap, cells_before, state_at, AreCounts, IsRunCost, IsCostOf, ExecutesWithCounts, CountsOfExecution, CostsText, RunsAtCost}
 use Rattle.grin_driver.specs.declared.cost.RunCounts.{RunCounts}
 use Rattle.text_commands.proofs.Texts.{refused_long, accepted_short}
+use Rattle.limits.specs.Limits.{heap_start}
 use Rattle.grin_driver.proofs.Fronts.{took_output, gave_used, took_front}
 use Rattle.grin_driver.proofs.Unread.{takes_no_byte}
 
@@ -138,6 +141,53 @@ exits_with_3 (Exit (suc (suc (suc (suc zero))))) e = cc
 exits_with_3 (Exit (suc (suc (suc (suc (suc zero)))))) e = cc
 exits_with_3 (Exit (suc (suc (suc (suc (suc (suc k))))))) e = cc
 exits_with_3 (Trap kind pc) e = cc
+
+-- and where it exits, but not with its heap full, x3 tells the cells that its low code bound
+tells_cells : (text : List ℕ) (cells stack : ℕ) (file : List ℕ)
+    (from : IsImageOf text cells stack file) (image : Image) → Loads file image
+    → TellsCellsBound from.made.low (frame_words from.made.frames) cells (whole_words stack)
+    from.made.addresses (start_of image)
+tells_cells text cells stack file from image loads =
+    subst (λ b. TellsCellsBound from.made.low (frame_words from.made.frames) cells
+    (whole_words stack) from.made.addresses (start_of b))
+    (from.made.image.loads.program ∙ sym loads.program) from.made.image.tells_cells_bound
+
+-- so many cells stand before the address behind them
+cells_counted : (cell_bytes width bound cells next : ℕ) → cell_bytes ≡ 4 * width → 1 ≤ width
+    → bound ≤ cells → next ≡ heap_start + 4 * width * bound
+    → cells_before cell_bytes cells next ≡ bound
+cells_counted cell_bytes width bound cells next bytes some le is =
+    let behind : next - heap_start ≡ cell_bytes * bound
+    = ap (λ n. n - heap_start) is ∙ less (4 * width * bound) ∙ ap (λ b. b * bound) (sym bytes) in
+    let count : (next - heap_start) / cell_bytes ≡ bound
+    = ap (λ n. n / cell_bytes) behind ∙ mul-div_cancel_left bound (omega (arith, bytes, some)) in
+    ap (λ n. min n cells) count ∙ least bound cells le
+  where
+    less : (n : ℕ) → heap_start + n - heap_start ≡ n
+    less n = omega arith
+
+    least : (n m : ℕ) → n ≤ m → min n m ≡ n
+    least n m le = omega arith
+
+counted_by : (e : MachineEnd) (stop : Stop) (x3 bound cells next : ℕ)
+    → ((code : ℕ) (s : State) → code ≢ 4 → e ≡ exited code s
+    → (bound ≤ cells) × (s.regs 3 ≡ next))
+    → exits_within_heap (status_of_exit (status_of stop)) ≡ true → stop_at e ≡ stop
+    → reg (state_at e) 3 ≡ x3 → (bound ≤ cells) × (x3 ≡ next)
+counted_by e Steps x3 bound cells next tells within h x = absurd (cc)
+counted_by e (Trap kind pc) x3 bound cells next tells within h x = absurd (cc)
+counted_by (Going s) (Exit k) x3 bound cells next tells within h x = absurd (cc)
+counted_by (Stopped kind s) (Exit k) x3 bound cells next tells within h x = absurd (cc)
+counted_by (exited code s) (Exit k) x3 bound cells next tells within h x =
+    let same : code ≡ k = cc in
+    let t = tells code s (λ four. other k within (sym same ∙ four)) refl in
+    (t.0, sym x ∙ t.1)
+  where
+    other : (k : ℕ) → exits_within_heap (status_of_exit (status_of (Exit k))) ≡ true → k ≢ 4
+    other k within four =
+        let no : false ≡ true
+        = sym (ap (λ n. exits_within_heap (status_of_exit (status_of (Exit n)))) four) ∙ within in
+        cc
 
 -- and keeps pace with it
 pub paced : (text : List ℕ) (cells stack : ℕ) (file : List ℕ)
@@ -391,6 +441,31 @@ module _ {I K : Type 0} (i : SourceChange I) (o : SinkChange K) (text : List ℕ
         (tells_last text cells stack file from image loads bytes all steps)
         ((ran.stands bytes begins).0 ∙ exits_with_3 stop is) (are.x5 bytes begins)
 
+    -- the cells that its low code bound
+    bound : (stop : Stop) → Stops i o image steps stop given ended → (c : RunCounts)
+        → AreCounts image steps given ended c → (cost : Cost) → (at : ℕ)
+        → IsRunCost (heap_bytes from.made.g 1) cells from.made.addresses
+        (names_of from.made.g.procs) (status_of_exit (status_of stop)) at c cost
+        → exits_within_heap (status_of_exit (status_of stop)) ≡ true
+        → (bytes : List ℕ) → BeginsWith given ended bytes → IsBytes bytes
+        → cost.cells ≡ Some (cells_bound from.made.low (frame_words from.made.frames) cells
+        (whole_words stack) from.made.addresses (start_of image) bytes steps)
+    bound stop ran c are cost at is within bytes begins all =
+        let low = from.made.low in
+        let n = cells_bound low (frame_words from.made.frames) cells (whole_words stack)
+        from.made.addresses (start_of image) bytes steps in
+        let tells = tells_cells text cells stack file from image loads bytes all steps in
+        let t = counted_by (run steps bytes (start_of image)).end stop c.next_cell n cells
+        (heap_start + 4 * low.width * n)
+        (λ code s ne e. let t = tells code s ne e in (t.fits, t.next)) within
+        (ran.stands bytes begins).0
+        (are.x3 bytes begins) in
+        let width = from.made.image.lowers.width in
+        let bytes_are : heap_bytes from.made.g 1 ≡ 4 * low.width = omega (arith, width) in
+        is.cells_bound
+        ∙ ap (λ k. Some k) (cells_counted (heap_bytes from.made.g 1) low.width n cells c.next_cell
+        bytes_are (omega (arith, width)) t.0 t.1)
+
     -- the run stopped, and what it cost
     costs_to : (stop : Stop) → Stops i o image steps stop given ended
         → Said given ended (status_of_exit (status_of stop))
@@ -403,8 +478,14 @@ module _ {I K : Type 0} (i : SourceChange I) (o : SinkChange K) (text : List ℕ
       runs_from (status_of_exit (status_of Steps)) Steps ran ran says,
       (
         refl,
-        record
-            { counts = c; are = are; at = c.link - 4; stood = stood Steps ran c are; cost_is = is },
+        record {
+          counts = c;
+          are = are;
+          at = c.link - 4;
+          stood = stood Steps ran c are;
+          cost_is = is;
+          cells_are = bound Steps ran c are cost (c.link - 4) is;
+        },
       ),
     )
     costs_to (Exit zero) ran says c are cost is = (
@@ -416,8 +497,8 @@ module _ {I K : Type 0} (i : SourceChange I) (o : SinkChange K) (text : List ℕ
           are = are;
           at = c.link - 4;
           stood = stood (Exit zero) ran c are;
-          cost_is
-              = is;
+          cost_is = is;
+          cells_are = bound (Exit zero) ran c are cost (c.link - 4) is;
         },
       ),
     )
@@ -434,8 +515,8 @@ module _ {I K : Type 0} (i : SourceChange I) (o : SinkChange K) (text : List ℕ
           are = are;
           at = c.link - 4;
           stood = stood (Exit 3) ran c are;
-          cost_is
-              = is;
+          cost_is = is;
+          cells_are = bound (Exit 3) ran c are cost (c.link - 4) is;
         },
       ),
     )
@@ -448,8 +529,8 @@ module _ {I K : Type 0} (i : SourceChange I) (o : SinkChange K) (text : List ℕ
           are = are;
           at = c.link - 4;
           stood = stood (Exit 4) ran c are;
-          cost_is
-              = is;
+          cost_is = is;
+          cells_are = bound (Exit 4) ran c are cost (c.link - 4) is;
         },
       ),
     )
@@ -462,8 +543,8 @@ module _ {I K : Type 0} (i : SourceChange I) (o : SinkChange K) (text : List ℕ
           are = are;
           at = c.link - 4;
           stood = stood (Exit 5) ran c are;
-          cost_is
-              = is;
+          cost_is = is;
+          cells_are = bound (Exit 5) ran c are cost (c.link - 4) is;
         },
       ),
     )

@@ -15,7 +15,8 @@ use Rattle.text_commands.specs.declared.status.Status.{Status}
 use Rattle.text_commands.specs.declared.status.Status.TheVariants.{Done, Refused, NoAlternative, HeapFull, StackFull, StepLimit, Exited, Trapped, OutOfMemory, ReadFault, WriteFault}
 use Rattle.text_commands.specs.Operands.{HoldsOfOperandFile, text_read_limit}
 use Rattle.text_commands.specs.Telling.{IsSinglePut, StatusIsPrinted}
-use Rattle.grin_compile.specs.Limits.{heap_bytes}
+use Rattle.grin_compile.specs.Code.{cells_bound}
+use Rattle.grin_compile.specs.Limits.{heap_bytes, frame_words, whole_words}
 use Rattle.grin_driver.specs.Standing.{IsPlaceLine}
 use Rattle.grin_driver.specs.Execution.{IsUntouched, Executes, Execution}
 use Rattle.grin_driver.specs.Outcome.{Runs, Outcome}
@@ -34,6 +35,13 @@ has_stopped StepLimit = true
 has_stopped (Exited code) = true
 has_stopped (Trapped kind pc) = true
 has_stopped _ = false
+
+-- an image came to an exit, but not because its heap was full
+abbrev pub exits_within_heap : Status → Bool
+exits_within_heap Done = true
+exits_within_heap NoAlternative = true
+exits_within_heap StackFull = true
+exits_within_heap _ = false
 
 -- ---- what is counted of a run
 
@@ -139,6 +147,13 @@ module _ {I K : Type 0} (i : SourceChange I) (o : SinkChange K) where
     pub cost_is :
         IsRunCost (heap_bytes runs.from.made.g 1) cells runs.from.made.addresses
         (names_of runs.from.made.g.procs) status at counts cost
+    -- at an exit within the heap the cells are all those that the low code of the last stage bound
+    pub cells_are : exits_within_heap status ≡ true → (bytes : List ℕ)
+        → BeginsWith runs.given runs.ended bytes → IsBytes bytes →
+        let made = runs.from.made in
+        cost.cells
+        ≡ Some (cells_bound made.low (frame_words made.frames) cells (whole_words stack)
+        made.addresses (start_of runs.image) bytes steps)
 
   -- the cost of a text's run, which stopped
   abbrev pub CostsStopped : (text : List ℕ) → (cells stack steps : ℕ) → (status : Status)

@@ -66,6 +66,51 @@ fn what_images_need(rt: HostRuntime) -> Result<(), Fail> {
     Ok(())
 }
 
+/// A sum in which each number waits for the sum of those below it.
+const SUMS: &str =
+    "sum n = case n of { 0 -> 0; _ -> add n (sum (sub n 1)) }; main = Cons (sum 897) Nil;";
+
+/// `sum` gives a frame of its own to each of the 898 numbers, and the last one evaluates its number
+/// by `@sub`.
+const SUMS_COSTS: &str = "\
+start code 15
+cell 12
+most frame 12 code 66
+sum frame 8 code 58
+main frame 4 code 17
+@sub frame 12 code 26
+@print frame 8 code 66
+";
+
+/// The frames come to 8 + 898 * 8 + 12 bytes at most. The cells are one for `main`, three of it,
+/// and two for each number but 0.
+#[test]
+fn room_to_the_word(rt: HostRuntime) -> Result<(), Fail> {
+    let text = format!(in rt.alloc(); "{LISTS}{SUMS}")?;
+    let rows: [(&[&str], u8, &str, &str); 5] = [
+        (&COSTS, 0, SUMS_COSTS, ""),
+        (&["grinc", "run", "a", "--stack", "7204"], 0, "A", ""),
+        (
+            &["grinc", "run", "a", "--stack", "7203"],
+            5,
+            "",
+            "grinc: stack full\n",
+        ),
+        (&["grinc", "run", "a", "--heap", "1798"], 0, "A", ""),
+        (
+            &["grinc", "run", "a", "--heap", "1797"],
+            4,
+            "",
+            "grinc: heap full\n",
+        ),
+    ];
+    for (words, code, out, err) in rows {
+        let is_so = Outside::of(text.as_bytes()).answers(rt.alloc(), words, code, out, err)?;
+        assert!(rt; is_so, "{out}{err}");
+    }
+    Ok(())
+}
+
 #[test]
 fn refused_texts_have_no_costs(rt: HostRuntime) -> Result<(), Fail> {
     let rows: [(&str, &[&str], u8, &str); 4] = [
