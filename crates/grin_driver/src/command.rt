@@ -157,10 +157,9 @@ fn trace_file<F: Shelf, K: Sink>(
     out: &mut K,
 ) -> Status
     requires { F.permitted file.now }
-    ensures answer { HoldsOfOperandFile (shelf_change F.content F.faults shelf.old shelf.new) text_read_limit
+    ensures answer { HoldsOfOperandFile (shelf_over F.Shelf shelf.old shelf.new) text_read_limit
         (out.new ≡ out.old) file.now (λ text status.
-        IsTraceOutcome (sink_change K.put_gives K.taken K.faults out.old out.new) text units status)
-        result }
+        IsTraceOutcome (sink_over K.Sink out.old out.new) text units status) result }
     ensures later { (F.faults shelf.old ≤ F.faults shelf.new)
         × (K.faults out.old ≤ K.faults out.new) }
 {

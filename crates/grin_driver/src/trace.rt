@@ -2,7 +2,7 @@
 
 ghost use Rattle.std.specs.Prelude.{◌≡◌, ◌≤◌, ℕ, List, [], take, IfOk, IfErr};
 ghost use Rattle.elf32.specs.Rules.{Loads};
-ghost use Rattle.grin_io.specs.Changes.{sink_change};
+ghost use Rattle.text_commands.specs.Over.{sink_over};
 ghost use Rattle.limits.specs.Limits.{default_steps};
 ghost use Rattle.rv32_machine.specs.Steps.{start_of};
 ghost use Rattle.image_trace.specs.Entries.{states, entries_at};
@@ -63,8 +63,7 @@ fn told_trace(alloc: Global, text: &[u8], units: u32) -> Result<Vec<u8>, Status>
 /// that it enters, at most so many, in pieces of 4,096 bytes. What it writes is dropped. All memory
 /// is had before the first put.
 pub(crate) fn put_trace<K: Sink>(alloc: Global, text: &[u8], units: u32, out: &mut K) -> Status
-    ensures traces { IsTraceOutcome (sink_change K.put_gives K.taken K.faults out.old out.new) text.now
-        units result }
+    ensures traces { IsTraceOutcome (sink_over K.Sink out.old out.new) text.now units result }
     ensures later { K.faults out.old ≤ K.faults out.new }
 {
     match told_trace(alloc, text, units) {

@@ -82,12 +82,9 @@ returns-in-Costs-clause-answer g c =
 
 pub returns-in-Trace-clause-answer : goal.returns-in-Trace-clause-answer
 returns-in-Trace-clause-answer g c =
-    let i = (source_change g.I.Source.read_gives g.I.Source.left g.I.Source.is_over
-    g.I.Source.faults c.args.input.now c.args.input.now) in
-    let o = (sink_change g.K.Sink.put_gives g.K.Sink.taken g.K.Sink.faults c.args.out.now
-    c.trace_file.new.out) in
-    let f = (shelf_change g.F.Shelf.content g.F.Shelf.faults c.args.shelf.now
-    c.trace_file.new.shelf) in
+    let i = (source_over g.I.Source c.args.input.now c.args.input.now) in
+    let o = (sink_over g.K.Sink c.args.out.now c.trace_file.new.out) in
+    let f = (shelf_over g.F.Shelf c.args.shelf.now c.trace_file.new.shelf) in
     untold f i o _ _ _ c.of-in-Trace.result.status c.of-in-Trace.result.cost
     (ap (λ x. Some (asked_by x)) c.in-Trace.is) c.of-in-Trace.ensures.status
     c.of-in-Trace.ensures.cost

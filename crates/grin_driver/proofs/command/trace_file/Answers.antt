@@ -1,6 +1,6 @@
 use Rattle.std.proofs.Common.{ℕ, List, arith}
 use mathlib.Core.Logic.{inr}
-use Rattle.grin_io.specs.Changes.{shelf_change, sink_change}
+use Rattle.text_commands.specs.Over.{shelf_over, sink_over}
 use Rattle.grin_driver.specs.Tracing.{IsTraceOutcome}
 use Rattle.text_commands.proofs.Files.{of_file}
 use Rattle.grin_driver.proofs.Tracing.{traces_long}
@@ -8,11 +8,11 @@ use Rattle.grin_driver.proofs.command.trace_file.Goals as goal
 
 pub returns-in-Ok-clause-answer : goal.returns-in-Ok-clause-answer
 returns-in-Ok-clause-answer g c =
-    let o = sink_change g.K.Sink.put_gives g.K.Sink.taken g.K.Sink.faults c.args.out.now
+    let o = sink_over g.K.Sink c.args.out.now
     c.put_trace.new.out in
     let says = λ (text : List ℕ). IsTraceOutcome o text c.args.units c.put_trace.result in
     inr (of_file
-    (shelf_change g.F.Shelf.content g.F.Shelf.faults c.args.shelf.now c.read_file.new.shelf)
+    (shelf_over g.F.Shelf c.args.shelf.now c.read_file.new.shelf)
     1048577 c.args.file.now c.in-Ok.text.items says
     (λ text full long h. traces_long o c.in-Ok.text.items text c.args.units
     (omega (arith, full)) (omega (arith, long)) c.put_trace.result h)

@@ -5,3 +5,8 @@ pub returns-in-Ok-clause-told : goal.returns-in-Ok-clause-told
 returns-in-Ok-clause-told c = trace_of_text _ _ c.in_ok-built.built c.in_ok-program.program _
     c.in_ok-built.ensures.kept (rw c.as_slice.ensures.value at c.in_ok-program.ensures.loads)
     c.in-Ok.ensures
+
+pub returns-in_err-program-clause-untold : goal.returns-in_err-program-clause-untold
+returns-in_err-program-clause-untold c =
+    let unloaded = c.in_err-program.ensures.unloaded c.args.text.now in
+    search
