@@ -1,3 +1,4 @@
+use Rattle.std.proofs.lemmas.Result.{err_from_is_err_and}
 use Rattle.grin_driver.proofs.Tracing.{trace_of_text}
 use Rattle.grin_driver.proofs.trace.told_trace.Goals as goal
 
@@ -8,5 +9,6 @@ returns-in-Ok-clause-told c = trace_of_text _ _ c.in_ok-built.built c.in_ok-prog
 
 pub returns-in_err-program-clause-untold : goal.returns-in_err-program-clause-untold
 returns-in_err-program-clause-untold c =
-    let unloaded = c.in_err-program.ensures.unloaded c.args.text.now in
-    search
+    let q = err_from_is_err_and c.from_residual-in_err-program.result
+    c.from_residual-in_err-program.ensures.1 in
+    rw (q.1, q.2) (c.in_err-program.ensures.unloaded c.args.text.now)
