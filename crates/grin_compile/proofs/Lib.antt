@@ -19,5 +19,3 @@ pub mod Staged
 pub mod Ended
 pub mod Below
 pub mod CompiledProgram
-pub mod Fitting
-pub mod MoreRoom

@@ -14,11 +14,11 @@ use std::alloc::{AllocError, Global};
 
 /// A procedure that is entered.
 #[derive(Clone, Copy, Drop)]
-pub(crate) struct Entry {
+pub struct Entry {
     /// Its number.
-    pub(crate) procedure: usize,
+    pub procedure: usize,
     /// What x2 is there, below which its frame lies.
-    pub(crate) x2: u32,
+    pub x2: u32,
 }
 
 /// The procedure that begins at an address.

@@ -5,4 +5,5 @@
 mod entries;
 mod text;
 
+pub use entries::Entry;
 pub use text::traced;
