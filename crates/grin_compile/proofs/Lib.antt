@@ -19,3 +19,5 @@ pub mod Staged
 pub mod Ended
 pub mod Below
 pub mod CompiledProgram
+pub mod Fitting
+pub mod MoreRoom

@@ -4,6 +4,7 @@ pub mod Words
 pub mod Stages
 pub mod Passed
 pub mod Made
+pub mod Room
 pub mod Bounds
 pub mod Layers
 pub mod Lowerable

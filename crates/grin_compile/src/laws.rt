@@ -1,6 +1,7 @@
 // Laws on the layers, about definitions alone: functions without a body.
 
 ghost use Rattle.grin_compile.specs.Bounds.{ImageIsWithinBounds};
+ghost use Rattle.grin_compile.specs.Room.{MoreRoomRunsSame};
 ghost use Rattle.grin_compile.specs.Layers.{LayersCompose, LayersBoundSteps, LayersKeepPace, LowCodeIsCarried, MadeFromLayers, SelectionCarriesLowCode, CodeHasStops, CodeTellsCellsBound};
 ghost use Rattle.grin_translate.specs.Same.{ValidTranslationPreservesRuns};
 
@@ -53,4 +54,9 @@ pub fn made_from_layers()
 /// What an image needs is within the bounds that are known of its program alone.
 pub fn image_is_within_bounds()
     ensures { ImageIsWithinBounds }
+{}
+
+/// Where an image wasn't full, one of the same low code with more room runs the same.
+pub fn more_room_runs_same()
+    ensures { MoreRoomRunsSame }
 {}
