@@ -1,4 +1,8 @@
 -- Bytes that are read as tokens wherever they stand, with what those tokens mean.
+--
+-- The lemma on a piece of text says: wherever the piece stands, before whatever ends its last
+-- token, its bytes are read as tokens with this meaning. For each production of the grammar the
+-- lemma on the whole follows from those on its parts.
 use Rattle.std.proofs.Common.{◌≡◌, ℕ, suc, ◌+◌, ◌-◌, ◌<◌, ◌≤◌, Bool, true, false, eqb, List, [], ◌∷◌, ◌++◌, length, take, drop, map, Some, None, refl, sym, ap, subst, ◌∙◌, arith, inl, append_assoc, length-append}
 use Rattle.std.specs.Prelude.{codes, ◌||◌, slice_get}
 use Rattle.std.proofs.Math.Seq.{take-append_seam, take-append-add}

@@ -1,4 +1,11 @@
 -- The tokens that were read of an expression spell what the state holds.
+--
+-- The parser descends recursively. Each of its functions is compared with a machine that takes one
+-- token a step and keeps a stack of what is open. Three things are shown of the machine. The
+-- grammar derives whatever it has read. It reads whatever the grammar derives. From each of its
+-- states some tokens lead to a whole program. The last of these explains a refusal: up to the
+-- token at which the machine stops the text could have become a program, and with that token it
+-- can't.
 use Rattle.std.proofs.Common.{◌≡◌, ℕ, suc, Bool, true, false, cond, List, [], ◌∷◌, ◌++◌, refl, sym, ap, subst, ◌∙◌, append_assoc, inl, inr}
 use Rattle.std.proofs.lemmas.List.{append-nil}
 use Rattle.core_reader.specs.declared.syntax.Binder.{Binder}

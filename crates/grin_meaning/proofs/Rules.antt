@@ -1,4 +1,9 @@
 -- Two programs that run side by side: what holds of a construct, by what holds of its parts.
+--
+-- All passes are proved with these lemmas. A proof names a relation between variables of the two
+-- programs, one between their values, and one between arguments and results of each procedure. For
+-- each construct a lemma says: if its parts do the same in both programs, so does the construct.
+-- The pass shows this for the body of each procedure, and the lemmas give it for whole programs.
 use Rattle.std.proofs.Common.{◌≡◌, ℕ, suc, List, [], ◌∷◌, ◌++◌, length, Bool, Option, Some, None, slice_get, slice_set, refl, sym, ap, ◌∙◌, subst}
 use Rattle.std.specs.Prelude.{ℤ}
 use Rattle.grin_syntax.specs.declared.program.Cell.{Cell}
