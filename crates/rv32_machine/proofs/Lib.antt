@@ -9,3 +9,4 @@ pub mod Stores
 pub mod Searched
 pub mod Begun
 pub mod Registers
+pub mod Zeroed

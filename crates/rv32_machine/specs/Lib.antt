@@ -1,6 +1,7 @@
 pub mod Arithmetic
 pub mod Memory
 pub mod Starts
+pub mod Zeros
 pub mod Decoded
 pub mod Steps
 pub mod Runs

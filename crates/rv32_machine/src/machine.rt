@@ -1,6 +1,8 @@
 //! The machine, and what each instruction does to it.
 
-ghost use Rattle.std.specs.Prelude.{◌≡◌, ◌+◌, ◌*◌, ◌<◌, ◌^◌, false, true, Option, Some, IsSome, if◌then◌else◌, ◌⊎◌, IfOk};
+ghost use Rattle.std.specs.Prelude.{◌≡◌, ℕ, List, is_ok, ◌+◌, ◌*◌, ◌<◌, ◌^◌, false, true, Option, Some, IsSome, if◌then◌else◌, ◌⊎◌, IfOk};
+ghost use Rattle.grin_io.specs.Causes.{FaultsAreCounted};
+ghost use Rattle.grin_io.specs.Content.{PutTakesPrefix};
 ghost use Rattle.rv32_machine.specs.Arithmetic.{plus, pattern, load_size, load_value, store_size};
 ghost use Rattle.rv32_machine.specs.Memory.{range_bytes, IsInside, IsAllowed, bytes_of, little_endian};
 ghost use Rattle.rv32_machine.specs.Steps.{start_of, stored, given, Next, Trapped, Ended, Does, IsAt, IsRunning, state_of, reg, with_reg, go_to, put, jump, load, store, write_call, read_call, call, act, step, next_pc};
@@ -12,6 +14,7 @@ use crate::arithmetic::{imm_value, is_taken, load_value, op_value, plus, shift_v
 use crate::memory::{Access, Right};
 use crate::store::{Fetched, Memory};
 use elf32::Loaded;
+use grin_io::{Failed, Sink};
 use rv32_isa::{Imm12, Instr, LoadKind, Reg, StoreKind};
 use std::alloc::{AllocError, Global};
 use std::marker::Model;
@@ -117,16 +120,21 @@ impl Machine {
         self.waiting
     }
 
-    /// The `len` bytes from the address `addr` on, a range that is in one segment, as that of a
+    /// Puts the `len` bytes from the address `addr` on, a range that is in one segment, as that of a
     /// write call is.
-    pub fn bytes(&self, addr: u32, len: u32) -> &[u8]
-        requires { IsSome (range_bytes self.now.memory addr len) }
-        ensures { range_bytes self.now.memory addr len ≡ Some result.now }
+    pub fn put_range<K: Sink>(&mut self, addr: u32, len: u32, out: &mut K) -> Result<(), Failed>
+        requires { IsSome (range_bytes self.old.memory addr len) }
+        ensures same { self.new ≡ self.old }
+        ensures content { (bytes : List ℕ) → range_bytes self.old.memory addr len ≡ Some bytes
+            → PutTakesPrefix (K.taken out.old) (K.taken out.new) bytes result }
+        ensures exactly { (bytes : List ℕ) → range_bytes self.old.memory addr len ≡ Some bytes
+            → K.put_gives out.old bytes (is_ok result) out.new }
+        ensures cause { FaultsAreCounted (K.faults out.old) (K.faults out.new) result }
     {
         if len == 0 {
-            return &[];
+            return out.put(&[]);
         }
-        self.memory.slice(addr, len)
+        self.memory.put_to(addr, len, out)
     }
 
     /// The address of the next instruction.

@@ -167,7 +167,7 @@ impl Machine {
         ensures broken { OnErr result (self.new.over ≡ true) }
         ensures answered { self.new.waiting ≡ false }
     {
-        match out.put(self.bytes(addr, len)) {
+        match self.put_range(addr, len, out) {
             Ok(()) => Ok(()),
             Err(Failed) => {
                 self.stop();

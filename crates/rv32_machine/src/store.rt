@@ -1,8 +1,10 @@
 //! The memory of a machine: the segments of its program, and instructions that are kept decoded.
 
-ghost use Rattle.std.specs.Prelude.{◌≡◌, ℕ, ◌+◌, ◌%◌, ◌<◌, ◌≤◌, ◌^◌, Some, IsSome, true, map, length, take, drop, IfOk, OnOk, All, ◌⊎◌};
+ghost use Rattle.std.specs.Prelude.{◌≡◌, ℕ, List, is_ok, ◌+◌, ◌%◌, ◌<◌, ◌≤◌, ◌^◌, Some, IsSome, true, map, length, take, drop, IfOk, OnOk, All, ◌⊎◌};
 ghost use Rattle.std.specs.Ordering.{nat_cmp};
 ghost use Rattle.std.specs.BTreeMap.{get};
+ghost use Rattle.grin_io.specs.Causes.{FaultsAreCounted};
+ghost use Rattle.grin_io.specs.Content.{PutTakesPrefix};
 ghost use Rattle.elf32.specs.Image.{IsSoundSegment};
 ghost use Rattle.rv32_machine.specs.declared.memory.Access.{Access};
 ghost use Rattle.rv32_machine.specs.declared.memory.Right.{Right};
@@ -11,6 +13,7 @@ ghost use Rattle.rv32_machine.specs.Decoded.{IsFetchResult, IsCachedInstr};
 
 use crate::memory::{Access, Region, Right, access_at, place, read, starts, write};
 use elf32::{Loaded, Segment};
+use grin_io::{Failed, Sink};
 use rv32_isa::{Instr, decode};
 use std::alloc::{AllocError, Global};
 use std::collections::BTreeMap;
@@ -227,14 +230,19 @@ impl Memory {
         )
     }
 
-    /// The bytes of a range that may be read.
-    pub fn slice(&self, address: u32, len: u32) -> &[u8]
+    /// Puts the bytes of a range that may be read to a sink.
+    pub fn put_to<K: Sink>(&mut self, address: u32, len: u32, out: &mut K) -> Result<(), Failed>
         requires some { 0 < len }
-        requires range { IsSome (range_bytes self.now address len) }
-        ensures { range_bytes self.now address len ≡ Some result.now }
+        requires range { IsSome (range_bytes self.old address len) }
+        ensures same { self.new ≡ self.old }
+        ensures content { (bytes : List ℕ) → range_bytes self.old address len ≡ Some bytes
+            → PutTakesPrefix (K.taken out.old) (K.taken out.new) bytes result }
+        ensures exactly { (bytes : List ℕ) → range_bytes self.old address len ≡ Some bytes
+            → K.put_gives out.old bytes (is_ok result) out.new }
+        ensures cause { FaultsAreCounted (K.faults out.old) (K.faults out.new) result }
     {
         match self.locate(Right::Read, address, len) {
-            Access::At(region, offset) => self.regions[region].slice(offset, len as usize),
+            Access::At(region, offset) => self.regions[region].put_to(offset, len as usize, out),
             Access::Outside(_) => unreachable!(),
         }
     }

@@ -535,14 +535,17 @@ fn step_that_reads(machine: &mut Machine, byte: u8) -> Result<u32, Fail>
 }
 
 /// A step that writes the byte `!` from where the programs stand.
-fn step_that_writes(rt: &impl Abort, machine: &mut Machine) -> Result<(), Fail>
+fn step_that_writes(rt: &impl Abort, machine: &mut Machine, out: &mut MemSink) -> Result<(), Fail>
     requires { IsRunning machine.old }
 {
     let StepResult::Write(addr, len) = machine.step() else {
         return Err(Fail::new("no write"));
     };
     assert_eq!(rt; (addr, len), (FIRST, 1));
-    assert_eq!(rt; machine.bytes(addr, len), b"!".as_slice());
+    machine
+        .put_range(addr, len, out)
+        .map_err(|_| Fail::new("no put"))?;
+    assert_eq!(rt; out.taken(), b"!".as_slice());
     Ok(())
 }
 
@@ -554,7 +557,7 @@ fn steps_by_hand(rt: HostRuntime) -> Result<(), Fail> {
     go_on(&mut machine, 3, &mut input, &mut out)?;
     assert_eq!(rt; step_that_reads(&mut machine, b'!')?, FIRST);
     go_on(&mut machine, 2, &mut input, &mut out)?;
-    step_that_writes(&rt, &mut machine)
+    step_that_writes(&rt, &mut machine, &mut out)
 }
 
 /// A program that calls twice what stands 65,536 instructions after its first, which adds 1 to x10.
