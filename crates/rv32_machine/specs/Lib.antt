@@ -7,3 +7,4 @@ pub mod Steps
 pub mod Runs
 pub mod Plain
 pub mod OneByte
+pub mod Over

@@ -3,11 +3,12 @@
 ghost use Rattle.std.specs.Prelude.{◌≡◌, ◌<◌, ℕ, List, [], ◌∷◌, Option, Some, None, false, true, is_ok, IsSome, IfOk, IfErr, OnOk, OnErr};
 ghost use Rattle.grin_io.specs.Causes.{FaultsAreCounted};
 ghost use Rattle.grin_io.specs.Content.{PutTakesPrefix};
-ghost use Rattle.grin_io.specs.Changes.{sink_change, source_change, FaultCountsAreSound};
+ghost use Rattle.grin_io.specs.Changes.{FaultCountsAreSound};
 ghost use Rattle.grin_io.specs.declared.outside.Fault.{Fault};
 ghost use Rattle.rv32_machine.specs.Memory.{range_bytes};
 ghost use Rattle.rv32_machine.specs.Steps.{IsRunning, IsAt, given, state_of};
 ghost use Rattle.rv32_machine.specs.Runs.{IsRunAnswer, Counted, BrokenByIoFault, is_end};
+ghost use Rattle.rv32_machine.specs.Over.{source_over, sink_over};
 ghost use Rattle.rv32_machine.specs.OneByte.{ReadsOneByte};
 ghost use Rattle.rv32_machine.specs.Plain.{RunsUpToEvent};
 
@@ -38,16 +39,16 @@ impl Machine {
     ) -> Result<Stop, Fault>
         requires { IsRunning self.old }
         ensures answered { IfOk result (λ stop.
-            IsRunAnswer (source_change I.read_gives I.left I.is_over I.faults input.old input.new)
-            (sink_change K.put_gives K.taken K.faults out.old out.new)
+            IsRunAnswer (source_over I.Source input.old input.new)
+            (sink_over K.Sink out.old out.new)
             steps (state_of self.old) stop self.new) }
         ensures interrupted { IfErr result (λ fault.
-            BrokenByIoFault (source_change I.read_gives I.left I.is_over I.faults input.old input.new)
-            (sink_change K.put_gives K.taken K.faults out.old out.new)
+            BrokenByIoFault (source_over I.Source input.old input.new)
+            (sink_over K.Sink out.old out.new)
             steps (state_of self.old) fault) }
         ensures cause { FaultCountsAreSound result
-            (source_change I.read_gives I.left I.is_over I.faults input.old input.new)
-            (sink_change K.put_gives K.taken K.faults out.old out.new) }
+            (source_over I.Source input.old input.new)
+            (sink_over K.Sink out.old out.new) }
         ensures ended { IfOk result (λ stop. self.new.over ≡ is_end stop) }
         ensures broken { OnErr result (self.new.over ≡ true) }
         ensures waits_no_more { self.new.waiting ≡ false }
@@ -64,16 +65,16 @@ impl Machine {
     ) -> Result<StopWithCount, Fault>
         requires { IsRunning self.old }
         ensures counted { IfOk result (λ ran.
-            Counted (source_change I.read_gives I.left I.is_over I.faults input.old input.new)
-            (sink_change K.put_gives K.taken K.faults out.old out.new)
+            Counted (source_over I.Source input.old input.new)
+            (sink_over K.Sink out.old out.new)
             steps (state_of self.old) ran.stop ran.done self.new) }
         ensures interrupted { IfErr result (λ fault.
-            BrokenByIoFault (source_change I.read_gives I.left I.is_over I.faults input.old input.new)
-            (sink_change K.put_gives K.taken K.faults out.old out.new)
+            BrokenByIoFault (source_over I.Source input.old input.new)
+            (sink_over K.Sink out.old out.new)
             steps (state_of self.old) fault) }
         ensures cause { FaultCountsAreSound result
-            (source_change I.read_gives I.left I.is_over I.faults input.old input.new)
-            (sink_change K.put_gives K.taken K.faults out.old out.new) }
+            (source_over I.Source input.old input.new)
+            (sink_over K.Sink out.old out.new) }
         ensures ended { IfOk result (λ ran. self.new.over ≡ is_end ran.stop) }
         ensures broken { OnErr result (self.new.over ≡ true) }
         ensures waits_no_more { self.new.waiting ≡ false }
@@ -131,7 +132,7 @@ impl Machine {
         requires waiting { self.old.waiting ≡ true }
         ensures given { OnOk result ((answer : Option ℕ)
             × IsAt self.new (given (state_of self.old) answer) false false
-            × ReadsOneByte (source_change I.read_gives I.left I.is_over I.faults input.old input.new)
+            × ReadsOneByte (source_over I.Source input.old input.new)
             answer) }
         ensures refused { OnErr result (I.read_gives input.old 1 None input.new) }
         ensures cause { FaultsAreCounted (I.faults input.old) (I.faults input.new) result }
@@ -180,7 +181,7 @@ impl Machine {
 /// One byte of a source, or `None` at its end.
 fn next_byte<I: Source>(input: &mut I) -> Result<Option<u8>, Failed>
     ensures next { IfOk result (λ byte.
-        ReadsOneByte (source_change I.read_gives I.left I.is_over I.faults input.old input.new) byte) }
+        ReadsOneByte (source_over I.Source input.old input.new) byte) }
     ensures refused { OnErr result (I.read_gives input.old 1 None input.new) }
     ensures cause { FaultsAreCounted (I.faults input.old) (I.faults input.new) result }
 {
