@@ -7,7 +7,7 @@ use Rattle.rv32_machine.specs.Steps.{State, Outcome, Next, Written, Asked, Ended
 use Rattle.rv32_steps.specs.Trace.{trace, trace_after}
 use Rattle.image_trace.specs.Entries.{states, states_after}
 use Rattle.image_trace.specs.Places.{is_word}
-use Rattle.image_trace.specs.Profile.{done_within, counts_of, outside, start_line, count_lines, profile_text}
+use Rattle.image_trace.specs.Profile.{done_within, counts_of, counts_in, outside, start_line, count_lines, profile_text}
 use Rattle.image_trace.specs.declared.profile.Count.{Count}
 
 -- ---- the places of a run are those of its states
@@ -166,8 +166,8 @@ pub text_is : (names : List (List ℕ)) (begins words way : List ℕ) (noted : �
     (counts : List Count) → ((a : ℕ) → noted a ≡ times a way) → all ≡ length way
     → counts ≡ counts_of noted begins words
     → start_line (outside all counts) ++ count_lines names counts
-    ≡ profile_text names begins words way
+    ≡ profile_text names (length way) (counts_in way begins words)
 text_is names begins words way noted all counts is many are =
-    let counts_are : counts ≡ counts_of (λ a. times a way) begins words
+    let counts_are : counts ≡ counts_in way begins words
     = are ∙ ap (λ (done : ℕ → ℕ). counts_of done begins words) (fun_ext is) in
     λ i. start_line (outside (many i) (counts_are i)) ++ count_lines names (counts_are i)

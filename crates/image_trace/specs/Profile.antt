@@ -1,6 +1,6 @@
 -- The profile of a run: how often each procedure was entered, and how many instructions were done
 -- in its code.
-use Rattle.std.specs.Prelude.{ℕ, zero, suc, ◌+◌, ◌-◌, nat_eq, if◌then◌else◌, List, [], ◌∷◌, ◌++◌, map, length, codes, decimal}
+use Rattle.std.specs.Prelude.{ℕ, zero, suc, ◌+◌, ◌-◌, nat_eq, if◌then◌else◌, List, [], ◌∷◌, ◌++◌, map, codes, decimal}
 use Rattle.seq.specs.Lists.{times, sum_of}
 use Rattle.image_trace.specs.declared.profile.Count.{Count}
 
@@ -20,6 +20,10 @@ abbrev pub counts_of : (done : ℕ → ℕ) → (begins words : List ℕ) → Li
 counts_of done [] words = []
 counts_of done (begin ∷ begins) [] = []
 counts_of done (begin ∷ begins) (n ∷ words) = count_of done begin n ∷ counts_of done begins words
+
+-- the same of a run, of which `way` has the place of each instruction that was done
+abbrev pub counts_in : (way : List ℕ) → (begins words : List ℕ) → List Count
+counts_in way begins words = counts_of (λ a. times a way) begins words
 
 -- the instructions of a run of so many that were done outside of procedures
 abbrev pub outside : (all : ℕ) → List Count → ℕ
@@ -48,9 +52,7 @@ count_lines [] counts = []
 count_lines (name ∷ names) [] = []
 count_lines (name ∷ names) (c ∷ counts) = line_of_count name c ++ count_lines names counts
 
--- The profile of a run, of which `way` has the place of each instruction: a line for what was done
--- outside of procedures, and one for each procedure in which something was done.
-abbrev pub profile_text : (names : List (List ℕ)) → (begins words way : List ℕ) → List ℕ
-profile_text names begins words way =
-    let counts = counts_of (λ a. times a way) begins words in
-    start_line (outside (length way) counts) ++ count_lines names counts
+-- the profile of a run of so many instructions: a line for what was done outside of procedures, and
+-- one for each procedure in which something was done
+abbrev pub profile_text : (names : List (List ℕ)) → (all : ℕ) → List Count → List ℕ
+profile_text names all counts = start_line (outside all counts) ++ count_lines names counts

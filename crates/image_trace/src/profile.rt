@@ -5,7 +5,7 @@ ghost use Rattle.limits.specs.Limits.{default_steps};
 ghost use Rattle.rv32_machine.specs.Steps.{start_of};
 ghost use Rattle.rv32_steps.specs.Trace.{trace};
 ghost use Rattle.image_trace.specs.Places.{times_noted};
-ghost use Rattle.image_trace.specs.Profile.{counts_of, outside, number_of, start_line, count_line, line_of_count, count_lines, profile_text};
+ghost use Rattle.image_trace.specs.Profile.{counts_of, counts_in, outside, number_of, start_line, count_line, line_of_count, count_lines, profile_text};
 
 use crate::places::{Places, places_of};
 use elf32::Loaded;
@@ -132,8 +132,8 @@ pub fn profiled(
 ) -> Result<Vec<u8>, AllocError>
     requires one_each { length words.now ≡ length begins.now }
     requires named { length begins.now ≡ length names.now }
-    ensures { IfOk result (λ text. text.items ≡ profile_text names.now begins.now words.now
-        (trace default_steps [] (start_of program.now))) }
+    ensures { let way = trace default_steps [] (start_of program.now) in IfOk result (λ text.
+        text.items ≡ profile_text names.now (length way) (counts_in way begins.now words.now)) }
 {
     let places = places_of(alloc, program, words_to_end(begins, words))?;
     let counts = counts(alloc, &places, begins, words)?;
