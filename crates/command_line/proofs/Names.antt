@@ -14,11 +14,13 @@ differs name word other = go (bytes_eq name word) refl where
 pub other_name : (ask : Form → Option CommandLine) (name : List ℕ) → name ≢ codes "run"
     → name ≢ codes "check" → name ≢ codes "list"
     → name ≢ codes "build" → name ≢ codes "costs" → name ≢ codes "trace"
+    → name ≢ codes "profile"
     → name ≢ codes "exec" → name ≢ codes "gen"
     → name ≢ codes "lift"
     → name ≢ codes "match" → name ≢ codes "types" → name ≢ codes "sides" → name ≢ codes "points"
     → None ≡ by_name ask name
-other_name ask name run check list build costs trace exec gen lift equations types sides points =
+other_name ask name run check list build costs trace profile exec gen lift equations types sides
+    points =
     rw (
       differs name (codes "run") run,
       differs name (codes "check") check,
@@ -26,6 +28,7 @@ other_name ask name run check list build costs trace exec gen lift equations typ
       differs name (codes "build") build,
       differs name (codes "costs") costs,
       differs name (codes "trace") trace,
+      differs name (codes "profile") profile,
       differs name (codes "exec") exec,
       differs name (codes "gen") gen,
       differs name (codes "lift") lift,

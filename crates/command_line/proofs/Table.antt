@@ -7,7 +7,7 @@ use Rattle.std.specs.Str.{bytes_eq}
 use Rattle.std.proofs.lemmas.Slice.Eq.{bytes_eq-Decides}
 use Rattle.std.proofs.lemmas.Bool.Decides.{nat_tests}
 use Rattle.command_line.specs.Parts.{OptionOrOperand, Setting, Operand}
-use Rattle.command_line.specs.Commands.{CommandLine, BuildFile, CheckFile, CostsFile, LiftFile, MatchFile, TypesFile, SidesFile, PointsFile, Form, operands, values, takes_only, run_form, check_form, list_form, build_form, costs_form, trace_form, exec_form, gen_form, lift_form, match_form, types_form, sides_form, points_form, by_name, asked}
+use Rattle.command_line.specs.Commands.{CommandLine, BuildFile, CheckFile, CostsFile, ProfileFile, LiftFile, MatchFile, TypesFile, SidesFile, PointsFile, Form, operands, values, takes_only, run_form, check_form, list_form, build_form, costs_form, trace_form, profile_form, exec_form, gen_form, lift_form, match_form, types_form, sides_form, points_form, by_name, asked}
 use Rattle.command_line.specs.Walk.{Said, no_options, option_names, value_of, sets_only, gathered, asked_said, chosen}
 use Rattle.command_line.proofs.Entries.{unset_value, unset_sets}
 use Rattle.command_line.proofs.Gathering.{Grown, Refused, TwoOperands, TwoValues, OneUnknown, gathers, and_false}
@@ -107,6 +107,7 @@ chosen_from name parts = by_result (gathered no_options parts) (gathers parts no
         ← refused_asks build_form (sized_strict BuildFile) parts refused,
         ← refused_asks costs_form (sized_strict CostsFile) parts refused,
         ← refused_asks trace_form trace_strict parts refused,
+        ← refused_asks profile_form (file_strict ProfileFile) parts refused,
         ← refused_asks exec_form exec_strict parts refused,
         ← refused_asks gen_form gen_strict parts refused,
         ← refused_asks lift_form (file_strict LiftFile) parts refused,
@@ -123,6 +124,7 @@ chosen_from name parts = by_result (gathered no_options parts) (gathers parts no
         grown_asks build_form parts s has,
         grown_asks costs_form parts s has,
         grown_asks trace_form parts s has,
+        grown_asks profile_form parts s has,
         grown_asks exec_form parts s has,
         grown_asks gen_form parts s has,
         grown_asks lift_form parts s has,

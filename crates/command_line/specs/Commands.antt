@@ -10,7 +10,7 @@ use Rattle.command_line.specs.declared.command.Listing.{Listing}
 use Rattle.command_line.specs.declared.command.Listing.TheVariants.{Read, Stage, Code}
 use Rattle.command_line.specs.declared.files.FileOperands.{FileOperands}
 use Rattle.command_line.specs.declared.command.Command.{Command}
-use Rattle.command_line.specs.declared.command.Command.TheVariants.{Run, Check, List as Listed, Build, Costs, Trace, Exec, Gen, Link, Lift, Match, Types, Sides, Points}
+use Rattle.command_line.specs.declared.command.Command.TheVariants.{Run, Check, List as Listed, Build, Costs, Trace, Profile, Exec, Gen, Link, Lift, Match, Types, Sides, Points}
 use Rattle.limits.specs.Limits.{default_cells, most_cells, default_stack, least_stack, most_stack, default_steps, most_steps}
 
 -- what a command line asks for
@@ -21,6 +21,7 @@ pub data CommandLine : Type 0 where
   BuildFile : (file : List ℕ) → (cells stack : ℕ) → CommandLine
   CostsFile : (file : List ℕ) → (cells stack : ℕ) → CommandLine
   TraceFile : (file : List ℕ) → (units : ℕ) → CommandLine
+  ProfileFile : (file : List ℕ) → CommandLine
   ExecImage : (image : List ℕ) → (steps : ℕ) → (stats : Bool) → CommandLine
   GenRun : (seed size : ℕ) → CommandLine
   LinkFiles : (files : List (List ℕ)) → CommandLine
@@ -42,6 +43,7 @@ asked_by (Listed file after) = ListFile file.now after
 asked_by (Build file cells stack) = BuildFile file.now cells stack
 asked_by (Costs file cells stack) = CostsFile file.now cells stack
 asked_by (Trace file units) = TraceFile file.now units
+asked_by (Profile file) = ProfileFile file.now
 asked_by (Exec image steps stats) = ExecImage image.now steps stats
 asked_by (Gen seed size) = GenRun seed size
 asked_by (Link files) = LinkFiles (names_of files)
@@ -196,6 +198,10 @@ trace_form = record {
   asks = λ given. of_operand (λ file. option_map (TraceFile file) (units_of given));
 }
 
+-- `profile FILE`
+abbrev pub profile_form : Form
+profile_form = file_form ProfileFile
+
 -- `exec IMAGE`, with or without `--steps N` and `--stats`
 abbrev pub exec_form : Form
 exec_form = record {
@@ -252,6 +258,7 @@ by_name ask name =
     else (if bytes_eq name (codes "build") then ask build_form
     else (if bytes_eq name (codes "costs") then ask costs_form
     else (if bytes_eq name (codes "trace") then ask trace_form
+    else (if bytes_eq name (codes "profile") then ask profile_form
     else (if bytes_eq name (codes "exec") then ask exec_form
     else (if bytes_eq name (codes "gen") then ask gen_form
     else (if bytes_eq name (codes "lift") then ask lift_form
@@ -259,7 +266,7 @@ by_name ask name =
     else (if bytes_eq name (codes "types") then ask types_form
     else (if bytes_eq name (codes "sides") then ask sides_form
     else (if bytes_eq name (codes "points") then ask points_form
-    else None))))))))))))
+    else None)))))))))))))
 
 -- what parts with options of the form alone ask for
 abbrev pub asked : List OptionOrOperand → Form → Option CommandLine

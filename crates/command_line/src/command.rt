@@ -2,7 +2,7 @@
 
 ghost use Rattle.std.specs.Prelude.{◌≡◌, ℕ, List, map, string_bytes};
 ghost use Rattle.std.specs.Option.{option_map, option_and_then};
-ghost use Rattle.command_line.specs.Commands.{asked_by, asked, command_from, listing_of, run_form, check_form, list_form, build_form, costs_form, sized_form, trace_form, exec_form, gen_form, file_form, lift_form, match_form, types_form, sides_form, points_form, link_form, CommandLine};
+ghost use Rattle.command_line.specs.Commands.{asked_by, asked, command_from, listing_of, run_form, check_form, list_form, build_form, costs_form, sized_form, trace_form, profile_form, exec_form, gen_form, file_form, lift_form, match_form, types_form, sides_form, points_form, link_form, CommandLine};
 ghost use Rattle.command_line.specs.Parts.{parts_of};
 ghost use Rattle.command_line.specs.Walk.{said, asked_said, chosen};
 
@@ -63,6 +63,11 @@ pub enum Command<'a> {
     Trace {
         file: &'a str,
         units: u32,
+    },
+    /// `profile FILE`: write how often the image of the file enters each procedure on no input, and
+    /// how many instructions it does in it.
+    Profile {
+        file: &'a str,
     },
     /// `exec IMAGE --steps N --stats`: run an executable for at most so many instructions, and say
     /// what it cost.
@@ -143,6 +148,7 @@ impl<'a> Command<'a> {
             "build" => Command::build(arguments),
             "costs" => Command::costs(arguments),
             "trace" => Command::trace(arguments),
+            "profile" => Command::profile(arguments),
             "exec" => Command::exec(arguments),
             "gen" => Command::generate(arguments),
             "lift" => Command::lift(arguments),
@@ -209,6 +215,14 @@ impl<'a> Command<'a> {
     {
         let file = Command::file_alone(arguments)?;
         Some(Command::Check { file })
+    }
+
+    /// `profile` with its arguments.
+    fn profile(arguments: Arguments<'a>) -> Option<Command<'a>>
+        ensures { option_map asked_by result ≡ asked_said (said arguments.entry) profile_form }
+    {
+        let file = Command::file_alone(arguments)?;
+        Some(Command::Profile { file })
     }
 
     /// `lift` with its arguments.

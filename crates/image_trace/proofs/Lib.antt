@@ -1,2 +1,4 @@
+pub mod Counted
 pub mod Entered
+pub mod Shares
 pub mod Steps

@@ -47,7 +47,7 @@ fn put_entry(entries: &mut Vec<Entry>, starts: &[u32], machine: &Machine) -> Res
 }
 
 /// Does one step, where a read call finds the input's end. Whether the program goes on.
-fn goes_on(machine: &mut Machine) -> bool
+pub(crate) fn goes_on(machine: &mut Machine) -> bool
     requires { IsRunning machine.old }
     ensures states { (m : ℕ) → states (suc m) [] (state_of machine.old) ≡ state_of machine.old
         ∷ (if result then states m [] (state_of machine.new) else []) }

@@ -17,4 +17,5 @@ returns-in_ok-with_setting-in-Value c =
     first_byte c.args.text.now
     ∙ sym (c.starts_with.ensures.byte (omega arith) (omega arith) (λ w o m. m))
     ∙ c.if-starts_with.false in
-    rw c.in-Value.is (rw no_dash (ap (option_map (before Any)) c.in_ok-with_setting-in-Value.ensures))
+    rw c.in-Value.is
+    (rw no_dash (ap (option_map (before Any)) c.in_ok-with_setting-in-Value.ensures))
