@@ -111,7 +111,7 @@ tell_file() {
             at=$(tokens "$file" | awk -v rule="file$first_rule" -v name_sought="$wanted" -v place=$limit -f "$top/wrapper/more.awk")
         if [ -n "${at-}" ]; then
             find_place "$at"
-            note "$(printf '%s' "$file" | shown)" "$line" "$column" 'the first one stands here'
+            note "$(printf '%s' "$file" | shown)" "$line" "$column" 'the first one is here'
             break
         fi
         number=$((number + 1))
@@ -130,7 +130,7 @@ tell_byte() {
         58) text='`:` stands in a signature, `sig f : ..`: `grinc types` reads such texts'
             [ "${3-}" != 58 ] || text='there is no `::`: a list of x and others is `Cons x xs`' ;;
         34) text='there are no texts: one is the list of its bytes, as `Cons 72 (Cons 105 Nil)`' ;;
-        39) text="\`'\` stands behind the first letter of a name; a character is its number, as 65" ;;
+        39) text="\`'\` may only follow the first letter of a name; a character is its number, as 65" ;;
         91 | 93) text='there are no signs for lists: one of 1 and 2 is `Cons 1 (Cons 2 Nil)`' ;;
         44) text='there are no tuples: declare a constructor, `data Pair 2;`, and write `Pair a b`' ;;
         43) text='there are no operators: a sum is `add a b`' ;;
@@ -158,7 +158,7 @@ begin_at() {
     begun=$(tail -c +$(($1 + 1)) <"$source" | head -c $(($2 - $1)) | tr '\000\t\r' '   ' | tr -s ' \n')
 }
 
-# What was found at the place, of which no more than 80 bytes are shown, and the tokens with which a program goes on there, by the
+# What was found at the place, of which no more than 80 bytes are shown, and the tokens that are expected there, by the
 # command that takes such texts.
 tell_expected() {
     grammar=$command declares=data from=0 others='' last=''
@@ -189,8 +189,8 @@ tell_expected() {
     found=$(tail -c +$((place + 1)) <"$file" | head -c 81 |
         sed -nE "1s/^([A-Za-z_][A-Za-z0-9_']*|-?[0-9]+|->|.).*/\\1/p")
     [ ${#found} -le 80 ] || found="${found%?}..."
-    if [ -n "$at_end" ]; then found='the text ends'; else found="found \`$found\`,"; fi
-    note "$name" "$line" "$column" "$found where a program goes on with ${others:+$others or }$last"
+    if [ -n "$at_end" ]; then found='the text ends here'; else found="found \`$found\`"; fi
+    note "$name" "$line" "$column" "$found, expected ${others:+$others or }$last"
 }
 
 # Of what doesn't go on: an operator that there isn't, an open bracket, and a `;` that is missing.
@@ -213,7 +213,7 @@ tell_missing() {
     goes_on_with "$1" || return
     own_line=$line own_column=$column
     find_place "$missing"
-    note "$name" "$line" "$column" '`;` is missing here, behind the line before'
+    note "$name" "$line" "$column" '`;` is missing here, at the end of the line before'
     line=$own_line column=$own_column
 }
 

@@ -105,7 +105,7 @@ function takes(p, wanted, what) {
 }
 
 function at_most(p, count, what) {
-    if (count > 12) print "here " (is_atom(p) ? word[p] " has " : "here are ") counted(count, what) ", and 12 are the most"
+    if (count > 12) print "here " (is_atom(p) ? word[p] " has " : "here are ") counted(count, what) ", and at most 12 are allowed"
 }
 
 # The equation at p, and the first one of its function, by their patterns.
@@ -113,7 +113,7 @@ function equations(p, i) {
     print "here here " word[p] " has " counted(atoms_after(p), "pattern") ", and in its first equation it has " atoms_after(i)
 }
 
-function first(i) { if (i) print at[i], "the first one stands here" }
+function first(i) { if (i) print at[i], "the first one is here" }
 function at_place(i, text) { if (i) print at[i], text }
 
 # The bracket that is open before p, where a token stands at p that can't stand in it, the text ends there, or a name begins the line

@@ -52,25 +52,25 @@ function distance(a, b, i, j, old, row, least) {
 function nearest(word, list, part, n, i, found) {
     n = split(list, part, " ")
     for (i = 1; i <= n; i++) if (length(word) < 30 && distance(word, part[i]) <= (length(word) > 4 ? 2 : 1)) found = part[i]
-    return found ? "; `" found "` is one" : ""
+    return found ? "; did you mean `" found "`?" : ""
 }
 
 # Whether the value is one of the option.
 function value(option, word, side) {
     if (option == "--after") {
-        if (!is_in(word, passes) || word == "") said("behind `--after` one of these stands, and not `" word "`: " listed(passes) nearest(word, passes))
+        if (!is_in(word, passes) || word == "") said("`--after` takes one of these, and not `" word "`: " listed(passes) nearest(word, passes))
         return
     }
     split(range[option], side, " ")
     if (word !~ /^[0-9]+$/ || length(word) > 20 || word + 0 < side[1] + 0 || word + 0 > side[2] + 0)
-        said("behind `" option "` a number from " grouped(side[1]) " to " grouped(side[2]) " stands, and not `" word "`")
+        said("`" option "` takes a number from " grouped(side[1]) " to " grouped(side[2]) ", and not `" word "`")
 }
 
 BEGIN {
     commands()
-    if (ARGC < 2) said("a command stands here: " listed(many))
+    if (ARGC < 2) said("the command is missing; the commands are " listed(many))
     command = ARGV[1]
-    if (!is_in(command, many) || command == "") said("`" command "` is no command" nearest(command, many) "; these are: " listed(many))
+    if (!is_in(command, many) || command == "") said("`" command "` is no command; the commands are " listed(many) nearest(command, many))
     for (i = 2; i < ARGC; i++) {
         word = ARGV[i]
         if (word == "") said("word " i " is empty")
@@ -79,23 +79,23 @@ BEGIN {
         option = word
         sub(/=.*/, "", option)
         if (!is_in(option, options[command])) {
-            if (option !~ /^--/) said("`" word "` is no option of `" command "`; a file of this name stands behind `--`")
-            said("`" option "` is no option of `" command "`" nearest(option, options[command]) \
-                (options[command] ? "; it has " listed(options[command]) : ", which has none"))
+            if (option !~ /^--/) said("`" word "` is no option of `" command "`; write a file of this name after `--`")
+            said("`" option "` is no option of `" command "`" \
+                (options[command] ? "; it has " listed(options[command]) : ", which has none") nearest(option, options[command]))
         }
-        if (there[option]++) said("`" option "` stands twice")
+        if (there[option]++) said("`" option "` is given twice")
         if (option == "--stats") {
             if (word != option) said("`--stats` takes no value")
             continue
         }
         if (word != option) { value(option, substr(word, length(option) + 2)); continue }
-        if (++i == ARGC || ARGV[i] ~ /^-./) said("behind `" option "` its value is missing")
+        if (++i == ARGC || ARGV[i] ~ /^-./) said("`" option "` needs a value after it")
         value(option, ARGV[i])
     }
     wanted = operand[command]
-    if (count && !wanted) said("`" command "` takes no file, and here is `" name[1] "`")
+    if (count && !wanted) said("`" command "` takes no file, but `" name[1] "` is given")
     if (wanted && !count) said("`" command "` needs " (command == "link" ? "one or more files" : "one " wanted))
-    if (command == "link" && count > 64) said("here are " count " files, and 64 are the most")
+    if (command == "link" && count > 64) said(count " files are given, and at most 64 are allowed")
     if (command != "link" && count > 1) said("`" command "` takes one " wanted ", and `" name[2] "` is a second one")
     n = split(needed[command], part, " ")
     for (i = 1; i <= n; i++) if (!(part[i] in there)) said("`" command "` needs `" part[i] "`")
