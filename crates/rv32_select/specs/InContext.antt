@@ -7,23 +7,27 @@ use Rattle.low_code.specs.declared.program.LowTest.{LowTest}
 use Rattle.low_code.specs.declared.program.LowArm.{LowArm}
 use Rattle.low_code.specs.declared.program.LowBlock.{LowBlock}
 use Rattle.low_code.specs.declared.program.LowStmt.{LowStmt}
-use Rattle.low_code.specs.Tree.{Code, Arms, Program, program_of, code_of, arm_of, before_of, arms_before}
+use Rattle.low_code.specs.Tree.{Code, prim, Arms, Program, program_of, code_of, arm_of, before_of, arms_before}
 use Rattle.register_alloc.specs.Assignment.{Assignment, place_of}
 use Rattle.rv32_items.specs.declared.Item.{Item}
 use Rattle.rv32_select.specs.declared.source.Source.{Source}
-use Rattle.rv32_select.specs.declared.source.Continuation.{Continuation}
+use Rattle.rv32_select.specs.declared.source.Destination.{Destination}
 use Rattle.rv32_select.specs.declared.context.Context.{Context}
 use Rattle.rv32_select.specs.declared.context.Frame.{Frame}
 use Rattle.rv32_select.specs.declared.blocks.Selection.{Selection}
 use Rattle.rv32_select.specs.declared.search.Search.{Search}
 use Rattle.rv32_select.specs.declared.decides.Comparison.{Comparison}
 use Rattle.rv32_select.specs.IsSelected.{source, sources, places, argument_spots_of, result_spots_of, tests_items, heap_end, heap_full, no_alternative}
-use Rattle.rv32_select.specs.Writable.{Writable, CanWrite, HavePlaces, OperandPlaced, OperandsPlaced, TestsPlaced, TargetsPlaced, CallPlaced, Placed, ArmsPlaced, ArmPlaced, BlocksPlaced}
+use Rattle.rv32_select.specs.Writable.{HavePlaces, OperandPlaced, OperandsPlaced, TestsPlaced, TargetsPlaced, CallPlaced, Placed, ArmsPlaced, ArmPlaced, BlocksPlaced}
 use Rattle.rv32_select.specs.Emitting.{Called, TailCalled, Emitted, EmittedArms, EmittedLast, EmittedDecidedFirst, EmittedDecidedLast, Searched, Before, ArmsBefore, EmittedProcedure}
 
 -- the arms of a choice, of the code's lists
 abbrev pub alternatives : List LowArm → (otherwise : LowBlock) → Arms
 alternatives arms otherwise = arms_before (map arm_of arms) (code_of otherwise)
+
+-- a comparison before a block
+abbrev pub compared : Comparison → Code → Code
+compared c = prim c.operation c.variable c.left c.right
 
 module _ (self : Context) where
   abbrev pub program : Program
@@ -62,12 +66,6 @@ module _ (self : Context) where
   tests_in = tests_items program assignment
 
   -- what has to be, so that they can be written
-
-  abbrev pub WritableIn : Type 0
-  WritableIn = Writable program assignment
-
-  abbrev pub CanWriteIn : Type 0
-  CanWriteIn = CanWrite program assignment self.cells
 
   abbrev pub HavePlacesIn : List ℕ → Type 0
   HavePlacesIn = HavePlaces program assignment
@@ -122,42 +120,42 @@ module _ (self : Context) (frame : Frame) where
   abbrev pub TailCalledIn : (proc : ℕ) → List Operand → (old new : List Item) → Type 0
   TailCalledIn = TailCalled (program self) (assignment self) frame.framed frame.words
 
-  abbrev pub EmittedIn : (to : List Spot) → Continuation → Code → (old new : Selection) → Type 0
-  EmittedIn to way c old new =
+  abbrev pub EmittedIn : Destination → Code → (old new : Selection) → Type 0
+  EmittedIn to c old new =
       Emitted (program self) (assignment self) self.cells self.stack frame.words frame.saved
-      frame.framed to way c old.code old.next new.code new.next
+      frame.framed to.spots.now to.way c old.code old.next new.code new.next
 
-  abbrev pub EmittedArmsIn : (to : List Spot) → Continuation → Arms → (old new : Selection)
+  abbrev pub EmittedArmsIn : Destination → Arms → (old new : Selection)
       → Type 0
-  EmittedArmsIn to way arms old new =
+  EmittedArmsIn to arms old new =
       EmittedArms (program self) (assignment self) self.cells self.stack frame.words frame.saved
-      frame.framed to way arms old.code old.next new.code new.next
+      frame.framed to.spots.now to.way arms old.code old.next new.code new.next
 
-  abbrev pub EmittedLastIn : (to : List Spot) → Continuation → Arms → (old new : Selection)
+  abbrev pub EmittedLastIn : Destination → Arms → (old new : Selection)
       → Type 0
-  EmittedLastIn to way arms old new =
+  EmittedLastIn to arms old new =
       EmittedLast (program self) (assignment self) self.cells self.stack frame.words frame.saved
-      frame.framed to way arms old.code old.next new.code new.next
+      frame.framed to.spots.now to.way arms old.code old.next new.code new.next
 
-  abbrev pub EmittedDecidedFirstIn : Comparison → (to : List Spot) → Continuation → Arms
+  abbrev pub EmittedDecidedFirstIn : Comparison → Destination → Arms
       → (old new : Selection) → Type 0
-  EmittedDecidedFirstIn comparison to way arms old new =
+  EmittedDecidedFirstIn comparison to arms old new =
       EmittedDecidedFirst (program self) (assignment self) self.cells self.stack frame.words
       frame.saved frame.framed comparison.operation (source_in self comparison.left)
-      (source_in self comparison.right) to way arms old.code old.next new.code new.next
+      (source_in self comparison.right) to.spots.now to.way arms old.code old.next new.code new.next
 
-  abbrev pub EmittedDecidedLastIn : Comparison → (to : List Spot) → Continuation → Arms
+  abbrev pub EmittedDecidedLastIn : Comparison → Destination → Arms
       → (old new : Selection) → Type 0
-  EmittedDecidedLastIn comparison to way arms old new =
+  EmittedDecidedLastIn comparison to arms old new =
       EmittedDecidedLast (program self) (assignment self) self.cells self.stack frame.words
       frame.saved frame.framed comparison.operation (source_in self comparison.left)
-      (source_in self comparison.right) to way arms old.code old.next new.code new.next
+      (source_in self comparison.right) to.spots.now to.way arms old.code old.next new.code new.next
 
-  abbrev pub SearchedIn : Search → (to : List Spot) → Continuation → List LowArm
+  abbrev pub SearchedIn : Search → Destination → List LowArm
       → (old new : Selection) → Type 0
-  SearchedIn search to way arms old new =
+  SearchedIn search to arms old new =
       Searched (program self) (assignment self) self.cells self.stack frame.words frame.saved
-      frame.framed search.miss search.word to way search.low search.high arms old.code old.next
+      frame.framed search.miss search.word to.spots.now to.way search.low search.high arms old.code old.next
       new.code new.next
 
   abbrev pub BeforeIn : (before : Code → Code) → (old new : Selection) → Type 0
@@ -165,8 +163,8 @@ module _ (self : Context) (frame : Frame) where
       Before (program self) (assignment self) self.cells self.stack frame.words frame.saved
       frame.framed before old.code old.next new.code new.next
 
-  abbrev pub ArmsBeforeIn : (to : List Spot) → Continuation → (before : Arms → Arms)
+  abbrev pub ArmsBeforeIn : Destination → (before : Arms → Arms)
       → (old new : Selection) → Type 0
-  ArmsBeforeIn to way before old new =
+  ArmsBeforeIn to before old new =
       ArmsBefore (program self) (assignment self) self.cells self.stack frame.words frame.saved
-      frame.framed to way before old.code old.next new.code new.next
+      frame.framed to.spots.now to.way before old.code old.next new.code new.next

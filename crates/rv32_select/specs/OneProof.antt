@@ -1,6 +1,6 @@
 -- That a program and its places can be written, and that spots are targets, has one proof at most:
 -- a fact of a type has to.
-use Rattle.std.specs.Prelude.{ℕ, List, [], ◌∷◌}
+use Rattle.std.specs.Prelude.{◌≡◌, ℕ, List, [], ◌∷◌}
 use Rattle.std.specs.Coded.{×_prop, Π_prop, Unit-prop, le_prop}
 use Rattle.std.proofs.Props.{props}
 use Rattle.parallel_move.specs.declared.Spot.{Spot}
@@ -11,6 +11,12 @@ use Rattle.low_code.specs.Tree.{Code, set, prim, load, save, take, put, get, cal
 use Rattle.register_alloc.specs.Assignment.{Assignment}
 use Rattle.rv32_select.specs.Ranges.{IsSpot, AreSpots, AreRegisters, AllSpotsDiffer, AreTargets}
 use Rattle.rv32_select.specs.Writable.{HasPlace, HavePlaces, OperandPlaced, OperandsPlaced, TestsPlaced, TargetsPlaced, CallPlaced, Placed, ArmsPlaced, ProcedurePlaced, Writable, CanWrite}
+
+triple_prop : {A B C : Type 0} → IsProp A → IsProp B → IsProp C → IsProp (A × B × C)
+triple_prop p q r x y i = (p x.0 y.0 i, q x.1 y.1 i, r x.2 y.2 i)
+
+same_numbers : (n m : ℕ) → IsProp (n ≡ m)
+same_numbers n m = Prim.hlevel props
 
 IsSpot-prop : (s : Spot) → IsProp (IsSpot s)
 IsSpot-prop s = Prim.hlevel props
@@ -60,35 +66,45 @@ module _ (l : Program) (a : Assignment) where
   CallPlaced-prop : (f site : ℕ) (bs : List Operand) (xs : List ℕ)
       → IsProp (CallPlaced l a f site bs xs)
   CallPlaced-prop f site bs xs =
-      ×_prop le_prop (×_prop le_prop (×_prop (AreRegisters-prop _)
-      (×_prop le_prop (×_prop (OperandsPlaced-prop bs) (TargetsPlaced-prop xs)))))
+      λ x y i. (
+        le_prop x.0 y.0 i,
+        le_prop x.1 y.1 i,
+        AreRegisters-prop _ x.2 y.2 i,
+        le_prop x.3 y.3 i,
+        OperandsPlaced-prop bs x.4 y.4 i,
+        TargetsPlaced-prop xs x.5 y.5 i,
+      )
 
   mutual
     Placed-prop : (c : Code) → IsProp (Placed l a c)
     Placed-prop (set x b c) =
-        ×_prop (HasPlace-prop x) (×_prop (OperandPlaced-prop b) (Placed-prop c))
+        triple_prop (HasPlace-prop x) (OperandPlaced-prop b) (Placed-prop c)
     Placed-prop (prim f x b d c) =
-        ×_prop (HasPlace-prop x)
-        (×_prop (OperandPlaced-prop b) (×_prop (OperandPlaced-prop d) (Placed-prop c)))
+        λ y z i. (
+          HasPlace-prop x y.0 z.0 i,
+          OperandPlaced-prop b y.1 z.1 i,
+          OperandPlaced-prop d y.2 z.2 i,
+          Placed-prop c y.3 z.3 i,
+        )
     Placed-prop (load x b k c) =
-        ×_prop (HasPlace-prop x) (×_prop (OperandPlaced-prop b) (Placed-prop c))
+        triple_prop (HasPlace-prop x) (OperandPlaced-prop b) (Placed-prop c)
     Placed-prop (save b k d c) =
-        ×_prop (OperandPlaced-prop b) (×_prop (OperandPlaced-prop d) (Placed-prop c))
-    Placed-prop (take xs c) = ×_prop (HavePlaces-prop xs) (×_prop le_prop (Placed-prop c))
+        triple_prop (OperandPlaced-prop b) (OperandPlaced-prop d) (Placed-prop c)
+    Placed-prop (take xs c) = triple_prop (HavePlaces-prop xs) le_prop (Placed-prop c)
     Placed-prop (put b c) = ×_prop (OperandPlaced-prop b) (Placed-prop c)
     Placed-prop (get x c) = ×_prop (HasPlace-prop x) (Placed-prop c)
     Placed-prop (call f site bs xs c) = ×_prop (CallPlaced-prop f site bs xs) (Placed-prop c)
     Placed-prop (join xs b c) =
-        ×_prop (TargetsPlaced-prop xs) (×_prop (Placed-prop b) (Placed-prop c))
+        triple_prop (TargetsPlaced-prop xs) (Placed-prop b) (Placed-prop c)
     Placed-prop (give bs) = OperandsPlaced-prop bs
-    Placed-prop (tail f site bs) = ×_prop le_prop (×_prop le_prop (OperandsPlaced-prop bs))
+    Placed-prop (tail f site bs) = triple_prop le_prop le_prop (OperandsPlaced-prop bs)
     Placed-prop (choose ts) = ArmsPlaced-prop ts
     Placed-prop fail = Unit-prop
 
     ArmsPlaced-prop : (ts : Arms) → IsProp (ArmsPlaced l a ts)
     ArmsPlaced-prop (otherwise c) = Placed-prop c
     ArmsPlaced-prop (arm ts c others) =
-        ×_prop (TestsPlaced-prop ts) (×_prop (Placed-prop c) (ArmsPlaced-prop others))
+        triple_prop (TestsPlaced-prop ts) (Placed-prop c) (ArmsPlaced-prop others)
 
   ProcedurePlaced-prop : (q : Procedure) → IsProp (ProcedurePlaced l a q)
   ProcedurePlaced-prop q x y i = record {
@@ -98,7 +114,7 @@ module _ (l : Program) (a : Assignment) where
     bound = HavePlaces-prop _ x.bound y.bound i;
     slots = le_prop x.slots y.slots i;
     arguments = AreTargets-prop _ x.arguments y.arguments i;
-    body = Placed-prop _ x.body y.body i;
+    body = Placed-prop q.body x.body y.body i;
   }
 
   Writable-prop : IsProp (Writable l a)
@@ -106,8 +122,8 @@ module _ (l : Program) (a : Assignment) where
     width = ×_prop le_prop le_prop x.width y.width i;
     procedures = λ f q e. ProcedurePlaced-prop q (x.procedures f q e) (y.procedures f q e) i;
     few_procedures = le_prop x.few_procedures y.few_procedures i;
-    frames = (Prim.hlevel props) x.frames y.frames i;
-    masks = (Prim.hlevel props) x.masks y.masks i;
+    frames = same_numbers _ _ x.frames y.frames i;
+    masks = same_numbers _ _ x.masks y.masks i;
     words = λ f. le_prop (x.words f) (y.words f) i;
     start = le_prop x.start y.start i;
   }

@@ -2,13 +2,12 @@
 #![tactic(auto, using(low_code::proofs::TreeOf::tree_of, crate::proofs::Plain::plain_append, crate::proofs::Emitted::emitted), unfolding(crate::specs::Emit::plain))]
 
 ghost use Rattle.std.specs.Prelude.{◌≡◌, ◌++◌, [], ◌∷◌, ◌<◌, ◌+◌, ◌*◌, ◌≤◌, suc, length, map, slice_get, Some, OnOk, IfOk, true, false, if◌then◌else◌};
-ghost use Rattle.low_code.specs.Tree.{prim, join, choose, before_of, end_of, code_of, arm_of};
+ghost use Rattle.low_code.specs.Tree.{join, choose, before_of, end_of, code_of, arm_of};
 ghost use Rattle.rv32_select.specs.Emit.{take_items};
 ghost use Rattle.rv32_select.specs.IsSelected.{moves_between as moves_across};
 ghost use Rattle.rv32_select.specs.Decides.{decides as decides_all};
 ghost use Rattle.rv32_select.specs.Ranges.{AreTargets};
-ghost use Rattle.rv32_select.specs.Writable.{FrameFits};
-ghost use Rattle.rv32_select.specs.InContext.{alternatives, heap_end_in, heap_full_in, no_alternative_in, source_in, sources_in, places_in, argument_spots_in, result_spots_in, tests_in, WritableIn, CanWriteIn, HavePlacesIn, TargetsPlacedIn, OperandPlacedIn, OperandsPlacedIn, ComparisonPlacedIn, TestsPlacedIn, CallPlacedIn, PlacedIn, StmtPlacedIn, ArmPlacedIn, ArmsPlacedIn, BlocksPlacedIn, CalledIn, TailCalledIn, EmittedIn, EmittedArmsIn, EmittedLastIn, EmittedDecidedFirstIn, EmittedDecidedLastIn, SearchedIn, BeforeIn, ArmsBeforeIn};
+ghost use Rattle.rv32_select.specs.InContext.{alternatives, compared, heap_end_in, heap_full_in, no_alternative_in, source_in, sources_in, places_in, argument_spots_in, result_spots_in, tests_in, HavePlacesIn, TargetsPlacedIn, OperandPlacedIn, OperandsPlacedIn, ComparisonPlacedIn, TestsPlacedIn, CallPlacedIn, PlacedIn, StmtPlacedIn, ArmPlacedIn, ArmsPlacedIn, BlocksPlacedIn, CalledIn, TailCalledIn, EmittedIn, EmittedArmsIn, EmittedLastIn, EmittedDecidedFirstIn, EmittedDecidedLastIn, SearchedIn, BeforeIn, ArmsBeforeIn};
 ghost use Rattle.rv32_select.specs.Emitting.{EmitsMoves, EmitsParallelMoves, one_arm, TestsAscend};
 ghost use Rattle.rv32_select.specs.Halves.{last_test as last_test_items};
 
@@ -18,7 +17,7 @@ use crate::decides::{Comparison, condition, deciding_last_comparison, other_cond
 use crate::links::continued_by_jump;
 use crate::rare::first_arm_goes_last;
 use crate::search::{Search, extra_words, number_of, searched_word};
-use crate::source::Continuation;
+use crate::source::{Continuation, Destination};
 use crate::statements::spared_by_offset;
 use limits::HEAP_START;
 use low_code::{LowArm, LowBlock, LowEnd, LowStmt, LowTest, Operand};
@@ -49,21 +48,18 @@ impl Selection {
 
 impl<'a> Context<'a> {
     pub(crate) fn heap_end(&self) -> u32
-        requires { CanWriteIn self.now }
         ensures { result ≡ heap_end_in self.now }
     {
         HEAP_START + 4 * self.low.width * self.cells
     }
 
     pub(crate) fn no_alternative(&self) -> u32
-        requires { WritableIn self.now }
         ensures { result ≡ no_alternative_in self.now }
     {
         self.low.procs.len() as u32
     }
 
     pub(crate) fn heap_full(&self) -> u32
-        requires { WritableIn self.now }
         ensures { result ≡ heap_full_in self.now }
     {
         1 + self.low.procs.len() as u32
@@ -72,10 +68,9 @@ impl<'a> Context<'a> {
     /// Words of operands go to spots at once.
     fn send(&self, code: &mut Code, to: &[Spot], operands: &[Operand]) -> Result<(), AllocError>
         requires targets { AreTargets to.now }
-        requires writable { WritableIn self.now }
         requires operands { OperandsPlacedIn self.now operands.now }
-        ensures { OnOk result (EmitsParallelMoves to.now (sources_in self.now operands.now) code.old
-            code.new) }
+        ensures { OnOk result
+            (EmitsParallelMoves to.now (sources_in self.now operands.now) code.old code.new) }
     {
         let from = self.sources(operands)?;
         code.send(self.alloc, to, from.as_slice())
@@ -88,11 +83,10 @@ impl<'a> Context<'a> {
         proc: u32,
         operands: &[Operand],
     ) -> Result<(), AllocError>
-        requires writable { WritableIn self.now }
         requires proc { proc < length self.now.low.now.procs }
         requires operands { OperandsPlacedIn self.now operands.now }
-        ensures { OnOk result (EmitsParallelMoves (argument_spots_in self.now proc) (sources_in
-            self.now operands.now) code.old code.new) }
+        ensures { OnOk result (EmitsParallelMoves (argument_spots_in self.now proc)
+            (sources_in self.now operands.now) code.old code.new) }
     {
         let to = self.argument_spots(proc)?;
         self.send(code, to.as_slice(), operands)
@@ -100,11 +94,10 @@ impl<'a> Context<'a> {
 
     /// A procedure's results go to variables.
     fn take_results(&self, code: &mut Code, proc: u32, variables: &[u32]) -> Result<(), AllocError>
-        requires writable { WritableIn self.now }
         requires proc { proc < length self.now.low.now.procs }
         requires variables { TargetsPlacedIn self.now variables.now }
-        ensures { OnOk result (EmitsMoves (moves_across (places_in self.now variables.now)
-            (result_spots_in self.now proc)) code.old code.new) }
+        ensures { OnOk result (EmitsMoves (moves_across
+            (places_in self.now variables.now) (result_spots_in self.now proc)) code.old code.new) }
     {
         let to = self.spots(variables)?;
         let results = self.low.procs.as_slice()[proc as usize].results;
@@ -122,11 +115,9 @@ impl<'a> Context<'a> {
         operands: &[Operand],
         variables: &[u32],
     ) -> Result<(), AllocError>
-        requires writable { WritableIn self.now }
-        requires frame { FrameFits frame.words frame.saved }
         requires call { CallPlacedIn self.now proc site operands.now variables.now }
-        ensures { OnOk result (CalledIn self.now frame proc site operands.now variables.now code.old
-            code.new) }
+        ensures { OnOk result
+            (CalledIn self.now frame proc site operands.now variables.now code.old code.new) }
     {
         let registers = self.places.saved(site);
         code.save_registers(frame.saved, registers)?;
@@ -148,8 +139,6 @@ impl<'a> Context<'a> {
         proc: u32,
         operands: &[Operand],
     ) -> Result<(), AllocError>
-        requires writable { WritableIn self.now }
-        requires frame { frame.words < 67108864 }
         requires proc { proc < length self.now.low.now.procs }
         requires operands { OperandsPlacedIn self.now operands.now }
         ensures { OnOk result (TailCalledIn self.now frame proc operands.now code.old code.new) }
@@ -163,7 +152,6 @@ impl<'a> Context<'a> {
     }
 
     fn take(&self, code: &mut Code, variables: &[u32]) -> Result<(), AllocError>
-        requires writable { WritableIn self.now }
         requires variables { HavePlacesIn self.now variables.now }
         requires bytes { 4 * self.now.low.now.width * length variables.now < 4294967296 }
         ensures { OnOk result (code.new ≡ code.old ++ take_items (4 * self.now.low.now.width)
@@ -175,7 +163,6 @@ impl<'a> Context<'a> {
 
     /// Tests, of which each that fails goes on to the label.
     fn tests(&self, code: &mut Code, next: u32, tests: &[LowTest]) -> Result<(), AllocError>
-        requires writable { WritableIn self.now }
         requires tests { TestsPlacedIn self.now tests.now }
         ensures { OnOk result (code.new ≡ code.old ++ tests_in self.now next tests.now) }
     {
@@ -187,8 +174,6 @@ impl<'a> Context<'a> {
 
     #[cycle(blocks)]
     fn stmt(&self, frame: Frame, out: &mut Selection, stmt: &LowStmt) -> Result<(), AllocError>
-        requires writable { CanWriteIn self.now }
-        requires frame { FrameFits frame.words frame.saved }
         requires placed { StmtPlacedIn self.now stmt.now }
         ensures { OnOk result (BeforeIn self.now frame (before_of stmt.now) out.old out.new) }
     {
@@ -249,22 +234,18 @@ impl<'a> Context<'a> {
         variables: &[u32],
         block: &LowBlock,
     ) -> Result<(), AllocError>
-        requires writable { CanWriteIn self.now }
-        requires frame { FrameFits frame.words frame.saved }
         requires variables { TargetsPlacedIn self.now variables.now }
         requires placed { PlacedIn self.now (code_of block.now) }
-        ensures { OnOk result (BeforeIn self.now frame (join variables.now (code_of block.now))
-            out.old out.new) }
+        ensures { OnOk result
+            (BeforeIn self.now frame (join variables.now (code_of block.now)) out.old out.new) }
     {
         let label = out.fresh()?;
         let spots = self.spots(variables)?;
-        self.block(
-            frame,
-            out,
-            spots.as_slice(),
-            Continuation::Follows(label),
-            block,
-        )?;
+        let to = Destination {
+            spots: spots.as_slice(),
+            way: Continuation::Follows(label),
+        };
+        self.block(frame, out, &to, block)?;
         out.code.put(Item::Label(label))
     }
 
@@ -273,20 +254,20 @@ impl<'a> Context<'a> {
         &self,
         frame: Frame,
         out: &mut Selection,
-        to: &[Spot],
-        way: Continuation,
+        to: &Destination,
         arm: &LowArm,
     ) -> Result<(), AllocError>
-        requires writable { CanWriteIn self.now }
-        requires frame { FrameFits frame.words frame.saved }
-        requires targets { AreTargets to.now }
         requires placed { ArmPlacedIn self.now (arm_of arm.now) }
-        ensures { OnOk result (ArmsBeforeIn self.now frame to.now way (one_arm (arm_of arm.now))
-            out.old out.new) }
+        ensures { OnOk result
+            (ArmsBeforeIn self.now frame to.now (one_arm (arm_of arm.now)) out.old out.new) }
     {
         let label = out.fresh()?;
         self.tests(&mut out.code, label, arm.tests.as_slice())?;
-        self.block(frame, out, to, continued_by_jump(way), &arm.block)?;
+        let by_jump = Destination {
+            spots: to.spots,
+            way: continued_by_jump(to.way),
+        };
+        self.block(frame, out, &by_jump, &arm.block)?;
         out.code.put(Item::Label(label))
     }
 
@@ -296,22 +277,18 @@ impl<'a> Context<'a> {
         &self,
         frame: Frame,
         out: &mut Selection,
-        to: &[Spot],
-        way: Continuation,
+        to: &Destination,
         arms: &[LowArm],
         otherwise: &LowBlock,
     ) -> Result<(), AllocError>
-        requires writable { CanWriteIn self.now }
-        requires frame { FrameFits frame.words frame.saved }
-        requires targets { AreTargets to.now }
         requires placed { ArmsPlacedIn self.now (alternatives arms.now otherwise.now) }
-        ensures { OnOk result (EmittedArmsIn self.now frame to.now way (alternatives arms.now
-            otherwise.now) out.old out.new) }
+        ensures { OnOk result (EmittedArmsIn self.now frame to.now
+            (alternatives arms.now otherwise.now) out.old out.new) }
     {
         for arm in arms {
-            self.arm(frame, out, to, way, arm)?;
+            self.arm(frame, out, to, arm)?;
         }
-        self.block(frame, out, to, way, otherwise)
+        self.block(frame, out, to, otherwise)
     }
 
     /// Arms, of which the first has one test and stands behind the others.
@@ -320,37 +297,36 @@ impl<'a> Context<'a> {
         &self,
         frame: Frame,
         out: &mut Selection,
-        to: &[Spot],
-        way: Continuation,
+        to: &Destination,
         first: &LowArm,
         test: LowTest,
         arms: &[LowArm],
         otherwise: &LowBlock,
     ) -> Result<(), AllocError>
-        requires writable { CanWriteIn self.now }
-        requires frame { FrameFits frame.words frame.saved }
-        requires targets { AreTargets to.now }
         requires test { first.now.tests ≡ test ∷ [] }
-        requires placed { ArmsPlacedIn self.now (alternatives (first.now ∷ arms.now)
-            otherwise.now) }
-        ensures { OnOk result (EmittedLastIn self.now frame to.now way (alternatives (first.now ∷
-            arms.now) otherwise.now) out.old out.new) }
+        requires placed { ArmsPlacedIn self.now
+            (alternatives (first.now ∷ arms.now) otherwise.now) }
+        ensures { OnOk result (EmittedLastIn self.now frame to.now
+            (alternatives (first.now ∷ arms.now) otherwise.now) out.old out.new) }
     {
         let label = out.fresh()?;
         out.code
             .match_to(label, self.source(test.left), test.right)?;
-        self.arms(frame, out, to, continued_by_jump(way), arms, otherwise)?;
+        let by_jump = Destination {
+            spots: to.spots,
+            way: continued_by_jump(to.way),
+        };
+        self.arms(frame, out, &by_jump, arms, otherwise)?;
         out.code.put(Item::Label(label))?;
-        self.block(frame, out, to, way, &first.block)?;
+        self.block(frame, out, to, &first.block)?;
         Ok(())
     }
 
     /// A test whether the word is this number, unless it can be nothing else.
     fn last_test(&self, code: &mut Code, search: Search, number: u32) -> Result<(), AllocError>
-        requires writable { WritableIn self.now }
         requires word { OperandPlacedIn self.now search.word }
-        ensures { OnOk result (code.new ≡ code.old ++ last_test_items search.miss (source_in
-            self.now search.word) search.low search.high number) }
+        ensures { OnOk result (code.new ≡ code.old ++ last_test_items search.miss
+            (source_in self.now search.word) search.low search.high number) }
     {
         if search.is_alone() {
             return Ok(());
@@ -364,25 +340,20 @@ impl<'a> Context<'a> {
         &self,
         frame: Frame,
         out: &mut Selection,
-        to: &[Spot],
-        way: Continuation,
+        to: &Destination,
         search: Search,
         arms: &[LowArm],
     ) -> Result<(), AllocError>
-        requires writable { CanWriteIn self.now }
-        requires frame { FrameFits frame.words frame.saved }
-        requires targets { AreTargets to.now }
         requires some { 1 ≤ length arms.now }
         requires word { OperandPlacedIn self.now search.word }
         requires rises { TestsAscend search.word search.low search.high arms.now }
         requires placed { BlocksPlacedIn self.now arms.now }
-        ensures { OnOk result (SearchedIn self.now frame search to.now way arms.now out.old
-            out.new) }
+        ensures { OnOk result (SearchedIn self.now frame search to.now arms.now out.old out.new) }
     {
         if arms.len() == 1 {
             let arm = &arms[0];
             self.last_test(&mut out.code, search, number_of(arm))?;
-            self.block(frame, out, to, way, &arm.block)?;
+            self.block(frame, out, to, &arm.block)?;
             return Ok(());
         }
         let (front, back) = arms.split_at(arms.len() / 2);
@@ -394,13 +365,13 @@ impl<'a> Context<'a> {
             high: Some(bound),
             ..search
         };
-        self.halves(frame, out, to, way, below, front)?;
+        self.halves(frame, out, to, below, front)?;
         out.code.put(Item::Label(label))?;
         let above = Search {
             low: bound,
             ..search
         };
-        self.halves(frame, out, to, way, above, back)?;
+        self.halves(frame, out, to, above, back)?;
         Ok(())
     }
 
@@ -410,20 +381,16 @@ impl<'a> Context<'a> {
         &self,
         frame: Frame,
         out: &mut Selection,
-        to: &[Spot],
-        way: Continuation,
+        to: &Destination,
         arms: &[LowArm],
         otherwise: &LowBlock,
     ) -> Result<(), AllocError>
-        requires writable { CanWriteIn self.now }
-        requires frame { FrameFits frame.words frame.saved }
-        requires targets { AreTargets to.now }
         requires placed { ArmsPlacedIn self.now (alternatives arms.now otherwise.now) }
-        ensures { OnOk result (EmittedIn self.now frame to.now way (choose (alternatives arms.now
-            otherwise.now)) out.old out.new) }
+        ensures { OnOk result (EmittedIn self.now frame to.now
+            (choose (alternatives arms.now otherwise.now)) out.old out.new) }
     {
         let Some(word) = searched_word(out.spared, arms, otherwise) else {
-            return self.choose(frame, out, to, way, arms, otherwise);
+            return self.choose(frame, out, to, arms, otherwise);
         };
         out.spared = out.spared.saturating_sub(extra_words(arms, word));
         let miss = out.fresh()?;
@@ -433,9 +400,13 @@ impl<'a> Context<'a> {
             low: 0,
             high: None,
         };
-        self.halves(frame, out, to, continued_by_jump(way), search, arms)?;
+        let by_jump = Destination {
+            spots: to.spots,
+            way: continued_by_jump(to.way),
+        };
+        self.halves(frame, out, &by_jump, search, arms)?;
         out.code.put(Item::Label(miss))?;
-        self.block(frame, out, to, way, otherwise)?;
+        self.block(frame, out, to, otherwise)?;
         Ok(())
     }
 
@@ -444,30 +415,26 @@ impl<'a> Context<'a> {
         &self,
         frame: Frame,
         out: &mut Selection,
-        to: &[Spot],
-        way: Continuation,
+        to: &Destination,
         arms: &[LowArm],
         otherwise: &LowBlock,
     ) -> Result<(), AllocError>
-        requires writable { CanWriteIn self.now }
-        requires frame { FrameFits frame.words frame.saved }
-        requires targets { AreTargets to.now }
         requires placed { ArmsPlacedIn self.now (alternatives arms.now otherwise.now) }
-        ensures { OnOk result (EmittedIn self.now frame to.now way (choose (alternatives arms.now
-            otherwise.now)) out.old out.new) }
+        ensures { OnOk result (EmittedIn self.now frame to.now
+            (choose (alternatives arms.now otherwise.now)) out.old out.new) }
     {
         match arms.split_first() {
             None => {
-                self.arms(frame, out, to, way, arms, otherwise)?;
+                self.arms(frame, out, to, arms, otherwise)?;
                 Ok(())
             }
             Some((first, others)) => {
-                if first_arm_goes_last(way, first, otherwise) {
+                if first_arm_goes_last(to.way, first, otherwise) {
                     let test = first.tests.as_slice()[0];
-                    self.first_last(frame, out, to, way, first, test, others, otherwise)?;
+                    self.first_last(frame, out, to, first, test, others, otherwise)?;
                     return Ok(());
                 }
-                self.arms(frame, out, to, way, arms, otherwise)?;
+                self.arms(frame, out, to, arms, otherwise)?;
                 Ok(())
             }
         }
@@ -479,20 +446,16 @@ impl<'a> Context<'a> {
         &self,
         frame: Frame,
         out: &mut Selection,
-        to: &[Spot],
-        way: Continuation,
+        to: &Destination,
         comparison: Comparison,
         first: &LowArm,
         others: &[LowArm],
         otherwise: &LowBlock,
     ) -> Result<(), AllocError>
-        requires writable { CanWriteIn self.now }
-        requires frame { FrameFits frame.words frame.saved }
-        requires targets { AreTargets to.now }
         requires operands { ComparisonPlacedIn self.now comparison }
-        requires placed { ArmsPlacedIn self.now (alternatives (first.now ∷ others.now)
-            otherwise.now) }
-        ensures { OnOk result (EmittedDecidedFirstIn self.now frame comparison to.now way
+        requires placed { ArmsPlacedIn self.now
+            (alternatives (first.now ∷ others.now) otherwise.now) }
+        ensures { OnOk result (EmittedDecidedFirstIn self.now frame comparison to.now
             (alternatives (first.now ∷ others.now) otherwise.now) out.old out.new) }
     {
         let label = out.fresh()?;
@@ -505,9 +468,13 @@ impl<'a> Context<'a> {
             left,
             right,
         )?;
-        self.block(frame, out, to, continued_by_jump(way), &first.block)?;
+        let by_jump = Destination {
+            spots: to.spots,
+            way: continued_by_jump(to.way),
+        };
+        self.block(frame, out, &by_jump, &first.block)?;
         out.code.put(Item::Label(label))?;
-        self.arms(frame, out, to, way, others, otherwise)?;
+        self.arms(frame, out, to, others, otherwise)?;
         Ok(())
     }
 
@@ -517,20 +484,16 @@ impl<'a> Context<'a> {
         &self,
         frame: Frame,
         out: &mut Selection,
-        to: &[Spot],
-        way: Continuation,
+        to: &Destination,
         comparison: Comparison,
         first: &LowArm,
         others: &[LowArm],
         otherwise: &LowBlock,
     ) -> Result<(), AllocError>
-        requires writable { CanWriteIn self.now }
-        requires frame { FrameFits frame.words frame.saved }
-        requires targets { AreTargets to.now }
         requires operands { ComparisonPlacedIn self.now comparison }
-        requires placed { ArmsPlacedIn self.now (alternatives (first.now ∷ others.now)
-            otherwise.now) }
-        ensures { OnOk result (EmittedDecidedLastIn self.now frame comparison to.now way
+        requires placed { ArmsPlacedIn self.now
+            (alternatives (first.now ∷ others.now) otherwise.now) }
+        ensures { OnOk result (EmittedDecidedLastIn self.now frame comparison to.now
             (alternatives (first.now ∷ others.now) otherwise.now) out.old out.new) }
     {
         let label = out.fresh()?;
@@ -538,9 +501,13 @@ impl<'a> Context<'a> {
         let right = self.source(comparison.right);
         let number = tested(first.tests.as_slice());
         out.code.branch(condition(comparison.operation, number), label, left, right)?;
-        self.arms(frame, out, to, continued_by_jump(way), others, otherwise)?;
+        let by_jump = Destination {
+            spots: to.spots,
+            way: continued_by_jump(to.way),
+        };
+        self.arms(frame, out, &by_jump, others, otherwise)?;
         out.code.put(Item::Label(label))?;
-        self.block(frame, out, to, way, &first.block)?;
+        self.block(frame, out, to, &first.block)?;
         Ok(())
     }
 
@@ -549,30 +516,25 @@ impl<'a> Context<'a> {
         &self,
         frame: Frame,
         out: &mut Selection,
-        to: &[Spot],
-        way: Continuation,
+        to: &Destination,
         comparison: Comparison,
         first: &LowArm,
         others: &[LowArm],
         otherwise: &LowBlock,
     ) -> Result<(), AllocError>
-        requires writable { CanWriteIn self.now }
-        requires frame { FrameFits frame.words frame.saved }
-        requires targets { AreTargets to.now }
         requires operands { ComparisonPlacedIn self.now comparison }
-        requires placed { ArmsPlacedIn self.now (alternatives (first.now ∷ others.now)
-            otherwise.now) }
+        requires placed { ArmsPlacedIn self.now
+            (alternatives (first.now ∷ others.now) otherwise.now) }
         requires decides { decides_all comparison.operation comparison.variable (choose
             (alternatives (first.now ∷ others.now) otherwise.now)) ≡ true }
-        ensures { OnOk result (EmittedIn self.now frame to.now way (prim comparison.operation
-            comparison.variable comparison.left comparison.right (choose (alternatives (first.now ∷
-            others.now) otherwise.now))) out.old out.new) }
+        ensures { OnOk result (EmittedIn self.now frame to.now (compared comparison
+            (choose (alternatives (first.now ∷ others.now) otherwise.now))) out.old out.new) }
     {
-        if first_arm_goes_last(way, first, otherwise) {
-            self.decided_last(frame, out, to, way, comparison, first, others, otherwise)?;
+        if first_arm_goes_last(to.way, first, otherwise) {
+            self.decided_last(frame, out, to, comparison, first, others, otherwise)?;
             return Ok(());
         }
-        self.decided_first(frame, out, to, way, comparison, first, others, otherwise)?;
+        self.decided_first(frame, out, to, comparison, first, others, otherwise)?;
         Ok(())
     }
 
@@ -582,21 +544,16 @@ impl<'a> Context<'a> {
         &self,
         frame: Frame,
         out: &mut Selection,
-        to: &[Spot],
-        way: Continuation,
+        to: &Destination,
         comparison: Comparison,
         end: &LowEnd,
     ) -> Result<(), AllocError>
-        requires writable { CanWriteIn self.now }
-        requires frame { FrameFits frame.words frame.saved }
-        requires targets { AreTargets to.now }
         requires operands { ComparisonPlacedIn self.now comparison }
         requires placed { PlacedIn self.now (end_of end.now) }
         requires decides { decides_all comparison.operation comparison.variable
             (end_of end.now) ≡ true }
-        ensures { OnOk result (EmittedIn self.now frame to.now way (prim comparison.operation
-            comparison.variable comparison.left comparison.right (end_of end.now)) out.old
-            out.new) }
+        ensures { OnOk result (EmittedIn self.now frame to.now
+            (compared comparison (end_of end.now)) out.old out.new) }
     {
         match end {
             LowEnd::Give(_) => Ok(()),
@@ -604,7 +561,7 @@ impl<'a> Context<'a> {
             LowEnd::Choose(arms, otherwise) => match arms.as_slice().split_first() {
                 None => Ok(()),
                 Some((first, others)) => {
-                    self.decided_arms(frame, out, to, way, comparison, first, others, otherwise)?;
+                    self.decided_arms(frame, out, to, comparison, first, others, otherwise)?;
                     Ok(())
                 }
             },
@@ -617,28 +574,23 @@ impl<'a> Context<'a> {
         &self,
         frame: Frame,
         out: &mut Selection,
-        to: &[Spot],
-        way: Continuation,
+        to: &Destination,
         end: &LowEnd,
     ) -> Result<(), AllocError>
-        requires writable { CanWriteIn self.now }
-        requires frame { FrameFits frame.words frame.saved }
-        requires targets { AreTargets to.now }
         requires placed { PlacedIn self.now (end_of end.now) }
-        ensures { OnOk result (EmittedIn self.now frame to.now way (end_of end.now) out.old
-            out.new) }
+        ensures { OnOk result (EmittedIn self.now frame to.now (end_of end.now) out.old out.new) }
     {
         match end {
             LowEnd::Give(operands) => {
-                self.send(&mut out.code, to, operands.as_slice())?;
-                out.code.way_out(frame.framed, frame.words, way)?;
+                self.send(&mut out.code, to.spots, operands.as_slice())?;
+                out.code.way_out(frame.framed, frame.words, to.way)?;
                 Ok(())
             }
             LowEnd::Tail(f, _, operands) => {
                 self.tail(&mut out.code, frame, *f, operands.as_slice())
             }
             LowEnd::Choose(arms, otherwise) => {
-                self.choice(frame, out, to, way, arms.as_slice(), otherwise)
+                self.choice(frame, out, to, arms.as_slice(), otherwise)
             }
             // x5, since a jump that links x1 is a call
             LowEnd::Fail => {
@@ -651,33 +603,29 @@ impl<'a> Context<'a> {
         }
     }
 
-    /// A block that gives its words to these spots, and goes this way then.
+    /// A block that gives its words to the destination's spots, and goes its way then.
     #[cycle(blocks)]
     pub(crate) fn block(
         &self,
         frame: Frame,
         out: &mut Selection,
-        to: &[Spot],
-        way: Continuation,
+        to: &Destination,
         block: &LowBlock,
     ) -> Result<(), AllocError>
-        requires writable { CanWriteIn self.now }
-        requires frame { FrameFits frame.words frame.saved }
-        requires targets { AreTargets to.now }
         requires placed { PlacedIn self.now (code_of block.now) }
-        ensures { OnOk result (EmittedIn self.now frame to.now way (code_of block.now) out.old
-            out.new) }
+        ensures { OnOk result
+            (EmittedIn self.now frame to.now (code_of block.now) out.old out.new) }
     {
         let mut left = block.stmts.len();
         for stmt in block.stmts.as_slice() {
             left -= 1;
             if let Some(comparison) = deciding_last_comparison(left == 0, stmt, &block.last) {
-                self.decided(frame, out, to, way, comparison, &block.last)?;
+                self.decided(frame, out, to, comparison, &block.last)?;
                 return Ok(());
             }
             self.stmt(frame, out, stmt)?;
         }
-        self.end(frame, out, to, way, &block.last)?;
+        self.end(frame, out, to, &block.last)?;
         Ok(())
     }
 }
