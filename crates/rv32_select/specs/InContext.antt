@@ -1,6 +1,6 @@
 -- What is said of a program, its places, its cells and its frames, said of the context that holds
 -- them: a name with `In` or `in` behind it is the one without, in a context and maybe in a frame.
-use Rattle.std.specs.Prelude.{ℕ, List, ◌∷◌, map, Option}
+use Rattle.std.specs.Prelude.{ℕ, List, map}
 use Rattle.parallel_move.specs.declared.Spot.{Spot}
 use Rattle.low_code.specs.declared.program.Operand.{Operand}
 use Rattle.low_code.specs.declared.program.LowTest.{LowTest}
@@ -8,7 +8,7 @@ use Rattle.low_code.specs.declared.program.LowArm.{LowArm}
 use Rattle.low_code.specs.declared.program.LowBlock.{LowBlock}
 use Rattle.low_code.specs.declared.program.LowStmt.{LowStmt}
 use Rattle.low_code.specs.Tree.{Code, prim, Arms, Program, program_of, code_of, arm_of, before_of, arms_before}
-use Rattle.register_alloc.specs.Assignment.{Assignment, place_of}
+use Rattle.register_alloc.specs.Assignment.{Assignment}
 use Rattle.rv32_items.specs.declared.Item.{Item}
 use Rattle.rv32_select.specs.declared.source.Source.{Source}
 use Rattle.rv32_select.specs.declared.source.Destination.{Destination}

@@ -1,7 +1,7 @@
 -- That a program and its places can be written, and that spots are targets, has one proof at most:
 -- a fact of a type has to.
 use Rattle.std.specs.Prelude.{◌≡◌, ℕ, List, [], ◌∷◌}
-use Rattle.std.specs.Coded.{×_prop, Π_prop, Unit-prop, le_prop}
+use Rattle.std.specs.Coded.{×_prop, Unit-prop, le_prop}
 use Rattle.std.proofs.Props.{props}
 use Rattle.parallel_move.specs.declared.Spot.{Spot}
 use Rattle.low_code.specs.declared.program.Operand.{Operand}

@@ -9,7 +9,6 @@ use Rattle.rv32_select.specs.Emitting.{Emitted, TestsAscend, TestsAscendIfSearch
 use Rattle.rv32_select.specs.Decides.{decides, tested}
 use Rattle.rv32_select.specs.Writable.{ArmsPlaced, BlocksPlaced}
 use Rattle.seq.specs.Lists.{sum_of}
-use Rattle.rv32_select.proofs.Sending.{targets_of}
 use Rattle.rv32_select.proofs.Emitted.{arm_placed, arm_at_placed, first_last_placed, first_last_made, arm_added, single, both_true, last_chosen, order_chosen, stmt_placed, last_placed, otherwise_placed, called_there, chosen_placed, arms_made, first_placed, choice_is, within_none, within_more, decided_placed, decided_made, decided_first_made, decided_last_made, decided_first_chosen, decided_last_chosen, not_decided, choice_none, block_made}
 use Rattle.rv32_select.proofs.EmittedStatements.{joined_placed, on_ok, put_done, join_done, get_done}
 use Rattle.rv32_items.specs.declared.Cond.TheVariants.{Geu}
