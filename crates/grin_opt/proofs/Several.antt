@@ -1,5 +1,5 @@
 -- What several passes keep, one after another.
-use Rattle.std.proofs.Common.{◌≡◌, ℕ, ◌+◌, ◌≤◌, Bool, true, false, cond, nat_eq, List, [], ◌∷◌, refl, sym, ◌∙◌, subst, arith}
+use Rattle.std.proofs.Common.{◌≡◌, ℕ, ◌+◌, ◌≤◌, Bool, true, false, cond, nat_eq, List, [], ◌∷◌, refl, sym, ◌∙◌, subst, arith, IfOk, Result, Ok, Err}
 use Rattle.grin_syntax.specs.Binders.{procs_sites}
 use Rattle.grin_syntax.specs.Formed.{AllOf}
 use Rattle.grin_syntax.specs.Tree.{Program}
@@ -143,3 +143,8 @@ module _ (g k r m h : Program) (A : Solution) (narrow : NarrowBy A g k)
           heaps = heaps_kept lean.by;
         };
       }
+
+pub both_ok : {T E : Type 0} (P Q R : T → Type 0) (r : Result T E)
+    → ((t : T) → P t → Q t → R t) → IfOk r P → IfOk r Q → IfOk r R
+both_ok P Q R (Ok t) f p q = f t p q
+both_ok P Q R (Err e) f p q = tt

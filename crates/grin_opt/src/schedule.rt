@@ -38,8 +38,7 @@ fn updated_and_unboxed(alloc: Global, g: Grin) -> Result<Grin, AllocError>
 {
     let flow = least(alloc, &g)?;
     let updated = with_literal_tags_by(alloc, g, &flow)?;
-    let unboxed = with_unboxed_numbers_by(alloc, updated, &flow)?;
-    Ok(unboxed)
+    with_unboxed_numbers_by(alloc, updated, &flow)
 }
 
 // The pass `Simplify`, by which no update loses its literal tag.
@@ -48,8 +47,7 @@ fn simplified(alloc: Global, g: Grin) -> Result<Grin, AllocError>
     ensures shape { IfOk result (λ h. MadeByPasses Simplified (program_of g) (program_of h)) }
     ensures meaning { IfOk result (λ h. Keeps (program_of g) (program_of h)) }
 {
-    let h = with_fewer_cases(alloc, g)?;
-    Ok(h)
+    with_fewer_cases(alloc, g)
 }
 
 // The pass `Copies`, by which no update loses its literal tag.
@@ -59,8 +57,7 @@ fn copied(alloc: Global, g: Grin) -> Result<Grin, AllocError>
     ensures meaning { IfOk result (λ h. Keeps (program_of g) (program_of h)) }
 {
     let h = with_copies_unused(alloc, g)?;
-    let k = without_idle(alloc, h)?;
-    Ok(k)
+    without_idle(alloc, h)
 }
 
 // Cases that are settled go, nested blocks give way to their statements, and copies go.
@@ -71,8 +68,7 @@ fn tidied(alloc: Global, g: Grin) -> Result<Grin, AllocError>
 {
     let simple = simplified(alloc, g)?;
     let flat = Flatten.apply(alloc, simple)?;
-    let made = copied(alloc, flat)?;
-    Ok(made)
+    copied(alloc, flat)
 }
 
 // Literals for the words that alternatives tell, and then what they settle.
@@ -82,8 +78,7 @@ fn told(alloc: Global, g: Grin) -> Result<Grin, AllocError>
     ensures meaning { IfOk result (λ h. Keeps (program_of g) (program_of h)) }
 {
     let told = ToldWords.apply(alloc, g)?;
-    let made = tidied(alloc, told)?;
-    Ok(made)
+    tidied(alloc, told)
 }
 
 // The same for the words that are known by the least solution too.
@@ -93,8 +88,7 @@ fn settled(alloc: Global, g: Grin) -> Result<Grin, AllocError>
     ensures meaning { IfOk result (λ h. Keeps (program_of g) (program_of h)) }
 {
     let known = KnownWords.apply(alloc, g)?;
-    let made = tidied(alloc, known)?;
-    Ok(made)
+    tidied(alloc, known)
 }
 
 // First without a solution: of a program in which those literals stand it says more.
@@ -104,8 +98,7 @@ fn with_literals(alloc: Global, g: Grin) -> Result<Grin, AllocError>
     ensures meaning { IfOk result (λ h. Keeps (program_of g) (program_of h)) }
 {
     let once = told(alloc, g)?;
-    let made = settled(alloc, once)?;
-    Ok(made)
+    settled(alloc, once)
 }
 
 // No fetches of words of own cells that are known, and then what these settle.
@@ -131,8 +124,7 @@ fn without_unread(alloc: Global, g: Grin) -> Result<Grin, AllocError>
     let narrow = without_unread_words(alloc, g, &flow)?;
     let read = without_unread_updates(alloc, narrow, &flow)?;
     let stored = without_dead_stores(alloc, read, &flow)?;
-    let made = copied(alloc, stored)?;
-    Ok(made)
+    copied(alloc, stored)
 }
 
 /// The program after one pass. `AllocError` where memory is wanting.
@@ -189,10 +181,8 @@ pub fn optimise(alloc: Global, g: Grin, upto: PassName) -> Result<Grin, AllocErr
     }
     if upto == PassName::Unbox {
         let copied = optimise(alloc, g, PassName::Copy)?;
-        let unboxed = updated_and_unboxed(alloc, copied)?;
-        return Ok(unboxed);
+        return updated_and_unboxed(alloc, copied);
     }
     let given = optimise(alloc, g, stage_before(upto))?;
-    let made = after_pass(alloc, upto, given)?;
-    Ok(made)
+    after_pass(alloc, upto, given)
 }

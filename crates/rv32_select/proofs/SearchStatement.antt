@@ -11,7 +11,7 @@ use Rattle.low_code.specs.declared.program.LowTest.{LowTest}
 use Rattle.low_code.specs.Tree.{Code, choose, Arms, otherwise, arm, Procedure, Program}
 use Rattle.low_code.specs.Formed.{uses, arms_uses, used_by, used_by_tests, variables}
 use Rattle.low_code.specs.Literals.{IsSmall, TestsSmall}
-use Rattle.low_code.specs.Values.{Word, number, Env, World, need, and_then}
+use Rattle.low_code.specs.Values.{Word, Env, World, need, and_then}
 use Rattle.low_code.specs.Run.{Calls, code, arms, number_in, holds}
 use Rattle.register_alloc.specs.Fits.{slots_of}
 use Rattle.register_alloc.specs.Assignment.{Assignment, place_of, words_at}

@@ -1,12 +1,12 @@
 -- Comparisons whose result does no more than decide the choice right behind them: they are one
 -- branch on the two words, and the result is nowhere.
-use Rattle.std.specs.Prelude.{ℕ, ◌-◌, Bool, true, false, not, nat_eq, nat_lt, if◌then◌else◌, List, [], ◌∷◌, ◌++◌}
+use Rattle.std.specs.Prelude.{ℕ, Bool, true, false, not, nat_eq, nat_lt, if◌then◌else◌, List, [], ◌∷◌, ◌++◌}
 use Rattle.low_code.specs.declared.program.PrimOp.{PrimOp}
 use Rattle.low_code.specs.declared.program.PrimOp.TheVariants.{Add, Sub, Mul, Quot, Rem, Eq, Lt}
 use Rattle.low_code.specs.declared.program.Operand.{Operand}
 use Rattle.low_code.specs.declared.program.Operand.TheVariants.{Var, Num, Cell}
 use Rattle.low_code.specs.declared.program.LowTest.{LowTest}
-use Rattle.low_code.specs.Tree.{Code, set, prim, load, save, take, put, get, call, join, give, tail, choose, fail, Arms, otherwise, arm}
+use Rattle.low_code.specs.Tree.{Code, prim, choose, Arms, otherwise, arm}
 use Rattle.low_code.specs.Formed.{uses, arms_uses}
 use Rattle.rv32_items.specs.declared.Cond.{Cond}
 use Rattle.rv32_items.specs.declared.Cond.TheVariants as cond

@@ -5,6 +5,8 @@ pub mod Halves
 pub mod IsSelected
 pub mod Writable
 pub mod Emitting
+pub mod OneProof
+pub mod InContext
 pub mod Selectable
 pub mod Selects
 pub mod Laws

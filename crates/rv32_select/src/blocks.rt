@@ -2,14 +2,13 @@
 #![tactic(auto, using(low_code::proofs::TreeOf::tree_of, crate::proofs::Plain::plain_append, crate::proofs::Emitted::emitted), unfolding(crate::specs::Emit::plain))]
 
 ghost use Rattle.std.specs.Prelude.{◌≡◌, ◌++◌, [], ◌∷◌, ◌<◌, ◌+◌, ◌*◌, ◌≤◌, suc, length, map, slice_get, Some, OnOk, IfOk, true, false, if◌then◌else◌};
-ghost use Rattle.low_code.specs.Tree.{Code as Block, prim, join, choose, all_before, arms_before, before_of, end_of, code_of, arm_of, program_of};
-ghost use Rattle.register_alloc.specs.Assignment.{place_of};
+ghost use Rattle.low_code.specs.Tree.{join, choose, before_of, end_of, code_of, arm_of};
 ghost use Rattle.rv32_select.specs.Emit.{take_items};
-ghost use Rattle.rv32_select.specs.IsSelected.{source as source_of, sources as sources_of, tests_items, argument_spots_of, result_spots_of, moves_between as moves_across, heap_end as end_of_heap, heap_full as heap_full_label, no_alternative as no_alternative_label};
+ghost use Rattle.rv32_select.specs.IsSelected.{moves_between as moves_across};
 ghost use Rattle.rv32_select.specs.Decides.{decides as decides_all};
 ghost use Rattle.rv32_select.specs.Ranges.{AreTargets};
-ghost use Rattle.rv32_select.specs.Writable.{Writable, CanWrite, FrameFits, Placed, ArmsPlaced, ArmPlaced, HavePlaces, OperandPlaced, OperandsPlaced, TestsPlaced, TargetsPlaced, CallPlaced, BlocksPlaced};
-ghost use Rattle.rv32_select.specs.Emitting.{EmitsMoves, EmitsParallelMoves, Called, TailCalled, Emitted, EmittedArms, EmittedLast, EmittedDecidedFirst, EmittedDecidedLast, Before, ArmsBefore, one_arm, TestsAscend, Searched};
+ghost use Rattle.rv32_select.specs.InContext.{alternatives, compared, heap_end_in, heap_full_in, no_alternative_in, source_in, sources_in, places_in, argument_spots_in, result_spots_in, tests_in, HavePlacesIn, TargetsPlacedIn, OperandPlacedIn, OperandsPlacedIn, ComparisonPlacedIn, TestsPlacedIn, CallPlacedIn, PlacedIn, StmtPlacedIn, ArmPlacedIn, ArmsPlacedIn, BlocksPlacedIn, CalledIn, TailCalledIn, EmittedIn, EmittedArmsIn, EmittedLastIn, EmittedDecidedFirstIn, EmittedDecidedLastIn, SearchedIn, BeforeIn, ArmsBeforeIn};
+ghost use Rattle.rv32_select.specs.Emitting.{EmitsMoves, EmitsParallelMoves, one_arm, TestsAscend};
 ghost use Rattle.rv32_select.specs.Halves.{last_test as last_test_items};
 
 use crate::code::Code;
@@ -18,7 +17,7 @@ use crate::decides::{Comparison, condition, deciding_last_comparison, other_cond
 use crate::links::continued_by_jump;
 use crate::rare::first_arm_goes_last;
 use crate::search::{Search, extra_words, number_of, searched_word};
-use crate::source::Continuation;
+use crate::source::{Continuation, Destination};
 use crate::statements::spared_by_offset;
 use limits::HEAP_START;
 use low_code::{LowArm, LowBlock, LowEnd, LowStmt, LowTest, Operand};
@@ -49,22 +48,19 @@ impl Selection {
 
 impl<'a> Context<'a> {
     pub(crate) fn heap_end(&self) -> u32
-        requires { CanWrite (program_of self.now.low.now) self.now.places.now self.now.cells }
-        ensures { result ≡ end_of_heap (program_of self.now.low.now) self.now.cells }
+        ensures { result ≡ heap_end_in self.now }
     {
         HEAP_START + 4 * self.low.width * self.cells
     }
 
     pub(crate) fn no_alternative(&self) -> u32
-        requires { Writable (program_of self.now.low.now) self.now.places.now }
-        ensures { result ≡ no_alternative_label (program_of self.now.low.now) }
+        ensures { result ≡ no_alternative_in self.now }
     {
         self.low.procs.len() as u32
     }
 
     pub(crate) fn heap_full(&self) -> u32
-        requires { Writable (program_of self.now.low.now) self.now.places.now }
-        ensures { result ≡ heap_full_label (program_of self.now.low.now) }
+        ensures { result ≡ heap_full_in self.now }
     {
         1 + self.low.procs.len() as u32
     }
@@ -72,12 +68,9 @@ impl<'a> Context<'a> {
     /// Words of operands go to spots at once.
     fn send(&self, code: &mut Code, to: &[Spot], operands: &[Operand]) -> Result<(), AllocError>
         requires targets { AreTargets to.now }
-        requires writable { Writable (program_of self.now.low.now) self.now.places.now }
-        requires operands { OperandsPlaced (program_of self.now.low.now) self.now.places.now
-            operands.now }
-        ensures { OnOk result (EmitsParallelMoves to.now
-            (sources_of (program_of self.now.low.now) self.now.places.now operands.now)
-            code.old code.new) }
+        requires operands { OperandsPlacedIn self.now operands.now }
+        ensures { OnOk result
+            (EmitsParallelMoves to.now (sources_in self.now operands.now) code.old code.new) }
     {
         let from = self.sources(operands)?;
         code.send(self.alloc, to, from.as_slice())
@@ -90,14 +83,10 @@ impl<'a> Context<'a> {
         proc: u32,
         operands: &[Operand],
     ) -> Result<(), AllocError>
-        requires writable { Writable (program_of self.now.low.now) self.now.places.now }
         requires proc { proc < length self.now.low.now.procs }
-        requires operands { OperandsPlaced (program_of self.now.low.now) self.now.places.now
-            operands.now }
-        ensures { OnOk result (EmitsParallelMoves
-            (argument_spots_of (program_of self.now.low.now) self.now.places.now proc)
-            (sources_of (program_of self.now.low.now) self.now.places.now operands.now)
-            code.old code.new) }
+        requires operands { OperandsPlacedIn self.now operands.now }
+        ensures { OnOk result (EmitsParallelMoves (argument_spots_in self.now proc)
+            (sources_in self.now operands.now) code.old code.new) }
     {
         let to = self.argument_spots(proc)?;
         self.send(code, to.as_slice(), operands)
@@ -105,13 +94,10 @@ impl<'a> Context<'a> {
 
     /// A procedure's results go to variables.
     fn take_results(&self, code: &mut Code, proc: u32, variables: &[u32]) -> Result<(), AllocError>
-        requires writable { Writable (program_of self.now.low.now) self.now.places.now }
         requires proc { proc < length self.now.low.now.procs }
-        requires variables { TargetsPlaced (program_of self.now.low.now) self.now.places.now
-            variables.now }
-        ensures { OnOk result (EmitsMoves
-            (moves_across (map (place_of self.now.places.now) variables.now)
-            (result_spots_of (program_of self.now.low.now) proc)) code.old code.new) }
+        requires variables { TargetsPlacedIn self.now variables.now }
+        ensures { OnOk result (EmitsMoves (moves_across
+            (places_in self.now variables.now) (result_spots_in self.now proc)) code.old code.new) }
     {
         let to = self.spots(variables)?;
         let results = self.low.procs.as_slice()[proc as usize].results;
@@ -129,12 +115,9 @@ impl<'a> Context<'a> {
         operands: &[Operand],
         variables: &[u32],
     ) -> Result<(), AllocError>
-        requires writable { Writable (program_of self.now.low.now) self.now.places.now }
-        requires frame { FrameFits frame.words frame.saved }
-        requires call { CallPlaced (program_of self.now.low.now) self.now.places.now proc site
-            operands.now variables.now }
-        ensures { OnOk result (Called (program_of self.now.low.now) self.now.places.now
-            frame.saved proc site operands.now variables.now code.old code.new) }
+        requires call { CallPlacedIn self.now proc site operands.now variables.now }
+        ensures { OnOk result
+            (CalledIn self.now frame proc site operands.now variables.now code.old code.new) }
     {
         let registers = self.places.saved(site);
         code.save_registers(frame.saved, registers)?;
@@ -156,13 +139,9 @@ impl<'a> Context<'a> {
         proc: u32,
         operands: &[Operand],
     ) -> Result<(), AllocError>
-        requires writable { Writable (program_of self.now.low.now) self.now.places.now }
-        requires frame { frame.words < 67108864 }
         requires proc { proc < length self.now.low.now.procs }
-        requires operands { OperandsPlaced (program_of self.now.low.now) self.now.places.now
-            operands.now }
-        ensures { OnOk result (TailCalled (program_of self.now.low.now) self.now.places.now
-            frame.framed frame.words proc operands.now code.old code.new) }
+        requires operands { OperandsPlacedIn self.now operands.now }
+        ensures { OnOk result (TailCalledIn self.now frame proc operands.now code.old code.new) }
     {
         self.send_arguments(code, proc, operands)?;
         code.leave(frame.framed, frame.words)?;
@@ -173,14 +152,10 @@ impl<'a> Context<'a> {
     }
 
     fn take(&self, code: &mut Code, variables: &[u32]) -> Result<(), AllocError>
-        requires writable { Writable (program_of self.now.low.now) self.now.places.now }
-        requires variables { HavePlaces (program_of self.now.low.now) self.now.places.now
-            variables.now }
+        requires variables { HavePlacesIn self.now variables.now }
         requires bytes { 4 * self.now.low.now.width * length variables.now < 4294967296 }
-        ensures { OnOk result (code.new ≡ code.old
-            ++ take_items (4 * self.now.low.now.width)
-            (heap_full_label (program_of self.now.low.now))
-            (map (place_of self.now.places.now) variables.now)) }
+        ensures { OnOk result (code.new ≡ code.old ++ take_items (4 * self.now.low.now.width)
+            (heap_full_in self.now) (places_in self.now variables.now)) }
     {
         let spots = self.spots(variables)?;
         code.take(4 * self.low.width, self.heap_full(), spots.as_slice())
@@ -188,10 +163,8 @@ impl<'a> Context<'a> {
 
     /// Tests, of which each that fails goes on to the label.
     fn tests(&self, code: &mut Code, next: u32, tests: &[LowTest]) -> Result<(), AllocError>
-        requires writable { Writable (program_of self.now.low.now) self.now.places.now }
-        requires tests { TestsPlaced (program_of self.now.low.now) self.now.places.now tests.now }
-        ensures { OnOk result (code.new ≡ code.old
-            ++ tests_items (program_of self.now.low.now) self.now.places.now next tests.now) }
+        requires tests { TestsPlacedIn self.now tests.now }
+        ensures { OnOk result (code.new ≡ code.old ++ tests_in self.now next tests.now) }
     {
         for test in tests {
             code.test(next, self.source(test.left), test.right)?;
@@ -201,14 +174,8 @@ impl<'a> Context<'a> {
 
     #[cycle(blocks)]
     fn stmt(&self, frame: Frame, out: &mut Selection, stmt: &LowStmt) -> Result<(), AllocError>
-        requires writable { CanWrite (program_of self.now.low.now) self.now.places.now
-            self.now.cells }
-        requires frame { FrameFits frame.words frame.saved }
-        requires placed { (c : Block)
-            × Placed (program_of self.now.low.now) self.now.places.now (before_of stmt.now c) }
-        ensures { OnOk result (Before (program_of self.now.low.now) self.now.places.now
-            self.now.cells self.now.stack frame.words frame.saved frame.framed (before_of stmt.now) out.old.code
-            out.old.next out.new.code out.new.next) }
+        requires placed { StmtPlacedIn self.now stmt.now }
+        ensures { OnOk result (BeforeIn self.now frame (before_of stmt.now) out.old out.new) }
     {
         match stmt {
             LowStmt::Set(x, a) => {
@@ -267,27 +234,18 @@ impl<'a> Context<'a> {
         variables: &[u32],
         block: &LowBlock,
     ) -> Result<(), AllocError>
-        requires writable { CanWrite (program_of self.now.low.now) self.now.places.now
-            self.now.cells }
-        requires frame { FrameFits frame.words frame.saved }
-        requires variables { TargetsPlaced (program_of self.now.low.now) self.now.places.now
-            variables.now }
-        requires placed { Placed (program_of self.now.low.now) self.now.places.now
-            (code_of block.now) }
-        ensures { OnOk result (Before (program_of self.now.low.now) self.now.places.now
-            self.now.cells self.now.stack frame.words frame.saved frame.framed
-            (join variables.now (code_of block.now)) out.old.code out.old.next out.new.code
-            out.new.next) }
+        requires variables { TargetsPlacedIn self.now variables.now }
+        requires placed { PlacedIn self.now (code_of block.now) }
+        ensures { OnOk result
+            (BeforeIn self.now frame (join variables.now (code_of block.now)) out.old out.new) }
     {
         let label = out.fresh()?;
         let spots = self.spots(variables)?;
-        self.block(
-            frame,
-            out,
-            spots.as_slice(),
-            Continuation::Follows(label),
-            block,
-        )?;
+        let to = Destination {
+            spots: spots.as_slice(),
+            way: Continuation::Follows(label),
+        };
+        self.block(frame, out, &to, block)?;
         out.code.put(Item::Label(label))
     }
 
@@ -296,23 +254,20 @@ impl<'a> Context<'a> {
         &self,
         frame: Frame,
         out: &mut Selection,
-        to: &[Spot],
-        way: Continuation,
+        to: &Destination,
         arm: &LowArm,
     ) -> Result<(), AllocError>
-        requires writable { CanWrite (program_of self.now.low.now) self.now.places.now
-            self.now.cells }
-        requires frame { FrameFits frame.words frame.saved }
-        requires targets { AreTargets to.now }
-        requires placed { ArmPlaced (program_of self.now.low.now) self.now.places.now
-            (arm_of arm.now) }
-        ensures { OnOk result (ArmsBefore (program_of self.now.low.now) self.now.places.now
-            self.now.cells self.now.stack frame.words frame.saved frame.framed to.now way
-            (one_arm (arm_of arm.now)) out.old.code out.old.next out.new.code out.new.next) }
+        requires placed { ArmPlacedIn self.now (arm_of arm.now) }
+        ensures { OnOk result
+            (ArmsBeforeIn self.now frame to.now (one_arm (arm_of arm.now)) out.old out.new) }
     {
         let label = out.fresh()?;
         self.tests(&mut out.code, label, arm.tests.as_slice())?;
-        self.block(frame, out, to, continued_by_jump(way), &arm.block)?;
+        let by_jump = Destination {
+            spots: to.spots,
+            way: continued_by_jump(to.way),
+        };
+        self.block(frame, out, &by_jump, &arm.block)?;
         out.code.put(Item::Label(label))
     }
 
@@ -322,26 +277,18 @@ impl<'a> Context<'a> {
         &self,
         frame: Frame,
         out: &mut Selection,
-        to: &[Spot],
-        way: Continuation,
+        to: &Destination,
         arms: &[LowArm],
         otherwise: &LowBlock,
     ) -> Result<(), AllocError>
-        requires writable { CanWrite (program_of self.now.low.now) self.now.places.now
-            self.now.cells }
-        requires frame { FrameFits frame.words frame.saved }
-        requires targets { AreTargets to.now }
-        requires placed { ArmsPlaced (program_of self.now.low.now) self.now.places.now
-            (arms_before (map arm_of arms.now) (code_of otherwise.now)) }
-        ensures { OnOk result (EmittedArms (program_of self.now.low.now) self.now.places.now
-            self.now.cells self.now.stack frame.words frame.saved frame.framed to.now way
-            (arms_before (map arm_of arms.now) (code_of otherwise.now)) out.old.code out.old.next
-            out.new.code out.new.next) }
+        requires placed { ArmsPlacedIn self.now (alternatives arms.now otherwise.now) }
+        ensures { OnOk result (EmittedArmsIn self.now frame to.now
+            (alternatives arms.now otherwise.now) out.old out.new) }
     {
         for arm in arms {
-            self.arm(frame, out, to, way, arm)?;
+            self.arm(frame, out, to, arm)?;
         }
-        self.block(frame, out, to, way, otherwise)
+        self.block(frame, out, to, otherwise)
     }
 
     /// Arms, of which the first has one test and stands behind the others.
@@ -350,42 +297,36 @@ impl<'a> Context<'a> {
         &self,
         frame: Frame,
         out: &mut Selection,
-        to: &[Spot],
-        way: Continuation,
+        to: &Destination,
         first: &LowArm,
         test: LowTest,
         arms: &[LowArm],
         otherwise: &LowBlock,
     ) -> Result<(), AllocError>
-        requires writable { CanWrite (program_of self.now.low.now) self.now.places.now
-            self.now.cells }
-        requires frame { FrameFits frame.words frame.saved }
-        requires targets { AreTargets to.now }
         requires test { first.now.tests ≡ test ∷ [] }
-        requires placed { ArmsPlaced (program_of self.now.low.now) self.now.places.now
-            (arms_before (map arm_of (first.now ∷ arms.now)) (code_of otherwise.now)) }
-        ensures { OnOk result (EmittedLast (program_of self.now.low.now) self.now.places.now
-            self.now.cells self.now.stack frame.words frame.saved frame.framed to.now way
-            (arms_before (map arm_of (first.now ∷ arms.now)) (code_of otherwise.now)) out.old.code
-            out.old.next out.new.code out.new.next) }
+        requires placed { ArmsPlacedIn self.now
+            (alternatives (first.now ∷ arms.now) otherwise.now) }
+        ensures { OnOk result (EmittedLastIn self.now frame to.now
+            (alternatives (first.now ∷ arms.now) otherwise.now) out.old out.new) }
     {
         let label = out.fresh()?;
         out.code
             .match_to(label, self.source(test.left), test.right)?;
-        self.arms(frame, out, to, continued_by_jump(way), arms, otherwise)?;
+        let by_jump = Destination {
+            spots: to.spots,
+            way: continued_by_jump(to.way),
+        };
+        self.arms(frame, out, &by_jump, arms, otherwise)?;
         out.code.put(Item::Label(label))?;
-        self.block(frame, out, to, way, &first.block)?;
+        self.block(frame, out, to, &first.block)?;
         Ok(())
     }
 
     /// A test whether the word is this number, unless it can be nothing else.
     fn last_test(&self, code: &mut Code, search: Search, number: u32) -> Result<(), AllocError>
-        requires writable { Writable (program_of self.now.low.now) self.now.places.now }
-        requires word { OperandPlaced (program_of self.now.low.now) self.now.places.now
-            search.word }
+        requires word { OperandPlacedIn self.now search.word }
         ensures { OnOk result (code.new ≡ code.old ++ last_test_items search.miss
-            (source_of (program_of self.now.low.now) self.now.places.now search.word) search.low
-            search.high number) }
+            (source_in self.now search.word) search.low search.high number) }
     {
         if search.is_alone() {
             return Ok(());
@@ -399,29 +340,20 @@ impl<'a> Context<'a> {
         &self,
         frame: Frame,
         out: &mut Selection,
-        to: &[Spot],
-        way: Continuation,
+        to: &Destination,
         search: Search,
         arms: &[LowArm],
     ) -> Result<(), AllocError>
-        requires writable { CanWrite (program_of self.now.low.now) self.now.places.now
-            self.now.cells }
-        requires frame { FrameFits frame.words frame.saved }
-        requires targets { AreTargets to.now }
         requires some { 1 ≤ length arms.now }
-        requires word { OperandPlaced (program_of self.now.low.now) self.now.places.now
-            search.word }
+        requires word { OperandPlacedIn self.now search.word }
         requires rises { TestsAscend search.word search.low search.high arms.now }
-        requires placed { BlocksPlaced (program_of self.now.low.now) self.now.places.now arms.now }
-        ensures { OnOk result (Searched (program_of self.now.low.now) self.now.places.now
-            self.now.cells self.now.stack frame.words frame.saved frame.framed search.miss search.word to.now
-            way search.low search.high arms.now out.old.code out.old.next out.new.code
-            out.new.next) }
+        requires placed { BlocksPlacedIn self.now arms.now }
+        ensures { OnOk result (SearchedIn self.now frame search to.now arms.now out.old out.new) }
     {
         if arms.len() == 1 {
             let arm = &arms[0];
             self.last_test(&mut out.code, search, number_of(arm))?;
-            self.block(frame, out, to, way, &arm.block)?;
+            self.block(frame, out, to, &arm.block)?;
             return Ok(());
         }
         let (front, back) = arms.split_at(arms.len() / 2);
@@ -433,13 +365,13 @@ impl<'a> Context<'a> {
             high: Some(bound),
             ..search
         };
-        self.halves(frame, out, to, way, below, front)?;
+        self.halves(frame, out, to, below, front)?;
         out.code.put(Item::Label(label))?;
         let above = Search {
             low: bound,
             ..search
         };
-        self.halves(frame, out, to, way, above, back)?;
+        self.halves(frame, out, to, above, back)?;
         Ok(())
     }
 
@@ -449,24 +381,16 @@ impl<'a> Context<'a> {
         &self,
         frame: Frame,
         out: &mut Selection,
-        to: &[Spot],
-        way: Continuation,
+        to: &Destination,
         arms: &[LowArm],
         otherwise: &LowBlock,
     ) -> Result<(), AllocError>
-        requires writable { CanWrite (program_of self.now.low.now) self.now.places.now
-            self.now.cells }
-        requires frame { FrameFits frame.words frame.saved }
-        requires targets { AreTargets to.now }
-        requires placed { ArmsPlaced (program_of self.now.low.now) self.now.places.now
-            (arms_before (map arm_of arms.now) (code_of otherwise.now)) }
-        ensures { OnOk result (Emitted (program_of self.now.low.now) self.now.places.now
-            self.now.cells self.now.stack frame.words frame.saved frame.framed to.now way
-            (choose (arms_before (map arm_of arms.now) (code_of otherwise.now))) out.old.code
-            out.old.next out.new.code out.new.next) }
+        requires placed { ArmsPlacedIn self.now (alternatives arms.now otherwise.now) }
+        ensures { OnOk result (EmittedIn self.now frame to.now
+            (choose (alternatives arms.now otherwise.now)) out.old out.new) }
     {
         let Some(word) = searched_word(out.spared, arms, otherwise) else {
-            return self.choose(frame, out, to, way, arms, otherwise);
+            return self.choose(frame, out, to, arms, otherwise);
         };
         out.spared = out.spared.saturating_sub(extra_words(arms, word));
         let miss = out.fresh()?;
@@ -476,9 +400,13 @@ impl<'a> Context<'a> {
             low: 0,
             high: None,
         };
-        self.halves(frame, out, to, continued_by_jump(way), search, arms)?;
+        let by_jump = Destination {
+            spots: to.spots,
+            way: continued_by_jump(to.way),
+        };
+        self.halves(frame, out, &by_jump, search, arms)?;
         out.code.put(Item::Label(miss))?;
-        self.block(frame, out, to, way, otherwise)?;
+        self.block(frame, out, to, otherwise)?;
         Ok(())
     }
 
@@ -487,34 +415,26 @@ impl<'a> Context<'a> {
         &self,
         frame: Frame,
         out: &mut Selection,
-        to: &[Spot],
-        way: Continuation,
+        to: &Destination,
         arms: &[LowArm],
         otherwise: &LowBlock,
     ) -> Result<(), AllocError>
-        requires writable { CanWrite (program_of self.now.low.now) self.now.places.now
-            self.now.cells }
-        requires frame { FrameFits frame.words frame.saved }
-        requires targets { AreTargets to.now }
-        requires placed { ArmsPlaced (program_of self.now.low.now) self.now.places.now
-            (arms_before (map arm_of arms.now) (code_of otherwise.now)) }
-        ensures { OnOk result (Emitted (program_of self.now.low.now) self.now.places.now
-            self.now.cells self.now.stack frame.words frame.saved frame.framed to.now way
-            (choose (arms_before (map arm_of arms.now) (code_of otherwise.now))) out.old.code
-            out.old.next out.new.code out.new.next) }
+        requires placed { ArmsPlacedIn self.now (alternatives arms.now otherwise.now) }
+        ensures { OnOk result (EmittedIn self.now frame to.now
+            (choose (alternatives arms.now otherwise.now)) out.old out.new) }
     {
         match arms.split_first() {
             None => {
-                self.arms(frame, out, to, way, arms, otherwise)?;
+                self.arms(frame, out, to, arms, otherwise)?;
                 Ok(())
             }
             Some((first, others)) => {
-                if first_arm_goes_last(way, first, otherwise) {
+                if first_arm_goes_last(to.way, first, otherwise) {
                     let test = first.tests.as_slice()[0];
-                    self.first_last(frame, out, to, way, first, test, others, otherwise)?;
+                    self.first_last(frame, out, to, first, test, others, otherwise)?;
                     return Ok(());
                 }
-                self.arms(frame, out, to, way, arms, otherwise)?;
+                self.arms(frame, out, to, arms, otherwise)?;
                 Ok(())
             }
         }
@@ -526,28 +446,17 @@ impl<'a> Context<'a> {
         &self,
         frame: Frame,
         out: &mut Selection,
-        to: &[Spot],
-        way: Continuation,
+        to: &Destination,
         comparison: Comparison,
         first: &LowArm,
         others: &[LowArm],
         otherwise: &LowBlock,
     ) -> Result<(), AllocError>
-        requires writable { CanWrite (program_of self.now.low.now) self.now.places.now
-            self.now.cells }
-        requires frame { FrameFits frame.words frame.saved }
-        requires targets { AreTargets to.now }
-        requires operands { OperandPlaced (program_of self.now.low.now) self.now.places.now
-            comparison.left × OperandPlaced (program_of self.now.low.now) self.now.places.now
-            comparison.right }
-        requires placed { ArmsPlaced (program_of self.now.low.now) self.now.places.now
-            (arms_before (map arm_of (first.now ∷ others.now)) (code_of otherwise.now)) }
-        ensures { OnOk result (EmittedDecidedFirst (program_of self.now.low.now) self.now.places.now
-            self.now.cells self.now.stack frame.words frame.saved frame.framed comparison.operation
-            (source_of (program_of self.now.low.now) self.now.places.now comparison.left)
-            (source_of (program_of self.now.low.now) self.now.places.now comparison.right)
-            to.now way (arms_before (map arm_of (first.now ∷ others.now)) (code_of otherwise.now))
-            out.old.code out.old.next out.new.code out.new.next) }
+        requires operands { ComparisonPlacedIn self.now comparison }
+        requires placed { ArmsPlacedIn self.now
+            (alternatives (first.now ∷ others.now) otherwise.now) }
+        ensures { OnOk result (EmittedDecidedFirstIn self.now frame comparison to.now
+            (alternatives (first.now ∷ others.now) otherwise.now) out.old out.new) }
     {
         let label = out.fresh()?;
         let left = self.source(comparison.left);
@@ -559,9 +468,13 @@ impl<'a> Context<'a> {
             left,
             right,
         )?;
-        self.block(frame, out, to, continued_by_jump(way), &first.block)?;
+        let by_jump = Destination {
+            spots: to.spots,
+            way: continued_by_jump(to.way),
+        };
+        self.block(frame, out, &by_jump, &first.block)?;
         out.code.put(Item::Label(label))?;
-        self.arms(frame, out, to, way, others, otherwise)?;
+        self.arms(frame, out, to, others, otherwise)?;
         Ok(())
     }
 
@@ -571,37 +484,30 @@ impl<'a> Context<'a> {
         &self,
         frame: Frame,
         out: &mut Selection,
-        to: &[Spot],
-        way: Continuation,
+        to: &Destination,
         comparison: Comparison,
         first: &LowArm,
         others: &[LowArm],
         otherwise: &LowBlock,
     ) -> Result<(), AllocError>
-        requires writable { CanWrite (program_of self.now.low.now) self.now.places.now
-            self.now.cells }
-        requires frame { FrameFits frame.words frame.saved }
-        requires targets { AreTargets to.now }
-        requires operands { OperandPlaced (program_of self.now.low.now) self.now.places.now
-            comparison.left × OperandPlaced (program_of self.now.low.now) self.now.places.now
-            comparison.right }
-        requires placed { ArmsPlaced (program_of self.now.low.now) self.now.places.now
-            (arms_before (map arm_of (first.now ∷ others.now)) (code_of otherwise.now)) }
-        ensures { OnOk result (EmittedDecidedLast (program_of self.now.low.now) self.now.places.now
-            self.now.cells self.now.stack frame.words frame.saved frame.framed comparison.operation
-            (source_of (program_of self.now.low.now) self.now.places.now comparison.left)
-            (source_of (program_of self.now.low.now) self.now.places.now comparison.right)
-            to.now way (arms_before (map arm_of (first.now ∷ others.now)) (code_of otherwise.now))
-            out.old.code out.old.next out.new.code out.new.next) }
+        requires operands { ComparisonPlacedIn self.now comparison }
+        requires placed { ArmsPlacedIn self.now
+            (alternatives (first.now ∷ others.now) otherwise.now) }
+        ensures { OnOk result (EmittedDecidedLastIn self.now frame comparison to.now
+            (alternatives (first.now ∷ others.now) otherwise.now) out.old out.new) }
     {
         let label = out.fresh()?;
         let left = self.source(comparison.left);
         let right = self.source(comparison.right);
         let number = tested(first.tests.as_slice());
         out.code.branch(condition(comparison.operation, number), label, left, right)?;
-        self.arms(frame, out, to, continued_by_jump(way), others, otherwise)?;
+        let by_jump = Destination {
+            spots: to.spots,
+            way: continued_by_jump(to.way),
+        };
+        self.arms(frame, out, &by_jump, others, otherwise)?;
         out.code.put(Item::Label(label))?;
-        self.block(frame, out, to, way, &first.block)?;
+        self.block(frame, out, to, &first.block)?;
         Ok(())
     }
 
@@ -610,35 +516,25 @@ impl<'a> Context<'a> {
         &self,
         frame: Frame,
         out: &mut Selection,
-        to: &[Spot],
-        way: Continuation,
+        to: &Destination,
         comparison: Comparison,
         first: &LowArm,
         others: &[LowArm],
         otherwise: &LowBlock,
     ) -> Result<(), AllocError>
-        requires writable { CanWrite (program_of self.now.low.now) self.now.places.now
-            self.now.cells }
-        requires frame { FrameFits frame.words frame.saved }
-        requires targets { AreTargets to.now }
-        requires operands { OperandPlaced (program_of self.now.low.now) self.now.places.now
-            comparison.left × OperandPlaced (program_of self.now.low.now) self.now.places.now
-            comparison.right }
-        requires placed { ArmsPlaced (program_of self.now.low.now) self.now.places.now
-            (arms_before (map arm_of (first.now ∷ others.now)) (code_of otherwise.now)) }
-        requires decides { decides_all comparison.operation comparison.variable
-            (choose (arms_before (map arm_of (first.now ∷ others.now)) (code_of otherwise.now))) ≡ true }
-        ensures { OnOk result (Emitted (program_of self.now.low.now) self.now.places.now
-            self.now.cells self.now.stack frame.words frame.saved frame.framed to.now way
-            (prim comparison.operation comparison.variable comparison.left comparison.right
-            (choose (arms_before (map arm_of (first.now ∷ others.now)) (code_of otherwise.now))))
-            out.old.code out.old.next out.new.code out.new.next) }
+        requires operands { ComparisonPlacedIn self.now comparison }
+        requires placed { ArmsPlacedIn self.now
+            (alternatives (first.now ∷ others.now) otherwise.now) }
+        requires decides { decides_all comparison.operation comparison.variable (choose
+            (alternatives (first.now ∷ others.now) otherwise.now)) ≡ true }
+        ensures { OnOk result (EmittedIn self.now frame to.now (compared comparison
+            (choose (alternatives (first.now ∷ others.now) otherwise.now))) out.old out.new) }
     {
-        if first_arm_goes_last(way, first, otherwise) {
-            self.decided_last(frame, out, to, way, comparison, first, others, otherwise)?;
+        if first_arm_goes_last(to.way, first, otherwise) {
+            self.decided_last(frame, out, to, comparison, first, others, otherwise)?;
             return Ok(());
         }
-        self.decided_first(frame, out, to, way, comparison, first, others, otherwise)?;
+        self.decided_first(frame, out, to, comparison, first, others, otherwise)?;
         Ok(())
     }
 
@@ -648,26 +544,16 @@ impl<'a> Context<'a> {
         &self,
         frame: Frame,
         out: &mut Selection,
-        to: &[Spot],
-        way: Continuation,
+        to: &Destination,
         comparison: Comparison,
         end: &LowEnd,
     ) -> Result<(), AllocError>
-        requires writable { CanWrite (program_of self.now.low.now) self.now.places.now
-            self.now.cells }
-        requires frame { FrameFits frame.words frame.saved }
-        requires targets { AreTargets to.now }
-        requires operands { OperandPlaced (program_of self.now.low.now) self.now.places.now
-            comparison.left × OperandPlaced (program_of self.now.low.now) self.now.places.now
-            comparison.right }
-        requires placed { Placed (program_of self.now.low.now) self.now.places.now (end_of end.now) }
+        requires operands { ComparisonPlacedIn self.now comparison }
+        requires placed { PlacedIn self.now (end_of end.now) }
         requires decides { decides_all comparison.operation comparison.variable
             (end_of end.now) ≡ true }
-        ensures { OnOk result (Emitted (program_of self.now.low.now) self.now.places.now
-            self.now.cells self.now.stack frame.words frame.saved frame.framed to.now way
-            (prim comparison.operation comparison.variable comparison.left comparison.right
-            (end_of end.now))
-            out.old.code out.old.next out.new.code out.new.next) }
+        ensures { OnOk result (EmittedIn self.now frame to.now
+            (compared comparison (end_of end.now)) out.old out.new) }
     {
         match end {
             LowEnd::Give(_) => Ok(()),
@@ -675,7 +561,7 @@ impl<'a> Context<'a> {
             LowEnd::Choose(arms, otherwise) => match arms.as_slice().split_first() {
                 None => Ok(()),
                 Some((first, others)) => {
-                    self.decided_arms(frame, out, to, way, comparison, first, others, otherwise)?;
+                    self.decided_arms(frame, out, to, comparison, first, others, otherwise)?;
                     Ok(())
                 }
             },
@@ -688,31 +574,23 @@ impl<'a> Context<'a> {
         &self,
         frame: Frame,
         out: &mut Selection,
-        to: &[Spot],
-        way: Continuation,
+        to: &Destination,
         end: &LowEnd,
     ) -> Result<(), AllocError>
-        requires writable { CanWrite (program_of self.now.low.now) self.now.places.now
-            self.now.cells }
-        requires frame { FrameFits frame.words frame.saved }
-        requires targets { AreTargets to.now }
-        requires placed { Placed (program_of self.now.low.now) self.now.places.now
-            (end_of end.now) }
-        ensures { OnOk result (Emitted (program_of self.now.low.now) self.now.places.now
-            self.now.cells self.now.stack frame.words frame.saved frame.framed to.now way (end_of end.now)
-            out.old.code out.old.next out.new.code out.new.next) }
+        requires placed { PlacedIn self.now (end_of end.now) }
+        ensures { OnOk result (EmittedIn self.now frame to.now (end_of end.now) out.old out.new) }
     {
         match end {
             LowEnd::Give(operands) => {
-                self.send(&mut out.code, to, operands.as_slice())?;
-                out.code.way_out(frame.framed, frame.words, way)?;
+                self.send(&mut out.code, to.spots, operands.as_slice())?;
+                out.code.way_out(frame.framed, frame.words, to.way)?;
                 Ok(())
             }
             LowEnd::Tail(f, _, operands) => {
                 self.tail(&mut out.code, frame, *f, operands.as_slice())
             }
             LowEnd::Choose(arms, otherwise) => {
-                self.choice(frame, out, to, way, arms.as_slice(), otherwise)
+                self.choice(frame, out, to, arms.as_slice(), otherwise)
             }
             // x5, since a jump that links x1 is a call
             LowEnd::Fail => {
@@ -725,36 +603,29 @@ impl<'a> Context<'a> {
         }
     }
 
-    /// A block that gives its words to these spots, and goes this way then.
+    /// A block that gives its words to the destination's spots, and goes its way then.
     #[cycle(blocks)]
     pub(crate) fn block(
         &self,
         frame: Frame,
         out: &mut Selection,
-        to: &[Spot],
-        way: Continuation,
+        to: &Destination,
         block: &LowBlock,
     ) -> Result<(), AllocError>
-        requires writable { CanWrite (program_of self.now.low.now) self.now.places.now
-            self.now.cells }
-        requires frame { FrameFits frame.words frame.saved }
-        requires targets { AreTargets to.now }
-        requires placed { Placed (program_of self.now.low.now) self.now.places.now
-            (code_of block.now) }
-        ensures { OnOk result (Emitted (program_of self.now.low.now) self.now.places.now
-            self.now.cells self.now.stack frame.words frame.saved frame.framed to.now way (code_of block.now)
-            out.old.code out.old.next out.new.code out.new.next) }
+        requires placed { PlacedIn self.now (code_of block.now) }
+        ensures { OnOk result
+            (EmittedIn self.now frame to.now (code_of block.now) out.old out.new) }
     {
         let mut left = block.stmts.len();
         for stmt in block.stmts.as_slice() {
             left -= 1;
             if let Some(comparison) = deciding_last_comparison(left == 0, stmt, &block.last) {
-                self.decided(frame, out, to, way, comparison, &block.last)?;
+                self.decided(frame, out, to, comparison, &block.last)?;
                 return Ok(());
             }
             self.stmt(frame, out, stmt)?;
         }
-        self.end(frame, out, to, way, &block.last)?;
+        self.end(frame, out, to, &block.last)?;
         Ok(())
     }
 }

@@ -3,12 +3,12 @@
 
 ghost use Rattle.std.specs.Prelude.{◌≡◌, ◌++◌, [], ◌∷◌, ◌<◌, ◌+◌, ◌≤◌, length, map, slice_get, Some, OnOk, IfOk, true};
 ghost use Rattle.parallel_move.specs.Moves.{AllMoveEnds, DistinctTargets, NoScratch};
-ghost use Rattle.low_code.specs.Tree.{program_of};
-ghost use Rattle.register_alloc.specs.Assignment.{place_of};
 ghost use Rattle.rv32_select.specs.Emit.{plain, moves_code, save_moves, restore_moves, argument_spot as spot_of_argument, argument_spots as spots_of_arguments, result_spots as spots_of_results, parameters_code, number_from as number_from_code, number_moves as numbers_code, spot_moves as moves_of};
-ghost use Rattle.rv32_select.specs.IsSelected.{source as source_of, sources as sources_of, argument_spots_of, moves_between as moves_across};
+ghost use Rattle.rv32_select.specs.IsSelected.{moves_between as moves_across};
 ghost use Rattle.rv32_select.specs.Ranges.{in_range, AllInRange, IsSource, AreSources, IsSpot, AreSpots, AreTargets, AreRegisters};
-ghost use Rattle.rv32_select.specs.Writable.{Writable, HasPlace, HavePlaces, OperandPlaced, OperandsPlaced};
+ghost use Rattle.low_code.specs.Tree.{program_of};
+ghost use Rattle.rv32_select.specs.Writable.{FrameFits, CanWrite};
+ghost use Rattle.rv32_select.specs.OneProof.{CanWrite-prop};
 ghost use Rattle.rv32_select.specs.Emitting.{EmitsMoves, EmitsParallelMoves};
 
 use crate::code::Code;
@@ -27,9 +27,11 @@ pub(crate) struct Frame {
     pub(crate) words: u32,
     pub(crate) saved: u32,
     pub(crate) framed: bool,
+    ghost fits: { FrameFits words saved },
 }
 
-/// The program, its places, the number of its cells and the bytes of its frames.
+/// The program, its places, the number of its cells and the bytes of its frames: its items can be
+/// written.
 #[derive(Clone, Copy)]
 pub(crate) struct Context<'a> {
     pub(crate) alloc: Global,
@@ -37,6 +39,7 @@ pub(crate) struct Context<'a> {
     pub(crate) places: &'a Places,
     pub(crate) cells: u32,
     pub(crate) stack: u32,
+    ghost writable: { CanWrite (program_of low.now) places.now cells } by { CanWrite-prop (program_of low.now) places.now cells },
 }
 
 /// The moves that bring operands to spots.
@@ -203,11 +206,11 @@ impl Code {
 }
 
 impl<'a> Context<'a> {
+    ghost use Rattle.rv32_select.specs.InContext.{source_in, sources_in, places_in, argument_spots_in, HavePlacesIn, OperandPlacedIn, OperandsPlacedIn};
+
     pub(crate) fn source(&self, operand: Operand) -> Source
-        requires { Writable (program_of self.now.low.now) self.now.places.now
-            × OperandPlaced (program_of self.now.low.now) self.now.places.now operand }
-        ensures { (result ≡ source_of (program_of self.now.low.now) self.now.places.now operand)
-            × IsSource result }
+        requires { OperandPlacedIn self.now operand }
+        ensures { (result ≡ source_in self.now operand) × IsSource result }
     {
         match operand {
             Operand::Var(x) => Source::At(self.places.place(x)),
@@ -220,11 +223,8 @@ impl<'a> Context<'a> {
     }
 
     pub(crate) fn sources(&self, operands: &[Operand]) -> Result<Vec<Source>, AllocError>
-        requires { Writable (program_of self.now.low.now) self.now.places.now
-            × OperandsPlaced (program_of self.now.low.now) self.now.places.now operands.now }
-        ensures { IfOk result (λ sources.
-            (sources.items
-            ≡ sources_of (program_of self.now.low.now) self.now.places.now operands.now)
+        requires { OperandsPlacedIn self.now operands.now }
+        ensures { IfOk result (λ sources. (sources.items ≡ sources_in self.now operands.now)
             × AreSources sources.items) }
     {
         let mut sources = Vec::new(self.alloc);
@@ -236,10 +236,9 @@ impl<'a> Context<'a> {
 
     /// The places of variables.
     pub(crate) fn spots(&self, variables: &[u32]) -> Result<Vec<Spot>, AllocError>
-        requires { HavePlaces (program_of self.now.low.now) self.now.places.now variables.now }
-        ensures { IfOk result (λ spots.
-            (spots.items ≡ map (place_of self.now.places.now) variables.now)
-            × AreSpots spots.items) }
+        requires { HavePlacesIn self.now variables.now }
+        ensures { IfOk result
+            (λ spots. (spots.items ≡ places_in self.now variables.now) × AreSpots spots.items) }
     {
         let mut spots = Vec::new(self.alloc);
         for x in variables {
@@ -250,11 +249,9 @@ impl<'a> Context<'a> {
 
     /// The spots in which a procedure takes its arguments.
     pub(crate) fn argument_spots(&self, proc: u32) -> Result<Vec<Spot>, AllocError>
-        requires { Writable (program_of self.now.low.now) self.now.places.now
-            × (proc < length self.now.low.now.procs) }
-        ensures { IfOk result (λ spots.
-            (spots.items ≡ argument_spots_of (program_of self.now.low.now) self.now.places.now proc)
-            × AreTargets spots.items) }
+        requires { proc < length self.now.low.now.procs }
+        ensures { IfOk result
+            (λ spots. (spots.items ≡ argument_spots_in self.now proc) × AreTargets spots.items) }
     {
         let places = self.spots(self.low.procs.as_slice()[proc as usize].params.as_slice())?;
         spots_for(self.alloc, places.as_slice())

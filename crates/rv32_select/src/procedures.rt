@@ -2,19 +2,17 @@
 #![tactic(auto, using(crate::proofs::Plain::plain_append, crate::proofs::Entered::entered), unfolding(crate::specs::Emit::plain))]
 
 ghost use Rattle.std.specs.Prelude.{◌≡◌, ◌++◌, [], ◌∷◌, ◌<◌, ◌*◌, ◌+◌, ◌-◌, ◌≤◌, length, map, OnOk, IfOk, ◌/◌, ◌%◌, ◌^◌, nat_eq};
-ghost use Rattle.low_code.specs.Tree.{program_of, procedure_of};
 ghost use Rattle.rv32_select.specs.Emit.{plain, base_register as register_of_base, base_at_entry as base_at_entry_code, base_at_start as base_at_start_code, entry_items, globals_code, start_items, stop_items};
-ghost use Rattle.rv32_select.specs.IsSelected.{sources as sources_of, start_argument as argument_of_start, first_call as first_call_items, is_lasting as is_lasting_base, heap_end as end_of_heap, heap_full as heap_full_label, no_alternative as no_alternative_label, step as bytes_of_cell};
+ghost use Rattle.rv32_select.specs.IsSelected.{start_argument as argument_of_start, first_call as first_call_items, is_lasting as is_lasting_base, step as bytes_of_cell};
 ghost use Rattle.rv32_select.specs.Ranges.{AreSources};
-ghost use Rattle.rv32_select.specs.Writable.{Writable, CanWrite};
-ghost use Rattle.rv32_select.specs.Emitting.{EmittedProcedure};
+ghost use Rattle.rv32_select.specs.InContext.{program, assignment, heap_end_in, heap_full_in, no_alternative_in, sources_in, EmittedProcedureIn};
 ghost use Rattle.limits.specs.Limits.{largest_program, most_stack, heap_start, stack_end};
 
 use crate::blocks::Selection;
 use crate::code::{Code, add_immediate, held, negated};
 use crate::context::{Context, Frame, result_spots};
 use crate::framing::is_framed;
-use crate::source::{Continuation, Source};
+use crate::source::{Continuation, Destination, Source};
 use limits::{HEAP_START, STACK_END};
 use low_code::Operand;
 use parallel_move::Spot;
@@ -114,7 +112,6 @@ impl Code {
 impl<'a> Context<'a> {
     /// Whether no procedure changes x27.
     pub(crate) fn is_lasting(&self) -> bool
-        requires { Writable (program_of self.now.low.now) self.now.places.now }
         ensures { result ≡ is_lasting_base self.now.places.now }
     {
         for proc in 0..self.low.procs.len() {
@@ -127,9 +124,7 @@ impl<'a> Context<'a> {
 
     /// What the start is called with.
     fn start_sources(&self) -> Result<Vec<Source>, AllocError>
-        requires { Writable (program_of self.now.low.now) self.now.places.now }
-        ensures { IfOk result (λ sources.
-            (sources.items ≡ sources_of (program_of self.now.low.now) self.now.places.now
+        ensures { IfOk result (λ sources. (sources.items ≡ sources_in self.now
             (argument_of_start self.now.low.now.argument)) × AreSources sources.items) }
     {
         match self.low.argument {
@@ -140,14 +135,10 @@ impl<'a> Context<'a> {
 
     /// The frames' end, the next cell, the heap's end and the globals.
     pub(crate) fn start_up(&self, code: &mut Code) -> Result<(), AllocError>
-        requires writable { CanWrite (program_of self.now.low.now) self.now.places.now
-            self.now.cells }
         requires globals { length self.now.low.now.globals ≤ largest_program }
-        ensures { OnOk result (code.new ≡ code.old
-            ++ start_items stack_end heap_start
-            (end_of_heap (program_of self.now.low.now) self.now.cells)
-            (bytes_of_cell (program_of self.now.low.now))
-            (heap_full_label (program_of self.now.low.now)) self.now.low.now.globals) }
+        ensures { OnOk result
+            (code.new ≡ code.old ++ start_items stack_end heap_start (heap_end_in self.now)
+            (bytes_of_cell (program self.now)) (heap_full_in self.now) self.now.low.now.globals) }
     {
         let globals = self.low.globals.as_slice();
         let step = 4 * self.low.width;
@@ -160,12 +151,10 @@ impl<'a> Context<'a> {
 
     /// The call of the start, and the exit after it.
     pub(crate) fn first_call(&self, code: &mut Code, lasting: bool) -> Result<(), AllocError>
-        requires writable { Writable (program_of self.now.low.now) self.now.places.now }
         requires stack { self.now.stack ≤ most_stack }
         requires lasting { lasting ≡ is_lasting_base self.now.places.now }
-        ensures { OnOk result (code.new ≡ code.old
-            ++ first_call_items (program_of self.now.low.now) self.now.places.now
-            (stack_end - self.now.stack)) }
+        ensures { OnOk result (code.new ≡ code.old ++ first_call_items
+            (program self.now) (assignment self.now) (stack_end - self.now.stack)) }
     {
         let to = self.argument_spots(self.low.start)?;
         let from = self.start_sources()?;
@@ -185,14 +174,10 @@ impl<'a> Context<'a> {
         lasting: bool,
         proc: u32,
     ) -> Result<(), AllocError>
-        requires writable { CanWrite (program_of self.now.low.now) self.now.places.now
-            self.now.cells }
         requires stack { self.now.stack ≤ most_stack }
         requires lasting { lasting ≡ is_lasting_base self.now.places.now }
         requires proc { proc < length self.now.low.now.procs }
-        ensures { OnOk result (EmittedProcedure (program_of self.now.low.now) self.now.places.now
-            self.now.cells self.now.stack proc out.old.code out.old.next out.new.code
-            out.new.next) }
+        ensures { OnOk result (EmittedProcedureIn self.now proc out.old out.new) }
     {
         let procedure = &self.low.procs.as_slice()[proc as usize];
         let words = self.places.frame_words(proc);
@@ -210,25 +195,22 @@ impl<'a> Context<'a> {
             params.as_slice(),
         )?;
         let results = result_spots(self.alloc, procedure.results)?;
-        self.block(
-            Frame {
-                words,
-                saved,
-                framed,
-            },
-            out,
-            results.as_slice(),
-            Continuation::Returns,
-            &procedure.body,
-        )?;
+        let frame = Frame {
+            words,
+            saved,
+            framed,
+        };
+        let to = Destination {
+            spots: results.as_slice(),
+            way: Continuation::Returns,
+        };
+        self.block(frame, out, &to, &procedure.body)?;
         Ok(())
     }
 
     /// The stops, after all procedures.
     pub(crate) fn stops(&self, code: &mut Code) -> Result<(), AllocError>
-        requires { Writable (program_of self.now.low.now) self.now.places.now }
-        ensures { OnOk result (code.new ≡ code.old
-            ++ stop_items (no_alternative_label (program_of self.now.low.now))) }
+        ensures { OnOk result (code.new ≡ code.old ++ stop_items (no_alternative_in self.now)) }
     {
         code.stops(self.no_alternative())
     }

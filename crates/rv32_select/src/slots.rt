@@ -2,11 +2,11 @@
 #![tactic(auto, using(crate::proofs::SlotsOf::slots_of_all))]
 
 ghost use Rattle.std.specs.Prelude.{◌≡◌, ◌<◌, IfOk};
-ghost use Rattle.low_code.specs.Tree.{program_of, procedure_of};
+ghost use Rattle.low_code.specs.Tree.{procedure_of};
 ghost use Rattle.low_code.specs.Formed.{variables as variables_of};
 ghost use Rattle.register_alloc.specs.Assignment.{place_of};
 ghost use Rattle.register_alloc.specs.Fits.{slot_end as end_of_slot, slots_of};
-ghost use Rattle.rv32_select.specs.Writable.{HavePlaces};
+ghost use Rattle.rv32_select.specs.InContext.{HavePlacesIn};
 
 use crate::context::Context;
 use low_code::LowProc;
@@ -29,8 +29,7 @@ fn slot_end(place: Spot) -> u32
 impl<'a> Context<'a> {
     /// One more than the number of the last slot among variables.
     fn slots_among(&self, variables: &[u32]) -> u32
-        requires placed { HavePlaces (program_of self.now.low.now) self.now.places.now
-            variables.now }
+        requires placed { HavePlacesIn self.now variables.now }
         requires few { slots_of (place_of self.now.places.now) variables.now < 4294967296 }
         ensures { result ≡ slots_of (place_of self.now.places.now) variables.now }
     {
@@ -43,8 +42,7 @@ impl<'a> Context<'a> {
 
     /// The same of all variables of a procedure.
     pub(crate) fn slots(&self, procedure: &LowProc) -> Result<u32, AllocError>
-        requires placed { HavePlaces (program_of self.now.low.now) self.now.places.now
-            (variables_of (procedure_of procedure.now)) }
+        requires placed { HavePlacesIn self.now (variables_of (procedure_of procedure.now)) }
         requires few { slots_of (place_of self.now.places.now)
             (variables_of (procedure_of procedure.now)) < 4294967296 }
         ensures { IfOk result (λ slots. slots

@@ -1,5 +1,8 @@
 // What operands are, and where blocks go.
 
+ghost use Rattle.rv32_select.specs.Ranges.{AreTargets};
+ghost use Rattle.rv32_select.specs.OneProof.{AreTargets-prop};
+
 use parallel_move::Spot;
 
 /// What an operand is: the word at a spot, or a number.
@@ -16,4 +19,12 @@ pub enum Continuation {
     Returns,
     Follows(u32),
     Jumps(u32),
+}
+
+/// The spots to which a block gives its words at once, and where it goes then.
+#[derive(Clone, Copy)]
+pub(crate) struct Destination<'a> {
+    pub(crate) spots: &'a [Spot],
+    pub(crate) way: Continuation,
+    ghost targets: { AreTargets spots.now } by { AreTargets-prop spots.now },
 }

@@ -150,9 +150,7 @@ impl Code {
         match f {
             PrimOp::Add => self.instr(add_immediate(t, q, lower(n as u64))),
             PrimOp::Sub => self.instr(add_immediate(t, q, lower(negated(n) as u64))),
-            PrimOp::Mul => Ok(()),
-            PrimOp::Quot => Ok(()),
-            PrimOp::Rem => Ok(()),
+            PrimOp::Mul | PrimOp::Quot | PrimOp::Rem => Ok(()),
             PrimOp::Eq => {
                 if n == 0 {
                     return self.instr(Instr::OpImm(ImmKind::Sltiu, t, q, Imm12(1)));

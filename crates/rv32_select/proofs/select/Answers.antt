@@ -5,25 +5,11 @@ use Rattle.rv32_select.proofs.SelectedRuns.{selected_items_do}
 use Rattle.rv32_select.proofs.Writes.{can_write}
 use Rattle.rv32_select.proofs.select.Goals as goal
 
-pub start_up-requires-clause-writable : goal.start_up-requires-clause-writable
-start_up-requires-clause-writable c = can_write (program_of c.args.low.now) c.args.places.now
-    c.args.cells c.args.stack c.requires
-
-pub first_call-requires-clause-writable : goal.first_call-requires-clause-writable
-first_call-requires-clause-writable c =
-    (can_write (program_of c.args.low.now) c.args.places.now c.args.cells c.args.stack c.requires).0
-
-pub procedure-requires-clause-writable : goal.procedure-requires-clause-writable
-procedure-requires-clause-writable c = can_write (program_of c.args.low.now) c.args.places.now
-    c.args.cells c.args.stack c.requires
-
-pub is_lasting-lasting-requires : goal.is_lasting-lasting-requires
-is_lasting-lasting-requires c =
-    (can_write (program_of c.args.low.now) c.args.places.now c.args.cells c.args.stack c.requires).0
-
-pub stops-requires : goal.stops-requires
-stops-requires c =
-    (can_write (program_of c.args.low.now) c.args.places.now c.args.cells c.args.stack c.requires).0
+pub invariant_of-context : goal.invariant_of-context
+invariant_of-context c = record {
+  writable = can_write (program_of c.args.low.now) c.args.places.now c.args.cells c.args.stack
+      c.requires;
+}
 
 pub loop-proc-preserved : goal.loop-proc-preserved
 loop-proc-preserved c =

@@ -1,3 +1,4 @@
+use Rattle.grin_opt.proofs.Several.{both_ok}
 use Rattle.grin_opt.proofs.schedule.updated_and_unboxed.Goals as goal
 
 pub with_literal_tags_by-requires-clause-of_vectors
@@ -17,14 +18,12 @@ pub with_unboxed_numbers_by-requires-clause-least
 with_unboxed_numbers_by-requires-clause-least c = c.in_ok-updated.ensures.still_least
 
 pub returns : goal.returns
-returns c = record {
-  between = _;
-  first = record {
-    shape = c.in_ok-updated.ensures.shape;
-    keeps = c.in_ok-updated.ensures.meaning;
-  };
-  second = record {
-    shape = c.in_ok-unboxed.ensures.shape;
-    keeps = c.in_ok-unboxed.ensures.meaning;
-  };
-}
+returns c = both_ok _ _ _ c.with_unboxed_numbers_by.result
+    (λ h shape keeps. record {
+      between = _;
+      first = record {
+        shape = c.in_ok-updated.ensures.shape;
+        keeps = c.in_ok-updated.ensures.meaning;
+      };
+      second = record { shape = shape; keeps = keeps };
+    }) c.with_unboxed_numbers_by.ensures.shape c.with_unboxed_numbers_by.ensures.meaning

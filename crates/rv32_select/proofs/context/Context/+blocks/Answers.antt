@@ -9,7 +9,6 @@ use Rattle.rv32_select.specs.Emitting.{Emitted, TestsAscend, TestsAscendIfSearch
 use Rattle.rv32_select.specs.Decides.{decides, tested}
 use Rattle.rv32_select.specs.Writable.{ArmsPlaced, BlocksPlaced}
 use Rattle.seq.specs.Lists.{sum_of}
-use Rattle.rv32_select.proofs.Sending.{targets_of}
 use Rattle.rv32_select.proofs.Emitted.{arm_placed, arm_at_placed, first_last_placed, first_last_made, arm_added, single, both_true, last_chosen, order_chosen, stmt_placed, last_placed, otherwise_placed, called_there, chosen_placed, arms_made, first_placed, choice_is, within_none, within_more, decided_placed, decided_made, decided_first_made, decided_last_made, decided_first_chosen, decided_last_chosen, not_decided, choice_none, block_made}
 use Rattle.rv32_select.proofs.EmittedStatements.{joined_placed, on_ok, put_done, join_done, get_done}
 use Rattle.rv32_items.specs.declared.Cond.TheVariants.{Geu}
@@ -21,17 +20,8 @@ pub arm-block-requires : goal.arm-block-requires
 arm-block-requires t c =
     let w = arm_block_lighter c.args.arm.now in (
       omega (arith, w),
-      (
-        c.requires.writable,
-        (
-          c.requires.frame,
-          (
-            c.requires.targets,
-            (arm_placed (program_of c.args.self.now.low.now) c.args.self.now.places.now _
-                c.requires.placed).1,
-          ),
-        ),
-      ),
+      (arm_placed (program_of c.args.self.now.low.now) c.args.self.now.places.now _
+          c.requires.placed).1,
     )
 
 pub block-stmt-requires : goal.block-stmt-requires
@@ -39,49 +29,25 @@ block-stmt-requires t c =
     let w = stmt_lighter c.args.block.now _ _ _ c.as_slice-stmt-items.ensures c.loop-stmt-test.true
     c.stmt-item.is in (
       omega (arith, w),
-      (
-        c.requires.writable,
-        (
-          c.requires.frame,
-          stmt_placed _ _ _ _ _ _ _ c.args.block.now _ _ _ _ _ _ _
-              c.stmt-item.result c.as_slice-stmt-items.ensures c.loop-stmt-test.true c.stmt-item.is
-              c.loop-stmt.invariant c.requires.placed,
-        ),
-      ),
+      stmt_placed _ _ _ _ _ _ _ c.args.block.now _ _ _ _ _ _ _
+          c.stmt-item.result c.as_slice-stmt-items.ensures c.loop-stmt-test.true c.stmt-item.is
+          c.loop-stmt.invariant c.requires.placed,
     )
 
 pub block-end-requires : goal.block-end-requires
 block-end-requires t c =
     let w = last_lighter c.args.block.now in (
       omega (arith, w),
-      (
-        c.requires.writable,
-        (
-          c.requires.frame,
-          (
-            c.requires.targets,
-            last_placed _ _ _ _ _ _ _ c.args.block.now _ _ _ _ _ _ _
-                c.as_slice-stmt-items.ensures c.loop-stmt-test.false c.loop-stmt.invariant
-                c.requires.placed,
-          ),
-        ),
-      ),
+      last_placed _ _ _ _ _ _ _ c.args.block.now _ _ _ _ _ _ _
+          c.as_slice-stmt-items.ensures c.loop-stmt-test.false c.loop-stmt.invariant
+          c.requires.placed,
     )
 
 pub arms-block-requires : goal.arms-block-requires
 arms-block-requires t c = (
   omega arith,
-  (
-    c.requires.writable,
-    (
-      c.requires.frame,
-      (
-        c.requires.targets,
-        otherwise_placed _ _ _ _ _ _ _ _ _ _ _ _ _ _ _ _ c.loop-arm-test.false
-            c.loop-arm.invariant c.requires.placed,
-      ),
-    ),
-  ),
+  otherwise_placed _ _ _ _ _ _ _ _ _ _ _ _ _ _ _ _ c.loop-arm-test.false
+      c.loop-arm.invariant c.requires.placed,
 )
 
 pub arms-arm-requires : goal.arms-arm-requires
@@ -89,80 +55,38 @@ arms-arm-requires t c =
     let w = arm_lighter c.args.arms.now c.loop-arm.arm-index c.arm-item.result c.loop-arm-test.true
     c.arm-item.is in (
       omega (arith, w),
-      (
-        c.requires.writable,
-        (
-          c.requires.frame,
-          (
-            c.requires.targets,
-            arm_at_placed _ _ _ _ _ _ _ _ _ _ _ _ _ _ _ _ c.arm-item.result
-                c.loop-arm-test.true c.arm-item.is c.loop-arm.invariant c.requires.placed,
-          ),
-        ),
-      ),
+      arm_at_placed _ _ _ _ _ _ _ _ _ _ _ _ _ _ _ _ c.arm-item.result
+          c.loop-arm-test.true c.arm-item.is c.loop-arm.invariant c.requires.placed,
     )
 
 pub first_last-source-requires : goal.first_last-source-requires
-first_last-source-requires t c = (
-  c.requires.writable.0,
-  (first_last_placed (program_of c.args.self.now.low.now) c.args.self.now.places.now
-      c.args.first.now c.args.test c.args.arms.now (code_of c.args.otherwise.now) c.requires.test
-      c.requires.placed).0,
-)
+first_last-source-requires t c =
+    (first_last_placed (program_of c.args.self.now.low.now) c.args.self.now.places.now
+    c.args.first.now c.args.test c.args.arms.now (code_of c.args.otherwise.now) c.requires.test
+    c.requires.placed).0
 
 pub first_last-arms-requires : goal.first_last-arms-requires
 first_last-arms-requires t c =
     let w = first_lighter c.args.first.now c.args.arms.now (block_weight c.args.otherwise.now) in (
       omega (arith, w.0),
-      (
-        c.requires.writable,
-        (
-          c.requires.frame,
-          (
-            c.requires.targets,
-            (first_last_placed (program_of c.args.self.now.low.now) c.args.self.now.places.now
-                c.args.first.now c.args.test c.args.arms.now (code_of c.args.otherwise.now)
-                c.requires.test
-                c.requires.placed).1.0,
-          ),
-        ),
-      ),
+      (first_last_placed (program_of c.args.self.now.low.now) c.args.self.now.places.now
+          c.args.first.now c.args.test c.args.arms.now (code_of c.args.otherwise.now)
+          c.requires.test
+          c.requires.placed).1.0,
     )
 
 pub first_last-block-requires : goal.first_last-block-requires
 first_last-block-requires t c =
     let w = first_lighter c.args.first.now c.args.arms.now (block_weight c.args.otherwise.now) in (
       omega (arith, w.1),
-      (
-        c.requires.writable,
-        (
-          c.requires.frame,
-          (
-            c.requires.targets,
-            (first_last_placed (program_of c.args.self.now.low.now) c.args.self.now.places.now
-                c.args.first.now c.args.test c.args.arms.now (code_of c.args.otherwise.now)
-                c.requires.test
-                c.requires.placed).1.1,
-          ),
-        ),
-      ),
+      (first_last_placed (program_of c.args.self.now.low.now) c.args.self.now.places.now
+          c.args.first.now c.args.test c.args.arms.now (code_of c.args.otherwise.now)
+          c.requires.test
+          c.requires.placed).1.1,
     )
 
 pub join-block-requires : goal.join-block-requires
-join-block-requires t c = (
-  omega arith,
-  (
-    c.requires.writable,
-    (
-      c.requires.frame,
-      (
-        targets_of (program_of c.args.self.now.low.now) c.args.self.now.places.now _ _ _
-            c.as_slice.ensures.value c.in_ok-spots.ensures c.requires.variables,
-        c.requires.placed,
-      ),
-    ),
-  ),
-)
+join-block-requires t c = (omega arith, c.requires.placed)
 
 pub end-tail-requires-clause-proc : goal.end-tail-requires-clause-proc
 end-tail-requires-clause-proc t c = called_there c.args.self.now.low.now c.args.self.now.places.now
@@ -173,34 +97,19 @@ end-choice-requires t c =
     let w = choice_lighter c.args.end.now _ _ _ _ c.in-Choose.is c.as_slice-in-Choose.ensures
     c.deref.ensures in (
       omega (arith, w),
-      (
-        c.requires.writable,
-        (
-          c.requires.frame,
-          (
-            c.requires.targets,
-            chosen_placed (program_of c.args.self.now.low.now)
-                c.args.self.now.places.now c.args.end.now _ _ _ _ c.in-Choose.is
-                c.as_slice-in-Choose.ensures c.deref.ensures c.requires.placed,
-          ),
-        ),
-      ),
+      chosen_placed (program_of c.args.self.now.low.now)
+          c.args.self.now.places.now c.args.end.now _ _ _ _ c.in-Choose.is
+          c.as_slice-in-Choose.ensures c.deref.ensures c.requires.placed,
     )
 
 pub stmt-join-requires : goal.stmt-join-requires
 stmt-join-requires t c =
     let w = join_lighter c.args.stmt.now _ _ _ c.in-Join.is c.deref.ensures in (
       omega (arith, w),
-      (
-        c.requires.writable,
-        (
-          c.requires.frame,
-          joined_placed (program_of c.args.self.now.low.now)
-              c.args.self.now.places.now c.args.stmt.now _ _ _ _ c.in-Join.is
-              c.as_slice-in-Join.ensures
-              c.deref.ensures c.requires.placed,
-        ),
-      ),
+      joined_placed (program_of c.args.self.now.low.now)
+          c.args.self.now.places.now c.args.stmt.now _ _ _ _ c.in-Join.is
+          c.as_slice-in-Join.ensures
+          c.deref.ensures c.requires.placed,
     )
 
 pub block-returns : goal.block-returns
@@ -223,7 +132,8 @@ pub first_last-returns : goal.first_last-returns
 first_last-returns t c =
     first_last_made (program_of c.args.self.now.low.now) c.args.self.now.places.now
     c.args.self.now.cells c.args.self.now.stack c.args.frame.words c.args.frame.saved
-    c.args.frame.framed c.args.to.now c.args.way c.continued_by_jump.result c.args.first.now
+    c.args.frame.framed c.args.to.now.spots.now c.args.to.now.way c.continued_by_jump.result
+    c.args.first.now
     c.args.test c.args.arms.now (code_of c.args.otherwise.now) _ _ _ _ _ _ _ _ _ _
     c.requires.test c.in_ok-label.ensures.0 c.in_ok-label.ensures.1 c.continued_by_jump.ensures
     (c.in_ok-match_to.ensures ∙
@@ -239,20 +149,11 @@ choose-first_last-requires t c =
     let w = ap (λ ts. sum_of (map arm_weight ts)) all in (
       omega (arith, w),
       (
-        c.requires.writable,
-        (
-          c.requires.frame,
-          (
-            c.requires.targets,
-            (
-              one,
-              subst
-                  (λ ts. ArmsPlaced (program_of c.args.self.now.low.now) c.args.self.now.places.now
-                  (arms_before (map arm_of ts) (code_of c.args.otherwise.now))) all
-                  c.requires.placed,
-            ),
-          ),
-        ),
+        one,
+        subst
+            (λ ts. ArmsPlaced (program_of c.args.self.now.low.now) c.args.self.now.places.now
+            (arms_before (map arm_of ts) (code_of c.args.otherwise.now))) all
+            c.requires.placed,
       ),
     )
 
@@ -260,7 +161,8 @@ pub choose-returns-then-first_arm_goes_last : goal.choose-returns-then-first_arm
 choose-returns-then-first_arm_goes_last t c =
     last_chosen (program_of c.args.self.now.low.now) c.args.self.now.places.now
     c.args.self.now.cells c.args.self.now.stack c.args.frame.words c.args.frame.saved
-    c.args.frame.framed c.args.to.now c.args.way c.args.arms.now c.in-Some.others.now
+    c.args.frame.framed c.args.to.now.spots.now c.args.to.now.way c.args.arms.now
+    c.in-Some.others.now
     c.in-Some.first.now (code_of c.args.otherwise.now) c.first_arm_goes_last.result _ _ _ _
     c.in-Some.ensures.cases.0 c.first_arm_goes_last.ensures c.if-first_arm_goes_last.true
     c.in_ok-first_last-in-Some.ensures
@@ -269,7 +171,8 @@ pub choose-returns-in_ok-arms-in-Some : goal.choose-returns-in_ok-arms-in-Some
 choose-returns-in_ok-arms-in-Some t c =
     order_chosen (program_of c.args.self.now.low.now) c.args.self.now.places.now
     c.args.self.now.cells c.args.self.now.stack c.args.frame.words c.args.frame.saved
-    c.args.frame.framed c.args.to.now c.args.way c.args.arms.now c.in-Some.others.now
+    c.args.frame.framed c.args.to.now.spots.now c.args.to.now.way c.args.arms.now
+    c.in-Some.others.now
     c.in-Some.first.now (code_of c.args.otherwise.now) c.first_arm_goes_last.result _ _ _ _
     c.in-Some.ensures.cases.0 c.first_arm_goes_last.ensures c.if-first_arm_goes_last.false
     c.in_ok-arms-in-Some.ensures
@@ -300,7 +203,7 @@ block-decided-requires t c =
     c.loop-stmt.invariant c.requires.placed in
     let w = last_lighter c.args.block.now in (
       omega (arith, w),
-      (c.requires.writable, (c.requires.frame, (c.requires.targets, (p.0, (p.1, so.1.1))))),
+      (p.0, (p.1, so.1.1)),
     )
 
 pub block-returns-in-Some : goal.block-returns-in-Some
@@ -326,24 +229,15 @@ decided-decided_arms-requires t c =
     in (
       omega (arith, w, more),
       (
-        c.requires.writable,
+        c.requires.operands,
         (
-          c.requires.frame,
-          (
-            c.requires.targets,
-            (
-              c.requires.operands,
-              (
-                subst (λ ts. ArmsPlaced (program_of c.args.self.now.low.now)
-                    c.args.self.now.places.now
-                    (arms_before (map arm_of ts) (code_of c.deref.result.now))) all arms,
-                subst (λ e. decides c.args.comparison.operation c.args.comparison.variable e ≡ true)
-                    (choice_is c.args.end.now _ _ _ _ _ _ c.in-Choose.is c.as_slice.ensures
-                    c.deref.ensures all)
-                    c.requires.decides,
-              ),
-            ),
-          ),
+          subst (λ ts. ArmsPlaced (program_of c.args.self.now.low.now)
+              c.args.self.now.places.now
+              (arms_before (map arm_of ts) (code_of c.deref.result.now))) all arms,
+          subst (λ e. decides c.args.comparison.operation c.args.comparison.variable e ≡ true)
+              (choice_is c.args.end.now _ _ _ _ _ _ c.in-Choose.is c.as_slice.ensures
+              c.deref.ensures all)
+              c.requires.decides,
         ),
       ),
     )
@@ -353,18 +247,9 @@ decided_first-block-requires t c =
     let w = first_lighter c.args.first.now c.args.others.now (block_weight c.args.otherwise.now)
     in (
       omega (arith, w.1),
-      (
-        c.requires.writable,
-        (
-          c.requires.frame,
-          (
-            c.requires.targets,
-            (first_placed (program_of c.args.self.now.low.now) c.args.self.now.places.now
-                c.args.first.now c.args.others.now (code_of c.args.otherwise.now)
-                c.requires.placed).1,
-          ),
-        ),
-      ),
+      (first_placed (program_of c.args.self.now.low.now) c.args.self.now.places.now
+          c.args.first.now c.args.others.now (code_of c.args.otherwise.now)
+          c.requires.placed).1,
     )
 
 pub decided_first-arms-requires : goal.decided_first-arms-requires
@@ -372,18 +257,9 @@ decided_first-arms-requires t c =
     let w = first_lighter c.args.first.now c.args.others.now (block_weight c.args.otherwise.now)
     in (
       omega (arith, w.0),
-      (
-        c.requires.writable,
-        (
-          c.requires.frame,
-          (
-            c.requires.targets,
-            (first_placed (program_of c.args.self.now.low.now) c.args.self.now.places.now
-                c.args.first.now c.args.others.now (code_of c.args.otherwise.now)
-                c.requires.placed).0,
-          ),
-        ),
-      ),
+      (first_placed (program_of c.args.self.now.low.now) c.args.self.now.places.now
+          c.args.first.now c.args.others.now (code_of c.args.otherwise.now)
+          c.requires.placed).0,
     )
 
 pub decided_last-block-requires : goal.decided_last-block-requires
@@ -391,18 +267,9 @@ decided_last-block-requires t c =
     let w = first_lighter c.args.first.now c.args.others.now (block_weight c.args.otherwise.now)
     in (
       omega (arith, w.1),
-      (
-        c.requires.writable,
-        (
-          c.requires.frame,
-          (
-            c.requires.targets,
-            (first_placed (program_of c.args.self.now.low.now) c.args.self.now.places.now
-                c.args.first.now c.args.others.now (code_of c.args.otherwise.now)
-                c.requires.placed).1,
-          ),
-        ),
-      ),
+      (first_placed (program_of c.args.self.now.low.now) c.args.self.now.places.now
+          c.args.first.now c.args.others.now (code_of c.args.otherwise.now)
+          c.requires.placed).1,
     )
 
 pub decided_last-arms-requires : goal.decided_last-arms-requires
@@ -410,25 +277,17 @@ decided_last-arms-requires t c =
     let w = first_lighter c.args.first.now c.args.others.now (block_weight c.args.otherwise.now)
     in (
       omega (arith, w.0),
-      (
-        c.requires.writable,
-        (
-          c.requires.frame,
-          (
-            c.requires.targets,
-            (first_placed (program_of c.args.self.now.low.now) c.args.self.now.places.now
-                c.args.first.now c.args.others.now (code_of c.args.otherwise.now)
-                c.requires.placed).0,
-          ),
-        ),
-      ),
+      (first_placed (program_of c.args.self.now.low.now) c.args.self.now.places.now
+          c.args.first.now c.args.others.now (code_of c.args.otherwise.now)
+          c.requires.placed).0,
     )
 
 pub decided_first-returns : goal.decided_first-returns
 decided_first-returns t c =
     decided_first_made (program_of c.args.self.now.low.now) c.args.self.now.places.now
     c.args.self.now.cells c.args.self.now.stack c.args.frame.words c.args.frame.saved
-    c.args.frame.framed c.args.to.now c.args.way c.continued_by_jump.result c.args.first.now
+    c.args.frame.framed c.args.to.now.spots.now c.args.to.now.way c.continued_by_jump.result
+    c.args.first.now
     c.args.others.now (code_of c.args.otherwise.now) c.args.comparison.operation
     (source (program_of c.args.self.now.low.now) c.args.self.now.places.now
     c.args.comparison.left)
@@ -445,7 +304,8 @@ pub decided_last-returns : goal.decided_last-returns
 decided_last-returns t c =
     decided_last_made (program_of c.args.self.now.low.now) c.args.self.now.places.now
     c.args.self.now.cells c.args.self.now.stack c.args.frame.words c.args.frame.saved
-    c.args.frame.framed c.args.to.now c.args.way c.continued_by_jump.result c.args.first.now
+    c.args.frame.framed c.args.to.now.spots.now c.args.to.now.way c.continued_by_jump.result
+    c.args.first.now
     c.args.others.now (code_of c.args.otherwise.now) c.args.comparison.operation
     (source (program_of c.args.self.now.low.now) c.args.self.now.places.now
     c.args.comparison.left)
@@ -463,7 +323,7 @@ pub decided_arms-returns-then-first_arm_goes_last :
 decided_arms-returns-then-first_arm_goes_last t c =
     decided_last_chosen (program_of c.args.self.now.low.now) c.args.self.now.places.now
     c.args.self.now.cells c.args.self.now.stack c.args.frame.words c.args.frame.saved
-    c.args.frame.framed c.args.to.now c.args.way c.args.first.now c.args.others.now
+    c.args.frame.framed c.args.to.now.spots.now c.args.to.now.way c.args.first.now c.args.others.now
     (code_of c.args.otherwise.now) c.args.comparison.operation c.args.comparison.variable
     c.args.comparison.left c.args.comparison.right _ _ c.first_arm_goes_last.result _ _ _ _ refl
     refl c.first_arm_goes_last.ensures c.if-first_arm_goes_last.true c.requires.decides
@@ -473,7 +333,7 @@ pub decided_arms-returns : goal.decided_arms-returns
 decided_arms-returns t c =
     decided_first_chosen (program_of c.args.self.now.low.now) c.args.self.now.places.now
     c.args.self.now.cells c.args.self.now.stack c.args.frame.words c.args.frame.saved
-    c.args.frame.framed c.args.to.now c.args.way c.args.first.now c.args.others.now
+    c.args.frame.framed c.args.to.now.spots.now c.args.to.now.way c.args.first.now c.args.others.now
     (code_of c.args.otherwise.now) c.args.comparison.operation c.args.comparison.variable
     c.args.comparison.left c.args.comparison.right _ _ c.first_arm_goes_last.result _ _ _ _ refl
     refl c.first_arm_goes_last.ensures c.if-first_arm_goes_last.false c.requires.decides
@@ -515,7 +375,7 @@ decided-returns-in_ok-decided_arms-in-Some t c =
     c.deref.ensures c.in-Some.ensures.cases.0 in
     subst (λ e. Emitted (program_of c.args.self.now.low.now) c.args.self.now.places.now
     c.args.self.now.cells c.args.self.now.stack c.args.frame.words c.args.frame.saved
-    c.args.frame.framed c.args.to.now c.args.way
+    c.args.frame.framed c.args.to.now.spots.now c.args.to.now.way
     (prim c.args.comparison.operation c.args.comparison.variable c.args.comparison.left
     c.args.comparison.right e) c.args.out.now.code c.args.out.now.next
     c.decided_arms.new.out.code c.decided_arms.new.out.next) (sym same)
@@ -523,7 +383,8 @@ decided-returns-in_ok-decided_arms-in-Some t c =
 
 pub arms-returns : goal.arms-returns
 arms-returns t c = on_ok c.block.result _ _
-    (λ e. arms_made _ _ _ _ _ _ _ c.args.to.now c.args.way _ (code_of c.args.otherwise.now)
+    (λ e. arms_made _ _ _ _ _ _ _ c.args.to.now.spots.now c.args.to.now.way _
+    (code_of c.args.otherwise.now)
     c.args.arms.now c.loop-arm.arm-index _ _ _ _ _ _ c.loop-arm-test.false c.loop-arm.invariant e)
     c.block.ensures
 
@@ -535,18 +396,9 @@ pub halves-block-requires : goal.halves-block-requires
 halves-block-requires t c =
     let w = first_light c.args.arms.now _ c.requires.some c.index-arms-0.is in (
       omega (arith, w),
-      (
-        c.requires.writable,
-        (
-          c.requires.frame,
-          (
-            c.requires.targets,
-            first_sought (program_of c.args.self.now.low.now)
-                c.args.self.now.places.now c.args.arms.now _ c.requires.some c.index-arms-0.is
-                c.requires.placed,
-          ),
-        ),
-      ),
+      first_sought (program_of c.args.self.now.low.now)
+          c.args.self.now.places.now c.args.arms.now _ c.requires.some c.index-arms-0.is
+          c.requires.placed,
     )
 
 pub halves-returns-then-arms-eq1 : goal.halves-returns-then-arms-eq1
@@ -554,7 +406,8 @@ halves-returns-then-arms-eq1 t c =
     let e : length c.args.arms.now ≡ 1 = c.if-arms-eq1.true in
     searched_one (program_of c.args.self.now.low.now) c.args.self.now.places.now
     c.args.self.now.cells c.args.self.now.stack c.args.frame.words c.args.frame.saved
-    c.args.frame.framed c.args.search.miss c.args.search.word c.args.to.now c.args.way
+    c.args.frame.framed c.args.search.miss c.args.search.word c.args.to.now.spots.now
+    c.args.to.now.way
     c.args.search.low c.args.search.high c.args.arms.now _ c.number_of.result _ _ _ _ _
     (only_arm c.args.arms.now _ e c.index-arms-0.is)
     (first_test c.args.search.word c.args.search.low c.args.search.high c.args.arms.now _
@@ -585,13 +438,7 @@ halves-halves-requires t c =
     parts.whole c.requires.placed) in
     let w = parts.lighter.0 in (
       omega (arith, w),
-      (
-        c.requires.writable,
-        (
-          c.requires.frame,
-          (c.requires.targets, (parts.some.0, (c.requires.word, (parts.below, placed.0)))),
-        ),
-      ),
+      (parts.some.0, (c.requires.word, (parts.below, placed.0))),
     )
 
 pub halves-halves-requires-2 : goal.halves-halves-requires-2
@@ -609,13 +456,7 @@ halves-halves-requires-2 t c =
     parts.whole c.requires.placed) in
     let w = parts.lighter.1 in (
       omega (arith, w),
-      (
-        c.requires.writable,
-        (
-          c.requires.frame,
-          (c.requires.targets, (parts.some.1, (c.requires.word, (parts.above, placed.1)))),
-        ),
-      ),
+      (parts.some.1, (c.requires.word, (parts.above, placed.1))),
     )
 
 pub halves-returns : goal.halves-returns
@@ -627,7 +468,8 @@ halves-returns t c =
     (sym c.split_at.ensures.back) in
     searched_two (program_of c.args.self.now.low.now) c.args.self.now.places.now
     c.args.self.now.cells c.args.self.now.stack c.args.frame.words c.args.frame.saved
-    c.args.frame.framed c.args.search.miss c.args.search.word c.args.to.now c.args.way
+    c.args.frame.framed c.args.search.miss c.args.search.word c.args.to.now.spots.now
+    c.args.to.now.way
     c.args.search.low c.number_of-bound.result c.args.search.high c.args.arms.now
     c.split_at.result.0.now c.split_at.result.1.now _ _ _ _ _ _ _ _ _ _ whole
     c.in_ok-label.ensures.0 c.in_ok-label.ensures.1
@@ -645,22 +487,13 @@ choice-halves-requires t c =
     in (
       omega arith,
       (
-        c.requires.writable,
+        found.0,
         (
-          c.requires.frame,
-          (
-            c.requires.targets,
-            (
-              found.0,
-              (
-                word_placed (program_of c.args.self.now.low.now) c.args.self.now.places.now
-                    c.in-Some.word
-                    0 None c.args.arms.now (code_of c.args.otherwise.now) found.0 found.1
-                    c.requires.placed,
-                (found.1, p.0),
-              ),
-            ),
-          ),
+          word_placed (program_of c.args.self.now.low.now) c.args.self.now.places.now
+              c.in-Some.word
+              0 None c.args.arms.now (code_of c.args.otherwise.now) found.0 found.1
+              c.requires.placed,
+          (found.1, p.0),
         ),
       ),
     )
@@ -669,18 +502,19 @@ pub choice-block-requires : goal.choice-block-requires
 choice-block-requires t c =
     let p = all_placed (program_of c.args.self.now.low.now) c.args.self.now.places.now
     c.args.arms.now (code_of c.args.otherwise.now) c.requires.placed in
-    (omega arith, (c.requires.writable, (c.requires.frame, (c.requires.targets, p.1))))
+    (omega arith, p.1)
 
 pub choice-returns : goal.choice-returns
 choice-returns t c =
     subst (λ old. Emitted (program_of c.args.self.now.low.now) c.args.self.now.places.now
     c.args.self.now.cells c.args.self.now.stack c.args.frame.words c.args.frame.saved
-    c.args.frame.framed c.args.to.now c.args.way
+    c.args.frame.framed c.args.to.now.spots.now c.args.to.now.way
     (choose (arms_before (map arm_of c.args.arms.now) (code_of c.args.otherwise.now))) old
     c.args.out.now.next c.block.new.out.code c.block.new.out.next) c.in_ok-miss.ensures.2
     (choice_made (program_of c.args.self.now.low.now) c.args.self.now.places.now
     c.args.self.now.cells c.args.self.now.stack c.args.frame.words c.args.frame.saved
-    c.args.frame.framed c.in-Some.word c.args.to.now c.args.way c.continued_by_jump.result
+    c.args.frame.framed c.in-Some.word c.args.to.now.spots.now c.args.to.now.way
+    c.continued_by_jump.result
     c.args.arms.now (code_of c.args.otherwise.now) _ _ _ _ _ _ _ _ _
     c.in_ok-miss.ensures.0 c.in_ok-miss.ensures.1 c.continued_by_jump.ensures c.in_ok-halves.ensures
     c.in_ok-put.ensures c.in_ok-block.ensures)

@@ -12,7 +12,7 @@ invariant-block-loop-stmt l = Within (program_of l.self.low.now) l.self.places.n
 
 abbrev pub invariant-arms-loop-arm : goal.invariant-arms-loop-arm
 invariant-arms-loop-arm l = TowardsArms (program_of l.self.low.now) l.self.places.now l.self.cells
-    l.self.stack l.frame.words l.frame.saved l.frame.framed l.to l.way
+    l.self.stack l.frame.words l.frame.saved l.frame.framed l.to.spots.now l.to.way
     (arms_before (map arm_of l.arms)) (arms_before (map arm_of (drop l.arm-index l.arms)))
     l.initial.out.code l.initial.out.next l.out.code l.out.next
 

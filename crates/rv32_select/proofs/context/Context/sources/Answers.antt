@@ -11,5 +11,5 @@ returns c =
     c.loop-operand.invariant.made (search rules) in (
       e,
       are_sources (program_of c.args.self.now.low.now) c.args.self.now.places.now _ _ e
-          c.requires.1,
+          c.requires,
     )
