@@ -56,6 +56,7 @@ pub mod OneForm
 pub mod Rows
 pub mod TreesOf
 pub mod Comes
+pub mod Knowing
 pub mod Grows
 pub mod Decides
 pub mod Emitted

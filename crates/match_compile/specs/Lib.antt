@@ -32,6 +32,7 @@ pub mod Laws
 pub mod SourceOf
 pub mod RowOf
 pub mod TreeOf
+pub mod Known
 pub mod DecisionOf
 pub mod WordsOf
 pub mod ApartOf

@@ -249,6 +249,5 @@ pub fn compile_matches(alloc: Global, text: &[u8]) -> Result<Core, MatchRefusal>
     ensures refused { IfErr result (IsCause text.now) }
 {
     let source = read_equations(alloc, text)?;
-    let core = compile_source(alloc, source)?;
-    Ok(core)
+    Ok(compile_source(alloc, source)?)
 }

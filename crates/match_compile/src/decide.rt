@@ -1,7 +1,7 @@
 //! The trees of the functions of a text.
 #![tactic(auto, using(crate::proofs::Decides::first_clause, crate::proofs::Decides::count_is))]
 
-ghost use Rattle.std.specs.Prelude.{◌≡◌, ◌==◌, [], ◌∷◌, IfOk, map};
+ghost use Rattle.std.specs.Prelude.{◌≡◌, ◌==◌, [], ◌∷◌, IfOk, OnOk, IfSome, map};
 ghost use Rattle.match_compile.specs.SourceOf.{pat_of, pats_of};
 ghost use Rattle.match_compile.specs.Parts.{tests_of, count};
 ghost use Rattle.match_compile.specs.Sizes.{joined, functions, rows};
@@ -10,14 +10,17 @@ ghost use Rattle.match_compile.specs.Trees.{pending_patterns_at, places_from};
 ghost use Rattle.match_compile.specs.Decisions as decisions;
 ghost use Rattle.match_compile.specs.RowOf.{rows_of, names_bound_row};
 ghost use Rattle.match_compile.specs.DecisionOf.{goes_before, clause_of, clauses_of, functions_of, decision_of, decisions_of, left_clause, with_body, insertion_outcome, decision_or_left};
-ghost use Rattle.match_compile.specs.TreeOf.{left_of};
+ghost use Rattle.match_compile.specs.TreeOf.{tree_of, left_of};
+ghost use Rattle.match_compile.specs.Known.{IsKnown, KnowsMore, FirstIsKnown};
 
+use crate::known::{is_new, known_of, note};
 use crate::parts::tests_of;
-use crate::row::{Pending, begun, numbers_from};
+use crate::row::{Pending, Test, begun, numbers_from};
 use crate::source::Pat;
 use crate::tree::{MOST_CHAINED, Tree, alone, insert};
 use crate::words::checked_sum;
 use core_reader::{Expr, NameId};
+use indexmap::IndexSet;
 use limits::MOST_OPEN;
 use seq::Seq;
 use std::alloc::{AllocError, Global};
@@ -125,14 +128,28 @@ fn left_over<'a>(
     }
 }
 
-/// An equation comes to a tree.
+/// Puts what a test accepts among the integers that are known, if there is a test for one.
+fn note_test(known: &mut IndexSet<i32>, test: Option<Test>) -> Result<(), AllocError>
+    ensures more { OnOk result (KnowsMore known.old.keys known.new.keys) }
+    ensures test { OnOk result (IfSome test (λ t. IsKnown known.new.keys t.head)) }
+{
+    match test {
+        None => Ok(()),
+        Some(test) => note(known, test.head),
+    }
+}
+
+/// An equation comes to a tree, of which the integers of the first test are known.
 fn grow<'a>(
     alloc: Global,
+    known: &mut IndexSet<i32>,
     decision: Decision<'a>,
     clause: Clause<'a>,
 ) -> Result<InsertionOutcome<'a>, AllocError>
-    ensures { IfOk result (λ came. insertion_outcome came
+    requires { FirstIsKnown known.old.keys (tree_of decision.tree) }
+    ensures came { IfOk result (λ came. insertion_outcome came
         ≡ decision_or_left (decision_of decision.entry) (clause_of clause.entry)) }
+    ensures known { IfOk result (λ came. FirstIsKnown known.new.keys (tree_of came.decision.tree)) }
 {
     let Decision {
         name,
@@ -143,9 +160,21 @@ fn grow<'a>(
         free,
     } = decision;
     let (way, _) = way(alloc, clause.pats)?;
+    let test = way.first();
+    let is_new = is_new(known, test);
     let boxed = Box::new(alloc, tree)?;
     let body = Box::new(alloc, clause.body)?;
-    let grown = insert(alloc, MOST_DEEP, MOST_CHAINED, boxed, free, body, way)?;
+    let grown = insert(
+        alloc,
+        MOST_DEEP,
+        MOST_CHAINED,
+        is_new,
+        boxed,
+        free,
+        body,
+        way,
+    )?;
+    note_test(known, test)?;
     let tree = Box::into_inner(grown.tree);
     let decision = Decision {
         name,
@@ -175,6 +204,7 @@ fn function_trees<'a>(
     };
     let mut is_last = are_names(first.pats);
     let mut decision = plant(alloc, number, first)?;
+    let mut known = known_of(alloc, &decision.tree)?;
     let mut number = number;
     'equations: while !is_last {
         let Some(clause) = function.pop() else {
@@ -182,11 +212,12 @@ fn function_trees<'a>(
         };
         number = checked_sum(number, 1)?;
         is_last = are_names(clause.pats);
-        let came = grow(alloc, decision, clause)?;
+        let came = grow(alloc, &mut known, decision, clause)?;
         decision = came.decision;
         if let Some(clause) = came.left {
             made.push(decision)?;
             decision = plant(alloc, number, clause)?;
+            known = known_of(alloc, &decision.tree)?;
         }
     }
     made.push(decision)?;

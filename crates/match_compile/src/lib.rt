@@ -9,7 +9,8 @@
 //! `specs/ByEquations` says what equations put out, of which `specs/Form` is the normal form.
 //! `specs/Trees` and `Decisions` have the trees of tests that equations become, `specs/Translated`
 //! the program of Core that these are, and `laws` what holds of them. `tree` lets equations go into
-//! such trees, each on its way as `row` has it, and `decide` makes those of each function.
+//! such trees, each on its way as `row` has it, and `decide` makes those of each function, with the
+//! integers of the first test in `known`.
 //! `emission` writes a tree as a function of Core, with the numbers of names that `words` has,
 //! where `stays` says which places keep a name; `rename` turns bodies, `names` has the names, and
 //! `compile` puts the program together. `specs/Reading`, `Refusal`, `Faults`, and those whose name
@@ -20,6 +21,7 @@ mod compile;
 mod decide;
 mod emission;
 mod head;
+mod known;
 pub mod laws;
 mod names;
 mod parts;

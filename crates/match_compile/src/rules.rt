@@ -281,8 +281,7 @@ pub fn first_fault(
     let equations = source.equations.as_slice();
     let first = orders(alloc, equations, first)?;
     let fields = fields_of(alloc, source.constructors.as_slice())?;
-    let next = patterns(alloc, source.names.texts(), &fields, equations, first)?;
-    Ok(next)
+    patterns(alloc, source.names.texts(), &fields, equations, first)
 }
 
 /// Whether a token is a name that begins with `match'`.

@@ -1,10 +1,11 @@
 //! The trees of tests that equations become.
 #![tactic(auto, using(crate::proofs::TreesOf::trees))]
 
-ghost use Rattle.std.specs.Prelude.{◌≡◌, ◌<◌, None, IfOk, MatchOption, IfSome, length};
+ghost use Rattle.std.specs.Prelude.{◌≡◌, ◌<◌, false, None, IfOk, MatchOption, IfSome, IsTrue, length};
 ghost use Rattle.core_reader.specs.Tree.{expr};
 ghost use Rattle.match_compile.specs.Trees as trees;
-ghost use Rattle.match_compile.specs.RowOf.{pending, rows_of};
+ghost use Rattle.match_compile.specs.RowOf.{pending, rows_of, first_of};
+ghost use Rattle.match_compile.specs.Known.{IsNowhere};
 ghost use Rattle.match_compile.specs.TreeOf.{tree_of, branches_of, planted_of, tree_after_insertion, branches_after_insertion, insertion_result, in_branches, with_new, as_default, IsNew, is_closed, after_branches, without_default, with_default, branch_for};
 
 use crate::head::Head;
@@ -107,8 +108,11 @@ fn fits(branches: &[Branch], head: Head) -> bool
     }
 }
 
-/// The test of an equation that begins a branch of its own here, if it does.
-fn new_test(place: u32, branches: &[Branch], way: &Pending) -> Option<Test>
+/// The test of an equation that begins a branch of its own here, if it does. Where no branch is for
+/// it, none is looked at.
+fn new_test(is_new: bool, place: u32, branches: &[Branch], way: &Pending) -> Option<Test>
+    requires { IsTrue is_new → IfSome (first_of (pending way.now.jobs)) (λ t.
+        trees.has_head t.head (branches_of branches.now) ≡ false) }
     ensures { IfSome result (IsNew place branches.now (pending way.now.jobs)) }
 {
     let Some(test) = way.first() else {
@@ -119,6 +123,9 @@ fn new_test(place: u32, branches: &[Branch], way: &Pending) -> Option<Test>
     }
     if !fits(branches, test.head) {
         return None;
+    }
+    if is_new {
+        return Some(test);
     }
     match branch_for(branches, test.head) {
         None => Some(test),
@@ -181,17 +188,21 @@ pub fn alone<'a>(
     Ok((Tree::Tests(test.place, branches), free))
 }
 
-/// An equation goes into a tree, or its body is left. Past the depth memory is wanting.
+/// An equation goes into a tree, or its body is left. It is new where no branch of the tree's first
+/// test is for it. Past the depth memory is wanting.
 #[cycle(insert)]
 pub fn insert<'a>(
     alloc: Global,
     depth: u32,
     room: u32,
+    is_new: bool,
     tree: Box<Tree<'a>>,
     free: u32,
     body: Box<Expr>,
     way: Pending<'a>,
 ) -> Result<TreeAfterInsertion<'a>, AllocError>
+    requires { IsTrue is_new → IfSome (first_of (pending way.jobs)) (λ t.
+        IsNowhere t.head (tree_of tree.value)) }
     ensures { IfOk result (λ grown. tree_after_insertion grown
         ≡ insertion_result (tree_of tree.entry.value, free) (expr body.value)
         (trees.insert room (tree_of tree.entry.value) free (rows_of way.entry (expr body.value)))) }
@@ -201,12 +212,12 @@ pub fn insert<'a>(
         Tree::Tests(place, branches) => {
             let depth = depth.checked_sub(1).ok_or(AllocError)?;
             let room = room.saturating_sub(1);
-            insert_test(alloc, depth, room, place, branches, free, body, way)
+            insert_test(alloc, depth, room, is_new, place, branches, free, body, way)
         }
         Tree::Otherwise(place, branches, other) => {
             let depth = depth.checked_sub(1).ok_or(AllocError)?;
             let room = room.saturating_sub(1);
-            let grown = insert(alloc, depth, room, other, free, body, way)?;
+            let grown = insert(alloc, depth, room, false, other, free, body, way)?;
             in_default(alloc, place, branches, grown)
         }
     }
@@ -258,18 +269,21 @@ fn insert_test<'a>(
     alloc: Global,
     depth: u32,
     room: u32,
+    is_new: bool,
     place: u32,
     branches: Seq<Branch<'a>>,
     free: u32,
     body: Box<Expr>,
     way: Pending<'a>,
 ) -> Result<TreeAfterInsertion<'a>, AllocError>
+    requires { IsTrue is_new → IfSome (first_of (pending way.jobs)) (λ t.
+        trees.has_head t.head (branches_of branches) ≡ false) }
     ensures { IfOk result (λ grown. tree_after_insertion grown ≡ after_branches room place
         (insertion_result (branches_of branches.entry, free) (expr body.value)
         (in_branches place (branches_of branches.entry) free (rows_of way.entry (expr body.value))))
         (rows_of way.entry)) }
 {
-    if let Some(test) = new_test(place, branches.as_slice(), &way) {
+    if let Some(test) = new_test(is_new, place, branches.as_slice(), &way) {
         let put = new_branch(alloc, depth, test, branches, free, body, way)?;
         return without_default(alloc, place, put);
     }
@@ -314,7 +328,16 @@ fn insert_branch<'a>(
             let mut branches = branches.into_vec();
             let branch = branches.remove(k);
             let opened = way.opened(branch.places.as_slice())?;
-            let grown = insert(alloc, depth, MOST_CHAINED, branch.tree, free, body, opened)?;
+            let grown = insert(
+                alloc,
+                depth,
+                MOST_CHAINED,
+                false,
+                branch.tree,
+                free,
+                body,
+                opened,
+            )?;
             branches.insert(
                 k,
                 Branch {

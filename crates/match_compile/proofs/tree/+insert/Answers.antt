@@ -1,5 +1,5 @@
 use Rattle.std.proofs.Common.{◌≡◌, ◌-◌, ◌<◌, List, true, length, get_or, refl, subst, sym, ap, ◌∙◌, arith}
-use Rattle.std.specs.Prelude.{◌==◌, false, remove}
+use Rattle.std.specs.Prelude.{◌==◌, false, IfSome, remove}
 use Rattle.std.specs.List.{insert as put_at}
 use Rattle.seq.proofs.Results.{ok_follows}
 use Rattle.seq.proofs.Order.{eq_self}
@@ -7,8 +7,8 @@ use Rattle.core_reader.specs.Tree.{Expr, expr}
 use Rattle.match_compile.specs.declared.row.Pending.{Pending}
 use Rattle.match_compile.specs.declared.tree.Branch.{Branch}
 use Rattle.match_compile.specs.declared.tree.TreeAfterInsertion.{TreeAfterInsertion}
-use Rattle.match_compile.specs.Trees.{fits, insert, max_chained_cases}
-use Rattle.match_compile.specs.RowOf.{pending, rows_of, row_with_field_places, opening}
+use Rattle.match_compile.specs.Trees.{has_head, fits, insert, max_chained_cases}
+use Rattle.match_compile.specs.RowOf.{pending, first_of, rows_of, row_with_field_places, opening}
 use Rattle.match_compile.specs.TreeOf.{tree_of, branches_of, left_of, insertion_result, IsNew, is_closed, without_default, with_default, after_branches, branch_for}
 use Rattle.match_compile.proofs.Comes.{less_one, at_body, at_tests, closed_stays, open_takes, makes_one, goes_to_one}
 use Rattle.match_compile.proofs.Grows.{got}
@@ -21,6 +21,11 @@ insert-returns-in-Body t c =
     (rows_of c.args.way (expr c.args.body.value)) c.args.tree.value c.in-Body.old
     c.in-Body.taken g
     (sym c.into_inner.ensures ∙ c.in-Body.is) e) c.not_taken.ensures
+
+pub insert_test-new_test-requires : goal.insert_test-new_test-requires
+insert_test-new_test-requires t c = λ e.
+    subst (λ bs. IfSome (first_of (pending c.args.way.jobs))
+    (λ x. has_head x.head (branches_of bs) ≡ false)) (sym c.as_slice.ensures) (c.requires e)
 
 pub insert-returns-in-Tests : goal.insert-returns-in-Tests
 insert-returns-in-Tests t c =
