@@ -1,0 +1,7 @@
+pub mod Moved
+pub mod SameCase
+pub mod Kept
+pub mod Formed
+pub mod Sides
+pub mod Contract
+pub mod Loops
