@@ -15,6 +15,7 @@ use Rattle.pass_order.specs.Ordered.{Ordered}
 use Rattle.pass_order.proofs.Kept.{unchanged, cases_keep, updates_swap, each_swap, results_swap}
 use Rattle.pass_order.proofs.Sides.{R, by, of_kind, kept}
 use Rattle.pass_order.proofs.Formed.{slim, formed}
+use Rattle.pass_order.proofs.Gives.{bodies_stand}
 
 module _ (g : Program) (of : IsVectorForm g) where
   stays_of_kind : (K : PieceKind) (blind : Blind K)
@@ -62,6 +63,7 @@ module _ (g : Program) (of : IsVectorForm g) where
   whole = record {
     stays = stays;
     made = refl;
+    tests = bodies_stand (delayed_tags g.tags) g.procs;
     no_more_open = updates_fewer (R g) unchanged tt (by g) open_tags
         (cases_keep (updates_kept open_tags) (updates_swap open_tags) (delayed_tags g.tags))
         (λ f v. subst (λ u. open_tags u ≤ open_tags v) ((by g).values f v) (omega arith)) g.procs;

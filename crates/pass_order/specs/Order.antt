@@ -28,7 +28,8 @@ module _ (delayed : List Bool) where
   abbrev pub behind_values : Shape → Code → Arms → Arms
   behind_values s b no_arm = arm s b no_arm
   behind_values s b (arm u c as') =
-      cond (is_delayed_call u || is_else u) (arm s b (arm u c as')) (arm u c (behind_values s b as'))
+      cond (is_delayed_call u || is_else u) (arm s b (arm u c as'))
+      (arm u c (behind_values s b as'))
 
   -- the alternatives for delayed calls behind those for values, each group in its order
   abbrev pub values_first : Arms → Arms

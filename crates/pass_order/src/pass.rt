@@ -23,8 +23,7 @@ impl Pass for ValuesFirst {
     ghost gives = { λ g h. Ordered (program_of g) (program_of h) };
 
     fn apply(&self, alloc: Global, g: Grin) -> Result<Grin, AllocError> {
-        let h = with_values_first(alloc, g)?;
-        Ok(h)
+        with_values_first(alloc, g)
     }
 }
 
@@ -34,6 +33,5 @@ pub fn with_values_first(alloc: Global, g: Grin) -> Result<Grin, AllocError>
 {
     let order = order_for(alloc, g.tags.as_slice())?;
     let mut facts = ();
-    let h = rewrite_with_facts(alloc, &order, &mut facts, g)?;
-    Ok(h)
+    rewrite_with_facts(alloc, &order, &mut facts, g)
 }

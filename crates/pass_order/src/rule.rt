@@ -35,8 +35,7 @@ impl FactRule for Order {
     }
 
     fn case(&self, alloc: Global, _: &(), value: Val, alts: Seq<Alt>) -> Result<Op, AllocError> {
-        let made = self.values_first(alloc, alts)?;
-        Ok(Op::Case(value, made))
+        Ok(Op::Case(value, self.values_first(alloc, alts)?))
     }
 
     fn note(&self, _: &mut (), _: &Target, _: &Op) -> Result<(), AllocError> {

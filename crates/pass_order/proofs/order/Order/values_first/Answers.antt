@@ -27,11 +27,13 @@ loop-alt-preserved c =
             w.calls-is,
             w.new-calls-then-is_else.ensures,
           )
-          (else_stands d c.loop-alt.made c.loop-alt.calls c.loop-alt.yielded c.loop-alt.invariant alt
+          (else_stands d c.loop-alt.made c.loop-alt.calls c.loop-alt.yielded c.loop-alt.invariant
+          alt
           no (not_else alt _ (sym c.is_else.ensures ∙ w.if-is_else.true)))
       | else-is_else w ↦
           rw (pushed, w.made-is, w.calls-is)
-          (value_stands d c.loop-alt.made c.loop-alt.calls c.loop-alt.yielded c.loop-alt.invariant alt
+          (value_stands d c.loop-alt.made c.loop-alt.calls c.loop-alt.yielded c.loop-alt.invariant
+          alt
           no (not_else alt _ (sym c.is_else.ensures ∙ w.if-is_else.false)))
     ]
 
