@@ -103,6 +103,7 @@ made_lean g h k e f of =
     record {
       stays = shape.stays;
       no_more_open = subst
-          (λ k. updates_with_variable_tag k ≤ updates_with_variable_tag g) (sym (f ∙ ap lean e)) both;
+          (λ k. updates_with_variable_tag k ≤ updates_with_variable_tag g) (sym (f ∙ ap lean e))
+          both;
       by = shape;
     }

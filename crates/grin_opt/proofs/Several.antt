@@ -16,6 +16,7 @@ use Rattle.pass_flat.specs.Flattened.{Flattened}
 use Rattle.pass_known.specs.KnownWords.{KnownWords, ToldWords}
 use Rattle.pass_narrow.specs.NarrowBy.{NarrowBy}
 use Rattle.pass_cells.specs.Unknown.{RefetchesNothing}
+use Rattle.pass_order.specs.Ordered.{Ordered}
 use Rattle.dead_store.specs.Kept.{kept}
 use Rattle.dead_store.specs.Unread.{AgreeWhereFetched, UnreadUpdatesRemovedBy}
 use Rattle.dead_store.specs.Stored.{DeadStoresRemovedBy}
@@ -56,10 +57,13 @@ pub of_both : (g k h : Program) → MadeByPasses LiteralsThenTidied g k
     → MadeByPasses KnownWordsThenTidied k h → AfterKnownWords g h
 of_both g k h once again = one_then LiteralsThenTidied KnownWordsThenTidied g k h once again
 
-pub of_own_cells : (g k h : Program) → RefetchesNothing g k → MadeByPasses Tidied k h
-    → AfterOwnCells g h
-of_own_cells g k h shape tidy = one_then RefetchesNothing Tidied g k h
-    (record { stays = shape.stays; no_more_open = omega (arith, shape.same_open); by = shape }) tidy
+pub of_own_cells : (g k m h : Program) → RefetchesNothing g k → MadeByPasses Tidied k m
+    → Ordered m h → AfterOwnCells g h
+of_own_cells g k m h shape tidy last =
+    one_then RefetchesNothing (Composed Tidied Ordered) g k h
+    (record { stays = shape.stays; no_more_open = omega (arith, shape.same_open); by = shape })
+    (one_then Tidied Ordered k m h tidy
+    (record { stays = last.stays; no_more_open = last.no_more_open; by = last }))
 
 without_dead : (A : Solution) (k m : Program) → DeadStoresRemovedBy A k m
     → MadeByPasses (DeadStoresRemovedBy A) k m

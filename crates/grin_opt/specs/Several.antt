@@ -17,6 +17,7 @@ use Rattle.pass_flat.specs.Flattened.{Flattened}
 use Rattle.pass_known.specs.KnownWords.{KnownWords, ToldWords}
 use Rattle.pass_narrow.specs.NarrowBy.{NarrowBy}
 use Rattle.pass_cells.specs.Unknown.{RefetchesNothing}
+use Rattle.pass_order.specs.Ordered.{Ordered}
 use Rattle.dead_store.specs.Kept.{kept}
 use Rattle.dead_store.specs.Staying.{AreFetched, AreStaying}
 use Rattle.dead_store.specs.Unread.{AgreeWhereFetched, UnreadUpdatesRemovedBy}
@@ -52,10 +53,10 @@ KnownWordsThenTidied = Composed KnownWords Tidied
 abbrev pub AfterKnownWords : Program → Program → Type 0
 AfterKnownWords = MadeByPasses (Composed LiteralsThenTidied KnownWordsThenTidied)
 
--- no word is fetched from a cell of the procedure's own that is known to hold it; and then the
--- program is tidied
+-- no word is fetched from a cell of the procedure's own that is known to hold it; then the program
+-- is tidied; and then each case tests for values before it tests for delayed calls
 abbrev pub AfterOwnCells : Program → Program → Type 0
-AfterOwnCells = MadeByPasses (Composed RefetchesNothing Tidied)
+AfterOwnCells = MadeByPasses (Composed RefetchesNothing (Composed Tidied Ordered))
 
 -- what these passes make, one after another, by one solution
 abbrev pub UnreadBy : Solution → Program → Program → Type 0

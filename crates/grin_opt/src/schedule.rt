@@ -23,6 +23,7 @@ use pass_cells::Remember;
 use pass_flat::Flatten;
 use pass_known::{KnownWords, ToldWords};
 use pass_narrow::without_unread_words;
+use pass_order::ValuesFirst;
 use stage_names::PassName;
 use std::alloc::{AllocError, Global};
 use unbox::{Unbox, with_unboxed_numbers_by};
@@ -101,14 +102,16 @@ fn with_literals(alloc: Global, g: Grin) -> Result<Grin, AllocError>
     settled(alloc, once)
 }
 
-// No fetches of words of own cells that are known, and then what these settle.
+// No fetches of words of own cells that are known, then what these settle, and then each case tests
+// for values first.
 fn without_own_fetches(alloc: Global, g: Grin) -> Result<Grin, AllocError>
     requires { IsVectorForm (program_of g) }
     ensures shape { IfOk result (λ h. AfterOwnCells (program_of g) (program_of h)) }
     ensures meaning { IfOk result (λ h. Keeps (program_of g) (program_of h)) }
 {
     let remembered = Remember.apply(alloc, g)?;
-    let made = tidied(alloc, remembered)?;
+    let tidy = tidied(alloc, remembered)?;
+    let made = ValuesFirst.apply(alloc, tidy)?;
     Ok(made)
 }
 
