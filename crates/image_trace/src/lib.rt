@@ -9,5 +9,5 @@ mod profile;
 mod text;
 
 pub use entries::Entry;
-pub use profile::profiled;
+pub use profile::{Count, profiled};
 pub use text::traced;

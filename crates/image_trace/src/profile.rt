@@ -15,11 +15,11 @@ use std::alloc::{AllocError, Global};
 
 /// What is counted of a procedure.
 #[derive(Clone, Copy, Drop)]
-pub(crate) struct Count {
+pub struct Count {
     /// How often it was entered.
-    entries: u64,
+    pub entries: u64,
     /// How many instructions were done in its code.
-    instructions: u64,
+    pub instructions: u64,
 }
 
 /// The counts of procedures that begin at these addresses and have code of so many words.
