@@ -127,7 +127,8 @@ fn without_unread(alloc: Global, g: Grin) -> Result<Grin, AllocError>
     let narrow = without_unread_words(alloc, g, &flow)?;
     let read = without_unread_updates(alloc, narrow, &flow)?;
     let stored = without_dead_stores(alloc, read, &flow)?;
-    copied(alloc, stored)
+    let made = copied(alloc, stored)?;
+    Ok(made)
 }
 
 /// The program after one pass. `AllocError` where memory is wanting.

@@ -1,4 +1,3 @@
-use Rattle.std.proofs.lemmas.Result.{IfOk-weaker}
 use Rattle.grin_meaning.proofs.Kept.{keeps_again}
 use Rattle.grin_opt.proofs.Several.{of_dead_stores}
 use Rattle.grin_opt.proofs.schedule.without_unread.Goals as goal
@@ -34,12 +33,12 @@ pub copied-requires : goal.copied-requires
 copied-requires c = c.in_ok-stored.ensures.shape.of_vectors
 
 pub returns-clause-shape : goal.returns-clause-shape
-returns-clause-shape c = IfOk-weaker c.copied.result _ _
-    (λ h made. of_dead_stores _ _ _ _ _ _ c.in_ok-narrow.ensures.shape c.in_ok-read.ensures.shape
-    c.in_ok-stored.ensures.shape c.in_ok-flow.ensures made) c.copied.ensures.shape
+returns-clause-shape c =
+    of_dead_stores _ _ _ _ _ _ c.in_ok-narrow.ensures.shape c.in_ok-read.ensures.shape
+    c.in_ok-stored.ensures.shape
+    c.in_ok-flow.ensures c.in_ok-made.ensures.shape
 
 pub returns-clause-meaning : goal.returns-clause-meaning
-returns-clause-meaning c = IfOk-weaker c.copied.result _ _
-    (λ h kept. keeps_again _ _ _ c.in_ok-narrow.ensures.meaning
-    (keeps_again _ _ _ c.in_ok-read.ensures.meaning
-    (keeps_again _ _ _ c.in_ok-stored.ensures.meaning kept))) c.copied.ensures.meaning
+returns-clause-meaning c =
+    keeps_again _ _ _ c.in_ok-narrow.ensures.meaning (keeps_again _ _ _ c.in_ok-read.ensures.meaning
+    (keeps_again _ _ _ c.in_ok-stored.ensures.meaning c.in_ok-made.ensures.meaning))
