@@ -206,6 +206,46 @@ safe v0 v1 v2 =
       fail
 ";
 
+/// The function that `ap` is given stands in a cell with a delayed call of `id`, or with `cons` and
+/// an argument, a value. The tag of `id` is the first one of both.
+const APPLIED_LATER: &str =
+    "cons x y = Cons x y; id x = x; ap f x = f x; main = ap (id (cons 65)) Nil;";
+
+/// The front of its last stage, up to the end of `ap`. The first case of `ap` tests for the value
+/// before it tests for the delayed call. A solution doesn't tell whose field word 1 of the cell is,
+/// so `id` may be given the number, and then its result has two tags.
+const AP_LAST: &str = "global main = (Fmain)
+
+cons v0 v1 =
+  unit (CCons v0 v1)
+
+id v0 =
+  v1 <- fetch v0 0
+  v2 <- fetch v0 1
+  v3 <- fetch v0 2
+  unit [v1 v2 v3]
+
+ap v0 v1 =
+  v2 <- fetch v0 0
+  [v3 v4 v5] <- case [v2 0 0] of
+    (P1cons) ->
+      v6 <- fetch v0 1
+      v7 <- fetch v0 2
+      unit [#P1cons v6 v7]
+    (Fid) ->
+      v8 <- fetch v0 1
+      [v9 v10 v11] <- call id v8
+      case [v9 v10 v11] of
+        (CInt) ->
+          update v0 [#CInt v10 v11]
+        (P1cons) ->
+          update v0 [#P1cons v10 v11]
+      unit [v9 v10 v11]
+  case [v3 v4 v5] of
+    (P1cons) ->
+      call cons v4 v1
+";
+
 #[test]
 fn takes_keeps_what_leaves(rt: HostRuntime) -> Result<(), Fail> {
     let alloc = rt.alloc();
@@ -219,5 +259,14 @@ fn takes_keeps_what_leaves(rt: HostRuntime) -> Result<(), Fail> {
 fn safe_keeps_one_cell(rt: HostRuntime) -> Result<(), Fail> {
     let listing = listed(rt.alloc(), QUEENS, PassName::Dead)?;
     assert!(rt; listing.as_slice().starts_with(SAFE_LAST.as_bytes()));
+    Ok(())
+}
+
+#[test]
+fn values_are_tested_for_first(rt: HostRuntime) -> Result<(), Fail> {
+    let alloc = rt.alloc();
+    let text = format!(in alloc; "{LISTS}{APPLIED_LATER}")?;
+    let listing = listed(alloc, text.as_str(), PassName::Dead)?;
+    assert!(rt; listing.as_slice().starts_with(AP_LAST.as_bytes()));
     Ok(())
 }
