@@ -5,9 +5,9 @@ function said(text) { printf "%s", text; exit }
 
 # The operands, the options with their ranges, and those that have to stand, of each command.
 function commands() {
-    many = "run check list build costs trace exec gen link lift match types sides points"
-    operand["run"] = operand["check"] = operand["list"] = operand["build"] = operand["costs"] = operand["trace"] = operand["lift"] = "FILE"
-    operand["match"] = operand["types"] = operand["sides"] = operand["points"] = operand["link"] = "FILE"
+    many = "run check list build costs trace profile exec gen link lift match types sides points"
+    operand["run"] = operand["check"] = operand["list"] = operand["build"] = operand["costs"] = operand["trace"] = operand["profile"] = "FILE"
+    operand["lift"] = operand["match"] = operand["types"] = operand["sides"] = operand["points"] = operand["link"] = "FILE"
     operand["exec"] = "IMAGE"
     options["run"] = "--heap --stack --steps --stats"
     options["build"] = options["costs"] = "--heap --stack"

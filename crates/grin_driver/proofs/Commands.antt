@@ -1,7 +1,7 @@
 -- What a command line gives where nothing failed, and what it leaves where memory is wanting.
 use Rattle.std.proofs.Common.{◌≡◌, ℕ, List, Option, Some, None, refl, sym, subst}
 use mathlib.Core.Logic.{◌⊎◌, inl, inr}
-use Rattle.command_line.specs.Commands.{CommandLine, RunFile, CheckFile, ListFile, BuildFile, CostsFile, TraceFile, ExecImage, GenRun, LinkFiles, LiftFile, MatchFile, TypesFile, SidesFile, PointsFile}
+use Rattle.command_line.specs.Commands.{CommandLine, RunFile, CheckFile, ListFile, BuildFile, CostsFile, TraceFile, ProfileFile, ExecImage, GenRun, LinkFiles, LiftFile, MatchFile, TypesFile, SidesFile, PointsFile}
 use Rattle.command_line.specs.declared.command.Listing.{Listing}
 use Rattle.command_line.specs.declared.command.Listing.TheVariants as listing
 use Rattle.generator.specs.Generated.{generated}
@@ -15,6 +15,7 @@ use Rattle.grin_driver.specs.After.{IsListAfterOutcome}
 use Rattle.grin_driver.specs.Building.{IsBuildOutcome}
 use Rattle.grin_driver.specs.Needs.{IsNeedsOutcome}
 use Rattle.grin_driver.specs.Tracing.{IsTraceOutcome}
+use Rattle.grin_driver.specs.Profiling.{IsProfileOutcome}
 use Rattle.text_commands.specs.Linking.{IsLinkOutcome}
 use Rattle.text_commands.specs.Lifting.{IsLiftOutcome}
 use Rattle.text_commands.specs.Matching.{IsMatchOutcome}
@@ -28,7 +29,7 @@ use Rattle.grin_driver.specs.Completeness.{OutOfMemoryOr, NothingFailed, Gives}
 use Rattle.grin_driver.specs.Costs.{CostOf, AnswersAtCost}
 use Rattle.grin_driver.specs.declared.cost.Cost.{Cost}
 use Rattle.text_commands.proofs.Gives.{check_gives, link_gives, lift_gives, match_gives, types_gives, sides_gives}
-use Rattle.grin_driver.proofs.Complete.{list_gives, points_gives, build_gives, costs_gives, trace_gives, generation_gives, exec_gives, run_gives}
+use Rattle.grin_driver.proofs.Complete.{list_gives, points_gives, build_gives, costs_gives, trace_gives, profile_gives, generation_gives, exec_gives, run_gives}
 
 module _ {F I K : Type 0} (f : ShelfChange F) (i : SourceChange I) (o : SinkChange K) where
   module _ (n : NothingFailed f i o) where
@@ -92,6 +93,10 @@ module _ {F I K : Type 0} (f : ShelfChange F) (i : SourceChange I) (o : SinkChan
         of_bytes text_read_limit (o.new ≡ o.old) file
         (λ text status. IsTraceOutcome o text units status) status _
         (λ text. trace_gives o n.out text one units status) h.0
+    command_gives one (Some (ProfileFile file)) status h =
+        of_bytes text_read_limit (o.new ≡ o.old) file
+        (λ text status. IsProfileOutcome o text status) status _
+        (λ text. profile_gives o n.out text one status) h.0
     command_gives one (Some (ExecImage image steps stats)) status h =
         of_bytes image_read_limit (IsUntouched i o) image
         (λ bytes status. Execution i o bytes steps status) status _
@@ -141,6 +146,8 @@ module _ {F I K : Type 0} (f : ShelfChange F) (i : SourceChange I) (o : SinkChan
   memory_untouched (Some (CostsFile file cells stack)) (inr h, same) = h.2
   memory_untouched (Some (TraceFile file units)) (inl h, same) = h.1
   memory_untouched (Some (TraceFile file units)) (inr h, same) = h.2
+  memory_untouched (Some (ProfileFile file)) (inl h, same) = h.1
+  memory_untouched (Some (ProfileFile file)) (inr h, same) = h.2
   memory_untouched (Some (ExecImage image steps stats)) (inl h) = h.1.1
   memory_untouched (Some (ExecImage image steps stats)) (inr h) = h.2.1
   memory_untouched (Some (GenRun seed size)) h = h.0.1

@@ -26,6 +26,7 @@ use Rattle.grin_driver.specs.Pointing.{IsPointsText, Points}
 use Rattle.grin_driver.specs.Building.{IsBuildOutcome}
 use Rattle.grin_driver.specs.Needs.{IsNeedsText, IsNeedsOutcome}
 use Rattle.grin_driver.specs.Tracing.{IsTraceText, IsTraceOutcome}
+use Rattle.grin_driver.specs.Profiling.{IsProfileText, IsProfileOutcome}
 use Rattle.grin_driver.specs.Execution.{status_of, Execution}
 use Rattle.grin_driver.specs.Outcome.{IsImageOf, IsRunRefusal, Outcome}
 use Rattle.grin_driver.specs.Generating.{Generates}
@@ -94,6 +95,11 @@ module _ {K : Type 0} (o : SinkChange K) (well : CountGrew (o.faults o.old) (o.f
     pub trace_gives : (units : ℕ) (status : Status) → IsTraceOutcome o text units status
         → (status ≡ OutOfMemory) ⊎ (IsCompilable text → status ≡ Done)
     trace_gives units status h = writes_gives (λ text. IsTraceText text units)
+        IsRunRefusal o well text (λ k at a. runnable one text a k at) status h
+
+    pub profile_gives : (status : Status) → IsProfileOutcome o text status
+        → (status ≡ OutOfMemory) ⊎ (IsCompilable text → status ≡ Done)
+    profile_gives status h = writes_gives IsProfileText
         IsRunRefusal o well text (λ k at a. runnable one text a k at) status h
 
     pub list_gives : (after : Listing) (status : Status) → IsListAfterOutcome o text after status

@@ -12,5 +12,6 @@ pub mod Complete
 pub mod Commands
 pub mod Codes
 pub mod Tracing
+pub mod Profiling
 pub mod Listings
 pub mod Ranges

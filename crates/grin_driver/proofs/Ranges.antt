@@ -7,7 +7,7 @@ use Rattle.std.specs.Str.Parse.{digits_value}
 use Rattle.std.proofs.lemmas.Bool.Decides.{nat_tests}
 use Rattle.command_line.specs.Numbers.{is_number}
 use Rattle.command_line.specs.Parts.{OptionOrOperand, parts_of}
-use Rattle.command_line.specs.Commands.{CommandLine, RunFile, CheckFile, ListFile, BuildFile, CostsFile, TraceFile, ExecImage, GenRun, LinkFiles, LiftFile, MatchFile, TypesFile, SidesFile, PointsFile, Form, Given, option_number, cells_of, stack_of, steps_of, stats_of, units_of, run_form, file_form, check_form, list_form, sized_form, build_form, costs_form, trace_form, exec_form, gen_form, lift_form, match_form, types_form, sides_form, points_form, link_form, of_operand, without_operand, asked, command_from, command_of, operands, values, takes_only, only, is_empty, seed_of, size_of}
+use Rattle.command_line.specs.Commands.{CommandLine, RunFile, CheckFile, ListFile, BuildFile, CostsFile, TraceFile, ProfileFile, ExecImage, GenRun, LinkFiles, LiftFile, MatchFile, TypesFile, SidesFile, PointsFile, Form, Given, option_number, cells_of, stack_of, steps_of, stats_of, units_of, run_form, file_form, check_form, list_form, sized_form, build_form, costs_form, trace_form, profile_form, exec_form, gen_form, lift_form, match_form, types_form, sides_form, points_form, link_form, of_operand, without_operand, asked, command_from, command_of, operands, values, takes_only, only, is_empty, seed_of, size_of}
 use Rattle.grin_compile.specs.Limits.{SizesAreInRange}
 use Rattle.grin_driver.specs.Answer.{SizesAreWithinLimits}
 
@@ -164,6 +164,8 @@ from_within name parts =
     (asked_within parts costs_form (sized_within CostsFile (λ file cells stack r. r)))
     (some_either SizesAreWithinLimits (bytes_eq name (codes "trace")) _ _
     (asked_within parts trace_form traces_within)
+    (some_either SizesAreWithinLimits (bytes_eq name (codes "profile")) _ _
+    (asked_within parts profile_form (files_within ProfileFile (λ file. tt)))
     (some_either SizesAreWithinLimits (bytes_eq name (codes "exec")) _ _
     (asked_within parts exec_form execs_within)
     (some_either SizesAreWithinLimits (bytes_eq name (codes "gen")) _ _
@@ -177,7 +179,7 @@ from_within name parts =
     (some_either SizesAreWithinLimits (bytes_eq name (codes "sides")) _ _
     (asked_within parts sides_form (files_within SidesFile (λ file. tt)))
     (some_either SizesAreWithinLimits (bytes_eq name (codes "points")) _ None
-    (asked_within parts points_form (files_within PointsFile (λ file. tt))) tt)))))))))))))
+    (asked_within parts points_form (files_within PointsFile (λ file. tt))) tt))))))))))))))
 
 commands_within : (words : List (List ℕ)) → IfSome (command_of words) SizesAreWithinLimits
 commands_within [] = tt

@@ -19,7 +19,7 @@ use Rattle.grin_driver.specs.Tracing.{IsTraceText, IsTraceOutcome}
 use Rattle.grin_driver.proofs.Outcomes.{not_run_long}
 
 -- the run of such an image meets the procedures that its stage enters
-enters_of : (text : List ℕ) (b : Built) (image : Image) (kept : IsBuiltImage text 1000000 1048576 b)
+pub enters_of : (text : List ℕ) (b : Built) (image : Image) (kept : IsBuiltImage text 1000000 1048576 b)
     → Loads b.image.items image → (k : ℕ)
     → let met = procedures_at kept.from.made.addresses (trace k [] (start_of image)) in
     met ≡ entered_by_grin kept.from.made.g [] (length met)

@@ -1,6 +1,6 @@
 -- What each status says of the words of a command line.
 use Rattle.std.specs.Prelude.{◌≡◌, ℕ, List, Option, Some, None}
-use Rattle.command_line.specs.Commands.{CommandLine, RunFile, CheckFile, ListFile, BuildFile, CostsFile, TraceFile, ExecImage, GenRun, LinkFiles, LiftFile, MatchFile, TypesFile, SidesFile, PointsFile}
+use Rattle.command_line.specs.Commands.{CommandLine, RunFile, CheckFile, ListFile, BuildFile, CostsFile, TraceFile, ProfileFile, ExecImage, GenRun, LinkFiles, LiftFile, MatchFile, TypesFile, SidesFile, PointsFile}
 use Rattle.grin_io.specs.Changes.{ShelfChange, SourceChange, SinkChange}
 use Rattle.text_commands.specs.declared.status.Status.{Status}
 use Rattle.text_commands.specs.declared.status.Status.TheVariants.{Usage}
@@ -13,6 +13,7 @@ use Rattle.grin_driver.specs.After.{IsListAfterOutcome}
 use Rattle.grin_driver.specs.Building.{IsBuildOutcome}
 use Rattle.grin_driver.specs.Needs.{IsNeedsOutcome}
 use Rattle.grin_driver.specs.Tracing.{IsTraceOutcome}
+use Rattle.grin_driver.specs.Profiling.{IsProfileOutcome}
 use Rattle.grin_driver.specs.Execution.{IsUntouched, Execution}
 use Rattle.text_commands.specs.Linking.{IsLinkOutcome}
 use Rattle.text_commands.specs.Lifting.{IsLiftOutcome}
@@ -34,6 +35,7 @@ HoldsOfNamedFiles Holds (ListFile file after) = Holds file
 HoldsOfNamedFiles Holds (BuildFile file cells stack) = Holds file
 HoldsOfNamedFiles Holds (CostsFile file cells stack) = Holds file
 HoldsOfNamedFiles Holds (TraceFile file units) = Holds file
+HoldsOfNamedFiles Holds (ProfileFile file) = Holds file
 HoldsOfNamedFiles Holds (ExecImage image steps stats) = Holds image
 HoldsOfNamedFiles Holds (GenRun seed size) = Unit {0}
 HoldsOfNamedFiles Holds (LinkFiles files) = HoldsOfEachFile Holds files
@@ -78,6 +80,8 @@ module _ {F I K : Type 0} (f : ShelfChange F) (i : SourceChange I) (o : SinkChan
       FromText file (λ text status. IsNeedsOutcome o text cells stack status) status
   Answers (Some (TraceFile file units)) status =
       FromText file (λ text status. IsTraceOutcome o text units status) status
+  Answers (Some (ProfileFile file)) status =
+      FromText file (λ text status. IsProfileOutcome o text status) status
   Answers (Some (ExecImage image steps stats)) status =
       HoldsOfOperandFile f image_read_limit (IsUntouched i o) image
       (λ bytes status. Execution i o bytes steps status) status

@@ -9,7 +9,7 @@ use Rattle.lambda_lift.specs.Rules as lifting
 use Rattle.match_compile.specs.Rules as matching
 use Rattle.core_types.specs.Refused as typing
 use Rattle.elf32.specs.Rules.{KeepsBelow}
-use Rattle.command_line.specs.Commands.{CommandLine, RunFile, CheckFile, ListFile, BuildFile, CostsFile, TraceFile, ExecImage, GenRun, LinkFiles, LiftFile, MatchFile, TypesFile, SidesFile, PointsFile}
+use Rattle.command_line.specs.Commands.{CommandLine, RunFile, CheckFile, ListFile, BuildFile, CostsFile, TraceFile, ProfileFile, ExecImage, GenRun, LinkFiles, LiftFile, MatchFile, TypesFile, SidesFile, PointsFile}
 use Rattle.command_line.specs.declared.command.Listing.{Listing}
 use Rattle.command_line.specs.declared.command.Listing.TheVariants.{Read, Stage}
 use Rattle.stage_names.specs.declared.PassName.TheVariants.{Translate}
@@ -95,6 +95,8 @@ module _ {F : Type 0} (f : ShelfChange F) where
   Gives (Some (CostsFile file cells stack)) status =
       OutOfMemoryOr f text_read_limit file status (λ text. IsCompilable text → status ≡ Done)
   Gives (Some (TraceFile file units)) status =
+      OutOfMemoryOr f text_read_limit file status (λ text. IsCompilable text → status ≡ Done)
+  Gives (Some (ProfileFile file)) status =
       OutOfMemoryOr f text_read_limit file status (λ text. IsCompilable text → status ≡ Done)
   Gives (Some (ExecImage image steps stats)) status =
       OutOfMemoryOr f image_read_limit image status (λ bytes.

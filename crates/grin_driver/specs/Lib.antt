@@ -13,5 +13,6 @@ pub mod Standing
 pub mod Kept
 pub mod Needs
 pub mod Tracing
+pub mod Profiling
 pub mod Costs
 pub mod Completeness

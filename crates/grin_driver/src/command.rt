@@ -30,6 +30,7 @@ use crate::laws::{
 use crate::list::list_after;
 use crate::needs::tell_needs;
 use crate::points::Points;
+use crate::profile::Profile;
 use crate::run::run_text;
 use crate::trace::put_trace;
 use command_line::{Command, Line, Listing};
@@ -262,6 +263,9 @@ fn run_command<F: Shelf, I: Source, K: Sink>(
         Command::Types { file } => EndedWithCost::of(write_file(alloc, &Types, file, shelf, out)),
         Command::Sides { file } => EndedWithCost::of(write_file(alloc, &Sides, file, shelf, out)),
         Command::Points { file } => EndedWithCost::of(write_file(alloc, &Points, file, shelf, out)),
+        Command::Profile { file } => {
+            EndedWithCost::of(write_file(alloc, &Profile, file, shelf, out))
+        }
     }
 }
 
@@ -290,8 +294,8 @@ fn run_line<F: Shelf, I: Source, K: Sink>(
 ///
 /// `run FILE` compiles a text and runs it on the input, `check FILE` puts the line of its program,
 /// `list FILE` lists it, `build FILE` puts its image, `costs FILE` what that image needs, `trace
-/// FILE` the procedures that it enters on no input, and `exec IMAGE` runs an executable on the
-/// input; `gen` runs a generated text and puts its summary, `link FILE..` puts the text that modules
+/// FILE` the procedures that it enters on no input, `profile FILE` how often it enters each and how
+/// many instructions it does in it, and `exec IMAGE` runs an executable on the input; `gen` runs a generated text and puts its summary, `link FILE..` puts the text that modules
 /// are together, `lift FILE` the text of Core that a text with lambdas and local functions
 /// stands for, `match FILE` that of a text of equations, `types FILE` that of a text with types,
 /// which fit, and `sides FILE` the two sides where they do not; `points FILE` puts what the

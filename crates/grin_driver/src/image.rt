@@ -1,6 +1,7 @@
-//! The image of a text: accepted, and compiled.
+//! The image of a text: accepted, and compiled; and its program.
 
-ghost use Rattle.std.specs.Prelude.{◌≤◌, length, IfOk, IfErr};
+ghost use Rattle.std.specs.Prelude.{◌≤◌, ℕ, List, length, IfOk, IfErr};
+ghost use Rattle.elf32.specs.Rules.{Loads};
 ghost use Rattle.grin_compile.specs.Limits.{SizesAreInRange};
 ghost use Rattle.grin_driver.specs.Outcome.{IsImageOf, IsBuildFailure};
 ghost use Rattle.grin_driver.specs.CodeListing.{IsCodeOf};
@@ -8,6 +9,7 @@ ghost use Rattle.grin_driver.specs.Kept.{IsBuiltImage};
 ghost use Rattle.limits.specs.Limits.{most_code};
 
 use crate::list::no_stages_status;
+use elf32::{Loaded, read};
 use grin_compile::{Built, Options, build};
 use limits::{DEFAULT_CELLS, DEFAULT_STACK};
 use std::alloc::Global;
@@ -34,5 +36,16 @@ pub(crate) fn compiled(alloc: Global, text: &[u8], options: Options) -> Result<B
     match build(alloc, &accepted.program, options) {
         Ok(built) => Ok(built),
         Err(refusal) => Err(no_stages_status(&refusal)),
+    }
+}
+
+/// The program of an image that was made, which loads, so that only memory can be wanting.
+pub(crate) fn program_of(alloc: Global, image: &[u8]) -> Result<Loaded, Status>
+    ensures loads { IfOk result (Loads image.now) }
+    ensures unloaded { (text : List ℕ) → IfErr result (IsBuildFailure text) }
+{
+    match read(alloc, image) {
+        Ok(program) => Ok(program),
+        Err(_) => Err(Status::OutOfMemory),
     }
 }

@@ -12,6 +12,7 @@ pub mod laws;
 mod list;
 mod needs;
 mod points;
+mod profile;
 mod run;
 mod standing;
 mod trace;

@@ -1,7 +1,6 @@
 //! The trace of a text: the procedures that its image enters.
 
-ghost use Rattle.std.specs.Prelude.{◌≡◌, ◌≤◌, ℕ, List, [], take, IfOk, IfErr};
-ghost use Rattle.elf32.specs.Rules.{Loads};
+ghost use Rattle.std.specs.Prelude.{◌≡◌, ◌≤◌, [], take, IfOk, IfErr};
 ghost use Rattle.text_commands.specs.Over.{sink_over};
 ghost use Rattle.limits.specs.Limits.{default_steps};
 ghost use Rattle.rv32_machine.specs.Steps.{start_of};
@@ -10,25 +9,14 @@ ghost use Rattle.image_trace.specs.Lines.{trace_text};
 ghost use Rattle.grin_driver.specs.Outcome.{IsBuildFailure};
 ghost use Rattle.grin_driver.specs.Tracing.{IsTraceText, IsTraceOutcome};
 
-use crate::image::{DEFAULTS, compiled};
-use elf32::{Loaded, read};
+use crate::image::{DEFAULTS, compiled, program_of};
+use elf32::Loaded;
 use grin_compile::Built;
 use grin_io::Sink;
 use image_trace::traced;
 use std::alloc::{AllocError, Global};
 use text_commands::pieces::put_pieces;
 use text_commands::status::Status;
-
-/// The program of an image that was made, which loads, so that only memory can be wanting.
-fn program_of(alloc: Global, image: &[u8]) -> Result<Loaded, Status>
-    ensures loads { IfOk result (Loads image.now) }
-    ensures unloaded { (text : List ℕ) → IfErr result (IsBuildFailure text) }
-{
-    match read(alloc, image) {
-        Ok(program) => Ok(program),
-        Err(_) => Err(Status::OutOfMemory),
-    }
-}
 
 /// The first procedures, at most so many, that the program of an image enters.
 fn trace_of(

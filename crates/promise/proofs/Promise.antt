@@ -7,7 +7,7 @@ use Rattle.natural_semantics.specs.Laws.{ToldIsDerived, WhatIsToldIsDerived}
 use Rattle.natural_semantics.specs.Prints.{ProgramPrints}
 use Rattle.grin_io.specs.Content.{Files}
 use Rattle.grin_io.specs.Changes.{ShelfChange, SourceChange, SinkChange, BeginsWith, ReadExactly}
-use Rattle.command_line.specs.Commands.{CommandLine, RunFile, CheckFile, ListFile, BuildFile, CostsFile, TraceFile, ExecImage, GenRun, LinkFiles, LiftFile, MatchFile, TypesFile, SidesFile, PointsFile}
+use Rattle.command_line.specs.Commands.{CommandLine, RunFile, CheckFile, ListFile, BuildFile, CostsFile, TraceFile, ProfileFile, ExecImage, GenRun, LinkFiles, LiftFile, MatchFile, TypesFile, SidesFile, PointsFile}
 use Rattle.grin_compile.specs.Limits.{HeapIsExceeded, StackIsExceeded, largest_frame, whole_words}
 use Rattle.grin_compile.specs.Words.{most_steps}
 use Rattle.text_commands.proofs.Texts.{accepted_is_valid}
@@ -140,6 +140,7 @@ module _ {F I K : Type 0} (law : WhatIsToldIsDerived) (f : ShelfChange F) (i : S
   keeps_promise (Some (BuildFile file cells stack)) status answer = tt
   keeps_promise (Some (CostsFile file cells stack)) status answer = tt
   keeps_promise (Some (TraceFile file units)) status answer = tt
+  keeps_promise (Some (ProfileFile file)) status answer = tt
   keeps_promise (Some (ExecImage image steps stats)) status answer = tt
   keeps_promise (Some (GenRun seed size)) status answer = tt
   keeps_promise (Some (LinkFiles names)) status answer = tt

@@ -34,6 +34,8 @@ mod outside;
 #[cfg(test)]
 mod points_rows;
 #[cfg(test)]
+mod profile_rows;
+#[cfg(test)]
 mod quiet_rows;
 #[cfg(test)]
 mod run_rows;

@@ -296,6 +296,30 @@ fn lines_of_trace(rt: HostRuntime) -> Result<(), Fail> {
     Ok(())
 }
 
+#[test]
+fn lines_of_profile(rt: HostRuntime) -> Result<(), Fail> {
+    let rows = [
+        ("grinc profile a", Some(Command::Profile { file: "a" })),
+        (
+            "grinc profile -- profile",
+            Some(Command::Profile { file: "profile" }),
+        ),
+        ("grinc profile", None),
+        ("grinc profile a b", None),
+        ("grinc profile -a", None),
+        ("grinc profile a --units 1", None),
+        ("grinc profile a --steps 1", None),
+        ("grinc profile --heap=1 a", None),
+        ("grinc profile a --stats", None),
+        ("grinc profil a", None),
+    ];
+    for (words, want) in rows {
+        let line = line_of(rt.alloc(), words)?;
+        assert_eq!(rt; line.command(), want, "{words}");
+    }
+    Ok(())
+}
+
 /// `gen` with a seed and a size.
 const fn gen_of(seed: u32, size: u32) -> Option<Command<'static>> {
     Some(Command::Gen { seed, size })

@@ -169,3 +169,15 @@ returns-in-Points-clause-answer g c =
     (ap (λ x. Some (asked_by x)) c.in-Points.is) c.of-in-Points.ensures.status
     c.of-in-Points.ensures.cost
     (c.write_file-in-Points.ensures.answer, refl) refl
+
+pub returns-in-Profile-clause-answer : goal.returns-in-Profile-clause-answer
+returns-in-Profile-clause-answer g c =
+    let i = (source_over g.I.Source c.args.input.now c.args.input.now) in
+    let o = (sink_over g.K.Sink c.args.out.now
+    c.write_file-in-Profile.new.out) in
+    let f = (shelf_over g.F.Shelf c.args.shelf.now
+    c.write_file-in-Profile.new.shelf) in
+    untold f i o _ _ _ c.of-in-Profile.result.status c.of-in-Profile.result.cost
+    (ap (λ x. Some (asked_by x)) c.in-Profile.is) c.of-in-Profile.ensures.status
+    c.of-in-Profile.ensures.cost
+    (c.write_file-in-Profile.ensures.answer, refl) refl

@@ -1,0 +1,10 @@
+use Rattle.std.proofs.Common.{length, ap, ◌∙◌}
+use Rattle.std.proofs.lemmas.List.{length-map}
+use Rattle.grin_compile.specs.Words.{words_from}
+use Rattle.grin_driver.proofs.profile.profile_of.Goals as goal
+
+pub profiled-requires-clause-one_each : goal.profiled-requires-clause-one_each
+profiled-requires-clause-one_each c =
+    let starts = c.args.built.now.starts.items in
+    let code = c.args.built.now.code.items in
+    ap length c.in_ok-words.ensures ∙ length-map starts (words_from code starts)
