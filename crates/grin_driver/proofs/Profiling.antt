@@ -24,21 +24,21 @@ next_before [] end a b is less = absurd (cc is)
 next_before (c ∷ bs) end a b is less =
     go (nat_eq b c) refl (nat_lt a c) refl
     (λ later. next_before bs end a b later less) where
-  either : (behind : Bool) → next_address bs end a ≤ b
-      → (if behind then min c (next_address bs end a) else next_address bs end a) ≤ b
-  either true rest = omega (arith, rest)
-  either false rest = rest
+      either : (behind : Bool) → next_address bs end a ≤ b
+          → (if behind then min c (next_address bs end a) else next_address bs end a) ≤ b
+      either true rest = omega (arith, rest)
+      either false rest = rest
 
-  go : (same : Bool) → nat_eq b c ≡ same → (behind : Bool) → nat_lt a c ≡ behind
-      → (is_one_of bs b ≡ true → next_address bs end a ≤ b)
-      → (if behind then min c (next_address bs end a) else next_address bs end a) ≤ b
-  go true same true behind rest =
-      let here : b ≡ c = grind (arith, nat_tests) in omega (arith, here)
-  go true same false behind rest =
-      let here : b ≡ c = grind (arith, nat_tests) in
-      let there : c ≤ a = grind (arith, nat_tests) in absurd (omega (arith, here, there, less))
-  go false other behind lt rest =
-      either behind (rest (sym (ap (λ t. t || is_one_of bs b) other) ∙ is))
+      go : (same : Bool) → nat_eq b c ≡ same → (behind : Bool) → nat_lt a c ≡ behind
+          → (is_one_of bs b ≡ true → next_address bs end a ≤ b)
+          → (if behind then min c (next_address bs end a) else next_address bs end a) ≤ b
+      go true same true behind rest =
+          let here : b ≡ c = grind (arith, nat_tests) in omega (arith, here)
+      go true same false behind rest =
+          let here : b ≡ c = grind (arith, nat_tests) in
+          let there : c ≤ a = grind (arith, nat_tests) in absurd (omega (arith, here, there, less))
+      go false other behind lt rest =
+          either behind (rest (sym (ap (λ t. t || is_one_of bs b) other) ∙ is))
 
 or_later : (s t : Bool) → t ≡ true → s || t ≡ true
 or_later true t h = refl
@@ -61,23 +61,23 @@ module _ (code addresses : List ℕ) where
       go (nat_eq b c) refl (nat_lt b c) refl
       (λ none. lies_apart b is bs none
       (λ d later. among d (or_later (nat_eq d c) (is_one_of bs d) later))) where
-    c_is : IsStart c
-    c_is =
-        let same : nat_eq c c ≡ true = grind (arith, nat_tests) in
-        among c (ap (λ t. t || is_one_of bs c) same)
+        c_is : IsStart c
+        c_is =
+            let same : nat_eq c c ≡ true = grind (arith, nat_tests) in
+            among c (ap (λ t. t || is_one_of bs c) same)
 
-    go : (same : Bool) → nat_eq b c ≡ same → (less : Bool) → nat_lt b c ≡ less
-        → (is_one_of bs b ≡ false
-        → LiesApart b (words_from code addresses b) bs (map (words_from code addresses) bs))
-        → LiesApart b (words_from code addresses b) (c ∷ bs)
-        (map (words_from code addresses) (c ∷ bs))
-    go true same less lt rest = absurd (cc (sym (ap (λ t. t || is_one_of bs b) same) ∙ other))
-    go false not true less rest =
-        let lt : b < c = grind (arith, nat_tests) in
-        (inl (ends_before b c c_is lt), rest (sym (ap (λ t. t || is_one_of bs b) not) ∙ other))
-    go false not false less rest =
-        let lt : c < b = grind (arith, nat_tests) in
-        (inr (ends_before c b is lt), rest (sym (ap (λ t. t || is_one_of bs b) not) ∙ other))
+        go : (same : Bool) → nat_eq b c ≡ same → (less : Bool) → nat_lt b c ≡ less
+            → (is_one_of bs b ≡ false
+            → LiesApart b (words_from code addresses b) bs (map (words_from code addresses) bs))
+            → LiesApart b (words_from code addresses b) (c ∷ bs)
+            (map (words_from code addresses) (c ∷ bs))
+        go true same less lt rest = absurd (cc (sym (ap (λ t. t || is_one_of bs b) same) ∙ other))
+        go false not true less rest =
+            let lt : b < c = grind (arith, nat_tests) in
+            (inl (ends_before b c c_is lt), rest (sym (ap (λ t. t || is_one_of bs b) not) ∙ other))
+        go false not false less rest =
+            let lt : c < b = grind (arith, nat_tests) in
+            (inr (ends_before c b is lt), rest (sym (ap (λ t. t || is_one_of bs b) not) ∙ other))
 
   all_apart : (bs : List ℕ) → AllDifferent bs → ((c : ℕ) → is_one_of bs c ≡ true → IsStart c)
       → AreApart bs (map (words_from code addresses) bs)
@@ -85,9 +85,10 @@ module _ (code addresses : List ℕ) where
   all_apart (b ∷ bs) different among =
       let same : nat_eq b b ≡ true = grind (arith, nat_tests) in
       let later = λ (c : ℕ) (h : is_one_of bs c ≡ true).
-      among c (or_later (nat_eq c b) (is_one_of bs c) h) in
-      (lies_apart b (among b (ap (λ t. t || is_one_of bs b) same)) bs different.0 later,
-      all_apart bs different.1 later)
+      among c (or_later (nat_eq c b) (is_one_of bs c) h) in (
+        lies_apart b (among b (ap (λ t. t || is_one_of bs b) same)) bs different.0 later,
+        all_apart bs different.1 later,
+      )
 
 -- ---- the profile of such an image is that of the text
 
