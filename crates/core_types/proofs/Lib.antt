@@ -17,6 +17,7 @@ pub mod Checked
 pub mod Denoting
 pub mod Solving
 pub mod Sided
+pub mod TypeTrees
 pub mod Instancing
 pub mod Heads
 pub mod Meant

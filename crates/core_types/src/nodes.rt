@@ -1,8 +1,8 @@
 //! Types as terms in a vector.
 
-ghost use Rattle.std.specs.Prelude.{◌≡◌, ℕ, Bool, IfOk, IfSome, IsTrue, Some, slice_get};
+ghost use Rattle.std.specs.Prelude.{◌≡◌, ℕ, Bool, IfOk, IfSome, IsTrue, Some, length, slice_get};
 ghost use Rattle.unification.specs.declared.term.Term.TheVariants as term;
-ghost use Rattle.core_types.specs.Nodes.{key_of, number_of, is_use, IsInRange, entry_of, entered, index_of_key, IsSound, IsSymbolAt, AreBelow, Denotes, DenoteAll, ExtendsNodes, AddsTermForType};
+ghost use Rattle.core_types.specs.Nodes.{key_of, number_of, is_use, IsInRange, entry_of, entered, index_of_key, IsSound, IsSymbolAt, TakesArguments, AreBelow, Denotes, DenoteAll, ExtendsNodes, AddsTermForType};
 ghost use Rattle.core_types.specs.Typing.{Typed, Types, Int, Open, Rigid, Named, Arrow};
 
 use seq::Seq;
@@ -152,7 +152,7 @@ impl Nodes {
     /// the most count as want of memory.
     fn made(&mut self, symbol: Symbol, arguments: Seq<usize>) -> Result<usize, AllocError>
         ensures grows { IfOk result (λ x. IsSound self.old → AreBelow self.old arguments
-            → ExtendsNodes self.old self.new) }
+            → TakesArguments symbol (length arguments) → ExtendsNodes self.old self.new) }
         ensures made { IfOk result (λ x. IsSound self.old → IsSymbolAt self.new x symbol arguments) }
     {
         let mark = mark_of(symbol, arguments.as_slice());
