@@ -1,3 +1,4 @@
+pub mod Follows
 pub mod TreeOf
 pub mod SourceMoves
 pub mod SourceReading

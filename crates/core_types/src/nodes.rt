@@ -174,8 +174,7 @@ impl Nodes {
     pub fn integer(&mut self, alloc: Global) -> Result<usize, AllocError>
         ensures { IfOk result (λ x. IsSound self.old → AddsTermForType self.old self.new Int x) }
     {
-        let at = self.made(Symbol::Integer, Seq::new(alloc))?;
-        Ok(at)
+        self.made(Symbol::Integer, Seq::new(alloc))
     }
 
     /// A variable that nothing is put for, of a function.
@@ -188,8 +187,7 @@ impl Nodes {
         ensures { IfOk result (λ x. IsSound self.old
             → AddsTermForType self.old self.new (Rigid function variable) x) }
     {
-        let at = self.made(Symbol::Rigid(function, variable), Seq::new(alloc))?;
-        Ok(at)
+        self.made(Symbol::Rigid(function, variable), Seq::new(alloc))
     }
 
     /// A type by its name.
@@ -197,8 +195,7 @@ impl Nodes {
         ensures { IfOk result (λ x. (ts : Types) → IsSound self.old
             → DenoteAll self.old ts arguments → AddsTermForType self.old self.new (Named name ts) x) }
     {
-        let at = self.made(Symbol::Named(name), arguments)?;
-        Ok(at)
+        self.made(Symbol::Named(name), arguments)
     }
 
     /// The functions from one type to another one.
@@ -209,8 +206,7 @@ impl Nodes {
         let mut arguments = Seq::new(alloc);
         arguments.push(from)?;
         arguments.push(to)?;
-        let at = self.made(Symbol::Arrow, arguments)?;
-        Ok(at)
+        self.made(Symbol::Arrow, arguments)
     }
 
     /// The place of a key's variable.
