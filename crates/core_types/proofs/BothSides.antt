@@ -1,12 +1,13 @@
 -- The sides of a constraint, by what unification leaves of its terms.
-use Rattle.std.proofs.Common.{◌≡◌, ℕ, zero, suc, ◌<◌, List, [], ◌∷◌, sym, subst, ◌∙◌, Some}
-use Rattle.std.specs.Prelude.{slice_get, take}
+use Rattle.std.proofs.Common.{◌≡◌, ℕ, zero, suc, ◌<◌, List, [], ◌∷◌, sym, subst, ◌∙◌, Option, Some}
+use Rattle.std.specs.Prelude.{slice_get, take, MatchOption}
 use Rattle.seq.specs.Lists.{In, here, there}
 use Rattle.seq.proofs.Lists.{some_is, none_is_some}
 use Rattle.unification.specs.declared.classes.Classes.{Classes}
 use Rattle.unification.specs.declared.term.Term.{Term}
 use Rattle.unification.specs.Shown.{IsSolved, ShowsTrees}
-use Rattle.unification.specs.Terms.{PairsAreBelow, tree}
+use Rattle.unification.specs.Terms.{PairsAreBelow, tree, equations}
+use Rattle.unification.specs.Solutions.{AreUnsolvable}
 use Rattle.unification.specs.Trees.{Tree, substituted}
 use Rattle.core_types.specs.declared.building.ConstraintBuilder.{ConstraintBuilder}
 use Rattle.core_types.specs.Typing.{Typed, Constraint}
@@ -23,6 +24,17 @@ in_list (y ∷ xs) (suc i) x e = there (in_list xs i x e)
 pub pair_below : (n : ℕ) (ps : List (ℕ × ℕ)) (k : ℕ) (p : ℕ × ℕ) → PairsAreBelow n ps
     → slice_get ps k ≡ Some p → (p.0 < n) × (p.1 < n)
 pair_below n ps k p h e = h p (in_list ps k p e)
+
+-- what unification found shows what each term becomes
+module _ (ts : List Term) (ps : List (ℕ × ℕ)) (found : Option Classes) (c : Classes)
+    (is : found ≡ Some c)
+    (h : MatchOption found (AreUnsolvable (equations ts ps)) (IsSolved ts ps)) where
+  pub solved_by : IsSolved ts ps c
+  solved_by = subst (λ (o : Option Classes). MatchOption o (AreUnsolvable (equations ts ps))
+      (IsSolved ts ps)) is h
+
+  pub shown_by : (v : ℕ → Tree) × ShowsTrees ts c v
+  shown_by = ((λ i. substituted solved_by.solution (tree ts i)), solved_by.shows)
 
 module _ (b : ConstraintBuilder) (cs : List Constraint) (h : IsSound b.nodes) (s : Stands b cs)
     (k : ℕ) (c : Constraint) (p : ℕ × ℕ) (is : slice_get cs k ≡ Some c)

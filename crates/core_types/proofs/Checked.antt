@@ -3,6 +3,7 @@ use Rattle.std.proofs.Common.{◌≡◌, ℕ, List, Result, Ok, Err, None, refl,
 use Rattle.std.specs.Prelude.{IfOk, IfErr, OnOk}
 use Rattle.core_reader.specs.declared.refusal.ReadRefusal.{ReadRefusal}
 use Rattle.core_reader.specs.declared.refusal.ReadRefusal.TheVariants as unread
+use Rattle.core_reader.specs.declared.syntax.Core.{Core}
 use Rattle.core_reader.specs.Tree.{Program}
 use Rattle.core_reader.specs.Readable.{IsReadable}
 use Rattle.core_reader.proofs.OnlyOne.{one_thing}
@@ -11,7 +12,6 @@ use Rattle.core_types.specs.declared.refusal.TypeFault.{TypeFault}
 use Rattle.core_types.specs.declared.refusal.TypeFault.TheVariants as fault
 use Rattle.core_types.specs.declared.refusal.TypeRefusal.{TypeRefusal}
 use Rattle.core_types.specs.declared.refusal.TypeRefusal.TheVariants as refusal
-use Rattle.core_types.specs.declared.accepted.Typed.{Typed}
 use Rattle.core_types.specs.Source.{Source, erased}
 use Rattle.core_types.specs.Text.{IsSourceText, BreaksNoReadingRule, IsReadCause}
 use Rattle.core_types.specs.Rules.{IsUnbroken, InCore}
@@ -72,14 +72,13 @@ untyped_caused text s (fault.Memory e) read is h = tt
 
 module _ (text : List ℕ) (s : Source) (is : IsSourceText text s) (read : BreaksNoReadingRule text)
   where
-    pub typed_text : {E : Type 0} → IsReadable (erased s) → (r : Result Typed E)
+    pub typed_text : {E : Type 0} → IsReadable (erased s) → (r : Result Core E)
         → IfOk r (IsTypedSource s) → IfOk r (IsTypedAs text)
     typed_text readable (Ok t) h = record {
       source = s;
       is_text = is;
       core = h.core;
       readable = readable;
-      normal = h.normal;
       solution
           = h.solution;
       solves = h.solves;
@@ -99,5 +98,6 @@ module _ (text : List ℕ) (s : Source) (is : IsSourceText text s) (read : Break
     pub refused_text : {T : Type 0} (r : Result T TypeRefusal) → IfErr r (IsSourceRefusal s)
         → IfErr r (IsRefusal text)
     refused_text (Ok x) h = tt
-    refused_text (Err (refusal.Mismatch at left right)) h = (Untyped read s is h.0, (s, is, h.1))
+    refused_text (Err (refusal.Mismatch at left right names)) h =
+        (Untyped read s is h.0, (s, is, h.1, h.2))
     refused_text (Err (refusal.Fault f)) h = (untyped_caused text s f read is h.0, h.1)

@@ -13,7 +13,7 @@ use Rattle.unification.specs.Terms.{AreEarlier, symbol_in, arguments_in, symbol_
 use Rattle.core_types.specs.declared.nodes.TypeVariableKey as code-key
 use Rattle.core_types.specs.declared.nodes.Nodes.{Nodes}
 use Rattle.core_types.specs.Typing.{TypeVariableKey, AtBinder, AtResult, AtBracket, AtScrutinee, AtUse, Typed, Types, Int, Open, Rigid, Named, Arrow, NoTypeds, AndTyped}
-use Rattle.core_types.specs.Nodes.{key_of, number_of, is_use, IsInRange, entry_of, index_of_key, entered, named_by, IsVariableAt, IsSound, IsSymbolAt, AreBelow, Denotes, DenoteAll, ExtendsNodes, AddsTermForType}
+use Rattle.core_types.specs.Nodes.{key_of, number_of, is_use, IsInRange, entry_of, index_of_key, entered, named_by, IsVariableAt, IsSound, IsSymbolAt, AreBelow, TakesArguments, HasItsArguments, HaveTheirArguments, Denotes, DenoteAll, ExtendsNodes, AddsTermForType}
 
 -- ---- a term by its parts
 
@@ -247,6 +247,18 @@ earlier_more ts t new old = λ i x h. go i x (slice_get (ts ++ t ∷ []) i) refl
           in omega (arith, l, m))
     ]
 
+formed_more : (ts : List Term) (t : Term) → HasItsArguments (Some t) → HaveTheirArguments ts
+    → HaveTheirArguments (ts ++ t ∷ [])
+formed_more ts t new old = λ i. go i (slice_get (ts ++ t ∷ []) i) refl
+  where
+    go : (i : ℕ) (o : Option Term) → slice_get (ts ++ t ∷ []) i ≡ o → HasItsArguments o
+    go i None e = tt
+    go i (Some v) e = elim (get_cases ts t i v e) [
+      | inl g ↦ subst HasItsArguments g (old i)
+      | inr g ↦ subst (λ w. HasItsArguments (Some w))
+          g.1 new
+    ]
+
 module _ (n n' : Nodes) (t : Term) (k : Option code-key.TypeVariableKey)
     (grown : n'.terms.items ≡ n.terms.items ++ t ∷ [])
     (keyed : n'.keys.items ≡ n.keys.items ++ k ∷ []) (h : IsSound n) where
@@ -278,6 +290,9 @@ module _ (n n' : Nodes) (t : Term) (k : Option code-key.TypeVariableKey)
       → AreEarlier n'.terms.items
   earlier_kept new = subst AreEarlier (sym grown) (earlier_more n.terms.items t new h.earlier)
 
+  formed_kept : HasItsArguments (Some t) → HaveTheirArguments n'.terms.items
+  formed_kept new = subst HaveTheirArguments (sym grown) (formed_more n.terms.items t new h.formed)
+
   grown_by : IsSound n' → ExtendsNodes n n'
   grown_by sound = record {
     sound = sound;
@@ -304,10 +319,12 @@ module _ (n n' : Nodes) (s : Symbol) (xs : List ℕ)
       [ inl y ↦ y | inr y ↦ absurd (let never = y.2 in cc) ]
 
   pub made_grows : n'.uses ≡ n.uses → n'.places ≡ n.places
-      → ((x : ℕ) → In x xs → x < length n.terms.items) → ExtendsNodes n n'
-  made_grows u p new = grown_by n n' (term.Made s xs) None grown keyed h (record {
+      → ((x : ℕ) → In x xs → x < length n.terms.items) → TakesArguments s (length xs)
+      → ExtendsNodes n n'
+  made_grows u p new takes = grown_by n n' (term.Made s xs) None grown keyed h (record {
     same = same_length n n' (term.Made s xs) None grown keyed h;
     earlier = earlier_kept n n' (term.Made s xs) None grown keyed h new;
+    formed = formed_kept n n' (term.Made s xs) None grown keyed h takes;
     ranged = λ q x e. h.ranged q x (was q x e);
     listed = λ q x e. found q ∙ h.listed q x (was q x e);
     held = λ q x l e. variables_kept n n' (term.Made s xs) None grown keyed h q x
@@ -368,6 +385,7 @@ module _ (n n' : Nodes) (k : code-key.TypeVariableKey) (at : ℕ)
   variable_grows = grown_by n n' term.Variable (Some k) grown keyed h (record {
     same = same_length n n' term.Variable (Some k) grown keyed h;
     earlier = earlier_kept n n' term.Variable (Some k) grown keyed h (λ x i. absurd (none_in x i));
+    formed = formed_kept n n' term.Variable (Some k) grown keyed h tt;
     ranged = new_ranged;
     listed = new_listed;
     held = new_held;
@@ -424,6 +442,7 @@ pub none_sound : (n : Nodes) → n.terms.items ≡ [] → n.keys.items ≡ []
 none_sound n t k p u = record {
   same = ap length k ∙ sym (ap length t);
   earlier = subst AreEarlier (sym t) no_terms;
+  formed = subst HaveTheirArguments (sym t) (λ i. tt);
   ranged = λ q x e. absurd (no_variable q x e);
   listed = λ q x e. absurd (no_variable q x e);
   held = λ q x l e. absurd (never (index_of_key n q) x (go (is_use q) (number_of q)) e);
@@ -448,29 +467,32 @@ none_sound n t k p u = record {
 
 -- a symbol without arguments
 pub leaf_gives : (n n' : Nodes) (t : Typed) (x : ℕ) (s : Symbol) (xs : List ℕ) → xs ≡ []
-    → (IsSound n → AreBelow n xs → ExtendsNodes n n') → (IsSound n → IsSymbolAt n' x s xs)
-    → (IsSymbolAt n' x s [] → Denotes n' t x)
+    → (IsSound n → AreBelow n xs → TakesArguments s (length xs) → ExtendsNodes n n')
+    → (IsSound n → IsSymbolAt n' x s xs)
+    → (IsSymbolAt n' x s [] → Denotes n' t x) → TakesArguments s 0
     → IsSound n → AddsTermForType n n' t x
-leaf_gives n n' t x s xs e grows made to h = record {
-  grows = grows h (λ y i. absurd (none_in y (subst (In y) e i)));
+leaf_gives n n' t x s xs e grows made to takes h = record {
+  grows = grows h (λ y i. absurd (none_in y (subst (In y) e i)))
+      (subst (λ ys. TakesArguments s (length ys)) (sym e) takes);
   denotes = to (subst (IsSymbolAt n' x s) e (made h));
 }
 
 pub named_gives : (n n' : Nodes) (x name : ℕ) (xs : List ℕ)
-    → (IsSound n → AreBelow n xs → ExtendsNodes n n')
+    → (IsSound n → AreBelow n xs → TakesArguments (symbol.Named name) (length xs)
+    → ExtendsNodes n n')
     → (IsSound n → IsSymbolAt n' x (symbol.Named name) xs)
     → (ts : Types) → IsSound n → DenoteAll n ts xs → AddsTermForType n n' (Named name ts) x
 named_gives n n' x name xs grows made ts h d =
-    let g = grows h (all_below n ts xs d) in
+    let g = grows h (all_below n ts xs d) tt in
     record { grows = g; denotes = (xs, made h, g.all ts xs d) }
 
 pub arrow_gives : (n n' : Nodes) (x from to : ℕ) (xs : List ℕ) → xs ≡ from ∷ (to ∷ [])
-    → (IsSound n → AreBelow n xs → ExtendsNodes n n')
+    → (IsSound n → AreBelow n xs → TakesArguments symbol.Arrow (length xs) → ExtendsNodes n n')
     → (IsSound n → IsSymbolAt n' x symbol.Arrow xs)
     → (t u : Typed) → IsSound n → Denotes n t from → Denotes n u to
     → AddsTermForType n n' (Arrow t u) x
 arrow_gives n n' x from to xs e grows made t u h d k =
-    let g = grows h (λ z i. two_below n t u from to d k z (subst (In z) e i)) in
+    let g = grows h (λ z i. two_below n t u from to d k z (subst (In z) e i)) (ap length e) in
     record {
       grows = g;
       denotes =

@@ -1,3 +1,4 @@
+pub mod Follows
 pub mod TreeOf
 pub mod SourceMoves
 pub mod SourceReading
@@ -17,6 +18,7 @@ pub mod Checked
 pub mod Denoting
 pub mod Solving
 pub mod Sided
+pub mod TypeTrees
 pub mod Instancing
 pub mod Heads
 pub mod Meant

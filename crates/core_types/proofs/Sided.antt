@@ -1,5 +1,5 @@
 -- Types of solutions, read from rows of pieces.
-use Rattle.std.proofs.Common.{◌≡◌, ℕ, suc, ◌-◌, List, [], ◌∷◌, ◌++◌, length, map, take, drop, refl, sym, ap, ◌∙◌, arith, length-append}
+use Rattle.std.proofs.Common.{◌≡◌, ℕ, suc, ◌+◌, ◌-◌, List, [], ◌∷◌, ◌++◌, length, map, take, drop, refl, sym, ap, subst, ◌∙◌, arith, length-append, length-take}
 use Rattle.std.proofs.lemmas.List.{take_at, drop_at, take-map, drop-map}
 use Rattle.std.specs.declared.boxed.Box.{Box}
 use Rattle.std.specs.declared.alloc.Global.{Global}
@@ -15,7 +15,7 @@ use Rattle.core_types.specs.declared.sides.Ty.{Ty, fold-roll-Ty}
 use Rattle.core_types.specs.declared.sides.Ty.TheVariants as variant
 use Rattle.core_types.specs.declared.sides.Ty.TheOpen as layer
 use Rattle.core_types.specs.Typing.{Typed, AndTyped, Int, Rigid, Named, Arrow}
-use Rattle.core_types.specs.Sides.{types_from, variable, type_layer, type_of, back_all, typed_of, trees_from, read_piece, read_back}
+use Rattle.core_types.specs.Sides.{types_from, variable, type_layer, type_of, back_all, typed_of, IsTypeTree, AreTypeTrees, trees_from, HasReadArguments, read_piece, read_back}
 
 -- ---- the types of the code
 
@@ -109,6 +109,83 @@ mutual
       ∙ read_trees us (ts ++ t ∷ [])
       ∙ append_again ts (t ∷ []) (trees_in us)
 
+-- a tree has a row of its own
+one_tree : (t u : Tree) → pieces t ≡ pieces u → t ≡ u
+one_tree t u e =
+    let same : t ∷ [] ≡ u ∷ [] = sym (read_tree t []) ∙ ap (λ ps. read_back ps []) e
+    ∙ read_tree u [] in
+    cc
+
+-- ---- how many trees were read
+
+abbrev count_after : Piece → ℕ → ℕ
+count_after (piece.Open n) k = suc k
+count_after (piece.Made s n) k = suc (k - n)
+
+abbrev count_back : List Piece → ℕ → ℕ
+count_back [] k = k
+count_back (p ∷ ps) k = count_after p (count_back ps k)
+
+-- each piece finds its arguments among what was read
+abbrev AllHaveRead : List Piece → ℕ → Type 0
+AllHaveRead [] k = Unit {0}
+AllHaveRead (p ∷ ps) k = AllHaveRead ps k × HasReadArguments p (count_back ps k)
+
+read_count : (p : Piece) (ts : List Tree) → length (read_piece p ts) ≡ count_after p (length ts)
+read_count (piece.Open n) ts = (let a = length-append ts (Open n ∷ []) in omega (arith, a))
+read_count (piece.Made s n) ts =
+    let before : ℕ = length ts - n in
+    let x : Tree = Made s (trees_from (drop before ts)) in
+    let a = length-append (take before ts) (x ∷ []) in
+    let b = length-take before ts in
+    omega (arith, a, b)
+
+count_append : (ps qs : List Piece) (k : ℕ)
+    → count_back (ps ++ qs) k ≡ count_back ps (count_back qs k)
+count_append [] qs k = refl
+count_append (p ∷ ps) qs k = ap (count_after p) (count_append ps qs k)
+
+all_first : (ps qs : List Piece) (k : ℕ) → AllHaveRead (ps ++ qs) k
+    → AllHaveRead ps (count_back qs k)
+all_first [] qs k h = tt
+all_first (p ∷ ps) qs k h =
+    (all_first ps qs k h.0, subst (HasReadArguments p) (count_append ps qs k) h.1)
+
+all_last : (ps qs : List Piece) (k : ℕ) → AllHaveRead (ps ++ qs) k → AllHaveRead qs k
+all_last [] qs k h = h
+all_last (p ∷ ps) qs k h = all_last ps qs k h.0
+
+all_both : (ps qs : List Piece) (k : ℕ) → AllHaveRead qs k → AllHaveRead ps (count_back qs k)
+    → AllHaveRead (ps ++ qs) k
+all_both [] qs k h g = h
+all_both (p ∷ ps) qs k h g =
+    (all_both ps qs k h g.0, subst (HasReadArguments p) (sym (count_append ps qs k)) g.1)
+
+-- the row of a type is read whole
+mutual
+  tree_count_is : (t : Tree) (k : ℕ) → count_back (pieces t) k ≡ suc k
+  tree_count_is (Open n) k = refl
+  tree_count_is (Made s ts) k = let e = trees_count_are ts k in omega (arith, e)
+
+  trees_count_are : (ts : Trees) (k : ℕ) → count_back (pieces_all ts) k ≡ k + tree_count ts
+  trees_count_are NoTrees k = omega arith
+  trees_count_are (AndTree t ts) k =
+      let e : count_back (pieces_all ts) (count_back (pieces t) k) ≡ suc k + tree_count ts
+      = ap (count_back (pieces_all ts)) (tree_count_is t k) ∙ trees_count_are ts (suc k) in
+      let f = count_append (pieces_all ts) (pieces t) k in
+      omega (arith, e, f)
+
+mutual
+  tree_reads : (t : Tree) (k : ℕ) → IsTypeTree t → AllHaveRead (pieces t) k
+  tree_reads (Open n) k h = (tt, tt)
+  tree_reads (Made s ts) k h =
+      (trees_read ts k h.1, (let e = trees_count_are ts k in omega (arith, e), h.0))
+
+  trees_read : (ts : Trees) (k : ℕ) → AreTypeTrees ts → AllHaveRead (pieces_all ts) k
+  trees_read NoTrees k h = tt
+  trees_read (AndTree t ts) k h = all_both (pieces_all ts) (pieces t) k (tree_reads t k h.0)
+      (subst (AllHaveRead (pieces_all ts)) (sym (tree_count_is t k)) (trees_read ts (suc k) h.1))
+
 -- ---- reading
 
 -- What was read and what is left of a row of pieces make a tree.
@@ -116,10 +193,24 @@ pub record Reads (row : List Piece) (read : List Typed) (t : Tree) : Type 0 wher
   pub trees : List Tree
   pub are : read ≡ map typed_of trees
   pub rest : read_back row trees ≡ t ∷ []
+  pub all : AllHaveRead row (length trees)
 
-pub reads_first : (row : List Piece) (t : Tree) → row ≡ pieces t → Reads row [] t
-reads_first row t e = record
-    { trees = []; are = refl; rest = ap (λ ps. read_back ps []) e ∙ read_tree t [] }
+pub reads_first : (row : List Piece) (u : Tree) → (row ≡ pieces u) × IsTypeTree u → (t : Tree)
+    → row ≡ pieces t → Reads row [] t
+reads_first row u h t e = record {
+  trees = [];
+  are = refl;
+  rest = ap (λ ps. read_back ps []) e ∙ read_tree t [];
+  all = subst (λ ps. AllHaveRead ps 0) (sym h.0) (tree_reads u 0 h.1);
+}
+
+pub reads_piece : (row row' : List Piece) (p : Piece) (read : List Ty) (t : Tree)
+    → row ≡ row' ++ p ∷ [] → Reads row (map type_of read) t → HasReadArguments p (length read)
+reads_piece row row' p read t e h =
+    let all = all_last row' (p ∷ []) (length h.trees)
+    (subst (λ ps. AllHaveRead ps (length h.trees)) e h.all) in
+    subst (HasReadArguments p)
+    (sym (length_map typed_of h.trees) ∙ sym (ap length h.are) ∙ length_map type_of read) all.1
 
 pub reads_next : (row row' : List Piece) (p : Piece) (read read' : List Typed) (t : Tree)
     → row ≡ row' ++ p ∷ [] →
@@ -129,6 +220,9 @@ reads_next row row' p read read' t e step h = record {
   trees = read_piece p h.trees;
   are = step h.trees h.are;
   rest = sym (read_append row' (p ∷ []) h.trees) ∙ ap (λ ps. read_back ps h.trees) (sym e) ∙ h.rest;
+  all = subst (AllHaveRead row') (sym (read_count p h.trees))
+      (all_first row' (p ∷ []) (length h.trees)
+      (subst (λ ps. AllHaveRead ps (length h.trees)) e h.all));
 }
 
 pub reads_last : (read : List Typed) (t : Tree) → Reads [] read t → read ≡ typed_of t ∷ []

@@ -65,6 +65,10 @@ pub record IsContextOf (c : Context) (s : Source) : Type 0 where
       ≡ constructor_by_numbers s.types (get nat_cmp c.constructors n)
   pub lists : integers s ≡ Named c.lists.0 (AndTyped Int NoTypeds)
 
+-- what holds of each program that the tables speak of
+abbrev pub InContext : Context → (Source → Type 0) → Type 0
+InContext c P = (s : Source) → IsContextOf c s → P s
+
 -- the locals of a scope have terms for their types
 abbrev pub DenoteLocals : Nodes → Locals → List (ℕ × ℕ) → Type 0
 DenoteLocals n [] scope = scope ≡ []
@@ -76,6 +80,13 @@ DenoteLocals n (l ∷ ls) scope =
 pub record HasLocalsInScope (b : ConstraintBuilder) (ls : Locals) : Type 0 where
   pub sound : IsSound b.nodes
   pub locals : DenoteLocals b.nodes ls b.scope
+
+-- what holds in each program that the tables speak of, with the locals in scope, where a term
+-- stands for a type
+abbrev pub WhereTyped : Context → ConstraintBuilder → ℕ → (Source → Locals → Typed → Type 0)
+    → Type 0
+WhereTyped c b x P = (s : Source) (ls : Locals) (t : Typed) → IsContextOf c s
+    → HasLocalsInScope b ls → Denotes b.nodes t x → P s ls t
 
 abbrev pub places_of : List Constraint → List ℕ
 places_of cs = map (λ c. c.at) cs

@@ -5,6 +5,7 @@ use Rattle.std.specs.Ordering.{nat_cmp}
 use Rattle.std.specs.BTreeMap.{get}
 use Rattle.unification.specs.declared.term.Symbol as symbol-type
 use Rattle.unification.specs.declared.term.Symbol.TheVariants as symbol
+use Rattle.unification.specs.declared.term.Term.{Term}
 use Rattle.unification.specs.declared.term.Term.TheVariants as term
 use Rattle.seq.specs.Lists.{In}
 use Rattle.unification.specs.Terms.{AreEarlier}
@@ -69,10 +70,28 @@ IsVariableAt n q x =
     (slice_get n.terms.items x ≡ Some term.Variable)
     × (named_by (slice_get n.keys.items x) ≡ Some q)
 
--- Each argument stands before its term, and each variable is found by its key.
+-- how many arguments a symbol has in types
+abbrev pub TakesArguments : symbol-type.Symbol → ℕ → Type 0
+TakesArguments symbol.Integer n = n ≡ 0
+TakesArguments symbol.Arrow n = n ≡ 2
+TakesArguments (symbol.Rigid f v) n = n ≡ 0
+TakesArguments (symbol.Named c) n = Unit {0}
+
+abbrev pub HasItsArguments : Option Term → Type 0
+HasItsArguments (Some (term.Made s xs)) = TakesArguments s (length xs)
+HasItsArguments (Some term.Variable) = Unit {0}
+HasItsArguments None = Unit {0}
+
+-- each symbol has as many arguments as in types
+abbrev pub HaveTheirArguments : List Term → Type 0
+HaveTheirArguments terms = (i : ℕ) → HasItsArguments (slice_get terms i)
+
+-- Each argument stands before its term, each symbol has as many as in types, and each variable is
+-- found by its key.
 pub record IsSound (n : Nodes) : Type 0 where
   pub same : length n.keys.items ≡ length n.terms.items
   pub earlier : AreEarlier n.terms.items
+  pub formed : HaveTheirArguments n.terms.items
   pub ranged : (q : TypeVariableKey) (x : ℕ) → IsVariableAt n q x → IsInRange q
   pub listed : (q : TypeVariableKey) (x : ℕ) → IsVariableAt n q x → index_of_key n q ≡ Some x
   pub held : (q : TypeVariableKey) (x : ℕ) → IsInRange q

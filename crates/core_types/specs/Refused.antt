@@ -2,17 +2,15 @@
 use Rattle.std.specs.Prelude.{◌≡◌, ℕ, List, Option, Some, None}
 use Rattle.core_reader.specs.declared.refusal.ReadRefusal.{ReadRefusal}
 use Rattle.core_reader.specs.declared.refusal.ReadRefusal.TheVariants as unread
+use Rattle.core_reader.specs.declared.syntax.Core.{Core}
 use Rattle.core_reader.specs.Tree.{program as program_of}
 use Rattle.core_reader.specs.Readable.{IsReadable}
-use Rattle.arity_check.specs.Normal.{IsNormalForm}
-use Rattle.arity_check.specs.Program.{program as normal_form}
 use Rattle.arity_check.specs.Refusal as core
 use Rattle.core_types.specs.declared.refusal.TypeFault.{TypeFault}
 use Rattle.core_types.specs.declared.refusal.TypeFault.TheVariants as fault
 use Rattle.core_types.specs.declared.refusal.TypeRefusal.{TypeRefusal}
 use Rattle.core_types.specs.declared.refusal.TypeRefusal.TheVariants as refusal
 use Rattle.core_types.specs.declared.sides.Ty.{Ty}
-use Rattle.core_types.specs.declared.accepted.Typed.{Typed}
 use Rattle.core_types.specs.declared.rules.Verdict.{Verdict}
 use Rattle.core_types.specs.declared.rules.Verdict.TheVariants as verdict
 use Rattle.core_types.specs.Source.{Source, erased}
@@ -107,15 +105,17 @@ abbrev pub TextBreaksNoRule : List ℕ → Type 0
 TextBreaksNoRule text =
     BreaksNoReadingRule text × ((s : Source) → IsSourceText text s → IsUnbroken s)
 
--- At this place of the text the types of a constraint do not fit, and these are its two sides.
-abbrev pub AreSidesAt : List ℕ → ℕ → Ty → Ty → Type 0
-AreSidesAt text at left right =
+-- At this place of the text the types of a constraint do not fit, and these are its two sides, with
+-- the names of the text.
+abbrev pub AreSidesAt : List ℕ → ℕ → Ty → Ty → List (List ℕ) → Type 0
+AreSidesAt text at left right names =
     (s : Source) × IsSourceText text s × IsMismatch s at (type_of left) (type_of right)
+    × (names ≡ s.names)
 
 -- The refusal names the first rule that the text breaks; where types do not fit, with the sides.
 abbrev pub IsRefusal : List ℕ → TypeRefusal → Type 0
-IsRefusal text (refusal.Mismatch at left right) =
-    IsFirstBrokenText text 83 at × AreSidesAt text at left right
+IsRefusal text (refusal.Mismatch at left right names) =
+    IsFirstBrokenText text 83 at × AreSidesAt text at left right names
 IsRefusal text (refusal.Fault f) = IsCause text f × (mismatch_in f ≡ None)
 
 -- The refusal names the first rule that the program breaks. Want of memory has no cause in it.
@@ -125,24 +125,21 @@ IsSourceCause s f = NamesFirstBrokenRule s f
 
 -- The refusal names the first rule that the program breaks; where types do not fit, with the sides.
 abbrev pub IsSourceRefusal : Source → TypeRefusal → Type 0
-IsSourceRefusal s (refusal.Mismatch at left right) =
-    IsFirstBroken s 83 at × IsMismatch s at (type_of left) (type_of right)
+IsSourceRefusal s (refusal.Mismatch at left right names) =
+    IsFirstBroken s 83 at × IsMismatch s at (type_of left) (type_of right) × (names ≡ s.names)
 IsSourceRefusal s (refusal.Fault f) = IsSourceCause s f × (mismatch_in f ≡ None)
 
--- What was found of a program whose types fit: the program without its types and its normal form.
-pub record IsTypedSource (source : Source) (found : Typed) : Type 0 where
-  pub core : program_of found.core ≡ erased source
-  pub normal : IsNormalForm (erased source) (normal_form found.checked)
+-- What was found of a program whose types fit: the program without its types.
+pub record IsTypedSource (source : Source) (found : Core) : Type 0 where
+  pub core : program_of found ≡ erased source
   pub solution : Substitution
   pub solves : Solves solution (constraints source)
 
--- What was found of a text that stands for a program whose types fit: the program without its types
--- and its normal form.
-pub record IsTypedAs (text : List ℕ) (found : Typed) : Type 0 where
+-- What was found of a text that stands for a program whose types fit: the program without its types.
+pub record IsTypedAs (text : List ℕ) (found : Core) : Type 0 where
   pub source : Source
   pub is_text : IsSourceText text source
-  pub core : program_of found.core ≡ erased source
+  pub core : program_of found ≡ erased source
   pub readable : IsReadable (erased source)
-  pub normal : IsNormalForm (erased source) (normal_form found.checked)
   pub solution : Substitution
   pub solves : Solves solution (constraints source)

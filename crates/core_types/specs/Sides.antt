@@ -1,15 +1,17 @@
 -- The types of the two sides of a constraint, as a solution leaves them.
-use Rattle.std.specs.Prelude.{◌≡◌, ℕ, zero, ◌-◌, List, [], ◌∷◌, ◌++◌, length, take, drop}
+use Rattle.std.specs.Prelude.{◌≡◌, ℕ, zero, ◌-◌, ◌≤◌, List, [], ◌∷◌, ◌++◌, length, take, drop}
 use Rattle.unification.specs.declared.pieces.Piece.{Piece}
 use Rattle.unification.specs.declared.pieces.Piece.TheVariants as piece
 use Rattle.unification.specs.declared.term.Symbol.TheVariants as symbol
 use Rattle.unification.specs.Trees.{Tree, Trees, Open, Made, NoTrees, AndTree}
+use Rattle.unification.specs.Pieces.{tree_count}
 use Rattle.core_types.specs.declared.sides.Ty.{Ty-F, fold-Ty}
 use Rattle.core_types.specs.declared.sides.Ty as code
 use Rattle.core_types.specs.declared.sides.Ty.TheOpen as layer
 use Rattle.core_types.specs.Source.{Source}
 use Rattle.core_types.specs.Typing.{TypeVariableKey, AtBinder, AtResult, AtBracket, AtScrutinee, AtUse, Typed, Types, Int, Rigid, Named, Arrow, NoTypeds, AndTyped, Constraint, Substitution, under, constraints, IsFirstUnsolved, IsMostGeneral}
 use Rattle.core_types.specs.Typing as typing
+use Rattle.core_types.specs.Nodes.{TakesArguments}
 
 abbrev pub types_from : List Typed → Types
 types_from [] = NoTypeds
@@ -78,6 +80,16 @@ abbrev mutual
 abbrev pub typed_of : Tree → Typed
 typed_of t = back variable t
 
+-- each symbol in a tree has as many arguments as in types
+abbrev mutual
+  pub IsTypeTree : Tree → Type 0
+  IsTypeTree (Open n) = Unit {0}
+  IsTypeTree (Made s ts) = TakesArguments s (tree_count ts) × AreTypeTrees ts
+
+  pub AreTypeTrees : Trees → Type 0
+  AreTypeTrees NoTrees = Unit {0}
+  AreTypeTrees (AndTree t ts) = IsTypeTree t × AreTypeTrees ts
+
 -- ---- rows of pieces, read from their end
 
 abbrev pub trees_from : List Tree → Trees
@@ -89,6 +101,11 @@ abbrev pub read_piece : Piece → List Tree → List Tree
 read_piece (piece.Open n) ts = ts ++ Open n ∷ []
 read_piece (piece.Made s n) ts =
     take (length ts - n) ts ++ Made s (trees_from (drop (length ts - n) ts)) ∷ []
+
+-- so many trees were read that the arguments of the piece, as many as in types, are among them
+abbrev pub HasReadArguments : Piece → ℕ → Type 0
+HasReadArguments (piece.Open n) k = Unit {0}
+HasReadArguments (piece.Made s n) k = (n ≤ k) × TakesArguments s n
 
 abbrev pub read_back : List Piece → List Tree → List Tree
 read_back [] ts = ts

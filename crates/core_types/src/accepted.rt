@@ -12,24 +12,13 @@ use crate::refusal::TypeFault;
 use crate::rules::{Verdict, judge};
 use crate::source::Source;
 use crate::text::read_source;
-use arity_check::check::normal_form;
 use arity_check::globals::Globals;
-use arity_check::normal::Checked;
 use core_reader::Core;
 use std::alloc::Global;
 
-/// A program that breaks no rule.
-#[derive(Drop)]
-pub struct Typed {
-    /// The program without its types.
-    pub core: Core,
-    /// Its normal form.
-    pub checked: Checked,
-}
-
-/// A program without its types, and its normal form, or the first rule that the program breaks, in
-/// the order of `typed_or_place`. Want of memory may come in place of each answer.
-pub fn typed_source_or_place(alloc: Global, source: Source) -> Result<Typed, TypeFault>
+/// A program without its types, or the first rule that the program breaks, in the order of
+/// `typed_or_place`. Want of memory may come in place of each answer.
+pub fn typed_source_or_place(alloc: Global, source: Source) -> Result<Core, TypeFault>
     requires erased { program_of source.core ≡ erased (source_of source) }
     requires readable { IsReadable (erased (source_of source)) }
     ensures typed { IfOk result (IsTypedSource (source_of source)) }
@@ -41,21 +30,14 @@ pub fn typed_source_or_place(alloc: Global, source: Source) -> Result<Typed, Typ
     match verdict {
         Verdict::Broken(fault) => Err(fault),
         Verdict::Mismatch(found) => Err(TypeFault::Mismatch(found.at)),
-        Verdict::Unbroken => {
-            let checked = normal_form(alloc, &globals, &source.core)?;
-            Ok(Typed {
-                core: source.core,
-                checked,
-            })
-        }
+        Verdict::Unbroken => Ok(source.core),
     }
 }
 
-/// The program that a text with types stands for, without them, and its normal form, or the first
-/// rule that the text breaks: of the rules 1 to 5, of those of the program without its types, then
-/// 81, 82 and 85 by place, 86, 83, and 84 by place. Want of memory may come in place of each
-/// answer.
-pub fn typed_or_place(alloc: Global, text: &[u8]) -> Result<Typed, TypeFault>
+/// The program that a text with types stands for, without them, or the first rule that the text
+/// breaks: of the rules 1 to 5, of those of the program without its types, then 81, 82 and 85 by
+/// place, 86, 83, and 84 by place. Want of memory may come in place of each answer.
+pub fn typed_or_place(alloc: Global, text: &[u8]) -> Result<Core, TypeFault>
     ensures typed { IfOk result (IsTypedAs text.now) }
     ensures unbroken { OnOk result (TextBreaksNoRule text.now) }
     ensures refused { IfErr result (IsCause text.now) }

@@ -3,9 +3,8 @@
 ghost use Rattle.std.specs.Prelude.{◌≡◌, IfOk, map};
 ghost use Rattle.core_reader.specs.Tree.{term as term_of, application as application_of, terms_of};
 ghost use Rattle.core_types.specs.Source.{Source};
-ghost use Rattle.core_types.specs.Typing.{Typed, Locals, within_term, within_terms, of_app};
-ghost use Rattle.core_types.specs.Nodes.{Denotes};
-ghost use Rattle.core_types.specs.Building.{IsContextOf, HasLocalsInScope, Adds};
+ghost use Rattle.core_types.specs.Typing.{Locals, within_term, within_terms, of_app};
+ghost use Rattle.core_types.specs.Building.{IsContextOf, HasLocalsInScope, WhereTyped, Adds};
 
 use crate::building::ConstraintBuilder;
 use crate::context::Context;
@@ -23,9 +22,8 @@ impl ConstraintBuilder {
         expected: usize,
         app: &App,
     ) -> Result<(), AllocError>
-        ensures { IfOk result (λ _. (s : Source) (ls : Locals) (t : Typed)
-            → IsContextOf context.now s → HasLocalsInScope self.old ls → Denotes self.old.nodes t expected
-            → Adds self.old self.new (of_app s ls t (application_of app.now))) }
+        ensures { IfOk result (λ _. WhereTyped context.now self.old expected (λ s ls t.
+            Adds self.old self.new (of_app s ls t (application_of app.now)))) }
     {
         if app.args.is_empty() {
             match &app.head {

@@ -6,7 +6,7 @@ ghost use Rattle.core_types.specs.Source.{Source};
 ghost use Rattle.core_types.specs.Typing.{Typed, Int, Open, AtBinder, AtResult, Arrow, Locals, integers, param_type, result_type, own_type, global_type, name_type, constructor_type, term_type, terms_types, head_place, constraint, within_term, within_terms, of_terms, of_app};
 ghost use Rattle.core_types.specs.Nodes.{IsSound, Denotes, AddsTermForType};
 ghost use Rattle.core_types.specs.Instances.{AddsTermsForTypes};
-ghost use Rattle.core_types.specs.Building.{IsContextOf, DenoteLocals, HasLocalsInScope, Adds, application_constraint};
+ghost use Rattle.core_types.specs.Building.{IsContextOf, DenoteLocals, WhereTyped, Adds, application_constraint};
 ghost use Rattle.core_types.specs.Bare.{bare, place_of};
 
 use crate::context::{Context, constructor, function, signature};
@@ -54,8 +54,7 @@ fn param_type(
         let at = integers(alloc, context, nodes)?;
         return Ok(at);
     }
-    let at = nodes.variable(TypeVariableKey::Binder(param.at))?;
-    Ok(at)
+    nodes.variable(TypeVariableKey::Binder(param.at))
 }
 
 /// The type of a function's body.
@@ -72,8 +71,7 @@ pub fn result_type(
         let at = integers(alloc, context, nodes)?;
         return Ok(at);
     }
-    let at = nodes.variable(TypeVariableKey::Result(function.at))?;
-    Ok(at)
+    nodes.variable(TypeVariableKey::Result(function.at))
 }
 
 /// The types of a function's parameters.
@@ -107,8 +105,7 @@ pub fn own_type(
 {
     let params = param_types(alloc, context, nodes, function)?;
     let result = result_type(alloc, context, nodes, function)?;
-    let at = arrows(alloc, nodes, &params, result)?;
-    Ok(at)
+    arrows(alloc, nodes, &params, result)
 }
 
 /// The type of a name that no local hides.
@@ -129,13 +126,9 @@ fn global_type(
     match signature(context, function.name) {
         Some(signature) => {
             let instance = Instance::Used(at);
-            let term = signed(alloc, context.globals, nodes, instance, signature)?;
-            Ok(term)
+            signed(alloc, context.globals, nodes, instance, signature)
         }
-        None => {
-            let term = own_type(alloc, context, nodes, function)?;
-            Ok(term)
-        }
+        None => own_type(alloc, context, nodes, function),
     }
 }
 
@@ -146,8 +139,7 @@ fn primitive_type(alloc: Global, nodes: &mut Nodes) -> Result<usize, AllocError>
 {
     let integer = nodes.integer(alloc)?;
     let second = nodes.arrow(alloc, integer, integer)?;
-    let at = nodes.arrow(alloc, integer, second)?;
-    Ok(at)
+    nodes.arrow(alloc, integer, second)
 }
 
 /// The type of a name.
@@ -170,10 +162,7 @@ fn name_type(
     let local = scope.find(name.0);
     match local {
         Some(local) => Ok(local as usize),
-        None => {
-            let term = global_type(alloc, context, nodes, name, at)?;
-            Ok(term)
-        }
+        None => global_type(alloc, context, nodes, name, at),
     }
 }
 
@@ -196,8 +185,7 @@ fn constructor_type(
     let fields = found.constructor.fields.as_slice();
     let from = read_all(alloc, context.globals, nodes, instance, fields)?;
     let to = applied(alloc, nodes, at, found.declared)?;
-    let term = arrows(alloc, nodes, &from, to)?;
-    Ok(term)
+    arrows(alloc, nodes, &from, to)
 }
 
 /// A head or an argument, without brackets that have no arguments.
@@ -241,22 +229,10 @@ fn bare_type(
         → AddsTermForType nodes.old nodes.new (term_type s ls t) x) }
 {
     match atom {
-        Atom::Name(name, at) => {
-            let term = name_type(alloc, context, nodes, scope, *name, *at)?;
-            Ok(term)
-        }
-        Atom::Con(name, at) => {
-            let term = constructor_type(alloc, context, nodes, *name, *at)?;
-            Ok(term)
-        }
-        Atom::Int(_, _) => {
-            let term = nodes.integer(alloc)?;
-            Ok(term)
-        }
-        Atom::Bracket(_, at) => {
-            let term = nodes.variable(TypeVariableKey::Bracket(*at))?;
-            Ok(term)
-        }
+        Atom::Name(name, at) => name_type(alloc, context, nodes, scope, *name, *at),
+        Atom::Con(name, at) => constructor_type(alloc, context, nodes, *name, *at),
+        Atom::Int(_, _) => nodes.integer(alloc),
+        Atom::Bracket(_, at) => nodes.variable(TypeVariableKey::Bracket(*at)),
     }
 }
 
@@ -302,9 +278,8 @@ impl ConstraintBuilder {
         expected: usize,
         app: &App,
     ) -> Result<(), AllocError>
-        ensures { IfOk result (λ _. (s : Source) (ls : Locals) (t : Typed)
-            → IsContextOf context.now s → HasLocalsInScope self.old ls → Denotes self.old.nodes t expected
-            → Adds self.old self.new (application_constraint s ls t (application_of app.now) ∷ [])) }
+        ensures { IfOk result (λ _. WhereTyped context.now self.old expected (λ s ls t.
+            Adds self.old self.new (application_constraint s ls t (application_of app.now) ∷ []))) }
     {
         let bare = bare(&app.head);
         let head = bare_type(alloc, context, &mut self.nodes, &self.scope, bare)?;

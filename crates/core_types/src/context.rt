@@ -6,10 +6,10 @@ ghost use Rattle.std.specs.BTreeMap.{get};
 ghost use Rattle.arity_check.specs.Tables.{first_of, known, or_else};
 ghost use Rattle.arity_check.specs.Whole.{known_of};
 ghost use Rattle.core_reader.specs.Tree.{function as function_tree};
-ghost use Rattle.core_types.specs.Source.{Source as Program, erased};
+ghost use Rattle.core_types.specs.Source.{erased};
 ghost use Rattle.core_types.specs.SourceOf.{source_of, signature_of as signature_tree, type_of, constructor_of};
 ghost use Rattle.core_types.specs.Typing.{Int, Named, AndTyped, NoTypeds, integers, signature_of, function_of, constructor_by_name};
-ghost use Rattle.core_types.specs.Building.{IsContextOf, signature_number, constructor_number, number_in_types};
+ghost use Rattle.core_types.specs.Building.{IsContextOf, InContext, signature_number, constructor_number, number_in_types};
 
 use crate::source::{Constructor, Signature, Source, TypeDecl};
 use arity_check::globals::Globals;
@@ -113,9 +113,9 @@ impl<'a> Context<'a> {
 /// The signature of a function.
 pub fn signature<'a>(context: &'a Context<'_>, name: NameId) -> Option<&'a Signature>
     ensures { MatchOption result
-        ((s : Program) → IsContextOf context.now s → signature_of s.signatures name.0 ≡ None)
-        (λ g. (s : Program) → IsContextOf context.now s
-        → signature_of s.signatures name.0 ≡ Some (signature_tree g.now)) }
+        (InContext context.now (λ s. signature_of s.signatures name.0 ≡ None))
+        (λ g. InContext context.now (λ s.
+        signature_of s.signatures name.0 ≡ Some (signature_tree g.now))) }
 {
     let number = context.signatures.get(&name.0).copied()?;
     context.source.signatures.as_slice().get(number)
@@ -132,9 +132,9 @@ fn function_number(context: &Context<'_>, name: NameId) -> Option<u32>
 /// The function of a name.
 pub fn function<'a>(context: &'a Context<'_>, name: NameId) -> Option<&'a Function>
     ensures { MatchOption result
-        ((s : Program) → IsContextOf context.now s → function_of s.functions name.0 ≡ None)
-        (λ f. (s : Program) → IsContextOf context.now s
-        → function_of s.functions name.0 ≡ Some (function_tree f.now)) }
+        (InContext context.now (λ s. function_of s.functions name.0 ≡ None))
+        (λ f. InContext context.now (λ s.
+        function_of s.functions name.0 ≡ Some (function_tree f.now))) }
 {
     let number = function_number(context, name)?;
     context
@@ -148,9 +148,9 @@ pub fn function<'a>(context: &'a Context<'_>, name: NameId) -> Option<&'a Functi
 /// The constructor of a name, with its type.
 pub fn constructor<'a>(context: &'a Context<'_>, name: NameId) -> Option<Declared<'a>>
     ensures { MatchOption result
-        ((s : Program) → IsContextOf context.now s → constructor_by_name s.types name.0 ≡ None)
-        (λ d. (s : Program) → IsContextOf context.now s → constructor_by_name s.types name.0
-        ≡ Some (type_of d.declared.now, constructor_of d.constructor.now)) }
+        (InContext context.now (λ s. constructor_by_name s.types name.0 ≡ None))
+        (λ d. InContext context.now (λ s. constructor_by_name s.types name.0
+        ≡ Some (type_of d.declared.now, constructor_of d.constructor.now))) }
 {
     let (number, constructor) = context.constructors.get(&name.0).copied()?;
     let declared = context.source.types.as_slice().get(number)?;

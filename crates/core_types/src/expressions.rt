@@ -5,7 +5,7 @@ ghost use Rattle.core_reader.specs.Tree.{bind as bind_of, expr as expr_of, alter
 ghost use Rattle.core_types.specs.Source.{Source};
 ghost use Rattle.core_types.specs.Typing.{Typed, Locals, binds, binds_all, with_group, with_pattern, of_group, of_pattern, of_expr, of_alts, scrutinee};
 ghost use Rattle.core_types.specs.Nodes.{IsSound, Denotes, DenoteEach, AddsTermForType};
-ghost use Rattle.core_types.specs.Building.{IsContextOf, HasLocalsInScope, Adds, EntersLocals};
+ghost use Rattle.core_types.specs.Building.{IsContextOf, HasLocalsInScope, WhereTyped, Adds, EntersLocals};
 
 use crate::building::ConstraintBuilder;
 use crate::context::{Context, constructor};
@@ -35,9 +35,8 @@ fn scrutinee(alloc: Global, nodes: &mut Nodes, alts: &[Alt]) -> Result<usize, Al
 impl ConstraintBuilder {
     /// A binder's name has a type from here on, but `_` has none.
     fn bind(&mut self, context: &Context<'_>, binder: Binder, term: usize) -> Result<(), AllocError>
-        ensures { IfOk result (λ _. (s : Source) (ls : Locals) (t : Typed)
-            → IsContextOf context.now s → HasLocalsInScope self.old ls → Denotes self.old.nodes t term
-            → EntersLocals self.old self.new (binds s binder t ls)) }
+        ensures { IfOk result (λ _. WhereTyped context.now self.old term (λ s ls t.
+            EntersLocals self.old self.new (binds s binder t ls))) }
     {
         if context.globals.is_nameless(binder.name) {
             return Ok(());
@@ -113,9 +112,8 @@ impl ConstraintBuilder {
         scrutinee: usize,
         pattern: &Pattern,
     ) -> Result<(), AllocError>
-        ensures { IfOk result (λ _. (s : Source) (ls : Locals) (u : Typed)
-            → IsContextOf context.now s → HasLocalsInScope self.old ls → Denotes self.old.nodes u scrutinee
-            → Adds self.old self.new (of_pattern s u pattern.now)) }
+        ensures { IfOk result (λ _. WhereTyped context.now self.old scrutinee (λ s ls u.
+            Adds self.old self.new (of_pattern s u pattern.now))) }
     {
         match pattern {
             Pattern::Con(name, _) => {
@@ -143,9 +141,8 @@ impl ConstraintBuilder {
         scrutinee: usize,
         pattern: &Pattern,
     ) -> Result<(), AllocError>
-        ensures { IfOk result (λ _. (s : Source) (ls : Locals) (u : Typed)
-            → IsContextOf context.now s → HasLocalsInScope self.old ls → Denotes self.old.nodes u scrutinee
-            → EntersLocals self.old self.new (with_pattern s u pattern.now ls)) }
+        ensures { IfOk result (λ _. WhereTyped context.now self.old scrutinee (λ s ls u.
+            EntersLocals self.old self.new (with_pattern s u pattern.now ls))) }
     {
         match pattern {
             Pattern::Con(name, binders) => {
@@ -175,9 +172,8 @@ impl ConstraintBuilder {
         expected: usize,
         expr: &Expr,
     ) -> Result<(), AllocError>
-        ensures { IfOk result (λ _. (s : Source) (ls : Locals) (t : Typed)
-            → IsContextOf context.now s → HasLocalsInScope self.old ls → Denotes self.old.nodes t expected
-            → Adds self.old self.new (of_expr s ls t (expr_of expr.now))) }
+        ensures { IfOk result (λ _. WhereTyped context.now self.old expected (λ s ls t.
+            Adds self.old self.new (of_expr s ls t (expr_of expr.now)))) }
     {
         match expr {
             Expr::App(app) => {

@@ -155,8 +155,7 @@ pub fn applied(
         → AddsTermForType nodes.old nodes.new (applied s (type_of declared.now) (used_at s at)) x) }
 {
     let params = parameters(alloc, nodes, at, declared.params.as_slice())?;
-    let at = nodes.named(declared.name.name.0, Seq::from_vec(params))?;
-    Ok(at)
+    nodes.named(declared.name.name.0, Seq::from_vec(params))
 }
 
 /// The type that a function is declared with.
@@ -173,6 +172,5 @@ pub fn signed(
 {
     let from = read_all(alloc, globals, nodes, instance, signature.args.as_slice())?;
     let to = read(alloc, globals, nodes, instance, &signature.result)?;
-    let at = arrows(alloc, nodes, &from, to)?;
-    Ok(at)
+    arrows(alloc, nodes, &from, to)
 }

@@ -1,10 +1,10 @@
 //! Programs with types: Core with declarations of types and with signatures of functions.
 //!
 //! `typed_or_place` takes the bytes of a text and gives its program without its types, which fit,
-//! with its normal form, or the first rule that the text breaks: one of the rules 1 to 5, one of
-//! those of the program without its types, or one of 81 to 86. `typed` gives the same, and where
-//! types do not fit also the types of the two sides, which `shown_sides` writes. `read_source` only
-//! reads, and `typed_source_or_place` and `typed_source` take what was read.
+//! or the first rule that the text breaks: one of the rules 1 to 5, one of those of the program
+//! without its types, or one of 81 to 86. `typed` gives the same, and where types do not fit also
+//! the types of the two sides with the names of the text, which `shown_sides` writes. `read_source`
+//! only reads, and `typed_source_or_place` and `typed_source` take what was read.
 //!
 //! `specs/Source` says what a program with types is, and what it is without its types.
 //! `specs/Grammar` and `specs/Text` say which text stands for it, `specs/Lists` which type is that
@@ -39,7 +39,7 @@ mod sides;
 mod source;
 mod text;
 
-pub use accepted::{Typed, typed_or_place, typed_source_or_place};
+pub use accepted::{typed_or_place, typed_source_or_place};
 pub use judgement::{typed, typed_source};
 pub use refusal::{TypeFault, TypeRefusal};
 pub use shown::shown_sides;

@@ -1,8 +1,8 @@
 //! Types as terms in a vector.
 
-ghost use Rattle.std.specs.Prelude.{◌≡◌, ℕ, Bool, IfOk, IfSome, IsTrue, Some, slice_get};
+ghost use Rattle.std.specs.Prelude.{◌≡◌, ℕ, Bool, IfOk, IfSome, IsTrue, Some, length, slice_get};
 ghost use Rattle.unification.specs.declared.term.Term.TheVariants as term;
-ghost use Rattle.core_types.specs.Nodes.{key_of, number_of, is_use, IsInRange, entry_of, entered, index_of_key, IsSound, IsSymbolAt, AreBelow, Denotes, DenoteAll, ExtendsNodes, AddsTermForType};
+ghost use Rattle.core_types.specs.Nodes.{key_of, number_of, is_use, IsInRange, entry_of, entered, index_of_key, IsSound, IsSymbolAt, TakesArguments, AreBelow, Denotes, DenoteAll, ExtendsNodes, AddsTermForType};
 ghost use Rattle.core_types.specs.Typing.{Typed, Types, Int, Open, Rigid, Named, Arrow};
 
 use seq::Seq;
@@ -152,7 +152,7 @@ impl Nodes {
     /// the most count as want of memory.
     fn made(&mut self, symbol: Symbol, arguments: Seq<usize>) -> Result<usize, AllocError>
         ensures grows { IfOk result (λ x. IsSound self.old → AreBelow self.old arguments
-            → ExtendsNodes self.old self.new) }
+            → TakesArguments symbol (length arguments) → ExtendsNodes self.old self.new) }
         ensures made { IfOk result (λ x. IsSound self.old → IsSymbolAt self.new x symbol arguments) }
     {
         let mark = mark_of(symbol, arguments.as_slice());
@@ -174,8 +174,7 @@ impl Nodes {
     pub fn integer(&mut self, alloc: Global) -> Result<usize, AllocError>
         ensures { IfOk result (λ x. IsSound self.old → AddsTermForType self.old self.new Int x) }
     {
-        let at = self.made(Symbol::Integer, Seq::new(alloc))?;
-        Ok(at)
+        self.made(Symbol::Integer, Seq::new(alloc))
     }
 
     /// A variable that nothing is put for, of a function.
@@ -188,8 +187,7 @@ impl Nodes {
         ensures { IfOk result (λ x. IsSound self.old
             → AddsTermForType self.old self.new (Rigid function variable) x) }
     {
-        let at = self.made(Symbol::Rigid(function, variable), Seq::new(alloc))?;
-        Ok(at)
+        self.made(Symbol::Rigid(function, variable), Seq::new(alloc))
     }
 
     /// A type by its name.
@@ -197,8 +195,7 @@ impl Nodes {
         ensures { IfOk result (λ x. (ts : Types) → IsSound self.old
             → DenoteAll self.old ts arguments → AddsTermForType self.old self.new (Named name ts) x) }
     {
-        let at = self.made(Symbol::Named(name), arguments)?;
-        Ok(at)
+        self.made(Symbol::Named(name), arguments)
     }
 
     /// The functions from one type to another one.
@@ -209,8 +206,7 @@ impl Nodes {
         let mut arguments = Seq::new(alloc);
         arguments.push(from)?;
         arguments.push(to)?;
-        let at = self.made(Symbol::Arrow, arguments)?;
-        Ok(at)
+        self.made(Symbol::Arrow, arguments)
     }
 
     /// The place of a key's variable.

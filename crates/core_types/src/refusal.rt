@@ -7,7 +7,7 @@ ghost use Rattle.core_types.specs.Refused.{rule, number, unread_rule, unread_pla
 
 use crate::sides::Ty;
 use arity_check::refusal::CheckRefusal;
-use core_reader::ReadRefusal;
+use core_reader::{Names, ReadRefusal};
 use limits::MOST_BYTES;
 use std::alloc::AllocError;
 use thiserror::Error;
@@ -138,8 +138,9 @@ impl TypeFault {
 /// Why a program with types is refused, with the types of the two sides where they do not fit.
 #[derive(Drop)]
 pub enum TypeRefusal {
-    /// Rule 83: its place, and the types of the two sides as the constraints before leave them.
-    Mismatch(u32, Ty, Ty),
+    /// Rule 83: its place, the types of the two sides as the constraints before leave them, and the
+    /// names of the program.
+    Mismatch(u32, Ty, Ty, Names),
     /// Another rule, or want of memory.
     Fault(TypeFault),
 }

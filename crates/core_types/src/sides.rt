@@ -7,9 +7,9 @@ ghost use Rattle.unification.specs.Terms.{AreEarlier};
 ghost use Rattle.unification.specs.Solutions.{Substitution, Solves};
 ghost use Rattle.unification.specs.Trees.{Tree, Made};
 ghost use Rattle.core_types.specs.Typing.{Typed, Arrow, Constraint};
-ghost use Rattle.core_types.specs.Nodes.{IsSound};
+ghost use Rattle.core_types.specs.Nodes.{TakesArguments, HaveTheirArguments, IsSound};
 ghost use Rattle.core_types.specs.Building.{Stands, equations_of};
-ghost use Rattle.core_types.specs.Sides.{type_of, typed_of, trees_from, read_piece, AreSides};
+ghost use Rattle.core_types.specs.Sides.{type_of, typed_of, trees_from, IsTypeTree, HasReadArguments, read_piece, AreSides};
 
 use crate::building::ConstraintBuilder;
 use core_reader::NameId;
@@ -42,41 +42,29 @@ pub enum Ty {
 /// The functions between the types of a list of two.
 #[tactic(auto, using(crate::proofs::Sided::types))]
 fn arrow(alloc: Global, args: Seq<Ty>) -> Result<Ty, AllocError>
+    requires { length args ≡ 2 }
     ensures { IfOk result (λ t. (u v : Typed) × (map type_of args ≡ u ∷ v ∷ []) × (type_of t ≡ Arrow u v)) }
 {
     let mut args = args;
-    let Some(to) = args.pop() else {
-        return Err(AllocError);
-    };
+    let Some(to) = args.pop() else { unreachable!() };
     let Some(from) = args.pop() else {
-        return Err(AllocError);
+        unreachable!()
     };
-    if !args.is_empty() {
-        return Err(AllocError);
-    }
     let from = Box::new(alloc, from)?;
     let to = Box::new(alloc, to)?;
     Ok(Ty::Arrow(from, to))
 }
 
-/// A symbol with its arguments. One with another number of arguments than it has in types counts
-/// as want of memory.
+/// A symbol with its arguments, as many as it has in types.
 fn made(alloc: Global, symbol: Symbol, args: Seq<Ty>) -> Result<Ty, AllocError>
+    requires { TakesArguments symbol (length args) }
     ensures { IfOk result (λ t. (ts : List Tree) → map type_of args ≡ map typed_of ts
         → type_of t ≡ typed_of (Made symbol (trees_from ts))) }
 {
     match symbol {
         Symbol::Named(name) => Ok(Ty::Named(NameId(name), args)),
-        Symbol::Arrow => {
-            let ty = arrow(alloc, args)?;
-            Ok(ty)
-        }
-        Symbol::Integer => {
-            if !args.is_empty() {
-                return Err(AllocError);
-            }
-            Ok(Ty::Int)
-        }
+        Symbol::Arrow => arrow(alloc, args),
+        Symbol::Integer => Ok(Ty::Int),
         Symbol::Rigid(function, variable) => Ok(Ty::Rigid(NameId(function), NameId(variable))),
     }
 }
@@ -84,6 +72,7 @@ fn made(alloc: Global, symbol: Symbol, args: Seq<Ty>) -> Result<Ty, AllocError>
 /// Reads one more piece of a row, from its end: a variable, or a symbol whose arguments were read
 /// last.
 fn read_piece(alloc: Global, read: &mut Vec<Ty>, piece: Piece) -> Result<(), AllocError>
+    requires { HasReadArguments piece (length read.old.items) }
     ensures { IfOk result (λ _. (ts : List Tree) → map type_of read.old.items ≡ map typed_of ts
         → map type_of read.new.items ≡ map typed_of (read_piece piece ts)) }
 {
@@ -94,9 +83,6 @@ fn read_piece(alloc: Global, read: &mut Vec<Ty>, piece: Piece) -> Result<(), All
         }
         Piece::Made(symbol, count) => {
             let length = read.len();
-            if count > length {
-                return Err(AllocError);
-            }
             let args = read.split_off(length - count)?;
             let ty = made(alloc, symbol, Seq::from_vec(args))?;
             read.push(ty)?;
@@ -107,6 +93,7 @@ fn read_piece(alloc: Global, read: &mut Vec<Ty>, piece: Piece) -> Result<(), All
 
 /// The type of a row.
 fn read_row(alloc: Global, row: Vec<Piece>) -> Result<Ty, AllocError>
+    requires { (t : Tree) × (row.items ≡ pieces t) × IsTypeTree t }
     ensures { IfOk result (λ ty. (t : Tree) → row.items ≡ pieces t → type_of ty ≡ typed_of t) }
 {
     let mut row = row;
@@ -114,10 +101,8 @@ fn read_row(alloc: Global, row: Vec<Piece>) -> Result<Ty, AllocError>
     'reading: while let Some(piece) = row.pop() {
         read_piece(alloc, &mut read, piece)?;
     }
-    match read.pop() {
-        Some(ty) => Ok(ty),
-        None => Err(AllocError),
-    }
+    let Some(ty) = read.pop() else { unreachable!() };
+    Ok(ty)
 }
 
 /// Whether more types stand around a piece of a row than the most.
@@ -145,6 +130,8 @@ fn side(alloc: Global, terms: &[Term], classes: &Classes, at: usize) -> Result<T
     requires earlier { AreEarlier terms.now }
     requires classes { AreClasses (length terms.now) classes.now }
     requires within { at < length terms.now }
+    requires formed { HaveTheirArguments terms.now }
+    requires shows { (v : ℕ → Tree) × ShowsTrees terms.now classes.now v }
     ensures { IfOk result (λ ty. (v : ℕ → Tree) → ShowsTrees terms.now classes.now v
         → type_of ty ≡ typed_of (v at)) }
 {
@@ -155,8 +142,7 @@ fn side(alloc: Global, terms: &[Term], classes: &Classes, at: usize) -> Result<T
     if is_deep(alloc, row.as_slice())? {
         return Err(AllocError);
     }
-    let ty = read_row(alloc, row)?;
-    Ok(ty)
+    read_row(alloc, row)
 }
 
 /// The terms of the constraint of this number.

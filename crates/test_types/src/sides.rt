@@ -1,6 +1,6 @@
 //! The two sides of types that do not fit.
 
-use core_types::{TypeFault, TypeRefusal, read_source, shown_sides, typed};
+use core_types::{TypeFault, TypeRefusal, shown_sides, typed};
 use std::alloc::{AllocError, Global};
 use std::process::Abort;
 use std::test::Fail;
@@ -14,11 +14,8 @@ fn sides(alloc: Global, text: &str) -> Result<Option<(u32, Vec<u8>)>, AllocError
         Ok(_) => Ok(None),
         Err(TypeRefusal::Fault(TypeFault::Memory(error))) => Err(error),
         Err(TypeRefusal::Fault(_)) => Ok(None),
-        Err(TypeRefusal::Mismatch(at, left, right)) => {
-            let Ok(source) = read_source(alloc, text.as_bytes()) else {
-                return Ok(None);
-            };
-            let both = shown_sides(alloc, source.core.names.texts(), &left, &right)?;
+        Err(TypeRefusal::Mismatch(at, left, right, names)) => {
+            let both = shown_sides(alloc, names.texts(), &left, &right)?;
             Ok(Some((at, both)))
         }
     }

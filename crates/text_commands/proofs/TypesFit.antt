@@ -14,8 +14,6 @@ use Rattle.arity_check.specs.declared.refusal.CheckRefusal.TheVariants as unchec
 use Rattle.arity_check.specs.Refusal as core
 use Rattle.arity_check.specs.Order.{IsBefore}
 use Rattle.arity_check.specs.Order as core-order
-use Rattle.core_print.specs.Laws.{IsMemory}
-use Rattle.core_types.specs.Text.{IsReadCause, BreaksNoReadingRule}
 use Rattle.core_types.specs.Refused.{IsCause, IsFirstBrokenText, TextBreaksNoRule, Unread, Untyped, rule, number, unread_rule, mismatch_in}
 use Rattle.core_types.specs.Rules.{rank, IsFirstBroken}
 use Rattle.core_types.specs.Source.{Source}
@@ -151,21 +149,3 @@ pub sided_broken : (text : List ℕ) (k at : ℕ) → HasMismatchReport text →
     → ⊥
 sided_broken text k at (inl u) b = untyped_broken text k at u b.0
 sided_broken text k at (inr h) b = b.1 (apart_once text k at h.0 b.0 h.1)
-
--- ---- what keeps a text from being read
-
--- a text whose types do not fit can be read
-pub unfitting_is_read : (text : List ℕ) (at : ℕ) → IsFirstBrokenText text 83 at
-    → BreaksNoReadingRule text
-unfitting_is_read text at (Unread h) = absurd (not_unread text 83 at refl h.broken)
-unfitting_is_read text at (Untyped read s is first) = read
-
--- and then want of memory is all that keeps it from that
-pub only_memory : (text : List ℕ) → BreaksNoReadingRule text → (r : ReadRefusal)
-    → IsReadCause text r → IsMemory r
-only_memory text read (unread.BadByte at) h = absurd (read 1 at h.broken)
-only_memory text read (unread.Syntax at) h = absurd (read 2 at h.broken)
-only_memory text read (unread.NumberRange at) h = absurd (read 3 at h.broken)
-only_memory text read (unread.TooDeep at) h = absurd (read 4 at h.broken)
-only_memory text read unread.TextTooLong h = absurd (read 5 1048576 h.broken)
-only_memory text read (unread.Memory e) h = tt

@@ -1,9 +1,6 @@
 //! The two sides of the types that do not fit in a text with types.
 
 ghost use Rattle.std.specs.Prelude.{◌≡◌, ◌++◌, ℕ, List, codes, IfOk, IfErr};
-ghost use Rattle.core_print.specs.Laws.{IsMemory};
-ghost use Rattle.core_types.specs.Source.{Source};
-ghost use Rattle.core_types.specs.Text.{IsSourceText, BreaksNoReadingRule};
 ghost use Rattle.core_types.specs.Refused.{IsRefusal};
 ghost use Rattle.core_types.specs.Sides.{type_of};
 ghost use Rattle.core_types.specs.Shown.{shown_sides};
@@ -13,8 +10,8 @@ ghost use Rattle.text_commands.specs.Writing.{IsTransformFailure};
 use crate::status::Status;
 use crate::types::type_failure_status;
 use crate::writing::Maker;
-use core_reader::ReadRefusal;
-use core_types::{Ty, TypeRefusal, read_source, shown_sides, typed};
+use core_reader::Names;
+use core_types::{Ty, TypeRefusal, shown_sides, typed};
 use std::alloc::{AllocError, Global};
 
 /// What makes the line of the two sides of the types that do not fit in a text, and nothing where
@@ -42,41 +39,22 @@ fn sided(alloc: Global, text: &[u8], refusal: &TypeRefusal) -> Result<Vec<u8>, S
     ensures made { IfOk result (λ bytes. IsMismatchReport text.now bytes.items) }
     ensures refused { IfErr result (IsTransformFailure BreaksOtherRule text.now) }
 {
-    let (left, right) = match refusal {
-        TypeRefusal::Mismatch(_, left, right) => (left, right),
+    let (left, right, names) = match refusal {
+        TypeRefusal::Mismatch(_, left, right, names) => (left, right, names),
         TypeRefusal::Fault(fault) => return Err(type_failure_status(fault)),
     };
-    match line(alloc, text, left, right) {
+    match line(alloc, names, left, right) {
         Ok(bytes) => Ok(bytes),
         Err(_) => Err(Status::OutOfMemory),
     }
 }
 
-/// The want of memory that is all that refuses a text that can be read.
-fn memory_in(refusal: ReadRefusal) -> AllocError
-    requires { IsMemory refusal }
+/// The line of two sides, with the names of a text.
+fn line(alloc: Global, names: &Names, left: &Ty, right: &Ty) -> Result<Vec<u8>, AllocError>
+    ensures { IfOk result (λ bytes. bytes.items
+        ≡ shown_sides names.now (type_of left.now) (type_of right.now) ++ codes "\n") }
 {
-    match refusal {
-        ReadRefusal::Memory(error) => error,
-        ReadRefusal::BadByte(_)
-        | ReadRefusal::Syntax(_)
-        | ReadRefusal::NumberRange(_)
-        | ReadRefusal::TooDeep(_)
-        | ReadRefusal::TextTooLong => unreachable!(),
-    }
-}
-
-/// The line of two sides, with the names of a text that can be read.
-fn line(alloc: Global, text: &[u8], left: &Ty, right: &Ty) -> Result<Vec<u8>, AllocError>
-    requires { BreaksNoReadingRule text.now }
-    ensures { IfOk result (λ bytes. (s : Source) → IsSourceText text.now s
-        → bytes.items ≡ shown_sides s.names (type_of left.now) (type_of right.now) ++ codes "\n") }
-{
-    let source = match read_source(alloc, text) {
-        Ok(source) => source,
-        Err(refusal) => return Err(memory_in(refusal)),
-    };
-    let mut bytes = shown_sides(alloc, source.core.names.texts(), left, right)?;
+    let mut bytes = shown_sides(alloc, names.texts(), left, right)?;
     bytes.push(b'\n')?;
     Ok(bytes)
 }

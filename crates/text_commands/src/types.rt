@@ -7,6 +7,7 @@ ghost use Rattle.text_commands.specs.Writing.{IsTransformFailure};
 
 use crate::status::Status;
 use crate::writing::Maker;
+use arity_check::laws::normal_form_exists;
 use core_print::print;
 use core_types::{TypeFault, typed_or_place};
 use std::alloc::Global;
@@ -22,12 +23,13 @@ impl Maker for Types {
     ghost refused = { λ _ text rule number. IsFirstBrokenText text rule number };
 
     fn make(&self, alloc: Global, text: &[u8]) -> Result<Vec<u8>, Status> {
+        normal_form_exists();
         typed_are_never_stuck();
-        let typed = match typed_or_place(alloc, text) {
-            Ok(typed) => typed,
+        let core = match typed_or_place(alloc, text) {
+            Ok(core) => core,
             Err(fault) => return Err(type_failure_status(&fault)),
         };
-        match print(alloc, &typed.core) {
+        match print(alloc, &core) {
             Ok(bytes) => Ok(bytes),
             Err(_) => Err(Status::OutOfMemory),
         }

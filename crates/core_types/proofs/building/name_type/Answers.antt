@@ -1,5 +1,6 @@
 use Rattle.std.proofs.Common.{sym, ◌∙◌}
 use Rattle.arity_check.specs.Tables.{known}
+use Rattle.core_types.proofs.Follows.{ok_then}
 use Rattle.core_types.specs.Typing.{Arrow, Int, name_type, global_type}
 use Rattle.core_types.proofs.Denoting.{grows_refl}
 use Rattle.core_types.proofs.Instancing.{gives_as}
@@ -26,13 +27,14 @@ returns-in-Some c = λ s ls k h d.
     c.is_reserved.ensures f.0 c.if-is_reserved.false f.1)
     (record { grows = grows_refl n h; denotes = f.2 })
 
-pub returns-in_ok-term-in-None : goal.returns-in_ok-term-in-None
-returns-in_ok-term-in-None c = λ s ls k h d.
+pub returns-in-None : goal.returns-in-None
+returns-in-None c = ok_then c.global_type.result c.global_type.ensures (λ term given.
+    λ s ls k h d.
     let x = c.args.name.0 in
     let n = c.args.nodes.now in
     gives_as n c.global_type.new.nodes (global_type s x c.args.at) (name_type s ls x c.args.at)
-    c.in_ok-term-in-None.term
+    term
     (global_name s ls (known c.args.context.now.globals.now) x c.args.at c.is_reserved.result
     k.names c.is_reserved.ensures c.if-is_reserved.false
     (local_missing n ls c.args.scope.now x d (sym c.find-local.ensures ∙ c.in-None.is)))
-    (c.in_ok-term-in-None.ensures s k h)
+    (given s k h))

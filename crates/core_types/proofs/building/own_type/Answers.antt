@@ -1,5 +1,6 @@
 use Rattle.std.proofs.Common.{sym, subst, map}
 use Rattle.core_reader.specs.Tree.{function as function_tree}
+use Rattle.core_types.proofs.Follows.{ok_then}
 use Rattle.core_types.specs.Typing.{arrows, param_type, result_type}
 use Rattle.core_types.specs.Nodes.{DenoteEach}
 use Rattle.core_types.proofs.Denoting.{grows_then}
@@ -7,7 +8,8 @@ use Rattle.core_types.proofs.Instancing.{gives_then, each_kept}
 use Rattle.core_types.proofs.building.own_type.Goals as goal
 
 pub returns : goal.returns
-returns c = λ s k h.
+returns c = ok_then c.arrows.result c.arrows.ensures (λ at given.
+    λ s k h.
     let n = c.args.nodes.now in
     let n' = c.param_types.new.nodes in
     let n'' = c.result_type.new.nodes in
@@ -16,8 +18,8 @@ returns c = λ s k h.
     let to = result_type s f in
     let g = c.in_ok-params.ensures s k h in
     let r = c.in_ok-result.ensures s k g.grows.sound in
-    gives_then n n'' c.arrows.new.nodes (arrows ts to) c.in_ok-at.at
+    gives_then n n'' c.arrows.new.nodes (arrows ts to) at
     (grows_then n n' n'' g.grows r.grows)
-    (c.in_ok-at.ensures ts to r.grows.sound
+    (given ts to r.grows.sound
     (subst (DenoteEach n'' ts) (sym c.deref.ensures.value)
-    (each_kept n' n'' r.grows ts c.in_ok-params.params.items g.each)) r.denotes)
+    (each_kept n' n'' r.grows ts c.in_ok-params.params.items g.each)) r.denotes))

@@ -1,5 +1,6 @@
 use Rattle.core_reader.specs.Tree.{function as function_tree}
 use Rattle.arity_check.specs.Tables.{known}
+use Rattle.core_types.proofs.Follows.{ok_then}
 use Rattle.core_types.specs.Typing.{Open, AtResult, integers, result_type}
 use Rattle.core_types.proofs.Instancing.{gives_as}
 use Rattle.core_types.proofs.Meant.{main_result, other_result}
@@ -14,10 +15,11 @@ returns-then-is_main c = λ s k h.
     (c.in_ok-at.ensures s k h)
 
 pub returns : goal.returns
-returns c = λ s k h.
+returns c = ok_then c.variable.result c.variable.ensures (λ at given.
+    λ s k h.
     let f = function_tree c.args.function.now in
     gives_as c.args.nodes.now c.variable.new.self (Open (AtResult c.args.function.now.at))
-    (result_type s f) c.in_ok-at-2.at
+    (result_type s f) at
     (other_result s (known c.args.context.now.globals.now) f c.is_main.result k.names
     c.is_main.ensures c.if-is_main.false)
-    (c.in_ok-at-2.ensures h)
+    (given h))

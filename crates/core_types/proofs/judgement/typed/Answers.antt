@@ -12,22 +12,22 @@ returns-in-Err-clause-refused c =
       unread_fits c.in-Err.refusal,
     )
 
-pub returns-clause-typed : goal.returns-clause-typed
-returns-clause-typed c =
+pub returns-in-Ok-clause-typed : goal.returns-in-Ok-clause-typed
+returns-in-Ok-clause-typed c =
     let s : Source = source_of c.in-Ok.source in
     let read = c.in-Ok.ensures in
     typed_text c.args.text.now s read.found read.unbroken read.readable c.typed_source.result
     c.typed_source.ensures.typed
 
-pub returns-clause-unbroken : goal.returns-clause-unbroken
-returns-clause-unbroken c =
+pub returns-in-Ok-clause-unbroken : goal.returns-in-Ok-clause-unbroken
+returns-in-Ok-clause-unbroken c =
     let s : Source = source_of c.in-Ok.source in
     let read = c.in-Ok.ensures in
     unbroken_text c.args.text.now s read.found read.unbroken c.typed_source.result
     c.typed_source.ensures.unbroken
 
-pub returns-clause-refused : goal.returns-clause-refused
-returns-clause-refused c =
+pub returns-in-Ok-clause-refused : goal.returns-in-Ok-clause-refused
+returns-in-Ok-clause-refused c =
     let s : Source = source_of c.in-Ok.source in
     let read = c.in-Ok.ensures in
     refused_text c.args.text.now s read.found read.unbroken c.typed_source.result

@@ -1,20 +1,12 @@
-use Rattle.std.proofs.Common.{subst}
-use Rattle.core_reader.specs.Tree.{program}
+use Rattle.std.proofs.Common.{refl, subst}
 use Rattle.core_types.specs.declared.rules.Verdict.TheVariants as verdict
 use Rattle.core_types.specs.Source.{Source}
 use Rattle.core_types.specs.SourceOf.{source_of}
 use Rattle.core_types.specs.Typing.{constraints}
 use Rattle.core_types.specs.Refused.{IsVerdict}
-use Rattle.core_types.proofs.Checked.{core_unbroken, source_caused}
+use Rattle.core_types.proofs.Checked.{source_caused}
 use Rattle.core_types.proofs.Unsolved.{pair_there}
 use Rattle.core_types.proofs.judgement.typed_source.Goals as goal
-
-pub normal_form-requires-clause-unbroken : goal.normal_form-requires-clause-unbroken
-normal_form-requires-clause-unbroken c =
-    let s : Source = source_of c.args.source in
-    let judged : IsVerdict s verdict.Unbroken = subst (IsVerdict s) c.in-Unbroken.is
-    c.in_ok-verdict.ensures in
-    core_unbroken s (program c.args.source.core) c.requires.erased judged.0
 
 pub returns-in-Broken-clause-refused : goal.returns-in-Broken-clause-refused
 returns-in-Broken-clause-refused c =
@@ -68,4 +60,5 @@ returns-in_ok-tys-in-Mismatch-clause-refused c =
         place = h.place;
         sides = c.in_ok-tys-in-Mismatch.ensures (constraints s) h.constraint h.stands h.first.is;
       },
+      refl,
     )

@@ -10,7 +10,7 @@ use Rattle.unification.proofs.Solving.{below_taken, equations_taken}
 use Rattle.core_types.specs.declared.building.ConstraintBuilder.{ConstraintBuilder}
 use Rattle.core_types.specs.Sides.{type_of}
 use Rattle.core_types.proofs.Unsolved.{pairs_below}
-use Rattle.core_types.proofs.BothSides.{pair_below, both_sides}
+use Rattle.core_types.proofs.BothSides.{pair_below, solved_by, shown_by, both_sides}
 use Rattle.core_types.proofs.sides.sides.Goals as goal
 
 pub solve-requires-clause-below : goal.solve-requires-clause-below
@@ -41,15 +41,23 @@ side-requires-2-clause-within c =
     subst (λ (ts : List Term). c.in-Some.pair.1 < length ts) (sym c.as_slice-terms.ensures.value)
     l.1
 
+pub side-requires-clause-shows : goal.side-requires-clause-shows
+side-requires-clause-shows c = shown_by c.as_slice-terms.result.now
+    (take c.args.number c.as_slice-pairs.result.now) c.in_ok-before.before c.in-Some-before.classes
+    c.in-Some-before.is c.in_ok-before.ensures
+
+pub side-requires-2-clause-shows : goal.side-requires-2-clause-shows
+side-requires-2-clause-shows c = shown_by c.as_slice-terms.result.now
+    (take c.args.number c.as_slice-pairs.result.now) c.in_ok-before.before c.in-Some-before.classes
+    c.in-Some-before.is c.in_ok-before.ensures
+
 pub returns : goal.returns
 returns c = λ cs k stands e.
     let b : ConstraintBuilder = c.args.builder.now in
     let ts : List Term = c.as_slice-terms.result.now in
     let ps : List (ℕ × ℕ) = c.as_slice-pairs.result.now in
-    let solved : IsSolved ts (take c.args.number ps) c.in-Some-before.classes
-    = subst (λ (o : Option Classes). MatchOption o
-    (AreUnsolvable (equations ts (take c.args.number ps)))
-    (IsSolved ts (take c.args.number ps))) c.in-Some-before.is c.in_ok-before.ensures in
+    let solved = solved_by ts (take c.args.number ps) c.in_ok-before.before c.in-Some-before.classes
+    c.in-Some-before.is c.in_ok-before.ensures in
     both_sides b cs c.requires.sound stands c.args.number k c.in-Some.pair e
     (sym c.pair_at.ensures ∙ c.in-Some.is) c.in-Some-before.classes (type_of c.in_ok-left.left)
     (type_of c.in_ok-right.right) ts ps c.as_slice-terms.ensures.value
