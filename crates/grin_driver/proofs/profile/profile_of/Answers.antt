@@ -5,6 +5,6 @@ use Rattle.grin_driver.proofs.profile.profile_of.Goals as goal
 
 pub profiled-requires-clause-one_each : goal.profiled-requires-clause-one_each
 profiled-requires-clause-one_each c =
-    let starts = c.args.built.now.starts.items in
-    let code = c.args.built.now.code.items in
+    let starts = c.as_slice-starts.result.now in
+    let code = c.as_slice.result.now in
     ap length c.in_ok-words.ensures ∙ length-map starts (words_from code starts)
